@@ -10,6 +10,7 @@ use Rattle.at_cache.specs.declared.facet.Facet.{Facet}
 use Rattle.at_cache.specs.declared.facet.Facet.TheVariants as facet
 use Rattle.at_cache.specs.declared.facet.Readers.{Readers}
 use Rattle.at_cache.specs.declared.scope.Scope.TheVariants as scope
+use Rattle.at_cache.specs.Edges.{edges_in}
 use Rattle.at_cache.specs.Asking.{Asked, looks_at}
 use Rattle.at_cache.specs.Flushing.{Begins}
 use Rattle.at_cache.specs.Kept.{node_at, same_location}
@@ -46,7 +47,7 @@ module _ {says : Location ℕ → Bool → Type 0} {seen : Location ℕ → Bool
 module _ (n : ℕ) where
   -- the edges of one facet
   abbrev pub edges_of : Readers → Location ℕ → List Edge
-  edges_of r l = if same_location l (facet_at n r.facet) then r.edges.items else []
+  edges_of r l = if same_location l (facet_at n r.facet) then (edges_in r.edges) else []
 
   pub among_more : (rs : List Readers) (r : Readers) (l : Location ℕ) → edges_among n (rs ++ r ∷ []) l ≡ edges_among n rs l ++ edges_of r l
   among_more rs r l = flat_map-append (λ r. edges_of r l) rs (r ∷ []) ∙ ap (λ es. edges_among n rs l ++ es) (append-nil (edges_of r l))
@@ -62,25 +63,25 @@ module _ (n : ℕ) where
   among_others [] l differs = refl
   among_others (r ∷ rs) l differs = ap (λ es. es ++ edges_among n rs l) (by (same_location l (facet_at n r.facet)) refl) ∙ among_others rs l differs
     where
-      by : (b : Bool) → same_location l (facet_at n r.facet) ≡ b → cond b r.edges.items [] ≡ []
+      by : (b : Bool) → same_location l (facet_at n r.facet) ≡ b → cond b (edges_in r.edges) [] ≡ []
       by true h = absurd (differs (ap node_at (same_location-is l (facet_at n r.facet) h) ∙ node_of_facet r.facet))
       by false h = refl
 
   module _ {says : Location ℕ → Bool → Type 0} {seen : Location ℕ → Bool} (r : Readers) where
-    pub asked_touched : says (facet_at n r.facet) true → Asked says seen (edges_of r) r.edges.items
+    pub asked_touched : says (facet_at n r.facet) true → Asked says seen (edges_of r) (edges_in r.edges)
     asked_touched said = record {
-      from = λ x c. (facet_at n r.facet, said, subst (λ b. Contains (cond b r.edges.items []) x) (sym (same_location-itself (facet_at n r.facet))) c);
+      from = λ x c. (facet_at n r.facet, said, subst (λ b. Contains (cond b (edges_in r.edges) []) x) (sym (same_location-itself (facet_at n r.facet))) c);
       all = λ l s. inr (λ x c. by (same_location l (facet_at n r.facet)) x c);
     }
       where
-        by : (b : Bool) (x : Edge) → Contains (cond b r.edges.items []) x → Contains r.edges.items x
+        by : (b : Bool) (x : Edge) → Contains (cond b (edges_in r.edges) []) x → Contains (edges_in r.edges) x
         by true x c = c
         by false x c = absurd (none_in x c)
 
     pub asked_untouched : (seen (facet_at n r.facet) ≡ true → says (facet_at n r.facet) false) → Asked says seen (edges_of r) []
     asked_untouched said = record { from = λ x c. absurd (none_in x c); all = λ l s. by l s (same_location l (facet_at n r.facet)) refl }
       where
-        by : (l : Location ℕ) → seen l ≡ true → (b : Bool) → same_location l (facet_at n r.facet) ≡ b → says l false ⊎ ((x : Edge) → Contains (cond b r.edges.items []) x → Contains [] x)
+        by : (l : Location ℕ) → seen l ≡ true → (b : Bool) → same_location l (facet_at n r.facet) ≡ b → says l false ⊎ ((x : Edge) → Contains (cond b (edges_in r.edges) []) x → Contains [] x)
         by l s true h = let same = same_location-is l (facet_at n r.facet) h in inl (subst (λ k. says k false) (sym same) (said (ap seen (sym same) ∙ s)))
         by l s false h = inr (λ x c. c)
 
@@ -105,8 +106,8 @@ module _ {says : Location ℕ → Bool → Type 0} {seen : Location ℕ → Bool
   on_more : (lists : List Edge) → Asked says seen (edges_among n (take i rs ++ r ∷ [])) lists → Asked says seen (edges_among n (take (i + 1) rs)) lists
   on_more lists b = subst (λ (ss : List Readers). Asked says seen (edges_among n ss) lists) (ap (λ (s : Readers). take i rs ++ s ∷ []) is ∙ sym (take_more rs i r less)) b
 
-  pub asked_next_touched : says (facet_at n r.facet) true → Asked says seen (edges_among n (take (i + 1) rs)) (edges ++ r.edges.items)
-  asked_next_touched said = on_more (edges ++ r.edges.items) (asked_both (among_more n (take i rs) r) asked (asked_touched n r said))
+  pub asked_next_touched : says (facet_at n r.facet) true → Asked says seen (edges_among n (take (i + 1) rs)) (edges ++ (edges_in r.edges))
+  asked_next_touched said = on_more (edges ++ (edges_in r.edges)) (asked_both (among_more n (take i rs) r) asked (asked_touched n r said))
 
   pub asked_next_untouched : (seen (facet_at n r.facet) ≡ true → says (facet_at n r.facet) false) → Asked says seen (edges_among n (take (i + 1) rs)) edges
   asked_next_untouched said = on_more edges (subst (Asked says seen (edges_among n (take i rs ++ r ∷ []))) (append-nil edges) (asked_both (among_more n (take i rs) r) asked (asked_untouched n r said)))

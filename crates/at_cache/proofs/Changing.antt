@@ -10,6 +10,7 @@ use Rattle.at_cache.specs.declared.edge.Edge.{Edge}
 use Rattle.at_cache.specs.declared.entry.Entry.{Entry}
 use Rattle.at_cache.specs.declared.mark.Mark.{Mark}
 use Rattle.at_cache.specs.Flushing.{doomed}
+use Rattle.at_cache.specs.Edges.{edges_in}
 use Rattle.at_cache.specs.Info.{Info, Memory, info, is_going, next_of}
 use Rattle.at_cache.specs.Placed.{IsPlaced, at}
 use Rattle.at_cache.specs.Putting.{Enters}
@@ -77,15 +78,15 @@ taken_slot es slots slot some none = no_none (option_map info (at es slots slot)
     no_none (Some i) h is = none-some i (sym is)
 
 -- one entry less, one more, and none in the next slot
-pub users_there : (es : List (Instance ℕ × Entry)) (slots : ℕ → Option ℕ) (slot p : ℕ) (us : List Edge) → slots slot ≡ Some p → option_map (λ (e : Instance ℕ × Entry). e.1.users.items) (slice_get es p) ≡ Some us → us ≡ (elim (option_map info (at es slots slot)) as (λ _. List Edge) [ None ↦ [] | Some e ↦ e.users ])
+pub users_there : (es : List (Instance ℕ × Entry)) (slots : ℕ → Option ℕ) (slot p : ℕ) (us : List Edge) → slots slot ≡ Some p → option_map (λ (e : Instance ℕ × Entry). (edges_in e.1.users)) (slice_get es p) ≡ Some us → us ≡ (elim (option_map info (at es slots slot)) as (λ _. List Edge) [ None ↦ [] | Some e ↦ e.users ])
 users_there es slots slot p us was h = by (slice_get es p) h ∙ ap users_in (sym (at_some es slots slot p was))
   where
     users_in : Option (Instance ℕ × Entry) → List Edge
     users_in o = elim (option_map info o) as (λ _. List Edge) [ None ↦ [] | Some e ↦ e.users ]
 
-    by : (o : Option (Instance ℕ × Entry)) → option_map (λ (e : Instance ℕ × Entry). e.1.users.items) o ≡ Some us → us ≡ users_in o
+    by : (o : Option (Instance ℕ × Entry)) → option_map (λ (e : Instance ℕ × Entry). (edges_in e.1.users)) o ≡ Some us → us ≡ users_in o
     by None h = absurd (none-some us h)
-    by (Some e) h = sym (same_Some e.1.users.items us h)
+    by (Some e) h = sym (same_Some (edges_in e.1.users) us h)
 
 pub free_slot : (es : List (Instance ℕ × Entry)) (slots : ℕ → Option ℕ) (slot : ℕ) → slots slot ≡ None → option_map info (at es slots slot) ≡ None
 free_slot es slots slot none = ap (option_map info) (at_none es slots slot none)

@@ -3,11 +3,12 @@ use Rattle.std.proofs.Common.{◌≡◌, inl, inr, ℕ, zero, suc, List, [], ◌
 use Rattle.std.proofs.lemmas.Bool.{cases_eq}
 use Rattle.std.proofs.lemmas.Option.{none-some, same_Some, get_or_from_slice_get}
 use Rattle.std.proofs.lemmas.List.Elements.{Contains-append_cases, Contains-append_left, Contains-append_right}
-use Rattle.smallvec.specs.SmallVec.{SmallVec}
 use Rattle.at_model.specs.Run.{Location}
 use Rattle.at_cache.specs.declared.edge.Edge.{Edge}
+use Rattle.at_cache.specs.declared.edge.Edges.{Edges}
 use Rattle.at_cache.specs.declared.facet.Facet.{Facet}
 use Rattle.at_cache.specs.declared.facet.Readers.{Readers}
+use Rattle.at_cache.specs.Edges.{edges_in}
 use Rattle.at_cache.specs.Info.{Memory}
 use Rattle.at_cache.specs.Kept.{node_at, same_location}
 use Rattle.at_cache.specs.Putting.{Lists}
@@ -55,34 +56,34 @@ module _ {m : Memory} {x : Edge} where
   lists_if false h = lists_same refl
 
   -- one facet has other edges
-  pub among_set : (n : ℕ) (l : Location ℕ) (rs : List Readers) (p : ℕ) (r : Readers) → slice_get rs p ≡ Some r → (es : SmallVec Edge) → Lists m x r.edges.items es.items → Lists m x (edges_among n rs l) (edges_among n (slice_set rs p (with_edges es r)) l)
+  pub among_set : (n : ℕ) (l : Location ℕ) (rs : List Readers) (p : ℕ) (r : Readers) → slice_get rs p ≡ Some r → (es : Edges) → Lists m x (edges_in r.edges) (edges_in es) → Lists m x (edges_among n rs l) (edges_among n (slice_set rs p (with_edges es r)) l)
   among_set n l [] p r h es lists = absurd (none-some r h)
   among_set n l (y ∷ ys) zero r h es lists =
       subst (λ z. Lists m x (edges_of n z l ++ edges_among n ys l) (edges_of n (with_edges es r) l ++ edges_among n ys l)) (sym (same_Some y r h))
       (lists_behind (edges_among n ys l) (lists_if (same_location l (facet_at n r.facet)) lists))
   among_set n l (y ∷ ys) (suc p) r h es lists = lists_before (edges_of n y l) (among_set n l ys p r h es lists)
 
-among_same : (n : ℕ) (l : Location ℕ) (rs : List Readers) (p : ℕ) (r : Readers) → slice_get rs p ≡ Some r → (es : SmallVec Edge) → (l ≡ facet_at n r.facet → ⊥) → edges_among n (slice_set rs p (with_edges es r)) l ≡ edges_among n rs l
+among_same : (n : ℕ) (l : Location ℕ) (rs : List Readers) (p : ℕ) (r : Readers) → slice_get rs p ≡ Some r → (es : Edges) → (l ≡ facet_at n r.facet → ⊥) → edges_among n (slice_set rs p (with_edges es r)) l ≡ edges_among n rs l
 among_same n l [] p r h es differs = refl
 among_same n l (y ∷ ys) zero r h es differs = ap (λ edges. edges ++ edges_among n ys l) (off (same_location l (facet_at n r.facet)) refl ∙ ap (λ z. edges_of n z l) (sym (same_Some y r h)))
   where
-    off : (b : Bool) → same_location l (facet_at n r.facet) ≡ b → cond b es.items [] ≡ cond b r.edges.items []
+    off : (b : Bool) → same_location l (facet_at n r.facet) ≡ b → cond b (edges_in es) [] ≡ cond b (edges_in r.edges) []
     off true h = absurd (differs (same_location-is l (facet_at n r.facet) h))
     off false h = refl
 among_same n l (y ∷ ys) (suc p) r h es differs = ap (λ edges. edges_of n y l ++ edges) (among_same n l ys p r h es differs)
 
-among_has : (n : ℕ) (rs : List Readers) (p : ℕ) (r : Readers) → slice_get rs p ≡ Some r → (es : SmallVec Edge) (x : Edge) → Contains es.items x → Contains (edges_among n (slice_set rs p (with_edges es r)) (facet_at n r.facet)) x
+among_has : (n : ℕ) (rs : List Readers) (p : ℕ) (r : Readers) → slice_get rs p ≡ Some r → (es : Edges) (x : Edge) → Contains (edges_in es) x → Contains (edges_among n (slice_set rs p (with_edges es r)) (facet_at n r.facet)) x
 among_has n [] p r h es x c = absurd (none-some r h)
-among_has n (y ∷ ys) zero r h es x c = Contains-append_left (edges_of n (with_edges es r) (facet_at n r.facet)) (edges_among n ys (facet_at n r.facet)) x (subst (λ b. Contains (cond b es.items []) x) (sym (same_location-itself (facet_at n r.facet))) c)
+among_has n (y ∷ ys) zero r h es x c = Contains-append_left (edges_of n (with_edges es r) (facet_at n r.facet)) (edges_among n ys (facet_at n r.facet)) x (subst (λ b. Contains (cond b (edges_in es) []) x) (sym (same_location-itself (facet_at n r.facet))) c)
 among_has n (y ∷ ys) (suc p) r h es x c = Contains-append_right (edges_of n y (facet_at n r.facet)) (edges_among n (slice_set ys p (with_edges es r)) (facet_at n r.facet)) x (among_has n ys p r h es x c)
 
 -- what stood at a place has these edges
-pub gained_at : {E V : Type 0} (m : Memory) (x : Edge) (rs : List Readers) (p : ℕ) (r : Readers) (v : SmallVec Edge) (result : Result V E) → r ≡ get_or rs p r → Lists m x r.edges.items v.items → OnOk result (Contains v.items x)
-    → (edges : SmallVec Edge) × HasChanged (with_edges edges) p rs (slice_set rs p (record { facet = r.facet; edges = v })) × ListsAt m x p rs edges.items × OnOk result (Contains edges.items x)
+pub gained_at : {E V : Type 0} (m : Memory) (x : Edge) (rs : List Readers) (p : ℕ) (r : Readers) (v : Edges) (result : Result V E) → r ≡ get_or rs p r → Lists m x (edges_in r.edges) (edges_in v) → OnOk result (Contains (edges_in v) x)
+    → (edges : Edges) × HasChanged (with_edges edges) p rs (slice_set rs p (record { facet = r.facet; edges = v })) × ListsAt m x p rs (edges_in edges) × OnOk result (Contains (edges_in edges) x)
 gained_at m x rs p r v result read lists has = (
   v,
   λ w at. ap (λ (z : Readers). slice_set rs p (record { facet = z.facet; edges = v })) (is w at),
-  λ w at. subst (λ (z : Readers). Lists m x z.edges.items v.items) (is w at) lists,
+  λ w at. subst (λ (z : Readers). Lists m x (edges_in z.edges) (edges_in v)) (is w at) lists,
   has,
 )
   where
@@ -90,9 +91,9 @@ gained_at m x rs p r v result read lists has = (
     is w at = read ∙ get_or_from_slice_get rs p w r at
 
 -- the edges at a place are others
-module _ (old made new : List Readers) (p : ℕ) (facet : Facet) (v : SmallVec Edge) (same : (n : ℕ) (l : Location ℕ) → edges_among n made l ≡ edges_among n old l)
+module _ (old made new : List Readers) (p : ℕ) (facet : Facet) (v : Edges) (same : (n : ℕ) (l : Location ℕ) → edges_among n made l ≡ edges_among n old l)
     (there : (r : Readers) × (slice_get made p ≡ Some r) × (r.facet ≡ facet)) (change : HasChanged (with_edges v) p made new) where
-  pub among_changed : {m : Memory} {x : Edge} → ListsAt m x p made v.items → (n : ℕ) (l : Location ℕ) → Lists m x (edges_among n old l) (edges_among n new l)
+  pub among_changed : {m : Memory} {x : Edge} → ListsAt m x p made (edges_in v) → (n : ℕ) (l : Location ℕ) → Lists m x (edges_among n old l) (edges_among n new l)
   among_changed {m} {x} lists n l =
       let (r, at, is) = there in
       subst (λ es. Lists m x es (edges_among n new l)) (same n l)
@@ -104,7 +105,7 @@ module _ (old made new : List Readers) (p : ℕ) (facet : Facet) (v : SmallVec E
       let (r, at, is) = there in
       ap (λ rs. edges_among n rs l) (change r at) ∙ among_same n l made p r at v (λ h. differs (h ∙ ap (facet_at n) is)) ∙ same n l
 
-  pub among_gained : (x : Edge) (n : ℕ) → Contains v.items x → Contains (edges_among n new (facet_at n facet)) x
+  pub among_gained : (x : Edge) (n : ℕ) → Contains (edges_in v) x → Contains (edges_among n new (facet_at n facet)) x
   among_gained x n c =
       let (r, at, is) = there in
       subst (λ f. Contains (edges_among n new (facet_at n f)) x) is (subst (λ rs. Contains (edges_among n rs (facet_at n r.facet)) x) (sym (change r at)) (among_has n made p r at v x c))

@@ -11,6 +11,8 @@ pub mod Taking
 pub mod Listed
 pub mod Beginning
 pub mod Listing
+pub mod OneEdge
+pub mod Added
 pub mod Gained
 pub mod Ending
 pub mod Entered

@@ -12,6 +12,7 @@ use Rattle.at_cache.specs.declared.edge.Edge.{Edge}
 use Rattle.at_cache.specs.declared.facet.Facet.{Facet}
 use Rattle.at_cache.specs.declared.facet.Facet.TheVariants as facet
 use Rattle.at_cache.specs.declared.facet.Readers.{Readers}
+use Rattle.at_cache.specs.Edges.{edges_in}
 use Rattle.at_cache.specs.Asking.{AreNoted, is_index}
 use Rattle.at_cache.specs.Kept.{node_at}
 use Rattle.at_cache.specs.Readers.{edges_among, edges_at, facet_at}
@@ -35,10 +36,10 @@ index_at facet.Up h n = absurd (true≢false (sym h))
 index_at facet.Idx h n = refl
 
 -- an edge of one facet is one of the location
-pub among_has : (n : ℕ) (rs : List Readers) (r : Readers) (x : Edge) → Contains rs r → Contains r.edges.items x → Contains (edges_among n rs (facet_at n r.facet)) x
+pub among_has : (n : ℕ) (rs : List Readers) (r : Readers) (x : Edge) → Contains rs r → Contains (edges_in r.edges) x → Contains (edges_among n rs (facet_at n r.facet)) x
 among_has n [] r x c d = absurd (none_in r c)
 among_has n (s ∷ rs) r x c d = elim (Contains-cons_cases s r rs c) [
-  | inl same ↦ Contains-append_left (edges_of n s l) (edges_among n rs l) x (subst (λ (t : Readers). Contains (edges_of n t l) x) (sym same) (subst (λ b. Contains (cond b r.edges.items []) x) (sym (same_location-itself l)) d))
+  | inl same ↦ Contains-append_left (edges_of n s l) (edges_among n rs l) x (subst (λ (t : Readers). Contains (edges_of n t l) x) (sym same) (subst (λ b. Contains (cond b (edges_in r.edges) []) x) (sym (same_location-itself l)) d))
   | inr rest ↦ Contains-append_right (edges_of n s l) (edges_among n rs l) x (among_has n rs r x rest d)
 ]
   where
@@ -75,12 +76,12 @@ pub edge_there : {A : Type 0} (readers : List (Vec Readers A)) (node : ℕ) (v :
 edge_there readers node v there (x, c) = (x, subst (λ es. Contains es x) (sym (edges_are readers (Idx node) v there)) c)
 
 -- the index of a reader
-pub reader_index : (r : Readers) (empty : Bool) → true ≡ is_index (facet_at 0 r.facet) → empty ≡ nat_eq (length r.edges.items) 0 → IsTrue (not empty) → (x : Edge) × Contains r.edges.items x × ((n : ℕ) → facet_at n r.facet ≡ Idx n)
+pub reader_index : (r : Readers) (empty : Bool) → true ≡ is_index (facet_at 0 r.facet) → empty ≡ nat_eq (length (edges_in r.edges)) 0 → IsTrue (not empty) → (x : Edge) × Contains (edges_in r.edges) x × ((n : ℕ) → facet_at n r.facet ≡ Idx n)
 reader_index r true index is h = absurd (true≢false (sym h))
-reader_index r false index is h = let (x, c) = first_edge r.edges.items (sym is) in (x, c, index_at r.facet (sym index))
+reader_index r false index is h = let (x, c) = first_edge (edges_in r.edges) (sym is) in (x, c, index_at r.facet (sym index))
 
 -- one reader of the node is such
-pub index_among : (rs : List Readers) (i : ℕ) (r : Readers) → r ≡ get_or rs i r → i < length rs → (x : Edge) × Contains r.edges.items x × ((n : ℕ) → facet_at n r.facet ≡ Idx n) → (n : ℕ) → (x : Edge) × Contains (edges_among n rs (Idx n)) x
+pub index_among : (rs : List Readers) (i : ℕ) (r : Readers) → r ≡ get_or rs i r → i < length rs → (x : Edge) × Contains (edges_in r.edges) x × ((n : ℕ) → facet_at n r.facet ≡ Idx n) → (n : ℕ) → (x : Edge) × Contains (edges_among n rs (Idx n)) x
 index_among rs i r is less (x, c, index) n = (x, subst (λ l. Contains (edges_among n rs l) x) (index n) (among_has n rs r x (i, less, sym is) c))
 
 pub index_is : (x : Loc) (node n : ℕ) (ns : List ℕ) → x ≡ loc.Idx node → loc_view x ≡ Idx n → list_any (nat_eq node) ns ≡ true → list_any (nat_eq n) ns ≡ true

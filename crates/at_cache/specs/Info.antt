@@ -9,6 +9,7 @@ use Rattle.at_cache.specs.declared.entry.Entry.{Entry}
 use Rattle.at_cache.specs.declared.mark.Mark.{Mark}
 use Rattle.at_cache.specs.declared.mark.Mark.TheVariants as mark
 use Rattle.at_cache.specs.declared.table.Table.{Table}
+use Rattle.at_cache.specs.Edges.{edges_in}
 use Rattle.at_cache.specs.Placed.{at}
 
 -- whether an entry goes
@@ -40,7 +41,7 @@ info e = record {
   value = option_map value_view e.1.value;
   links = e.1.links.items;
   stamp = e.1.stamp;
-  users = e.1.users.items;
+  users = edges_in e.1.users;
   going = is_going e.1.mark;
   next = next_of e.1.mark;
 }

@@ -1,4 +1,5 @@
 pub mod Kept
+pub mod Edges
 pub mod UntilEdit
 pub mod Readers
 pub mod Placed

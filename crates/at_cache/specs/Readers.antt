@@ -6,6 +6,7 @@ use Rattle.at_cache.specs.declared.edge.Edge.{Edge}
 use Rattle.at_cache.specs.declared.facet.Facet.{Facet}
 use Rattle.at_cache.specs.declared.facet.Facet.TheVariants as facet
 use Rattle.at_cache.specs.declared.facet.Readers.{Readers}
+use Rattle.at_cache.specs.Edges.{edges_in}
 use Rattle.at_cache.specs.Kept.{node_at, same_location}
 
 -- the facet of the node, as a location
@@ -18,7 +19,7 @@ facet_at node facet.Idx = Idx node
 
 -- the edges of a location, of these facets of the node
 abbrev pub edges_among : ℕ → List Readers → Location ℕ → List Edge
-edges_among node rs l = flat_map (λ r. if same_location l (facet_at node r.facet) then r.edges.items else []) rs
+edges_among node rs l = flat_map (λ r. if same_location l (facet_at node r.facet) then edges_in r.edges else []) rs
 
 -- the edges of a location
 abbrev pub edges_at : {A : Type 0} → List (Vec Readers A) → Location ℕ → List Edge

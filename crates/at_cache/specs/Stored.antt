@@ -4,6 +4,7 @@ use Rattle.std.specs.Global.{Vec}
 use Rattle.std.specs.List.{sum_by}
 use Rattle.at_cache.specs.declared.edge.Edge.{Edge}
 use Rattle.at_cache.specs.declared.facet.Readers.{Readers}
+use Rattle.at_cache.specs.Edges.{edges_in}
 use Rattle.at_cache.specs.Info.{Memory}
 use Rattle.at_cache.specs.Putting.{is_current}
 
@@ -13,7 +14,7 @@ current_of m edges = sum_by (λ x. if is_current m x then 1 else 0) edges
 
 -- the number of those of what is looked at of one node
 abbrev pub held_of : Memory → List Readers → ℕ
-held_of m facets = sum_by (λ r. current_of m r.edges.items) facets
+held_of m facets = sum_by (λ r. current_of m (edges_in r.edges)) facets
 
 -- the number of those of all nodes: each tells that an entry reads the location
 abbrev pub reads_held : Memory → List (Vec Readers) → ℕ

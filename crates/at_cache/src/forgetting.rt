@@ -1,8 +1,8 @@
 //! What stands for a touched location is taken out.
 
-ghost use Rattle.std.specs.Prelude.{◌≡◌, ◌<◌, ◌≤◌, ◌⊎◌, ◌^◌, ℕ, List, [], ◌++◌, Option, None, Some, MatchBool, length, true, false};
-ghost use Rattle.at_model.specs.Run.{Location};
+ghost use Rattle.std.specs.Prelude.{◌≡◌, ◌<◌, ◌≤◌, ◌⊎◌, ◌^◌, ℕ, List, [], Option, None, Some, MatchBool, length, true, false};
 ghost use Rattle.at_cache.specs.declared.edge.Edge.{Edge};
+ghost use Rattle.at_cache.specs.Edges.{edges_in};
 ghost use Rattle.at_cache.specs.Info.{Memory, memory_of, table_len};
 ghost use Rattle.at_cache.specs.Flushing.{Begins, IsIdle, Work, dooms, first_after};
 ghost use Rattle.at_cache.specs.Asking.{GoesOn, looks_at};
@@ -10,7 +10,7 @@ ghost use Rattle.at_cache.specs.Readers.{edges_among, edges_at, facet_at};
 ghost use Rattle.at_cache.specs.Recorded.{IsIndexed, kept_in};
 ghost use Rattle.at_cache.specs.Kept.{Answers, LeavesUntouched, LosesTouched};
 
-use crate::edge::{Edge, Slot};
+use crate::edge::{Edge, Edges, Slot};
 use crate::facet::{Facet, Readers};
 use crate::scope::Scope;
 use crate::table::Table;
@@ -43,6 +43,26 @@ fn doom_all(entries: &mut Table, first: Option<Slot>, edges: &[Edge]) -> Option<
     first
 }
 
+// So do those that the edges of this list tell of.
+fn doom_listed(entries: &mut Table, first: Option<Slot>, edges: &Edges) -> Option<Slot>
+    ensures works { (old : Memory) (start : List Edge) → Work old start (edges_in edges.now) first (memory_of entries.old)
+        → Work old start [] result (memory_of entries.new) }
+    ensures len { table_len entries.new ≡ table_len entries.old }
+{
+    match edges {
+        Edges::Empty => first,
+        Edges::One(slot, stamp) => doom(
+            entries,
+            first,
+            &Edge {
+                slot: *slot,
+                stamp: *stamp,
+            },
+        ),
+        Edges::More(list) => doom_all(entries, first, list.as_slice()),
+    }
+}
+
 // Whether the facet of the node is in the scope, and touched.
 fn is_touched<F: Fn(Loc) -> bool>(node: Node, facet: Facet, scope: Scope, touched: &F) -> bool
     requires { F.IsAlwaysCallable touched.now }
@@ -71,7 +91,7 @@ pub fn begin_at<F: Fn(Loc) -> bool>(
     let mut first = first;
     for reader in readers {
         if is_touched(node, reader.facet, scope, touched) {
-            first = doom_all(entries, first, reader.edges.as_slice());
+            first = doom_listed(entries, first, &reader.edges);
         }
     }
     first
@@ -109,7 +129,7 @@ fn forget(entries: &mut Table, slot: Slot) -> Option<Slot>
     ensures fewer { (table_len entries.new < table_len entries.old) ⊎ ((result ≡ None) × (table_len entries.new ≡ table_len entries.old)) }
 {
     match entries.remove(slot) {
-        Some(entry) => doom_all(entries, entry.mark.next(), entry.users.as_slice()),
+        Some(entry) => doom_listed(entries, entry.mark.next(), &entry.users),
         None => None,
     }
 }

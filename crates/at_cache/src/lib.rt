@@ -2,7 +2,7 @@
 //! without a value stands only for what its instance rests on: those that use it need no locations of their own for that.
 //!
 //! **Its specs:** `Kept` has the laws that every keeper meets. Of the recording one, `Info` is what is kept by
-//! slots, `Readers` who read which location, `Recorded` what an entry stands for and how it is found (`IsIndexed`),
+//! slots, `Edges` what a list of edges has, `Readers` who read which location, `Recorded` what an entry stands for and how it is found (`IsIndexed`),
 //! `Keeping` what the keeper keeps, `Placed` where entries stand, `Putting` one more, `Flushing` a flush under way and
 //! `Asking` where one begins, `Slots` single writes, `Stored` how many locations are read. `UntilEdit` is the keeper that forgets all at an edit.
 //!

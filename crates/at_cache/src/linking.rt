@@ -1,20 +1,21 @@
 //! One edge more of what an entry rests on.
 
-ghost use Rattle.std.specs.Prelude.{◌≡◌, ◌≢◌, ◌<◌, ◌≤◌, ◌^◌, ℕ, List, Option, None, Some, IsSome, Contains, IfOk, IfSome, OnOk, length, map, slice_get};
+ghost use Rattle.std.specs.Prelude.{◌≡◌, ◌≢◌, ◌<◌, ◌≤◌, ◌^◌, ◌∷◌, [], ℕ, List, Option, None, Some, IsSome, Contains, IfOk, IfSome, OnErr, OnOk, length, map, slice_get};
 ghost use Rattle.std.specs.Map.{lookup};
 ghost use Rattle.at_model.specs.Run.{Instance, Location};
 ghost use Rattle.at_body.specs.Same.{same_instance};
 ghost use Rattle.at_store.specs.Located.{loc_view};
 ghost use Rattle.at_cache.specs.declared.edge.Edge.{Edge};
+ghost use Rattle.at_cache.specs.declared.edge.Edges.{Edges};
 ghost use Rattle.at_cache.specs.declared.facet.Readers.{Readers};
 ghost use Rattle.at_cache.specs.Asking.{AreNoted};
+ghost use Rattle.at_cache.specs.Edges.{edges_in};
 ghost use Rattle.at_cache.specs.Info.{memory_of};
 ghost use Rattle.at_cache.specs.Putting.{AreListed, AreTaken, Keeps, Lists, Reads, Uses, reused, users_at};
 ghost use Rattle.at_cache.specs.Readers.{edges_among, edges_at, facet_at};
-ghost use Rattle.at_cache.specs.Slots.{HasChanged, ListsAt, with_edges};
-ghost use Rattle.smallvec.specs.SmallVec.{SmallVec};
+ghost use Rattle.at_cache.specs.Slots.{HasAdded, HasChanged, ListsAt, with_edges};
 
-use crate::edge::{Edge, Edges, Slot};
+use crate::edge::{Edge, Edges, Many, Slot};
 use crate::facet::{Facet, Readers};
 use crate::noting::note;
 use crate::table::Table;
@@ -22,7 +23,7 @@ use at_store::{Loc, Node};
 use std::alloc::{AllocError, Global};
 
 // Only the edges that tell of an entry stay.
-fn purge(entries: &Table, edges: &mut Edges)
+fn purge(entries: &Table, edges: &mut Many)
     ensures { Keeps (memory_of entries.now) edges.old.items edges.new.items }
 {
     let mut index = 0;
@@ -38,7 +39,7 @@ fn purge(entries: &Table, edges: &mut Edges)
 
 // Makes room for one more edge of a list that is full: it loses the edges that tell of no entry first, and gets more room only
 // where half of it or less is left then.
-fn make_room(entries: &Table, edges: &mut Edges) -> Result<(), AllocError>
+fn make_room(entries: &Table, edges: &mut Many) -> Result<(), AllocError>
     ensures { Keeps (memory_of entries.now) edges.old.items edges.new.items }
 {
     purge(entries, edges);
@@ -51,7 +52,7 @@ fn make_room(entries: &Table, edges: &mut Edges) -> Result<(), AllocError>
 
 // One more edge of a list that is full.
 #[inline(never)]
-fn add_to_full(entries: &Table, edges: &mut Edges, edge: Edge) -> Result<(), AllocError>
+fn add_to_full(entries: &Table, edges: &mut Many, edge: Edge) -> Result<(), AllocError>
     ensures lists { Lists (memory_of entries.now) edge edges.old.items edges.new.items }
     ensures has { OnOk result (Contains edges.new.items edge) }
 {
@@ -60,9 +61,8 @@ fn add_to_full(entries: &Table, edges: &mut Edges, edge: Edge) -> Result<(), All
     Ok(())
 }
 
-// One more edge of a list.
-#[inline(always)]
-fn add_edge(entries: &Table, edges: &mut Edges, edge: Edge) -> Result<(), AllocError>
+// One more edge of a list in a block.
+fn add_to_many(entries: &Table, edges: &mut Many, edge: Edge) -> Result<(), AllocError>
     ensures lists { Lists (memory_of entries.now) edge edges.old.items edges.new.items }
     ensures has { OnOk result (Contains edges.new.items edge) }
 {
@@ -71,6 +71,41 @@ fn add_edge(entries: &Table, edges: &mut Edges, edge: Edge) -> Result<(), AllocE
         return Ok(());
     }
     add_to_full(entries, edges, edge)
+}
+
+// Both edges, the first one where it tells of an entry.
+fn both(alloc: Global, entries: &Table, first: Edge, second: Edge) -> Result<Edges, AllocError>
+    ensures { IfOk result (λ edges. Lists (memory_of entries.now) second (first ∷ []) (edges_in edges) × Contains (edges_in edges) second) }
+{
+    if !entries.is_current(&first) {
+        return Ok(Edges::of(second));
+    }
+    let mut edges = Many::new(alloc);
+    edges.push(first)?;
+    edges.push(second)?;
+    Ok(Edges::More(Box::new(alloc, edges)?))
+}
+
+// One more edge of a list.
+fn add_edge(alloc: Global, entries: &Table, edges: &mut Edges, edge: Edge) -> Result<(), AllocError>
+    ensures lists { Lists (memory_of entries.now) edge (edges_in edges.old) (edges_in edges.new) }
+    ensures has { OnOk result (Contains (edges_in edges.new) edge) }
+{
+    match edges {
+        Edges::Empty => {
+            *edges = Edges::of(edge);
+            Ok(())
+        }
+        Edges::One(slot, stamp) => {
+            let first = Edge {
+                slot: *slot,
+                stamp: *stamp,
+            };
+            *edges = both(alloc, entries, first, edge)?;
+            Ok(())
+        }
+        Edges::More(list) => add_to_many(entries, list, edge),
+    }
 }
 
 // Where the facet stands among those of a node, if it does.
@@ -98,36 +133,33 @@ fn make_first_room(readers: &mut Vec<Readers>) -> Result<(), AllocError>
     readers.reserve_exact(FEW)
 }
 
-// Where the facet stands among those of a node; it comes behind them where it isn't there yet.
-fn place_for(alloc: Global, readers: &mut Vec<Readers>, facet: Facet) -> Result<usize, AllocError>
-    ensures same { (n : ℕ) (l : Location ℕ) → edges_among n readers.new.items l ≡ edges_among n readers.old.items l }
-    ensures there { IfOk result (λ k. (r : Readers) × (slice_get readers.new.items k ≡ Some r) × (r.facet ≡ facet)) }
+// The first edge of a facet, which comes behind those of a node.
+fn add_facet(readers: &mut Vec<Readers>, facet: Facet, edge: Edge) -> Result<(), AllocError>
+    ensures added { OnOk result (HasAdded facet edge readers.old.items readers.new.items) }
+    ensures err { OnErr result (readers.new.items ≡ readers.old.items) }
 {
-    if let Some(place) = position_of(readers.as_slice(), facet) {
-        return Ok(place);
-    }
-    let place = readers.len();
     make_first_room(readers)?;
     readers.push(Readers {
         facet,
-        edges: Edges::new(alloc),
+        edges: Edges::of(edge),
     })?;
-    Ok(place)
+    Ok(())
 }
 
 // One more edge of what stands at that place.
 fn add_at(
+    alloc: Global,
     entries: &Table,
     readers: &mut Vec<Readers>,
     place: usize,
     edge: Edge,
 ) -> Result<(), AllocError>
     requires there { place < length readers.old.items }
-    ensures gains { (edges : SmallVec Edge) × HasChanged (with_edges edges) place readers.old.items readers.new.items
-        × ListsAt (memory_of entries.now) edge place readers.old.items edges.items × OnOk result (Contains edges.items edge) }
+    ensures gains { (edges : Edges) × HasChanged (with_edges edges) place readers.old.items readers.new.items
+        × ListsAt (memory_of entries.now) edge place readers.old.items (edges_in edges) × OnOk result (Contains (edges_in edges) edge) }
 {
     let found = &mut readers[place];
-    add_edge(entries, &mut found.edges, edge)
+    add_edge(alloc, entries, &mut found.edges, edge)
 }
 
 // One more edge of a facet, among those of a node.
@@ -142,8 +174,10 @@ fn add_among(
     ensures has { (n : ℕ) → OnOk result (Contains (edges_among n readers.new.items (facet_at n facet)) edge) }
     ensures others { (n : ℕ) (l : Location ℕ) → l ≢ facet_at n facet → edges_among n readers.new.items l ≡ edges_among n readers.old.items l }
 {
-    let place = place_for(alloc, readers, facet)?;
-    add_at(entries, readers, place, edge)
+    match position_of(readers.as_slice(), facet) {
+        Some(place) => add_at(alloc, entries, readers, place, edge),
+        None => add_facet(readers, facet, edge),
+    }
 }
 
 // A list for the node, where there is none yet.
@@ -188,8 +222,11 @@ fn add_user(alloc: Global, entries: &mut Table, slot: Slot, edge: Edge) -> Resul
     ensures absent { (i : Instance ℕ) → lookup (same_instance i) entries.old.entries.entries ≡ None
         → lookup (same_instance i) entries.new.entries.entries ≡ None }
 {
-    let mut users = entries.exchange_users(slot, Edges::new(alloc));
-    let result = add_edge(entries, &mut users, edge);
+    let mut users = entries.exchange_users(slot, Edges::of(edge));
+    if users.is_empty() {
+        return Ok(());
+    }
+    let result = add_edge(alloc, entries, &mut users, edge);
     entries.exchange_users(slot, users);
     result
 }

@@ -39,7 +39,7 @@ fn slots_of(alloc: Global, entries: &Table, uses: &[Inst]) -> Result<Links, Allo
 }
 
 // An entry that is to come, which that edge tells of.
-fn fresh(alloc: Global, value: Option<Value>, links: Links, edge: Edge) -> Entry
+fn fresh(value: Option<Value>, links: Links, edge: Edge) -> Entry
     ensures entry { (i : Instance ℕ) → info (i, result) ≡ fresh_entry i (option_map value_view value) links.items edge.stamp }
     ensures slot { result.slot ≡ edge.slot }
 {
@@ -48,7 +48,7 @@ fn fresh(alloc: Global, value: Option<Value>, links: Links, edge: Edge) -> Entry
         links,
         slot: edge.slot,
         stamp: edge.stamp,
-        users: Edges::new(alloc),
+        users: Edges::Empty,
         mark: Mark::Stays,
     }
 }
@@ -81,6 +81,6 @@ pub fn enter_with(
     let edge = Edge { slot, stamp };
     add_readers(alloc, entries, readers, index_read, reads, edge)?;
     add_users(alloc, entries, links.as_slice(), edge)?;
-    entries.enter(inst, fresh(alloc, value, links, edge))?;
+    entries.enter(inst, fresh(value, links, edge))?;
     Ok(Put::Kept)
 }

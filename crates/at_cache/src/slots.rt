@@ -6,7 +6,8 @@ ghost use Rattle.at_model.specs.Run.{Instance};
 ghost use Rattle.at_body.specs.Same.{same_instance};
 ghost use Rattle.slab.specs.Slab.{get};
 ghost use Rattle.indexmap.specs.IndexMap.{IsUnique, index_map_len};
-ghost use Rattle.at_cache.specs.Info.{Memory, info, is_going, memory_of, table_len};
+ghost use Rattle.at_cache.specs.Edges.{edges_in};
+ghost use Rattle.at_cache.specs.Info.{info, is_going, memory_of, table_len};
 ghost use Rattle.at_cache.specs.Placed.{IsMoved, IsPlaced, at};
 ghost use Rattle.at_cache.specs.Flushing.{doomed, is_fresh};
 ghost use Rattle.at_cache.specs.Putting.{Enters, is_current, reused, users_at};
@@ -36,7 +37,7 @@ fn write_mark(entries: &mut IndexMap<Inst, Entry>, place: usize, mark: Mark)
 fn write_users(entries: &mut IndexMap<Inst, Entry>, place: usize, users: Edges) -> Edges
     requires { place < index_map_len entries.old }
     ensures written { HasWritten (with_list users) place entries.old.entries entries.new.entries }
-    ensures was { option_map (λ e. e.1.users.items) (slice_get entries.old.entries place) ≡ Some result.items }
+    ensures was { option_map (λ e. edges_in e.1.users) (slice_get entries.old.entries place) ≡ Some (edges_in result) }
 {
     let (_, entry) = entries.pair_mut(place);
     mem::replace(&mut entry.users, users)
@@ -85,8 +86,8 @@ impl Table {
     /// The edges to those that used the entry in the slot, which has these then.
     pub fn exchange_users(&mut self, slot: Slot, users: Edges) -> Edges
         requires there { IsSome (memory_of self.old slot) }
-        ensures written { (k : ℕ) → memory_of self.new k ≡ reused slot users.items (memory_of self.old) k }
-        ensures was { result.items ≡ users_at (memory_of self.old) slot }
+        ensures written { (k : ℕ) → memory_of self.new k ≡ reused slot (edges_in users) (memory_of self.old) k }
+        ensures was { edges_in result ≡ users_at (memory_of self.old) slot }
         ensures key { self.new.places.vacant_key ≡ self.old.places.vacant_key }
         ensures absent { (i : Instance ℕ) → lookup (same_instance i) self.old.entries.entries ≡ None
             → lookup (same_instance i) self.new.entries.entries ≡ None }

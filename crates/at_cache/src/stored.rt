@@ -1,10 +1,11 @@
 //! How many locations the entries read.
 
 ghost use Rattle.std.specs.Prelude.{◌≡◌, ◌-◌, ◌^◌, min};
+ghost use Rattle.at_cache.specs.Edges.{edges_in};
 ghost use Rattle.at_cache.specs.Info.{memory_of};
 ghost use Rattle.at_cache.specs.Stored.{current_of, held_of, reads_held};
 
-use crate::edge::Edge;
+use crate::edge::{Edge, Edges};
 use crate::facet::Readers;
 use crate::table::Table;
 
@@ -25,9 +26,26 @@ fn held_of(entries: &Table, facets: &[Readers]) -> usize
 {
     let mut count: usize = 0;
     for facet in facets {
-        count = count.saturating_add(current_of(entries, facet.edges.as_slice()));
+        count = count.saturating_add(current_in(entries, &facet.edges));
     }
     count
+}
+
+// How many edges of this list tell of an entry that is there.
+fn current_in(entries: &Table, edges: &Edges) -> usize
+    ensures { result ≡ min (current_of (memory_of entries.now) (edges_in edges.now)) (2 ^ 64 - 1) }
+{
+    match edges {
+        Edges::Empty => 0,
+        Edges::One(slot, stamp) => {
+            let edge = Edge {
+                slot: *slot,
+                stamp: *stamp,
+            };
+            current_of(entries, &[edge])
+        }
+        Edges::More(list) => current_of(entries, list.as_slice()),
+    }
 }
 
 // How many of the edges tell of an entry that is there.

@@ -1,5 +1,6 @@
 use Rattle.std.proofs.Common.{◌++◌, [], List, append-nil, append_assoc, sym, subst, take_all}
 use Rattle.at_cache.specs.declared.facet.Readers.{Readers}
+use Rattle.at_cache.specs.Edges.{edges_in}
 use Rattle.at_cache.specs.Info.{memory_of}
 use Rattle.at_cache.specs.Kept.{Answers}
 use Rattle.at_cache.specs.Asking.{Asked, looks_at}
@@ -19,9 +20,9 @@ loop-reader-preserved g c old start w =
     let (edges, work, asked) = c.loop-reader.invariant old start w in
     elim c.if-is_touched.branch [
       | then-is_touched t ↦
-          let done = subst (λ es. Work old ((start ++ edges) ++ es) [] t.doom_all-first.result (memory_of t.doom_all-first.new.entries)) t.as_slice.ensures (t.doom_all-first.ensures.works old _ (more t.as_slice.result.now work)) in (
-            edges ++ r.edges.items,
-            rw (t.entries-is, t.first-is) (subst (λ es. Work old es [] t.doom_all-first.result (memory_of t.doom_all-first.new.entries)) (append_assoc start edges r.edges.items) done),
+          let done = t.doom_listed-first.ensures.works old _ (more (edges_in r.edges) work) in (
+            edges ++ edges_in r.edges,
+            rw (t.entries-is, t.first-is) (subst (λ es. Work old es [] t.doom_listed-first.result (memory_of t.doom_listed-first.new.entries)) (append_assoc start edges (edges_in r.edges)) done),
             asked_next_touched c.args.node c.args.readers.now c.loop-reader.reader-index r c.reader-item.is c.loop-reader-test.true asked t.if-is_touched.ensures,
           )
       | else-is_touched t ↦ (

@@ -1,11 +1,22 @@
-use Rattle.std.proofs.Common.{◌∙◌}
+use Rattle.std.proofs.Common.{◌∙◌, sym}
+use Rattle.at_cache.specs.Edges.{edges_in}
 use Rattle.at_cache.proofs.Listing.{lists_reused, reused_twice, still_there}
+use Rattle.at_cache.proofs.OneEdge.{alone_has, lists_alone}
 use Rattle.at_cache.proofs.linking.add_user.Goals as goal
+
+pub returns-then-is_empty-clause-lists : goal.returns-then-is_empty-clause-lists
+returns-then-is_empty-clause-lists c =
+    let x = c.exchange_users-users.ensures in (
+      edges_in c.of.result,
+      x.written,
+      lists_alone _ _ _ _ _ (sym c.is_empty.ensures ∙ c.if-is_empty.true) x.was c.of.ensures,
+      alone_has _ _ c.of.ensures,
+    )
 
 pub returns-clause-lists : goal.returns-clause-lists
 returns-clause-lists c =
     let x = c.exchange_users-users.ensures in (
-      c.add_edge-result.new.edges.items,
+      edges_in c.add_edge-result.new.edges,
       λ k. c.exchange_users.ensures.written k ∙ reused_twice _ _ _ _ _ x.written k,
       lists_reused _ _ _ _ x.written (x.was) c.add_edge-result.ensures.lists,
       c.add_edge-result.ensures.has,

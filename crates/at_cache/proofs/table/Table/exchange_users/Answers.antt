@@ -1,5 +1,6 @@
 use Rattle.std.proofs.Common.{sym, refl}
 use Rattle.slab.specs.Slab.{get}
+use Rattle.at_cache.specs.Edges.{edges_in}
 use Rattle.at_cache.specs.Slots.{with_list}
 use Rattle.at_cache.specs.Putting.{with_users}
 use Rattle.at_cache.proofs.Changing.{absent_changed, memory_changed, place_within, placed_changed, taken_slot, users_there}
@@ -12,7 +13,7 @@ pub invariant_of-self : goal.invariant_of-self
 invariant_of-self c = record { placed = placed_changed c.args.self.now.entries.entries (get c.args.self.now.places) c.args.slot _ c.args.self.now.placed (sym c.in-Some.ensures) _ (with_list c.args.users) (λ e. refl) c.write_users.ensures.written }
 
 pub returns-in-Some-clause-written : goal.returns-in-Some-clause-written
-returns-in-Some-clause-written c = memory_changed c.args.self.now.entries.entries (get c.args.self.now.places) c.args.slot _ c.args.self.now.placed (sym c.in-Some.ensures) _ (with_list c.args.users) (λ e. refl) c.write_users.ensures.written (with_users c.args.users.items) (λ e. refl)
+returns-in-Some-clause-written c = memory_changed c.args.self.now.entries.entries (get c.args.self.now.places) c.args.slot _ c.args.self.now.placed (sym c.in-Some.ensures) _ (with_list c.args.users) (λ e. refl) c.write_users.ensures.written (with_users (edges_in c.args.users)) (λ e. refl)
 
 pub returns-in-None-clause-written : goal.returns-in-None-clause-written
 returns-in-None-clause-written c = absurd (taken_slot c.args.self.now.entries.entries (get c.args.self.now.places) c.args.slot c.requires.there (sym c.in-None.ensures))
@@ -21,7 +22,7 @@ pub returns-in-None-clause-was : goal.returns-in-None-clause-was
 returns-in-None-clause-was c = absurd (taken_slot c.args.self.now.entries.entries (get c.args.self.now.places) c.args.slot c.requires.there (sym c.in-None.ensures))
 
 pub returns-in-Some-clause-was : goal.returns-in-Some-clause-was
-returns-in-Some-clause-was c = users_there c.args.self.now.entries.entries (get c.args.self.now.places) c.args.slot _ c.write_users.result.items (sym c.in-Some.ensures) c.write_users.ensures.was
+returns-in-Some-clause-was c = users_there c.args.self.now.entries.entries (get c.args.self.now.places) c.args.slot _ (edges_in c.write_users.result) (sym c.in-Some.ensures) c.write_users.ensures.was
 
 pub returns-in-Some-clause-absent : goal.returns-in-Some-clause-absent
 returns-in-Some-clause-absent c = absent_changed c.args.self.now.entries.entries (get c.args.self.now.places) c.args.slot _ c.args.self.now.placed (sym c.in-Some.ensures) _ (with_list c.args.users) (λ e. refl) c.write_users.ensures.written
