@@ -108,10 +108,6 @@ saturated w x y m n k sum e f = omega (arith, sum, e, f)
 pub counts_more : (first next last : Entries) (w x y : ℕ) → Counts first next w x → Counts next last x y → Counts first last w y
 counts_more first next last w x y (xs, g, e) (ys, h, f) = (xs ++ ys, gains_more first next last xs ys g h, saturated w x y (length xs) (length ys) (length (xs ++ ys)) (length-append xs ys) e f)
 
--- and stays below its bound
-pub counted_small : (first last : Entries) (w x : ℕ) → Counts first last w x → x < 2 ^ 64
-counted_small first last w x (xs, g, e) = omega (arith, e)
-
 -- what comes is just what is worth keeping and wasn't kept
 pub work_is : (rules : Rules) (look : Contents ℕ) (q : Instance ℕ) (old new : Entries) (w x : ℕ) → Counts old new w x → AddsWorthy rules look q old new → HasWorthy rules look q new → IsWork rules look q old w x
 work_is rules look q old new w x (gained, g, e) adds has = (
@@ -127,5 +123,5 @@ work_is rules look q old new w x (gained, g, e) adds has = (
 )
 
 -- a value comes after entries without one
-pub counts_after : (first next last : Entries) (w x y : ℕ) → x ≡ w → w < 2 ^ 64 → KeepsEntries first next → ((i : Instance ℕ) → kept_values next i ≡ kept_values first i) → (x < 2 ^ 64 → Counts next last x y) → Counts first last w y
-counts_after first next last w x y still small stays same then_more = counts_more first next last w x y (counts_shared first next w x still small stays same) (then_more (omega (arith, still, small)))
+pub counts_after : (first next last : Entries) (w x y : ℕ) → x ≡ w → w < 2 ^ 64 → KeepsEntries first next → ((i : Instance ℕ) → kept_values next i ≡ kept_values first i) → Counts next last x y → Counts first last w y
+counts_after first next last w x y still small stays same more = counts_more first next last w x y (counts_shared first next w x still small stays same) more

@@ -1,5 +1,5 @@
 -- A question stays orderly while it goes on.
-use Rattle.std.proofs.Common.{◌≡◌, ◌⊎◌, ℕ, Bool, true, suc, ◌+◌, ◌*◌, ◌^◌, ◌<◌, OnOk, Ok, Err, List, [], ◌∷◌, ◌++◌, length, take, Option, Some, None, inl, inr, refl, sym, ap, ◌∙◌, subst, arith}
+use Rattle.std.proofs.Common.{◌≡◌, ◌⊎◌, ℕ, Bool, true, ◌<◌, OnOk, Ok, Err, List, [], ◌∷◌, ◌++◌, length, take, Option, Some, None, inl, inr, refl, sym, ap, ◌∙◌, subst, arith}
 use Rattle.std.specs.Prelude.{IsSome, Result, is_some}
 use Rattle.std.proofs.lemmas.List.Elements.{Contains-append_cases, Contains-push_cases}
 use Rattle.std.specs.Option.{option_map}
@@ -17,12 +17,12 @@ use Rattle.at_demand.specs.declared.evaluation.Find.{Find}
 use Rattle.at_demand.specs.declared.evaluation.Frame.{Frame}
 use Rattle.at_demand.specs.declared.evaluation.Evaluation.{Evaluation}
 use Rattle.at_demand.specs.Known.{kept_values, found_values, known_in, AreValued, IsKept, MayAdd, WaitingKept, FoundKept}
-use Rattle.at_demand.specs.UnderWay.{chain_of, IsOrderly, IsOrderlyIn, GoesOn, progress}
+use Rattle.at_demand.specs.UnderWay.{chain_of, IsOrderly, IsOrderlyIn, IsNext, GoesOn}
 use Rattle.at_demand.specs.Stacked.{IsStacked, IsStackedIn, HasCut}
 use Rattle.at_demand.proofs.of_cutting.Firsts.{open_cut, kept_cut}
 use Rattle.at_demand.proofs.of_cutting.Stacking.{deepens_stacked, settles_stacked, passes_stacked}
 use Rattle.at_demand.proofs.Entered.{valued_on}
-use Rattle.at_demand.proofs.Keys.{lookup_push, lookup_other, goes_last, no_key, keys_push, length_push}
+use Rattle.at_demand.proofs.Keys.{lookup_push, lookup_other, goes_last, no_key, keys_push}
 
 none_kept : (entries : Entries) → AreValued entries []
 none_kept entries u h = let b : h.0 < 0 = h.1 in absurd (omega arith)
@@ -161,36 +161,23 @@ begun entries ws fs i asked ks alone nothing same fresh none = moved entries [] 
     nothing_found : (f : Find) → ◌≡◌ {A = Option Find} None (Some f) → ⊥
     nothing_found f e = absurd cc
 
-further : (m k n m' k' n' : ℕ) → m' ≡ m → k' ≡ k → n' ≡ suc n → 2 * (m + k) + n < 2 * (m' + k') + n'
-further m k n m' k' n' a b c = omega (arith, a, b, c)
-
-further_found : (m k n m' k' n' : ℕ) → m' ≡ suc m → k' ≡ k → n ≡ suc n' → 2 * (m + k) + n < 2 * (m' + k') + n'
-further_found m k n m' k' n' a b c = omega (arith, a, b, c)
-
-further_kept : (m k n m' k' n' : ℕ) → m' + k' ≡ m + k + 1 → n ≡ suc n' → 2 * (m + k) + n < 2 * (m' + k') + n'
-further_kept m k n m' k' n' a b = omega (arith, a, b)
-
-few : (m k n : ℕ) → m < 2 ^ 64 → k < 2 ^ 64 → n < 2 ^ 64 → 2 * (m + k) + n < 2 ^ 67
-few m k n a b c = omega (arith, a, b, c)
-
 pub deepens : (entries : Entries) (old new : Evaluation) (j : Instance ℕ) → IsOrderlyIn entries old → IsStackedIn old → lookup (same_instance j) old.found.entries ≡ None → kept_values entries j ≡ None → (Among j (chain_of old.waiting.entries old.inst) → ⊥) →
-    new.waiting.entries ≡ insert_entry same_instance old.waiting.entries old.inst old.frame → new.found.entries ≡ old.found.entries → new.gone ≡ old.gone → new.inst ≡ j → new.frame.start ≡ length old.found.entries → new.frame.demanded.kept.items ≡ [] → new.frame.demanded.finds.items ≡ [] →
-    length new.waiting.entries < 2 ^ 64 → length new.found.entries < 2 ^ 64 → new.gone < 2 ^ 64 → GoesOn entries (progress old) new
-deepens entries old new j q stacked found kept fresh waiting same counted last start none unfound a b c =
+    new.waiting.entries ≡ insert_entry same_instance old.waiting.entries old.inst old.frame → new.found.entries ≡ old.found.entries → new.inst ≡ j → new.frame.start ≡ length old.found.entries → new.frame.demanded.kept.items ≡ [] → new.frame.demanded.finds.items ≡ [] →
+    IsNext old.steps new.steps → GoesOn entries old.steps new
+deepens entries old new j q stacked found kept fresh waiting same last start none unfound steps =
     let ws = old.waiting.entries in
     let fs = old.found.entries in
     let goes = waiting ∙ waits_last entries ws fs old.inst _ q old.frame in
     record {
       orderly = moved entries _ _ _ _ _ _ _ _ (descended entries ws fs old.inst _ q j old.frame found kept fresh q.last_kept) (sym goes) (sym same) (sym last) (sym none);
       stacked = deepens_stacked ws fs old.inst old.frame stacked new.waiting.entries new.found.entries new.frame goes same start unfound;
-      further = further (length fs) old.gone (length ws) (length new.found.entries) new.gone (length new.waiting.entries) (ap length same) counted (ap length goes ∙ length_push ws (old.inst, old.frame));
-      few = few (length new.found.entries) new.gone (length new.waiting.entries) b c a;
+      steps = steps;
     }
 
 pub settles : (entries more : Entries) (old new : Evaluation) (v : Value ℕ) → IsOrderlyIn entries old → IsStackedIn old → MayAdd entries more old.inst v → (b : Instance ℕ) (f : Frame) (d : Find) →
-    old.waiting.entries ≡ new.waiting.entries ++ (b, f) ∷ [] → d.demanded ≡ old.frame.demanded → new.found.entries ≡ insert_entry same_instance old.found.entries old.inst d → new.gone ≡ old.gone → new.inst ≡ b → new.frame ≡ f →
-    length new.waiting.entries < 2 ^ 64 → length new.found.entries < 2 ^ 64 → new.gone < 2 ^ 64 → GoesOn more (progress old) new
-settles entries more old new v q stacked adds b f d waiting demanded found counted last same few_wait few_found few_kept =
+    old.waiting.entries ≡ new.waiting.entries ++ (b, f) ∷ [] → d.demanded ≡ old.frame.demanded → new.found.entries ≡ insert_entry same_instance old.found.entries old.inst d → new.inst ≡ b → new.frame ≡ f →
+    IsNext old.steps new.steps → GoesOn more old.steps new
+settles entries more old new v q stacked adds b f d waiting demanded found last same steps =
     let ws = old.waiting.entries in
     let fs = old.found.entries in
     let goes = found ∙ found_last entries ws fs old.inst _ q d in
@@ -198,15 +185,14 @@ settles entries more old new v q stacked adds b f d waiting demanded found count
     record {
       orderly = moved more _ _ _ _ _ _ _ _ (settled entries ws fs old.inst _ q more v adds b f new.waiting.entries waiting d kept) refl (sym goes) (sym last) (sym (ap (λ (x : Frame). x.demanded.kept.items) same));
       stacked = subst (IsStacked new.waiting.entries new.found.entries) (sym same) (settles_stacked ws fs old.inst old.frame stacked new.waiting.entries b f waiting new.found.entries d goes demanded);
-      further = further_found (length fs) old.gone (length ws) (length new.found.entries) new.gone (length new.waiting.entries) (ap length goes ∙ length_push fs (old.inst, d)) counted (ap length waiting ∙ length_push new.waiting.entries (b, f));
-      few = few (length new.found.entries) new.gone (length new.waiting.entries) few_found few_kept few_wait;
+      steps = steps;
     }
 
 -- the last one came to be kept, and the one that waited for it took it
 pub passes : (entries more : Entries) (old new : Evaluation) (v : Value ℕ) (f : Frame) → IsOrderlyIn entries old → IsStackedIn old → MayAdd entries more old.inst v → IsKept more old.inst → old.waiting.entries ≡ new.waiting.entries ++ (new.inst, f) ∷ [] →
     new.frame.demanded.kept.items ≡ f.demanded.kept.items ++ old.inst ∷ [] → new.frame.demanded.finds.items ≡ f.demanded.finds.items → new.frame.start ≡ f.start → HasCut old.frame.start old.found.entries new.found.entries →
-    length new.found.entries + new.gone ≡ length old.found.entries + old.gone + 1 → length new.waiting.entries < 2 ^ 64 → length new.found.entries < 2 ^ 64 → new.gone < 2 ^ 64 → GoesOn more (progress old) new
-passes entries more old new v f q stacked adds some waiting took finds start (n, least, cut) counted few_wait few_found few_kept =
+    IsNext old.steps new.steps → GoesOn more old.steps new
+passes entries more old new v f q stacked adds some waiting took finds start (n, least, cut) steps =
     let ws = old.waiting.entries in
     let fs = old.found.entries in
     let up = risen entries ws fs old.inst _ q more v adds new.inst f new.waiting.entries waiting in
@@ -215,8 +201,7 @@ passes entries more old new v f q stacked adds some waiting took finds start (n,
     record {
       orderly = subst P (sym cut) there;
       stacked = passes_stacked ws fs old.inst old.frame stacked new.waiting.entries new.inst f waiting new.found.entries new.frame (n, least, cut) start finds;
-      further = further_kept (length fs) old.gone (length ws) (length new.found.entries) new.gone (length new.waiting.entries) counted (ap length waiting ∙ length_push new.waiting.entries (new.inst, f));
-      few = few (length new.found.entries) new.gone (length new.waiting.entries) few_found few_kept few_wait;
+      steps = steps;
     }
 
 -- what isn't known is neither kept nor found

@@ -11,12 +11,11 @@ use Rattle.at_body.specs.Same.{same_instance}
 use Rattle.at_body.specs.Values.{value_view}
 use Rattle.at_cache.specs.Kept.{Kept, Entries, AreKept, HasPut, KeepsAll, Puts, value_at}
 use Rattle.at_cache.specs.declared.keeper.Put.{Put}
+use Rattle.at_cache.specs.declared.keeper.Put.TheVariants as put
 use Rattle.at_demand.specs.declared.evaluation.Find.{Find}
-use Rattle.at_demand.specs.declared.evaluation.Settled.{Settled}
-use Rattle.at_demand.specs.declared.evaluation.Settled.TheVariants as settled
 use Rattle.at_demand.specs.declared.gathering.Sources.{Sources}
 use Rattle.at_demand.specs.Known.{kept_values, ArePlain, IsFound, IsKept, MayAdd}
-use Rattle.at_demand.specs.Keeping.{Becomes, HasGathered, HasPlaced, HasPlacedAll, Shares}
+use Rattle.at_demand.specs.Keeping.{HasGathered, HasPlaced, SaysKept, Shares}
 use Rattle.at_demand.specs.Covering.{AreCovered, AreWhole, IsWhole}
 use Rattle.at_demand.specs.Only.{AreLean, IsLean}
 use Rattle.at_demand.specs.Sparing.{AreOnly, MayGain}
@@ -33,9 +32,8 @@ none_below positions is = empty positions.items (let e = eqb-true (vec_len posit
     empty [] e = refl
     empty (x ∷ xs) e = absurd (omega (arith, e))
 
-pub put_as : (exact : Bool) (old : Entries) (i : Instance ℕ) (v : Value ℕ) (rs ss : List (Location ℕ)) (us ws : List (Instance ℕ)) (new : Entries) (p q : Put) → HasPut exact old i (Some v) rs us new p → rs ≡ ss → us ≡ ws → p ≡ q → HasPut exact old i (Some v) ss ws new q
-put_as exact old i v rs ss us ws new p q puts a b c =
-    subst (λ x. HasPut exact old i (Some v) ss ws new x) c (subst (λ x. HasPut exact old i (Some v) ss x new p) b (subst (λ x. HasPut exact old i (Some v) x us new p) a puts))
+pub put_as : (exact : Bool) (old : Entries) (i : Instance ℕ) (v : Value ℕ) (rs ss : List (Location ℕ)) (us ws : List (Instance ℕ)) (new : Entries) (p : Put) → HasPut exact old i (Some v) rs us new p → rs ≡ ss → us ≡ ws → HasPut exact old i (Some v) ss ws new p
+put_as exact old i v rs ss us ws new p puts a b = subst (λ x. HasPut exact old i (Some v) ss x new p) b (subst (λ x. HasPut exact old i (Some v) x us new p) a puts)
 
 module _ (rules : Rules) (exact : Bool) (old : Entries) (found : List (Instance ℕ × Find)) (i : Instance ℕ) (f : Find) (new : Entries) where
   abbrev V : Value ℕ
@@ -46,15 +44,15 @@ module _ (rules : Rules) (exact : Bool) (old : Entries) (found : List (Instance 
     nothing : Shares rules exact found old new → IsPut
     kept : (mid : Entries) → Shares rules exact found old mid → mid i ≡ None → (s : Sources) → HasGathered mid found f s → Puts exact mid i (Some V) (map loc_view s.reads.items) s.kept.items new → IsPut
 
-  from_placed : (mid : Entries) → Shares rules exact found old mid → mid i ≡ None → (s : Sources) → HasGathered mid found f s → (r : Settled) → HasPlaced exact mid i f (map loc_view s.reads.items) s.kept.items new r → IsPut
-  from_placed mid sh absent s g (settled.Kept d) (same, p) = kept mid sh absent s g p
-  from_placed mid sh absent s g (settled.Found d) (same, off, all) = nothing (shares_on rules exact found old mid new sh (shares_none rules exact found mid new all))
+  from_placed : (mid : Entries) → Shares rules exact found old mid → mid i ≡ None → (s : Sources) → HasGathered mid found f s → (r : Put) → HasPut exact mid i (Some V) (map loc_view s.reads.items) s.kept.items new r → IsPut
+  from_placed mid sh absent s g put.Kept p = kept mid sh absent s g p
+  from_placed mid sh absent s g put.Left (off, all) = nothing (shares_on rules exact found old mid new sh (shares_none rules exact found mid new all))
 
-  pub placed_with : {E : Type 0} (r : Result Settled E) → ((mid : Entries) → Shares rules exact found old mid → mid i ≡ None) → IfOk r (HasPlacedAll rules exact old found i f new) → OnErr r (Shares rules exact found old new) → IsPut
+  pub placed_with : {E : Type 0} (r : Result Put E) → ((mid : Entries) → Shares rules exact found old mid → mid i ≡ None) → IfOk r (HasPlaced rules exact old found i f new) → OnErr r (Shares rules exact found old new) → IsPut
   placed_with (Ok r) absent (mid, sh, s, g, p) e = from_placed mid sh (absent mid sh) s g r p
   placed_with (Err x) absent p e = nothing e
 
-  pub placed_alone : {E : Type 0} (r : Result Settled E) → old i ≡ None → f.demanded.finds.items ≡ [] → AreKept old f.demanded.kept.items → IfOk r (HasPlaced exact old i f (map loc_view f.reads.items) f.demanded.kept.items new) → OnErr r (KeepsAll old new) → IsPut
+  pub placed_alone : {E : Type 0} (r : Result Put E) → old i ≡ None → f.demanded.finds.items ≡ [] → AreKept old f.demanded.kept.items → IfOk r (HasPut exact old i (Some V) (map loc_view f.reads.items) f.demanded.kept.items new) → OnErr r (KeepsAll old new) → IsPut
   placed_alone (Ok r) absent alone k p e = from_placed old (shares_none rules exact found old old (λ j. refl)) absent (record { reads = f.reads; kept = f.demanded.kept }) (record { gathered = gathered_alone found f alone; from = from_alone found f; kept = k }) r p
   placed_alone (Err x) absent alone k p e = nothing (shares_none rules exact found old new e)
 
@@ -106,26 +104,26 @@ module _ (rules : Rules) (exact : Bool) (old : Entries) (found : List (Instance 
     valued : (p : Puts exact mid i (Some V) reads uses new) → kept_values new i ≡ Some V
     valued p = ap value_at (p.adds i ∙ ap (λ (b : Bool). if b then Some p.entry else mid i) (same_refl i)) ∙ p.value
 
-    keeps_it : (r : Settled) → IsTrue exact → HasPlaced exact mid i f reads uses new r → IsKept new i
-    keeps_it (settled.Kept d) ex (same, p) = is_there (kept_values new i) V (valued p)
-    keeps_it (settled.Found d) ex (same, off, all) = absurd (true≢false (sym ex ∙ off))
+    keeps_it : (r : Put) → IsTrue exact → HasPut exact mid i (Some V) reads uses new r → IsKept new i
+    keeps_it put.Kept ex p = is_there (kept_values new i) V (valued p)
+    keeps_it put.Left ex (off, all) = absurd (true≢false (sym ex ∙ off))
 
-    becomes_it : (r : Settled) → HasPlaced exact mid i f reads uses new r → Becomes new i f r
-    becomes_it (settled.Kept d) (same, p) = (same, valued p)
-    becomes_it (settled.Found d) (same, off, all) = same
+    says_it : (r : Put) → HasPut exact mid i (Some V) reads uses new r → SaysKept new i f r
+    says_it put.Kept p = valued p
+    says_it put.Left p = tt
 
-    pub keeps_alone : {E : Type 0} (r : Result Settled E) → IsTrue exact → IfOk r (HasPlaced exact mid i f reads uses new) → OnOk r (IsKept new i)
+    pub keeps_alone : {E : Type 0} (r : Result Put E) → IsTrue exact → IfOk r (HasPut exact mid i (Some V) reads uses new) → OnOk r (IsKept new i)
     keeps_alone (Ok r) ex p = keeps_it r ex p
     keeps_alone (Err x) ex p = tt
 
-    pub becomes_alone : {E : Type 0} (r : Result Settled E) → IfOk r (HasPlaced exact mid i f reads uses new) → IfOk r (Becomes new i f)
-    becomes_alone (Ok r) p = becomes_it r p
-    becomes_alone (Err x) p = tt
+    pub says_alone : {E : Type 0} (r : Result Put E) → IfOk r (HasPut exact mid i (Some V) reads uses new) → IfOk r (SaysKept new i f)
+    says_alone (Ok r) p = says_it r p
+    says_alone (Err x) p = tt
 
-  pub keeps_with : {E : Type 0} (r : Result Settled E) → IsTrue exact → IfOk r (HasPlacedAll rules exact old found i f new) → OnOk r (IsKept new i)
+  pub keeps_with : {E : Type 0} (r : Result Put E) → IsTrue exact → IfOk r (HasPlaced rules exact old found i f new) → OnOk r (IsKept new i)
   keeps_with (Ok r) ex (mid, sh, s, g, p) = keeps_it mid (map loc_view s.reads.items) s.kept.items r ex p
   keeps_with (Err x) ex p = tt
 
-  pub becomes_with : {E : Type 0} (r : Result Settled E) → IfOk r (HasPlacedAll rules exact old found i f new) → IfOk r (Becomes new i f)
-  becomes_with (Ok r) (mid, sh, s, g, p) = becomes_it mid (map loc_view s.reads.items) s.kept.items r p
-  becomes_with (Err x) p = tt
+  pub says_with : {E : Type 0} (r : Result Put E) → IfOk r (HasPlaced rules exact old found i f new) → IfOk r (SaysKept new i f)
+  says_with (Ok r) (mid, sh, s, g, p) = says_it mid (map loc_view s.reads.items) s.kept.items r p
+  says_with (Err x) p = tt

@@ -1,5 +1,5 @@
 -- What the steps of a question come to, and what becomes of what is kept.
-use Rattle.std.specs.Prelude.{◌≡◌, ℕ, ◌<◌, ◌^◌, Bool, List, [], length, IsTrue, IfOk, Result}
+use Rattle.std.specs.Prelude.{◌≡◌, ℕ, Bool, List, [], length, IsTrue, IfOk, Result}
 use Rattle.indexmap.specs.IndexMap.{insert_entry}
 use Rattle.at_model.specs.Run.{Instance}
 use Rattle.at_model.specs.Rules.{Rules}
@@ -14,7 +14,7 @@ use Rattle.at_demand.specs.declared.evaluation.Find.{Find}
 use Rattle.at_demand.specs.declared.evaluation.Frame.{Frame}
 use Rattle.at_demand.specs.declared.evaluation.Advance.{Advance}
 use Rattle.at_demand.specs.Known.{meaning, kept_values, known_in, ArePlain, AreValued}
-use Rattle.at_demand.specs.UnderWay.{HasStepped, IsOpen, IsTrueIn, IsAdvance, IsRightAdvance}
+use Rattle.at_demand.specs.UnderWay.{HasStepped, IsNext, IsOpen, IsTrueIn, IsAdvance, IsRightAdvance}
 use Rattle.at_demand.specs.Typing.{IsTypedAdvance}
 use Rattle.at_demand.specs.Right.{AreRight, IsThere}
 use Rattle.at_demand.specs.Covering.{HasPassedTo, IsCoveringIn, IsCoveringAdvance}
@@ -36,21 +36,22 @@ pub record HasGoneOn (rules : Rules) (s : Shown) (entries : Entries) (found : Li
   pub below : TakesBelow (length found) old.demanded → TakesBelow (length found) new.demanded
   pub unknown : IsOpen (known_in entries found) after
 
--- The evaluation of an instance begins as the last of the chain, and has come to this step.
+-- The evaluation of an instance has begun where there are n finds, and has come to this step by itself.
+pub record HasBegun (rules : Rules) (s : Shown) (i : Instance ℕ) (n : ℕ) (new : Frame) (step : Step) : Type 0 where
+  pub start : new.start ≡ n
+  pub fresh : new.demanded.kept.items ≡ []
+  pub unfound : new.demanded.finds.items ≡ []
+  pub stepped : HasStepped rules (contents s) i new.trial step
+  pub passed : (finds : List (Instance ℕ × Find)) → HasPassedTo rules (contents s) finds i new step
+  pub typed : IsTypedStep rules (class_shown s) step new.trial
+
+-- So has that of the last of the chain, which the one before it waits for.
 pub record HasDescended (rules : Rules) (s : Shown) (old : Evaluation) (i : Instance ℕ) (new : Evaluation) (step : Step) : Type 0 where
   pub waiting : new.waiting.entries ≡ insert_entry same_instance old.waiting.entries old.inst old.frame
   pub found : new.found.entries ≡ old.found.entries
   pub inst : new.inst ≡ i
-  pub start : new.frame.start ≡ length old.found.entries
-  pub fresh : new.frame.demanded.kept.items ≡ []
-  pub unfound : new.frame.demanded.finds.items ≡ []
-  pub few : length new.waiting.entries < 2 ^ 64
-  pub finds : length new.found.entries < 2 ^ 64
-  pub counted : new.gone ≡ old.gone
-  pub counts : new.gone < 2 ^ 64
-  pub stepped : HasStepped rules (contents s) i new.frame.trial step
-  pub passed : (finds : List (Instance ℕ × Find)) → HasPassedTo rules (contents s) finds i new.frame step
-  pub typed : IsTypedStep rules (class_shown s) step new.frame.trial
+  pub steps : IsNext old.steps new.steps
+  pub begun : HasBegun rules s i (length old.found.entries) new.frame step
 
 -- The question goes on from where its last evaluation has come to the step, or has its answer. Where it was true, covering and
 -- sparing, it is so still; what is kept stays right and, with an exact keeper, spare, and the work counts what is added.
@@ -71,4 +72,4 @@ pub record HasAdvanced {E : Type 0} (rules : Rules) (s : Shown) (exact : Bool) (
       → IsSparing rules (contents s) before old → IfOk r (IsSparingAdvance rules (contents s) asked after new)
   pub spare : (asked : Instance ℕ) → IsTrue exact → IsTrueIn rules (contents s) asked before old step → IsCoveringIn rules (contents s) old step
       → IsSparing rules (contents s) before old → AreSpare rules (contents s) after
-  pub counts : IsTrue exact → work < 2 ^ 64 → Counts before after work later
+  pub counts : IsTrue exact → Counts before after work later

@@ -1,5 +1,5 @@
 -- What a question is answered, and what becomes of what is kept.
-use Rattle.std.specs.Prelude.{ℕ, ◌<◌, ◌^◌, Bool, Option, IsTrue, IfOk, IfSome, Result}
+use Rattle.std.specs.Prelude.{ℕ, Bool, Option, IsTrue, IfOk, IfSome, Result}
 use Rattle.std.specs.Option.{option_map}
 use Rattle.at_model.specs.Run.{Instance}
 use Rattle.at_model.specs.Rules.{Rules}
@@ -38,7 +38,7 @@ pub record GainsAtMost (rules : Rules) (s : Shown) (exact : Bool) (before after 
   pub last : MayAddLazy rules before after q.inst
   pub worthy : AddsWorthy rules (contents s) (asked (under_way q)) before after
   pub spare : IsTrue exact → AreSpare rules (contents s) before → IsSparingTurns rules (contents s) before q → AreSpare rules (contents s) after
-  pub counts : IsTrue exact → earlier < 2 ^ 64 → Counts before after earlier later
+  pub counts : IsTrue exact → Counts before after earlier later
 
 -- It was given a turn so; where that doesn't answer it, it stands, and its trials are those of its chain.
 pub record HasTurnedWith {E : Type 0} (rules : Rules) (s : Shown) (exact : Bool) (before after : Entries) (earlier later : ℕ)

@@ -1,5 +1,5 @@
 -- What one try of an instance comes to.
-use Rattle.std.specs.Prelude.{◌≡◌, ℕ, ◌<◌, ◌^◌, Bool, List, [], ◌∷◌, ◌++◌, Some, None, IsTrue, IfOk, Result}
+use Rattle.std.specs.Prelude.{◌≡◌, ℕ, Bool, List, [], ◌∷◌, ◌++◌, Some, None, IsTrue, IfOk, Result}
 use Rattle.std.specs.Map.{lookup}
 use Rattle.at_model.specs.Run.{Instance, Contents}
 use Rattle.at_model.specs.Rules.{Rules}
@@ -90,6 +90,6 @@ pub record HasAttempted {E : Type 0} (rules : Rules) (s : Shown) (exact : Bool) 
   pub spare : IsTrue exact → AreSpare rules (contents s) before → AreLean rules (contents s) found → AreSettled rules before found
       → AreSpare rules (contents s) after
   pub settles : IsTrue exact → AreSpare rules (contents s) before → AreSettled rules before found → IfOk r (SettlesOn rules after found i)
-  pub counts : IsTrue exact → earlier < 2 ^ 64 → Counts before after earlier later
+  pub counts : IsTrue exact → Counts before after earlier later
   pub keeps : IfOk r (IsKeptAs after i)
   pub waits : IfOk r (Awaits rules (class_shown s) (contents s) before found i f)

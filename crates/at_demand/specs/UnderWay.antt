@@ -1,5 +1,5 @@
 -- A question under way.
-use Rattle.std.specs.Prelude.{◌≡◌, ℕ, ◌+◌, ◌*◌, ◌<◌, ◌^◌, List, [], ◌∷◌, ◌++◌, length, None}
+use Rattle.std.specs.Prelude.{◌≡◌, ℕ, ◌+◌, ◌<◌, ◌^◌, List, [], ◌∷◌, ◌++◌, length, None}
 use Rattle.std.specs.Map.{keys_of, lookup}
 use Rattle.indexmap.specs.IndexMap.{insert_entry}
 use Rattle.at_model.specs.Run.{Value, Instance, Contents, Run, Gives, Fails, Demands, Known}
@@ -72,19 +72,18 @@ pub record IsOrderly (entries : Entries) (waiting : List (Instance ℕ × Frame)
 abbrev pub IsOrderlyIn : Entries → Evaluation → Type 0
 IsOrderlyIn entries q = IsOrderly entries q.waiting.entries q.found.entries q.inst q.frame.demanded.kept.items
 
--- how far a question has come: an instance counts once when it waits, and twice when it was found or came to be kept
-abbrev pub progress : Evaluation → ℕ
-progress q = 2 * (length q.found.entries + q.gone) + length q.waiting.entries
+-- one more, which is no more than a `u64` can hold
+abbrev pub IsNext : (old new : ℕ) → Type 0
+IsNext old new = (new ≡ old + 1) × (new < 2 ^ 64)
 
--- the question goes on, further than it was
+-- The question goes on, one step further.
 pub record GoesOn (entries : Entries) (done : ℕ) (new : Evaluation) : Type 0 where
   pub orderly : IsOrderlyIn entries new
   pub stacked : IsStackedIn new
-  pub further : done < progress new
-  pub few : progress new < 2 ^ 67
+  pub steps : IsNext done new.steps
 
 abbrev pub IsAdvance : Entries → (old new : Evaluation) → Advance → Type 0
-IsAdvance entries old new (advance.GoesOn s) = GoesOn entries (progress old) new
+IsAdvance entries old new (advance.GoesOn s) = GoesOn entries old.steps new
 IsAdvance entries old new (advance.Fails kind) = Unit {0}
 IsAdvance entries old new (advance.Answers a) = Unit {0}
 
@@ -104,40 +103,34 @@ pub record IsToldTo (rules : Rules) (s : Shown) (old new : Frame) (v : Value ℕ
 
 -- The last instance is found behind all others, and the one that waited for it is the last, and was told its value.
 pub record IsAscended (rules : Rules) (s : Shown) (waiting : List (Instance ℕ × Frame)) (found : List (Instance ℕ
-    × Find)) (gone : ℕ) (i : Instance ℕ) (find : Find) (new : Evaluation) (r : Step) : Type 0 where
+    × Find)) (done : ℕ) (i : Instance ℕ) (find : Find) (new : Evaluation) (r : Step) : Type 0 where
   pub waited : Frame
   pub waits : waiting ≡ new.waiting.entries ++ (new.inst, waited) ∷ []
   pub told : IsToldTo rules s waited new.frame (value_view find.value) r
   pub took : TookFound waited.demanded (length found) new.frame.demanded
   pub settled : new.found.entries ≡ insert_entry same_instance found i find
-  pub counted : new.gone ≡ gone
-  pub few : length new.waiting.entries < 2 ^ 64
-  pub finds : length new.found.entries < 2 ^ 64
-  pub counts : new.gone < 2 ^ 64
+  pub steps : IsNext done new.steps
 
 -- so it is, or none waited, and its value is the answer
 abbrev pub HasAscended : Rules → Shown → Evaluation → Find → Evaluation → Advance → Type 0
-HasAscended rules s old find new (advance.GoesOn r) = IsAscended rules s old.waiting.entries old.found.entries old.gone old.inst find new r
+HasAscended rules s old find new (advance.GoesOn r) = IsAscended rules s old.waiting.entries old.found.entries old.steps old.inst find new r
 HasAscended rules s old find new (advance.Fails kind) = ⊥
 HasAscended rules s old find new (advance.Answers a) = (old.waiting.entries ≡ []) × (a ≡ answer.Value find.value)
 
 -- The last instance is off the chain as one more that came to be kept, and the one that waited for it is the last, and was told
 -- its value; what was found since its evaluation began may be gone.
 pub record IsPassedBack (rules : Rules) (s : Shown) (waiting : List (Instance ℕ × Frame)) (found : List (Instance ℕ
-    × Find)) (gone start : ℕ) (i : Instance ℕ) (v : ValueCode) (new : Evaluation) (r : Step) : Type 0 where
+    × Find)) (done start : ℕ) (i : Instance ℕ) (v : ValueCode) (new : Evaluation) (r : Step) : Type 0 where
   pub waited : Frame
   pub waits : waiting ≡ new.waiting.entries ++ (new.inst, waited) ∷ []
   pub told : IsToldTo rules s waited new.frame (value_view v) r
   pub took : TookKept waited.demanded i new.frame.demanded
   pub cut : HasCut start found new.found.entries
-  pub counted : length new.found.entries + new.gone ≡ length found + gone + 1
-  pub few : length new.waiting.entries < 2 ^ 64
-  pub finds : length new.found.entries < 2 ^ 64
-  pub counts : new.gone < 2 ^ 64
+  pub steps : IsNext done new.steps
 
 -- so it is, or none waited, and this value is the answer
 abbrev pub HasPassedBack : Rules → Shown → Evaluation → ValueCode → Evaluation → Advance → Type 0
-HasPassedBack rules s old v new (advance.GoesOn r) = IsPassedBack rules s old.waiting.entries old.found.entries old.gone old.frame.start old.inst v new r
+HasPassedBack rules s old v new (advance.GoesOn r) = IsPassedBack rules s old.waiting.entries old.found.entries old.steps old.frame.start old.inst v new r
 HasPassedBack rules s old v new (advance.Fails kind) = ⊥
 HasPassedBack rules s old v new (advance.Answers a) = (old.waiting.entries ≡ []) × (a ≡ answer.Value v)
 

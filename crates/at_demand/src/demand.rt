@@ -14,7 +14,7 @@ ghost use Rattle.at_body.specs.Typed.{class_shown};
 ghost use Rattle.at_body.specs.Values.{value_view};
 ghost use Rattle.at_cache.specs.Kept.{AreKept, AreNamed, HasPut, KeepsAll, Answers as Says, LeavesUntouched, LosesTouched};
 ghost use Rattle.at_demand.specs.Known.{meaning, kept_values, known_in, ArePlain, AreValued, FoundKept};
-ghost use Rattle.at_demand.specs.Keeping.{HasPlaced, HasPlacedAll, KeepsWhereLazy, Shares};
+ghost use Rattle.at_demand.specs.Keeping.{HasPlaced, KeepsWhereLazy, Shares};
 ghost use Rattle.at_demand.specs.Advancing.{HasAdvanced};
 ghost use Rattle.at_demand.specs.Answered.{HasAnswered};
 ghost use Rattle.at_demand.specs.UnderWay.{HasStepped, IsOrderlyIn};
@@ -27,7 +27,7 @@ mod shared;
 mod turning;
 
 use crate::answer::Answer;
-use crate::evaluation::{Advance, Evaluation, Find, Settled};
+use crate::evaluation::{Advance, Evaluation, Find};
 use crate::sharing::Sharing;
 use at_body::{Inst, Step, Value};
 use at_cache::{Keeper, Put};
@@ -43,6 +43,7 @@ pub struct Demand<K> {
     keeper: K,
     work: u64,
     sharing: Sharing,
+    ghost few: { work < 2 ^ 64 },
 }
 
 impl<K: Keeper> Demand<K> {
@@ -77,8 +78,6 @@ impl<K: Keeper> Demand<K> {
         ensures { HasAnswered rules.now store.now K.exact (K.contents self.old.keeper) (K.contents self.new.keeper)
             self.old.work self.new.work inst.now result }
     {
-        // The call says that it is less than 2^64.
-        let _work = self.work();
         if let Some(value) = self.keeper.get(inst) {
             return Ok(Answer::Value(value.copy()?));
         }
@@ -98,8 +97,6 @@ impl<K: Keeper> Demand<K> {
         ensures { HasAnswered rules.now store.now K.exact (K.contents self.old.keeper) (K.contents self.new.keeper)
             self.old.work self.new.work inst.now result }
     {
-        // The call says that it is less than 2^64.
-        let _work = self.work();
         self.sharing.clear();
         let begun = Evaluation::new(self.alloc, rules, store, inst.copy(self.alloc)?)?;
         let (mut evaluation, mut step) = begun;
@@ -226,61 +223,42 @@ impl<K: Keeper> Demand<K> {
             self.old.work self.new.work evaluation.old (step_code.Value value) evaluation.new result }
     {
         let find = evaluation.frame.find(self.alloc, value);
-        let settled = self.keep(rules, &evaluation.found, &evaluation.inst, find)?;
-        match settled {
-            Settled::Kept(find) => {
+        let put = self.keep(rules, &evaluation.found, &evaluation.inst, &find)?;
+        match put {
+            Put::Kept => {
                 // What was found since its evaluation began may go, and other finds may come to its positions.
                 self.sharing.forget_from(evaluation.frame.start());
                 evaluation.pass(self.alloc, rules, store, find)
             }
-            Settled::Found(find) => evaluation.ascend(self.alloc, rules, store, find),
+            Put::Left => evaluation.ascend(self.alloc, rules, store, find),
         }
     }
 
-    // Keeps what was found of the instance, if its attribute is lazy, and says what became of it.
+    // Keeps the value that was found of the instance, if its attribute is lazy, and says whether it is kept.
     fn keep(
         &mut self,
         rules: &Rules,
         found: &IndexMap<Inst, Find>,
         inst: &Inst,
-        find: Find,
-    ) -> Result<Settled, AllocError>
+        find: &Find,
+    ) -> Result<Put, AllocError>
         requires unkept { kept_values (K.contents self.old.keeper) inst.now ≡ None }
-        requires kept { AreValued (K.contents self.old.keeper) find.demanded.kept.items }
+        requires kept { AreValued (K.contents self.old.keeper) find.now.demanded.kept.items }
         requires found { FoundKept (K.contents self.old.keeper) found.now.entries }
         requires plain { ArePlain rules.now (K.contents self.old.keeper) }
         ensures { KeepsWhereLazy rules.now K.exact (K.contents self.old.keeper) (K.contents self.new.keeper) self.old.work self.new.work
-            found.now.entries inst.now find result }
+            found.now.entries inst.now find.now result }
     {
         if !rules.is_lazy(inst.attribute()) {
-            return Ok(Settled::Found(find));
+            return Ok(Put::Left);
         }
+        // Where no other find stands below it, it rests on its own reads and what it took of what is kept.
         if find.demanded.finds.is_empty() {
-            return self.keep_alone(inst, find);
+            let reads = find.reads.as_slice();
+            let kept = find.demanded.kept.as_slice();
+            return self.put(inst, &find.value, reads, kept);
         }
         self.keep_with(rules, found, inst, find)
-    }
-
-    // Keeps a find below which no other one stands, for its own reads and what it took of what is kept.
-    fn keep_alone(&mut self, inst: &Inst, find: Find) -> Result<Settled, AllocError>
-        requires absent { K.contents self.old.keeper inst.now ≡ None }
-        requires kept { AreValued (K.contents self.old.keeper) find.demanded.kept.items }
-        ensures placed { IfOk result (HasPlaced K.exact (K.contents self.old.keeper) inst.now find
-            (map loc_view find.reads.items) find.demanded.kept.items (K.contents self.new.keeper)) }
-        ensures err { OnErr result (KeepsAll (K.contents self.old.keeper) (K.contents self.new.keeper)) }
-        ensures counts { IsTrue K.exact → self.old.work < 2 ^ 64
-            → Counts (K.contents self.old.keeper) (K.contents self.new.keeper) self.old.work self.new.work }
-    {
-        let put = self.put(
-            inst,
-            &find.value,
-            find.reads.as_slice(),
-            find.demanded.kept.as_slice(),
-        )?;
-        match put {
-            Put::Kept => Ok(Settled::Kept(find)),
-            Put::Left => Ok(Settled::Found(find)),
-        }
     }
 
     // Keeps a find for all that it and those below it rest on.
@@ -289,30 +267,26 @@ impl<K: Keeper> Demand<K> {
         rules: &Rules,
         found: &IndexMap<Inst, Find>,
         inst: &Inst,
-        find: Find,
-    ) -> Result<Settled, AllocError>
+        find: &Find,
+    ) -> Result<Put, AllocError>
         requires lazy { is_lazy rules.now inst.now.attribute ≡ true }
         requires unkept { kept_values (K.contents self.old.keeper) inst.now ≡ None }
-        requires kept { AreValued (K.contents self.old.keeper) find.demanded.kept.items }
+        requires kept { AreValued (K.contents self.old.keeper) find.now.demanded.kept.items }
         requires found { FoundKept (K.contents self.old.keeper) found.now.entries }
         requires plain { ArePlain rules.now (K.contents self.old.keeper) }
-        ensures placed { IfOk result (HasPlacedAll rules.now K.exact (K.contents self.old.keeper) found.now.entries inst.now find
+        ensures placed { IfOk result (HasPlaced rules.now K.exact (K.contents self.old.keeper) found.now.entries inst.now find.now
             (K.contents self.new.keeper)) }
         ensures err { OnErr result (Shares rules.now K.exact found.now.entries (K.contents self.old.keeper) (K.contents self.new.keeper)) }
-        ensures counts { IsTrue K.exact → self.old.work < 2 ^ 64
-            → Counts (K.contents self.old.keeper) (K.contents self.new.keeper) self.old.work self.new.work }
+        ensures counts { IsTrue K.exact → Counts (K.contents self.old.keeper) (K.contents self.new.keeper) self.old.work self.new.work }
     {
-        let sources = self.gather(rules, found, &find)?;
+        let sources = self.gather(rules, found, find)?;
         let put = self.put(
             inst,
             &find.value,
             sources.reads.as_slice(),
             sources.kept.as_slice(),
         )?;
-        match put {
-            Put::Kept => Ok(Settled::Kept(find)),
-            Put::Left => Ok(Settled::Found(find)),
-        }
+        Ok(put)
     }
 
     // Puts a value to what is kept, and counts it.
@@ -328,8 +302,7 @@ impl<K: Keeper> Demand<K> {
         ensures puts { IfOk result (HasPut K.exact (K.contents self.old.keeper) inst.now (Some (value_view value.now)) (map loc_view reads.now)
             uses.now (K.contents self.new.keeper)) }
         ensures err { OnErr result (KeepsAll (K.contents self.old.keeper) (K.contents self.new.keeper)) }
-        ensures counts { IsTrue K.exact → self.old.work < 2 ^ 64
-            → Counts (K.contents self.old.keeper) (K.contents self.new.keeper) self.old.work self.new.work }
+        ensures counts { IsTrue K.exact → Counts (K.contents self.old.keeper) (K.contents self.new.keeper) self.old.work self.new.work }
     {
         let put = self
             .keeper

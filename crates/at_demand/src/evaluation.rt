@@ -1,7 +1,6 @@
 //! A question under way: a chain of instances, each of which waits for the next, and what was found.
 
-ghost use Rattle.std.specs.Prelude.{◌≡◌, ◌+◌, ◌<◌, ◌^◌, List, [], length, map, IfOk, OnOk, MatchBool, ℕ};
-ghost use Rattle.at_model.specs.Run.{Instance};
+ghost use Rattle.std.specs.Prelude.{◌≡◌, [], map, IfOk, OnOk, MatchBool};
 ghost use Rattle.at_model.specs.Instances.{AnyText};
 ghost use Rattle.at_model.specs.Meaning.{Among, HasValue, Right};
 ghost use Rattle.at_model.specs.TypedRuns.{IsWellTyped};
@@ -13,16 +12,15 @@ ghost use Rattle.at_body.specs.Values.{value_view};
 ghost use Rattle.at_body.specs.Typed.{IsTypedStep, Takes as Accepts, class_shown};
 ghost use Rattle.indexmap.specs.IndexMap.{insert_entry};
 ghost use Rattle.at_demand.specs.Known.{meaning, known_in, AreValued, IsRecalled};
-ghost use Rattle.at_demand.specs.UnderWay.{chain_of, HasAscended, HasPassedBack, HasStepped, IsToldTo, TookFound, TookKept};
+ghost use Rattle.at_demand.specs.UnderWay.{chain_of, HasAscended, HasPassedBack, IsNext, IsToldTo, TookFound, TookKept};
 ghost use Rattle.at_demand.specs.Typing.{AreTypedWaiting};
-ghost use Rattle.at_demand.specs.Advancing.{HasDescended, HasGoneOn};
+ghost use Rattle.at_demand.specs.Advancing.{HasBegun, HasDescended, HasGoneOn};
 ghost use Rattle.at_demand.specs.Stacked.{HasCut};
-ghost use Rattle.at_demand.specs.Covering.{HasPassedTo, Takes};
+ghost use Rattle.at_demand.specs.Covering.{Takes};
 ghost use Rattle.at_demand.specs.Only.{TakesOne};
-ghost use Rattle.at_demand.specs.declared.evaluation.Find.{Find as FindCode};
 
 use crate::answer::Answer;
-use at_body::{FaultKind, Inst, Room, Step, Trial, Value};
+use at_body::{FaultKind, Inst, Step, Trial, Value};
 use at_cache::Keeper;
 use at_rules::Rules;
 use at_store::{Loc, Store};
@@ -110,17 +108,15 @@ impl Drop for Find {
 
 // A question under way. `inst` is the last instance of the chain, and `frame` its evaluation; each of `waiting` waits for
 // the next, and the last one for `inst`. What came to be kept isn't among what was `found`, and a find that nobody took may go
-// from there: `gone` counts both. A trial begins in the `room` of one that ended, in the place of the one that `ended` last, and notes
-// what it takes in `spare` lists of one that came to be kept; what is in them counts for nothing.
+// from there: so `steps` counts how often the chain has changed. An evaluation begins in a `spare` frame of one that ended, where there
+// is one; what is in it counts for nothing.
 pub struct Evaluation<'a> {
     pub waiting: IndexMap<Inst, Held<'a>>,
     pub found: IndexMap<Inst, Find>,
-    pub gone: u64,
-    pub room: Room<'a>,
-    pub spare: Demanded,
+    pub steps: u64,
     pub inst: Inst,
     pub frame: Held<'a>,
-    pub ended: Option<Held<'a>>,
+    pub spare: Vec<Held<'a>>,
 }
 
 /// One call, as that of `Demanded` is.
@@ -129,12 +125,10 @@ impl Drop for Evaluation<'_> {
         let Evaluation {
             waiting: _,
             found: _,
-            gone: _,
-            room: _,
-            spare: _,
+            steps: _,
             inst: _,
             frame: _,
-            ended: _,
+            spare: _,
         } = self;
     }
 }
@@ -146,13 +140,6 @@ pub enum Advance {
     GoesOn(Step),
     Fails(FaultKind),
     Answers(Answer),
-}
-
-// What became of a find that was to be kept: its value is kept, or it is found still.
-#[derive(Drop)]
-pub enum Settled {
-    Kept(Find),
-    Found(Find),
 }
 
 // The value of an instance, or the instance, where it isn't known.
@@ -177,24 +164,17 @@ impl<'a> Evaluation<'a> {
         ensures alone { IfOk result (λ r. r.0.waiting.entries ≡ []) }
         ensures nothing { IfOk result (λ r. r.0.found.entries ≡ []) }
         ensures inst { IfOk result (λ r. r.0.inst ≡ inst) }
-        ensures start { IfOk result (λ r. r.0.frame.start ≡ 0) }
-        ensures fresh { IfOk result (λ r. r.0.frame.demanded.kept.items ≡ []) }
-        ensures unfound { IfOk result (λ r. r.0.frame.demanded.finds.items ≡ []) }
-        ensures stepped { IfOk result (λ r. HasStepped rules.now (contents store.now) inst r.0.frame.trial r.1) }
-        ensures passed { (finds : List (Instance ℕ × FindCode)) → IfOk result (λ r. HasPassedTo rules.now (contents store.now) finds inst r.0.frame r.1) }
-        ensures typed { IfOk result (λ r. IsTypedStep rules.now (class_shown store.now) r.1 r.0.frame.trial) }
+        ensures begun { IfOk result (λ r. HasBegun rules.now store.now inst 0 r.0.frame r.1) }
     {
-        let (frame, step) = Frame::start(alloc, rules, store, &inst)?;
-        let held = Held::new(alloc, frame)?;
+        let mut frame = Held::fresh(alloc)?;
+        let step = frame.begin(alloc, rules, store, &inst, 0)?;
         let evaluation = Evaluation {
             waiting: IndexMap::new(alloc),
             found: IndexMap::new(alloc),
-            gone: 0,
-            room: Room::new(alloc),
-            spare: Demanded::new(alloc),
+            steps: 0,
             inst,
-            frame: held,
-            ended: None,
+            frame,
+            spare: Vec::new(alloc),
         };
         Ok((evaluation, step))
     }
@@ -221,21 +201,13 @@ impl<'a> Evaluation<'a> {
         requires typed { IsWellTyped rules.now (class_shown store.now) AnyText needed }
         ensures { IfOk result (HasDescended rules.now store.now self.old needed self.new) }
     {
-        let room = mem::replace(&mut self.room, Room::new(alloc));
-        let demanded = mem::replace(&mut self.spare, Demanded::new(alloc)).emptied();
+        self.steps = next(self.steps)?;
         let start = self.found.len();
-        let (trial, step) = Trial::start_in(alloc, rules, store, &needed, room)?;
-        let frame = Frame {
-            trial,
-            demanded,
-            start,
-        };
-        let held = hold(alloc, &mut self.ended, &mut self.room, frame)?;
-        let frame = mem::replace(&mut self.frame, held);
+        let mut frame = unused(alloc, &mut self.spare)?;
+        let step = frame.begin(alloc, rules, store, &needed, start)?;
+        let waits = mem::replace(&mut self.frame, frame);
         let inst = mem::replace(&mut self.inst, needed);
-        put(&mut self.waiting, inst, frame)?;
-        // The calls say that they are fewer than 2^64.
-        let _counts = (self.waiting.len(), self.found.len(), self.gone());
+        put(&mut self.waiting, inst, waits)?;
         Ok(step)
     }
 
@@ -255,23 +227,21 @@ impl<'a> Evaluation<'a> {
         requires has { HasValue (contents store.now) (meaning rules.now) self.old.inst (value_view find.value) }
         ensures { IfOk result (HasAscended rules.now store.now self.old find self.new) }
     {
+        self.steps = next(self.steps)?;
         let Some((below, frame)) = self.waiting.pop() else {
             return Ok(Advance::Answers(Answer::Value(find.into_value())));
         };
         let inst = mem::replace(&mut self.inst, below);
-        self.ended = Some(mem::replace(&mut self.frame, frame));
+        self.spare.push(mem::replace(&mut self.frame, frame))?;
         let value = find.value.copy()?;
         let position = self.found.len();
         let step = self.frame.tell_found(alloc, rules, store, position, value)?;
         put(&mut self.found, inst, find)?;
-        // The calls say that they are fewer than 2^64.
-        let _counts = (self.waiting.len(), self.found.len(), self.gone());
         Ok(Advance::GoesOn(step))
     }
 
     // Goes back so from the last instance, which is kept with this find's value; the one that waits for it is told that at once. What
-    // was found since its evaluation began was taken by nobody else, and may go. The count of what is gone ends at the greatest number,
-    // as if memory were wanting.
+    // was found since its evaluation began was taken by nobody else, and may go.
     pub fn pass(
         &mut self,
         alloc: Global,
@@ -286,34 +256,17 @@ impl<'a> Evaluation<'a> {
         requires has { HasValue (contents store.now) (meaning rules.now) self.old.inst (value_view find.value) }
         ensures { IfOk result (HasPassedBack rules.now store.now self.old find.value self.new) }
     {
-        let Some(kept) = self.gone.checked_add(1) else {
-            return Err(AllocError);
-        };
+        self.steps = next(self.steps)?;
         let Some((below, frame)) = self.waiting.pop() else {
             return Ok(Advance::Answers(Answer::Value(find.into_value())));
         };
         let start = self.frame.start();
+        let value = self.frame.take_back(find);
         let inst = mem::replace(&mut self.inst, below);
-        self.ended = Some(mem::replace(&mut self.frame, frame));
-        let (value, reads, demanded) = find.into_parts();
-        self.room.lend(reads);
-        self.spare = demanded;
+        self.spare.push(mem::replace(&mut self.frame, frame))?;
         let step = self.frame.tell_kept(alloc, rules, store, inst, value)?;
-        let cut = cut_back(&mut self.found, start);
-        let Some(gone) = kept.checked_add(cut) else {
-            return Err(AllocError);
-        };
-        self.gone = gone;
-        // The calls say that they are fewer than 2^64.
-        let _counts = (self.waiting.len(), self.found.len(), self.gone());
+        cut_back(&mut self.found, start);
         Ok(Advance::GoesOn(step))
-    }
-
-    // How many came to be kept, or were found and are gone.
-    fn gone(&self) -> u64
-        ensures { result ≡ self.now.gone }
-    {
-        self.gone
     }
 
     // The last instance of the chain.
@@ -323,30 +276,23 @@ impl<'a> Evaluation<'a> {
         let Evaluation {
             waiting: _,
             found: _,
-            gone: _,
-            room: _,
-            spare: _,
+            steps: _,
             inst,
             frame: _,
-            ended: _,
+            spare: _,
         } = self;
         inst
     }
 }
 
-// Lets those go that were found since there were `start` of them, where there are many in all, and says how many they were. Whatever
-// goes so may be evaluated anew once for the question and once for each value that comes to be kept with it, which has to gather it
-// anyway.
-fn cut_back(found: &mut IndexMap<Inst, Find>, start: usize) -> u64
-    ensures cut { HasCut start found.old.entries found.new.entries }
-    ensures counted { length found.new.entries + result ≡ length found.old.entries }
+// Lets those go that were found since there were `start` of them, where there are many in all. Whatever goes so may be evaluated anew
+// once for the question and once for each value that comes to be kept with it, which has to gather it anyway.
+fn cut_back(found: &mut IndexMap<Inst, Find>, start: usize)
+    ensures { HasCut start found.old.entries found.new.entries }
 {
-    let many = found.len();
-    if many < MANY {
-        return 0;
+    if MANY <= found.len() {
+        found.truncate(start);
     }
-    found.truncate(start);
-    (many - found.len()) as u64
 }
 
 // Puts the value by the instance, or finds memory wanting.
@@ -357,37 +303,47 @@ pub fn put<V: Drop>(map: &mut IndexMap<Inst, V>, inst: Inst, value: V) -> Result
     Ok(())
 }
 
-// Puts the frame on the heap, in the place of one that ended, whose lists serve the next trial.
-fn hold<'a>(
-    alloc: Global,
-    ended: &mut Option<Held<'a>>,
-    room: &mut Room<'a>,
-    frame: Frame<'a>,
-) -> Result<Held<'a>, AllocError>
-    ensures { IfOk result (λ h. h ≡ frame.entry) }
+// The number of the next step. An error behind the greatest number, as if memory were wanting.
+fn next(steps: u64) -> Result<u64, AllocError>
+    ensures { IfOk result (IsNext steps) }
 {
-    let Some(mut held) = mem::replace(ended, None) else {
-        return Held::new(alloc, frame);
-    };
-    *room = held.exchange(frame).into_room();
-    Ok(held)
+    match steps.checked_add(1) {
+        Some(next) => Ok(next),
+        None => Err(AllocError),
+    }
+}
+
+// The frame that ended last, or a fresh one.
+fn unused<'a>(alloc: Global, spare: &mut Vec<Held<'a>>) -> Result<Held<'a>, AllocError> {
+    match spare.pop() {
+        Some(frame) => Ok(frame),
+        None => Held::fresh(alloc),
+    }
 }
 
 impl<'a> Held<'a> {
-    // Puts a frame on the heap.
-    fn new(alloc: Global, frame: Frame<'a>) -> Result<Held<'a>, AllocError>
-        ensures { IfOk result (λ h. h ≡ frame.entry) }
-    {
-        let frame = Box::new(alloc, frame)?;
+    // A frame on the heap, where no evaluation has begun yet.
+    fn fresh(alloc: Global) -> Result<Held<'a>, AllocError> {
+        let frame = Box::new(alloc, Frame::new(alloc))?;
         Ok(Held { frame })
     }
 
-    // Puts another frame in its place.
-    fn exchange(&mut self, frame: Frame<'a>) -> Frame<'a>
-        ensures value { result ≡ self.old }
-        ensures after { self.new ≡ frame.entry }
+    // As a frame does.
+    fn begin(
+        &mut self,
+        alloc: Global,
+        rules: &'a Rules,
+        store: &'a Store,
+        inst: &Inst,
+        start: usize,
+    ) -> Result<Step, AllocError>
+        requires idle { IsIdle store.now }
+        requires formed { AreWellFormed rules.now }
+        requires sound { IsTreeSound rules.now.classes (tree store.now) }
+        requires typed { IsWellTyped rules.now (class_shown store.now) AnyText inst.now }
+        ensures { IfOk result (HasBegun rules.now store.now inst.now start self.new) }
     {
-        mem::replace(&mut *self.frame, frame)
+        self.frame.begin(alloc, rules, store, inst, start)
     }
 
     // How many finds there were when it began.
@@ -465,10 +421,26 @@ impl<'a> Held<'a> {
     {
         self.frame.find(alloc, value)
     }
+
+    // As a frame does.
+    fn take_back(&mut self, find: Find) -> Value
+        ensures { result ≡ find.value }
+    {
+        self.frame.take_back(find)
+    }
 }
 
 impl<'a> Frame<'a> {
-    // Begins the evaluation of an instance.
+    // A frame without memory, where no evaluation has begun yet.
+    fn new(alloc: Global) -> Frame<'a> {
+        Frame {
+            trial: Trial::new(alloc),
+            demanded: Demanded::new(alloc),
+            start: 0,
+        }
+    }
+
+    // The evaluation of an instance, and what it came to by itself.
     pub fn start(
         alloc: Global,
         rules: &'a Rules,
@@ -479,31 +451,32 @@ impl<'a> Frame<'a> {
         requires formed { AreWellFormed rules.now }
         requires sound { IsTreeSound rules.now.classes (tree store.now) }
         requires typed { IsWellTyped rules.now (class_shown store.now) AnyText inst.now }
-        ensures start { IfOk result (λ r. r.0.start ≡ 0) }
-        ensures fresh { IfOk result (λ r. r.0.demanded.kept.items ≡ []) }
-        ensures unfound { IfOk result (λ r. r.0.demanded.finds.items ≡ []) }
-        ensures stepped { IfOk result (λ r. HasStepped rules.now (contents store.now) inst.now r.0.trial r.1) }
-        ensures passed { (finds : List (Instance ℕ × FindCode)) → IfOk result (λ r. HasPassedTo rules.now (contents store.now) finds inst.now r.0 r.1) }
-        ensures typed { IfOk result (λ r. IsTypedStep rules.now (class_shown store.now) r.1 r.0.trial) }
+        ensures { IfOk result (λ r. HasBegun rules.now store.now inst.now 0 r.0 r.1) }
     {
-        let (trial, step) = Trial::start(alloc, rules, store, inst)?;
-        let demanded = Demanded::new(alloc);
-        let frame = Frame {
-            trial,
-            demanded,
-            start: 0,
-        };
+        let mut frame = Frame::new(alloc);
+        let step = frame.begin(alloc, rules, store, inst, 0)?;
         Ok((frame, step))
     }
 
-    // The memory of its trial.
-    fn into_room(self) -> Room<'a> {
-        let Frame {
-            trial,
-            demanded: _,
-            start: _,
-        } = self;
-        trial.into_room()
+    // Begins the evaluation of an instance where there are so many finds, in the lists of the one that ended there.
+    fn begin(
+        &mut self,
+        alloc: Global,
+        rules: &'a Rules,
+        store: &'a Store,
+        inst: &Inst,
+        start: usize,
+    ) -> Result<Step, AllocError>
+        requires idle { IsIdle store.now }
+        requires formed { AreWellFormed rules.now }
+        requires sound { IsTreeSound rules.now.classes (tree store.now) }
+        requires typed { IsWellTyped rules.now (class_shown store.now) AnyText inst.now }
+        ensures { IfOk result (HasBegun rules.now store.now inst.now start self.new) }
+    {
+        self.demanded.clear();
+        self.start = start;
+        let step = self.trial.restart(alloc, rules, store, inst)?;
+        Ok(step)
     }
 
     // Goes on with each value that is known, up to the end or to an instance that isn't.
@@ -595,10 +568,20 @@ impl<'a> Frame<'a> {
             demanded,
         }
     }
+
+    // Takes the lists of a find back, in whose memory the next evaluation notes what it reads and takes, and says its value.
+    fn take_back(&mut self, find: Find) -> Value
+        ensures { result ≡ find.value }
+    {
+        let (value, reads, demanded) = find.into_parts();
+        self.trial.lend(reads);
+        self.demanded = demanded;
+        value
+    }
 }
 
 impl Find {
-    // Its value, and what its evaluation took.
+    // Its value, and the lists of what its evaluation read and took.
     fn into_parts(self) -> (Value, Vec<Loc>, Demanded)
         ensures { result.0 ≡ self.value }
     {
@@ -633,14 +616,13 @@ impl Demanded {
         }
     }
 
-    // Its lists, with nothing in them.
-    fn emptied(mut self) -> Demanded
-        ensures kept { result.kept.items ≡ [] }
-        ensures finds { result.finds.items ≡ [] }
+    // Lets go of what is in the lists.
+    fn clear(&mut self)
+        ensures kept { self.new.kept.items ≡ [] }
+        ensures finds { self.new.finds.items ≡ [] }
     {
         self.kept.clear();
         self.finds.clear();
-        self
     }
 
     // Takes the value of an instance, where it is known.

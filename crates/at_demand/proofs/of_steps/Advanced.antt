@@ -20,7 +20,7 @@ use Rattle.at_demand.proofs.SparingOn.{sparing_on}
 
 -- the question with another evaluation of its last instance
 abbrev pub with_frame : Evaluation → Frame → Evaluation
-with_frame q f = record { waiting = q.waiting; found = q.found; gone = q.gone; room = q.room; spare = q.spare; inst = q.inst; frame = f; ended = q.ended }
+with_frame q f = record { waiting = q.waiting; found = q.found; steps = q.steps; inst = q.inst; frame = f; spare = q.spare }
 
 pub true_on : (rules : Rules) (look : Contents ℕ) (before : Entries) (q : Evaluation) (f : Frame) (x y : Step) → ((i : Instance ℕ) → HasStepped rules look i q.frame.trial x → HasStepped rules look i f.trial y) →
     (asked : Instance ℕ) → IsTrueIn rules look asked before q x → IsTrueIn rules look asked before (with_frame q f) y

@@ -21,7 +21,7 @@ use Rattle.at_demand.specs.declared.evaluation.Advance.{Advance}
 use Rattle.at_demand.specs.declared.evaluation.Advance.TheVariants as advance
 use Rattle.at_demand.specs.declared.evaluation.Recalled.TheVariants as recalled
 use Rattle.at_demand.specs.Known.{meaning, AreValued, IsKept, MayAdd, answer_view}
-use Rattle.at_demand.specs.UnderWay.{AreWaiting, GoesOn, IsOrderlyIn, IsAdvance, IsAscended, HasAscended, IsTrueIn, IsRightAdvance, progress}
+use Rattle.at_demand.specs.UnderWay.{AreWaiting, GoesOn, IsOrderlyIn, IsAdvance, IsAscended, HasAscended, IsTrueIn, IsRightAdvance}
 use Rattle.at_demand.specs.Stacked.{IsStackedIn}
 use Rattle.at_demand.specs.Covering.{IsCoveringIn, IsCoveringAdvance}
 use Rattle.at_demand.specs.Only.{TakesOne}
@@ -50,8 +50,7 @@ told_on more done new waited i v start kept took up = record {
     last_kept = subst (AreValued more) (sym kept) up.orderly.last_kept;
   };
   stacked = stacked_on new.waiting.entries new.found.entries new.inst waited up.stacked new.frame start (below_on new.found.entries waited.demanded new.frame.demanded i (recalled.Value v) took up.stacked.last.takes);
-  further = up.further;
-  few = up.few;
+  steps = up.steps;
 }
 
 module _ (rules : Rules) (s : Shown) (entries more : Entries) (old new : Evaluation) (d : Find) (q : IsOrderlyIn entries old) where
@@ -59,7 +58,7 @@ module _ (rules : Rules) (s : Shown) (entries more : Entries) (old new : Evaluat
   look = contents s
 
   -- the one that waited took the find, which stands behind all others
-  took_last : (r : Step) → (a : IsAscended rules s old.waiting.entries old.found.entries old.gone old.inst d new r) →
+  took_last : (r : Step) → (a : IsAscended rules s old.waiting.entries old.found.entries old.steps old.inst d new r) →
       (p : ℕ) × (f : Find) × (slice_get new.found.entries p ≡ Some (old.inst, f)) × (new.frame.demanded.kept.items ≡ a.waited.demanded.kept.items) × (new.frame.demanded.finds.items ≡ a.waited.demanded.finds.items ++ p ∷ [])
   took_last r a =
       let fs = old.found.entries in
@@ -68,8 +67,8 @@ module _ (rules : Rules) (s : Shown) (entries more : Entries) (old new : Evaluat
 
   pub ascends : (v : Value ℕ) → IsStackedIn old → MayAdd entries more old.inst v → d.demanded ≡ old.frame.demanded → (t : Advance) → HasAscended rules s old d new t → IsAdvance more old new t
   ascends v stacked adds demanded (advance.GoesOn r) a =
-      let up = settles entries more old (with_frame new a.waited) v q stacked adds new.inst a.waited d a.waits demanded a.settled a.counted refl refl a.few a.finds a.counts in
-      told_on more (progress old) new a.waited old.inst d.value a.told.start a.took.0 (inr (took_last r a)) up
+      let up = settles entries more old (with_frame new a.waited) v q stacked adds new.inst a.waited d a.waits demanded a.settled refl refl a.steps in
+      told_on more old.steps new a.waited old.inst d.value a.told.start a.took.0 (inr (took_last r a)) up
   ascends v stacked adds demanded (advance.Fails k) a = absurd a
   ascends v stacked adds demanded (advance.Answers x) a = tt
 

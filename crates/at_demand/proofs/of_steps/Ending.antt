@@ -18,7 +18,7 @@ use Rattle.at_demand.specs.Covering.{IsCoveringIn}
 use Rattle.at_demand.specs.Sparing.{AddsWorthy, AreSpare, Counts, HasWorthy, IsSparing}
 use Rattle.at_demand.specs.Advancing.{HasAdvanced}
 use Rattle.at_demand.specs.Answered.{HasAnswered}
-use Rattle.at_demand.proofs.Counting.{counts_more, counted_small, work_is}
+use Rattle.at_demand.proofs.Counting.{counts_more, work_is}
 
 -- What holds of a question before a step: how what is kept and the work have become what they are, and that it is true, covering and sparing.
 pub record IsUnderWay (rules : Rules) (s : Shown) (exact : Bool) (before now : Entries) (work later : ℕ) (asked : Instance ℕ) (q : Evaluation) (x : Step) : Type 0 where
@@ -36,7 +36,7 @@ pub ends_so : {E F : Type 0} (rules : Rules) (s : Shown) (exact : Bool) (before 
 ends_so rules s exact before now after work mid later asked q new x r a h e answers all =
     let look = contents s in
     let worthy = e.worthy asked before h.holds h.worthy in
-    let counts = λ (k : IsTrue exact). counts_more before now after work mid later (h.counts k) (e.counts k (counted_small before now work mid (h.counts k))) in
+    let counts = λ (k : IsTrue exact). counts_more before now after work mid later (h.counts k) (e.counts k) in
     record {
       answers = answers;
       worthy = worthy;

@@ -36,11 +36,12 @@ use Rattle.at_demand.proofs.of_cutting.Stacking.{stacked_pop}
 use Rattle.at_demand.proofs.Truth.{ends, resumed_step, right_after}
 use Rattle.at_demand.proofs.SparingOn.{ends_all, settles_spare}
 use Rattle.at_demand.proofs.TypingLemmas.{typed_pop}
+use Rattle.at_demand.proofs.of_steps.Advanced.{with_frame}
 
 -- what the last evaluation has given away doesn't matter
 pub passed_from : (rules : Rules) (s : Shown) (old new : Evaluation) (f : Frame) (w : ValueCode) → f.start ≡ old.frame.start → (t : Advance) →
-    HasPassedBack rules s (record { waiting = old.waiting; found = old.found; gone = old.gone; room = old.room; spare = old.spare; inst = old.inst; frame = f; ended = old.ended }) w new t → HasPassedBack rules s old w new t
-passed_from rules s old new f w same (advance.GoesOn r) a = subst (λ n. IsPassedBack rules s old.waiting.entries old.found.entries old.gone n old.inst w new r) same a
+    HasPassedBack rules s (with_frame old f) w new t → HasPassedBack rules s old w new t
+passed_from rules s old new f w same (advance.GoesOn r) a = subst (λ n. IsPassedBack rules s old.waiting.entries old.found.entries old.steps n old.inst w new r) same a
 passed_from rules s old new f w same (advance.Fails k) a = a
 passed_from rules s old new f w same (advance.Answers x) a = a
 
@@ -59,7 +60,7 @@ module _ (rules : Rules) (s : Shown) (entries more : Entries) (old new : Evaluat
   at_most n m a b = omega (arith, a, b)
 
   pub passes_on : (v : Value ℕ) → IsOrderlyIn entries old → IsStackedIn old → MayAdd entries more old.inst v → IsKept more old.inst → (t : Advance) → HasPassedBack rules s old w new t → IsAdvance more old new t
-  passes_on v q stacked adds some (advance.GoesOn r) a = passes entries more old new v a.waited q stacked adds some a.waits a.took.0 a.took.1 a.told.start a.cut a.counted a.few a.finds a.counts
+  passes_on v q stacked adds some (advance.GoesOn r) a = passes entries more old new v a.waited q stacked adds some a.waits a.took.0 a.took.1 a.told.start a.cut a.steps
   passes_on v q stacked adds some (advance.Fails k) a = absurd a
   passes_on v q stacked adds some (advance.Answers x) a = tt
 

@@ -1,5 +1,5 @@
 -- What a turn lets come to what is kept.
-use Rattle.std.proofs.Common.{ℕ, Bool, inl, refl}
+use Rattle.std.proofs.Common.{◌<◌, ◌^◌, ℕ, Bool, inl, refl}
 use Rattle.std.specs.Prelude.{Result}
 use Rattle.at_model.specs.Meaning.{Right}
 use Rattle.at_model.specs.Rules.{Rules}
@@ -18,15 +18,15 @@ use Rattle.at_demand.proofs.Gaining.{worthy_none}
 use Rattle.at_demand.proofs.Standing.{found_there, last_there, worthy_asked}
 
 -- nothing came
-pub gains_none : (rules : Rules) (s : Shown) (exact : Bool) (entries : Entries) (work : ℕ) (q : Question) → Right (contents s) (meaning rules) (kept_values entries) → ArePlain rules entries → GainsAtMost rules s exact entries entries work work q
-gains_none rules s exact entries work q right plain = record {
+pub gains_none : (rules : Rules) (s : Shown) (exact : Bool) (entries : Entries) (work : ℕ) → work < 2 ^ 64 → (q : Question) → Right (contents s) (meaning rules) (kept_values entries) → ArePlain rules entries → GainsAtMost rules s exact entries entries work work q
+gains_none rules s exact entries work few q right plain = record {
   right = right;
   stays = λ there all. all;
   plain = plain;
   last = λ j. inl refl;
   worthy = worthy_none rules (contents s) (asked (under_way q)) entries;
   spare = λ k spare sparing. spare;
-  counts = λ k small. counts_none entries work small;
+  counts = λ k. counts_none entries work few;
 }
 
 -- its last instance was tried

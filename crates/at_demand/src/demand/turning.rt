@@ -1,6 +1,6 @@
 //! Turns of a question: each tries one equation, once.
 
-ghost use Rattle.std.specs.Prelude.{◌≡◌, ◌<◌, ◌^◌, ℕ, IfOk, None};
+ghost use Rattle.std.specs.Prelude.{◌≡◌, ℕ, IfOk, None};
 ghost use Rattle.at_model.specs.Run.{Contents};
 ghost use Rattle.at_model.specs.Instances.{AnyText};
 ghost use Rattle.at_model.specs.Meaning.{Right};
@@ -20,11 +20,11 @@ ghost use Rattle.at_demand.specs.KeptTrials.{Fit};
 
 use super::Demand;
 use crate::answer::Answer;
-use crate::evaluation::{Find, Frame, Settled};
+use crate::evaluation::{Find, Frame};
 use crate::question::Question;
 use crate::trials::{Attempt, Trials};
 use at_body::{Inst, Step};
-use at_cache::Keeper;
+use at_cache::{Keeper, Put};
 use at_rules::Rules;
 use at_store::Store;
 use indexmap::IndexMap;
@@ -59,8 +59,6 @@ impl<K: Keeper> Demand<K> {
         ensures { HasTurned rules.now store.now K.exact (K.contents self.old.keeper) (K.contents self.new.keeper)
             self.old.work self.new.work question.old question.new result }
     {
-        // The call says that it is less than 2^64.
-        let _work = self.work();
         // Positions among the finds of one question say nothing of another one.
         self.sharing.clear();
         let mut trials = Trials::new(self.alloc);
@@ -86,8 +84,6 @@ impl<K: Keeper> Demand<K> {
         ensures { HasTurnedOften rules.now store.now K.exact (K.contents self.old.keeper) (K.contents self.new.keeper)
             self.old.work self.new.work limit question.old question.new result }
     {
-        // The call says that it is less than 2^64.
-        let _work = self.work();
         // As in one turn.
         self.sharing.clear();
         let mut trials = Trials::new(self.alloc);
@@ -212,10 +208,10 @@ impl<K: Keeper> Demand<K> {
         match step {
             Step::Value(value) => {
                 let find = frame.find(self.alloc, value);
-                let settled = self.keep(rules, found, inst, find)?;
-                match settled {
-                    Settled::Kept(find) => Ok(Attempt::Kept(find.into_value())),
-                    Settled::Found(find) => Ok(Attempt::Found(find)),
+                let put = self.keep(rules, found, inst, &find)?;
+                match put {
+                    Put::Kept => Ok(Attempt::Kept(find.into_value())),
+                    Put::Left => Ok(Attempt::Found(find)),
                 }
             }
             Step::Fault(kind) => Ok(Attempt::Fails(kind)),

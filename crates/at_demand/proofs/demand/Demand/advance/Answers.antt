@@ -54,7 +54,7 @@ returns-in-Fault g c =
       sparing = λ asked exact h k spares. let goes = sparing_still rules look entries q f c.args.step e.only asked h spares in
           failed_all rules look asked entries (with_frame q f) y orderly (on asked h) (stands k) goes.settled goes.spare.deep c.in-Fault.kind refl;
       spare = λ asked exact h k spares. spares.spare;
-      counts = λ exact small. counts_none entries c.args.self.now.work small;
+      counts = λ exact. counts_none entries c.args.self.now.work c.args.self.now.few;
     }
 
 pub returns-in-Need : goal.returns-in-Need
@@ -85,7 +85,7 @@ returns-in_err-step g c =
       worthy = λ asked first h adds. adds;
       sparing = λ asked exact h k spares. rw is tt;
       spare = λ asked exact h k spares. spares.spare;
-      counts = λ exact small. counts_none (g.K.Keeper.contents c.args.self.now.keeper) c.args.self.now.work small;
+      counts = λ exact. counts_none (g.K.Keeper.contents c.args.self.now.keeper) c.args.self.now.work c.args.self.now.few;
     }
 
 pub deepen-requires-clause-typed : goal.deepen-requires-clause-typed

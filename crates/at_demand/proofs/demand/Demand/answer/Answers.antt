@@ -1,4 +1,4 @@
-use Rattle.std.proofs.Common.{◌<◌, ◌^◌, ℕ, Some, sym, ap, ◌∙◌, subst}
+use Rattle.std.proofs.Common.{ℕ, Some, sym, ap, ◌∙◌}
 use Rattle.std.proofs.lemmas.Result.{err_from_is_err_and}
 use Rattle.at_model.specs.Run.{Value}
 use Rattle.at_store.specs.Shown.{contents}
@@ -20,7 +20,7 @@ returns-in_err-copy g c =
       worthy = worthy_none c.args.rules.now (contents c.args.store.now) c.args.inst.now (g.K.Keeper.contents c.args.self.now.keeper);
       spare = λ exact spare. spare;
       all = λ exact spare. rw is tt;
-      counts = λ exact. counts_none (g.K.Keeper.contents c.args.self.now.keeper) c.args.self.now.work (subst (λ n. n < 2 ^ 64) c.work-work.ensures c.work-work.type_inv);
+      counts = λ exact. counts_none (g.K.Keeper.contents c.args.self.now.keeper) c.args.self.now.work c.args.self.now.few;
       work = λ exact spare. rw is tt;
       right = λ there right. right;
       plain = c.requires.plain;
@@ -37,7 +37,7 @@ returns-in-Some g c =
     let entries = g.K.Keeper.contents c.args.self.now.keeper in
     let w = c.args.self.now.work in
     let some = is_there (kept_values entries asked) (value_view c.in-Some.value.now) (sym c.in-Some.ensures) in
-    let counts = counts_none entries w (subst (λ n. n < 2 ^ 64) c.work-work.ensures c.work-work.type_inv) in
+    let counts = counts_none entries w c.args.self.now.few in
     record {
       answers = c.requires.right asked (value_view c.in_ok-copy.field-0) (sym c.in-Some.ensures ∙ ap (λ (v : Value ℕ). Some v) (sym c.in_ok-copy.ensures));
       worthy = worthy_none rules look asked entries;

@@ -32,7 +32,7 @@ returns-then-has g c =
       worthy = λ asked first h adds. adds;
       sparing = λ asked exact h stands sparing. circle_all rules look asked entries q (step.Need c.args.needed) c.requires.orderly h stands sparing.settled sparing.spare.deep c.args.needed refl c.if-has.ensures;
       spare = λ asked exact h stands sparing. sparing.spare;
-      counts = λ exact small. counts_none entries c.args.self.now.work small;
+      counts = λ exact. counts_none entries c.args.self.now.work c.args.self.now.few;
     }
 
 pub returns : goal.returns
@@ -46,17 +46,17 @@ returns g c =
     let needed = c.args.needed in
     let orderly = c.requires.orderly in
     record {
-      advance = deepens entries q new needed orderly c.requires.stacked c.requires.found c.requires.kept c.if-has.ensures e.waiting e.found e.counted e.inst e.start e.fresh e.unfound e.few e.finds e.counts;
-      typed = deepens_typed rules (class_shown c.args.store.now) entries q new needed c.in_ok-step.step orderly c.requires.typed e.waiting e.inst e.typed;
-      answers = λ asked h. deepens_true rules look asked entries q new needed c.in_ok-step.step orderly h e.waiting e.found e.inst e.stepped;
+      advance = deepens entries q new needed orderly c.requires.stacked c.requires.found c.requires.kept c.if-has.ensures e.waiting e.found e.inst e.begun.start e.begun.fresh e.begun.unfound e.steps;
+      typed = deepens_typed rules (class_shown c.args.store.now) entries q new needed c.in_ok-step.step orderly c.requires.typed e.waiting e.inst e.begun.typed;
+      answers = λ asked h. deepens_true rules look asked entries q new needed c.in_ok-step.step orderly h e.waiting e.found e.inst e.begun.stepped;
       right = λ asked h. h.kept;
-      covering = λ asked t h. deepens_covering rules look entries q new orderly needed c.in_ok-step.step h e.waiting e.found e.inst (e.passed q.found.entries);
+      covering = λ asked t h. deepens_covering rules look entries q new orderly needed c.in_ok-step.step h e.waiting e.found e.inst (e.begun.passed q.found.entries);
       stays = λ asked is h stands right. right;
       plain = c.requires.plain;
       worthy = λ asked first h adds. adds;
-      sparing = λ asked exact h stands sparing. deepens_sparing rules look entries q new sparing orderly e.waiting e.found e.fresh e.unfound;
+      sparing = λ asked exact h stands sparing. deepens_sparing rules look entries q new sparing orderly e.waiting e.found e.begun.fresh e.begun.unfound;
       spare = λ asked exact h stands sparing. sparing.spare;
-      counts = λ exact small. counts_none entries c.args.self.now.work small;
+      counts = λ exact. counts_none entries c.args.self.now.work c.args.self.now.few;
     }
 
 pub returns-in_err-step : goal.returns-in_err-step
@@ -73,5 +73,5 @@ returns-in_err-step g c =
       worthy = λ asked first h adds. adds;
       sparing = λ asked exact h stands sparing. rw is tt;
       spare = λ asked exact h stands sparing. sparing.spare;
-      counts = λ exact small. counts_none (g.K.Keeper.contents c.args.self.now.keeper) c.args.self.now.work small;
+      counts = λ exact. counts_none (g.K.Keeper.contents c.args.self.now.keeper) c.args.self.now.work c.args.self.now.few;
     }

@@ -1,4 +1,4 @@
-use Rattle.std.proofs.Common.{◌<◌, ◌^◌, sym, ◌∙◌, subst}
+use Rattle.std.proofs.Common.{sym, ◌∙◌, subst}
 use Rattle.std.specs.Prelude.{IsTrue}
 use Rattle.std.proofs.lemmas.Result.{err_from_is_err_and}
 use Rattle.at_model.specs.Instances.{AnyText}
@@ -18,7 +18,7 @@ use Rattle.at_demand.proofs.TypingLemmas.{begun_typed}
 use Rattle.at_demand.specs.Covering.{HasPassedTo, IsCoveringAdvance}
 use Rattle.at_demand.specs.Sparing.{AreSpare, IsSparingAdvance}
 use Rattle.at_demand.proofs.Passing.{begun_covering}
-use Rattle.at_demand.proofs.Counting.{counts_none, counts_more, counted_small}
+use Rattle.at_demand.proofs.Counting.{counts_none, counts_more}
 use Rattle.at_demand.proofs.of_steps.Ending.{IsUnderWay, ends_so}
 use Rattle.at_demand.proofs.Gaining.{worthy_none}
 use Rattle.at_demand.proofs.SparingOn.{begun_sparing}
@@ -27,23 +27,24 @@ use Rattle.at_demand.proofs.demand.Demand.evaluate.Goals as goal
 pub loop-evaluation-init : goal.loop-evaluation-init
 loop-evaluation-init g c =
     let e = c.in_ok-begun.ensures in
+    let b = e.begun in
     let q = c.in_ok-begun.begun.0 in
     let look = contents c.args.store.now in
     let entries = g.K.Keeper.contents c.args.self.now.keeper in
     let asked = e.inst ∙ c.in_ok-copy.ensures in
     record {
-      orderly = begun entries q.waiting.entries q.found.entries q.inst c.args.inst.now q.frame.demanded.kept.items e.alone e.nothing asked e.fresh c.requires.unkept;
-      stacked = begun_stacked q.waiting.entries q.found.entries q.frame e.alone e.nothing e.start e.unfound;
+      orderly = begun entries q.waiting.entries q.found.entries q.inst c.args.inst.now q.frame.demanded.kept.items e.alone e.nothing asked b.fresh c.requires.unkept;
+      stacked = begun_stacked q.waiting.entries q.found.entries q.frame e.alone e.nothing b.start b.unfound;
       holds = begun_true c.args.rules.now look c.args.inst.now entries q.waiting.entries q.found.entries q.inst q.frame.trial c.in_ok-begun.begun.1 e.alone e.nothing asked
-          (subst (λ x. HasStepped c.args.rules.now look x q.frame.trial c.in_ok-begun.begun.1) (sym e.inst) e.stepped) c.requires.right;
+          (subst (λ x. HasStepped c.args.rules.now look x q.frame.trial c.in_ok-begun.begun.1) (sym e.inst) b.stepped) c.requires.right;
       covering = begun_covering c.args.rules.now look q.waiting.entries q.found.entries q.inst q.frame c.in_ok-begun.begun.1 e.alone e.nothing
-          (subst (λ x. HasPassedTo c.args.rules.now look q.found.entries x q.frame c.in_ok-begun.begun.1) (sym e.inst) (e.passed q.found.entries));
-      typed = begun_typed c.args.rules.now (class_shown c.args.store.now) q c.in_ok-begun.begun.1 e.alone e.typed;
+          (subst (λ x. HasPassedTo c.args.rules.now look q.found.entries x q.frame c.in_ok-begun.begun.1) (sym e.inst) (b.passed q.found.entries));
+      typed = begun_typed c.args.rules.now (class_shown c.args.store.now) q c.in_ok-begun.begun.1 e.alone b.typed;
       stays = λ is right. right;
       plain = c.requires.plain;
       worthy = worthy_none c.args.rules.now look c.args.inst.now entries;
-      sparing = λ exact spare. begun_sparing c.args.rules.now look entries q e.alone e.nothing e.fresh e.unfound spare;
-      counts = λ exact. counts_none entries c.args.self.now.work (subst (λ n. n < 2 ^ 64) c.work-work.ensures c.work-work.type_inv);
+      sparing = λ exact spare. begun_sparing c.args.rules.now look entries q e.alone e.nothing b.fresh b.unfound spare;
+      counts = λ exact. counts_none entries c.args.self.now.work c.args.self.now.few;
     }
 
 pub advance-requires-clause-right : goal.advance-requires-clause-right
@@ -76,7 +77,7 @@ loop-evaluation-preserved g c =
       worthy = c.advance.ensures.worthy c.args.inst.now (g.K.Keeper.contents c.args.self.now.keeper) c.loop-evaluation.invariant.holds c.loop-evaluation.invariant.worthy;
       sparing = λ exact spare. subst (λ (t : Advance). IsSparingAdvance c.args.rules.now (contents c.args.store.now) c.args.inst.now entries c.advance.new.evaluation t) c.in-GoesOn.is
           (c.in_ok-reached.ensures.sparing c.args.inst.now exact c.loop-evaluation.invariant.holds c.loop-evaluation.invariant.covering (c.loop-evaluation.invariant.sparing exact spare));
-      counts = λ exact. counts_more (g.K.Keeper.contents c.args.self.now.keeper) (g.K.Keeper.contents c.loop-evaluation.self.keeper) entries c.args.self.now.work c.loop-evaluation.self.work c.advance.new.self.work (c.loop-evaluation.invariant.counts exact) (c.advance.ensures.counts exact (counted_small _ _ c.args.self.now.work c.loop-evaluation.self.work (c.loop-evaluation.invariant.counts exact)));
+      counts = λ exact. counts_more (g.K.Keeper.contents c.args.self.now.keeper) (g.K.Keeper.contents c.loop-evaluation.self.keeper) entries c.args.self.now.work c.loop-evaluation.self.work c.advance.new.self.work (c.loop-evaluation.invariant.counts exact) (c.advance.ensures.counts exact);
     }
 
 pub returns-in_err-copy : goal.returns-in_err-copy
@@ -87,7 +88,7 @@ returns-in_err-copy g c =
       worthy = worthy_none c.args.rules.now (contents c.args.store.now) c.args.inst.now (g.K.Keeper.contents c.args.self.now.keeper);
       spare = λ exact spare. spare;
       all = λ exact spare. rw is tt;
-      counts = λ exact. counts_none (g.K.Keeper.contents c.args.self.now.keeper) c.args.self.now.work (subst (λ n. n < 2 ^ 64) c.work-work.ensures c.work-work.type_inv);
+      counts = λ exact. counts_none (g.K.Keeper.contents c.args.self.now.keeper) c.args.self.now.work c.args.self.now.few;
       work = λ exact spare. rw is tt;
       right = λ there right. right;
       plain = c.requires.plain;
@@ -101,7 +102,7 @@ returns-in_err-begun g c =
       worthy = worthy_none c.args.rules.now (contents c.args.store.now) c.args.inst.now (g.K.Keeper.contents c.args.self.now.keeper);
       spare = λ exact spare. spare;
       all = λ exact spare. rw is tt;
-      counts = λ exact. counts_none (g.K.Keeper.contents c.args.self.now.keeper) c.args.self.now.work (subst (λ n. n < 2 ^ 64) c.work-work.ensures c.work-work.type_inv);
+      counts = λ exact. counts_none (g.K.Keeper.contents c.args.self.now.keeper) c.args.self.now.work c.args.self.now.few;
       work = λ exact spare. rw is tt;
       right = λ there right. right;
       plain = c.requires.plain;

@@ -1,7 +1,7 @@
 use Rattle.std.proofs.Common.{◌-◌, ◌^◌}
 use Rattle.at_store.specs.Shown.{contents}
 use Rattle.at_demand.specs.Known.{ArePlain}
-use Rattle.at_demand.specs.UnderWay.{IsOrderlyIn, IsTrueIn, progress}
+use Rattle.at_demand.specs.UnderWay.{IsOrderlyIn, IsTrueIn}
 use Rattle.at_body.specs.Typed.{class_shown}
 use Rattle.at_demand.specs.Stacked.{IsStackedIn}
 use Rattle.at_demand.specs.Covering.{IsCoveringIn}
@@ -26,4 +26,4 @@ invariant-loop-evaluation g l = record {
 }
 
 abbrev pub decreases-loop-evaluation : goal.decreases-loop-evaluation
-decreases-loop-evaluation g l = 2 ^ 67 - progress l.evaluation
+decreases-loop-evaluation g l = 2 ^ 64 - l.evaluation.steps

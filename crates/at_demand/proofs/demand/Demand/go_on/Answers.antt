@@ -7,9 +7,8 @@ use Rattle.at_body.specs.declared.trial.Step.{Step}
 use Rattle.at_cache.specs.Kept.{Entries}
 use Rattle.at_body.specs.declared.value.Value.{Value as ValueCode}
 use Rattle.at_demand.specs.declared.evaluation.Demanded.{Demanded}
-use Rattle.at_demand.specs.declared.evaluation.Find.{Find}
-use Rattle.at_demand.specs.declared.evaluation.Settled.{Settled}
-use Rattle.at_demand.specs.Keeping.{Becomes}
+use Rattle.at_cache.specs.declared.keeper.Put.{Put}
+use Rattle.at_demand.specs.Keeping.{SaysKept}
 use Rattle.at_demand.specs.Known.{known_in, AreValued}
 use Rattle.at_demand.specs.UnderWay.{HasStepped, IsOpen}
 use Rattle.at_demand.specs.Covering.{HasPassedTo}
@@ -26,14 +25,14 @@ pub returns-in_err-step : goal.returns-in_err-step
 returns-in_err-step g c =
     let is = (err_from_is_err_and c.from_residual.result c.from_residual.ensures.1).1 in
     let entries = g.K.Keeper.contents c.args.self.now.keeper in
-    record { tried = rw is tt; right = c.requires.kept_right; stays = λ there finds right. right; plain = c.requires.plain; lazy = λ j. inl refl; worthy = worthy_none c.args.rules.now (contents c.args.store.now) c.args.inst.now entries; spare = λ exact spare lean settled. spare; settles = λ exact spare settled. rw is tt; counts = λ exact small. counts_none entries c.args.self.now.work small; keeps = rw is tt; waits = rw is tt }
+    record { tried = rw is tt; right = c.requires.kept_right; stays = λ there finds right. right; plain = c.requires.plain; lazy = λ j. inl refl; worthy = worthy_none c.args.rules.now (contents c.args.store.now) c.args.inst.now entries; spare = λ exact spare lean settled. spare; settles = λ exact spare settled. rw is tt; counts = λ exact. counts_none entries c.args.self.now.work c.args.self.now.few; keeps = rw is tt; waits = rw is tt }
 
 pub keep-requires-clause-kept : goal.keep-requires-clause-kept
 keep-requires-clause-kept g c = subst (λ (d : Demanded). AreValued (g.K.Keeper.contents c.args.self.now.keeper) d.kept.items) (sym c.find-find.ensures.demanded) c.in_ok-step.ensures.kept
 
-pub returns-in_err-settled-in-Value : goal.returns-in_err-settled-in-Value
-returns-in_err-settled-in-Value g c =
-    let is = (err_from_is_err_and c.from_residual-in_err-settled-in-Value.result c.from_residual-in_err-settled-in-Value.ensures.1).1 in
+pub returns-in_err-put-in-Value : goal.returns-in_err-put-in-Value
+returns-in_err-put-in-Value g c =
+    let is = (err_from_is_err_and c.from_residual-in_err-put-in-Value.result c.from_residual-in_err-put-in-Value.ensures.1).1 in
     let rules = c.args.rules.now in
     let look = contents c.args.store.now in
     let found = c.args.found.now.entries in
@@ -57,7 +56,7 @@ returns-in_err-settled-in-Value g c =
       worthy = worthy_added rules look old new inst (value_view d.value) found c.keep.ensures.gains has.value;
       spare = λ exact spare lean settled. spare_added rules look old new found inst d c.keep.ensures.gains c.requires.whole has settled spare (c.keep.ensures.only look exact lean has.lean spare.only);
       settles = λ exact spare settled. rw is tt;
-      counts = λ exact small. c.keep.ensures.counts exact small;
+      counts = c.keep.ensures.counts;
       keeps = rw is tt;
       waits = rw is tt;
     }
@@ -78,9 +77,9 @@ returns-in-Kept g c =
     let takes = c.in_ok-step.ensures.only inst c.requires.standing.stepped c.requires.standing.takes in
     let has : HasFound rules look old found inst d = has_found rules look old found inst frame c.in-Value.value d stepped passed takes c.in_ok-step.ensures.kept e.value e.reads e.demanded in
     let adds = c.keep.ensures.adds in
-    let becomes = subst (λ (r : Settled). Becomes new inst d r) c.in-Kept.is c.in_ok-settled-in-Value.ensures.becomes in
+    let kept = subst (λ (r : Put). SaysKept new inst d r) c.in-Kept.is c.in_ok-put-in-Value.ensures.says in
     record {
-      tried = (d, sym (c.into_value.ensures ∙ ap (λ (f : Find). f.value) becomes.0), has);
+      tried = (d, sym c.into_value.ensures, has);
       right = right_added rules old new inst (value_view d.value) adds look has.value c.requires.kept_right;
       stays = right_stays rules old new inst (value_view d.value) adds c.args.store.now found c.keep.ensures.gains c.keep.ensures.plain has.value (c.keep.ensures.covers look c.requires.whole has.whole);
       plain = c.keep.ensures.plain;
@@ -88,13 +87,13 @@ returns-in-Kept g c =
       worthy = worthy_added rules look old new inst (value_view d.value) found c.keep.ensures.gains has.value;
       spare = λ exact spare lean settled. spare_added rules look old new found inst d c.keep.ensures.gains c.requires.whole has settled spare (c.keep.ensures.only look exact lean has.lean spare.only);
       settles = λ exact spare settled. settled_still rules look old new inst found c.keep.ensures.gains found settled;
-      counts = λ exact small. c.keep.ensures.counts exact small;
-      keeps = becomes.1 ∙ ap (λ (v : ValueCode). Some (value_view v)) (sym (c.into_value.ensures ∙ ap (λ (f : Find). f.value) becomes.0));
+      counts = c.keep.ensures.counts;
+      keeps = kept ∙ ap (λ (v : ValueCode). Some (value_view v)) (sym c.into_value.ensures);
       waits = tt;
     }
 
-pub returns-in-Found : goal.returns-in-Found
-returns-in-Found g c =
+pub returns-in-Left : goal.returns-in-Left
+returns-in-Left g c =
     let rules = c.args.rules.now in
     let look = contents c.args.store.now in
     let found = c.args.found.now.entries in
@@ -109,18 +108,16 @@ returns-in-Found g c =
     let takes = c.in_ok-step.ensures.only inst c.requires.standing.stepped c.requires.standing.takes in
     let has : HasFound rules look old found inst d = has_found rules look old found inst frame c.in-Value.value d stepped passed takes c.in_ok-step.ensures.kept e.value e.reads e.demanded in
     let adds = c.keep.ensures.adds in
-    let becomes = subst (λ (r : Settled). Becomes new inst d r) c.in-Found.is c.in_ok-settled-in-Value.ensures.becomes in
-    let has' = subst (λ (f : Find). HasFound rules look old found inst f) (sym becomes) has in
     record {
-      tried = has';
+      tried = has;
       right = right_added rules old new inst (value_view d.value) adds look has.value c.requires.kept_right;
       stays = right_stays rules old new inst (value_view d.value) adds c.args.store.now found c.keep.ensures.gains c.keep.ensures.plain has.value (c.keep.ensures.covers look c.requires.whole has.whole);
       plain = c.keep.ensures.plain;
       lazy = c.keep.ensures.gains.lazy;
       worthy = worthy_added rules look old new inst (value_view d.value) found c.keep.ensures.gains has.value;
       spare = λ exact spare lean settled. spare_added rules look old new found inst d c.keep.ensures.gains c.requires.whole has settled spare (c.keep.ensures.only look exact lean has.lean spare.only);
-      settles = λ exact spare settled. settled_added rules look old new found inst c.in-Found.find c.keep.ensures.gains c.requires.whole has' settled spare (c.in_ok-settled-in-Value.ensures.keeps exact);
-      counts = λ exact small. c.keep.ensures.counts exact small;
+      settles = λ exact spare settled. settled_added rules look old new found inst d c.keep.ensures.gains c.requires.whole has settled spare (c.in_ok-put-in-Value.ensures.keeps exact);
+      counts = c.keep.ensures.counts;
       keeps = tt;
       waits = tt;
     }
@@ -133,7 +130,7 @@ returns-in-Fault g c =
     let inst = c.args.inst.now in
     let entries = g.K.Keeper.contents c.args.self.now.keeper in
     let stepped = subst (λ (s : Step). HasStepped rules look inst c.go_on.new.self.trial s) c.in-Fault.is (c.in_ok-step.ensures.stepped inst c.requires.standing.stepped) in
-    record { tried = has_failed rules look entries found inst c.go_on.new.self.trial c.in-Fault.kind stepped; right = c.requires.kept_right; stays = λ there finds right. right; plain = c.requires.plain; lazy = λ j. inl refl; worthy = worthy_none rules look inst entries; spare = λ exact spare lean settled. spare; settles = λ exact spare settled. settled; counts = λ exact small. counts_none entries c.args.self.now.work small; keeps = tt; waits = tt }
+    record { tried = has_failed rules look entries found inst c.go_on.new.self.trial c.in-Fault.kind stepped; right = c.requires.kept_right; stays = λ there finds right. right; plain = c.requires.plain; lazy = λ j. inl refl; worthy = worthy_none rules look inst entries; spare = λ exact spare lean settled. spare; settles = λ exact spare settled. settled; counts = λ exact. counts_none entries c.args.self.now.work c.args.self.now.few; keeps = tt; waits = tt }
 
 pub returns-in-Need : goal.returns-in-Need
 returns-in-Need g c =
@@ -148,4 +145,4 @@ returns-in-Need g c =
     let typed = subst (λ (s : Step). IsTypedStep rules (class_shown c.args.store.now) s trial) c.in-Need.is c.in_ok-step.ensures.typed in
     let passed = subst (λ (s : Step). HasPassedTo rules look found inst c.go_on.new.self s) c.in-Need.is (c.in_ok-step.ensures.passed inst c.requires.standing.passed) in
     let takes = c.in_ok-step.ensures.only inst c.requires.standing.stepped c.requires.standing.takes in
-    record { tried = has_needed rules look entries found inst (class_shown c.args.store.now) trial c.in-Need.needed stepped unknown typed; right = c.requires.kept_right; stays = λ there finds right. right; plain = c.requires.plain; lazy = λ j. inl refl; worthy = worthy_none rules look inst entries; spare = λ exact spare lean settled. spare; settles = λ exact spare settled. settled; counts = λ exact small. counts_none entries c.args.self.now.work small; keeps = tt; waits = record { stepped = stepped; passed = passed; takes = takes; typed = typed; kept = c.in_ok-step.ensures.kept } }
+    record { tried = has_needed rules look entries found inst (class_shown c.args.store.now) trial c.in-Need.needed stepped unknown typed; right = c.requires.kept_right; stays = λ there finds right. right; plain = c.requires.plain; lazy = λ j. inl refl; worthy = worthy_none rules look inst entries; spare = λ exact spare lean settled. spare; settles = λ exact spare settled. settled; counts = λ exact. counts_none entries c.args.self.now.work c.args.self.now.few; keeps = tt; waits = record { stepped = stepped; passed = passed; takes = takes; typed = typed; kept = c.in_ok-step.ensures.kept } }

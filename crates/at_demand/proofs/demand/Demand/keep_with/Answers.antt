@@ -1,9 +1,8 @@
-use Rattle.std.proofs.Common.{ap, map, ◌∙◌, refl, sym, subst}
+use Rattle.std.proofs.Common.{ap, map, ◌∙◌, sym, subst}
 use Rattle.std.proofs.lemmas.Result.{err_from_is_err_and}
 use Rattle.at_store.specs.Located.{loc_view}
 use Rattle.at_body.specs.Values.{value_view}
 use Rattle.at_cache.specs.Kept.{AreKept}
-use Rattle.at_cache.specs.declared.keeper.Put.TheVariants as put
 use Rattle.at_demand.proofs.Counting.{counts_after, counts_shared}
 use Rattle.at_demand.proofs.Entered.{absent}
 use Rattle.at_demand.proofs.Putting.{put_as}
@@ -24,7 +23,7 @@ returns-in_err-sources g c =
     let e = c.gather.ensures in
     let old = g.K.Keeper.contents c.args.self.now.keeper in
     let mid = g.K.Keeper.contents c.gather.new.self.keeper in
-    record { placed = rw is tt; err = rw is e.shares; counts = λ exact small. counts_shared old mid c.args.self.now.work c.gather.new.self.work e.work small e.shares.stays e.shares.same }
+    record { placed = rw is tt; err = rw is e.shares; counts = λ exact. counts_shared old mid c.args.self.now.work c.gather.new.self.work e.work c.args.self.now.few e.shares.stays e.shares.same }
 
 pub returns-in_err-put : goal.returns-in_err-put
 returns-in_err-put g c =
@@ -36,35 +35,20 @@ returns-in_err-put g c =
     record {
       placed = rw is tt;
       err = rw is (shares_on c.args.rules.now g.K.Keeper.exact c.args.found.now.entries old mid new e.shares (shares_none c.args.rules.now g.K.Keeper.exact c.args.found.now.entries mid new c.in_err-put.ensures.err));
-      counts = λ exact small. counts_after old mid new c.args.self.now.work c.gather.new.self.work c.put.new.self.work e.work small e.shares.stays e.shares.same (c.put.ensures.counts exact);
-    }
-
-pub returns-in-Kept : goal.returns-in-Kept
-returns-in-Kept g c =
-    let f = c.args.find in
-    let s = c.in_ok-sources.sources in
-    let e = c.gather.ensures in
-    let old = g.K.Keeper.contents c.args.self.now.keeper in
-    let mid = g.K.Keeper.contents c.gather.new.self.keeper in
-    let new = g.K.Keeper.contents c.put.new.self.keeper in
-    let puts = put_as g.K.Keeper.exact mid c.args.inst.now (value_view f.value) _ (map loc_view s.reads.items) _ s.kept.items new _ put.Kept c.in_ok-put.ensures.puts (ap (map loc_view) c.as_slice.ensures.value) c.as_slice-2.ensures.value c.in-Kept.is in
-    record {
-      placed = (mid, e.shares, s, c.in_ok-sources.ensures.sources, (refl, puts));
-      err = tt;
-      counts = λ exact small. counts_after old mid new c.args.self.now.work c.gather.new.self.work c.put.new.self.work e.work small e.shares.stays e.shares.same (c.put.ensures.counts exact);
+      counts = λ exact. counts_after old mid new c.args.self.now.work c.gather.new.self.work c.put.new.self.work e.work c.args.self.now.few e.shares.stays e.shares.same (c.put.ensures.counts exact);
     }
 
 pub returns : goal.returns
 returns g c =
-    let f = c.args.find in
+    let f = c.args.find.now in
     let s = c.in_ok-sources.sources in
     let e = c.gather.ensures in
     let old = g.K.Keeper.contents c.args.self.now.keeper in
     let mid = g.K.Keeper.contents c.gather.new.self.keeper in
     let new = g.K.Keeper.contents c.put.new.self.keeper in
-    let (off, all) = put_as g.K.Keeper.exact mid c.args.inst.now (value_view f.value) _ (map loc_view s.reads.items) _ s.kept.items new _ put.Left c.in_ok-put.ensures.puts (ap (map loc_view) c.as_slice.ensures.value) c.as_slice-2.ensures.value c.in-Left.is in
+    let puts = put_as g.K.Keeper.exact mid c.args.inst.now (value_view f.value) _ (map loc_view s.reads.items) _ s.kept.items new c.in_ok-put.put c.in_ok-put.ensures.puts (ap (map loc_view) c.as_slice.ensures.value) c.as_slice-2.ensures.value in
     record {
-      placed = (mid, e.shares, s, c.in_ok-sources.ensures.sources, (refl, off, all));
+      placed = (mid, e.shares, s, c.in_ok-sources.ensures.sources, puts);
       err = tt;
-      counts = λ exact small. counts_after old mid new c.args.self.now.work c.gather.new.self.work c.put.new.self.work e.work small e.shares.stays e.shares.same (c.put.ensures.counts exact);
+      counts = λ exact. counts_after old mid new c.args.self.now.work c.gather.new.self.work c.put.new.self.work e.work c.args.self.now.few e.shares.stays e.shares.same (c.put.ensures.counts exact);
     }

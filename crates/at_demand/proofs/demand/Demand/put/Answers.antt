@@ -17,20 +17,20 @@ returns g c =
     record {
       puts = puts;
       err = tt;
-      counts = λ is small. counts_put old new exact c.args.inst.now _ reads c.args.uses.now c.args.self.now.work c.saturating_add-self.result is c.requires.absent c.in_ok-put.put puts c.saturating_add-self.ensures;
+      counts = λ is. counts_put old new exact c.args.inst.now _ reads c.args.uses.now c.args.self.now.work c.saturating_add-self.result is c.requires.absent c.in_ok-put.put puts c.saturating_add-self.ensures;
     }
 
 pub returns-in_err-put : goal.returns-in_err-put
 returns-in_err-put g c =
     let is = (err_from_is_err_and c.from_residual-in_err-put.result c.from_residual-in_err-put.ensures.1).1 in
-    record { puts = rw is tt; err = rw is c.in_err-put.ensures.err; counts = λ exact small. counts_same (g.K.Keeper.contents c.args.self.now.keeper) (g.K.Keeper.contents c.put.new.self) c.args.self.now.work small c.in_err-put.ensures.err }
+    record { puts = rw is tt; err = rw is c.in_err-put.ensures.err; counts = λ exact. counts_same (g.K.Keeper.contents c.args.self.now.keeper) (g.K.Keeper.contents c.put.new.self) c.args.self.now.work c.args.self.now.few c.in_err-put.ensures.err }
 
 pub returns-in_err-copy : goal.returns-in_err-copy
 returns-in_err-copy g c =
     let is = (err_from_is_err_and c.from_residual.result c.from_residual.ensures.1).1 in
-    record { puts = rw is tt; err = rw is (λ i. refl); counts = λ exact small. counts_none (g.K.Keeper.contents c.args.self.now.keeper) c.args.self.now.work small }
+    record { puts = rw is tt; err = rw is (λ i. refl); counts = λ exact. counts_none (g.K.Keeper.contents c.args.self.now.keeper) c.args.self.now.work c.args.self.now.few }
 
 pub returns-in_err-copy-2 : goal.returns-in_err-copy-2
 returns-in_err-copy-2 g c =
     let is = (err_from_is_err_and c.from_residual-in_err-copy-2.result c.from_residual-in_err-copy-2.ensures.1).1 in
-    record { puts = rw is tt; err = rw is (λ i. refl); counts = λ exact small. counts_none (g.K.Keeper.contents c.args.self.now.keeper) c.args.self.now.work small }
+    record { puts = rw is tt; err = rw is (λ i. refl); counts = λ exact. counts_none (g.K.Keeper.contents c.args.self.now.keeper) c.args.self.now.work c.args.self.now.few }

@@ -1,4 +1,4 @@
-use Rattle.std.proofs.Common.{◌≡◌, ◌∙◌, ℕ, ap, map, sym, subst}
+use Rattle.std.proofs.Common.{◌≡◌, ℕ, sym, subst}
 use Rattle.std.specs.Prelude.{IsTrue}
 use Rattle.std.proofs.lemmas.Result.{IfOk-weaker, err_from_is_err_and}
 use Rattle.at_model.specs.Run.{Contents, Instance}
@@ -7,12 +7,10 @@ use Rattle.at_store.specs.Shown.{contents}
 use Rattle.at_body.specs.Values.{value_view}
 use Rattle.at_body.specs.declared.trial.Step.TheVariants as step
 use Rattle.at_body.specs.declared.value.Value.{Value as ValueCode}
-use Rattle.at_store.specs.Located.{loc_view}
+use Rattle.at_cache.specs.declared.keeper.Put.{Put}
 use Rattle.at_demand.specs.declared.evaluation.Demanded.{Demanded}
-use Rattle.at_demand.specs.declared.evaluation.Find.{Find}
-use Rattle.at_demand.specs.declared.evaluation.Settled.{Settled}
 use Rattle.at_demand.specs.Known.{meaning, kept_values, AreValued, MayAdd}
-use Rattle.at_demand.specs.Keeping.{Becomes}
+use Rattle.at_demand.specs.Keeping.{SaysKept}
 use Rattle.at_demand.specs.UnderWay.{IsTrueIn}
 use Rattle.at_demand.specs.Covering.{IsCoveringIn}
 use Rattle.at_demand.specs.Sparing.{IsSparing}
@@ -39,19 +37,17 @@ pass-requires-clause-typed g c = c.requires.typed
 
 pub pass-requires-clause-has : goal.pass-requires-clause-has
 pass-requires-clause-has g c =
-    let becomes = subst (λ (r : Settled). Becomes (g.K.Keeper.contents c.keep.new.self.keeper) c.args.evaluation.now.inst c.find-find.result r) c.in-Kept.is c.in_ok-settled.ensures.becomes in
-    subst (λ (x : ValueCode). HasValue (contents c.args.store.now) (meaning c.args.rules.now) c.args.evaluation.now.inst (value_view x)) (sym (ap (λ (f : Find). f.value) becomes.0 ∙ c.find-find.ensures.value)) c.requires.has
+    subst (λ (x : ValueCode). HasValue (contents c.args.store.now) (meaning c.args.rules.now) c.args.evaluation.now.inst (value_view x)) (sym c.find-find.ensures.value) c.requires.has
 
 pub ascend-requires-clause-typed : goal.ascend-requires-clause-typed
 ascend-requires-clause-typed g c = c.requires.typed
 
 pub ascend-requires-clause-has : goal.ascend-requires-clause-has
 ascend-requires-clause-has g c =
-    let becomes = subst (λ (r : Settled). Becomes (g.K.Keeper.contents c.keep.new.self.keeper) c.args.evaluation.now.inst c.find-find.result r) c.in-Found.is c.in_ok-settled.ensures.becomes in
-    subst (λ (x : ValueCode). HasValue (contents c.args.store.now) (meaning c.args.rules.now) c.args.evaluation.now.inst (value_view x)) (sym (ap (λ (f : Find). f.value) becomes ∙ c.find-find.ensures.value)) c.requires.has
+    subst (λ (x : ValueCode). HasValue (contents c.args.store.now) (meaning c.args.rules.now) c.args.evaluation.now.inst (value_view x)) (sym c.find-find.ensures.value) c.requires.has
 
-pub returns-in_err-settled : goal.returns-in_err-settled
-returns-in_err-settled g c =
+pub returns-in_err-put : goal.returns-in_err-put
+returns-in_err-put g c =
     let is = (err_from_is_err_and c.from_residual.result c.from_residual.ensures.1).1 in
     let old = g.K.Keeper.contents c.args.self.now.keeper in
     let more = g.K.Keeper.contents c.keep.new.self.keeper in
@@ -92,18 +88,16 @@ returns-in-Kept g c =
     let only = λ (look : Contents ℕ) (asked : Instance ℕ) (exact : IsTrue g.K.Keeper.exact) (h : IsTrueIn c.args.rules.now look asked old q (step.Value c.args.value)) (stands : IsCoveringIn c.args.rules.now look q (step.Value c.args.value)) (sparing : IsSparing c.args.rules.now look old q).
     c.keep.ensures.only look exact sparing.finds (last_lean c.args.rules.now look asked old more q c.args.value d orderly h stands sparing e.reads e.demanded c.keep.ensures.gains) sparing.spare.only in
     let new = c.pass.new.self in
-    let w = c.in-Kept.find.value in
-    let becomes = subst (λ (r : Settled). Becomes more q.inst d r) c.in-Kept.is c.in_ok-settled.ensures.becomes in
-    let same = ap (λ (f : Find). f.value) becomes.0 in
-    let value = same ∙ e.value in
+    let w = d.value in
+    let kept = subst (λ (r : Put). SaysKept more q.inst d r) c.in-Kept.is c.in_ok-put.ensures.says in
     let passed = IfOk-weaker c.pass.result _ _ (passed_from c.args.rules.now s q new c.find-find.new.self w e.start) c.pass.ensures in
-    let has = subst (λ (x : ValueCode). HasValue look (meaning c.args.rules.now) q.inst (value_view x)) (sym value) c.requires.has in
+    let has = subst (λ (x : ValueCode). HasValue look (meaning c.args.rules.now) q.inst (value_view x)) (sym e.value) c.requires.has in
     record {
-      advance = IfOk-weaker c.pass.result _ _ (passes_on c.args.rules.now s old more q new w (value_view d.value) orderly c.requires.stacked c.keep.ensures.adds (is_there (kept_values more q.inst) (value_view d.value) becomes.1)) passed;
+      advance = IfOk-weaker c.pass.result _ _ (passes_on c.args.rules.now s old more q new w (value_view d.value) orderly c.requires.stacked c.keep.ensures.adds (is_there (kept_values more q.inst) (value_view d.value) kept)) passed;
       typed = IfOk-weaker c.pass.result _ _ (passes_typed c.args.rules.now s old more q new w c.requires.typed) passed;
-      answers = λ asked h. IfOk-weaker c.pass.result _ _ (passes_true c.args.rules.now s old more q new w c.args.value has asked h (adds c.args.value e.value) value) passed;
+      answers = λ asked h. IfOk-weaker c.pass.result _ _ (passes_true c.args.rules.now s old more q new w c.args.value has asked h (adds c.args.value e.value) e.value) passed;
       covering = λ asked t h. IfOk-weaker c.pass.result _ _ (passes_covering c.args.rules.now s old more q new w c.args.value has c.requires.stacked h) passed;
-      sparing = λ asked exact h stands sparing. IfOk-weaker c.pass.result _ _ (passes_sparing c.args.rules.now s old more q new w c.args.value has d orderly c.requires.stacked asked h stands sparing e.reads e.demanded c.keep.ensures.gains (c.in_ok-settled.ensures.keeps exact) (only look asked exact h stands sparing)) passed;
+      sparing = λ asked exact h stands sparing. IfOk-weaker c.pass.result _ _ (passes_sparing c.args.rules.now s old more q new w c.args.value has d orderly c.requires.stacked asked h stands sparing e.reads e.demanded c.keep.ensures.gains (c.in_ok-put.ensures.keeps exact) (only look asked exact h stands sparing)) passed;
       right = λ asked h. right_after c.args.rules.now look asked old more q c.args.value h (adds c.args.value e.value);
       stays = λ asked is h stands right. settles_right c.args.rules.now s c.requires.idle asked old more q c.args.value d e.value e.reads e.demanded c.keep.ensures.adds c.keep.ensures.gains c.keep.ensures.plain c.keep.ensures.covers is h stands right;
       plain = c.keep.ensures.plain;
@@ -112,8 +106,8 @@ returns-in-Kept g c =
       counts = c.keep.ensures.counts;
     }
 
-pub returns-in-Found : goal.returns-in-Found
-returns-in-Found g c =
+pub returns-in-Left : goal.returns-in-Left
+returns-in-Left g c =
     let old = g.K.Keeper.contents c.args.self.now.keeper in
     let more = g.K.Keeper.contents c.keep.new.self.keeper in
     let q = c.args.evaluation.now in
@@ -126,19 +120,14 @@ returns-in-Found g c =
     let only = λ (look : Contents ℕ) (asked : Instance ℕ) (exact : IsTrue g.K.Keeper.exact) (h : IsTrueIn c.args.rules.now look asked old q (step.Value c.args.value)) (stands : IsCoveringIn c.args.rules.now look q (step.Value c.args.value)) (sparing : IsSparing c.args.rules.now look old q).
     c.keep.ensures.only look exact sparing.finds (last_lean c.args.rules.now look asked old more q c.args.value d orderly h stands sparing e.reads e.demanded c.keep.ensures.gains) sparing.spare.only in
     let new = c.ascend.new.self in
-    let f = c.in-Found.find in
-    let becomes = subst (λ (r : Settled). Becomes more q.inst d r) c.in-Found.is c.in_ok-settled.ensures.becomes in
-    let value = ap (λ (x : Find). x.value) becomes ∙ e.value in
-    let reads = ap (λ (x : Find). map loc_view x.reads.items) becomes ∙ e.reads in
-    let demanded = ap (λ (x : Find). x.demanded) becomes ∙ e.demanded in
     let rules = c.args.rules.now in
-    let has = subst (λ (x : ValueCode). HasValue look (meaning rules) q.inst (value_view x)) (sym value) c.requires.has in
+    let has = subst (λ (x : ValueCode). HasValue look (meaning rules) q.inst (value_view x)) (sym e.value) c.requires.has in
     record {
-      advance = IfOk-weaker c.ascend.result _ _ (ascends rules s old more q new f orderly (value_view d.value) c.requires.stacked c.keep.ensures.adds demanded) c.ascend.ensures;
-      typed = IfOk-weaker c.ascend.result _ _ (ascends_typed rules s q new f c.requires.typed) c.ascend.ensures;
-      answers = λ asked h. IfOk-weaker c.ascend.result _ _ (ascends_true rules s old more q new f orderly c.args.value has asked h (adds c.args.value e.value) value) c.ascend.ensures;
-      covering = λ asked t h. IfOk-weaker c.ascend.result _ _ (ascends_covering rules s old more q new f orderly c.args.value has reads demanded h) c.ascend.ensures;
-      sparing = λ asked exact h stands sparing. IfOk-weaker c.ascend.result _ _ (ascends_sparing rules s old more q new f orderly c.args.value has reads demanded asked h stands sparing c.keep.ensures.gains (c.in_ok-settled.ensures.keeps exact) (only look asked exact h stands sparing)) c.ascend.ensures;
+      advance = IfOk-weaker c.ascend.result _ _ (ascends rules s old more q new d orderly (value_view d.value) c.requires.stacked c.keep.ensures.adds e.demanded) c.ascend.ensures;
+      typed = IfOk-weaker c.ascend.result _ _ (ascends_typed rules s q new d c.requires.typed) c.ascend.ensures;
+      answers = λ asked h. IfOk-weaker c.ascend.result _ _ (ascends_true rules s old more q new d orderly c.args.value has asked h (adds c.args.value e.value) e.value) c.ascend.ensures;
+      covering = λ asked t h. IfOk-weaker c.ascend.result _ _ (ascends_covering rules s old more q new d orderly c.args.value has e.reads e.demanded h) c.ascend.ensures;
+      sparing = λ asked exact h stands sparing. IfOk-weaker c.ascend.result _ _ (ascends_sparing rules s old more q new d orderly c.args.value has e.reads e.demanded asked h stands sparing c.keep.ensures.gains (c.in_ok-put.ensures.keeps exact) (only look asked exact h stands sparing)) c.ascend.ensures;
       right = λ asked h. right_after c.args.rules.now look asked old more q c.args.value h (adds c.args.value e.value);
       stays = λ asked is h stands right. settles_right c.args.rules.now s c.requires.idle asked old more q c.args.value d e.value e.reads e.demanded c.keep.ensures.adds c.keep.ensures.gains c.keep.ensures.plain c.keep.ensures.covers is h stands right;
       plain = c.keep.ensures.plain;

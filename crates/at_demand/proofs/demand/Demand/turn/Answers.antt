@@ -1,4 +1,4 @@
-use Rattle.std.proofs.Common.{◌<◌, ◌^◌, ℕ, Option, refl, sym, subst}
+use Rattle.std.proofs.Common.{ℕ, Option, refl, sym, subst}
 use Rattle.std.specs.Map.{keys_of}
 use Rattle.std.proofs.lemmas.Result.{IfOk-weaker}
 use Rattle.at_model.specs.Run.{Instance}
@@ -36,5 +36,5 @@ returns g c =
       worthy = e.gains.worthy;
       sparing = e.sparing;
       spare = e.gains.spare;
-      counts = λ exact. e.gains.counts exact (subst (λ n. n < 2 ^ 64) c.work-work.ensures c.work-work.type_inv);
+      counts = e.gains.counts;
     }

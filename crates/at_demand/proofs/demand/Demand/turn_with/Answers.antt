@@ -35,7 +35,7 @@ returns-in_err-copy g c =
       standing = rw is tt;
       fit = rw is tt;
       sparing = λ exact spare sparing. rw is tt;
-      gains = gains_none rules s g.K.Keeper.exact old c.args.self.now.work q c.requires.right c.requires.plain;
+      gains = gains_none rules s g.K.Keeper.exact old c.args.self.now.work c.args.self.now.few q c.requires.right c.requires.plain;
     }
 
 pub returns-in_err-copy-2 : goal.returns-in_err-copy-2
@@ -51,7 +51,7 @@ returns-in_err-copy-2 g c =
       standing = rw is tt;
       fit = rw is tt;
       sparing = λ exact spare sparing. rw is tt;
-      gains = gains_none rules s g.K.Keeper.exact old c.args.self.now.work q c.requires.right c.requires.plain;
+      gains = gains_none rules s g.K.Keeper.exact old c.args.self.now.work c.args.self.now.few q c.requires.right c.requires.plain;
     }
 
 pub returns-in_err-begun : goal.returns-in_err-begun
@@ -67,7 +67,7 @@ returns-in_err-begun g c =
       standing = rw is tt;
       fit = rw is tt;
       sparing = λ exact spare sparing. rw is tt;
-      gains = gains_none rules s g.K.Keeper.exact old c.args.self.now.work q c.requires.right c.requires.plain;
+      gains = gains_none rules s g.K.Keeper.exact old c.args.self.now.work c.args.self.now.few q c.requires.right c.requires.plain;
     }
 
 pub returns-in_err-value : goal.returns-in_err-value
@@ -175,7 +175,7 @@ returns-in-Some-get g c =
       standing = IfOk-weaker c.pass.result _ _ (λ o r. stands_passed rules s old old (λ i some. refl) q st p v kept o r (passed_turn rules s old old q st p v c.requires.right kept o r)) c.pass.ensures;
       fit = IfOk-weaker c.pass.result _ _ (fit_passed rules s old old (λ i some. refl) q p st c.forget.new.self v c.forget.ensures.frames c.forget.ensures.awaited) c.pass.ensures;
       sparing = λ exact spare sparing. IfOk-weaker c.pass.result _ _ (λ o r. spares_passed rules s old old (λ i some. refl) q st p v o r sparing) c.pass.ensures;
-      gains = gains_none rules s g.K.Keeper.exact old c.args.self.now.work q c.requires.right c.requires.plain;
+      gains = gains_none rules s g.K.Keeper.exact old c.args.self.now.work c.args.self.now.few q c.requires.right c.requires.plain;
     }
 
 pub returns-in_ok-copy-in-Kept : goal.returns-in_ok-copy-in-Kept
@@ -281,5 +281,5 @@ returns-in-Some g c =
       standing = st;
       fit = tt;
       sparing = λ exact spare sparing. sparing;
-      gains = gains_none rules s g.K.Keeper.exact old c.args.self.now.work q c.requires.right c.requires.plain;
+      gains = gains_none rules s g.K.Keeper.exact old c.args.self.now.work c.args.self.now.few q c.requires.right c.requires.plain;
     }

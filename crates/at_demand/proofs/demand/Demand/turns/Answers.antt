@@ -1,4 +1,4 @@
-use Rattle.std.proofs.Common.{◌≡◌, ◌<◌, ◌^◌, ◌+◌, ℕ, suc, Option, None, refl, sym, ◌∙◌, subst, arith}
+use Rattle.std.proofs.Common.{◌≡◌, ◌+◌, ℕ, suc, Option, None, refl, sym, ◌∙◌, subst, arith}
 use Rattle.std.specs.Option.{option_map}
 use Rattle.std.proofs.lemmas.Result.{err_from_is_err_and}
 use Rattle.at_model.specs.Run.{Instance}
@@ -12,7 +12,7 @@ use Rattle.at_demand.specs.Turns.{under_way}
 use Rattle.at_demand.specs.KeptTrials.{FitAfter, FitAt}
 use Rattle.at_body.specs.Typed.{class_shown}
 use Rattle.std.specs.Map.{keys_of}
-use Rattle.at_demand.proofs.Counting.{counts_none, counts_more, counted_small}
+use Rattle.at_demand.proofs.Counting.{counts_none, counts_more}
 use Rattle.at_demand.proofs.Gaining.{worthy_none}
 use Rattle.at_demand.proofs.Fitting.{no_trials}
 use Rattle.at_demand.proofs.Standing.{asked_same, worthy_both}
@@ -39,7 +39,7 @@ loop-given-init g c =
       stays = λ there right. right;
       plain = c.requires.plain;
       spare = λ exact spare sparing. (spare, sparing);
-      counts = λ exact. counts_none entries c.args.self.now.work (subst (λ n. n < 2 ^ 64) c.work-work.ensures c.work-work.type_inv);
+      counts = λ exact. counts_none entries c.args.self.now.work c.args.self.now.few;
     }
 
 pub loop-given-preserved : goal.loop-given-preserved
@@ -65,7 +65,7 @@ loop-given-preserved g c =
       plain = c.turn_with.ensures.gains.plain;
       stays = λ there right. c.turn_with.ensures.gains.stays (subst (λ (i : Instance ℕ). IsThere s i) (sym inv.same) there) (inv.stays there right);
       spare = λ exact spare sparing. let both = inv.spare exact spare sparing in (c.turn_with.ensures.gains.spare exact both.0 both.1, e.sparing exact both.0 both.1);
-      counts = λ exact. let before = inv.counts exact in counts_more first old new c.args.self.now.work c.loop-given.self.work c.turn_with.new.self.work before (c.turn_with.ensures.gains.counts exact (counted_small first old c.args.self.now.work c.loop-given.self.work before));
+      counts = λ exact. counts_more first old new c.args.self.now.work c.loop-given.self.work c.turn_with.new.self.work (inv.counts exact) (c.turn_with.ensures.gains.counts exact);
     }
 
 pub returns-in_err-told : goal.returns-in_err-told
@@ -86,7 +86,7 @@ returns-in_err-told g c =
       stays = λ there right. c.turn_with.ensures.gains.stays (subst (λ (i : Instance ℕ). IsThere s i) (sym inv.same) there) (inv.stays there right);
       spare = λ exact spare sparing. let both = inv.spare exact spare sparing in c.turn_with.ensures.gains.spare exact both.0 both.1;
       sparing = λ exact spare sparing. rw is tt;
-      counts = λ exact. let before = inv.counts exact in counts_more first old new c.args.self.now.work c.loop-given.self.work c.turn_with.new.self.work before (c.turn_with.ensures.gains.counts exact (counted_small first old c.args.self.now.work c.loop-given.self.work before));
+      counts = λ exact. counts_more first old new c.args.self.now.work c.loop-given.self.work c.turn_with.new.self.work (inv.counts exact) (c.turn_with.ensures.gains.counts exact);
     }
 
 pub returns-in-Some : goal.returns-in-Some
@@ -110,7 +110,7 @@ returns-in-Some g c =
       stays = λ there right. c.turn_with.ensures.gains.stays (subst (λ (i : Instance ℕ). IsThere s i) (sym inv.same) there) (inv.stays there right);
       spare = λ exact spare sparing. let both = inv.spare exact spare sparing in c.turn_with.ensures.gains.spare exact both.0 both.1;
       sparing = λ exact spare sparing. let both = inv.spare exact spare sparing in e.sparing exact both.0 both.1;
-      counts = λ exact. let before = inv.counts exact in counts_more first old new c.args.self.now.work c.loop-given.self.work c.turn_with.new.self.work before (c.turn_with.ensures.gains.counts exact (counted_small first old c.args.self.now.work c.loop-given.self.work before));
+      counts = λ exact. counts_more first old new c.args.self.now.work c.loop-given.self.work c.turn_with.new.self.work (inv.counts exact) (c.turn_with.ensures.gains.counts exact);
     }
 
 pub returns : goal.returns

@@ -1,4 +1,4 @@
-use Rattle.std.proofs.Common.{◌≡◌, ℕ, List, length, ◌<◌, ◌^◌, [], ◌∷◌, ◌++◌, refl, sym, ap, subst, true≢false}
+use Rattle.std.proofs.Common.{◌≡◌, ℕ, List, length, [], ◌∷◌, ◌++◌, sym, ap, subst, true≢false}
 use Rattle.std.proofs.lemmas.Result.{err_from_is_err_and}
 use Rattle.indexmap.specs.IndexMap.{insert_entry}
 use Rattle.at_model.specs.Run.{Instance, Value}
@@ -29,8 +29,14 @@ tell_found-requires-clause-takes c =
 pub returns-in_default : goal.returns-in_default
 returns-in_default c = (none_there c.args.self.now.waiting.entries (λ less. true≢false (sym (c.in_default.ensures.found.1 less))), ap (λ (v : ValueCode). answer.Value v) c.into_value.ensures)
 
+pub returns-in_err-self : goal.returns-in_err-self
+returns-in_err-self c = rw ((err_from_is_err_and c.from_residual.result c.from_residual.ensures.1).1) tt
+
+pub returns-in_err-push : goal.returns-in_err-push
+returns-in_err-push c = rw ((err_from_is_err_and c.from_residual-in_err-push.result c.from_residual-in_err-push.ensures.1).1) tt
+
 pub returns-in_err-value : goal.returns-in_err-value
-returns-in_err-value c = rw ((err_from_is_err_and c.from_residual.result c.from_residual.ensures.1).1) tt
+returns-in_err-value c = rw ((err_from_is_err_and c.from_residual-in_err-value.result c.from_residual-in_err-value.ensures.1).1) tt
 
 pub returns-in_err-step : goal.returns-in_err-step
 returns-in_err-step c = rw ((err_from_is_err_and c.from_residual-in_err-step.result c.from_residual-in_err-step.ensures.1).1) tt
@@ -53,8 +59,5 @@ returns c =
       took = subst (λ (f : Frame). TookFound f.demanded (length fs) c.tell_found.new.self.demanded) c.replace.ensures.after
           (subst (λ n. TookFound c.replace.new.dest.demanded n c.tell_found.new.self.demanded) c.len-position.ensures.len c.in_ok-step.ensures.took);
       settled = subst (λ (i : Instance ℕ). c.put.new.map.entries ≡ insert_entry same_instance fs i c.args.find) c.replace-inst.ensures.value c.in_ok-put.ensures;
-      counted = refl;
-      few = subst (λ n. n < 2 ^ 64) c.len.ensures.len c.len.type_inv;
-      finds = subst (λ n. n < 2 ^ 64) c.len-2.ensures.len c.len-2.type_inv;
-      counts = subst (λ n. n < 2 ^ 64) c.gone.ensures c.gone.type_inv;
+      steps = c.in_ok-self.ensures;
     }
