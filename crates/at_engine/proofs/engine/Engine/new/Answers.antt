@@ -22,7 +22,7 @@ pub returns-clause-sound : goal.returns-clause-sound
 returns-clause-sound g c formed tokens empty = record {
   held = record {
     idle = c.in_ok-store.ensures.idle;
-    sound = subst (λ (x : Classes). AreSound x) c.classes-2.ensures c.len-classes.ensures.sound;
+    sound = subst (λ (x : Classes). AreSound x) c.classes.ensures c.in_ok-store.ensures.sound;
     conforming = subst (λ (t : Tree). conforms c.args.rules.classes t 0 ≡ true) (sym c.in_ok-store.ensures.loaded) (subst (λ (x : Classes). conforms x (tree_view c.args.tree) 0 ≡ true) c.classes.ensures c.in_ok-store.ensures.fits);
     marked = subst (AreThere (path c.in_ok-store.store)) (sym c.new-2.ensures) tt;
     right = right_of_nothing c.args.rules c.in_ok-store.store _ (λ i. ap (λ k. g.K.Keeper.contents k i) c.new.ensures.keeper ∙ empty i);
