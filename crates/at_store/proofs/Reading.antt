@@ -8,14 +8,15 @@ use Rattle.at_model.specs.Trees.{Tree, class_of}
 use Rattle.at_model.specs.Paths.{Node, tree_at, children_at}
 use Rattle.at_model.proofs.Options.{led, mapped}
 use Rattle.at_store.specs.Numbers.{path_in, relabel}
-use Rattle.at_store.specs.Memory.{Info, IsShallow, Place, Stored, class_in, index_in, kids_in, top}
+use Rattle.at_store.specs.Memory.{Info, IsShallow, Keeps, Place, Stored, class_in, index_in, kids_in, top}
 use Rattle.at_store.specs.Grown.{shown_below}
 use Rattle.at_store.specs.View.{memory_of}
 use Rattle.at_store.specs.Shown.{Shown, IsIdle, numbers, path, tree}
 use Rattle.at_store.proofs.Found.{number_found, named}
 use Rattle.at_store.proofs.of_planting.Growing.{class-grown, grown-stored}
 use Rattle.at_store.proofs.of_planting.Composed.{child_stored}
-use Rattle.at_store.proofs.Relabelled.{relabelled-tree_at, relabelled-children_at}
+use Rattle.at_store.proofs.Classes.{nodes_relabelled}
+use Rattle.at_store.proofs.Relabelled.{relabelled-tree_at}
 use Rattle.at_store.proofs.Looked.{absent, index_is}
 use Rattle.at_store.proofs.Sizes.{below_smaller, children_fewer, index_fewer, within_nodes}
 use Rattle.at_store.proofs.Walked.{kids_kept}
@@ -61,18 +62,20 @@ shown_there s k n p =
     let (u, is, number) = number_found (numbers s) k n p in
     (u, is, number, relabelled-tree_at f (numbers s) n ∙ ap (option_map (relabel f)) is)
 
+-- a node has as many children as the limits allow, in any memory that keeps the tree
+pub few_kept : (s : Shown) → IsIdle s → (memory : ℕ → Option Info) → Keeps memory (numbers s) None → (n : Node) (u : Tree) → tree_at (numbers s) n ≡ Some u → (part : ℕ) → length (kids_in (memory (class_of u)) part) ≤ 65536
+few_kept s h memory keeps n u is part =
+    let same : length (kids_in (memory (class_of u)) part) ≡ length (children_at u part) = ap length (kids_kept memory (numbers s) keeps n u is part) ∙ length-map (children_at u part) class_of in
+    omega (arith, same, children_fewer u part, below_smaller (numbers s) n u is, nodes_relabelled (class_in (memory_of s.slab)) (numbers s), within_nodes (tree s) h.limits)
+
 pub few_children : (s : Shown) → IsIdle s → (k part : ℕ) → length (kids_in (memory_of s.slab k) part) ≤ 65536
 few_children s h k part = by_path (path s k) refl
   where
     by_path : (o : Option Node) → path s k ≡ o → length (kids_in (memory_of s.slab k) part) ≤ 65536
     by_path None e = let none : length (kids_in (memory_of s.slab k) part) ≡ 0 = ap (λ o. length (kids_in o part)) (absent (memory_of s.slab) (numbers s) h.keeps k e) in omega (arith, none)
     by_path (Some n) e =
-        let f = class_in (memory_of s.slab) in
-        let (u, is, number, there) = shown_there s k n e in
-        let same : length (kids_in (memory_of s.slab k) part) ≡ length (children_at u part) =
-        ap (λ j. length (kids_in (memory_of s.slab j) part)) (sym number) ∙ ap length (kids_kept (memory_of s.slab) (numbers s) h.keeps n u is part) ∙ length-map (children_at u part) class_of in
-        let like : length (children_at (relabel f u) part) ≡ length (children_at u part) = ap length (relabelled-children_at f u part) ∙ length-map (children_at u part) (relabel f) in
-        omega (arith, same, like, children_fewer (relabel f u) part, below_smaller (tree s) n (relabel f u) there, within_nodes (tree s) h.limits)
+        let (u, is, number) = number_found (numbers s) k n e in
+        subst (λ (j : ℕ). length (kids_in (memory_of s.slab j) part) ≤ 65536) number (few_kept s h (memory_of s.slab) h.keeps n u is part)
 
 pub small_index : (s : Shown) → IsIdle s → (k : ℕ) → index_in (memory_of s.slab k) < 65536
 small_index s h k = by_path (path s k) refl

@@ -4,7 +4,7 @@ use lib.ListN.{get_or}
 use Rattle.std.specs.Prelude.{map}
 use Rattle.at_model.specs.Edits.{changed_at}
 use Rattle.std.specs.List.{slice_get, insert}
-use Rattle.at_store.specs.Memory.{Info, Kept, Place, with_kept, with_place, with_up, with_index, rewritten, placed, raised, indexed, renumbered, kids_in}
+use Rattle.at_store.specs.Memory.{Info, Kept, Place, with_kept, with_place, with_up, with_index, rewritten, placed, raised, indexed, renumbered}
 
 pub set_mapped : {A B : Type 0} (f : A → B) (xs : List A) (i : ℕ) (a : A) → map f (slice_set xs i a) ≡ changed_at (λ old. f a) (map f xs) i
 set_mapped f [] zero a = refl
@@ -103,14 +103,6 @@ renumbered_end ns i k o h = ap (λ xs. renumbered xs i k o) (none ns i h)
     none [] (suc i) h = refl
     none (x ∷ xs) zero h = let f : suc (length xs) ≤ 0 = h in absurd (omega arith)
     none (x ∷ xs) (suc i) h = let f : suc (length xs) ≤ suc i = h in none xs i (omega arith)
-
-pub kids_indexed : (n index k part : ℕ) (o : Option Info) → kids_in (indexed n index k o) part ≡ kids_in o part
-kids_indexed n index k part o = by_test (nat_eq k n) o
-  where
-    by_test : (b : Bool) (o : Option Info) → kids_in (cond b (with_index index o) o) part ≡ kids_in o part
-    by_test true None = refl
-    by_test true (Some i) = refl
-    by_test false o = refl
 
 inserted_there : (ns : List ℕ) (i n : ℕ) → i ≤ length ns → slice_get (insert ns i n) i ≡ Some n
 inserted_there [] zero n h = refl

@@ -1,8 +1,8 @@
 -- Room that is taken for one more child, before it comes.
-use Rattle.std.specs.Prelude.{◌≡◌, ⊤, ℕ, ◌≤◌, length, List, [], Option, Some, None}
+use Rattle.std.specs.Prelude.{◌≡◌, ⊤, ℕ, ◌<◌, ◌≤◌, ◌^◌, length, List, [], Option, Some, None}
 use Rattle.std.specs.List.{insert, slice_get}
 use Rattle.slab.specs.Slab.{Slab, get}
-use Rattle.smallvec.specs.SmallVec.{HasRoomFor}
+use Rattle.smallvec.specs.SmallVec.{SmallVec, HasRoomFor}
 use Rattle.at_model.specs.Edits.{Edit}
 use Rattle.at_model.specs.Edits as edit
 use Rattle.at_model.specs.Trees.{Tree}
@@ -13,9 +13,13 @@ use Rattle.at_store.specs.declared.entry.Entry.{Entry}
 use Rattle.at_store.specs.declared.entry.Slot.{Slot}
 use Rattle.at_store.specs.declared.entry.Slot.TheVariants as slot
 
--- one more child in the component takes no memory
+-- one more child takes no memory, and its index four bytes
+abbrev pub TakesOneMore : SmallVec ℕ → Type 0
+TakesOneMore kids = HasRoomFor kids 1 × length kids.items < 2 ^ 32
+
+-- so it is in the component
 abbrev pub HasSpace : Option Slot → Type 0
-HasSpace (Some (slot.Kids form kids)) = HasRoomFor kids 1
+HasSpace (Some (slot.Kids form kids)) = TakesOneMore kids
 HasSpace o = ⊤
 
 abbrev pub slots_of : Option Entry → List Slot

@@ -6,6 +6,8 @@ use Rattle.at_store.specs.Memory.{Form, Plain, List_of, Optional, Kept, Kids, To
 use Rattle.at_store.specs.declared.entry.Entry.{Entry}
 use Rattle.at_store.specs.declared.entry.Slot.{Slot}
 use Rattle.at_store.specs.declared.entry.Slot.TheVariants as slot
+use Rattle.at_store.specs.declared.entry.Up.{Up}
+use Rattle.at_store.specs.declared.entry.Up.TheVariants as up
 use Rattle.at_store.specs.declared.entry.Form.{Form as Shape}
 use Rattle.at_store.specs.declared.entry.Form.TheVariants as shape
 
@@ -18,8 +20,12 @@ abbrev pub kept_view : Slot → Kept
 kept_view (slot.Kids f ns) = Kids (form_view f) ns.items
 kept_view (slot.Token v) = Token_of (token_view v)
 
+abbrev pub up_view : Up → Option (ℕ × ℕ)
+up_view up.Alone = None
+up_view (up.In part parent) = Some (parent, part)
+
 abbrev pub info : Entry → Info
-info e = record { class = e.class; up = e.up; index = e.index; cells = map kept_view e.cells.items }
+info e = record { class = e.class; up = up_view e.up; index = e.index; cells = map kept_view e.cells.items }
 
 abbrev pub info_of : Option Entry → Option Info
 info_of None = None

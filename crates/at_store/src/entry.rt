@@ -4,7 +4,7 @@ ghost use Rattle.std.specs.List.{slice_get};
 ghost use Rattle.std.specs.Option.{option_copied};
 ghost use Rattle.at_store.specs.Memory.{cell_in, cells_in, class_in, index_in, kids_in, numbers_in, token_in_cell, up_in};
 ghost use Rattle.at_store.specs.Tokens.{lent_view};
-ghost use Rattle.at_store.specs.View.{kept_view, leaves_in, memory_of};
+ghost use Rattle.at_store.specs.View.{kept_view, leaves_in, memory_of, up_view};
 
 use crate::node::Node;
 use crate::token::Token;
@@ -32,18 +32,37 @@ pub enum Slot {
     Token(TokVal),
 }
 
-/// What is kept of a node. Two bytes hold a class or a component, since a grammar has at most 1,000 classes of at most 32 components.
+/// Where a node stands: alone, or in a component of a parent. An `Option` of the two would take four bytes more.
+#[derive(Clone, Copy)]
+pub enum Up {
+    Alone,
+    In(u16, Node),
+}
+
+/// What is kept of a node, in forty bytes. Two hold a class or a component, since a grammar has at most 1,000 classes of at most 32
+/// components.
 #[derive(Drop)]
 pub struct Entry {
     pub class: u16,
     /// Whether the edit that is prepared takes the node away.
     pub leaves: bool,
-    /// The parent, and the component of it.
-    pub up: Option<(Node, u16)>,
+    pub up: Up,
     /// The position among the children of that component, kept here so that it is read in constant time: an insert into a
     /// list and a drop rewrite it in each element behind.
-    pub index: usize,
+    pub index: u32,
     pub cells: Vec<Slot>,
+}
+
+impl Up {
+    /// The parent, and the component of it.
+    fn place(self) -> Option<(Node, u16)>
+        ensures { result ≡ up_view self }
+    {
+        match self {
+            Up::Alone => None,
+            Up::In(part, parent) => Some((parent, part)),
+        }
+    }
 }
 
 /// The number in two bytes; want of memory where it is too great for that.
@@ -56,13 +75,23 @@ pub(crate) fn small(number: usize) -> Result<u16, AllocError>
     Ok(number as u16)
 }
 
+/// The position in four bytes; want of memory where it is too great for that.
+pub(crate) fn small_index(index: usize) -> Result<u32, AllocError>
+    ensures { IfOk result (λ n. n ≡ index) }
+{
+    if index > u32::MAX as usize {
+        return Err(AllocError);
+    }
+    Ok(index as u32)
+}
+
 /// A parent and a component of it, as they are kept; want of memory where the component's number is too great for that.
-pub(crate) fn small_place(up: Option<(Node, usize)>) -> Result<Option<(Node, u16)>, AllocError>
-    ensures { IfOk result (λ place. place ≡ up) }
+pub(crate) fn small_place(up: Option<(Node, usize)>) -> Result<Up, AllocError>
+    ensures { IfOk result (λ place. up_view place ≡ up) }
 {
     match up {
-        Some(place) => Ok(Some((place.0, small(place.1)?))),
-        None => Ok(None),
+        Some(place) => Ok(Up::In(small(place.1)?, place.0)),
+        None => Ok(Up::Alone),
     }
 }
 
@@ -91,7 +120,7 @@ pub(crate) fn place_at(slab: &Slab<Entry>, node: Node) -> Option<(Node, u16)>
     ensures { result ≡ up_in (memory_of slab.now node) }
 {
     match slab.get(node.index()) {
-        Some(entry) => entry.up,
+        Some(entry) => entry.up.place(),
         None => None,
     }
 }
@@ -106,8 +135,8 @@ pub(crate) fn up_at(slab: &Slab<Entry>, node: Node) -> Option<(Node, usize)>
     }
 }
 
-/// The position of a node among the children of its parent's component.
-pub(crate) fn index_at(slab: &Slab<Entry>, node: Node) -> usize
+/// The position of a node among the children of its parent's component, as it is kept.
+pub(crate) fn index_at(slab: &Slab<Entry>, node: Node) -> u32
     ensures { result ≡ index_in (memory_of slab.now node) }
 {
     match slab.get(node.index()) {

@@ -8,7 +8,7 @@ ghost use Rattle.at_store.specs.Memory.{IsCellFreed, IsFreed, Kids, with_numbers
 ghost use Rattle.at_store.specs.Planting.{GainsCell, GainsTree, IsAdded, IsAsBefore, IsPlanted, IsPushed, IsPushedKid, StaysPlanted, holding};
 ghost use Rattle.at_store.specs.View.{MarksNoMore, form_view, kept_view, memory_of};
 
-use crate::entry::{Children, Entry, Form, Slot, small, small_place};
+use crate::entry::{Children, Entry, Form, Slot, small, small_index, small_place};
 use crate::node::Node;
 use at_class::ClassId;
 use at_tree::tree::{Cell, Tree};
@@ -62,7 +62,7 @@ fn add(
         class: small(class.index())?,
         leaves: false,
         up: small_place(up)?,
-        index,
+        index: small_index(index)?,
         cells: Vec::with_capacity(alloc, parts)?,
     };
     slab.insert(entry)?;

@@ -141,7 +141,7 @@ pub(crate) fn steps_to(
     let Some(component) = part_of(classes, class_at(slab, place.0), place.1) else {
         return Ok(steps);
     };
-    steps.push(step_by(alloc, component, index_at(slab, node))?)?;
+    steps.push(step_by(alloc, component, index_at(slab, node) as usize)?)?;
     Ok(steps)
 }
 

@@ -109,7 +109,7 @@ token_committed classes old mid new e node part v p changes marks root waiting l
     waiting leaving (unmarked_as classes old mid new e (DoesToken node part v) p marks (ap (gone s) d.is))
 
 -- a component shows the list that was written there
-kids_raised : (new : ℕ) (up : Option (ℕ × ℕ)) (k part : ℕ) (o : Option Info) → kids_in (raised new up k o) part ≡ kids_in o part
+pub kids_raised : (new : ℕ) (up : Option (ℕ × ℕ)) (k part : ℕ) (o : Option Info) → kids_in (raised new up k o) part ≡ kids_in o part
 kids_raised new up k part o = by_test (nat_eq k new) o
   where
     by_test : (b : Bool) (o : Option Info) → kids_in (cond b (with_up up o) o) part ≡ kids_in o part

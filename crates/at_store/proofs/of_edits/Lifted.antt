@@ -15,7 +15,7 @@ use Rattle.at_model.proofs.of_edits.Untouched.{in_cell as kids}
 use Rattle.at_model.proofs.of_edits.Untouching.{removed-behind}
 use Rattle.at_model.proofs.WithinTree.{tree_at-snoc}
 use Rattle.at_store.specs.Numbers.{path_in}
-use Rattle.at_store.specs.Memory.{Info, IsLifted, IsPlacedIn, IsShallow, Keeps, Kept, Kids, List_of, Place, Stored, cut_in, index_in, kept, kept_of, kids_in, is_waiting, numbers_in, place_at, placed, placed_in, relinked, renumbered, rewritten, taken_out as gap_closed, top, up_in, with_kept, with_kids, with_numbers, with_place}
+use Rattle.at_store.specs.Memory.{AreFewIn, Info, IsLifted, IsPlacedIn, IsShallow, Keeps, Kept, Kids, List_of, Place, Stored, cut_in, index_in, kept, kept_of, kids_in, is_waiting, numbers_in, place_at, placed, placed_in, relinked, renumbered, rewritten, taken_out as gap_closed, top, up_in, with_kept, with_kids, with_numbers, with_place}
 use Rattle.at_store.specs.Reserving.{ComesTo, HasRoom, IsRoomFor, KeepsRoom}
 use Rattle.at_store.specs.View.{leaves_in, memory_of}
 use Rattle.at_store.specs.declared.entry.Entry.{Entry}
@@ -31,10 +31,10 @@ use Rattle.at_store.proofs.of_edits.Edited.{IsNone, drop_origins, some_none}
 use Rattle.at_store.proofs.of_edits.Committed.{cell_there, changed_here, committed, kids_there, room_there, root_stays, root_was, shallow_left, unmarked_as}
 use Rattle.at_store.proofs.Found.{named, number_found}
 use Rattle.at_store.proofs.Looked.{kept_at}
-use Rattle.at_store.proofs.of_edits.Removed.{parent_stays, place_below, subtree_apart, subtree_stored}
+use Rattle.at_store.proofs.of_edits.Removed.{parent_stays, place_below, up_below, subtree_apart, subtree_stored}
 use Rattle.at_store.proofs.of_edits.Renumbered.{not_eq, renumbered_absent}
 use Rattle.at_store.proofs.Slots.{class_placed, class_renumbered, class_rewritten, map_length, renumbered_insert}
-use Rattle.at_store.proofs.of_edits.Taken.{cell_cut, cell_same, one_changed}
+use Rattle.at_store.proofs.of_edits.Taken.{cell_cut, cell_same, few_there, one_changed}
 use Rattle.at_store.proofs.Within.{stands_within}
 
 elsewhere : (p : Node) (w r : Way) → step_eq w r ≡ false → is_within (p ++ w ∷ []) (p ++ r ∷ []) ≡ false
@@ -145,7 +145,7 @@ gap_written memory s u x h node p place under c found here there k =
     let left : List ℕ = remove (map class_of (children c)) i in
     let stands = place_below s u node p place under found in
     let own = (h.stored node x there).is in
-    let up_is : up_in (memory (class_of x)) ≡ Some (pu, part) = ap up_in own ∙ ap (λ (q : Place). q.0) stands in
+    let up_is = up_below memory s u x node p place h.stored under found there in
     let index_is : index_in (memory (class_of x)) ≡ i = ap index_in own ∙ ap (λ (q : Place). q.1) stands in
     let cell_is : slice_get (kept_of u) part ≡ Some (kept c) = kept_at (from_cells (cells_of u)) part ∙ ap (option_map kept) here in
     let above = h.stored p u found in
@@ -188,8 +188,10 @@ move_committed classes old mid new middle e node to part index p lifts roomy com
     let c' : Kept = with_numbers (λ ns. left) (kept c) in
     let h : Keeps memory s None = subst (λ (y : Edit). Keeps memory s (brought y)) d.is p.keeps in
     let lifts' : IsLifted (class_of x) memory between = subst (λ (j : ℕ). IsLifted j memory between) (sym d.number) lifts in
+    let up_is = up_below memory s u x d.place d.above d.way h.stored d.under d.found d.there in
+    let beside : AreFewIn memory (up_in (memory (class_of x))) = subst (AreFewIn memory) (sym up_is) (few_there old p.was_idle memory h d.above u d.found d.way.0) in
     let first : (k : ℕ) → between k ≡ placed (class_of x) top k (renumbered (drop i left) i k (rewritten pu d.way.0 c' k (memory k))) =
-    λ k. lifts' k ∙ ap (placed (class_of x) top k) (gap_written memory s u x h d.place d.above d.way d.under c d.found d.here d.there k) in
+    λ k. lifts' beside k ∙ ap (placed (class_of x) top k) (gap_written memory s u x h d.place d.above d.way d.under c d.found d.here d.there k) in
     let s1 : Tree = left_by s (Drop d.place) in
     let cut : s1 ≡ with_node (with_cell (without_child i) d.way.0) s d.above = ap (λ (o : Option (Node × Way)). elim o as (λ _. Tree) [ None ↦ s | Some p ↦ with_node (with_cell (without_child p.1.1) p.1.0) s p.0 ]) d.under in
     let low : IsShallow 512 s1 = subst (IsShallow 512) (sym cut)

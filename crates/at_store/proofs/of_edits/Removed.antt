@@ -9,7 +9,7 @@ use Rattle.at_model.proofs.of_edits.Moving.{Way}
 use Rattle.at_model.proofs.Options.{led}
 use Rattle.at_model.proofs.of_edits.Surviving.{moved_out, drop_out, parent_is}
 use Rattle.at_store.specs.Numbers.{IsApart, path_in}
-use Rattle.at_store.specs.Memory.{Info, IsFreed, Place, Stored, place_at, top}
+use Rattle.at_store.specs.Memory.{Info, IsFreed, Place, Stored, place_at, top, up_in}
 use Rattle.at_store.proofs.of_planting.Composed.{child_stored}
 use Rattle.at_store.proofs.of_planting.Freeing.{child_apart}
 use Rattle.at_store.proofs.of_edits.Stored.{moved_itself}
@@ -42,3 +42,7 @@ pub place_below : (s u : Tree) (n p : Node) (way : Way) → parent_of n ≡ Some
 place_below s u n p way under found =
     ap (λ (o : Option (Node × Way)). elim o [ None ↦ top | Some q ↦ (Some ((elim (tree_at s q.0) [ None ↦ 0 | Some v ↦ class_of v ]), q.1.0), q.1.1) ]) under ∙
     ap (λ (o : Option Tree). (Some ((elim o [ None ↦ 0 | Some v ↦ class_of v ]), way.0), way.1)) found
+
+-- and as it is kept
+pub up_below : (memory : ℕ → Option Info) (s u x : Tree) (n p : Node) (way : Way) → Stored memory top s → parent_of n ≡ Some (p, way) → tree_at s p ≡ Some u → tree_at s n ≡ Some x → up_in (memory (class_of x)) ≡ Some (class_of u, way.0)
+up_below memory s u x n p way h under found there = ap up_in (h n x there).is ∙ ap (λ (q : Place). q.0) (place_below s u n p way under found)

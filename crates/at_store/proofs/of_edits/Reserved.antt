@@ -9,7 +9,7 @@ use Rattle.slab.proofs.SlabLemmas.{Updates-with_value}
 use Rattle.at_model.specs.Edits.{changed_at}
 use Rattle.at_store.specs.Memory.{Form, Info, Kept, Kids, cell_in, kids_in, numbers_in, relinked, rewritten, with_kept, with_kids, with_numbers}
 use Rattle.at_store.specs.Reserving.{HasRoom, HasSpace, KeepsRoom, slots_of}
-use Rattle.at_store.specs.View.{info_of, kept_view, memory_of}
+use Rattle.at_store.specs.View.{info_of, kept_view, memory_of, up_view}
 use Rattle.at_store.specs.declared.entry.Entry.{Entry}
 use Rattle.at_store.specs.declared.entry.Slot.{Slot}
 use Rattle.at_store.proofs.of_edits.Taken.{one_changed}
@@ -87,7 +87,7 @@ module _ (s : Slab Entry) (node : ℕ) (a : Entry) (cells : Vec Slot Global) (th
   ]
     where
       at_node : memory_of later node ≡ relinked node part g node (memory_of s node)
-      at_node = ap info_of updates.changed ∙ ap (λ (cs : List Kept). let i : Info = record { class = a.class; up = a.up; index = a.index; cells = cs } in Some i) written ∙
+      at_node = ap info_of updates.changed ∙ ap (λ (cs : List Kept). let i : Info = record { class = a.class; up = up_view a.up; index = a.index; cells = cs } in Some i) written ∙
           ap (λ o. with_kids part g (info_of o)) there ∙ sym (ap (λ b. cond b (with_kids part g (memory_of s node)) (memory_of s node)) (eq-eqb node node refl))
 
 -- where no node is nothing is written

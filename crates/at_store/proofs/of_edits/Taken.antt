@@ -1,23 +1,24 @@
 -- A commit takes a node of a list or of an optional away.
-use Rattle.std.proofs.Common.{◌≡◌, ℕ, zero, suc, Bool, true, false, List, [], ◌∷◌, cond, drop, nat_eq, option_map, Option, Some, None, inl, inr, refl, sym, ap, ◌∙◌, subst, is_some}
+use Rattle.std.proofs.Common.{◌≡◌, ℕ, zero, suc, Bool, true, false, List, [], ◌∷◌, cond, drop, nat_eq, option_map, Option, Some, None, inl, inr, refl, sym, ap, ◌∙◌, subst, arith, is_some}
 use Rattle.std.specs.Prelude.{map}
 use Rattle.std.specs.List.{remove, slice_get}
 use Rattle.std.proofs.lemmas.Bool.{cases_eq, eq-eqb, ne_eqb}
 use Rattle.at_model.specs.Classes.{Classes}
-use Rattle.at_model.specs.Trees.{Cell, Empty, Filled, Holds, Many, One, cells_of, children, class_of, from_cells}
+use Rattle.at_model.specs.Trees.{Tree, Cell, Empty, Filled, Holds, Many, One, cells_of, children, class_of, from_cells}
 use Rattle.at_model.specs.Edits.{Edit, changed_at, left_by, without_child, with_cell, with_node}
 use Rattle.at_model.specs.Edits as edit
-use Rattle.at_model.specs.Paths.{Node}
+use Rattle.at_model.specs.Paths.{Node, tree_at}
 use Rattle.at_store.specs.Numbers.{path_in}
-use Rattle.at_store.specs.Memory.{Info, IsFreed, IsShallow, IsTakenAway, Keeps, Kept, Place, place_at, cut_in, index_in, kept, kept_of, kids_in, numbers_in, relinked, renumbered, rewritten, taken_out, top, up_in, with_kept, with_kids, with_index, with_numbers}
+use Rattle.at_store.specs.Memory.{AreFew, AreFewIn, Info, IsFreed, IsShallow, IsTakenAway, Keeps, Kept, Place, place_at, cut_in, index_in, kept, kept_of, kids_in, numbers_in, relinked, renumbered, rewritten, taken_out, top, up_in, with_kept, with_kids, with_index, with_numbers}
 use Rattle.at_store.specs.View.{MarksNoMore, memory_of}
 use Rattle.at_store.specs.Touching.{gone}
-use Rattle.at_store.specs.Shown.{Shown, numbers}
+use Rattle.at_store.specs.Shown.{IsIdle, Shown, numbers}
 use Rattle.at_store.specs.Preparing.{DoesDrop, IsCommitted, IsPrepared, brought, stands_in}
 use Rattle.at_store.proofs.Classes.{classes_stay}
 use Rattle.at_store.proofs.of_edits.Commits.{dropped}
 use Rattle.at_store.proofs.of_edits.Committed.{changed_here, committed, root_stays, root_was, shallow_left}
 use Rattle.at_store.proofs.Looked.{kept_at}
+use Rattle.at_store.proofs.Reading.{few_kept}
 use Rattle.at_store.proofs.of_planting.MarkedLemmas.{gone_unmarked}
 use Rattle.at_store.proofs.of_edits.Removed.{freed_below, parent_stays, place_below}
 use Rattle.at_store.proofs.Slots.{class_renumbered, class_rewritten}
@@ -61,6 +62,10 @@ by_gone : (ns : List ℕ) (i n part : ℕ) (f : List ℕ → List ℕ) (k : ℕ)
 by_gone ns i n part f k o q true e = ap (renumbered ns i k) (none_relinked n part f k) ∙ none_renumbered ns i k
 by_gone ns i n part f k o q false e = ap (renumbered ns i k) e
 
+-- the children of a node of the tree, before an edit is done
+pub few_there : (old : Shown) → IsIdle old → (memory : ℕ → Option Info) → Keeps memory (numbers old) None → (n : Node) (u : Tree) → tree_at (numbers old) n ≡ Some u → (part : ℕ) → AreFew (kids_in (memory (class_of u)) part)
+few_there old h memory keeps n u is part = let few = few_kept old h memory keeps n u is part in omega (arith, few)
+
 pub drop_committed : (classes : Classes) (old mid new : Shown) (e : Edit) (node : ℕ) → IsPrepared classes old e (DoesDrop node) mid →
     IsTakenAway node (memory_of mid.slab) (memory_of new.slab) → MarksNoMore mid.slab new.slab → new.root ≡ mid.root → new.waiting ≡ None → new.leaving ≡ None → IsCommitted old e new
 drop_committed classes old mid new e node p (freed, free, changes) fewer same_root waiting leaving =
@@ -95,8 +100,9 @@ drop_committed classes old mid new e node p (freed, free, changes) fewer same_ro
       | inl e ↦ subst (λ (j : ℕ). relinked pu part f j (memory j) ≡ rewritten pu part c' j (memory j)) (sym e) (ap (λ o. cond (nat_eq pu pu) o (memory pu)) at_parent)
       | inr e ↦ ap (λ b. cond b (with_kids part f (memory k)) (memory k)) (ne_eqb k pu e) ∙ sym (ap (λ b. cond b (with_kept part c' (memory k)) (memory k)) (ne_eqb k pu e))
     ] in
+    let few : AreFewIn freed (up_in (memory node)) = subst (AreFewIn freed) (sym up_is) (subst (λ (o : Option Info). AreFew (kids_in o part)) (sym parent) (few_there old p.was_idle memory h d.above u d.found part)) in
     let written : (k : ℕ) → later k ≡ cond (is_some (path_in k x)) None (renumbered (drop i left) i k (rewritten pu part c' k (memory k))) =
-    λ k. changes k ∙ (λ j. taken_out (up_is j) (index_is j) freed k) ∙ ap (λ ns. renumbered (drop i ns) i k (cut_in pu part i freed k)) cut ∙
+    λ k. changes few k ∙ (λ j. taken_out (up_is j) (index_is j) freed k) ∙ ap (λ ns. renumbered (drop i ns) i k (cut_in pu part i freed k)) cut ∙
     ap (λ o. renumbered (drop i left) i k (relinked pu part f k o)) (frees k) ∙ by_gone (drop i left) i pu part f k (memory k) _ (is_some (path_in k x)) (same k) in
     let shallow : IsShallow 512 (left_by s (edit.Drop d.place)) = subst (λ (y : Edit). IsShallow 512 (left_by s y)) d.is (shallow_left classes old mid new e (DoesDrop node) p) in
     let done : Keeps later (left_by s (edit.Drop d.place)) None = dropped memory later s u x h d.place d.above d.way d.under c d.found d.here d.there d.loose left refl written shallow in

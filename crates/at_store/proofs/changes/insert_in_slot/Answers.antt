@@ -10,5 +10,5 @@ pub returns-in-Kids : goal.returns-in-Kids
 returns-in-Kids c room within =
     let is = c.in-Kids.is in
     ap (Kids (form_view c.in-Kids.field-0))
-    (c.insert_number.ensures (subst (λ (s : Slot). HasSpace (Some s)) is room) (subst (λ (s : Slot). c.args.index ≤ length (numbers_in (Some (kept_view s)))) is within)) ∙
+    (c.insert_number.ensures (subst (λ (s : Slot). HasSpace (Some s)) is room).0 (subst (λ (s : Slot). c.args.index ≤ length (numbers_in (Some (kept_view s)))) is within)) ∙
     sym (ap (λ (s : Slot). with_numbers (λ ns. insert ns c.args.index c.args.new) (kept_view s)) is)
