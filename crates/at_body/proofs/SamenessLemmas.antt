@@ -1,5 +1,7 @@
 -- Instances in the code's words and in the model's.
-use Rattle.std.proofs.Common.{◌≡◌, ℕ, Bool, true, false, not, List, [], ◌∷◌, ◌++◌, map, length, suc, nat_eq, ap, ◌∙◌, refl, sym}
+use Rattle.std.proofs.Common.{◌≡◌, ℕ, Bool, true, false, not, List, [], ◌∷◌, ◌++◌, map, length, suc, nat_eq, ◌==◌, ap, ◌∙◌, refl, sym}
+use Rattle.std.proofs.Common.{arith, eq-eqb, true≢false}
+use Rattle.std.proofs.lemmas.Bool.{eqb-true}
 use Rattle.std.specs.List.{fold, flat_map}
 use Rattle.std.specs.Hash.{fed_then}
 use Rattle.std.specs.Hash as fed
@@ -8,7 +10,7 @@ use Rattle.std.specs.Cmp.Derive.Mapped.{pointwise-map}
 use Rattle.at_model.specs.Run.{Instance}
 use Rattle.at_body.specs.declared.value.Value.{Value as ValueCode}
 use Rattle.at_body.specs.Values.{value_view}
-use Rattle.at_body.specs.Same.{same_value, same_instance, value_writes, instance_writes}
+use Rattle.at_body.specs.Same.{same_value, same_instance, value_writes, place_number, arguments_writes, instance_writes}
 
 not_off : (b : Bool) → false ≡ not b → b ≡ true
 not_off true e = refl
@@ -29,6 +31,20 @@ long (x ∷ xs) = ap (λ n. suc n) (long xs)
 slices : (xs : List ValueCode) → fed.slice (λ v. value_writes (value_view v)) xs ≡ fed.slice value_writes (map value_view xs)
 slices xs = ap (λ n. fed.usize n ++ flat_map (λ v. value_writes (value_view v)) xs) (long xs) ∙ ap (λ ws. fed.usize (length (map value_view xs)) ++ ws) (flat xs)
 
-pub instance_fed : {S : Type 0} (write : S → List ℕ → S) (s t u w : S) (i : Instance ℕ) (xs : List ValueCode) → i.arguments ≡ map value_view xs →
-    t ≡ fold write s (fed.usize i.node) → u ≡ fold write t (fed.usize i.attribute) → w ≡ fold write u (fed.slice (λ v. value_writes (value_view v)) xs) → w ≡ fold write s (instance_writes i)
-instance_fed write s t u w i xs e p q r = rw e (fed_then write s t w (fed.usize i.node) (fed.usize i.attribute ++ fed.slice value_writes (map value_view xs)) p (fed_then write t u w (fed.usize i.attribute) (fed.slice value_writes (map value_view xs)) q (r ∙ ap (fold write u) (slices xs))))
+none_writes : (xs : List ValueCode) → (length xs == 0) ≡ true → arguments_writes (map value_view xs) ≡ []
+none_writes [] h = refl
+none_writes (x ∷ xs) h = let e : length (x ∷ xs) ≡ 0 = eqb-true (length (x ∷ xs)) 0 h in absurd (omega arith)
+
+some_writes : (xs : List ValueCode) → (length xs == 0) ≡ false → arguments_writes (map value_view xs) ≡ fed.slice value_writes (map value_view xs)
+some_writes [] h = absurd (true≢false (sym (eq-eqb 0 0 refl) ∙ h))
+some_writes (x ∷ xs) h = refl
+
+-- without arguments nothing follows the place
+pub place_fed : {S : Type 0} (write : S → List ℕ → S) (s t : S) (i : Instance ℕ) (xs : List ValueCode) → i.arguments ≡ map value_view xs → (length xs == 0) ≡ true →
+    t ≡ fold write s (fed.u64 (place_number i)) → t ≡ fold write s (instance_writes i)
+place_fed write s t i xs e l p = fed_then write s t t (fed.u64 (place_number i)) (arguments_writes i.arguments) p (rw (e, none_writes xs l) refl)
+
+pub instance_fed : {S : Type 0} (write : S → List ℕ → S) (s t w : S) (i : Instance ℕ) (xs : List ValueCode) → i.arguments ≡ map value_view xs → (length xs == 0) ≡ false →
+    t ≡ fold write s (fed.u64 (place_number i)) → w ≡ fold write t (fed.slice (λ v. value_writes (value_view v)) xs) → w ≡ fold write s (instance_writes i)
+instance_fed write s t w i xs e l p r =
+    fed_then write s t w (fed.u64 (place_number i)) (arguments_writes i.arguments) p (rw (e, some_writes xs l) (r ∙ ap (fold write t) (slices xs)))

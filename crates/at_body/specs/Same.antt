@@ -1,5 +1,5 @@
 -- Which values and which instances are the same, and what a hash of them is made from.
-use Rattle.std.specs.Prelude.{ℕ, Bool, false, ◌&&◌, ◌++◌, nat_eq, bytes_eq}
+use Rattle.std.specs.Prelude.{ℕ, Bool, false, List, [], ◌∷◌, ◌*◌, ◌^◌, ◌%◌, ◌&&◌, ◌++◌, bit_xor, nat_eq, bytes_eq}
 use Rattle.std.specs.Ordering.{int_eq}
 use Rattle.std.specs.Cmp.Lexicographic.{pointwise}
 use Rattle.std.specs.Hash.{HashWrites}
@@ -18,11 +18,21 @@ same_value _ _ = false
 abbrev pub same_instance : Instance ℕ → Instance ℕ → Bool
 same_instance i j = nat_eq i.node j.node && (nat_eq i.attribute j.attribute && pointwise same_value i.arguments j.arguments)
 
+-- the number, the truth, the text or the node alone: what isn't the same may be fed alike
 abbrev pub value_writes : Value ℕ → HashWrites
-value_writes (Int n) = fed.u8 0 ++ fed.i32 n
-value_writes (Truth b) = fed.u8 1 ++ fed.bool b
-value_writes (Text s) = fed.u8 2 ++ fed.str s
-value_writes (Ref n) = fed.u8 3 ++ fed.option fed.u32 n
+value_writes (Int n) = fed.i32 n
+value_writes (Truth b) = fed.bool b
+value_writes (Text s) = s ∷ []
+value_writes (Ref n) = fed.option fed.u32 n
+
+-- the attribute and the node in one number
+abbrev pub place_number : Instance ℕ → ℕ
+place_number i = bit_xor ((i.attribute * 2 ^ 32) % 2 ^ 64) i.node
+
+-- nothing for no arguments
+abbrev pub arguments_writes : List (Value ℕ) → HashWrites
+arguments_writes [] = []
+arguments_writes (v ∷ vs) = fed.slice value_writes (v ∷ vs)
 
 abbrev pub instance_writes : Instance ℕ → HashWrites
-instance_writes i = fed.usize i.node ++ (fed.usize i.attribute ++ fed.slice value_writes i.arguments)
+instance_writes i = fed.u64 (place_number i) ++ arguments_writes i.arguments

@@ -1,16 +1,16 @@
 -- The tests of values and of instances are equivalences, and what is the same has the same hash.
-use Rattle.std.specs.Prelude.{◌≡◌, ℕ, Bool, true, false, refl, Option, Some, None, nat_eq}
+use Rattle.std.specs.Prelude.{◌≡◌, ℕ, Bool, true, false, refl, List, [], ◌∷◌, ◌++◌, ◌&&◌, Option, Some, None, nat_eq}
 use mathlib.Core.Path.{ap, ◌∙◌, sym}
 use mathlib.Core.Bool.{true≢false}
 use Rattle.std.specs.Bool.{Decides, one_answer}
-use Rattle.std.specs.Cmp.{IsEquivalence, on_equiv, and_equiv, nat_eq_equiv, signed_Decides, unsigned_Decides}
-use Rattle.std.specs.Cmp.Lexicographic.{lists_equiv}
-use Rattle.std.specs.Hash.{Alike, same_Alike, on_Alike, and-Alike, items_Alike}
+use Rattle.std.specs.Cmp.{IsEquivalence, first_so, second_so, on_equiv, and_equiv, nat_eq_equiv, signed_Decides, unsigned_Decides}
+use Rattle.std.specs.Cmp.Lexicographic.{lists_equiv, pointwise}
+use Rattle.std.specs.Hash.{Alike, same_Alike, items_Alike}
 use Rattle.std.specs.Hash as fed
 use Rattle.std.proofs.lemmas.Slice.Eq.{bytes_eq-Decides}
 use Rattle.at_model.specs.Bodies.{bool_eq, ref_eq}
-use Rattle.at_model.specs.Run.{Value, Int, Truth, Text, Ref}
-use Rattle.at_body.specs.Same.{same_value, same_instance, value_writes, instance_writes}
+use Rattle.at_model.specs.Run.{Value, Int, Truth, Text, Ref, Instance}
+use Rattle.at_body.specs.Same.{same_value, same_instance, value_writes, place_number, arguments_writes, instance_writes}
 
 bools_agree : (a b : Bool) → bool_eq a b ≡ true → a ≡ b
 bools_agree true true h = refl
@@ -69,9 +69,6 @@ values_equiv = record {
   congr = λ v w x h. ap (λ u. same_value u x) (values_agree v w h);
 }
 
-numbers_fed : Alike nat_eq fed.usize
-numbers_fed = same_Alike fed.usize unsigned_Decides
-
 pub values_fed : Alike same_value value_writes
 values_fed = same_Alike value_writes values_decided
 
@@ -80,7 +77,20 @@ instances_equiv =
     and_equiv (on_equiv (λ i. i.node) nat_eq_equiv)
     (and_equiv (on_equiv (λ i. i.attribute) nat_eq_equiv) (on_equiv (λ i. i.arguments) (lists_equiv values_equiv)))
 
+arguments_fed : (vs ws : List (Value ℕ)) → pointwise same_value vs ws ≡ true → arguments_writes vs ≡ arguments_writes ws
+arguments_fed [] [] h = refl
+arguments_fed [] (w ∷ ws) h = absurd (true≢false (sym h))
+arguments_fed (v ∷ vs) [] h = absurd (true≢false (sym h))
+arguments_fed (v ∷ vs) (w ∷ ws) h = (items_Alike values_fed).fed (v ∷ vs) (w ∷ ws) h
+
+same_place : (i j : Instance ℕ) → nat_eq i.node j.node ≡ true → nat_eq i.attribute j.attribute ≡ true → place_number i ≡ place_number j
+same_place i j h k = rw ((unsigned_Decides i.node j.node).0 h, (unsigned_Decides i.attribute j.attribute).0 k) refl
+
+alike : (i j : Instance ℕ) → same_instance i j ≡ true → instance_writes i ≡ instance_writes j
+alike i j h =
+    let rest = second_so (nat_eq i.node j.node) (nat_eq i.attribute j.attribute && pointwise same_value i.arguments j.arguments) h in
+    let place = same_place i j (first_so (nat_eq i.node j.node) _ h) (first_so (nat_eq i.attribute j.attribute) _ rest) in
+    λ k. fed.u64 (place k) ++ arguments_fed i.arguments j.arguments (second_so (nat_eq i.attribute j.attribute) _ rest) k
+
 pub instances_fed : Alike same_instance instance_writes
-instances_fed =
-    and-Alike (on_Alike (λ i. i.node) numbers_fed)
-    (and-Alike (on_Alike (λ i. i.attribute) numbers_fed) (on_Alike (λ i. i.arguments) (items_Alike values_fed)))
+instances_fed = record { fed = alike }

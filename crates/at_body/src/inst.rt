@@ -1,6 +1,7 @@
 //! Instances: attributes of nodes, with arguments.
 
 ghost use Rattle.std.specs.Prelude.{◌≡◌, IfOk, map};
+ghost use Rattle.at_body.specs.Same.{place_number};
 ghost use Rattle.at_body.specs.Values.{value_view};
 
 use super::arguments::Arguments;
@@ -66,6 +67,13 @@ impl Inst {
         self.attribute
     }
 
+    // The attribute and the node in one number, which a hash is made from.
+    fn place(&self) -> u64
+        ensures { result ≡ place_number self.now }
+    {
+        (self.attribute.index() as u64) << 32 ^ u64::from(self.node.number())
+    }
+
     /// The arguments, in order.
     pub fn arguments(&self) -> &[Value]
         ensures { map value_view result.now ≡ self.now.arguments }
@@ -124,8 +132,11 @@ impl Hash for Inst {
     ghost respects_eq = { instances_fed.fed };
 
     fn hash<H: Hasher>(&self, state: &mut H) {
-        self.node.index().hash(state);
-        self.attribute.index().hash(state);
-        self.arguments.as_slice().hash(state);
+        self.place().hash(state);
+        let passed = self.arguments.as_slice();
+        // Of most attributes nothing more is to be fed.
+        if !passed.is_empty() {
+            passed.hash(state);
+        }
     }
 }

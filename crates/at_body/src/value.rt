@@ -75,24 +75,13 @@ impl Hash for Value {
 
     ghost respects_eq = { (on_Alike value_view values_fed).fed };
 
+    // Values of other kinds may be fed alike: a parameter has one kind, and null is told from a node.
     fn hash<H: Hasher>(&self, state: &mut H) {
         match self {
-            Value::Int(n) => {
-                state.write_u8(0);
-                n.hash(state);
-            }
-            Value::Bool(b) => {
-                state.write_u8(1);
-                b.hash(state);
-            }
-            Value::Text(text) => {
-                state.write_u8(2);
-                text.as_str().hash(state);
-            }
-            Value::Ref(node) => {
-                state.write_u8(3);
-                node.hash(state);
-            }
+            Value::Int(n) => n.hash(state),
+            Value::Bool(b) => b.hash(state),
+            Value::Text(text) => state.write(text.as_bytes()),
+            Value::Ref(node) => node.hash(state),
         }
     }
 }

@@ -1,6 +1,13 @@
-use Rattle.std.proofs.Common.{refl}
-use Rattle.at_body.proofs.SamenessLemmas.{instance_fed}
+use Rattle.std.proofs.Common.{refl, ◌∙◌, sym}
+use Rattle.at_body.proofs.SamenessLemmas.{instance_fed, place_fed}
 use Rattle.at_body.proofs.inst.InstHash.hash.Goals as goal
 
-pub returns : goal.returns
-returns g c = instance_fed g.H.Hasher.write _ c.hash.new.state c.hash-2.new.state _ c.args.self.now c.as_slice.result.now (rw (← c.self.view_is, c.as_slice.ensures) refl) (rw (← c.self.view_is) (rw c.index.ensures at c.hash.ensures)) (rw (← c.self.view_is) (rw c.index-2.ensures at c.hash-2.ensures)) c.hash-3.ensures
+pub returns-then-not-is_empty : goal.returns-then-not-is_empty
+returns-then-not-is_empty g c =
+    instance_fed g.H.Hasher.write _ c.hash.new.state _ c.args.self.now c.as_slice-passed.result.now (rw (← c.self.view_is, c.as_slice-passed.ensures) refl)
+    (sym c.is_empty.ensures ∙ c.if-not-is_empty.true) (rw c.place.ensures at c.hash.ensures) c.hash-then-not-is_empty.ensures
+
+pub returns-else-not-is_empty : goal.returns-else-not-is_empty
+returns-else-not-is_empty g c =
+    place_fed g.H.Hasher.write _ c.hash.new.state c.args.self.now c.as_slice-passed.result.now (rw (← c.self.view_is, c.as_slice-passed.ensures) refl)
+    (sym c.is_empty.ensures ∙ c.if-not-is_empty.false) (rw c.place.ensures at c.hash.ensures)
