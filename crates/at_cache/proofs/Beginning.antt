@@ -1,9 +1,10 @@
 -- Where a flush begins.
-use Rattle.std.proofs.Common.{◌≡◌, ◌⊎◌, inl, inr, ℕ, ◌+◌, get_or, List, [], ◌∷◌, ◌++◌, Bool, true, false, true≢false, cond, Some, Contains, Vec, take, slice_get, if◌then◌else◌, length, ◌<◌, ◌≤◌, refl, sym, ap, ◌∙◌, subst, arith, append-nil}
+use Rattle.std.proofs.Common.{◌≡◌, ◌⊎◌, inl, inr, ℕ, ◌+◌, get_or, List, [], ◌∷◌, ◌++◌, Bool, true, false, true≢false, cond, Some, Contains, take, slice_get, if◌then◌else◌, length, ◌<◌, ◌≤◌, refl, sym, ap, ◌∙◌, subst, arith, append-nil}
 use Rattle.std.proofs.lemmas.Bool.{cases_eq, cases_lt}
 use Rattle.std.proofs.lemmas.List.{take_more}
 use Rattle.std.proofs.lemmas.List.Concat.{flat_map-append}
 use Rattle.std.proofs.lemmas.List.Elements.{Contains-append_cases, Contains-append_left, Contains-append_right}
+use Rattle.smallvec.specs.SmallVec.{SmallVec}
 use Rattle.at_model.specs.Run.{Location}
 use Rattle.at_cache.specs.declared.edge.Edge.{Edge}
 use Rattle.at_cache.specs.declared.facet.Facet.{Facet}
@@ -85,7 +86,7 @@ module _ (n : ℕ) where
         by l s true h = let same = same_location-is l (facet_at n r.facet) h in inl (subst (λ k. says k false) (sym same) (said (ap seen (sym same) ∙ s)))
         by l s false h = inr (λ x c. c)
 
-module _ {A : Type 0} (readers : List (Vec Readers A)) (n : ℕ) (v : Vec Readers A) (there : slice_get readers n ≡ Some v) where
+module _ (readers : List (SmallVec Readers)) (n : ℕ) (v : SmallVec Readers) (there : slice_get readers n ≡ Some v) where
   pub at_more : (l : Location ℕ) → edges_at (take (n + 1) readers) l ≡ edges_at (take n readers) l ++ edges_among n v.items l
   at_more l = elim (cases_eq (node_at l) n) [
     | inl at_n ↦
@@ -113,7 +114,7 @@ module _ {says : Location ℕ → Bool → Type 0} {seen : Location ℕ → Bool
   asked_next_untouched said = on_more edges (subst (Asked says seen (edges_among n (take i rs ++ r ∷ []))) (append-nil edges) (asked_both (among_more n (take i rs) r) asked (asked_untouched n r said)))
 
 -- before the first node
-pub at_start : {A : Type 0} (says : Location ℕ → Bool → Type 0) (readers : List (Vec Readers A)) → Begins says (edges_at (take 0 readers)) []
+pub at_start : (says : Location ℕ → Bool → Type 0) (readers : List (SmallVec Readers)) → Begins says (edges_at (take 0 readers)) []
 at_start says readers = record { from = λ x c. absurd (none_in x c); all = λ l. inr (λ x c. c) }
 
 module _ {says : Location ℕ → Bool → Type 0} {seen : Location ℕ → Bool} {lists : Location ℕ → List Edge} {start : List Edge} where
@@ -129,5 +130,5 @@ module _ {says : Location ℕ → Bool → Type 0} {seen : Location ℕ → Bool
   asked_by b = record { from = b.from; all = λ l s. b.all l }
 
 -- one node more
-pub begins_node : {A : Type 0} {says : Location ℕ → Bool → Type 0} (readers : List (Vec Readers A)) (n : ℕ) (v : Vec Readers A) {start edges : List Edge} → slice_get readers n ≡ Some v → Begins says (edges_at (take n readers)) start → Asked says (looks_at scope.All) (edges_among n v.items) edges → Begins says (edges_at (take (n + 1) readers)) (start ++ edges)
+pub begins_node : {says : Location ℕ → Bool → Type 0} (readers : List (SmallVec Readers)) (n : ℕ) (v : SmallVec Readers) {start edges : List Edge} → slice_get readers n ≡ Some v → Begins says (edges_at (take n readers)) start → Asked says (looks_at scope.All) (edges_among n v.items) edges → Begins says (edges_at (take (n + 1) readers)) (start ++ edges)
 begins_node readers n v there a b = begins_by (asked_both {seen = looks_at scope.All} (at_more readers n v there) (asked_by a) b) (λ l h. absurd (true≢false h))

@@ -1,8 +1,9 @@
 -- One location has one edge more.
-use Rattle.std.proofs.Common.{◌≡◌, inl, inr, ℕ, zero, suc, List, [], ◌∷◌, ◌++◌, Bool, true, false, cond, Some, Vec, Result, OnOk, Contains, get_or, slice_get, slice_set, refl, sym, ap, ◌∙◌, subst}
+use Rattle.std.proofs.Common.{◌≡◌, inl, inr, ℕ, zero, suc, List, [], ◌∷◌, ◌++◌, Bool, true, false, cond, Some, Result, OnOk, Contains, get_or, slice_get, slice_set, refl, sym, ap, ◌∙◌, subst}
 use Rattle.std.proofs.lemmas.Bool.{cases_eq}
 use Rattle.std.proofs.lemmas.Option.{none-some, same_Some, get_or_from_slice_get}
 use Rattle.std.proofs.lemmas.List.Elements.{Contains-append_cases, Contains-append_left, Contains-append_right}
+use Rattle.smallvec.specs.SmallVec.{SmallVec}
 use Rattle.at_model.specs.Run.{Location}
 use Rattle.at_cache.specs.declared.edge.Edge.{Edge}
 use Rattle.at_cache.specs.declared.edge.Edges.{Edges}
@@ -111,7 +112,7 @@ module _ (old made new : List Readers) (p : ℕ) (facet : Facet) (v : Edges) (sa
       subst (λ f. Contains (edges_among n new (facet_at n f)) x) is (subst (λ rs. Contains (edges_among n rs (facet_at n r.facet)) x) (sym (change r at)) (among_has n made p r at v x c))
 
 -- the list of a node is another one
-module _ {A : Type 0} (old made new : List (Vec Readers A)) (k : ℕ) (v : Vec Readers A) {was : Vec Readers A} (same : (l : Location ℕ) → edges_at made l ≡ edges_at old l) (there : slice_get made k ≡ Some was) (so : new ≡ slice_set made k v) where
+module _ (old made new : List (SmallVec Readers)) (k : ℕ) (v : SmallVec Readers) {was : SmallVec Readers} (same : (l : Location ℕ) → edges_at made l ≡ edges_at old l) (there : slice_get made k ≡ Some was) (so : new ≡ slice_set made k v) where
   now : slice_get new k ≡ Some v
   now = ap (λ xs. slice_get xs k) so ∙ get_same made k v was there
 

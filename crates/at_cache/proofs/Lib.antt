@@ -22,3 +22,7 @@ pub mod Done
 pub mod Naming
 pub mod Noted
 pub mod Forgotten
+pub mod RowEdges
+pub mod RowLists
+pub mod NoRows
+pub mod Came

@@ -1,5 +1,5 @@
 -- What a look-up that found a value says.
-use Rattle.std.proofs.Common.{◌≡◌, ℕ, ◌+◌, ◌<◌, ⊎_elim, List, length, take, get_or, Option, Some, None, Bor, Contains, refl, sym, ◌∙◌, subst}
+use Rattle.std.proofs.Common.{◌≡◌, ℕ, ◌+◌, ◌<◌, ⊎_elim, List, length, take, get_or, Option, Some, None, is_some, Bor, Contains, refl, sym, ◌∙◌, subst}
 use Rattle.std.specs.Prelude.{IsSome}
 use Rattle.std.specs.Option.{option_copied, option_map}
 use Rattle.std.proofs.lemmas.Option.{none-some}
@@ -10,6 +10,10 @@ use Rattle.std.proofs.lemmas.List.Elements.{Contains-push_cases}
 pub lent : {A V : Type 0} (f : A → V) (o : Option (Bor A)) → option_map (λ r. f r.now) o ≡ option_map f (option_copied o)
 lent f None = refl
 lent f (Some r) = refl
+
+pub lent_there : {A : Type 0} (o : Option (Bor A)) → is_some o ≡ is_some (option_copied o)
+lent_there None = refl
+lent_there (Some r) = refl
 
 -- there is something where its value is looked up
 pub has_value : {A V : Type 0} (f : A → V) (v : V) (o : Option A) → Some v ≡ option_map f o → IsSome o

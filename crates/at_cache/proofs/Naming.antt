@@ -1,11 +1,12 @@
 -- A flush begins at the nodes that places name.
-use Rattle.std.proofs.Common.{◌≡◌, ◌⊎◌, inl, inr, ℕ, ◌+◌, ◌<◌, List, [], ◌∷◌, ◌++◌, ◌||◌, Bool, true, false, true≢false, Option, None, Some, Contains, Vec, take, slice_get, get_or, length, nat_eq, nat_lt, refl, sym, ap, ◌∙◌, subst, append-nil, append_assoc, eqb-true}
+use Rattle.std.proofs.Common.{◌≡◌, ◌⊎◌, inl, inr, ℕ, ◌+◌, ◌<◌, List, [], ◌∷◌, ◌++◌, ◌||◌, Bool, true, false, true≢false, Option, None, Some, Contains, take, slice_get, get_or, length, nat_eq, nat_lt, refl, sym, ap, ◌∙◌, subst, append-nil, append_assoc, eqb-true}
 use Rattle.std.specs.Bool.{MatchBool}
 use Rattle.std.specs.List.{list_any}
 use Rattle.std.proofs.lemmas.Bool.{cases_eq, eq-eqb, ltb-false, ltb-true}
 use Rattle.std.proofs.lemmas.Option.{slice_get_past}
 use Rattle.std.proofs.lemmas.List.{take_more}
 use Rattle.std.proofs.lemmas.List.Elements.{Contains-append_cases, Contains-append_left, Contains-append_right}
+use Rattle.smallvec.specs.SmallVec.{SmallVec}
 use Rattle.at_model.specs.Run.{Location, Is, Tok, Slot, Up, Idx}
 use Rattle.at_model.specs.Touches.{node_of}
 use Rattle.at_store.specs.declared.node.Loc.{Loc}
@@ -95,9 +96,9 @@ module _ {says : Location ℕ → Bool → Type 0} {lists : Location ℕ → Lis
 seen_at : (node : ℕ) (s : Scope) (l : Location ℕ) → sees s node l ≡ true → node_at l ≡ node
 seen_at node s l h = sym (eqb-true node (node_at l) (both _ _ h).0)
 
-module _ {A : Type 0} {says : Location ℕ → Bool → Type 0} (readers : List (Vec Readers A)) (node : ℕ) (s : Scope) where
+module _ {says : Location ℕ → Bool → Type 0} (readers : List (SmallVec Readers)) (node : ℕ) (s : Scope) where
   -- the readers of the node, among those of all
-  pub goes_at : (v : Vec Readers A) → slice_get readers node ≡ Some v → {first later : Option ℕ} {m n : Memory} → GoesOn says (looks_at s) (edges_among node v.items) first m later n → GoesOn says (sees s node) (edges_at readers) first m later n
+  pub goes_at : (v : SmallVec Readers) → slice_get readers node ≡ Some v → {first later : Option ℕ} {m n : Memory} → GoesOn says (looks_at s) (edges_among node v.items) first m later n → GoesOn says (sees s node) (edges_at readers) first m later n
   goes_at v there a old start w =
       let (more, done, asked) = a old start w in (
         more,

@@ -1,9 +1,10 @@
 -- The nodes of which an entry read the index.
-use Rattle.std.proofs.Common.{◌≡◌, inl, inr, ℕ, ◌<◌, List, [], ◌∷◌, ◌++◌, Bool, true, false, true≢false, Some, Contains, Vec, IsTrue, not, cond, nat_eq, length, get_or, slice_get, refl, sym, ap, ◌∙◌, subst}
+use Rattle.std.proofs.Common.{◌≡◌, inl, inr, ℕ, ◌<◌, List, [], ◌∷◌, ◌++◌, Bool, true, false, true≢false, Some, Contains, IsTrue, not, cond, nat_eq, length, get_or, slice_get, refl, sym, ap, ◌∙◌, subst}
 use Rattle.std.specs.List.{list_any}
 use Rattle.std.proofs.lemmas.Bool.{eq-eqb}
 use Rattle.std.proofs.lemmas.List.Elements.{Contains-append_left, Contains-append_right}
 use Rattle.slab.proofs.SlabLemmas.{Contains-cons_cases}
+use Rattle.smallvec.specs.SmallVec.{SmallVec}
 use Rattle.at_model.specs.Run.{Location, Idx}
 use Rattle.at_store.specs.declared.node.Loc.{Loc}
 use Rattle.at_store.specs.declared.node.Loc.TheVariants as loc
@@ -72,7 +73,7 @@ noted_on lists new nodes l noted its others n x h = elim (cases_location (Idx n)
 ]
 
 -- an edge of the index of the node, where it stands among all
-pub edge_there : {A : Type 0} (readers : List (Vec Readers A)) (node : ℕ) (v : Vec Readers A) → slice_get readers node ≡ Some v → (x : Edge) × Contains (edges_among node v.items (Idx node)) x → (x : Edge) × Contains (edges_at readers (Idx node)) x
+pub edge_there : (readers : List (SmallVec Readers)) (node : ℕ) (v : SmallVec Readers) → slice_get readers node ≡ Some v → (x : Edge) × Contains (edges_among node v.items (Idx node)) x → (x : Edge) × Contains (edges_at readers (Idx node)) x
 edge_there readers node v there (x, c) = (x, subst (λ es. Contains es x) (sym (edges_are readers (Idx node) v there)) c)
 
 -- the index of a reader

@@ -1,4 +1,5 @@
 pub mod Kept
+pub mod Rows
 pub mod Edges
 pub mod UntilEdit
 pub mod Readers
@@ -12,3 +13,4 @@ pub mod Asking
 pub mod Keeping
 pub mod Stored
 pub mod Bound
+pub mod Attributes

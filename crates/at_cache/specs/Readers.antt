@@ -1,6 +1,7 @@
 -- Who read which location.
-use Rattle.std.specs.Prelude.{ℕ, List, [], None, Some, if◌then◌else◌, slice_get, Vec}
+use Rattle.std.specs.Prelude.{ℕ, List, [], None, Some, if◌then◌else◌, slice_get}
 use Rattle.std.specs.List.{flat_map}
+use Rattle.smallvec.specs.SmallVec.{SmallVec}
 use Rattle.at_model.specs.Run.{Location, Is, Tok, Slot, Up, Idx}
 use Rattle.at_cache.specs.declared.edge.Edge.{Edge}
 use Rattle.at_cache.specs.declared.facet.Facet.{Facet}
@@ -22,5 +23,5 @@ abbrev pub edges_among : ℕ → List Readers → Location ℕ → List Edge
 edges_among node rs l = flat_map (λ r. if same_location l (facet_at node r.facet) then edges_in r.edges else []) rs
 
 -- the edges of a location
-abbrev pub edges_at : {A : Type 0} → List (Vec Readers A) → Location ℕ → List Edge
+abbrev pub edges_at : List (SmallVec Readers) → Location ℕ → List Edge
 edges_at readers l = elim (slice_get readers (node_at l)) [ None ↦ [] | Some v ↦ edges_among (node_at l) v.items l ]

@@ -1,7 +1,7 @@
 -- How many locations the entries read.
 use Rattle.std.specs.Prelude.{ℕ, List, if◌then◌else◌}
-use Rattle.std.specs.Global.{Vec}
 use Rattle.std.specs.List.{sum_by}
+use Rattle.smallvec.specs.SmallVec.{SmallVec}
 use Rattle.at_cache.specs.declared.edge.Edge.{Edge}
 use Rattle.at_cache.specs.declared.facet.Readers.{Readers}
 use Rattle.at_cache.specs.Edges.{edges_in}
@@ -17,5 +17,5 @@ abbrev pub held_of : Memory → List Readers → ℕ
 held_of m facets = sum_by (λ r. current_of m (edges_in r.edges)) facets
 
 -- the number of those of all nodes: each tells that an entry reads the location
-abbrev pub reads_held : Memory → List (Vec Readers) → ℕ
+abbrev pub reads_held : Memory → List (SmallVec Readers) → ℕ
 reads_held m readers = sum_by (λ facets. held_of m facets.items) readers

@@ -1,8 +1,10 @@
 //! Edges of the index.
 
-ghost use Rattle.std.specs.Prelude.{◌≡◌, ◌∷◌, [], length, nat_eq};
+ghost use Rattle.std.specs.Prelude.{◌≡◌, ◌∷◌, [], IfSome, length, nat_eq};
 ghost use Rattle.at_cache.specs.Edges.{edges_in};
+ghost use Rattle.at_cache.specs.Rows.{edges_along, edges_of};
 
+use crate::row::Row;
 use smallvec::SmallVec;
 
 /// Where an entry stands as long as it does, while others come and go.
@@ -15,14 +17,21 @@ pub struct Edge {
     pub stamp: u64,
 }
 
-/// Two edges and more; two stand in the block of the list itself.
-pub type Many = SmallVec<Edge, 2>;
+/// Edges in several rows, or in a long one; one row stands in the block of the list itself.
+pub type Many = SmallVec<Row, 1>;
 
-/// Edges, in sixteen bytes: one stands inline, as the slot and the number of an `Edge`.
+/// Edges, in sixteen bytes.
 pub enum Edges {
     Empty,
-    One(Slot, u64),
+    /// A row of so many edges, with so great a step, from that slot and number on.
+    Few(u8, u16, Slot, u64),
     More(Box<Many>),
+}
+
+impl Default for Edges {
+    fn default() -> Edges {
+        Edges::Empty
+    }
 }
 
 /// One call, where each exit that lets them go would else have a case for each form.
@@ -30,10 +39,22 @@ impl Drop for Edges {
     fn drop(self) {
         match self {
             Edges::Empty => {}
-            Edges::One(_, _) => {}
+            Edges::Few(_, _, _, _) => {}
             Edges::More(_list) => {}
         }
     }
+}
+
+// Whether the rows have no edge.
+fn are_empty(rows: &[Row]) -> bool
+    ensures { result ≡ nat_eq (length (edges_along rows.now)) 0 }
+{
+    for row in rows {
+        if !row.is_empty() {
+            return false;
+        }
+    }
+    true
 }
 
 impl Edges {
@@ -41,7 +62,18 @@ impl Edges {
     pub fn of(edge: Edge) -> Edges
         ensures { edges_in result ≡ edge ∷ [] }
     {
-        Edges::One(edge.slot, edge.stamp)
+        Edges::Few(1, 0, edge.slot, edge.stamp)
+    }
+
+    /// The edges of the row, where they take sixteen bytes.
+    pub fn of_row(row: Row) -> Option<Edges>
+        ensures { IfSome result (λ edges. edges_in edges ≡ edges_of row) }
+    {
+        if row.count > u32::from(u8::MAX) || row.step > u32::from(u16::MAX) {
+            return None;
+        }
+        let (count, step) = (row.count as u8, row.step as u16);
+        Some(Edges::Few(count, step, row.first.slot, row.first.stamp))
     }
 
     /// Whether there is none.
@@ -50,8 +82,8 @@ impl Edges {
     {
         match self {
             Edges::Empty => true,
-            Edges::One(_, _) => false,
-            Edges::More(list) => list.is_empty(),
+            Edges::Few(count, _, _, _) => *count == 0,
+            Edges::More(rows) => are_empty(rows.as_slice()),
         }
     }
 }

@@ -8,6 +8,7 @@ ghost use Rattle.at_cache.specs.Readers.{facet_at};
 
 use crate::edge::Edges;
 use at_store::{Loc, Node};
+use smallvec::SmallVec;
 use std::alloc::AllocError;
 
 /// What one can look at of a node: a location without its node, in eight bytes.
@@ -20,12 +21,21 @@ pub enum Facet {
     Idx,
 }
 
+impl Default for Facet {
+    fn default() -> Facet {
+        Facet::Is
+    }
+}
+
 /// A facet of a node, and the edges to the entries that read it.
-#[derive(Drop)]
+#[derive(Drop, Default)]
 pub struct Readers {
     pub facet: Facet,
     pub edges: Edges,
 }
+
+/// What is looked at of a node. Of most nodes that is no more than four facets: these stand inline.
+pub type Facets = SmallVec<Readers, 4>;
 
 /// The number in four bytes; want of memory where it is too great for that.
 pub fn small(number: usize) -> Result<u32, AllocError>

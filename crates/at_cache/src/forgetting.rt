@@ -1,8 +1,9 @@
 //! What stands for a touched location is taken out.
 
-ghost use Rattle.std.specs.Prelude.{◌≡◌, ◌<◌, ◌≤◌, ◌⊎◌, ◌^◌, ℕ, List, [], Option, None, Some, MatchBool, length, true, false};
+ghost use Rattle.std.specs.Prelude.{◌≡◌, ◌<◌, ◌≤◌, ◌⊎◌, ◌++◌, ◌^◌, ℕ, List, [], Option, None, Some, MatchBool, length, true, false};
 ghost use Rattle.at_cache.specs.declared.edge.Edge.{Edge};
 ghost use Rattle.at_cache.specs.Edges.{edges_in};
+ghost use Rattle.at_cache.specs.Rows.{edges_along, edges_of};
 ghost use Rattle.at_cache.specs.Info.{Memory, memory_of, table_len};
 ghost use Rattle.at_cache.specs.Flushing.{Begins, IsIdle, Work, dooms, first_after};
 ghost use Rattle.at_cache.specs.Asking.{GoesOn, looks_at};
@@ -11,7 +12,8 @@ ghost use Rattle.at_cache.specs.Recorded.{IsIndexed, kept_in};
 ghost use Rattle.at_cache.specs.Kept.{Answers, LeavesUntouched, LosesTouched};
 
 use crate::edge::{Edge, Edges, Slot};
-use crate::facet::{Facet, Readers};
+use crate::facet::{Facet, Facets, Readers};
+use crate::row::Row;
 use crate::scope::Scope;
 use crate::table::Table;
 use at_store::{Loc, Node};
@@ -30,15 +32,30 @@ fn doom(entries: &mut Table, first: Option<Slot>, edge: &Edge) -> Option<Slot>
     }
 }
 
-// So do those that all these edges tell of.
-fn doom_all(entries: &mut Table, first: Option<Slot>, edges: &[Edge]) -> Option<Slot>
-    ensures works { (old : Memory) (start : List Edge) → Work old start edges.now first (memory_of entries.old)
+// So do those that all edges of the row tell of.
+fn doom_row(entries: &mut Table, first: Option<Slot>, row: &Row) -> Option<Slot>
+    ensures works { (old : Memory) (start left : List Edge) → Work old start (edges_of row.now ++ left) first (memory_of entries.old)
+        → Work old start left result (memory_of entries.new) }
+    ensures len { table_len entries.new ≡ table_len entries.old }
+{
+    let mut first = first;
+    let mut rest = *row;
+    while let Some((edge, others)) = rest.split_first() {
+        first = doom(entries, first, &edge);
+        rest = others;
+    }
+    first
+}
+
+// So do those that the edges of all these rows tell of.
+fn doom_all(entries: &mut Table, first: Option<Slot>, rows: &[Row]) -> Option<Slot>
+    ensures works { (old : Memory) (start : List Edge) → Work old start (edges_along rows.now) first (memory_of entries.old)
         → Work old start [] result (memory_of entries.new) }
     ensures len { table_len entries.new ≡ table_len entries.old }
 {
     let mut first = first;
-    for edge in edges {
-        first = doom(entries, first, edge);
+    for row in rows {
+        first = doom_row(entries, first, row);
     }
     first
 }
@@ -51,15 +68,10 @@ fn doom_listed(entries: &mut Table, first: Option<Slot>, edges: &Edges) -> Optio
 {
     match edges {
         Edges::Empty => first,
-        Edges::One(slot, stamp) => doom(
-            entries,
-            first,
-            &Edge {
-                slot: *slot,
-                stamp: *stamp,
-            },
-        ),
-        Edges::More(list) => doom_all(entries, first, list.as_slice()),
+        Edges::Few(count, step, slot, stamp) => {
+            doom_row(entries, first, &Row::few(*count, *step, *slot, *stamp))
+        }
+        Edges::More(rows) => doom_all(entries, first, rows.as_slice()),
     }
 }
 
@@ -98,11 +110,7 @@ pub fn begin_at<F: Fn(Loc) -> bool>(
 }
 
 // What reads a touched location goes: the first one that goes.
-fn begin<F: Fn(Loc) -> bool>(
-    entries: &mut Table,
-    readers: &[Vec<Readers>],
-    touched: &F,
-) -> Option<Slot>
+fn begin<F: Fn(Loc) -> bool>(entries: &mut Table, readers: &[Facets], touched: &F) -> Option<Slot>
     requires callable { F.IsAlwaysCallable touched.now }
     requires short { length readers.now ≤ 2 ^ 32 }
     ensures { IsIdle (memory_of entries.old) → (start : List Edge) × Work (memory_of entries.old) start [] result (memory_of entries.new)
@@ -145,7 +153,7 @@ pub fn forget_all(entries: &mut Table, first: Option<Slot>)
 }
 
 /// All that stands for a touched location is taken out.
-pub fn take_out<F: Fn(Loc) -> bool>(entries: &mut Table, readers: &[Vec<Readers>], touched: &F)
+pub fn take_out<F: Fn(Loc) -> bool>(entries: &mut Table, readers: &[Facets], touched: &F)
     requires callable { F.IsAlwaysCallable touched.now }
     requires short { length readers.now ≤ 2 ^ 32 }
     ensures indexed { (puts : ℕ) → IsIndexed (edges_at readers.now) puts (memory_of entries.old)

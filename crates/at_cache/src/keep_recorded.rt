@@ -8,7 +8,7 @@ ghost use Rattle.at_cache.specs.Readers.{edges_at};
 ghost use Rattle.at_cache.specs.Recorded.{IsIndexed, kept_in};
 ghost use Rattle.at_cache.specs.Stored.{reads_held};
 
-use crate::facet::Readers;
+use crate::facet::Facets;
 use crate::forgetting::take_out;
 use crate::keeper::{Keeper, Put};
 use crate::places::take_out_at;
@@ -27,7 +27,7 @@ pub struct KeepRecorded {
     alloc: Global,
     entries: Table,
     // By the numbers of nodes.
-    readers: Vec<Vec<Readers>>,
+    readers: Vec<Facets>,
     // The nodes of which the index was ever read.
     index_read: Vec<Node>,
     // How often `put` was called.
@@ -60,6 +60,7 @@ impl KeepRecorded {
             entries: Table {
                 entries: IndexMap::new(alloc),
                 places: Slab::new(alloc),
+                attributes: Vec::new(alloc),
             },
             readers: Vec::new(alloc),
             index_read: Vec::new(alloc),
@@ -89,12 +90,12 @@ impl Keeper for KeepRecorded {
     ghost exact = { true };
 
     fn get(&self, inst: &Inst) -> Option<&Value> {
-        let entry = self.entries.entries.get(inst)?;
+        let entry = self.entries.get(inst)?;
         entry.value.as_ref()
     }
 
     fn stands(&self, inst: &Inst) -> bool {
-        self.entries.entries.contains_key(inst)
+        self.entries.get(inst).is_some()
     }
 
     fn put(

@@ -2,12 +2,13 @@
 //! without a value stands only for what its instance rests on: those that use it need no locations of their own for that.
 //!
 //! **Its specs:** `Kept` has the laws that every keeper meets. Of the recording one, `Info` is what is kept by
-//! slots, `Edges` what a list of edges has, `Readers` who read which location, `Recorded` what an entry stands for and how it is found (`IsIndexed`),
-//! `Keeping` what the keeper keeps, `Placed` where entries stand, `Putting` one more, `Flushing` a flush under way and
-//! `Asking` where one begins, `Slots` single writes, `Stored` how many locations are read. `UntilEdit` is the keeper that forgets all at an edit.
+//! slots, `Edges` what a list of edges has, in `Rows`, `Readers` who read which location, `Recorded` what an entry stands for and how
+//! it is found (`IsIndexed`), `Keeping` what the keeper keeps, `Placed` where entries stand, `Putting` one more, `Flushing` a flush under way and
+//! `Asking` where one begins, `Slots` single writes, `Attributes` of which attributes entries came, `Stored` how many locations are
+//! read. `UntilEdit` is the keeper that forgets all at an edit.
 //!
 //! **Where to begin:** the trait in `keeper.rt`, then `keep_recorded.rt`: `table.rt` holds the entries,
-//! `linking.rt` the edges; `putting.rt` is `put`, `forgetting.rt` a flush, `places.rt` one by places.
+//! `row.rt` and `linking.rt` the edges; `putting.rt` is `put`, `forgetting.rt` a flush, `places.rt` one by places.
 //! `keep_at_most.rt` is a keeper over it, with a bound.
 //!
 //! **What it keeps true:** what an entry read is said by the edges of locations alone; each entry is found from those
@@ -15,6 +16,7 @@
 //! one's. A flush takes no memory.
 #![tactic(auto)]
 
+mod attributes;
 mod edge;
 mod entry;
 mod facet;
@@ -29,6 +31,7 @@ mod mark;
 mod noting;
 mod places;
 mod putting;
+mod row;
 mod scope;
 mod slots;
 mod stored;

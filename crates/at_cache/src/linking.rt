@@ -1,6 +1,6 @@
 //! One edge more of what an entry rests on.
 
-ghost use Rattle.std.specs.Prelude.{◌≡◌, ◌≢◌, ◌<◌, ◌≤◌, ◌^◌, ◌∷◌, [], ℕ, List, Option, None, Some, IsSome, Contains, IfOk, IfSome, OnErr, OnOk, length, map, slice_get};
+ghost use Rattle.std.specs.Prelude.{◌≡◌, ◌≢◌, ◌<◌, ◌≤◌, ◌^◌, ◌∷◌, ◌++◌, [], ℕ, List, Option, None, Some, IsSome, Contains, IfOk, IfSome, MatchBool, OnErr, OnOk, length, map, slice_get, slice_set};
 ghost use Rattle.std.specs.Map.{lookup};
 ghost use Rattle.at_model.specs.Run.{Instance, Location};
 ghost use Rattle.at_body.specs.Same.{same_instance};
@@ -10,80 +10,161 @@ ghost use Rattle.at_cache.specs.declared.edge.Edges.{Edges};
 ghost use Rattle.at_cache.specs.declared.facet.Readers.{Readers};
 ghost use Rattle.at_cache.specs.Asking.{AreNoted};
 ghost use Rattle.at_cache.specs.Edges.{edges_in};
+ghost use Rattle.at_cache.specs.Rows.{edges_along, edges_of};
 ghost use Rattle.at_cache.specs.Info.{memory_of};
 ghost use Rattle.at_cache.specs.Putting.{AreListed, AreTaken, Keeps, Lists, Reads, Uses, reused, users_at};
 ghost use Rattle.at_cache.specs.Readers.{edges_among, edges_at, facet_at};
 ghost use Rattle.at_cache.specs.Slots.{HasAdded, HasChanged, ListsAt, with_edges};
 
 use crate::edge::{Edge, Edges, Many, Slot};
-use crate::facet::{Facet, Readers};
+use crate::facet::{Facet, Facets, Readers};
 use crate::noting::note;
+use crate::row::Row;
 use crate::table::Table;
 use at_store::{Loc, Node};
 use std::alloc::{AllocError, Global};
 
-// Only the edges that tell of an entry stay.
-fn purge(entries: &Table, edges: &mut Many)
-    ensures { Keeps (memory_of entries.now) edges.old.items edges.new.items }
+// The row without the edges at its front that tell of no entry.
+fn trimmed(entries: &Table, row: Row) -> Row
+    ensures { Keeps (memory_of entries.now) (edges_of row) (edges_of result) }
 {
-    let mut index = 0;
-    while index < edges.len() {
-        let edge = edges.as_slice()[index];
+    let mut row = row;
+    while let Some((edge, rest)) = row.split_first() {
         if entries.is_current(&edge) {
-            index += 1;
+            return row;
+        }
+        row = rest;
+    }
+    row
+}
+
+// The row comes to that place.
+fn set_row(rows: &mut Many, place: usize, row: Row)
+    requires { place < length rows.old.items }
+    ensures { rows.new.items ≡ slice_set rows.old.items place row }
+{
+    if let Some(at) = rows.get_mut(place) {
+        *at = row;
+    }
+}
+
+// Only rows stay that begin with an edge that tells of an entry.
+fn purge(entries: &Table, rows: &mut Many)
+    ensures { Keeps (memory_of entries.now) (edges_along rows.old.items) (edges_along rows.new.items) }
+{
+    let mut place = 0;
+    while place < rows.len() {
+        let row = trimmed(entries, rows.as_slice()[place]);
+        if row.is_empty() {
+            rows.swap_remove(place);
         } else {
-            edges.swap_remove(index);
+            set_row(rows, place, row);
+            place += 1;
         }
     }
 }
 
-// Makes room for one more edge of a list that is full: it loses the edges that tell of no entry first, and gets more room only
-// where half of it or less is left then.
-fn make_room(entries: &Table, edges: &mut Many) -> Result<(), AllocError>
-    ensures { Keeps (memory_of entries.now) edges.old.items edges.new.items }
+// Makes room for one more row of a list that is full: it loses those that tell of no entry first, and gets more room only where half
+// of it or less is left then.
+fn make_room(entries: &Table, rows: &mut Many) -> Result<(), AllocError>
+    ensures { Keeps (memory_of entries.now) (edges_along rows.old.items) (edges_along rows.new.items) }
 {
-    purge(entries, edges);
-    let count = edges.len();
-    if count >= edges.capacity() / 2 {
-        edges.reserve(count)?;
+    purge(entries, rows);
+    let count = rows.len();
+    if count >= rows.capacity() / 2 {
+        rows.reserve(count)?;
     }
     Ok(())
 }
 
-// One more edge of a list that is full.
+// One more row of a list that is full.
 #[inline(never)]
-fn add_to_full(entries: &Table, edges: &mut Many, edge: Edge) -> Result<(), AllocError>
-    ensures lists { Lists (memory_of entries.now) edge edges.old.items edges.new.items }
-    ensures has { OnOk result (Contains edges.new.items edge) }
+fn add_to_full(entries: &Table, rows: &mut Many, edge: Edge) -> Result<(), AllocError>
+    ensures lists { Lists (memory_of entries.now) edge (edges_along rows.old.items) (edges_along rows.new.items) }
+    ensures has { OnOk result (Contains (edges_along rows.new.items) edge) }
 {
-    make_room(entries, edges)?;
-    edges.push(edge)?;
+    make_room(entries, rows)?;
+    rows.push(Row::of(edge))?;
     Ok(())
 }
 
-// One more edge of a list in a block.
-fn add_to_many(entries: &Table, edges: &mut Many, edge: Edge) -> Result<(), AllocError>
-    ensures lists { Lists (memory_of entries.now) edge edges.old.items edges.new.items }
-    ensures has { OnOk result (Contains edges.new.items edge) }
+// One more row of a list in a block.
+fn add_row(entries: &Table, rows: &mut Many, edge: Edge) -> Result<(), AllocError>
+    ensures lists { Lists (memory_of entries.now) edge (edges_along rows.old.items) (edges_along rows.new.items) }
+    ensures has { OnOk result (Contains (edges_along rows.new.items) edge) }
 {
-    if edges.len() < edges.capacity() {
-        edges.push_reserved(edge);
+    if rows.len() < rows.capacity() {
+        rows.push_reserved(Row::of(edge));
         return Ok(());
     }
-    add_to_full(entries, edges, edge)
+    add_to_full(entries, rows, edge)
 }
 
-// Both edges, the first one where it tells of an entry.
-fn both(alloc: Global, entries: &Table, first: Edge, second: Edge) -> Result<Edges, AllocError>
-    ensures { IfOk result (λ edges. Lists (memory_of entries.now) second (first ∷ []) (edges_in edges) × Contains (edges_in edges) second) }
+// Whether the edge lies behind the last row, which has it then.
+fn extends_last(rows: &mut Many, edge: Edge) -> bool
+    ensures { MatchBool result (edges_along rows.new.items ≡ edges_along rows.old.items ++ edge ∷ []) (rows.new.items ≡ rows.old.items) }
 {
-    if !entries.is_current(&first) {
-        return Ok(Edges::of(second));
+    let Some(place) = rows.len().checked_sub(1) else {
+        return false;
+    };
+    match rows.as_slice()[place].extended(edge) {
+        Some(row) => {
+            set_row(rows, place, row);
+            true
+        }
+        None => false,
     }
-    let mut edges = Many::new(alloc);
-    edges.push(first)?;
-    edges.push(second)?;
-    Ok(Edges::More(Box::new(alloc, edges)?))
+}
+
+// One more edge of a list in a block: its last row has it, or another one.
+fn add_to_many(entries: &Table, rows: &mut Many, edge: Edge) -> Result<(), AllocError>
+    ensures lists { Lists (memory_of entries.now) edge (edges_along rows.old.items) (edges_along rows.new.items) }
+    ensures has { OnOk result (Contains (edges_along rows.new.items) edge) }
+{
+    if extends_last(rows, edge) {
+        return Ok(());
+    }
+    add_row(entries, rows, edge)
+}
+
+// A row and one more edge, which lies behind it or in another one.
+fn two(alloc: Global, row: Row, edge: Edge) -> Result<Many, AllocError>
+    ensures { IfOk result (λ rows. edges_along rows.items ≡ edges_of row ++ edge ∷ []) }
+{
+    let mut rows = Many::new(alloc);
+    rows.push(row)?;
+    if !extends_last(&mut rows, edge) {
+        rows.push(Row::of(edge))?;
+    }
+    Ok(rows)
+}
+
+// The edges of a row and one more.
+fn both(alloc: Global, row: Row, edge: Edge) -> Result<Edges, AllocError>
+    ensures { IfOk result (λ edges. edges_in edges ≡ edges_of row ++ edge ∷ []) }
+{
+    if row.is_empty() {
+        return Ok(Edges::of(edge));
+    }
+    let rows = two(alloc, row, edge)?;
+    Ok(Edges::More(Box::new(alloc, rows)?))
+}
+
+// The same in sixteen bytes, where it lies behind the row.
+fn in_place(row: Row, edge: Edge) -> Option<Edges>
+    ensures { IfSome result (λ edges. edges_in edges ≡ edges_of row ++ edge ∷ []) }
+{
+    Edges::of_row(row.extended(edge)?)
+}
+
+// One more edge of a row, which loses those at its front that tell of no entry, where it would take a block else.
+fn add_to_row(alloc: Global, entries: &Table, row: Row, edge: Edge) -> Result<Edges, AllocError>
+    ensures { IfOk result (λ edges. Lists (memory_of entries.now) edge (edges_of row) (edges_in edges) × Contains (edges_in edges) edge) }
+{
+    if let Some(edges) = in_place(row, edge) {
+        return Ok(edges);
+    }
+    both(alloc, trimmed(entries, row), edge)
 }
 
 // One more edge of a list.
@@ -96,15 +177,12 @@ fn add_edge(alloc: Global, entries: &Table, edges: &mut Edges, edge: Edge) -> Re
             *edges = Edges::of(edge);
             Ok(())
         }
-        Edges::One(slot, stamp) => {
-            let first = Edge {
-                slot: *slot,
-                stamp: *stamp,
-            };
-            *edges = both(alloc, entries, first, edge)?;
+        Edges::Few(count, step, slot, stamp) => {
+            let row = Row::few(*count, *step, *slot, *stamp);
+            *edges = add_to_row(alloc, entries, row, edge)?;
             Ok(())
         }
-        Edges::More(list) => add_to_many(entries, list, edge),
+        Edges::More(rows) => add_to_many(entries, rows, edge),
     }
 }
 
@@ -120,25 +198,11 @@ fn position_of(readers: &[Readers], facet: Facet) -> Option<usize>
     None
 }
 
-// How many facets of a node are given room for at first: of most nodes no more are looked at.
-const FEW: usize = 3;
-
-// The first facet of a node comes with room for a few.
-fn make_first_room(readers: &mut Vec<Readers>) -> Result<(), AllocError>
-    ensures { readers.new.items ≡ readers.old.items }
-{
-    if !readers.is_empty() {
-        return Ok(());
-    }
-    readers.reserve_exact(FEW)
-}
-
 // The first edge of a facet, which comes behind those of a node.
-fn add_facet(readers: &mut Vec<Readers>, facet: Facet, edge: Edge) -> Result<(), AllocError>
+fn add_facet(readers: &mut Facets, facet: Facet, edge: Edge) -> Result<(), AllocError>
     ensures added { OnOk result (HasAdded facet edge readers.old.items readers.new.items) }
     ensures err { OnErr result (readers.new.items ≡ readers.old.items) }
 {
-    make_first_room(readers)?;
     readers.push(Readers {
         facet,
         edges: Edges::of(edge),
@@ -150,7 +214,7 @@ fn add_facet(readers: &mut Vec<Readers>, facet: Facet, edge: Edge) -> Result<(),
 fn add_at(
     alloc: Global,
     entries: &Table,
-    readers: &mut Vec<Readers>,
+    readers: &mut Facets,
     place: usize,
     edge: Edge,
 ) -> Result<(), AllocError>
@@ -158,7 +222,7 @@ fn add_at(
     ensures gains { (edges : Edges) × HasChanged (with_edges edges) place readers.old.items readers.new.items
         × ListsAt (memory_of entries.now) edge place readers.old.items (edges_in edges) × OnOk result (Contains (edges_in edges) edge) }
 {
-    let found = &mut readers[place];
+    let found = &mut readers.as_mut_slice()[place];
     add_edge(alloc, entries, &mut found.edges, edge)
 }
 
@@ -166,7 +230,7 @@ fn add_at(
 fn add_among(
     alloc: Global,
     entries: &Table,
-    readers: &mut Vec<Readers>,
+    readers: &mut Facets,
     facet: Facet,
     edge: Edge,
 ) -> Result<(), AllocError>
@@ -181,14 +245,14 @@ fn add_among(
 }
 
 // A list for the node, where there is none yet.
-fn make_list(alloc: Global, readers: &mut Vec<Vec<Readers>>, node: Node) -> Result<(), AllocError>
+fn make_list(alloc: Global, readers: &mut Vec<Facets>, node: Node) -> Result<(), AllocError>
     ensures same { (l : Location ℕ) → edges_at readers.new.items l ≡ edges_at readers.old.items l }
     ensures there { OnOk result (node < length readers.new.items) }
     ensures short { length readers.old.items ≤ 2 ^ 32 → length readers.new.items ≤ 2 ^ 32 }
 {
     let number = node.number() as usize;
     while readers.len() <= number {
-        readers.push(Vec::new(alloc))?;
+        readers.push(Facets::new(alloc))?;
     }
     Ok(())
 }
@@ -197,7 +261,7 @@ fn make_list(alloc: Global, readers: &mut Vec<Vec<Readers>>, node: Node) -> Resu
 fn add_reader(
     alloc: Global,
     entries: &Table,
-    readers: &mut Vec<Vec<Readers>>,
+    readers: &mut Vec<Facets>,
     location: Loc,
     edge: Edge,
 ) -> Result<(), AllocError>
@@ -235,7 +299,7 @@ fn add_user(alloc: Global, entries: &mut Table, slot: Slot, edge: Edge) -> Resul
 pub fn add_readers(
     alloc: Global,
     entries: &Table,
-    readers: &mut Vec<Vec<Readers>>,
+    readers: &mut Vec<Facets>,
     index_read: &mut Vec<Node>,
     locations: &[Loc],
     edge: Edge,

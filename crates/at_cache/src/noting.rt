@@ -9,7 +9,7 @@ ghost use Rattle.at_cache.specs.Asking.{AreNoted};
 ghost use Rattle.at_cache.specs.Edges.{edges_in};
 ghost use Rattle.at_cache.specs.Readers.{edges_among, edges_at, facet_at};
 
-use crate::facet::Readers;
+use crate::facet::{Facets, Readers};
 use at_store::{Loc, Node};
 use std::alloc::AllocError;
 
@@ -36,7 +36,7 @@ fn is_index_read(readers: &[Readers]) -> bool
 }
 
 // Whether an entry was found from the index of the node.
-fn is_noted(readers: &[Vec<Readers>], node: Node) -> bool
+fn is_noted(readers: &[Facets], node: Node) -> bool
     ensures { IsTrue result → (x : Edge) × Contains (edges_at readers.now (Idx node)) x }
 {
     match readers.get(node.index()) {
@@ -46,11 +46,7 @@ fn is_noted(readers: &[Vec<Readers>], node: Node) -> bool
 }
 
 // The node is noted, if no entry was found from its index.
-fn note_node(
-    readers: &[Vec<Readers>],
-    index_read: &mut Vec<Node>,
-    node: Node,
-) -> Result<(), AllocError>
+fn note_node(readers: &[Facets], index_read: &mut Vec<Node>, node: Node) -> Result<(), AllocError>
     ensures stay { AreNoted (edges_at readers.now) index_read.old.items → AreNoted (edges_at readers.now) index_read.new.items }
     ensures noted { OnOk result (AreNoted (edges_at readers.now) index_read.old.items → list_any (nat_eq node) index_read.new.items ≡ true) }
 {
@@ -61,11 +57,7 @@ fn note_node(
 }
 
 /// Where the location is the index of a node, that node is noted.
-pub fn note(
-    readers: &[Vec<Readers>],
-    index_read: &mut Vec<Node>,
-    location: Loc,
-) -> Result<(), AllocError>
+pub fn note(readers: &[Facets], index_read: &mut Vec<Node>, location: Loc) -> Result<(), AllocError>
     ensures stay { AreNoted (edges_at readers.now) index_read.old.items → AreNoted (edges_at readers.now) index_read.new.items }
     ensures noted { OnOk result (AreNoted (edges_at readers.now) index_read.old.items → (n : ℕ)
         → loc_view location ≡ Idx n → list_any (nat_eq n) index_read.new.items ≡ true) }

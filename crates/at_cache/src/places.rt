@@ -11,7 +11,7 @@ ghost use Rattle.at_cache.specs.Readers.{edges_at};
 ghost use Rattle.at_cache.specs.Recorded.{IsIndexed, kept_in};
 
 use crate::edge::Slot;
-use crate::facet::Readers;
+use crate::facet::Facets;
 use crate::forgetting::{begin_at, forget_all};
 use crate::scope::Scope;
 use crate::table::Table;
@@ -21,7 +21,7 @@ use at_store::{Changing, Loc, Node, Places};
 fn begin_node<F: Fn(Loc) -> bool>(
     entries: &mut Table,
     first: Option<Slot>,
-    readers: &[Vec<Readers>],
+    readers: &[Facets],
     node: Node,
     scope: Scope,
     touched: &F,
@@ -39,7 +39,7 @@ fn begin_node<F: Fn(Loc) -> bool>(
 fn begin_nodes<F: Fn(Loc) -> bool>(
     entries: &mut Table,
     first: Option<Slot>,
-    readers: &[Vec<Readers>],
+    readers: &[Facets],
     nodes: &[Node],
     scope: Scope,
     touched: &F,
@@ -60,7 +60,7 @@ fn begin_nodes<F: Fn(Loc) -> bool>(
 fn begin_children<F: Fn(Loc) -> bool>(
     entries: &mut Table,
     first: Option<Slot>,
-    readers: &[Vec<Readers>],
+    readers: &[Facets],
     index_read: &[Node],
     children: &[Node],
     touched: &F,
@@ -82,7 +82,7 @@ fn begin_children<F: Fn(Loc) -> bool>(
 fn begin_around<F: Fn(Loc) -> bool>(
     entries: &mut Table,
     first: Option<Slot>,
-    readers: &[Vec<Readers>],
+    readers: &[Facets],
     index_read: &[Node],
     changing: &Option<Changing<'_>>,
     touched: &F,
@@ -105,7 +105,7 @@ fn begin_around<F: Fn(Loc) -> bool>(
 fn begin_moved<F: Fn(Loc) -> bool>(
     entries: &mut Table,
     first: Option<Slot>,
-    readers: &[Vec<Readers>],
+    readers: &[Facets],
     moved: Option<Node>,
     touched: &F,
 ) -> Option<Slot>
@@ -122,7 +122,7 @@ fn begin_moved<F: Fn(Loc) -> bool>(
 // What reads a touched location that the places name goes: the first one that goes.
 fn begin_named<F: Fn(Loc) -> bool>(
     entries: &mut Table,
-    readers: &[Vec<Readers>],
+    readers: &[Facets],
     index_read: &[Node],
     places: &Places<'_>,
     touched: &F,
@@ -142,7 +142,7 @@ fn begin_named<F: Fn(Loc) -> bool>(
 /// which an entry read the index.
 pub fn take_out_at<F: Fn(Loc) -> bool>(
     entries: &mut Table,
-    readers: &[Vec<Readers>],
+    readers: &[Facets],
     index_read: &[Node],
     places: &Places<'_>,
     touched: &F,

@@ -15,7 +15,7 @@ ghost use Rattle.at_cache.specs.Recorded.{AreOf, IsIndexed, kept_in};
 
 use crate::edge::{Edge, Edges};
 use crate::entry::{Entry, Links};
-use crate::facet::Readers;
+use crate::facet::Facets;
 use crate::keeper::Put;
 use crate::linking::{add_readers, add_users};
 use crate::mark::Mark;
@@ -57,7 +57,7 @@ fn fresh(value: Option<Value>, links: Links, edge: Edge) -> Entry
 pub fn enter_with(
     alloc: Global,
     entries: &mut Table,
-    readers: &mut Vec<Vec<Readers>>,
+    readers: &mut Vec<Facets>,
     index_read: &mut Vec<Node>,
     stamp: u64,
     inst: Inst,

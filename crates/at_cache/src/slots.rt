@@ -1,6 +1,6 @@
 //! What is done to entries by their slots.
 
-ghost use Rattle.std.specs.Prelude.{◌≡◌, ◌<◌, ◌+◌, ◌&&◌, ◌++◌, ◌∷◌, [], not, ℕ, Option, None, Some, IsSome, option_map, nat_eq, if◌then◌else◌, slice_get, OnSome, OnErr, OnOk, IfNone, IfOk, IfSome, MatchBool, is_some, ◌≢◌};
+ghost use Rattle.std.specs.Prelude.{◌≡◌, ◌<◌, ◌+◌, ◌&&◌, ◌++◌, ◌∷◌, [], not, ℕ, Option, None, Some, IsSome, option_copied, option_map, nat_eq, if◌then◌else◌, slice_get, OnSome, OnErr, OnOk, IfNone, IfOk, IfSome, MatchBool, is_some, ◌≢◌};
 ghost use Rattle.std.specs.Map.{lookup};
 ghost use Rattle.at_model.specs.Run.{Instance};
 ghost use Rattle.at_body.specs.Same.{same_instance};
@@ -13,6 +13,7 @@ ghost use Rattle.at_cache.specs.Flushing.{doomed, is_fresh};
 ghost use Rattle.at_cache.specs.Putting.{Enters, is_current, reused, users_at};
 ghost use Rattle.at_cache.specs.Slots.{HasWritten, with_list, with_mark};
 
+use crate::attributes::{has_come, note_attribute};
 use crate::edge::{Edge, Edges, Slot};
 use crate::entry::Entry;
 use crate::facet::small;
@@ -44,6 +45,16 @@ fn write_users(entries: &mut IndexMap<Inst, Entry>, place: usize, users: Edges) 
 }
 
 impl Table {
+    /// The entry of the instance. Where none of its attribute ever came there is no look-up.
+    pub fn get(&self, instance: &Inst) -> Option<&Entry>
+        ensures value { option_copied result ≡ lookup (same_instance instance.now) self.now.entries.entries }
+    {
+        if !has_come(self.attributes.as_slice(), instance.attribute().index()) {
+            return None;
+        }
+        self.entries.get(instance)
+    }
+
     /// The entry in the slot.
     fn pair(&self, slot: Slot) -> Option<(&Inst, &Entry)>
         ensures { option_map (λ e. (e.0.now, e.1.now)) result ≡ at self.now.entries.entries (get self.now.places) slot }
@@ -113,7 +124,11 @@ impl Table {
         ensures others { OnSome result ((k : ℕ) → k ≢ slot → memory_of self.new k ≡ memory_of self.old k) }
         ensures len { OnSome result (table_len self.new + 1 ≡ table_len self.old) }
     {
-        let Table { entries, places } = self;
+        let Table {
+            entries,
+            places,
+            attributes: _,
+        } = self;
         take(entries, places, slot)
     }
 
@@ -124,7 +139,12 @@ impl Table {
         ensures enters { OnOk result (Enters (memory_of self.old) entry.slot (info (instance, entry)) (memory_of self.new)) }
         ensures err { OnErr result ((k : ℕ) → memory_of self.new k ≡ memory_of self.old k) }
     {
-        let Table { entries, places } = self;
+        let Table {
+            entries,
+            places,
+            attributes,
+        } = self;
+        note_attribute(attributes, instance.attribute().index())?;
         let slot = places.insert(entries.len())?;
         if append(entries, instance, entry) {
             return Ok(());
@@ -168,6 +188,7 @@ fn take(entries: &mut IndexMap<Inst, Entry>, slots: &mut Slab<usize>, slot: Slot
     ensures removed { IsPlaced entries.old.entries (get slots.old) → result ≡ option_map (λ e. e.1) (at entries.old.entries (get slots.old) slot) }
     ensures others { IsPlaced entries.old.entries (get slots.old) → (k : ℕ)
         → at entries.new.entries (get slots.new) k ≡ (if nat_eq k slot then None else at entries.old.entries (get slots.old) k) }
+    ensures absent { (i : Instance ℕ) → lookup (same_instance i) entries.old.entries ≡ None → lookup (same_instance i) entries.new.entries ≡ None }
     ensures len { IsPlaced entries.old.entries (get slots.old) → index_map_len entries.new + (if is_some result then 1 else 0) ≡ index_map_len entries.old }
 {
     let place = slots.try_remove(slot as usize)?;

@@ -2,15 +2,17 @@
 
 ghost use Rattle.std.specs.Prelude.{◌≡◌, ◌-◌, ◌^◌, min};
 ghost use Rattle.at_cache.specs.Edges.{edges_in};
+ghost use Rattle.at_cache.specs.Rows.{edges_along, edges_of};
 ghost use Rattle.at_cache.specs.Info.{memory_of};
 ghost use Rattle.at_cache.specs.Stored.{current_of, held_of, reads_held};
 
-use crate::edge::{Edge, Edges};
-use crate::facet::Readers;
+use crate::edge::Edges;
+use crate::facet::{Facets, Readers};
+use crate::row::Row;
 use crate::table::Table;
 
 /// How many direct reads the entries have, each location as often as it was put; or the greatest `usize` if they are more.
-pub fn reads_held(entries: &Table, readers: &[Vec<Readers>]) -> usize
+pub fn reads_held(entries: &Table, readers: &[Facets]) -> usize
     ensures { result ≡ min (reads_held (memory_of entries.now) readers.now) (2 ^ 64 - 1) }
 {
     let mut count: usize = 0;
@@ -37,24 +39,33 @@ fn current_in(entries: &Table, edges: &Edges) -> usize
 {
     match edges {
         Edges::Empty => 0,
-        Edges::One(slot, stamp) => {
-            let edge = Edge {
-                slot: *slot,
-                stamp: *stamp,
-            };
-            current_of(entries, &[edge])
+        Edges::Few(count, step, slot, stamp) => {
+            current_along(entries, &Row::few(*count, *step, *slot, *stamp))
         }
-        Edges::More(list) => current_of(entries, list.as_slice()),
+        Edges::More(rows) => current_of(entries, rows.as_slice()),
     }
 }
 
-// How many of the edges tell of an entry that is there.
-fn current_of(entries: &Table, edges: &[Edge]) -> usize
-    ensures { result ≡ min (current_of (memory_of entries.now) edges.now) (2 ^ 64 - 1) }
+// How many edges of these rows tell of an entry that is there.
+fn current_of(entries: &Table, rows: &[Row]) -> usize
+    ensures { result ≡ min (current_of (memory_of entries.now) (edges_along rows.now)) (2 ^ 64 - 1) }
 {
     let mut count: usize = 0;
-    for edge in edges {
-        count = count.saturating_add(entries.is_current(edge) as usize);
+    for row in rows {
+        count = count.saturating_add(current_along(entries, row));
+    }
+    count
+}
+
+// How many of this row do.
+fn current_along(entries: &Table, row: &Row) -> usize
+    ensures { result ≡ min (current_of (memory_of entries.now) (edges_of row.now)) (2 ^ 64 - 1) }
+{
+    let mut count: usize = 0;
+    let mut rest = *row;
+    while let Some((edge, others)) = rest.split_first() {
+        count = count.saturating_add(entries.is_current(&edge) as usize);
+        rest = others;
     }
     count
 }

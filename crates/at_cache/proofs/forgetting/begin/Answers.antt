@@ -1,5 +1,5 @@
-use Rattle.std.proofs.Common.{◌∙◌, ◌++◌, List, [], Some, Vec, ap, subst, sym, take_all}
-use Rattle.std.specs.Global.{Global}
+use Rattle.std.proofs.Common.{◌∙◌, ◌++◌, List, [], Some, ap, subst, sym, take_all}
+use Rattle.smallvec.specs.SmallVec.{SmallVec}
 use Rattle.at_cache.specs.declared.facet.Readers.{Readers}
 use Rattle.at_cache.specs.Kept.{Answers}
 use Rattle.at_cache.specs.declared.scope.Scope.TheVariants as scope
@@ -24,10 +24,10 @@ loop-number-preserved g c idle =
     let here = subst (λ n. Asked says (looks_at scope.All) (edges_among n c.as_slice.result.now) edges) c.new.ensures asked in (
       start ++ edges,
       done,
-      begins_node c.args.readers.now c.loop-number.number v there begins (subst (λ rs. Asked says (looks_at scope.All) (edges_among c.loop-number.number rs) edges) c.as_slice.ensures.value here),
+      begins_node c.args.readers.now c.loop-number.number v there begins (subst (λ rs. Asked says (looks_at scope.All) (edges_among c.loop-number.number rs) edges) c.as_slice.ensures here),
     )
 
 pub returns : goal.returns
 returns g c idle =
     let (start, work, begins) = c.loop-number.invariant idle in
-    (start, work, subst (λ (rs : List (Vec Readers Global)). Begins (Answers (goal.F-post g c.args.touched.now)) (edges_at rs) start) (take_all c.loop-number.number c.args.readers.now c.loop-number-test.false) begins)
+    (start, work, subst (λ (rs : List (SmallVec Readers)). Begins (Answers (goal.F-post g c.args.touched.now)) (edges_at rs) start) (take_all c.loop-number.number c.args.readers.now c.loop-number-test.false) begins)

@@ -6,22 +6,22 @@ use Rattle.at_cache.proofs.Moving.{within}
 use Rattle.at_cache.proofs.linking.add_among.Goals as goal
 
 pub add_at-requires : goal.add_at-requires
-add_at-requires c = let (r, at, is) = rw c.as_slice.ensures.value at c.in-Some.ensures in record { there = within _ _ r at }
+add_at-requires c = let (r, at, is) = rw c.as_slice.ensures at c.in-Some.ensures in record { there = within _ _ r at }
 
 pub returns-in-Some-clause-lists : goal.returns-in-Some-clause-lists
 returns-in-Some-clause-lists c n l =
     let (edges, written, lists, has) = c.add_at.ensures.gains in
-    among_changed _ _ _ _ _ _ (λ k j. refl) (rw c.as_slice.ensures.value at c.in-Some.ensures) written lists n l
+    among_changed _ _ _ _ _ _ (λ k j. refl) (rw c.as_slice.ensures at c.in-Some.ensures) written lists n l
 
 pub returns-in-Some-clause-has : goal.returns-in-Some-clause-has
 returns-in-Some-clause-has c n =
     let (edges, written, lists, has) = c.add_at.ensures.gains in
-    on_ok_weaker c.add_at.result (among_gained _ _ _ _ _ _ (λ k j. refl) (rw c.as_slice.ensures.value at c.in-Some.ensures) written c.args.edge n) has
+    on_ok_weaker c.add_at.result (among_gained _ _ _ _ _ _ (λ k j. refl) (rw c.as_slice.ensures at c.in-Some.ensures) written c.args.edge n) has
 
 pub returns-in-Some-clause-others : goal.returns-in-Some-clause-others
 returns-in-Some-clause-others c n l differs =
     let (edges, written, lists, has) = c.add_at.ensures.gains in
-    among_stays _ _ _ _ _ _ (λ k j. refl) (rw c.as_slice.ensures.value at c.in-Some.ensures) written n l differs
+    among_stays _ _ _ _ _ _ (λ k j. refl) (rw c.as_slice.ensures at c.in-Some.ensures) written n l differs
 
 pub returns-in-None-clause-lists : goal.returns-in-None-clause-lists
 returns-in-None-clause-lists c n l = added_lists n c.args.facet c.args.edge _ _ _ c.add_facet.result c.add_facet.ensures.added c.add_facet.ensures.err l

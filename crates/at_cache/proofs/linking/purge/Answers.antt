@@ -1,13 +1,20 @@
 use Rattle.std.proofs.Common.{◌∙◌, ◌<◌, arith, length, sym}
-use Rattle.at_cache.specs.Info.{memory_of}
-use Rattle.at_cache.proofs.Listing.{current_read, purge_one}
+use Rattle.at_cache.proofs.RowLists.{keeps_then, row_goes, row_set}
 use Rattle.at_cache.proofs.linking.purge.Goals as goal
 
-pub loop-index-preserved : goal.loop-index-preserved
-loop-index-preserved c =
-    let l = c.loop-index in
+pub loop-place-preserved : goal.loop-place-preserved
+loop-place-preserved c =
+    let l = c.loop-place in
     let count = c.len.ensures.value in
-    let before = c.loop-index-test.true in
-    let less : l.index < length l.edges.items = omega (arith, count, before) in
-    let stale = current_read (memory_of c.args.entries.now) _ _ l.index c.swap_remove.result c.as_slice.ensures less c.swap_remove.ensures.value _ ∙ sym c.is_current.ensures ∙ c.if-is_current.false in
-    purge_one l.index c.swap_remove.result l.invariant less c.swap_remove.ensures.value stale c.swap_remove.ensures.items
+    let before = c.loop-place-test.true in
+    let less : l.place < length l.rows.items = omega (arith, count, before) in
+    keeps_then l.invariant (row_set l.place _ _ less c.as_slice.ensures c.trimmed-row.ensures c.set_row.ensures)
+
+pub loop-place-preserved-then-is_empty : goal.loop-place-preserved-then-is_empty
+loop-place-preserved-then-is_empty c =
+    let l = c.loop-place in
+    let count = c.len.ensures.value in
+    let before = c.loop-place-test.true in
+    let less : l.place < length l.rows.items = omega (arith, count, before) in
+    let none = sym c.is_empty.ensures ∙ c.if-is_empty.true in
+    keeps_then l.invariant (row_goes l.place c.swap_remove.result _ c.trimmed-row.result less c.as_slice.ensures c.swap_remove.ensures.value c.trimmed-row.ensures none c.swap_remove.ensures.items)

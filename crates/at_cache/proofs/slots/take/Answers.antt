@@ -1,6 +1,9 @@
 use Rattle.std.proofs.Common.{◌≡◌, ◌∙◌, ℕ, None, nat_eq, if◌then◌else◌, option_map, slice_get, sym, ap, subst}
+use Rattle.std.specs.Map.{lookup}
 use Rattle.slab.specs.Slab.{get}
 use Rattle.at_cache.specs.Placed.{IsMoved, IsPlaced, at}
+use Rattle.at_body.specs.Same.{same_instance}
+use Rattle.at_cache.proofs.Came.{none_still}
 use Rattle.at_cache.proofs.Moving.{AreApart, apart_by, entry_there, nothing_removed, nothing_there, placed, removed_is, removes, table_by}
 use Rattle.at_cache.proofs.slots.take.Goals as goal
 
@@ -44,3 +47,9 @@ returns-clause-others c is =
     let (table, others) = removes c.args.entries.now.entries (get c.args.slots.now) (get c.try_remove.new.self) (get c.note.new.slots) c.args.slot c.in_ok-place.place _ (table_by is) (sym c.in_ok-place.ensures.value) updates.changed updates.others (sym c.in_ok-_instance.ensures.entry)
     (subst (λ es. IsMoved (option_map (λ e. e.1.slot) (slice_get es c.in_ok-place.place)) c.in_ok-place.place (get c.try_remove.new.self) (get c.note.new.slots)) c.in_ok-_instance.ensures.entries c.note.ensures) in
     subst (λ es. (k : ℕ) → at es (get c.note.new.slots) k ≡ (if nat_eq k c.args.slot then None else at c.args.entries.now.entries (get c.args.slots.now) k)) (sym c.in_ok-_instance.ensures.entries) others
+
+pub returns-in_err-_instance-clause-absent : goal.returns-in_err-_instance-clause-absent
+returns-in_err-_instance-clause-absent c i h = ap (lookup (same_instance i)) c.in_err-_instance.ensures.unchanged ∙ h
+
+pub returns-clause-absent : goal.returns-clause-absent
+returns-clause-absent c i h = c.in_ok-_instance.ensures.updates.0 i ∙ none_still (same_instance _ i) _ h

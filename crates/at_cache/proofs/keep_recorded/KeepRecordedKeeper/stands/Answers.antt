@@ -1,7 +1,12 @@
-use Rattle.std.proofs.Common.{sym, ◌∙◌}
+use Rattle.std.proofs.Common.{ap, is_some, sym, ◌∙◌}
 use Rattle.at_cache.specs.Readers.{edges_at}
+use Rattle.at_cache.proofs.Looked.{lent_there}
 use Rattle.at_cache.proofs.Shown.{kept_there}
 use Rattle.at_cache.proofs.keep_recorded.KeepRecordedKeeper.stands.Goals as goal
 
 pub returns : goal.returns
-returns c = c.contains_key.ensures ∙ sym (kept_there (edges_at c.args.self.now.readers.items) c.args.self.now.entries c.args.self.now.puts c.args.inst.now)
+returns c =
+    c.is_some.ensures
+    ∙ lent_there c.get.result
+    ∙ ap is_some c.get.ensures.value
+    ∙ sym (kept_there (edges_at c.args.self.now.readers.items) c.args.self.now.entries c.args.self.now.puts c.args.inst.now)
