@@ -1,5 +1,6 @@
 -- Look-ups among entries.
-use Rattle.std.proofs.Common.{◌≡◌, ℕ, suc, length, Bool, true, false, List, [], ◌∷◌, ◌++◌, Option, Some, None, ◌⊎◌, inl, inr, refl, sym, ap, ◌∙◌, subst, if◌then◌else◌, cond, true≢false, is_some}
+use Rattle.std.proofs.Common.{◌≡◌, ◌+◌, ◌<◌, ℕ, zero, suc, arith, get_or, take, length, Bool, true, false, List, [], ◌∷◌, ◌++◌, Option, Some, None, ◌⊎◌, inl, inr, refl, sym, ap, ◌∙◌, subst, if◌then◌else◌, cond, true≢false, is_some}
+use Rattle.std.proofs.lemmas.List.{take_more}
 use Rattle.std.specs.Bool.{MatchBool}
 use Rattle.std.specs.Map.{keys_of, lookup, lookup_key}
 use Rattle.indexmap.specs.IndexMap.{insert_entry}
@@ -86,13 +87,32 @@ key_passes test (x ∷ es) k e = by (test x.0) refl e (key_passes test es k)
     by true s f more = let same : x.0 ≡ k = cc in ap test (sym same) ∙ s
     by false s f more = more f
 
--- whether an instance is the last one, or one before it
+-- another one than the last is among the others
+pub not_last : (ks : List (Instance ℕ)) (i j : Instance ℕ) → same_instance i j ≡ false → (Among j ks → ⊥) → Among j (ks ++ i ∷ []) → ⊥
+not_last ks i j s gone h = elim (among_push ks j i h) [
+  | inl a ↦ gone a
+  | inr f ↦ true≢false (sym (ap (same_instance i) f ∙ same_refl i) ∙ s)
+]
+
+-- whether an instance is a key
+pub is_key : {X : Type 0} (b : Bool) (es : List (Instance ℕ × X)) (i : Instance ℕ) → b ≡ is_some (lookup (same_instance i) es) → MatchBool b (Among i (keys_of es)) (Among i (keys_of es) → ⊥)
+is_key true es i e = key_there es i (sym e)
+is_key false es i e = no_key es i (none_of (lookup (same_instance i) es) e)
+
+-- it is, where it is the same as one of them
+pub same_key : (ks : List (Instance ℕ)) (n : ℕ) (k i : Instance ℕ) → n < length ks → k ≡ get_or ks n k → same_instance k i ≡ true → Among i ks
+same_key [] n k i less is s = absurd (omega (arith, less))
+same_key (x ∷ xs) zero k i less is s = inl (sym (same_true k i s) ∙ is)
+same_key (x ∷ xs) (suc n) k i less is s = inr (same_key xs n k i (omega (arith, less)) is s)
+
+-- and isn't one of the first ones, where it is the same as none of these
+pub other_key : (ks : List (Instance ℕ)) (n : ℕ) (k i : Instance ℕ) → n < length ks → k ≡ get_or ks n k → same_instance k i ≡ false → (Among i (take n ks) → ⊥) → Among i (take (n + 1) ks) → ⊥
+other_key ks n k i less is s gone h = not_last (take n ks) k i s gone (subst (Among i) (take_more ks n k less ∙ ap (λ x. take n ks ++ x ∷ []) (sym is)) h)
+
+-- whether it is the last one, or one before it
 pub is_last : (ks : List (Instance ℕ)) (i j : Instance ℕ) → same_instance i j ≡ true → Among j (ks ++ i ∷ [])
 is_last ks i j e = subst (λ x. Among x (ks ++ i ∷ [])) (same_true i j e) (among_last ks i)
 
-pub is_before : {X : Type 0} (b : Bool) (es : List (Instance ℕ × X)) (i j : Instance ℕ) → b ≡ is_some (lookup (same_instance j) es) → same_instance i j ≡ false → MatchBool b (Among j (keys_of es ++ i ∷ [])) (Among j (keys_of es ++ i ∷ []) → ⊥)
-is_before true es i j e s = among_left j (keys_of es) (i ∷ []) (key_there es j (sym e))
-is_before false es i j e s = λ h. elim (among_push (keys_of es) j i h) [
-  | inl a ↦ no_key es j (none_of (lookup (same_instance j) es) e) a
-  | inr f ↦ true≢false (sym (ap (same_instance i) f ∙ same_refl i) ∙ s)
-]
+pub is_before : (b : Bool) (ks : List (Instance ℕ)) (i j : Instance ℕ) → MatchBool b (Among j ks) (Among j ks → ⊥) → same_instance i j ≡ false → MatchBool b (Among j (ks ++ i ∷ [])) (Among j (ks ++ i ∷ []) → ⊥)
+is_before true ks i j there s = among_left j ks (i ∷ []) there
+is_before false ks i j gone s = not_last ks i j s gone

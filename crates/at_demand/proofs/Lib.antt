@@ -29,3 +29,4 @@ pub mod Standing
 pub mod Few
 mod Fitting
 mod Putting
+pub mod Chained

@@ -47,7 +47,7 @@ waiting_pop entries [] w all = (tt, all.0)
 waiting_pop entries (x ∷ ws) w all = let r = waiting_pop entries ws w all.1 in ((all.0, r.0), r.1)
 
 module _ (entries : Entries) (ws : List (Instance ℕ × Frame)) (fs : List (Instance ℕ × Find)) (i : Instance ℕ) (ks : List (Instance ℕ)) (q : IsOrderly entries ws fs i ks) where
-  last_apart : Distinct (keys_of ws) × (Among i (keys_of ws) → ⊥)
+  pub last_apart : Distinct (keys_of ws) × (Among i (keys_of ws) → ⊥)
   last_apart = distinct_pop (keys_of ws) i q.distinct
 
   pub last_open : lookup (same_instance i) fs ≡ None

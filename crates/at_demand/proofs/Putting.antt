@@ -1,5 +1,5 @@
 -- What a find that is to be kept leaves in what is kept.
-use Rattle.std.proofs.Common.{◌≡◌, ◌⊎◌, ℕ, Bool, true, false, List, [], map, Some, None, OnErr, OnOk, Ok, Err, inl, inr, refl, sym, ap, ◌∙◌, subst, if◌then◌else◌, true≢false, arith, length, nat_eq, vec_len, ◌∷◌}
+use Rattle.std.proofs.Common.{◌≡◌, ◌<◌, ◌^◌, ◌⊎◌, ℕ, Bool, true, false, List, [], map, Some, None, OnErr, OnOk, Ok, Err, inl, inr, refl, sym, ap, ◌∙◌, subst, if◌then◌else◌, true≢false, arith, length, nat_eq, vec_len, ◌∷◌}
 use Rattle.std.specs.Prelude.{IfOk, IsSome, IsTrue, Result, Vec}
 use Rattle.std.specs.Global.{Global}
 use Rattle.std.proofs.lemmas.Bool.{eqb-true}
@@ -15,10 +15,11 @@ use Rattle.at_cache.specs.declared.keeper.Put.TheVariants as put
 use Rattle.at_demand.specs.declared.evaluation.Find.{Find}
 use Rattle.at_demand.specs.declared.gathering.Sources.{Sources}
 use Rattle.at_demand.specs.Known.{kept_values, ArePlain, IsFound, IsKept, MayAdd}
-use Rattle.at_demand.specs.Keeping.{HasGathered, HasPlaced, SaysKept, Shares}
+use Rattle.at_demand.specs.Keeping.{HasGathered, HasPlaced, KeepsWhereLazy, SaysKept, Shares}
 use Rattle.at_demand.specs.Covering.{AreCovered, AreWhole, IsWhole}
 use Rattle.at_demand.specs.Only.{AreLean, IsLean}
 use Rattle.at_demand.specs.Sparing.{AreOnly, MayGain}
+use Rattle.at_demand.proofs.Counting.{counts_none}
 use Rattle.at_demand.proofs.Entered.{entered_on, is_there, put_stays}
 use Rattle.at_demand.proofs.Gathered.{gathered_alone, put_covers}
 use Rattle.at_demand.proofs.OnlyLemmas.{from_alone, put_only}
@@ -127,3 +128,16 @@ module _ (rules : Rules) (exact : Bool) (old : Entries) (found : List (Instance 
   pub says_with : {E : Type 0} (r : Result Put E) → IfOk r (HasPlaced rules exact old found i f new) → IfOk r (SaysKept new i f)
   says_with (Ok r) (mid, sh, s, g, p) = says_it mid (map loc_view s.reads.items) s.kept.items r p
   says_with (Err x) p = tt
+
+-- a find that isn't to be kept leaves what is kept as it is
+pub left_out : {E : Type 0} (rules : Rules) (exact : Bool) (entries : Entries) (w : ℕ) (found : List (Instance ℕ × Find)) (i : Instance ℕ) (f : Find) → is_lazy rules i.attribute ≡ false → ArePlain rules entries → w < 2 ^ 64 → KeepsWhereLazy {E = E} rules exact entries entries w w found i f (Ok put.Left)
+left_out rules exact entries w found i f other plain few = record {
+  adds = record { stays = λ j some. refl; values = λ j. inl refl };
+  covers = λ look whole one covers. covers;
+  gains = record { stays = λ j some. refl; lazy = λ j. inl refl; comes = λ j some. inl some };
+  keeps = λ is lazy. absurd (true≢false (sym lazy ∙ other));
+  only = λ look is all one only. only;
+  plain = plain;
+  counts = λ is. counts_none entries w few;
+  says = tt;
+}

@@ -3,7 +3,8 @@ use Rattle.std.specs.Prelude.{◌≡◌, ℕ, Bool, List, [], length, IsTrue, If
 use Rattle.indexmap.specs.IndexMap.{insert_entry}
 use Rattle.at_model.specs.Run.{Instance}
 use Rattle.at_model.specs.Rules.{Rules}
-use Rattle.at_model.specs.Meaning.{Right}
+use Rattle.std.specs.Map.{keys_of}
+use Rattle.at_model.specs.Meaning.{Among, Right}
 use Rattle.at_store.specs.Shown.{Shown, contents}
 use Rattle.at_body.specs.Same.{same_instance}
 use Rattle.at_body.specs.Typed.{IsTypedStep, class_shown}
@@ -47,7 +48,7 @@ pub record HasBegun (rules : Rules) (s : Shown) (i : Instance ℕ) (n : ℕ) (ne
 
 -- So has that of the last of the chain, which the one before it waits for.
 pub record HasDescended (rules : Rules) (s : Shown) (old : Evaluation) (i : Instance ℕ) (new : Evaluation) (step : Step) : Type 0 where
-  pub waiting : new.waiting.entries ≡ insert_entry same_instance old.waiting.entries old.inst old.frame
+  pub waiting : (Among old.inst (keys_of old.waiting.entries) → ⊥) → new.waiting.entries ≡ insert_entry same_instance old.waiting.entries old.inst old.frame
   pub found : new.found.entries ≡ old.found.entries
   pub inst : new.inst ≡ i
   pub steps : IsNext old.steps new.steps

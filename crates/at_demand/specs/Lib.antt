@@ -1,3 +1,4 @@
+pub mod Chain
 pub mod Known
 pub mod UnderWay
 pub mod Typing

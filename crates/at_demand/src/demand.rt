@@ -203,7 +203,7 @@ impl<K: Keeper> Demand<K> {
         Ok(Advance::GoesOn(step))
     }
 
-    // The last instance has this value.
+    // The last instance has this value, which is found where its attribute isn't lazy.
     fn settle<'a>(
         &mut self,
         rules: &'a Rules,
@@ -222,8 +222,36 @@ impl<K: Keeper> Demand<K> {
         ensures { HasAdvanced rules.now store.now K.exact (K.contents self.old.keeper) (K.contents self.new.keeper)
             self.old.work self.new.work evaluation.old (step_code.Value value) evaluation.new result }
     {
+        if rules.is_lazy(evaluation.inst.attribute()) {
+            return self.settle_lazy(rules, store, evaluation, value);
+        }
         let find = evaluation.frame.find(self.alloc, value);
-        let put = self.keep(rules, &evaluation.found, &evaluation.inst, &find)?;
+        evaluation.ascend(self.alloc, rules, store, find)
+    }
+
+    // The last instance, whose attribute is lazy, has this value.
+    #[inline(always)]
+    fn settle_lazy<'a>(
+        &mut self,
+        rules: &'a Rules,
+        store: &'a Store,
+        evaluation: &mut Evaluation<'a>,
+        value: Value,
+    ) -> Result<Advance, AllocError>
+        requires idle { IsIdle store.now }
+        requires formed { AreWellFormed rules.now }
+        requires sound { IsTreeSound rules.now.classes (tree store.now) }
+        requires lazy { is_lazy rules.now evaluation.old.inst.attribute ≡ true }
+        requires typed { AreTypedWaiting rules.now (class_shown store.now) evaluation.old.waiting.entries evaluation.old.inst }
+        requires has { HasValue (contents store.now) (meaning rules.now) evaluation.old.inst (value_view value) }
+        requires orderly { IsOrderlyIn (K.contents self.old.keeper) evaluation.old }
+        requires stacked { IsStackedIn evaluation.old }
+        requires plain { ArePlain rules.now (K.contents self.old.keeper) }
+        ensures { HasAdvanced rules.now store.now K.exact (K.contents self.old.keeper) (K.contents self.new.keeper)
+            self.old.work self.new.work evaluation.old (step_code.Value value) evaluation.new result }
+    {
+        let find = evaluation.frame.take_find(self.alloc, value);
+        let put = self.keep_lazy(rules, &evaluation.found, &evaluation.inst, &find)?;
         match put {
             Put::Kept => {
                 // What was found since its evaluation began may go, and other finds may come to its positions.
@@ -252,6 +280,26 @@ impl<K: Keeper> Demand<K> {
         if !rules.is_lazy(inst.attribute()) {
             return Ok(Put::Left);
         }
+        self.keep_lazy(rules, found, inst, find)
+    }
+
+    // Keeps the value that was found of the instance, whose attribute is lazy, and says whether it is kept.
+    #[inline(always)]
+    fn keep_lazy(
+        &mut self,
+        rules: &Rules,
+        found: &IndexMap<Inst, Find>,
+        inst: &Inst,
+        find: &Find,
+    ) -> Result<Put, AllocError>
+        requires lazy { is_lazy rules.now inst.now.attribute ≡ true }
+        requires unkept { kept_values (K.contents self.old.keeper) inst.now ≡ None }
+        requires kept { AreValued (K.contents self.old.keeper) find.now.demanded.kept.items }
+        requires found { FoundKept (K.contents self.old.keeper) found.now.entries }
+        requires plain { ArePlain rules.now (K.contents self.old.keeper) }
+        ensures { KeepsWhereLazy rules.now K.exact (K.contents self.old.keeper) (K.contents self.new.keeper) self.old.work self.new.work
+            found.now.entries inst.now find.now result }
+    {
         // Where no other find stands below it, it rests on its own reads and what it took of what is kept.
         if find.demanded.finds.is_empty() {
             let reads = find.reads.as_slice();
@@ -290,6 +338,7 @@ impl<K: Keeper> Demand<K> {
     }
 
     // Puts a value to what is kept, and counts it.
+    #[inline(always)]
     fn put(
         &mut self,
         inst: &Inst,

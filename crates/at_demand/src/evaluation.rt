@@ -1,6 +1,7 @@
 //! A question under way: a chain of instances, each of which waits for the next, and what was found.
 
 ghost use Rattle.std.specs.Prelude.{◌≡◌, [], map, IfOk, OnOk, MatchBool};
+ghost use Rattle.std.specs.Map.{keys_of};
 ghost use Rattle.at_model.specs.Instances.{AnyText};
 ghost use Rattle.at_model.specs.Meaning.{Among, HasValue, Right};
 ghost use Rattle.at_model.specs.TypedRuns.{IsWellTyped};
@@ -20,10 +21,12 @@ ghost use Rattle.at_demand.specs.Covering.{Takes};
 ghost use Rattle.at_demand.specs.Only.{TakesOne};
 
 use crate::answer::Answer;
+use crate::chain::{Chain, is_same};
+use crate::locations::{LONG, Locations, give_back, read_by};
 use at_body::{FaultKind, Inst, Step, Trial, Value};
 use at_cache::Keeper;
 use at_rules::Rules;
-use at_store::{Loc, Store};
+use at_store::Store;
 use indexmap::IndexMap;
 use std::alloc::{AllocError, Global};
 use std::marker::Model;
@@ -31,6 +34,9 @@ use std::mem;
 
 // How many finds stay in any case, so that what many values share is evaluated once: they take about thirty megabytes.
 const MANY: usize = 65_536;
+
+// How many keys are looked through one by one, at most.
+const FEW: usize = 4;
 
 // The instances whose values an evaluation took: the kept ones, and the positions of the others among the finds.
 pub struct Demanded {
@@ -91,7 +97,7 @@ impl Drop for Held<'_> {
 // The value of an instance, the locations that its own evaluation read, and the instances whose values that took.
 pub struct Find {
     pub value: Value,
-    pub reads: Vec<Loc>,
+    pub reads: Locations,
     pub demanded: Demanded,
 }
 
@@ -111,7 +117,7 @@ impl Drop for Find {
 // from there: so `steps` counts how often the chain has changed. An evaluation begins in a `spare` frame of one that ended, where there
 // is one; what is in it counts for nothing.
 pub struct Evaluation<'a> {
-    pub waiting: IndexMap<Inst, Held<'a>>,
+    pub waiting: Chain<'a>,
     pub found: IndexMap<Inst, Find>,
     pub steps: u64,
     pub inst: Inst,
@@ -169,7 +175,7 @@ impl<'a> Evaluation<'a> {
         let mut frame = Held::fresh(alloc)?;
         let step = frame.begin(alloc, rules, store, &inst, 0)?;
         let evaluation = Evaluation {
-            waiting: IndexMap::new(alloc),
+            waiting: Chain::new(alloc),
             found: IndexMap::new(alloc),
             steps: 0,
             inst,
@@ -184,7 +190,7 @@ impl<'a> Evaluation<'a> {
         ensures { MatchBool result (Among inst.now (chain_of self.now.waiting.entries self.now.inst))
             (Among inst.now (chain_of self.now.waiting.entries self.now.inst) → ⊥) }
     {
-        self.inst == *inst || self.waiting.contains_key(inst)
+        is_same(&self.inst, inst) || self.waiting.holds(inst)
     }
 
     // Begins the evaluation of an instance that the last one needs.
@@ -207,7 +213,7 @@ impl<'a> Evaluation<'a> {
         let step = frame.begin(alloc, rules, store, &needed, start)?;
         let waits = mem::replace(&mut self.frame, frame);
         let inst = mem::replace(&mut self.inst, needed);
-        put(&mut self.waiting, inst, waits)?;
+        self.waiting.push(inst, waits)?;
         Ok(step)
     }
 
@@ -295,6 +301,22 @@ fn cut_back(found: &mut IndexMap<Inst, Find>, start: usize)
     }
 }
 
+// Whether the instance is among the keys. Each of a few is compared with it, since that takes less than a hash does.
+pub fn holds<V>(map: &IndexMap<Inst, V>, inst: &Inst) -> bool
+    ensures { MatchBool result (Among inst.now (keys_of map.now.entries)) (Among inst.now (keys_of map.now.entries) → ⊥) }
+{
+    if FEW < map.len() {
+        return map.contains_key(inst);
+    }
+    let keys = map.keys().as_slice();
+    for key in keys {
+        if *key == *inst {
+            return true;
+        }
+    }
+    false
+}
+
 // Puts the value by the instance, or finds memory wanting.
 pub fn put<V: Drop>(map: &mut IndexMap<Inst, V>, inst: Inst, value: V) -> Result<(), AllocError>
     ensures { OnOk result (map.new.entries ≡ insert_entry same_instance map.old.entries inst value) }
@@ -353,7 +375,8 @@ impl<'a> Held<'a> {
         self.frame.start
     }
 
-    // As a frame does.
+    // As a frame does. An evaluation that has ended goes on no more, which is told here at once.
+    #[inline(always)]
     pub fn go_on<K: Keeper>(
         &mut self,
         alloc: Global,
@@ -371,7 +394,13 @@ impl<'a> Held<'a> {
         requires kept { AreValued (K.contents keeper.now) self.old.demanded.kept.items }
         ensures { IfOk result (HasGoneOn rules.now store.now (K.contents keeper.now) found.now.entries self.old step self.new) }
     {
-        self.frame.go_on(alloc, keeper, found, rules, store, step)
+        match step {
+            Step::Need(needed) => {
+                let step = Step::Need(needed);
+                self.frame.go_on(alloc, keeper, found, rules, store, step)
+            }
+            ended => Ok(ended),
+        }
     }
 
     // As a frame does.
@@ -412,7 +441,8 @@ impl<'a> Held<'a> {
         self.frame.tell_found(alloc, rules, store, position, value)
     }
 
-    // As a frame does.
+    // As a frame does: in place, as each call more moves the find once more.
+    #[inline(always)]
     pub fn find(&mut self, alloc: Global, value: Value) -> Find
         ensures value { result.value ≡ value }
         ensures demanded { result.demanded ≡ self.old.demanded }
@@ -420,6 +450,16 @@ impl<'a> Held<'a> {
         ensures start { self.new.start ≡ self.old.start }
     {
         self.frame.find(alloc, value)
+    }
+
+    // As a frame does.
+    pub fn take_find(&mut self, alloc: Global, value: Value) -> Find
+        ensures value { result.value ≡ value }
+        ensures demanded { result.demanded ≡ self.old.demanded }
+        ensures reads { map loc_view result.reads.items ≡ self.old.trial.reads }
+        ensures start { self.new.start ≡ self.old.start }
+    {
+        self.frame.take_find(alloc, value)
     }
 
     // As a frame does.
@@ -480,6 +520,7 @@ impl<'a> Frame<'a> {
     }
 
     // Goes on with each value that is known, up to the end or to an instance that isn't.
+    #[inline(always)]
     pub fn go_on<K: Keeper>(
         &mut self,
         alloc: Global,
@@ -554,13 +595,30 @@ impl<'a> Frame<'a> {
     }
 
     // What it found, at its end.
-    pub fn find(&mut self, alloc: Global, value: Value) -> Find
+    #[inline(always)]
+    fn find(&mut self, alloc: Global, value: Value) -> Find
         ensures value { result.value ≡ value }
         ensures demanded { result.demanded ≡ self.old.demanded }
         ensures reads { map loc_view result.reads.items ≡ self.old.trial.reads }
         ensures start { self.new.start ≡ self.old.start }
     {
-        let reads = self.trial.take_reads(alloc);
+        let reads = read_by(alloc, &mut self.trial);
+        let demanded = mem::replace(&mut self.demanded, Demanded::new(alloc));
+        Find {
+            value,
+            reads,
+            demanded,
+        }
+    }
+
+    // The same, with its own lists: they come back by `take_back`, or the frame is used no more.
+    pub fn take_find(&mut self, alloc: Global, value: Value) -> Find
+        ensures value { result.value ≡ value }
+        ensures demanded { result.demanded ≡ self.old.demanded }
+        ensures reads { map loc_view result.reads.items ≡ self.old.trial.reads }
+        ensures start { self.new.start ≡ self.old.start }
+    {
+        let reads = Locations::from_vec(self.trial.take_reads(alloc));
         let demanded = mem::replace(&mut self.demanded, Demanded::new(alloc));
         Find {
             value,
@@ -574,15 +632,17 @@ impl<'a> Frame<'a> {
         ensures { result ≡ find.value }
     {
         let (value, reads, demanded) = find.into_parts();
-        self.trial.lend(reads);
-        self.demanded = demanded;
+        give_back(&mut self.trial, reads);
+        if !demanded.is_long() {
+            self.demanded = demanded;
+        }
         value
     }
 }
 
 impl Find {
     // Its value, and the lists of what its evaluation read and took.
-    fn into_parts(self) -> (Value, Vec<Loc>, Demanded)
+    fn into_parts(self) -> (Value, Locations, Demanded)
         ensures { result.0 ≡ self.value }
     {
         let Find {
@@ -614,6 +674,11 @@ impl Demanded {
             kept: Vec::new(alloc),
             finds: Vec::new(alloc),
         }
+    }
+
+    // Whether one of the lists is too long to serve the next evaluation.
+    fn is_long(&self) -> bool {
+        LONG < self.kept.len() || LONG < self.finds.len()
     }
 
     // Lets go of what is in the lists.

@@ -7,6 +7,7 @@ ghost use Rattle.at_demand.specs.Covering.{Adds, AddsAt, AreGathered, Visits};
 ghost use Rattle.at_demand.specs.Only.{AddsOnly, AddsOnlyAt, AreFrom, VisitsOnly};
 
 use crate::evaluation::{Demanded, Find};
+use crate::locations::Locations;
 use crate::sharing::Sharing;
 use at_body::Inst;
 use at_cache::Keeper;
@@ -16,7 +17,7 @@ use std::alloc::{AllocError, Global};
 
 // The locations that an evaluation and the finds below it read, and the instances with an entry that they rest on.
 pub struct Sources {
-    pub reads: Vec<Loc>,
+    pub reads: Locations,
     pub kept: Vec<Inst>,
 }
 
@@ -42,10 +43,11 @@ impl Sources {
         ensures only { IfOk result (AreFrom found.now.entries find.now) }
     {
         let mut sources = Sources {
-            reads: Vec::new(alloc),
+            reads: Locations::new(alloc),
             kept: Vec::new(alloc),
         };
-        let mut visited = IndexSet::new(alloc);
+        let finds = find.demanded.finds.len();
+        let mut visited = IndexSet::with_capacity(alloc, finds)?;
         sources.add(alloc, find, &mut visited)?;
         let mut next = 0;
         while next < visited.len() {
@@ -108,11 +110,22 @@ impl Sources {
         ensures added { OnOk result (Adds find.now self.old self.new visited.old.keys visited.new.keys) }
         ensures only { OnOk result (AddsOnly find.now self.old self.new visited.old.keys visited.new.keys) }
     {
-        self.reads.extend_from_slice(find.reads.as_slice())?;
+        self.add_reads(find.reads.as_slice())?;
         for inst in &find.demanded.kept {
             self.kept.push(inst.copy(alloc)?)?;
         }
         visit(find.demanded.finds.as_slice(), visited)
+    }
+
+    // Adds the locations. Mostly it is one or two.
+    fn add_reads(&mut self, reads: &[Loc]) -> Result<(), AllocError>
+        ensures reads { OnOk result (self.new.reads.items ≡ self.old.reads.items ++ reads.now) }
+        ensures kept { self.new.kept.items ≡ self.old.kept.items }
+    {
+        for loc in reads {
+            self.reads.push(*loc)?;
+        }
+        Ok(())
     }
 }
 

@@ -1,6 +1,6 @@
 //! Questions: the answer that the equations give for an instance, by demands, none of which is of an instance under way.
 //!
-//! **Its specs**, in order: `Known` is what is known meanwhile, `UnderWay` how far a question has come, `Stacked` which
+//! **Its specs**, in order: `Known` is what is known meanwhile, `Chain` who waits, `UnderWay` how far a question has come, `Stacked` which
 //! finds its evaluations took, `Typing` of which kinds the values are; `Right` says when what is kept is right,
 //! `Covering` how the locations of an entry come together, `Only` that nothing else does, `Keeping` what becomes of a
 //! find that is to be kept, and which entries without a value come before; `Sparing` what an exact keeper has and how
@@ -9,7 +9,7 @@
 //! one try comes to, `ChainSteps` what that does to the chain, `KeptTrials` the trials that stay while turns follow
 //! each other.
 //!
-//! **Where to begin:** `Demand::answer` in `demand.rt`, over `evaluation.rt`; what many kept values rest on is gathered in
+//! **Where to begin:** `Demand::answer` in `demand.rt`, over `evaluation.rt` and its `chain.rt`; what many kept values rest on is gathered in
 //! `gathering.rt` and stands once by `demand/shared.rt`; a question that is given turns is `question.rt` and
 //! `demand/turning.rt`. It holds nothing of rules or tree between turns.
 //!
@@ -18,10 +18,12 @@
 #![tactic(auto)]
 
 mod answer;
+mod chain;
 mod demand;
 mod evaluation;
 mod gathering;
 mod laws;
+mod locations;
 mod question;
 mod sharing;
 mod trials;

@@ -10,7 +10,7 @@ ghost use Rattle.at_demand.specs.Turns.{under_way};
 ghost use Rattle.at_demand.specs.ChainSteps.{HasRisen, HasSettled, HasPassedOn, HasDeepened};
 
 use crate::answer::Answer;
-use crate::evaluation::{Find, put};
+use crate::evaluation::{Find, holds, put};
 use at_body::{Inst, Value};
 use indexmap::IndexMap;
 use std::alloc::{AllocError, Global};
@@ -115,7 +115,7 @@ impl Question {
         ensures { MatchBool result (Among inst.now (keys_of self.now.waiting.entries ++ self.now.inst ∷ []))
             (Among inst.now (keys_of self.now.waiting.entries ++ self.now.inst ∷ []) → ⊥) }
     {
-        self.inst == *inst || self.waiting.contains_key(inst)
+        self.inst == *inst || holds(&self.waiting, inst)
     }
 
     // One instance more in the chain.

@@ -41,7 +41,12 @@ impl Sharing {
 
     // Counts the find at the position once more, and says whether it was gathered often.
     pub fn count(&mut self, position: usize) -> Result<bool, AllocError> {
-        if self.counts.len() <= position {
+        // Mostly they are gathered first in the order in which they were found.
+        if self.counts.len() == position {
+            self.counts.push(1)?;
+            return Ok(false);
+        }
+        if self.counts.len() < position {
             self.counts.resize(position.saturating_add(1), 0)?;
         }
         let Some(count) = self.counts.get_mut(position) else {

@@ -207,7 +207,7 @@ impl<K: Keeper> Demand<K> {
         let step = frame.go_on(self.alloc, &self.keeper, found, rules, store, step)?;
         match step {
             Step::Value(value) => {
-                let find = frame.find(self.alloc, value);
+                let find = frame.take_find(self.alloc, value);
                 let put = self.keep(rules, found, inst, &find)?;
                 match put {
                     Put::Kept => Ok(Attempt::Kept(find.into_value())),

@@ -6,7 +6,7 @@ use Rattle.at_body.specs.declared.trial.Step.TheVariants as step
 use Rattle.at_demand.proofs.Counting.{counts_none}
 use Rattle.at_demand.proofs.Gaining.{circle_all}
 use Rattle.at_demand.proofs.SparingOn.{deepens_sparing}
-use Rattle.at_demand.proofs.Orderly.{deepens}
+use Rattle.at_demand.proofs.Orderly.{deepens, last_apart}
 use Rattle.at_demand.proofs.Truth.{deepens_true, closes}
 use Rattle.at_demand.proofs.Passing.{deepens_covering}
 use Rattle.at_demand.proofs.TypingLemmas.{deepens_typed}
@@ -45,16 +45,17 @@ returns g c =
     let new = c.descend.new.self in
     let needed = c.args.needed in
     let orderly = c.requires.orderly in
+    let waiting = e.waiting (last_apart entries q.waiting.entries q.found.entries q.inst q.frame.demanded.kept.items orderly).1 in
     record {
-      advance = deepens entries q new needed orderly c.requires.stacked c.requires.found c.requires.kept c.if-has.ensures e.waiting e.found e.inst e.begun.start e.begun.fresh e.begun.unfound e.steps;
-      typed = deepens_typed rules (class_shown c.args.store.now) entries q new needed c.in_ok-step.step orderly c.requires.typed e.waiting e.inst e.begun.typed;
-      answers = λ asked h. deepens_true rules look asked entries q new needed c.in_ok-step.step orderly h e.waiting e.found e.inst e.begun.stepped;
+      advance = deepens entries q new needed orderly c.requires.stacked c.requires.found c.requires.kept c.if-has.ensures waiting e.found e.inst e.begun.start e.begun.fresh e.begun.unfound e.steps;
+      typed = deepens_typed rules (class_shown c.args.store.now) entries q new needed c.in_ok-step.step orderly c.requires.typed waiting e.inst e.begun.typed;
+      answers = λ asked h. deepens_true rules look asked entries q new needed c.in_ok-step.step orderly h waiting e.found e.inst e.begun.stepped;
       right = λ asked h. h.kept;
-      covering = λ asked t h. deepens_covering rules look entries q new orderly needed c.in_ok-step.step h e.waiting e.found e.inst (e.begun.passed q.found.entries);
+      covering = λ asked t h. deepens_covering rules look entries q new orderly needed c.in_ok-step.step h waiting e.found e.inst (e.begun.passed q.found.entries);
       stays = λ asked is h stands right. right;
       plain = c.requires.plain;
       worthy = λ asked first h adds. adds;
-      sparing = λ asked exact h stands sparing. deepens_sparing rules look entries q new sparing orderly e.waiting e.found e.begun.fresh e.begun.unfound;
+      sparing = λ asked exact h stands sparing. deepens_sparing rules look entries q new sparing orderly waiting e.found e.begun.fresh e.begun.unfound;
       spare = λ asked exact h stands sparing. sparing.spare;
       counts = λ exact. counts_none entries c.args.self.now.work c.args.self.now.few;
     }

@@ -30,6 +30,6 @@ returns g c =
     let uses = c.as_slice-uses.result.now in
     record {
       shares = shares_put c.args.rules.now g.K.Keeper.exact c.args.found.now.entries old new c.args.inst.now c.args.find.now s c.requires.at c.requires.absent c.requires.plain
-          (record { gathered = e.gathered; from = e.only; kept = e.kept c.requires.found c.requires.kept }) reads uses c.in_ok-put.put (ap (map loc_view) c.as_slice.ensures.value) c.as_slice-uses.ensures.value (subst (λ (i : Instance ℕ). HasPut g.K.Keeper.exact old i None reads uses new c.in_ok-put.put) c.in_ok-copy.ensures c.in_ok-put.ensures.puts);
+          (record { gathered = e.gathered; from = e.only; kept = e.kept c.requires.found c.requires.kept }) reads uses c.in_ok-put.put (ap (map loc_view) c.as_slice.ensures) c.as_slice-uses.ensures.value (subst (λ (i : Instance ℕ). HasPut g.K.Keeper.exact old i None reads uses new c.in_ok-put.put) c.in_ok-copy.ensures c.in_ok-put.ensures.puts);
       work = refl;
     }

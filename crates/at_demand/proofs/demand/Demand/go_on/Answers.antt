@@ -28,7 +28,7 @@ returns-in_err-step g c =
     record { tried = rw is tt; right = c.requires.kept_right; stays = λ there finds right. right; plain = c.requires.plain; lazy = λ j. inl refl; worthy = worthy_none c.args.rules.now (contents c.args.store.now) c.args.inst.now entries; spare = λ exact spare lean settled. spare; settles = λ exact spare settled. rw is tt; counts = λ exact. counts_none entries c.args.self.now.work c.args.self.now.few; keeps = rw is tt; waits = rw is tt }
 
 pub keep-requires-clause-kept : goal.keep-requires-clause-kept
-keep-requires-clause-kept g c = subst (λ (d : Demanded). AreValued (g.K.Keeper.contents c.args.self.now.keeper) d.kept.items) (sym c.find-find.ensures.demanded) c.in_ok-step.ensures.kept
+keep-requires-clause-kept g c = subst (λ (d : Demanded). AreValued (g.K.Keeper.contents c.args.self.now.keeper) d.kept.items) (sym c.take_find-find.ensures.demanded) c.in_ok-step.ensures.kept
 
 pub returns-in_err-put-in-Value : goal.returns-in_err-put-in-Value
 returns-in_err-put-in-Value g c =
@@ -40,8 +40,8 @@ returns-in_err-put-in-Value g c =
     let old = g.K.Keeper.contents c.args.self.now.keeper in
     let new = g.K.Keeper.contents c.keep.new.self.keeper in
     let frame = c.go_on.new.self in
-    let d = c.find-find.result in
-    let e = c.find-find.ensures in
+    let d = c.take_find-find.result in
+    let e = c.take_find-find.ensures in
     let stepped = subst (λ (s : Step). HasStepped rules look inst frame.trial s) c.in-Value.is (c.in_ok-step.ensures.stepped inst c.requires.standing.stepped) in
     let passed = subst (λ (s : Step). HasPassedTo rules look found inst frame s) c.in-Value.is (c.in_ok-step.ensures.passed inst c.requires.standing.passed) in
     let takes = c.in_ok-step.ensures.only inst c.requires.standing.stepped c.requires.standing.takes in
@@ -70,8 +70,8 @@ returns-in-Kept g c =
     let old = g.K.Keeper.contents c.args.self.now.keeper in
     let new = g.K.Keeper.contents c.keep.new.self.keeper in
     let frame = c.go_on.new.self in
-    let d = c.find-find.result in
-    let e = c.find-find.ensures in
+    let d = c.take_find-find.result in
+    let e = c.take_find-find.ensures in
     let stepped = subst (λ (s : Step). HasStepped rules look inst frame.trial s) c.in-Value.is (c.in_ok-step.ensures.stepped inst c.requires.standing.stepped) in
     let passed = subst (λ (s : Step). HasPassedTo rules look found inst frame s) c.in-Value.is (c.in_ok-step.ensures.passed inst c.requires.standing.passed) in
     let takes = c.in_ok-step.ensures.only inst c.requires.standing.stepped c.requires.standing.takes in
@@ -101,8 +101,8 @@ returns-in-Left g c =
     let old = g.K.Keeper.contents c.args.self.now.keeper in
     let new = g.K.Keeper.contents c.keep.new.self.keeper in
     let frame = c.go_on.new.self in
-    let d = c.find-find.result in
-    let e = c.find-find.ensures in
+    let d = c.take_find-find.result in
+    let e = c.take_find-find.ensures in
     let stepped = subst (λ (s : Step). HasStepped rules look inst frame.trial s) c.in-Value.is (c.in_ok-step.ensures.stepped inst c.requires.standing.stepped) in
     let passed = subst (λ (s : Step). HasPassedTo rules look found inst frame s) c.in-Value.is (c.in_ok-step.ensures.passed inst c.requires.standing.passed) in
     let takes = c.in_ok-step.ensures.only inst c.requires.standing.stepped c.requires.standing.takes in

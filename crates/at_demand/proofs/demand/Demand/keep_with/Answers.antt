@@ -46,7 +46,7 @@ returns g c =
     let old = g.K.Keeper.contents c.args.self.now.keeper in
     let mid = g.K.Keeper.contents c.gather.new.self.keeper in
     let new = g.K.Keeper.contents c.put.new.self.keeper in
-    let puts = put_as g.K.Keeper.exact mid c.args.inst.now (value_view f.value) _ (map loc_view s.reads.items) _ s.kept.items new c.in_ok-put.put c.in_ok-put.ensures.puts (ap (map loc_view) c.as_slice.ensures.value) c.as_slice-2.ensures.value in
+    let puts = put_as g.K.Keeper.exact mid c.args.inst.now (value_view f.value) _ (map loc_view s.reads.items) _ s.kept.items new c.in_ok-put.put c.in_ok-put.ensures.puts (ap (map loc_view) c.as_slice.ensures) c.as_slice-2.ensures.value in
     record {
       placed = (mid, e.shares, s, c.in_ok-sources.ensures.sources, puts);
       err = tt;

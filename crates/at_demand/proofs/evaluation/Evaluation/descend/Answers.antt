@@ -1,6 +1,8 @@
 use Rattle.std.proofs.Common.{◌≡◌, ℕ, length, refl, sym, subst}
 use Rattle.std.proofs.lemmas.Result.{err_from_is_err_and}
 use Rattle.indexmap.specs.IndexMap.{insert_entry}
+use Rattle.std.specs.Map.{keys_of}
+use Rattle.at_model.specs.Meaning.{Among}
 use Rattle.at_model.specs.Run.{Instance}
 use Rattle.at_body.specs.Same.{same_instance}
 use Rattle.at_demand.specs.declared.evaluation.Frame.{Frame}
@@ -16,8 +18,8 @@ returns-in_err-frame c = rw ((err_from_is_err_and c.from_residual-in_err-frame.r
 pub returns-in_err-step : goal.returns-in_err-step
 returns-in_err-step c = rw ((err_from_is_err_and c.from_residual-in_err-step.result c.from_residual-in_err-step.ensures.1).1) tt
 
-pub returns-in_err-put : goal.returns-in_err-put
-returns-in_err-put c = rw ((err_from_is_err_and c.from_residual-in_err-put.result c.from_residual-in_err-put.ensures.1).1) tt
+pub returns-in_err-push : goal.returns-in_err-push
+returns-in_err-push c = rw ((err_from_is_err_and c.from_residual-in_err-push.result c.from_residual-in_err-push.ensures.1).1) tt
 
 pub returns : goal.returns
 returns c =
@@ -28,8 +30,10 @@ returns c =
     let step = c.in_ok-step.step in
     let begun = subst (λ n. HasBegun rules s needed n c.begin.new.self step) c.len-start.ensures.len c.in_ok-step.ensures in
     record {
-      waiting = subst (λ (i : Instance ℕ). c.put.new.map.entries ≡ insert_entry same_instance old.waiting.entries i old.frame) c.replace-inst.ensures.value
-          (subst (λ (f : Frame). c.put.new.map.entries ≡ insert_entry same_instance old.waiting.entries c.replace-inst.result f) c.replace-waits.ensures.value c.in_ok-put.ensures);
+      waiting = λ absent.
+          let pushed = c.in_ok-push.ensures (subst (λ (i : Instance ℕ). Among i (keys_of old.waiting.entries) → ⊥) (sym c.replace-inst.ensures.value) absent) in
+          subst (λ (i : Instance ℕ). c.push.new.self.entries ≡ insert_entry same_instance old.waiting.entries i old.frame) c.replace-inst.ensures.value
+          (subst (λ (f : Frame). c.push.new.self.entries ≡ insert_entry same_instance old.waiting.entries c.replace-inst.result f) c.replace-waits.ensures.value pushed);
       found = refl;
       inst = c.replace-inst.ensures.after;
       steps = c.in_ok-self.ensures;

@@ -16,8 +16,8 @@ loop-next-init g c =
     let old : Sources = record { reads = c.new.result; kept = c.new-2.result } in
     record {
       kept = λ found kept. subst (AreKept entries) (sym (c.in_ok-add.ensures.kept ∙ ap (λ (l : List (Instance ℕ)). l ++ find.demanded.kept.items) c.new-2.ensures.items)) (all_entered entries find.demanded.kept.items kept);
-      visited = visited_first c.args.found.now.entries find old c.add.new.self c.new-visited.result.keys c.add.new.visited.keys c.in_ok-add.ensures.added;
-      from = from_first c.args.found.now.entries find old c.add.new.self c.new-visited.result.keys c.add.new.visited.keys c.new.ensures.items c.new-2.ensures.items c.new-visited.ensures.empty c.in_ok-add.ensures.only;
+      visited = visited_first c.args.found.now.entries find old c.add.new.self c.in_ok-visited.visited.keys c.add.new.visited.keys c.in_ok-add.ensures.added;
+      from = from_first c.args.found.now.entries find old c.add.new.self c.in_ok-visited.visited.keys c.add.new.visited.keys c.new.ensures.items c.new-2.ensures.items c.in_ok-visited.ensures.empty c.in_ok-add.ensures.only;
     }
 
 pub loop-next-preserved : goal.loop-next-preserved
@@ -37,10 +37,15 @@ returns g c = record {
 
 pub returns-in_err-add : goal.returns-in_err-add
 returns-in_err-add g c =
-    let is = (err_from_is_err_and c.from_residual.result c.from_residual.ensures.1).1 in
+    let is = (err_from_is_err_and c.from_residual-in_err-add.result c.from_residual-in_err-add.ensures.1).1 in
     record { kept = λ found kept. rw is tt; gathered = rw is tt; only = rw is tt }
 
 pub returns-in_err-add_at : goal.returns-in_err-add_at
 returns-in_err-add_at g c =
     let is = (err_from_is_err_and c.from_residual-in_err-add_at.result c.from_residual-in_err-add_at.ensures.1).1 in
+    record { kept = λ found kept. rw is tt; gathered = rw is tt; only = rw is tt }
+
+pub returns-in_err-visited : goal.returns-in_err-visited
+returns-in_err-visited g c =
+    let is = (err_from_is_err_and c.from_residual.result c.from_residual.ensures.1).1 in
     record { kept = λ found kept. rw is tt; gathered = rw is tt; only = rw is tt }

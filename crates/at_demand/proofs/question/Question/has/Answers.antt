@@ -7,4 +7,4 @@ pub returns-then-eq : goal.returns-then-eq
 returns-then-eq c = rw c.if-eq.true (is_last (keys_of c.args.self.now.waiting.entries) c.args.self.now.inst c.args.inst.now (sym c.eq.ensures ∙ c.if-eq.true))
 
 pub returns-else-eq : goal.returns-else-eq
-returns-else-eq c = is_before c.contains_key.result c.args.self.now.waiting.entries c.args.self.now.inst c.args.inst.now c.contains_key.ensures (sym c.eq.ensures ∙ c.if-eq.false)
+returns-else-eq c = is_before c.holds.result (keys_of c.args.self.now.waiting.entries) c.args.self.now.inst c.args.inst.now c.holds.ensures (sym c.eq.ensures ∙ c.if-eq.false)
