@@ -44,6 +44,7 @@ fn write_whole<W: Output>(writer: &mut W, bytes: &[u8]) -> Result<(), RunFault>
 }
 
 /// Serves the line that was read, writes its reply, and gives the turns that follow it.
+#[inline(always)]
 fn serve<K: Keeper, W: Output>(
     engine: &mut Engine<K>,
     desk: &mut Desk,
@@ -74,6 +75,9 @@ fn give_turns<K: Keeper, W: Output>(
     ensures { Works K.exact K.contents W.contents W.failed W.waits engine.old engine.new desk.old desk.new writer.old writer.new
         (GivesTurns result (rules_of engine.old) (slice_of engine.old)) result }
 {
+    if engine.is_settled() {
+        return Ok(());
+    }
     let mut left = u64::from(engine.slice());
     while left > 0 {
         left = give_some(engine, desk, writer, left)?;

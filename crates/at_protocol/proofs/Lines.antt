@@ -6,7 +6,7 @@ use Rattle.std.specs.Str.{IsUtf8}
 use Rattle.std.proofs.lemmas.Fmt.{decimal_injective}
 use Rattle.at_model.specs.Lines.{Command, Line, Spells, IsVersion, max_line, max_sessions, last_version, BeginsWith, IsSessionOf}
 use Rattle.at_model.proofs.of_texts.OneLine.{command_text, body_text, line_flat, no_at, same_line}
-use Rattle.at_protocol.specs.Commands.{IsCommandText}
+use Rattle.at_protocol.specs.Commands.{IsCommandText, IsHead}
 use Rattle.at_protocol.specs.Words.{HasNoSpace, FailsOn, IsExpected}
 use Rattle.at_text.specs.declared.fault.Failure.{Failure}
 use Rattle.at_protocol.specs.declared.line.words.Misfit.{Misfit}
@@ -84,13 +84,8 @@ needs_expected bytes text word rest fault same split one = fails_with (IsExpecte
     part : (l : Line) → Spells bytes l → (first : Option ℕ × List ℕ) × IsExpected rest first
     part l h = ((l.expected, command_text l.command), expected_in rest l.expected l.command h.is_line.expected (behind_session bytes text word rest l same split one h))
 
-pub needs_command : (bytes text word rest end : List ℕ) (expected : Option ℕ) (fault : Failure Misfit) → text ≡ bytes → text ≡ word ++ 32 ∷ rest → HasNoSpace word → IsExpected rest (expected, end) → FailsOn (IsCommandText end) fault → FailsOn (Spells bytes) fault
-needs_command bytes text word rest end expected fault same split one k = fails_with (IsCommandText end) (Spells bytes) fault part
-  where
-    part : (l : Line) → Spells bytes l → (c : Command) × IsCommandText end c
-    part l h =
-        let e = expected_in rest l.expected l.command h.is_line.expected (behind_session bytes text word rest l same split one h) in
-        (l.command, record { is_command = h.is_line.command; is_text = one_rest rest expected l.expected end (command_text l.command) k e })
+pub needs_command : (bytes rest : List ℕ) (session : ℕ) (expected : Option ℕ) (fault : Failure Misfit) → IsHead bytes session expected rest → FailsOn (IsCommandText rest) fault → FailsOn (Spells bytes) fault
+needs_command bytes rest session expected fault head = fails_with (IsCommandText rest) (Spells bytes) fault (λ l h. (l.command, head.only l h))
 
 -- and a line needs no more
 body_of : (rest end : List ℕ) (expected : Option ℕ) (c : Command) → IsExpected rest (expected, end) → end ≡ command_text c → rest ≡ body_text expected c
@@ -102,7 +97,7 @@ version_of : (rest end : List ℕ) (expected : Option ℕ) → IsExpected rest (
 version_of rest end None k = tt
 version_of rest end (Some version) k = k.0
 
-pub spells : (bytes text word rest end : List ℕ) (session : ℕ) (expected : Option ℕ) (c : Command) → text ≡ bytes → text ≡ word ++ 32 ∷ rest → HasNoSpace word → BeginsWith bytes session → IsExpected rest (expected, end) → IsCommandText end c → length bytes ≤ max_line → Spells bytes (line_of session expected c)
+spells : (bytes text word rest end : List ℕ) (session : ℕ) (expected : Option ℕ) (c : Command) → text ≡ bytes → text ≡ word ++ 32 ∷ rest → HasNoSpace word → BeginsWith bytes session → IsExpected rest (expected, end) → IsCommandText end c → length bytes ≤ max_line → Spells bytes (line_of session expected c)
 spells bytes text word rest end session expected c same split one b k h short =
     let cut = one_front (decimal session) word b.rest (32 ∷ rest) (sym b.front ∙ sym same ∙ split) (no_space_decimal session (omega (arith, b.exists))) one b.behind refl in
     let body = body_of rest end expected c k h.is_text in
@@ -111,6 +106,14 @@ spells bytes text word rest end session expected c same split one b k h short =
       text = b.front ∙ ap (λ y. decimal session ++ y) (cut.1 ∙ ap (λ y. 32 ∷ y) body) ∙ sym (line_flat session expected c);
       short = short;
     }
+
+pub is_head : (bytes text word rest end : List ℕ) (session : ℕ) (expected : Option ℕ) → text ≡ bytes → text ≡ word ++ 32 ∷ rest → HasNoSpace word → BeginsWith bytes session → IsExpected rest (expected, end) → length bytes ≤ max_line → IsHead bytes session expected end
+is_head bytes text word rest end session expected same split one b k short = record { makes = λ c h. spells bytes text word rest end session expected c same split one b k h short; only = only }
+  where
+    only : (l : Line) → Spells bytes l → IsCommandText end l.command
+    only l h =
+        let e = expected_in rest l.expected l.command h.is_line.expected (behind_session bytes text word rest l same split one h) in
+        record { is_command = h.is_line.command; is_text = one_rest rest expected l.expected end (command_text l.command) k e }
 
 -- behind `at` stands a version
 behind_at : (text rest : List ℕ) (expected : Option ℕ) (end : List ℕ) → text ≡ codes "at" ++ 32 ∷ rest → IsExpected text (expected, end) → (version : ℕ) × (version ≤ last_version) × (rest ≡ decimal version ++ 32 ∷ end)

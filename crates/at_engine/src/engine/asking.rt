@@ -47,6 +47,7 @@ impl<K: Keeper> Engine<K> {
     ghost use Rattle.at_engine.specs.Asking.{CanAsk, CanEvaluate, CanLookUp, IsAskedBy};
 
     /// What the attribute of the node is, or why there is no answer.
+    #[inline(always)]
     pub(super) fn ask(
         &mut self,
         session: u16,

@@ -34,6 +34,7 @@ impl Told {
 }
 
 /// Appends what is told; or `memory`, where memory ran out or is wanting now. Whether it is `memory`.
+#[inline(always)]
 pub(super) fn say(told: Told, out: &mut Vec<u8>) -> bool
     requires { CanSay told out.old }
     ensures { HasSaid told result out.old out.new }

@@ -46,7 +46,7 @@ fn answer_to<K: Keeper>(
 }
 
 impl<K: Keeper> Engine<K> {
-    ghost use Rattle.std.specs.Prelude.{◌≡◌, ◌+◌, ◌<◌, ◌≤◌, IfOk, IsTrue, None, vec_len, vec_capacity};
+    ghost use Rattle.std.specs.Prelude.{◌≡◌, ◌+◌, ◌<◌, ◌≤◌, IfOk, IsTrue, MatchBool, None, [], length, vec_len, vec_capacity};
     ghost use Rattle.at_store.specs.Shown.{contents, path as path_shown};
     ghost use Rattle.at_engine.specs.Engines.{rules_of, state_of, IsSound};
     ghost use Rattle.at_engine.specs.Holding.{HasBegun};
@@ -84,6 +84,13 @@ impl<K: Keeper> Engine<K> {
                 Ok(true)
             }
         }
+    }
+
+    /// Whether no question is open.
+    pub(crate) fn is_settled(&self) -> bool
+        ensures { MatchBool result (self.now.posts.items.items ≡ []) (0 < length self.now.posts.items.items) }
+    {
+        self.posts.is_empty()
     }
 
     /// Gives up to so many turns to the open question with the least number, and appends the line with its answer, where it

@@ -12,6 +12,7 @@ use std::alloc::Global;
 use std::borrow::CowStr;
 
 /// The place that the word spells.
+#[inline(always)]
 pub(super) fn read_place<'a>(alloc: Global, word: &'a str) -> Result<Place<'a>, Unread>
     ensures { Answers place_view (IsPlaceText word.now) result }
 {

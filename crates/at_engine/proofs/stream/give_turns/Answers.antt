@@ -1,11 +1,26 @@
-use Rattle.std.proofs.Common.{◌≡◌, ◌∙◌, ap, arith, refl, false, ◌+◌, ◌-◌, Ok, sym}
+use Rattle.std.proofs.Common.{◌≡◌, ◌∙◌, [], ap, arith, map, refl, false, ◌+◌, ◌-◌, None, Ok, sym}
 use Rattle.std.proofs.lemmas.Result.{err_from_is_err_and}
 use Rattle.std.specs.Prelude.{is_err}
+use Rattle.at_store.specs.Shown.{path}
 use Rattle.at_engine.specs.Engines.{rules_of, slice_of, state_of}
+use Rattle.at_engine.specs.Posted.{posted_view}
 use Rattle.at_engine.specs.declared.engine.Engine.{Engine}
-use Rattle.at_engine.proofs.of_turns.Giving.{as_many_given, as_many_in_part, gave_more, gave_nothing, ruled, ruled_in_part, stops_later}
+use Rattle.at_engine.proofs.of_turns.Finishing.{spends_nothing}
+use Rattle.at_engine.proofs.of_turns.Giving.{as_many_given, as_many_in_part, gave_more, gave_none, gave_nothing, has_none, ruled, ruled_in_part, stops_later}
 use Rattle.at_engine.proofs.GoingLemmas.{goes_alike, goes_nowhere, goes_on}
 use Rattle.at_engine.proofs.stream.give_turns.Goals as goal
+
+pub returns-then-is_settled : goal.returns-then-is_settled
+returns-then-is_settled g c =
+    let e = c.args.engine.now in
+    let none = ap (map (posted_view (path e.store))) c.if-is_settled.ensures in
+    let given = has_none (rules_of e) (slice_of e) (state_of e) (state_of e) [] [] (record { turns = 0; told = None }) refl (spends_nothing (rules_of e) (state_of e) [] [] none refl (slice_of e)) in
+    record {
+      done = gave_none (rules_of e) (slice_of e) (state_of e) (state_of e) c.args.desk.now c.args.desk.now (g.W.Output.contents c.args.writer.now) given refl refl;
+      none = λ h. refl;
+      line = refl;
+      goes = goes_nowhere g.K.Keeper.exact g.K.Keeper.contents g.W.Output.failed g.W.Output.waits e c.args.desk.now _ _ 0 tt c.requires.sound refl refl;
+    }
 
 pub loop-left-init : goal.loop-left-init
 loop-left-init g c =

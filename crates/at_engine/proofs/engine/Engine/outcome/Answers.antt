@@ -1,16 +1,29 @@
-use Rattle.std.proofs.Common.{◌≡◌, Ok, Err, subst}
+use Rattle.std.proofs.Common.{◌≡◌, List, Result, Ok, Err, subst, sym}
 use Rattle.std.specs.Allocator.{alloc_error}
-use Rattle.at_model.specs.Machine.{runs_out}
+use Rattle.std.specs.declared.alloc.AllocError.{AllocError}
+use Rattle.at_model.specs.Lines.{Ask, Command as CommandOf, Line}
+use Rattle.at_model.specs.Machine.{runs_out, verdict}
 use Rattle.at_protocol.specs.Faults.{Refuses}
-use Rattle.at_protocol.specs.LineView.{line_view}
+use Rattle.at_protocol.specs.LineView.{arguments_view, command_view, line_view, place_view}
+use Rattle.at_protocol.specs.declared.line.Argument.{Argument}
+use Rattle.at_protocol.specs.declared.line.Command.{Command}
+use Rattle.at_protocol.specs.declared.line.Command.TheVariants as command
+use Rattle.at_protocol.specs.declared.line.Line.{Line as LineValue}
 use Rattle.at_protocol.specs.declared.line.LineFault.TheVariants.{Memory, Syntax}
+use Rattle.at_protocol.specs.declared.reply.Form.{Form}
 use Rattle.at_protocol.specs.declared.reply.Form.TheVariants as form
 use Rattle.at_protocol.specs.declared.reply.Refusal.TheVariants as refusal
+use Rattle.at_engine.specs.Commanding.{Fulfils}
 use Rattle.at_engine.specs.Engines.{rules_of, state_of}
-use Rattle.at_engine.proofs.Attempting.{gets_at_once, got}
-use Rattle.at_engine.proofs.of_keeping.KeepingLemmas.{form_spares, line_spares, unknown_spares, unread_spares}
+use Rattle.at_engine.specs.Keeping.{SparesVerdict}
+use Rattle.at_engine.proofs.Attempting.{gets_at_once, got, heard_at_once}
+use Rattle.at_engine.proofs.of_keeping.KeepingLemmas.{at_once_spares, form_spares, line_spares, unknown_spares, unread_spares}
 use Rattle.at_engine.proofs.TellingLemmas.{told_unread}
 use Rattle.at_engine.proofs.engine.Engine.outcome.Goals as goal
+
+-- the line with this command in the place of its own
+abbrev line_of : LineValue → CommandOf → Line
+line_of line words = record { session = line.session; expected = line.expected; command = words }
 
 pub returns-in-Ok-clause-gets : goal.returns-in-Ok-clause-gets
 returns-in-Ok-clause-gets g c = got (rules_of c.args.self.now) (state_of c.args.self.now) (state_of c.obey.new.self) c.args.line.now (line_view c.in-Ok.line) c.in-Ok.ensures.found c.obey.result c.obey.ensures.hears
@@ -19,19 +32,49 @@ pub returns-in-Ok-clause-spares : goal.returns-in-Ok-clause-spares
 returns-in-Ok-clause-spares g c exact spare =
     line_spares g.K.Keeper.contents c.args.self.now c.obey.new.self c.args.line.now (line_view c.in-Ok.line) c.obey.result c.in-Ok.ensures.found c.obey.ensures.hears (c.obey.ensures.spares exact spare)
 
+pub returns-in-Ok-Ask-clause-gets : goal.returns-in-Ok-Ask-clause-gets
+returns-in-Ok-Ask-clause-gets g c =
+    let e = c.args.self.now in
+    let k = g.K.Keeper.contents in
+    let q = c.in-Ok-Ask in
+    let new = c.question.new.self in
+    let is : q.field-0.command ≡ command.Ask q.place q.attribute q.arguments = cc in
+    let Listed : List Argument → Type 0 = λ arguments. Fulfils g.K.Keeper.exact k e (verdict (rules_of e) (state_of e) (line_of q.field-0 (Ask (place_view q.place) q.attribute.now (arguments_view arguments)))) c.question.result new in
+    let Done : Command → Type 0 = λ words. Fulfils g.K.Keeper.exact k e (verdict (rules_of e) (state_of e) (line_of q.field-0 (command_view words))) c.question.result new in
+    let done = subst Done (sym is) (subst Listed c.deref.ensures.value c.question.ensures) in
+    let told = c.at_once.result in
+    let hears = heard_at_once (rules_of e) (state_of e) (state_of new) (line_view q.field-0) told c.question.result c.at_once.ensures.session c.at_once.ensures.done c.at_once.ensures.form done.obeys done.err in
+    got (rules_of e) (state_of e) (state_of new) c.args.line.now (line_view q.field-0) q.ensures.found told hears
+
+pub returns-in-Ok-Ask-clause-spares : goal.returns-in-Ok-Ask-clause-spares
+returns-in-Ok-Ask-clause-spares g c exact spare =
+    let e = c.args.self.now in
+    let k = g.K.Keeper.contents in
+    let q = c.in-Ok-Ask in
+    let new = c.question.new.self in
+    let is : q.field-0.command ≡ command.Ask q.place q.attribute q.arguments = cc in
+    let Listed : List Argument → Type 0 = λ arguments. Fulfils g.K.Keeper.exact k e (verdict (rules_of e) (state_of e) (line_of q.field-0 (Ask (place_view q.place) q.attribute.now (arguments_view arguments)))) c.question.result new in
+    let Done : Command → Type 0 = λ words. Fulfils g.K.Keeper.exact k e (verdict (rules_of e) (state_of e) (line_of q.field-0 (command_view words))) c.question.result new in
+    let done = subst Done (sym is) (subst Listed c.deref.ensures.value c.question.ensures) in
+    let told = c.at_once.result in
+    let hears = heard_at_once (rules_of e) (state_of e) (state_of new) (line_view q.field-0) told c.question.result c.at_once.ensures.session c.at_once.ensures.done c.at_once.ensures.form done.obeys done.err in
+    let v = verdict (rules_of e) (state_of e) (line_view q.field-0) in
+    let all = at_once_spares k e new v c.question.result (done.spares exact spare) in
+    line_spares k e new c.args.line.now (line_view q.field-0) told q.ensures.found hears (subst (λ (x : Result Form AllocError). SparesVerdict k v x e new) (sym c.at_once.ensures.form) all)
+
 pub returns-in-Err-Syntax-clause-gets : goal.returns-in-Err-Syntax-clause-gets
 returns-in-Err-Syntax-clause-gets g c =
     let e = c.args.self.now in
     let is : c.in-Err-Syntax.field-0 ≡ Syntax c.in-Err-Syntax.session = cc in
     let refused = subst (Refuses c.args.line.now) is c.in-Err-Syntax.ensures.refused in
-    gets_at_once (rules_of e) (state_of e) (state_of e) c.args.line.now c.at_once.result c.in-Err-Syntax.session (Ok (form.Refused refusal.Syntax)) c.at_once.ensures.session c.at_once.ensures.done c.at_once.ensures.form
+    gets_at_once (rules_of e) (state_of e) (state_of e) c.args.line.now c.at_once-in-Err-Syntax.result c.in-Err-Syntax.session (Ok (form.Refused refusal.Syntax)) c.at_once-in-Err-Syntax.ensures.session c.at_once-in-Err-Syntax.ensures.done c.at_once-in-Err-Syntax.ensures.form
     (told_unread (rules_of e) (state_of e) c.args.line.now c.in-Err-Syntax.session refused.0 refused.1)
 
 pub returns-in-Err-Syntax-clause-spares : goal.returns-in-Err-Syntax-clause-spares
 returns-in-Err-Syntax-clause-spares g c exact spare =
     let e = c.args.self.now in
     let is : c.in-Err-Syntax.field-0 ≡ Syntax c.in-Err-Syntax.session = cc in
-    form_spares g.K.Keeper.contents e e c.args.line.now (Ok (form.Refused refusal.Syntax)) c.at_once.result.form c.at_once.ensures.form
+    form_spares g.K.Keeper.contents e e c.args.line.now (Ok (form.Refused refusal.Syntax)) c.at_once-in-Err-Syntax.result.form c.at_once-in-Err-Syntax.ensures.form
     (unread_spares g.K.Keeper.contents e c.args.line.now (subst (Refuses c.args.line.now) is c.in-Err-Syntax.ensures.refused).0 spare)
 
 pub returns-in-Err-Memory-clause-gets : goal.returns-in-Err-Memory-clause-gets

@@ -1,9 +1,9 @@
 use Rattle.std.proofs.Common.{arith, subst}
 use Rattle.std.proofs.lemmas.Result.{err_from_is_err_and}
 use Rattle.at_model.specs.Lines.{IsSessionOf}
-use Rattle.at_protocol.proofs.Lines.{needs_session, needs_space, needs_expected, needs_command, spells, line_is_utf8}
+use Rattle.at_protocol.proofs.Lines.{needs_session, needs_space, needs_expected, is_head, line_is_utf8}
 use Rattle.at_protocol.proofs.Sessions.{session_read, word_first}
-use Rattle.at_protocol.proofs.line.read_spelled.Goals as goal
+use Rattle.at_protocol.proofs.line.read_head.Goals as goal
 
 pub returns-in_default : goal.returns-in_default
 returns-in_default c = λ l h. c.in_default.ensures.cases.0 (line_is_utf8 _ l h)
@@ -24,15 +24,9 @@ returns-in_err-expected c =
     let cut = c.in_ok-word.ensures in
     rw (p.1, p.2) (needs_expected _ _ _ _ _ c.in-Ok.ensures.cases.0 cut.0 cut.1 c.in_err-expected.ensures)
 
-pub returns-in_err-command : goal.returns-in_err-command
-returns-in_err-command c =
-    let p = err_from_is_err_and c.from_residual-in_err-command.result c.from_residual-in_err-command.ensures.1 in
-    let cut = c.in_ok-word.ensures in
-    rw (p.1, p.2) (needs_command _ _ _ _ _ _ _ c.in-Ok.ensures.cases.0 cut.0 cut.1 c.in_ok-expected.ensures c.in_err-command.ensures)
-
 pub returns : goal.returns
 returns c =
     let cut = c.in_ok-word.ensures in
     let session = session_read c.args.line.now c.in_ok-word.word.now c.read_session.result (word_first _ _ _ _ c.in-Ok.ensures.cases.0 cut.0 cut.1) c.read_session.ensures in
     let begins = subst (IsSessionOf c.args.line.now) c.in-Some.is session in
-    spells c.args.line.now _ _ _ _ c.in-Some.session _ _ c.in-Ok.ensures.cases.0 cut.0 cut.1 begins c.in_ok-expected.ensures c.in_ok-command.ensures (omega (arith, c.if-line-gt-MAX_LINE.false))
+    is_head c.args.line.now _ _ _ _ c.in-Some.session _ c.in-Ok.ensures.cases.0 cut.0 cut.1 begins c.in_ok-expected.ensures (omega (arith, c.if-line-gt-MAX_LINE.false))
