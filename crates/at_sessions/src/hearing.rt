@@ -2,9 +2,10 @@
 
 ghost use Rattle.std.specs.Prelude.{None, IfOk};
 ghost use Rattle.at_cache.specs.Kept.{KeepsAll};
+ghost use Rattle.at_engine.specs.Engines.{IsSound};
 ghost use Rattle.at_start.specs.Starts.{IsReady};
 
-use crate::samples::{TREE, files, over};
+use crate::samples::{TREE, copied, files, over};
 use at_cache::{KeepAtMost, KeepNone, KeepRecorded, KeepUntilEdit, Keeper};
 use at_engine::{Engine, Report, run};
 use at_start::{Files, start, start_with};
@@ -18,7 +19,17 @@ pub const ONE_TURN: u32 = 1;
 pub fn calculator(alloc: Global) -> Result<Engine<KeepRecorded>, Fail>
     ensures { IfOk result IsReady }
 {
-    Ok(start(alloc, &files(alloc, &over(TREE))?)?)
+    let mut files = files(alloc, &over(TREE))?;
+    Ok(start(alloc, &mut files)?)
+}
+
+/// A fresh engine of the files over an empty keeper. It is made of a copy, and the files stay as they are for the next one.
+pub fn started<K: Keeper>(alloc: Global, files: &Files, keeper: K) -> Result<Engine<K>, Fail>
+    requires { KeepsAll (λ _. None) (K.contents keeper) }
+    ensures { IfOk result (IsSound K.contents) }
+{
+    let mut files = copied(alloc, files)?;
+    Ok(start_with(alloc, &mut files, keeper)?)
 }
 
 /// What a fresh engine over an empty keeper writes for the lines, each of which so many turns follow, and what its run
@@ -32,7 +43,7 @@ pub fn heard<K: Keeper>(
 ) -> Result<(Vec<u8>, Report), Fail>
     requires { KeepsAll (λ _. None) (K.contents keeper) }
 {
-    let mut engine = start_with(alloc, files, keeper)?;
+    let mut engine = started(alloc, files, keeper)?;
     engine.set_slice(slice);
     let mut reader = lines.as_bytes();
     let mut out = Vec::new(alloc);

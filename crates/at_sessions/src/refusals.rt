@@ -8,9 +8,9 @@ use std::test::Fail;
 
 /// Whether the files are refused with this text, where it isn't empty, and else accepted.
 fn are_told(alloc: Global, sample: &Sample, told: &str) -> Result<bool, Fail> {
-    let files = files(alloc, sample)?;
+    let mut files = files(alloc, sample)?;
     let mut text = String::new(alloc);
-    if let Err(fault) = start(alloc, &files) {
+    if let Err(fault) = start(alloc, &mut files) {
         text = fault.text(alloc, &files)?;
     }
     Ok(text.as_str() == told)

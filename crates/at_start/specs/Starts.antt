@@ -48,7 +48,15 @@ pub data Refuses (files : Files) : (file : ℕ) → Code → Option Place → Ty
       → GivesRules classes (aspect_bytes files.aspects.items) rules
       → RefusesTree classes files.tree.bytes.items c → Refuses files (length files.aspects.items + 1) c None
 
+-- all but the bytes of the tree is as it was, and so each name
+abbrev pub AreSameButTree : (before later : Files) → Type 0
+AreSameButTree before later = (later.grammar ≡ before.grammar) × (later.aspects ≡ before.aspects) × (later.tree.name ≡ before.tree.name)
+
 -- the fault is the first one of the files; of want of memory nothing is said
 abbrev pub IsStartFault : Files → StartFault → Type 0
 IsStartFault files (Refused file c at) = Refuses files file c at
 IsStartFault files Memory = Unit {0}
+
+-- the same, where the bytes of the tree may have been given back
+abbrev pub IsFaultOf : Files → StartFault → Type 0
+IsFaultOf files fault = (was : Files) × AreSameButTree was files × IsStartFault was fault

@@ -2,7 +2,7 @@
 
 ghost use Rattle.std.specs.Prelude.{◌≡◌, string_bytes, IfOk};
 ghost use Rattle.at_start.specs.declared.fault.StartFault.TheVariants.{Memory};
-ghost use Rattle.at_start.specs.Starts.{IsStartFault};
+ghost use Rattle.at_start.specs.Starts.{IsFaultOf};
 ghost use Rattle.at_start.specs.StartFaults.{fault_text, refused_text, file_name, of_file, of_tree};
 
 use super::files::{Files, Source};
@@ -86,7 +86,7 @@ impl StartFault {
     ///
     /// `AllocError` for want of memory.
     pub fn text(&self, alloc: Global, files: &Files) -> Result<String, AllocError>
-        requires { IsStartFault files.now self.now }
+        requires { IsFaultOf files.now self.now }
         ensures { IfOk result (λ text. string_bytes text ≡ fault_text files.now self.now) }
     {
         match self {

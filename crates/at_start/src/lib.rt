@@ -17,7 +17,7 @@ ghost use Rattle.at_cache.specs.Keeping.{recorded_by};
 ghost use Rattle.at_cache.specs.Kept.{KeepsAll};
 ghost use Rattle.at_engine.specs.Engines.{rules_of, state_of, IsSound};
 ghost use Rattle.at_engine.specs.Keeping.{IsSpare, work_of};
-ghost use Rattle.at_start.specs.Starts.{Starts, IsReady, IsStartFault};
+ghost use Rattle.at_start.specs.Starts.{AreSameButTree, Starts, IsReady, IsStartFault};
 
 mod aspects;
 mod code;
@@ -42,37 +42,40 @@ pub use serving::{Answered, answer};
 use std::alloc::Global;
 use tree::tree_of;
 
-/// The engine that the files make: they are looked at in the order grammar, aspects, tree.
+/// The engine that the files make: they are looked at in the order grammar, aspects, tree. The bytes of the tree are given back
+/// once it is read, before its nodes are numbered; all else of the files stays as it is.
 ///
 /// # Errors
 ///
 /// `Refused` for the first file that is refused, `Memory` for want of memory.
-pub fn start(alloc: Global, files: &Files) -> Result<Engine<KeepRecorded>, StartFault>
-    ensures started { IfOk result (λ e. Starts files.now (rules_of e) (state_of e)) }
+pub fn start(alloc: Global, files: &mut Files) -> Result<Engine<KeepRecorded>, StartFault>
+    ensures started { IfOk result (λ e. Starts files.old (rules_of e) (state_of e)) }
     ensures ready { IfOk result IsReady }
     ensures spare { IfOk result (IsSpare recorded_by) }
     ensures work { IfOk result (λ e. work_of e ≡ 0) }
-    ensures refused { IfErr result (IsStartFault files.now) }
+    ensures refused { IfErr result (IsStartFault files.old) }
+    ensures rest { AreSameButTree files.old files.new }
 {
     start_with(alloc, files, KeepRecorded::new(alloc))
 }
 
-/// The engine that the files make over an empty keeper.
+/// The engine that the files make over an empty keeper. The bytes of the tree are given back, as by `start`.
 ///
 /// # Errors
 ///
 /// Those of `start`.
 pub fn start_with<K: Keeper>(
     alloc: Global,
-    files: &Files,
+    files: &mut Files,
     keeper: K,
 ) -> Result<Engine<K>, StartFault>
     requires { KeepsAll (λ _. None) (K.contents keeper) }
-    ensures started { IfOk result (λ e. Starts files.now (rules_of e) (state_of e)) }
+    ensures started { IfOk result (λ e. Starts files.old (rules_of e) (state_of e)) }
     ensures ready { IfOk result (IsSound K.contents) }
     ensures spare { IfOk result (IsSpare K.contents) }
     ensures work { IfOk result (λ e. work_of e ≡ 0) }
-    ensures refused { IfErr result (IsStartFault files.now) }
+    ensures refused { IfErr result (IsStartFault files.old) }
+    ensures rest { AreSameButTree files.old files.new }
 {
     let classes = match classes_of(alloc, &files.grammar.bytes) {
         Ok(classes) => classes,
@@ -84,6 +87,10 @@ pub fn start_with<K: Keeper>(
         Ok(tree) => tree,
         Err(fault) => return Err(of_tree(file, fault)),
     };
+    // Beside the nodes that come into the store this would stand to no use. A byte stays: where a great block is given back whole,
+    // the C library takes later ones from the heap, where they are copied as they grow.
+    files.tree.bytes.truncate(1);
+    files.tree.bytes.shrink_to_fit();
     match Engine::new(alloc, rules, tree, keeper) {
         Ok(engine) => Ok(engine),
         Err(LoadFault::Fit) => Err(of_tree(file, Failure::For(Code::TreeFit))),

@@ -2,6 +2,7 @@
 
 ghost use Rattle.std.specs.Prelude.{None};
 ghost use Rattle.at_cache.specs.Kept.{KeepsAll};
+ghost use Rattle.at_start.specs.Starts.{AreSameButTree};
 ghost use Rattle.at_start.specs.Whole.{AnswersFiles};
 
 use super::fault::StartFault;
@@ -21,21 +22,22 @@ pub struct Answered {
 }
 
 /// Serves the lines that the reader gives by the engine that the files make, over an empty keeper, with so many turns behind
-/// each line, and writes what they are told.
+/// each line, and writes what they are told. The bytes of the tree are given back, as by `start`.
 ///
 /// # Errors
 ///
 /// Those of `start`, and then nothing was read or written.
 pub fn answer<K: Keeper, R: Input, W: Output>(
     alloc: Global,
-    files: &Files,
+    files: &mut Files,
     keeper: K,
     slice: u32,
     reader: &mut R,
     writer: &mut W,
 ) -> Result<Answered, StartFault>
     requires { KeepsAll (λ _. None) (K.contents keeper) }
-    ensures { AnswersFiles files.now slice result (R.remaining reader.old) (R.remaining reader.new) (W.contents writer.old) (W.contents writer.new) }
+    ensures answers { AnswersFiles files.old slice result (R.remaining reader.old) (R.remaining reader.new) (W.contents writer.old) (W.contents writer.new) }
+    ensures rest { AreSameButTree files.old files.new }
 {
     let mut engine = start_with(alloc, files, keeper)?;
     engine.set_slice(slice);

@@ -15,7 +15,7 @@ ghost use Rattle.std.specs.Prelude.{◌≡◌, None, IfSome, option_map};
 ghost use Rattle.at_cache.specs.Bound.{kept_by};
 ghost use Rattle.at_cache.specs.Kept.{KeepsAll};
 ghost use Rattle.at_engine.specs.Engines.{IsSound};
-ghost use Rattle.at_start.specs.Starts.{IsStartFault};
+ghost use Rattle.at_start.specs.Starts.{IsFaultOf};
 
 mod door;
 mod failure;
@@ -63,10 +63,16 @@ fn ended(rt: &HostRuntime, served: &Result<(), Failure>, work: Option<u64>) -> E
 /// Serves what the words of the command line ask for, and notes the engine's work, where they ask for that.
 fn serve_words(rt: &HostRuntime, work: &mut Option<u64>) -> Result<(), Failure> {
     let options = asked(rt)?;
-    let files = read_files(rt, &options)?;
+    let mut files = read_files(rt, &options)?;
     match bounded(rt.alloc(), &options) {
-        Some(keeper) => serve_over(rt, &options, &files, keeper, work),
-        None => serve_over(rt, &options, &files, KeepRecorded::new(rt.alloc()), work),
+        Some(keeper) => serve_over(rt, &options, &mut files, keeper, work),
+        None => serve_over(
+            rt,
+            &options,
+            &mut files,
+            KeepRecorded::new(rt.alloc()),
+            work,
+        ),
     }
 }
 
@@ -85,7 +91,7 @@ fn bounded(alloc: Global, options: &Options) -> Option<KeepAtMost>
 fn serve_over<K: Keeper>(
     rt: &HostRuntime,
     options: &Options,
-    files: &Files,
+    files: &mut Files,
     keeper: K,
     work: &mut Option<u64>,
 ) -> Result<(), Failure>
@@ -123,7 +129,7 @@ fn words(rt: &HostRuntime) -> Result<Vec<String>, Failure> {
 
 /// The failure of files that make no engine.
 fn refused(rt: &HostRuntime, files: &Files, fault: &StartFault) -> Failure
-    requires { IsStartFault files.now fault.now }
+    requires { IsFaultOf files.now fault.now }
 {
     if let StartFault::Memory = fault {
         return Failure::Memory;
@@ -138,7 +144,7 @@ fn refused(rt: &HostRuntime, files: &Files, fault: &StartFault) -> Failure
 fn serve_standard<K: Keeper>(
     rt: &HostRuntime,
     options: &Options,
-    files: &Files,
+    files: &mut Files,
     keeper: K,
     work: &mut Option<u64>,
 ) -> Result<(), Failure>
@@ -170,7 +176,7 @@ fn serve_connections<K: Keeper>(
     rt: &HostRuntime,
     path: &str,
     options: &Options,
-    files: &Files,
+    files: &mut Files,
     keeper: K,
     work: &mut Option<u64>,
 ) -> Result<(), Failure>

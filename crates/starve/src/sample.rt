@@ -157,8 +157,8 @@ pub fn engine<K: Keeper>(alloc: Global, keeper: K) -> Result<Engine<K>, Stop>
     requires { KeepsAll (λ _. None) (K.contents keeper) }
     ensures sound { IfOk result (IsSound K.contents) }
 {
-    let files = files(alloc)?;
-    match start_with(alloc, &files, keeper) {
+    let mut files = files(alloc)?;
+    match start_with(alloc, &mut files, keeper) {
         Ok(engine) => Ok(engine),
         Err(StartFault::Memory) => Err(Stop::Memory),
         Err(_) => Err(Stop::Fault),

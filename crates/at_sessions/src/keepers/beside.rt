@@ -4,9 +4,10 @@ ghost use Rattle.std.specs.Prelude.{◌≡◌, None};
 ghost use Rattle.at_cache.specs.Kept.{KeepsAll};
 ghost use Rattle.at_engine.specs.Engines.{IsSound};
 
+use crate::hearing::started;
 use at_cache::Keeper;
 use at_engine::Engine;
-use at_start::{Files, start_with};
+use at_start::Files;
 use std::alloc::Global;
 use std::str;
 use std::test::Fail;
@@ -39,8 +40,8 @@ pub fn answers<K: Keeper, L: Keeper>(
 {
     let mut beside = Beside {
         alloc,
-        engine: start_with(alloc, files, keeper)?,
-        other: start_with(alloc, files, other)?,
+        engine: started(alloc, files, keeper)?,
+        other: started(alloc, files, other)?,
         asks: Vec::new(alloc),
         told: String::new(alloc),
         answers: 0,

@@ -6,13 +6,13 @@ use Rattle.at_start.proofs.serving.answer.Goals as goal
 pub run-ended-requires : goal.run-ended-requires
 run-ended-requires g c = record { sound = c.set_slice.ensures.sound c.in_ok-engine.ensures.ready }
 
-pub returns : goal.returns
-returns g c =
+pub returns-clause-answers : goal.returns-clause-answers
+returns-clause-answers g c =
     answers_by c.args.files.now c.args.slice c.in_ok-engine.engine c.set_slice.new.self c.run-ended.new.engine c.run-ended.result
     (g.R.Input.remaining c.args.reader.now) (g.R.Input.remaining c.run-ended.new.reader) (g.W.Output.contents c.args.writer.now) (g.W.Output.contents c.run-ended.new.writer)
     c.set_slice.ensures.rest c.in_ok-engine.ensures.started c.run-ended.ensures.ran
 
-pub returns-in_err-engine : goal.returns-in_err-engine
-returns-in_err-engine g c =
+pub returns-in_err-engine-clause-answers : goal.returns-in_err-engine-clause-answers
+returns-in_err-engine-clause-answers g c =
     let p = err_from_is_err_and c.from_residual.result c.from_residual.ensures.1 in
     rw (p.1, p.2) (c.in_err-engine.ensures.refused, refl, refl)
