@@ -49,10 +49,10 @@ class Bench:
         counts = [instructions([self.program, *words], self.folder, it) for it in (without, lines)]
         return None if None in counts else counts[1] - counts[0]
 
-    def spent(self, words, lines, before=""):
+    def spent(self, words, lines, before="", turns=0):
         """The least processor time for the lines behind others, each time by a new run of the program, and the most memory of one, in KiB."""
         times, peaks = [], []
-        for _ in range(self.turns):
+        for _ in range(turns or self.turns):
             run = Served(self.program, self.folder, words)
             if before:
                 run.spent(before)
@@ -123,15 +123,17 @@ def elements(bench):
 
 
 def declarations(bench):
-    """A chain of declarations in the calculator, of which each is looked up by the next."""
-    samples, count = ROOT / "samples" / "calculator", 2_000
-    chain = ",".join(['Decl("x0",Num(1))'] + [f'Decl("x{k}",Use("x{k - 1}"))' for k in range(1, count)])
-    words = [samples / "calc.ast", bench.put("chain.txt", f"Program(Block([{chain}]))\n"), samples / "calc.jrag"]
-    for where, lines in (("at its end", f"0 ask /Block/Stmt:{count - 1} value()\n"),
-                         ("from the front", "".join(f"0 ask /Block/Stmt:{k} value()\n" for k in range(count)))):
-        time, peak = bench.spent(words, lines)
-        bench.told(f"a chain of {count:,} declarations asked {where}, in MiB", peak / 1024, 260)
-        bench.told("the same, in seconds", time)
+    """Chains of declarations in the calculator, of which each is looked up by the next: each look-up goes through those before it."""
+    samples = ROOT / "samples" / "calculator"
+    for count, most, most_from_front, turns in ((2_000, 260, 260, bench.turns), (10_000, 763, 143, 1)):
+        chain = ",".join(['Decl("x0",Num(1))'] + [f'Decl("x{k}",Use("x{k - 1}"))' for k in range(1, count)])
+        words = [samples / "calc.ast", bench.put("chain.txt", f"Program(Block([{chain}]))\n"), samples / "calc.jrag"]
+        asked = (("at its end", f"0 ask /Block/Stmt:{count - 1} value()\n", most),
+                 ("from the front", "".join(f"0 ask /Block/Stmt:{k} value()\n" for k in range(count)), most_from_front))
+        for where, lines, bound in asked:
+            time, peak = bench.spent(words, lines, turns=turns)
+            bench.told(f"a chain of {count:,} declarations asked {where}, in MiB", peak / 1024, bound)
+            bench.told("the same, in seconds", time)
 
 
 def shared(bench):
