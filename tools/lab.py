@@ -1,0 +1,106 @@
+#!/usr/bin/env python3
+"""Proves functions of a crate before the crates below it are proved.
+
+    tools/lab.py [--whole] CRATE [FUNCTION...]
+
+The folder that it runs in is a repository; its files are read as they stand. FUNCTION is a path as the prover has it, such as
+`table::Table::enter`. The libraries below are given as source, in copies in which each function is left open: what is proved rests
+on their contracts. So does it on those of the crate's other functions, which are left open, too, unless --whole is given. Without
+a FUNCTION the front end's errors are told alone. What was checked is kept below /tmp/attrd-lab for the next run.
+
+A line `fn F: no holes`, or one that names the holes of callees alone, tells that F is proved. One that says that F calls what isn't
+proved doesn't: then the goals of F weren't tried. For work only: the gate trusts nothing of it.
+"""
+import argparse
+import hashlib
+import shutil
+import subprocess
+import sys
+from pathlib import Path
+
+from refused import PARTS, Proved
+
+ROOM = Path("/tmp/attrd-lab")
+
+
+def contents(folder):
+    """The files of a crate's parts, by their paths, and what they hold."""
+    found = [it for part in PARTS for it in (folder / part).rglob("*") if it.is_file()]
+    return {it.relative_to(folder): it.read_bytes() for it in found}
+
+
+def copied(source, folder):
+    """Puts a crate's files into the folder, where they aren't there yet; others go. Those that stay keep their times."""
+    wanted, there = contents(source), contents(folder)
+    for path in there.keys() - wanted.keys():
+        (folder / path).unlink()
+    for path, held in wanted.items():
+        if there.get(path) != held:
+            (folder / path).parent.mkdir(parents=True, exist_ok=True)
+            (folder / path).write_bytes(held)
+
+
+class Lab:
+    """A folder of its own for each repository, with copies of its crates."""
+
+    def __init__(self, root):
+        self.proved = Proved(root)
+        self.room = ROOM / hashlib.sha256(str(self.proved.root).encode()).hexdigest()[:12]
+
+    def opened(self, crate, functions):
+        """A copy of the crate in which all but these functions is left open."""
+        stage, folder = self.room / "stage", self.room / crate
+        shutil.rmtree(stage, ignore_errors=True)
+        copied(self.proved.root / "crates" / crate, stage)
+        if functions is not None:
+            self.proved.leave_others_open(stage, crate, functions)
+        copied(stage, folder)
+        return folder
+
+    def below(self, crate):
+        """The crates below, those first on which others stand, and the libraries of the kit that they all use."""
+        order, kit = [], {"std"}
+
+        def add(name):
+            for used in self.proved.uses[name]:
+                if used not in self.proved.uses:
+                    kit.add(used)
+                elif used not in order:
+                    add(used)
+                    order.append(used)
+
+        add(crate)
+        return order, sorted(kit)
+
+    def words(self, crate, functions):
+        """The words of the check."""
+        order, kit = self.below(crate)
+        rlibs, logic = self.proved.kit / "rlibs", self.proved.kit / "rattle/logic/antt-project.json"
+        root = "main" if (self.proved.root / "crates" / crate / "src/main.rt").exists() else "lib"
+        words = [self.proved.kit / "bin/rattle", "check", "--crate-name", crate, f"src/{root}.rt", "--jobs", "1", "--allow-holes"]
+        for name in order:
+            uses = ",".join(["std", *self.proved.uses[name]])
+            words += ["--lib", f"{name}:{uses}={self.opened(name, [])}/src/lib.rt"]
+        for name in kit:
+            words += ["--extern", f"{name}={rlibs}/{name}.rlib"]
+        kept = self.room / f"checked-{crate}"
+        kept.mkdir(parents=True, exist_ok=True)
+        words += ["-L", f"dependency={rlibs}", "--antt-project", logic, "--logic-built", self.proved.kit / "logic_built"]
+        words += ["--links", f"{crate}=", "--incremental", kept]
+        return [*words, *(word for it in functions or [""] for word in ("--only", it))]
+
+
+def main():
+    words = argparse.ArgumentParser(description="Proves functions of a crate before the crates below it are proved.")
+    words.add_argument("--whole", action="store_true", help="leave nothing open in the crate itself")
+    words.add_argument("crate")
+    words.add_argument("functions", metavar="FUNCTION", nargs="*")
+    given = words.parse_args()
+    lab = Lab(".")
+    check = lab.words(given.crate, given.functions)
+    folder = lab.opened(given.crate, given.functions if given.functions and not given.whole else None)
+    return subprocess.run(check, cwd=folder, check=False).returncode
+
+
+if __name__ == "__main__":
+    sys.exit(main())
