@@ -228,6 +228,7 @@ impl<'a> Trial<'a> {
     }
 
     /// Evaluates an expression, for a use of its value.
+    #[inline(always)]
     pub(crate) fn then(&mut self, todo: Todo<'a>, body: &'a Body) -> Result<Now<'a>, AllocError>
         ensures { IfOk result (λ now. (now ≡ Enter body.entry) × (self.new ≡ record self.old { todo = todo.entry ∷ self.old.todo })) }
     {
@@ -236,6 +237,7 @@ impl<'a> Trial<'a> {
     }
 
     /// Evaluates the operand, for a use of its value.
+    #[inline(always)]
     fn operand(
         &mut self,
         rules: &'a Rules,
@@ -258,6 +260,7 @@ impl<'a> Trial<'a> {
     }
 
     /// Evaluates the operands, the left one first, for a use of both values.
+    #[inline(always)]
     pub(crate) fn operands(
         &mut self,
         store: &'a Store,
@@ -283,6 +286,7 @@ impl<'a> Trial<'a> {
     }
 
     /// Evaluates the right operand, for a use of both values.
+    #[inline(always)]
     fn right_operand(
         &mut self,
         store: &'a Store,

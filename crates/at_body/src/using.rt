@@ -27,6 +27,7 @@ const MAX_TEXT: usize = 65535;
 
 impl<'a> Trial<'a> {
     /// What is done with one value.
+    #[inline(always)]
     pub(crate) fn unary(
         &mut self,
         rules: &'a Rules,
@@ -55,6 +56,7 @@ impl<'a> Trial<'a> {
     }
 
     /// What is done with two values.
+    #[inline(always)]
     pub(crate) fn binary(
         &mut self,
         store: &'a Store,
