@@ -4,3 +4,4 @@ pub mod Keys
 pub mod Leaving
 pub mod Marking
 pub mod Copying
+pub mod LastPlace

@@ -1,20 +1,22 @@
 -- What the words of a question ask for.
-use Rattle.std.specs.Prelude.{◌≡◌, ℕ, List}
+use Rattle.std.specs.Prelude.{◌≡◌, ℕ, List, Some}
 use Rattle.at_model.specs.Alike.{InstanceLike, Names}
 use Rattle.at_model.specs.Instances.{AnyText}
 use Rattle.at_model.specs.Paths.{Node}
 use Rattle.at_model.specs.Rules.{Rules}
 use Rattle.at_model.specs.Run.{Instance}
 use Rattle.at_model.specs.TypedRuns.{IsWellTyped}
-use Rattle.at_model.specs.Machine.{Verdict, Asks, Refuses}
+use Rattle.at_model.specs.Lines.{Place}
+use Rattle.at_model.specs.Machine.{Verdict, Asks, Refuses, node_named}
 use Rattle.at_model.specs.Names.{IsName}
 use Rattle.at_protocol.specs.ReplyView.{code_view}
 use Rattle.at_store.specs.Shown.{Shown, path}
 use Rattle.at_cache.specs.Kept.{Entries}
 use Rattle.at_body.specs.Typed.{class_shown}
 use Rattle.at_demand.specs.Right.{IsThere}
-use Rattle.at_engine.specs.Engines.{rules_of, IsHeld, IsSound}
+use Rattle.at_engine.specs.Engines.{rules_of, state_of, IsHeld, IsSound}
 use Rattle.at_engine.specs.Marks.{Mark, AreThere}
+use Rattle.at_engine.specs.Naming.{IsNumberOf}
 use Rattle.at_engine.specs.declared.engine.Engine.{Engine}
 use Rattle.at_engine.specs.declared.engine.asking.Asked.{Asked}
 use Rattle.at_engine.specs.declared.engine.asking.Asked.TheVariants as asked
@@ -46,3 +48,9 @@ pub record CanEvaluate {K : Type 0} (entries : K → Entries) (e : Engine K) (i 
 pub record CanAsk {K : Type 0} (entries : K → Entries) (e : Engine K) (attribute : List ℕ) : Type 0 where
   pub sound : IsSound entries e
   pub named : IsName attribute
+
+-- it can be asked for of the node, which a place of the session names
+pub record CanAskOf {K : Type 0} (entries : K → Entries) (e : Engine K) (session node : ℕ) (attribute : List ℕ) : Type 0 where
+  pub asks : CanAsk entries e attribute
+  pub place : Place
+  pub number : IsNumberOf e.store (node_named (rules_of e).classes (state_of e) session place) (Some node)

@@ -4,16 +4,17 @@ use Rattle.at_model.specs.Lines.{Command, IsCommand}
 use Rattle.at_model.specs.Machine.{Verdict, obeyed}
 use Rattle.at_protocol.specs.declared.reply.Form.{Form}
 use Rattle.at_cache.specs.Kept.{Entries}
-use Rattle.at_engine.specs.Engines.{rules_of, slice_of, state_of, IsHeld, IsSound}
+use Rattle.at_engine.specs.Engines.{rules_of, slice_of, state_of, IsHeld, IsSound, Knows}
 use Rattle.at_engine.specs.Following.{Follows, IsAtOnce}
 use Rattle.at_engine.specs.Keeping.{IsSpare, Spares}
 use Rattle.at_engine.specs.declared.engine.Engine.{Engine}
 
--- it is held still, and its rules and how many turns follow each line are as they were
+-- it is held still, what it remembers is there still, and its rules and how many turns follow each line are as they were
 pub record Continues {K : Type 0} (entries : K → Entries) (old new : Engine K) : Type 0 where
   pub rules : rules_of new ≡ rules_of old
   pub slice : slice_of new ≡ slice_of old
   pub sound : IsHeld entries new
+  pub known : Knows old → Knows new
 
 -- What is told follows from the verdict, and so does the state; where memory ran out, that is as it was. What was kept spare is
 -- so still, and it is what the verdict leaves and adds.

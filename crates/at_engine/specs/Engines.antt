@@ -6,6 +6,7 @@ use Rattle.at_model.specs.Machine.{State}
 use Rattle.at_model.specs.WellFormed.{AreWellFormed}
 use Rattle.at_cache.specs.Kept.{Entries}
 use Rattle.at_engine.specs.Holding.{state_in, IsSoundWith}
+use Rattle.at_engine.specs.Lasting.{IsKnown}
 use Rattle.at_engine.specs.declared.engine.Engine.{Engine}
 use Rattle.at_engine.specs.Marks.{Mark, listed}
 
@@ -36,7 +37,12 @@ pub record IsTyped (rules : Rules) (s : State) : Type 0 where
   pub formed : AreWellFormed rules
   pub tokens : AreTokens s.tree
 
+-- where it remembers that the last question was asked is there
+abbrev pub Knows : {K : Type 0} → Engine K → Type 0
+Knows e = IsKnown e.rules.classes e.store e.last
+
 -- the engine can serve lines
 pub record IsSound {K : Type 0} (contents : K → Entries) (e : Engine K) : Type 0 where
   pub held : IsHeld contents e
   pub typed : IsTyped (rules_of e) (state_of e)
+  pub known : Knows e

@@ -10,6 +10,7 @@ pub mod Holding
 pub mod Serving
 pub mod Following
 pub mod Naming
+pub mod Lasting
 pub mod Engines
 pub mod Telling
 pub mod Turned

@@ -5,16 +5,16 @@
 //! `Serving` (one call of the engine), `Ends` and `RunFaults` (streams that fail). Of a line: `Holding` and
 //! `Engines` (which state of the machine an engine holds, and when it is sound), `Commanding` (what a command
 //! promises), `Meant` (what its words come to), `Following` and `Telling` (what a verdict leads to, in the program's
-//! words). By numbers for nodes: `Seen`, `Naming`, `Marks`, `Asking`, `Answered`, `Fitting`, `Collected`. Open
-//! questions: `Posted`, `PostedFor`, `Turning`, `Turned`. What is kept: `Keeping`, `KeptOver`, `KeepingRuns`. What a
+//! words), `Lasting` (where the last question was asked). By numbers for nodes: `Seen`, `Naming`, `Marks`,
+//! `Asking`, `Answered`, `Fitting`, `Collected`. Open questions: `Posted`, `PostedFor`, `Turning`, `Turned`. What is kept: `Keeping`, `KeptOver`, `KeepingRuns`. What a
 //! value may carry: `OneProof`.
 //!
 //! **Where to begin:** `engine.rt` serves one line, `engine/` has its commands, whose words are read over a `View`;
 //! `stream.rt` serves all, between an `Input` and an `Output`.
 //!
 //! **What it keeps true:** `IsSound`: no edit waits, the tree conforms, the nodes of marks are there, what is kept
-//! is right, open questions stand on the tree, rules are well formed, tokens can be written. `new` gives it, and
-//! each line and turn keeps it.
+//! is right, open questions stand on the tree, rules are well formed, tokens can be written, and the place of the
+//! last question, where it is remembered, is there. `new` gives it, and each line and turn keeps it.
 #![tactic(auto)]
 
 mod engine;

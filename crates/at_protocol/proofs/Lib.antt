@@ -11,3 +11,4 @@ pub mod Sessions
 pub mod Numbers
 pub mod Places
 pub mod Replies
+pub mod Fronts

@@ -6,3 +6,4 @@ pub mod Faults
 pub mod ReplyView
 pub mod Writable
 pub mod Laws
+pub mod Again

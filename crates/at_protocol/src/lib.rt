@@ -2,7 +2,8 @@
 //!
 //! **Its specs:** `LineView` and `ReplyView` are what lines and replies stand for, `Commands`, `Calls` and `Words`
 //! the texts of their parts; `Faults` says what is answered of bytes that are no line, `Writable` which replies can
-//! be written, and which need little room; `Laws` what bytes say of the line that they spell.
+//! be written, and which need little room; `Laws` what bytes say of the line that they spell; `Again` what stands
+//! before the attribute of a question.
 //!
 //! **Where to begin:** `line/commands.rt` reads the commands, `reply.rt` writes replies.
 //!

@@ -23,7 +23,7 @@ module _ {K : Type 0} (exact : Bool) (entries : K → Entries) (e : Engine K) (h
     obeys = follows;
     err = on_err result _ refl;
     spares = λ h spare. stays_spare entries e v spare result quiet;
-    stays = record { rules = refl; slice = refl; sound = held };
+    stays = record { rules = refl; slice = refl; sound = held; known = λ k. k };
   }
 
   pub refused_so : {E : Type 0} (r : Refusal) → Follows (rules_of e) (state_of e) v (form.Refused r) (state_of e) → Fulfils {E = E} exact entries e v (Ok (form.Refused r)) e
@@ -38,7 +38,7 @@ module _ {K : Type 0} (exact : Bool) (entries : K → Entries) (e : Engine K) (h
         obeys = tt;
         err = refl;
         spares = λ h spare. failed_spares entries e v spare;
-        stays = record { rules = refl; slice = refl; sound = held };
+        stays = record { rules = refl; slice = refl; sound = held; known = λ k. k };
       } in
       subst (λ (r : Result Form E). Fulfils exact entries e v r e) (sym is) all
 

@@ -13,6 +13,7 @@ use at_class::ClassId;
 use at_protocol::line::{Argument, Place};
 use at_protocol::reply::{Form, Refusal};
 use at_rules::{AttrId, Kind};
+use at_store::Node;
 use std::alloc::AllocError;
 
 /// What the words of a question come to: the instance for which they ask, or why they are refused.
@@ -33,21 +34,21 @@ fn is_text(value: &Value) -> bool
 }
 
 impl<K: Keeper> Engine<K> {
-    ghost use Rattle.std.specs.Prelude.{◌≡◌, IfOk};
+    ghost use Rattle.std.specs.Prelude.{◌≡◌, IfOk, Some};
     ghost use Rattle.at_model.specs.Paths.{Node as NodeOf};
     ghost use Rattle.at_model.specs.Run.{Instance};
     ghost use Rattle.at_model.specs.Alike.{InstanceLike, Names};
-    ghost use Rattle.at_model.specs.Lines.{Ask};
+    ghost use Rattle.at_model.specs.Lines.{Ask, Place as PlaceOf};
     ghost use Rattle.at_model.specs.Names.{IsName};
-    ghost use Rattle.at_model.specs.Machine.{Asks, obeyed};
+    ghost use Rattle.at_model.specs.Machine.{Asks, node_named, obeyed};
     ghost use Rattle.at_protocol.specs.LineView.{arguments_view, place_view};
     ghost use Rattle.at_store.specs.Shown.{path as path_shown};
     ghost use Rattle.at_engine.specs.Commanding.{Commands, Fulfils};
-    ghost use Rattle.at_engine.specs.Engines.{rules_of, state_by};
-    ghost use Rattle.at_engine.specs.Asking.{CanAsk, CanEvaluate, CanLookUp, IsAskedBy};
+    ghost use Rattle.at_engine.specs.Engines.{rules_of, state_by, state_of};
+    ghost use Rattle.at_engine.specs.Naming.{IsNumberOf};
+    ghost use Rattle.at_engine.specs.Asking.{CanAsk, CanAskOf, CanEvaluate, CanLookUp, IsAskedBy};
 
     /// What the attribute of the node is, or why there is no answer.
-    #[inline(always)]
     pub(super) fn ask(
         &mut self,
         session: u16,
@@ -58,7 +59,26 @@ impl<K: Keeper> Engine<K> {
         requires { CanAsk K.contents self.old attribute.now }
         ensures { Commands K.exact K.contents self.old session (Ask (place_view place.now) attribute.now (arguments_view arguments.now)) result self.new }
     {
-        match self.asked(&self.marks, session, place, attribute, arguments)? {
+        match self.view().node_named(session, place) {
+            Some(node) => self.ask_of(session, node, attribute, arguments),
+            None => Ok(Form::Refused(Refusal::Path)),
+        }
+    }
+
+    /// The same of a node that was found.
+    #[inline(always)]
+    pub(super) fn ask_of(
+        &mut self,
+        session: u16,
+        node: Node,
+        attribute: &str,
+        arguments: &[Argument<'_>],
+    ) -> Result<Form, AllocError>
+        requires { CanAskOf K.contents self.old session node attribute.now }
+        ensures { (place : PlaceOf) → IsNumberOf self.old.store (node_named (rules_of self.old).classes (state_of self.old) session place) (Some node)
+            → Commands K.exact K.contents self.old session (Ask place attribute.now (arguments_view arguments.now)) result self.new }
+    {
+        match self.view().asked_of(session, node, attribute, arguments)? {
             Asked::Instance(inst) => self.answer(&inst),
             Asked::Refused(refusal) => Ok(Form::Refused(refusal)),
         }
@@ -99,10 +119,11 @@ impl<K: Keeper> Engine<K> {
 }
 
 impl<'e, M: Lookup> View<'e, M> {
-    ghost use Rattle.std.specs.Prelude.{◌≡◌, map, option_map, IfOk};
-    ghost use Rattle.at_model.specs.Lines.{Ask};
+    ghost use Rattle.std.specs.Prelude.{◌≡◌, map, option_map, IfOk, Some};
+    ghost use Rattle.at_model.specs.Lines.{Ask, Place as PlaceOf};
     ghost use Rattle.at_model.specs.Names.{IsName};
-    ghost use Rattle.at_model.specs.Machine.{each, obeyed, parameters_of, value_named};
+    ghost use Rattle.at_engine.specs.Naming.{IsNumberOf};
+    ghost use Rattle.at_model.specs.Machine.{each, node_named, obeyed, parameters_of, value_named};
     ghost use Rattle.at_protocol.specs.LineView.{argument_view, arguments_view, place_view};
     ghost use Rattle.at_rules.specs.Bodies.{kind_view};
     ghost use Rattle.at_store.specs.Shown.{contents, path as path_shown};
@@ -124,9 +145,25 @@ impl<'e, M: Lookup> View<'e, M> {
             (obeyed self.now.rules.now (state_seen self.now.store.now (M.marks self.now.marks.now)) session
             (Ask (place_view place.now) attribute.now (arguments_view arguments.now)))) }
     {
-        let Some(node) = self.node_named(session, place) else {
-            return Ok(Asked::Refused(Refusal::Path));
-        };
+        match self.node_named(session, place) {
+            Some(node) => self.asked_of(session, node, attribute, arguments),
+            None => Ok(Asked::Refused(Refusal::Path)),
+        }
+    }
+
+    /// The same of a node that was found.
+    pub(super) fn asked_of(
+        &self,
+        session: u16,
+        node: Node,
+        attribute: &str,
+        arguments: &[Argument<'_>],
+    ) -> Result<Asked, AllocError>
+        ensures { (place : PlaceOf) → IsNumberOf self.now.store.now (node_named self.now.rules.now.classes
+            (state_seen self.now.store.now (M.marks self.now.marks.now)) session place) (Some node) → IsName attribute.now
+            → IfOk result (IsAskedBy self.now.rules.now self.now.store.now (obeyed self.now.rules.now
+            (state_seen self.now.store.now (M.marks self.now.marks.now)) session (Ask place attribute.now (arguments_view arguments.now)))) }
+    {
         let Some(values) = self.values_named(session, arguments)? else {
             return Ok(Asked::Refused(Refusal::Path));
         };

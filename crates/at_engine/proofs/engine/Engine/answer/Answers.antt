@@ -30,6 +30,7 @@ returns g c q like =
       stays = record {
         rules = refl;
         slice = refl;
+        known = λ k. k;
         sound = sound_grown (rules_of e) e.store (k e.demand.keeper) (k new.demand.keeper) a.worthy.stays (marks_of e) e.posts held (a.right c.requires.there held.right);
       };
     }
@@ -52,6 +53,7 @@ returns-in_err-answer g c q like =
       stays = record {
         rules = refl;
         slice = refl;
+        known = λ k. k;
         sound = sound_grown (rules_of e) e.store (k e.demand.keeper) (k new.demand.keeper) a.worthy.stays (marks_of e) e.posts held (a.right c.requires.there held.right);
       };
     }

@@ -1,9 +1,9 @@
-use Rattle.std.proofs.Common.{◌∙◌, ℕ, List, Option, Result, Ok, Err, map, ap, subst, arith, refl}
+use Rattle.std.proofs.Common.{◌∙◌, ℕ, List, Option, Result, Ok, Err, map, ap, subst, sym, arith, refl}
 use Rattle.std.specs.declared.alloc.AllocError.{AllocError}
 use Rattle.std.proofs.lemmas.Option.{slice_get_within}
 use Rattle.at_protocol.specs.declared.reply.Form.{Form}
 use Rattle.at_store.specs.Shown.{path}
-use Rattle.at_engine.specs.Engines.{rules_of, state_of}
+use Rattle.at_engine.specs.Engines.{rules_of, state_of, Knows}
 use Rattle.at_engine.specs.Posted.{posted_view}
 use Rattle.at_engine.specs.Telling.{IsSaid}
 use Rattle.at_engine.specs.Turning.{HasGone, told_of}
@@ -61,7 +61,7 @@ returns-in-Err g c = record {
   spare = λ exact spare. c.tell.ensures.off.spare exact (c.go_on.ensures.spare exact spare);
   rules = ap (λ x. x.rules) c.tell.ensures.off.rest ∙ ap (λ x. x.rules) c.go_on.ensures.rest;
   slice = ap (λ x. x.slice) c.tell.ensures.off.rest ∙ ap (λ x. x.slice) c.go_on.ensures.rest;
-  sound = record { held = c.tell.ensures.off.sound; typed = typed_end c.go_on.new.self c.tell.new.self c.tell.ensures.off.rest (typed_rest c.args.self.now c.go_on.new.self c.go_on.ensures.rest c.requires.sound.typed) };
+  sound = record { held = c.tell.ensures.off.sound; typed = typed_end c.go_on.new.self c.tell.new.self c.tell.ensures.off.rest (typed_rest c.args.self.now c.go_on.new.self c.go_on.ensures.rest c.requires.sound.typed); known = subst Knows (sym c.tell.ensures.off.rest) (subst Knows (sym c.go_on.ensures.rest) c.requires.sound.known) };
 }
 
 pub tell-requires-clause-there : goal.tell-requires-clause-there
@@ -105,7 +105,7 @@ returns-in-None g c = record {
   spare = c.go_on.ensures.spare;
   rules = ap (λ x. x.rules) c.go_on.ensures.rest;
   slice = ap (λ x. x.slice) c.go_on.ensures.rest;
-  sound = record { held = c.go_on.ensures.sound; typed = typed_rest c.args.self.now c.go_on.new.self c.go_on.ensures.rest c.requires.sound.typed };
+  sound = record { held = c.go_on.ensures.sound; typed = typed_rest c.args.self.now c.go_on.new.self c.go_on.ensures.rest c.requires.sound.typed; known = subst Knows (sym c.go_on.ensures.rest) c.requires.sound.known };
 }
 
 pub returns-in-Some : goal.returns-in-Some
@@ -136,7 +136,7 @@ returns-in-Some g c = record {
   spare = λ exact spare. c.tell-in-Some.ensures.off.spare exact (c.go_on.ensures.spare exact spare);
   rules = ap (λ x. x.rules) c.tell-in-Some.ensures.off.rest ∙ ap (λ x. x.rules) c.go_on.ensures.rest;
   slice = ap (λ x. x.slice) c.tell-in-Some.ensures.off.rest ∙ ap (λ x. x.slice) c.go_on.ensures.rest;
-  sound = record { held = c.tell-in-Some.ensures.off.sound; typed = typed_end c.go_on.new.self c.tell-in-Some.new.self c.tell-in-Some.ensures.off.rest (typed_rest c.args.self.now c.go_on.new.self c.go_on.ensures.rest c.requires.sound.typed) };
+  sound = record { held = c.tell-in-Some.ensures.off.sound; typed = typed_end c.go_on.new.self c.tell-in-Some.new.self c.tell-in-Some.ensures.off.rest (typed_rest c.args.self.now c.go_on.new.self c.go_on.ensures.rest c.requires.sound.typed); known = subst Knows (sym c.tell-in-Some.ensures.off.rest) (subst Knows (sym c.go_on.ensures.rest) c.requires.sound.known) };
 }
 
 pub tell-requires-in-Some-clause-there : goal.tell-requires-in-Some-clause-there

@@ -63,6 +63,7 @@ returns-in_err-push g c =
     let stays : Continues g.K.Keeper.contents e new = record {
       rules = refl;
       slice = refl;
+      known = λ k. k;
       sound = sound_marks (rules_of e) e.store (marks_of e) _ e.posts _ (subst (AreThere (path e.store)) (sym c.in_err-push.ensures.err) c.requires.sound.marked) c.requires.sound;
     } in
     let err = on_err result _ (ap (λ (l : List Mark). record (state_of e) { marks = marks_view (path e.store) l }) c.in_err-push.ensures.err) in
@@ -85,6 +86,7 @@ returns g c =
     let stays : Continues g.K.Keeper.contents e new = record {
       rules = refl;
       slice = refl;
+      known = λ k. k;
       sound = sound_marks (rules_of e) e.store (marks_of e) _ e.posts _ (subst (AreThere (path e.store)) (sym c.in_ok-push.ensures.more) (there_pushed (path e.store) (marks_of e) made (ap is_some p) c.requires.sound.marked)) c.requires.sound;
     } in
     rw c.done.ensures (quiet_so g.K.Keeper.exact g.K.Keeper.contents e new _ (Ok (form.Ok e.version)) refl refl refl stays (mark_quiet (rules_of e) (state_of e) c.args.session name place) (mark_made (rules_of e) (state_of e) c.args.session place name n named free few _ more) tt

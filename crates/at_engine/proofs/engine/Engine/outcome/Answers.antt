@@ -1,8 +1,9 @@
 use Rattle.std.proofs.Common.{◌≡◌, List, Result, Ok, Err, subst, sym}
 use Rattle.std.specs.Allocator.{alloc_error}
 use Rattle.std.specs.declared.alloc.AllocError.{AllocError}
-use Rattle.at_model.specs.Lines.{Ask, Command as CommandOf, Line}
+use Rattle.at_model.specs.Lines.{Ask, Command as CommandOf, From_root, Line}
 use Rattle.at_model.specs.Machine.{runs_out, verdict}
+use Rattle.at_protocol.specs.Again.{bare_question}
 use Rattle.at_protocol.specs.Faults.{Refuses}
 use Rattle.at_protocol.specs.LineView.{arguments_view, command_view, line_view, place_view}
 use Rattle.at_protocol.specs.declared.line.Argument.{Argument}
@@ -25,6 +26,43 @@ use Rattle.at_engine.proofs.engine.Engine.outcome.Goals as goal
 abbrev line_of : LineValue → CommandOf → Line
 line_of line words = record { session = line.session; expected = line.expected; command = words }
 
+pub ask_of-form-requires : goal.ask_of-form-requires
+ask_of-form-requires g c =
+    let (steps, spelled, number) = c.in-Some.ensures c.requires.sound.known in
+    record { asks = record { sound = c.requires.sound; named = spelled.is_line.command.1 }; place = From_root steps; number = number }
+
+pub returns-in-Some-clause-gets : goal.returns-in-Some-clause-gets
+returns-in-Some-clause-gets g c =
+    let e = c.args.self.now in
+    let k = g.K.Keeper.contents in
+    let (steps, spelled, number) = c.in-Some.ensures c.requires.sound.known in
+    let new = c.ask_of-form.new.self in
+    let l = bare_question e.last.session steps c.in-Some.attribute.now in
+    let done = c.ask_of-form.ensures (From_root steps) number in
+    let told = c.at_once.result in
+    let hears = heard_at_once (rules_of e) (state_of e) (state_of new) l told c.ask_of-form.result c.at_once.ensures.session c.at_once.ensures.done c.at_once.ensures.form done.obeys done.err in
+    got (rules_of e) (state_of e) (state_of new) c.args.line.now l spelled told hears
+
+pub returns-in-Some-clause-spares : goal.returns-in-Some-clause-spares
+returns-in-Some-clause-spares g c exact spare =
+    let e = c.args.self.now in
+    let k = g.K.Keeper.contents in
+    let (steps, spelled, number) = c.in-Some.ensures c.requires.sound.known in
+    let new = c.ask_of-form.new.self in
+    let l = bare_question e.last.session steps c.in-Some.attribute.now in
+    let done = c.ask_of-form.ensures (From_root steps) number in
+    let told = c.at_once.result in
+    let hears = heard_at_once (rules_of e) (state_of e) (state_of new) l told c.ask_of-form.result c.at_once.ensures.session c.at_once.ensures.done c.at_once.ensures.form done.obeys done.err in
+    let v = verdict (rules_of e) (state_of e) l in
+    let all = at_once_spares k e new v c.ask_of-form.result (done.spares exact spare) in
+    line_spares k e new c.args.line.now l told spelled hears (subst (λ (x : Result Form AllocError). SparesVerdict k v x e new) (sym c.at_once.ensures.form) all)
+
+pub returns-in-Some-clause-stays : goal.returns-in-Some-clause-stays
+returns-in-Some-clause-stays g c =
+    let (steps, spelled, number) = c.in-Some.ensures c.requires.sound.known in
+    let done = c.ask_of-form.ensures (From_root steps) number in
+    done.stays
+
 pub returns-in-Ok-clause-gets : goal.returns-in-Ok-clause-gets
 returns-in-Ok-clause-gets g c = got (rules_of c.args.self.now) (state_of c.args.self.now) (state_of c.obey.new.self) c.args.line.now (line_view c.in-Ok.line) c.in-Ok.ensures.found c.obey.result c.obey.ensures.hears
 
@@ -42,8 +80,8 @@ returns-in-Ok-Ask-clause-gets g c =
     let Listed : List Argument → Type 0 = λ arguments. Fulfils g.K.Keeper.exact k e (verdict (rules_of e) (state_of e) (line_of q.field-0 (Ask (place_view q.place) q.attribute.now (arguments_view arguments)))) c.question.result new in
     let Done : Command → Type 0 = λ words. Fulfils g.K.Keeper.exact k e (verdict (rules_of e) (state_of e) (line_of q.field-0 (command_view words))) c.question.result new in
     let done = subst Done (sym is) (subst Listed c.deref.ensures.value c.question.ensures) in
-    let told = c.at_once.result in
-    let hears = heard_at_once (rules_of e) (state_of e) (state_of new) (line_view q.field-0) told c.question.result c.at_once.ensures.session c.at_once.ensures.done c.at_once.ensures.form done.obeys done.err in
+    let told = c.at_once-in-Ok-Ask.result in
+    let hears = heard_at_once (rules_of e) (state_of e) (state_of new) (line_view q.field-0) told c.question.result c.at_once-in-Ok-Ask.ensures.session c.at_once-in-Ok-Ask.ensures.done c.at_once-in-Ok-Ask.ensures.form done.obeys done.err in
     got (rules_of e) (state_of e) (state_of new) c.args.line.now (line_view q.field-0) q.ensures.found told hears
 
 pub returns-in-Ok-Ask-clause-spares : goal.returns-in-Ok-Ask-clause-spares
@@ -56,11 +94,11 @@ returns-in-Ok-Ask-clause-spares g c exact spare =
     let Listed : List Argument → Type 0 = λ arguments. Fulfils g.K.Keeper.exact k e (verdict (rules_of e) (state_of e) (line_of q.field-0 (Ask (place_view q.place) q.attribute.now (arguments_view arguments)))) c.question.result new in
     let Done : Command → Type 0 = λ words. Fulfils g.K.Keeper.exact k e (verdict (rules_of e) (state_of e) (line_of q.field-0 (command_view words))) c.question.result new in
     let done = subst Done (sym is) (subst Listed c.deref.ensures.value c.question.ensures) in
-    let told = c.at_once.result in
-    let hears = heard_at_once (rules_of e) (state_of e) (state_of new) (line_view q.field-0) told c.question.result c.at_once.ensures.session c.at_once.ensures.done c.at_once.ensures.form done.obeys done.err in
+    let told = c.at_once-in-Ok-Ask.result in
+    let hears = heard_at_once (rules_of e) (state_of e) (state_of new) (line_view q.field-0) told c.question.result c.at_once-in-Ok-Ask.ensures.session c.at_once-in-Ok-Ask.ensures.done c.at_once-in-Ok-Ask.ensures.form done.obeys done.err in
     let v = verdict (rules_of e) (state_of e) (line_view q.field-0) in
     let all = at_once_spares k e new v c.question.result (done.spares exact spare) in
-    line_spares k e new c.args.line.now (line_view q.field-0) told q.ensures.found hears (subst (λ (x : Result Form AllocError). SparesVerdict k v x e new) (sym c.at_once.ensures.form) all)
+    line_spares k e new c.args.line.now (line_view q.field-0) told q.ensures.found hears (subst (λ (x : Result Form AllocError). SparesVerdict k v x e new) (sym c.at_once-in-Ok-Ask.ensures.form) all)
 
 pub returns-in-Err-Syntax-clause-gets : goal.returns-in-Err-Syntax-clause-gets
 returns-in-Err-Syntax-clause-gets g c =

@@ -56,6 +56,7 @@ returns-in_err-push g c =
     let stays : Continues g.K.Keeper.contents e new = record {
       rules = refl;
       slice = refl;
+      known = λ k. k;
       sound = record {
         idle = s.idle;
         sound = s.sound;
@@ -88,6 +89,7 @@ returns g c =
     let stays : Continues g.K.Keeper.contents e new = record {
       rules = refl;
       slice = refl;
+      known = λ k. k;
       sound = sound_push (rules_of e) e.store (marks_of e) e.posts new.posts c.in_ok-posted.posted k c.in_ok-push.ensures.items c.in_ok-push.ensures.count (h.is_number ∙ c.in-Some.ensures.0) on c.requires.sound;
     } in
     let Sparing : Posted → Type 0 = λ p. IsSparingOn (rules_of e) (contents e.store) k p.question in

@@ -38,5 +38,5 @@ returns g c =
       spare = λ exact spare. spare_line g.K.Keeper.contents e new line t.form (c.outcome-told.ensures.spares exact spare);
       rules = stays.rules;
       slice = stays.slice;
-      sound = record { held = stays.sound; typed = typed_served (rules_of e) (rules_of new) (wants, a.0) (state_of e) (state_of new) line c.requires.sound.typed stays.rules a.1 };
+      sound = record { held = stays.sound; typed = typed_served (rules_of e) (rules_of new) (wants, a.0) (state_of e) (state_of new) line c.requires.sound.typed stays.rules a.1; known = stays.known c.requires.sound.known };
     }

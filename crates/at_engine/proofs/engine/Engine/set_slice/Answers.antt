@@ -2,4 +2,4 @@ use Rattle.at_engine.specs.Engines.{IsSound}
 use Rattle.at_engine.proofs.engine.Engine.set_slice.Goals as goal
 
 pub returns-clause-sound : goal.returns-clause-sound
-returns-clause-sound g c s = record { held = s.held; typed = s.typed }
+returns-clause-sound g c s = record { held = s.held; typed = s.typed; known = s.known }

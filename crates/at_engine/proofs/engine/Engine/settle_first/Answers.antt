@@ -1,8 +1,8 @@
-use Rattle.std.proofs.Common.{◌∙◌, ℕ, List, map, ap, arith, length, refl, subst}
+use Rattle.std.proofs.Common.{◌∙◌, ℕ, List, map, ap, arith, length, refl, subst, sym}
 use Rattle.std.specs.Prelude.{remove}
 use Rattle.std.proofs.lemmas.Option.{slice_get_within}
 use Rattle.at_store.specs.Shown.{path}
-use Rattle.at_engine.specs.Engines.{rules_of, state_of}
+use Rattle.at_engine.specs.Engines.{rules_of, state_of, Knows}
 use Rattle.at_engine.specs.Posted.{posted_view}
 use Rattle.at_engine.specs.Telling.{IsSaid}
 use Rattle.at_engine.specs.Turning.{told_of}
@@ -101,5 +101,5 @@ returns g c = record {
   spare = λ exact spare. c.tell.ensures.off.spare exact (c.settle-form.ensures.spare exact spare);
   rules = ap (λ x. x.rules) c.tell.ensures.off.rest ∙ ap (λ x. x.rules) c.settle-form.ensures.rest;
   slice = ap (λ x. x.slice) c.tell.ensures.off.rest ∙ ap (λ x. x.slice) c.settle-form.ensures.rest;
-  sound = record { held = c.tell.ensures.off.sound; typed = typed_end c.settle-form.new.self c.tell.new.self c.tell.ensures.off.rest (typed_rest c.args.self.now c.settle-form.new.self c.settle-form.ensures.rest c.requires.sound.typed) };
+  sound = record { held = c.tell.ensures.off.sound; typed = typed_end c.settle-form.new.self c.tell.new.self c.tell.ensures.off.rest (typed_rest c.args.self.now c.settle-form.new.self c.settle-form.ensures.rest c.requires.sound.typed); known = subst Knows (sym c.tell.ensures.off.rest) (subst Knows (sym c.settle-form.ensures.rest) c.requires.sound.known) };
 }

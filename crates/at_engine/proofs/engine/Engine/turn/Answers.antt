@@ -1,9 +1,10 @@
-use Rattle.std.proofs.Common.{◌∙◌, List, Option, Result, Ok, Err, ℕ, map, ap, refl, subst, arith}
+use Rattle.std.proofs.Common.{◌∙◌, List, Option, Result, Ok, Err, ℕ, map, ap, refl, subst, sym, arith}
 use Rattle.std.specs.declared.alloc.AllocError.{AllocError}
 use Rattle.at_protocol.specs.declared.reply.Form.{Form}
 use Rattle.at_store.specs.Shown.{path}
 use Rattle.at_engine.specs.Posted.{posted_view}
 use Rattle.at_engine.specs.Turning.{Tried, told_of}
+use Rattle.at_engine.specs.Engines.{Knows}
 use Rattle.at_engine.proofs.of_turns.Finishing.{first_stands, first_there, stands_open, takes_failed, takes_silent, takes_told, typed_end, typed_rest}
 use Rattle.std.proofs.lemmas.Option.{slice_get_within}
 use Rattle.at_engine.specs.Telling.{IsSaid}
@@ -47,7 +48,7 @@ returns-in-Ok-None g c = record {
   spare = c.try_once.ensures.spare;
   rules = ap (λ x. x.rules) c.try_once.ensures.rest;
   slice = ap (λ x. x.slice) c.try_once.ensures.rest;
-  sound = record { held = c.try_once.ensures.sound; typed = typed_rest c.args.self.now c.try_once.new.self c.try_once.ensures.rest c.requires.sound.typed };
+  sound = record { held = c.try_once.ensures.sound; typed = typed_rest c.args.self.now c.try_once.new.self c.try_once.ensures.rest c.requires.sound.typed; known = subst Knows (sym c.try_once.ensures.rest) c.requires.sound.known };
 }
 
 pub returns-in-Ok-Some : goal.returns-in-Ok-Some
@@ -70,7 +71,7 @@ returns-in-Ok-Some g c = record {
   spare = λ exact spare. c.tell.ensures.off.spare exact (c.try_once.ensures.spare exact spare);
   rules = ap (λ x. x.rules) c.tell.ensures.off.rest ∙ ap (λ x. x.rules) c.try_once.ensures.rest;
   slice = ap (λ x. x.slice) c.tell.ensures.off.rest ∙ ap (λ x. x.slice) c.try_once.ensures.rest;
-  sound = record { held = c.tell.ensures.off.sound; typed = typed_end c.try_once.new.self c.tell.new.self c.tell.ensures.off.rest (typed_rest c.args.self.now c.try_once.new.self c.try_once.ensures.rest c.requires.sound.typed) };
+  sound = record { held = c.tell.ensures.off.sound; typed = typed_end c.try_once.new.self c.tell.new.self c.tell.ensures.off.rest (typed_rest c.args.self.now c.try_once.new.self c.try_once.ensures.rest c.requires.sound.typed); known = subst Knows (sym c.tell.ensures.off.rest) (subst Knows (sym c.try_once.ensures.rest) c.requires.sound.known) };
 }
 
 pub tell-requires-clause-there : goal.tell-requires-clause-there
@@ -108,7 +109,7 @@ returns-in-Err g c = record {
   spare = λ exact spare. c.tell-in-Err.ensures.off.spare exact (c.try_once.ensures.spare exact spare);
   rules = ap (λ x. x.rules) c.tell-in-Err.ensures.off.rest ∙ ap (λ x. x.rules) c.try_once.ensures.rest;
   slice = ap (λ x. x.slice) c.tell-in-Err.ensures.off.rest ∙ ap (λ x. x.slice) c.try_once.ensures.rest;
-  sound = record { held = c.tell-in-Err.ensures.off.sound; typed = typed_end c.try_once.new.self c.tell-in-Err.new.self c.tell-in-Err.ensures.off.rest (typed_rest c.args.self.now c.try_once.new.self c.try_once.ensures.rest c.requires.sound.typed) };
+  sound = record { held = c.tell-in-Err.ensures.off.sound; typed = typed_end c.try_once.new.self c.tell-in-Err.new.self c.tell-in-Err.ensures.off.rest (typed_rest c.args.self.now c.try_once.new.self c.try_once.ensures.rest c.requires.sound.typed); known = subst Knows (sym c.tell-in-Err.ensures.off.rest) (subst Knows (sym c.try_once.ensures.rest) c.requires.sound.known) };
 }
 
 pub tell-requires-in-Err-clause-there : goal.tell-requires-in-Err-clause-there
