@@ -58,27 +58,35 @@ pub struct Script {
     pub replies: &'static str,
 }
 
-/// A question, each edit but a move, and a mark, and the question again.
+/// A question, each edit but a move, and a mark, and the question again; and another one twice where it was asked last.
 pub const EDITS: &Script = &Script {
     name: "edits",
     way: Way::Run,
     lines: "0 ask /Block/Stmt:1/Expr value()
+100 ask /Block/Stmt:1/Expr/Right value()
+100 ask /Block/Stmt:1/Expr/Right value()
 0 mark u /Block/Stmt:1/Expr/Left
 0 insert /Block Stmt 0 Decl(\"y\",-)
 0 put /Block/Stmt:0 Init Num(6)
 0 drop /Block/Stmt:0
 0 set /Block/Stmt:0/Init Num(4)
 0 token /Block/Stmt:1/Expr/Right Value 5
+100 ask /Block/Stmt:1/Expr/Right value()
+100 ask /Block/Stmt:1/Expr/Right value()
 0 where u
 0 ask /Block/Stmt:1/Expr value()
 ",
     replies: "0 = 3
+100 = 2
+100 = 2
 0 ok 0
 0 ok 1
 0 ok 2
 0 ok 3
 0 ok 4
 0 ok 5
+100 = 5
+100 = 5
 0 = /Block/Stmt:1/Expr/Left
 0 = 9
 ",
