@@ -1,5 +1,5 @@
 -- The place of the first newline, as a search of bytes tells it.
-use Rattle.std.proofs.Common.{◌≡◌, ℕ, ◌<◌, Bool, true, false, ◌==◌, cond, nat_lt, List, length, get_or, Option, Some, None, ap, sym, ◌∙◌, arith, refl}
+use Rattle.std.proofs.Common.{◌≡◌, ℕ, Bool, true, false, ◌==◌, cond, nat_lt, List, length, get_or, Option, Some, None, ap, sym, ◌∙◌, arith, refl}
 use Rattle.std.specs.List.{position_or_len}
 use Rattle.std.proofs.lemmas.Bool.{lt-ltb, le-ltb}
 use Rattle.std.proofs.lemmas.List.Sums.{position_or_len_is}

@@ -1,7 +1,7 @@
 -- What the machine makes of a question whose words were copied.
 use Rattle.std.proofs.Common.{◌≡◌, ◌∙◌, ◌++◌, ◌+◌, ℕ, List, [], ◌∷◌, Option, None, refl, ap, sym, subst, string_bytes}
 use Rattle.at_model.specs.Lines.{Argument, Place, Post}
-use Rattle.at_model.specs.Machine.{State, Posts as PostsOf, after, marks_used}
+use Rattle.at_model.specs.Machine.{Posts as PostsOf, after, marks_used}
 use Rattle.at_model.specs.Names.{IsName}
 use Rattle.at_model.specs.Rules.{Rules}
 use Rattle.at_model.specs.Run.{Contents}

@@ -1,17 +1,17 @@
 -- Questions that begin at the root, name no version and have no arguments, cut in front of their attribute.
-use Rattle.std.proofs.Common.{◌≡◌, ℕ, ◌+◌, ◌<◌, ◌≤◌, ◌==◌, true, false, List, [], ◌∷◌, ◌++◌, length, take, Option, Some, None, Result, Ok, Err, Bor, is_some, refl, ap, sym, ◌∙◌, subst, arith, append_assoc, length-append}
-use Rattle.std.specs.Prelude.{codes, IfSome, IsUtf8, MatchResult}
-use Rattle.std.specs.Result.{result_ok}
+use Rattle.std.proofs.Common.{◌≡◌, ℕ, ◌+◌, ◌<◌, ◌≤◌, ◌==◌, true, false, true≢false, List, [], ◌∷◌, ◌++◌, length, take, Option, Some, None, is_some, refl, ap, sym, ◌∙◌, subst, arith, append_assoc, length-append}
+use Rattle.std.specs.Prelude.{codes}
 use Rattle.std.specs.Fmt.{decimal}
 use Rattle.std.proofs.lemmas.Bool.{eqb-true}
-use Rattle.std.proofs.lemmas.List.{nil_from_length}
+use Rattle.std.proofs.lemmas.List.{append_cancel_left, append_cancel_right, nil_from_length}
 use Rattle.std.proofs.Math.Seq.{take-append_seam}
 use Rattle.at_model.specs.Paths.{Path, path_text, IsPath}
-use Rattle.at_model.specs.Lines.{Place, From_root, Argument, Ask, Spells, call_text, line_text, max_line, max_sessions}
-use Rattle.at_text.specs.declared.fault.Failure.{Failure}
-use Rattle.at_protocol.specs.declared.line.words.Misfit.{Misfit}
-use Rattle.at_protocol.specs.Words.{Answers, IsNameText}
-use Rattle.at_protocol.specs.Again.{bare_question, front_text}
+use Rattle.at_model.specs.Lines.{Line, Place, From_root, From_mark, Argument, Command, Ask, Spells, call_text, line_text, max_line, max_sessions}
+use Rattle.at_model.specs.Names.{IsName}
+use Rattle.at_model.proofs.of_texts.OneLine.{same_line}
+use Rattle.at_protocol.specs.LineView.{arguments_view}
+use Rattle.at_protocol.specs.declared.line.Argument.{Argument as ArgumentValue}
+use Rattle.at_protocol.specs.Again.{bare_question, front_text, question}
 
 -- behind the front stands the attribute, with nothing between its parentheses
 front_and_call : (session : ℕ) (steps : Path) (attribute : List ℕ) → front_text session steps ++ call_text attribute [] ≡ line_text (bare_question session steps attribute)
@@ -36,21 +36,48 @@ pub none_given : {A : Type 0} (arguments : List A) → (length arguments == 0) �
 none_given arguments e = nil_from_length arguments (eqb-true (length arguments) 0 e)
 
 pub is_bare : (line attribute : List ℕ) (session : ℕ) (expected : Option ℕ) (place : Place) (steps : Path) (arguments : List Argument) → expected ≡ None → place ≡ From_root steps → arguments ≡ []
-    → Spells line (record { session = session; expected = expected; command = Ask place attribute arguments }) → Spells line (bare_question session steps attribute)
+    → Spells line (question session expected place attribute arguments) → Spells line (bare_question session steps attribute)
 is_bare line attribute session expected place steps arguments none from_root empty = subst (Spells line) (λ i. record { session = session; expected = none i; command = Ask (from_root i) attribute (empty i) })
 
--- the word that the bytes are
-pub word_of : {E : Type 0} (bytes : List ℕ) (result : Result (Bor (List ℕ)) E) (word : Bor (List ℕ)) (IsFault : E → Type 0) → MatchResult result (λ s. (s.now ≡ bytes) × IsUtf8 bytes) IsFault → Some word ≡ result_ok result → bytes ≡ word.now
-word_of bytes (Ok s) word IsFault h is = sym h.0 ∙ cc
-word_of bytes (Err fault) word IsFault h is = absurd cc
+-- the parts of a line that is such a question
+pub bare_parts : (line attribute : List ℕ) (session : ℕ) (expected : Option ℕ) (place : Place) (arguments : List Argument) (steps : Path) → Spells line (question session expected place attribute arguments) → Spells line (bare_question session steps attribute)
+    → (expected ≡ None) × (place ≡ From_root steps) × (arguments ≡ [])
+bare_parts line attribute session expected place arguments steps h bare =
+    let is : question session expected place attribute arguments ≡ bare_question session steps attribute = same_line (question session expected place attribute arguments) (bare_question session steps attribute) h.is_line bare.is_line (sym h.text ∙ bare.text) in
+    (ap (λ (l : Line). l.expected) is, ap (λ (l : Line). place_asked l.command) is, ap (λ (l : Line). given l.command) is)
+  where
+    place_asked : Command → Place
+    place_asked (Ask p name as') = p
+    place_asked c = place
+
+    given : Command → List Argument
+    given (Ask p name as') = as'
+    given c = arguments
+
+-- parts that such a question hasn't
+pub at_mark : {name : List ℕ} {path steps : Path} → From_mark name path ≡ From_root steps → ⊥
+at_mark e = cc
+
+pub some_given : (arguments : List ArgumentValue) → arguments_view arguments ≡ [] → false ≡ (length arguments == 0) → ⊥
+some_given [] e other = true≢false (sym other)
+some_given (a ∷ as') e other = cc
 
 -- a name behind the front, and nothing between the parentheses behind it
-pub asks : (line front word : List ℕ) (result : Result (Bor (List ℕ)) (Failure Misfit)) (session : ℕ) (steps : Path)
-    → line ≡ front ++ call_text word [] → length line ≤ max_line → Answers (λ name. name.now) (IsNameText word) result → session < max_sessions → IsPath steps → front ≡ front_text session steps
-    → IfSome (result_ok result) (λ attribute. Spells line (bare_question session steps attribute.now))
-asks line front word (Err fault) session steps split short answers small path before = tt
-asks line front word (Ok name) session steps split short answers small path before = record {
-  is_line = record { session = small; expected = tt; command = (path, answers.0, tt) };
-  text = split ∙ ap (λ y. y ++ call_text word []) before ∙ ap (λ y. front_text session steps ++ call_text y []) (sym answers.1) ∙ front_and_call session steps name.now;
+pub asks : (line front word : List ℕ) (session : ℕ) (steps : Path) → line ≡ front ++ call_text word [] → length line ≤ max_line → IsName word → session < max_sessions → IsPath steps → front ≡ front_text session steps
+    → Spells line (bare_question session steps word)
+asks line front word session steps split short name small path before = record {
+  is_line = record { session = small; expected = tt; command = (path, name, tt) };
+  text = split ∙ ap (λ y. y ++ call_text word []) before ∙ front_and_call session steps word;
   short = short;
 }
+
+-- what stands behind the front of such a question
+module _ (line front attribute : List ℕ) (session : ℕ) (steps : Path) (before : front ≡ front_text session steps) (h : Spells line (bare_question session steps attribute)) where
+  pub behind_front : line ≡ front ++ call_text attribute []
+  behind_front = h.text ∙ sym (front_and_call session steps attribute) ∙ ap (λ y. y ++ call_text attribute []) (sym before)
+
+  pub call_is : (call : List ℕ) → line ≡ front ++ call → call ≡ call_text attribute []
+  call_is call split = append_cancel_left front call (call_text attribute []) (sym split ∙ behind_front)
+
+  pub name_is : (call name : List ℕ) → line ≡ front ++ call → call ≡ name ++ codes "()" → name ≡ attribute
+  name_is call name split cut = append_cancel_right name attribute (codes "()") (sym cut ∙ call_is call split)

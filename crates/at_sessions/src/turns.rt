@@ -1,6 +1,5 @@
 //! Questions in turns: lines and turns one by one, and how many lines are told before an answer.
 
-ghost use Rattle.std.specs.Prelude.{IfOk};
 ghost use Rattle.at_start.specs.Starts.{IsReady};
 
 use crate::hearing::{calculator, played};

@@ -1,5 +1,5 @@
 -- How the connections of a socket ended.
-use Rattle.std.specs.Prelude.{◌≡◌, ℕ, ◌+◌, ◌&&◌, ◌==◌, Bool, Result, Ok, Err}
+use Rattle.std.specs.Prelude.{ℕ, ◌+◌, Result, Ok, Err}
 use Rattle.at_engine.specs.declared.stream.desk.RunFault.TheVariants as run
 use Rattle.attrd.specs.declared.serving.Served.{Served}
 use Rattle.attrd.specs.declared.serving.ConnectionFault.{ConnectionFault}

@@ -6,7 +6,7 @@ use Rattle.at_model.specs.Run.{Instance, Value}
 use Rattle.at_model.specs.Run as run
 use Rattle.at_model.specs.Lines.{Place, From_root, From_mark, Argument, Text, Ref, Null, Ask}
 use Rattle.at_model.specs.Meaning.{Answer}
-use Rattle.at_model.specs.Replies.{Code, Form, Refused}
+use Rattle.at_model.specs.Replies.{Code, Refused}
 use Rattle.at_model.specs.Replies as code
 use Rattle.at_model.specs.Rules.{Rules}
 use Rattle.at_model.specs.Trees.{Tree}

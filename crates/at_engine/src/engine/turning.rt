@@ -46,7 +46,7 @@ fn answer_to<K: Keeper>(
 }
 
 impl<K: Keeper> Engine<K> {
-    ghost use Rattle.std.specs.Prelude.{◌≡◌, ◌+◌, ◌<◌, ◌≤◌, IfOk, IsTrue, MatchBool, None, [], length, vec_len, vec_capacity};
+    ghost use Rattle.std.specs.Prelude.{◌≡◌, ◌+◌, ◌<◌, ◌≤◌, IfOk, MatchBool, None, [], length, vec_len, vec_capacity};
     ghost use Rattle.at_store.specs.Shown.{contents, path as path_shown};
     ghost use Rattle.at_engine.specs.Engines.{rules_of, state_of, IsSound};
     ghost use Rattle.at_engine.specs.Holding.{HasBegun};

@@ -1,8 +1,7 @@
-use Rattle.std.proofs.Common.{◌≡◌, ◌∙◌, subst, sym, refl, arith, ℕ}
-use Rattle.at_model.specs.Rules.{Rules}
+use Rattle.std.proofs.Common.{◌∙◌, refl, arith}
 use Rattle.at_engine.specs.Engines.{rules_of, slice_of, state_of}
-use Rattle.attrd.specs.Connections.{counted, faults}
-use Rattle.attrd.specs.Doors.{ServesAll, ServesNext, none, one_more}
+use Rattle.attrd.specs.Connections.{faults}
+use Rattle.attrd.specs.Doors.{none}
 use Rattle.attrd.proofs.DoorsLemmas.{counted_ends, counted_faults, served_on}
 use Rattle.attrd.proofs.serving.serve.Goals as goal
 

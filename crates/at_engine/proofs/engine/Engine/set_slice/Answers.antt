@@ -1,4 +1,3 @@
-use Rattle.at_engine.specs.Engines.{IsSound}
 use Rattle.at_engine.proofs.engine.Engine.set_slice.Goals as goal
 
 pub returns-clause-sound : goal.returns-clause-sound

@@ -1,7 +1,6 @@
-use Rattle.std.proofs.Common.{◌≡◌, ◌∙◌, ◌≤◌, ℕ, length, Some, None, option_map, slice_get, ap, arith, refl, sym}
-use Rattle.std.specs.Cow.{cow_str_bytes}
+use Rattle.std.proofs.Common.{Some, refl, sym}
 use Rattle.at_store.specs.Shown.{path}
-use Rattle.at_engine.specs.Marks.{Mark, listed, mark_of}
+use Rattle.at_engine.specs.Marks.{listed, mark_of}
 use Rattle.at_engine.proofs.of_marks.Keys.{listed_at, listed_past}
 use Rattle.at_engine.proofs.of_marks.Tallies.{kept_more, kept_no_more}
 use Rattle.at_engine.proofs.marks.changing.discount_at.Goals as goal
