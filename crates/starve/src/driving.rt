@@ -2,7 +2,7 @@
 
 ghost use Rattle.at_engine.specs.Engines.{IsSound};
 
-use crate::telling::Stop;
+use crate::telling::{MEMORY, Stop};
 use at_cache::Keeper;
 use at_engine::Engine;
 use std::alloc::{AllocError, Global};
@@ -13,9 +13,6 @@ const LAST_TURNS: u32 = 1_000;
 
 /// More bytes than a session's lines or replies have.
 const ROOM: usize = 4_096;
-
-/// What ends a reply for which memory was wanting.
-const MEMORY: &str = " memory\n";
 
 /// Lines, the replies to them, and how many lines and questions were answered `memory`. A line that was answered `memory`
 /// isn't among them; in place of a turn that answered a question stands a line that waits for it.

@@ -6,8 +6,8 @@ use at_cache::Keeper;
 use at_engine::{Engine, RunFault, run};
 use std::alloc::{AllocError, Global};
 
-/// The reply to a line of the sample for which memory is wanting.
-const MEMORY: &str = "0 memory\n";
+/// What ends a reply for which memory was wanting.
+pub const MEMORY: &str = " memory\n";
 
 /// Why nothing is told of a session.
 #[derive(Drop)]
@@ -64,7 +64,7 @@ pub fn answered(alloc: Global, lines: &str, replies: &str) -> Result<String, All
         .split_inclusive('\n')
         .zip(replies.split_inclusive('\n'))
     {
-        if reply != MEMORY {
+        if !reply.ends_with(MEMORY) {
             answered.push_str(line)?;
         }
     }
@@ -75,7 +75,7 @@ pub fn answered(alloc: Global, lines: &str, replies: &str) -> Result<String, All
 pub fn are_left(replies: &str, left: &[u8]) -> bool {
     let mut rest = left;
     for reply in replies.split_inclusive('\n') {
-        if reply != MEMORY {
+        if !reply.ends_with(MEMORY) {
             let Some(others) = rest.strip_prefix(reply.as_bytes()) else {
                 return false;
             };
