@@ -105,6 +105,8 @@ def questions(bench):
     asked, filled = bench.spent(words, lines)
     version, loaded = bench.spent(words, "0 version\n" * 20_000)
     bench.told("a kept entry with its edges, in bytes", (filled - loaded) * 1024 / tree.entries)
+    elsewhere = "".join(f"0 ask {path} value()\n" for path in paths)
+    bench.told("a kept question at another node each time, some 16 steps down, in instructions", each(bench.counted(words, elsewhere * 2, elsewhere), len(paths)))
     java = FullFlush.compiled(bench.folder)
     if java is None:
         print("no Java row: there is no javac")
