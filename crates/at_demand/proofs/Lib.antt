@@ -30,3 +30,4 @@ pub mod Few
 mod Fitting
 mod Putting
 pub mod Chained
+mod of_nesting

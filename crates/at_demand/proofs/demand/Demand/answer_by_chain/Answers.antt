@@ -1,6 +1,6 @@
 use Rattle.std.proofs.Common.{ℕ, Some, sym, ap, ◌∙◌}
 use Rattle.at_model.specs.Run.{Value}
-use Rattle.at_demand.proofs.InnerAnswered.{answered_kept}
+use Rattle.at_demand.proofs.of_nesting.InnerAnswered.{answered_kept}
 use Rattle.at_demand.proofs.demand.Demand.answer_by_chain.Goals as goal
 
 pub returns-in-Some : goal.returns-in-Some

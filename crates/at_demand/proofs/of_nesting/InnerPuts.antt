@@ -9,7 +9,7 @@ use Rattle.at_model.specs.Meaning.{Among, HasValue, Leads, Right}
 use Rattle.at_model.specs.Support.{Supports}
 use Rattle.at_model.specs.Nested.{Evaluates}
 use Rattle.at_model.proofs.Options.{or_right}
-use Rattle.at_model.proofs.Nesting.{evaluates_value, covered as all_covered, only as only_supports, takes, taken_known, led}
+use Rattle.at_model.proofs.of_nesting.Nesting.{evaluates_value, covered as all_covered, only as only_supports, takes, taken_known, led}
 use Rattle.at_body.specs.Same.{same_instance}
 use Rattle.at_cache.specs.Kept.{Kept, Entries, Puts, covered, covers_at, same_location, value_at}
 use Rattle.at_cache.proofs.Locations.{same_location-is, same_location-itself}

@@ -1,0 +1,4 @@
+pub mod Going
+pub mod InnerPuts
+pub mod InnerGains
+pub mod InnerAnswered
