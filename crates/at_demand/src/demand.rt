@@ -126,7 +126,7 @@ impl<K: Keeper> Demand<K> {
         ensures value { IfOk result (λ o. IfSome o (λ v. HasValue (contents store.now) (meaning rules.now) inst.now (value_view v))) }
         ensures all { IsTrue K.exact → AreSpare rules.now (contents store.now) (K.contents self.old.keeper)
             → IfOk result (λ o. IfSome o (λ v. HasWorthy rules.now (contents store.now) inst.now (K.contents self.new.keeper))) }
-        ensures gains { Gains rules.now store.now K.exact inst.now (K.contents self.old.keeper) (K.contents self.new.keeper) self.old.work self.new.work }
+        ensures gains { Gains rules.now store.now K.exact inst.now (K.contents self.old.keeper) (K.contents self.new.keeper) [] [] self.old.work self.new.work }
     {
         let mut direct = Direct::new(self.alloc, self.work);
         let told = direct.answer(&mut self.keeper, rules, store, inst);

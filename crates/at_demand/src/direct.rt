@@ -1,32 +1,36 @@
 //! Evaluation in one go: an instance is evaluated with all that it demands, by recursion, which comes to its value or gives up. What
 //! isn't lazy is evaluated in the one that asks, and each lazy one is kept at its end.
 
-ghost use Rattle.std.specs.Prelude.{◌≡◌, ◌<◌, ◌^◌, IfOk, OnErr, OnOk, IsTrue, None, Some, true};
+ghost use Rattle.std.specs.Prelude.{◌≡◌, ◌<◌, ◌^◌, [], IfOk, IsSome, OnErr, OnOk, IsTrue, None, Some, false, true};
+ghost use Rattle.std.specs.Option.{option_map};
 ghost use Rattle.at_model.specs.Instances.{AnyText};
-ghost use Rattle.at_model.specs.Meaning.{HasValue, Right};
+ghost use Rattle.at_model.specs.Meaning.{HasValue};
 ghost use Rattle.at_model.specs.Rules.{is_lazy};
 ghost use Rattle.at_model.specs.TypedRuns.{IsWellTyped};
 ghost use Rattle.at_model.specs.WellFormed.{AreWellFormed, IsTreeSound};
 ghost use Rattle.at_store.specs.Shown.{IsIdle, contents, tree};
 ghost use Rattle.at_body.specs.Typed.{class_shown};
 ghost use Rattle.at_body.specs.Values.{value_view};
+ghost use Rattle.at_body.specs.Same.{same_instance};
+ghost use Rattle.indexmap.specs.IndexMap.{insert_entry};
 ghost use Rattle.at_cache.specs.Kept.{AreKept, HasPut, KeepsAll};
-ghost use Rattle.at_demand.specs.Known.{ArePlain, kept_values, meaning};
-ghost use Rattle.at_demand.specs.Inner.{Gains, HasRecalled, HasTold, IsEvaluated};
+ghost use Rattle.at_demand.specs.Known.{kept_values, meaning};
+ghost use Rattle.at_demand.specs.Inner.{AreKnown, Gains, HasRecalled, HasTold, IsEvaluated, IsOneOf, known_by, remembered};
 ghost use Rattle.at_demand.specs.Sparing.{AreSpare, Counts, HasWorthy};
 
 use at_body::{Inst, Step, Trial, Value};
 use at_cache::{Keeper, Put};
-use at_rules::Rules;
+use at_rules::{AttrId, Rules};
 use at_store::Store;
+use indexmap::IndexMap;
 use std::alloc::{AllocError, AllocFailed, Global};
 
 // How deep instances nest at most. The least of what they need of the native stack: see the tests of the program.
 const DEPTH: usize = 400;
 
-// How many locations an instance that isn't lazy may look at, with all that is evaluated in it: nothing remembers its value, so a shared one is
-// evaluated again at each demand.
-const FEW: usize = 64;
+// An instance that isn't lazy, and looks at no more locations than that with all that is evaluated in it, is evaluated again at each demand.
+// The value of another one is remembered, and what it rests on stands once.
+const FEW: usize = 8;
 
 // Why an evaluation in one go comes to no value: memory is wanting, or it gives up.
 #[derive(Clone, Copy)]
@@ -60,10 +64,13 @@ impl Drop for Level<'_> {
     }
 }
 
-// Evaluations in one go. One begins in a `spare` level of one that ended, where there is one; what is in it counts for nothing.
+// Evaluations in one go, for one question. One begins in a `spare` level of one that ended, where there is one; what is in it counts for
+// nothing. The values that were `found` of instances that aren't lazy are remembered; of which attributes those are is a hint (`seen`).
 pub struct Direct<'a> {
     alloc: Global,
     spare: Vec<Level<'a>>,
+    pub found: IndexMap<Inst, Value>,
+    seen: Vec<bool>,
     pub work: u64,
     ghost few: { work < 2 ^ 64 },
 }
@@ -74,6 +81,8 @@ impl Drop for Direct<'_> {
         let Direct {
             alloc: _,
             spare: _,
+            found: _,
+            seen: _,
             work: _,
         } = self;
     }
@@ -83,11 +92,14 @@ impl<'a> Direct<'a> {
     // None yet, behind so much work.
     pub fn new(alloc: Global, work: u64) -> Direct<'a>
         requires few { work < 2 ^ 64 }
-        ensures { result.work ≡ work }
+        ensures work { result.work ≡ work }
+        ensures nothing { result.found.entries ≡ [] }
     {
         Direct {
             alloc,
             spare: Vec::new(alloc),
+            found: IndexMap::new(alloc),
+            seen: Vec::new(alloc),
             work,
         }
     }
@@ -104,12 +116,12 @@ impl<'a> Direct<'a> {
         requires formed { AreWellFormed rules.now }
         requires sound { IsTreeSound rules.now.classes (tree store.now) }
         requires typed { IsWellTyped rules.now (class_shown store.now) AnyText inst.now }
-        requires right { Right (contents store.now) (meaning rules.now) (kept_values (K.contents keeper.old)) }
-        requires plain { ArePlain rules.now (K.contents keeper.old) }
+        requires known { AreKnown rules.now (contents store.now) (K.contents keeper.old) self.old.found.entries }
         ensures value { IfOk result (λ v. HasValue (contents store.now) (meaning rules.now) inst.now (value_view v)) }
         ensures all { IsTrue K.exact → AreSpare rules.now (contents store.now) (K.contents keeper.old)
             → IfOk result (λ v. HasWorthy rules.now (contents store.now) inst.now (K.contents keeper.new)) }
-        ensures gains { Gains rules.now store.now K.exact inst.now (K.contents keeper.old) (K.contents keeper.new) self.old.work self.new.work }
+        ensures gains { Gains rules.now store.now K.exact inst.now (K.contents keeper.old) (K.contents keeper.new) self.old.found.entries
+            self.new.found.entries self.old.work self.new.work }
     {
         let mut asks = self.level();
         let needed = inst.copy(self.alloc)?;
@@ -118,7 +130,8 @@ impl<'a> Direct<'a> {
 
     // The level of an evaluation that ended, or a fresh one.
     fn level(&mut self) -> Level<'a>
-        ensures { self.new.work ≡ self.old.work }
+        ensures work { self.new.work ≡ self.old.work }
+        ensures found { self.new.found.entries ≡ self.old.found.entries }
     {
         match self.spare.pop() {
             Some(level) => level,
@@ -129,7 +142,7 @@ impl<'a> Direct<'a> {
         }
     }
 
-    // The value of an instance that an evaluation demands, which is kept, or is evaluated at once.
+    // The value of an instance that an evaluation demands, which is known, or is evaluated at once.
     #[cycle(direct)]
     fn told<K: Keeper>(
         &mut self,
@@ -144,10 +157,11 @@ impl<'a> Direct<'a> {
         requires formed { AreWellFormed rules.now }
         requires sound { IsTreeSound rules.now.classes (tree store.now) }
         requires typed { IsWellTyped rules.now (class_shown store.now) AnyText needed }
-        requires right { Right (contents store.now) (meaning rules.now) (kept_values (K.contents keeper.old)) }
-        requires plain { ArePlain rules.now (K.contents keeper.old) }
-        ensures told { IfOk result (λ v. HasTold rules.now (contents store.now) (K.contents keeper.new) level.old level.new needed (value_view v)) }
-        ensures gains { Gains rules.now store.now K.exact needed (K.contents keeper.old) (K.contents keeper.new) self.old.work self.new.work }
+        requires known { AreKnown rules.now (contents store.now) (K.contents keeper.old) self.old.found.entries }
+        ensures told { IfOk result (λ v. HasTold rules.now (contents store.now) (known_by (K.contents keeper.new) self.new.found.entries)
+            level.old level.new needed (value_view v)) }
+        ensures gains { Gains rules.now store.now K.exact needed (K.contents keeper.old) (K.contents keeper.new) self.old.found.entries
+            self.new.found.entries self.old.work self.new.work }
     {
         let recalled = self.recall(keeper, rules, store, level, &needed)?;
         match recalled {
@@ -156,7 +170,7 @@ impl<'a> Direct<'a> {
         }
     }
 
-    // The kept value of a lazy instance, which is taken then.
+    // The known value of an instance, which is taken then.
     fn recall<K: Keeper>(
         &self,
         keeper: &K,
@@ -165,17 +179,41 @@ impl<'a> Direct<'a> {
         level: &mut Level<'a>,
         needed: &Inst,
     ) -> Result<Option<Value>, AllocError>
-        ensures { IfOk result (HasRecalled rules.now (contents _store.now) (K.contents keeper.now) level.old level.new needed.now) }
+        requires known { AreKnown rules.now (contents _store.now) (K.contents keeper.now) self.now.found.entries }
+        ensures { IfOk result (HasRecalled rules.now (contents _store.now) (known_by (K.contents keeper.now) self.now.found.entries) level.old
+            level.new needed.now) }
     {
-        if !rules.is_lazy(needed.attribute()) {
-            return Ok(None);
-        }
-        let Some(kept) = keeper.get(needed) else {
+        let Some(value) = self.value_of(keeper, rules, needed)? else {
             return Ok(None);
         };
-        let value = kept.copy()?;
         level.uses.push(needed.copy(self.alloc)?)?;
         Ok(Some(value))
+    }
+
+    // The kept value of a lazy instance, or the one that is remembered of another one.
+    fn value_of<K: Keeper>(
+        &self,
+        keeper: &K,
+        rules: &Rules,
+        needed: &Inst,
+    ) -> Result<Option<Value>, AllocError>
+        ensures { IfOk result (IsOneOf (kept_values (K.contents keeper.now) needed.now) (remembered self.now.found.entries needed.now)) }
+    {
+        if rules.is_lazy(needed.attribute()) {
+            return copy_of(keeper.get(needed));
+        }
+        if !self.may_have(needed.attribute()) {
+            return Ok(None);
+        }
+        copy_of(self.found.get(needed))
+    }
+
+    // Whether an instance of the attribute may be remembered.
+    fn may_have(&self, attribute: AttrId) -> bool {
+        match self.seen.get(attribute.index()) {
+            Some(seen) => *seen,
+            None => false,
+        }
     }
 
     // The value of an instance that an evaluation demands, by an evaluation of its own, one level deeper.
@@ -193,10 +231,11 @@ impl<'a> Direct<'a> {
         requires formed { AreWellFormed rules.now }
         requires sound { IsTreeSound rules.now.classes (tree store.now) }
         requires typed { IsWellTyped rules.now (class_shown store.now) AnyText needed }
-        requires right { Right (contents store.now) (meaning rules.now) (kept_values (K.contents keeper.old)) }
-        requires plain { ArePlain rules.now (K.contents keeper.old) }
-        ensures told { IfOk result (λ v. HasTold rules.now (contents store.now) (K.contents keeper.new) level.old level.new needed (value_view v)) }
-        ensures gains { Gains rules.now store.now K.exact needed (K.contents keeper.old) (K.contents keeper.new) self.old.work self.new.work }
+        requires known { AreKnown rules.now (contents store.now) (K.contents keeper.old) self.old.found.entries }
+        ensures told { IfOk result (λ v. HasTold rules.now (contents store.now) (known_by (K.contents keeper.new) self.new.found.entries)
+            level.old level.new needed (value_view v)) }
+        ensures gains { Gains rules.now store.now K.exact needed (K.contents keeper.old) (K.contents keeper.new) self.old.found.entries
+            self.new.found.entries self.old.work self.new.work }
     {
         if above == 0 {
             return Err(Stop::GivesUp);
@@ -223,11 +262,11 @@ impl<'a> Direct<'a> {
         requires formed { AreWellFormed rules.now }
         requires sound { IsTreeSound rules.now.classes (tree store.now) }
         requires typed { IsWellTyped rules.now (class_shown store.now) AnyText inst.now }
-        requires right { Right (contents store.now) (meaning rules.now) (kept_values (K.contents keeper.old)) }
-        requires plain { ArePlain rules.now (K.contents keeper.old) }
-        ensures come { IfOk result (λ v. IsEvaluated rules.now (contents store.now) (K.contents keeper.new) inst.now (value_view v)
-            level.new.trial.reads level.new.uses.items) }
-        ensures gains { Gains rules.now store.now K.exact inst.now (K.contents keeper.old) (K.contents keeper.new) self.old.work self.new.work }
+        requires known { AreKnown rules.now (contents store.now) (K.contents keeper.old) self.old.found.entries }
+        ensures come { IfOk result (λ v. IsEvaluated rules.now (contents store.now) (known_by (K.contents keeper.new) self.new.found.entries)
+            inst.now (value_view v) level.new.trial.reads level.new.uses.items) }
+        ensures gains { Gains rules.now store.now K.exact inst.now (K.contents keeper.old) (K.contents keeper.new) self.old.found.entries
+            self.new.found.entries self.old.work self.new.work }
     {
         level.uses.clear();
         let mut step = level.trial.restart(self.alloc, rules, store, inst)?;
@@ -243,8 +282,8 @@ impl<'a> Direct<'a> {
         }
     }
 
-    // Tells the evaluation that asks of one that has come to its value: that one is kept where it is lazy; else what it looked at and took
-    // stands with the one that asks.
+    // Tells the evaluation that asks of one that has come to its value: a lazy one is kept, and one that looked at many locations is remembered;
+    // else what it looked at and took stands with the one that asks.
     fn settle<K: Keeper>(
         &mut self,
         keeper: &mut K,
@@ -255,17 +294,19 @@ impl<'a> Direct<'a> {
         needed: Inst,
         value: &Value,
     ) -> Result<(), Stop>
-        requires right { Right (contents store.now) (meaning rules.now) (kept_values (K.contents keeper.old)) }
-        requires plain { ArePlain rules.now (K.contents keeper.old) }
-        requires come { IsEvaluated rules.now (contents store.now) (K.contents keeper.old) needed (value_view value.now) below.old.trial.reads below.old.uses.items }
-        ensures told { OnOk result (HasTold rules.now (contents store.now) (K.contents keeper.new) level.old level.new needed (value_view value.now)) }
-        ensures gains { Gains rules.now store.now K.exact needed (K.contents keeper.old) (K.contents keeper.new) self.old.work self.new.work }
+        requires known { AreKnown rules.now (contents store.now) (K.contents keeper.old) self.old.found.entries }
+        requires come { IsEvaluated rules.now (contents store.now) (known_by (K.contents keeper.old) self.old.found.entries) needed
+            (value_view value.now) below.old.trial.reads below.old.uses.items }
+        ensures told { OnOk result (HasTold rules.now (contents store.now) (known_by (K.contents keeper.new) self.new.found.entries) level.old
+            level.new needed (value_view value.now)) }
+        ensures gains { Gains rules.now store.now K.exact needed (K.contents keeper.old) (K.contents keeper.new) self.old.found.entries
+            self.new.found.entries self.old.work self.new.work }
     {
         if rules.is_lazy(needed.attribute()) {
             return self.keep(keeper, rules, store, level, below, needed, value);
         }
         if FEW < below.trial.reads().len() {
-            return Err(Stop::GivesUp);
+            return self.remember(keeper, rules, store, level, below, needed, value);
         }
         level.trial.note(below.trial.reads())?;
         level.uses.append(&mut below.uses)?;
@@ -277,18 +318,20 @@ impl<'a> Direct<'a> {
         &mut self,
         keeper: &mut K,
         rules: &Rules,
-        _store: &Store,
+        store: &Store,
         level: &mut Level<'a>,
         below: &Level<'a>,
         needed: Inst,
         value: &Value,
     ) -> Result<(), Stop>
         requires lazy { is_lazy rules.now needed.attribute ≡ true }
-        requires right { Right (contents _store.now) (meaning rules.now) (kept_values (K.contents keeper.old)) }
-        requires plain { ArePlain rules.now (K.contents keeper.old) }
-        requires come { IsEvaluated rules.now (contents _store.now) (K.contents keeper.old) needed (value_view value.now) below.now.trial.reads below.now.uses.items }
-        ensures told { OnOk result (HasTold rules.now (contents _store.now) (K.contents keeper.new) level.old level.new needed (value_view value.now)) }
-        ensures gains { Gains rules.now _store.now K.exact needed (K.contents keeper.old) (K.contents keeper.new) self.old.work self.new.work }
+        requires known { AreKnown rules.now (contents store.now) (K.contents keeper.old) self.old.found.entries }
+        requires come { IsEvaluated rules.now (contents store.now) (known_by (K.contents keeper.old) self.old.found.entries) needed
+            (value_view value.now) below.now.trial.reads below.now.uses.items }
+        ensures told { OnOk result (HasTold rules.now (contents store.now) (known_by (K.contents keeper.new) self.new.found.entries) level.old
+            level.new needed (value_view value.now)) }
+        ensures gains { Gains rules.now store.now K.exact needed (K.contents keeper.old) (K.contents keeper.new) self.old.found.entries
+            self.new.found.entries self.old.work self.new.work }
     {
         if keeper.stands(&needed) {
             return Err(Stop::GivesUp);
@@ -317,6 +360,7 @@ impl<'a> Direct<'a> {
             level.now.uses.items (K.contents keeper.new)) }
         ensures err { OnErr result (KeepsAll (K.contents keeper.old) (K.contents keeper.new)) }
         ensures counts { IsTrue K.exact → Counts (K.contents keeper.old) (K.contents keeper.new) self.old.work self.new.work }
+        ensures found { self.new.found.entries ≡ self.old.found.entries }
     {
         let reads = level.trial.reads().as_slice();
         let uses = level.uses.as_slice();
@@ -324,4 +368,96 @@ impl<'a> Direct<'a> {
         self.work = self.work.saturating_add(1);
         Ok(put)
     }
+
+    // Remembers the value of an instance that isn't lazy, which is taken then.
+    fn remember<K: Keeper>(
+        &mut self,
+        keeper: &mut K,
+        rules: &Rules,
+        store: &Store,
+        level: &mut Level<'a>,
+        below: &Level<'a>,
+        needed: Inst,
+        value: &Value,
+    ) -> Result<(), Stop>
+        requires lazy { is_lazy rules.now needed.attribute ≡ false }
+        requires known { AreKnown rules.now (contents store.now) (K.contents keeper.old) self.old.found.entries }
+        requires come { IsEvaluated rules.now (contents store.now) (known_by (K.contents keeper.old) self.old.found.entries) needed
+            (value_view value.now) below.now.trial.reads below.now.uses.items }
+        ensures told { OnOk result (HasTold rules.now (contents store.now) (known_by (K.contents keeper.new) self.new.found.entries) level.old
+            level.new needed (value_view value.now)) }
+        ensures gains { Gains rules.now store.now K.exact needed (K.contents keeper.old) (K.contents keeper.new) self.old.found.entries
+            self.new.found.entries self.old.work self.new.work }
+    {
+        self.stand(keeper, rules, store, &needed, value, below)?;
+        self.see(needed.attribute())?;
+        insert(&mut self.found, needed.copy(self.alloc)?, value.copy()?)?;
+        level.uses.push(needed)?;
+        Ok(())
+    }
+
+    // Gives an instance that isn't lazy an entry without a value, for all that its evaluation looked at and took, where it has none.
+    fn stand<K: Keeper>(
+        &mut self,
+        keeper: &mut K,
+        rules: &Rules,
+        store: &Store,
+        needed: &Inst,
+        value: &Value,
+        below: &Level<'a>,
+    ) -> Result<(), Stop>
+        requires lazy { is_lazy rules.now needed.now.attribute ≡ false }
+        requires known { AreKnown rules.now (contents store.now) (K.contents keeper.old) self.old.found.entries }
+        requires come { IsEvaluated rules.now (contents store.now) (known_by (K.contents keeper.old) self.old.found.entries) needed.now
+            (value_view value.now) below.now.trial.reads below.now.uses.items }
+        ensures stands { OnOk result (IsSome (K.contents keeper.new needed.now)) }
+        ensures found { self.new.found.entries ≡ self.old.found.entries }
+        ensures gains { Gains rules.now store.now K.exact needed.now (K.contents keeper.old) (K.contents keeper.new) self.old.found.entries
+            self.new.found.entries self.old.work self.new.work }
+    {
+        if keeper.stands(needed) {
+            return Ok(());
+        }
+        let reads = below.trial.reads().as_slice();
+        let uses = below.uses.as_slice();
+        let put = keeper.put(needed.copy(self.alloc)?, None, reads, uses)?;
+        match put {
+            Put::Kept => Ok(()),
+            Put::Left => Err(Stop::GivesUp),
+        }
+    }
+
+    // An instance of the attribute is remembered.
+    fn see(&mut self, attribute: AttrId) -> Result<(), AllocError>
+        ensures work { self.new.work ≡ self.old.work }
+        ensures found { self.new.found.entries ≡ self.old.found.entries }
+    {
+        let index = attribute.index();
+        if self.seen.len() <= index {
+            self.seen.resize(index.saturating_add(1), false)?;
+        }
+        if let Some(seen) = self.seen.get_mut(index) {
+            *seen = true;
+        }
+        Ok(())
+    }
+}
+
+// A value once more, where there is one.
+fn copy_of(value: Option<&Value>) -> Result<Option<Value>, AllocError>
+    ensures { IfOk result (λ o. option_map value_view o ≡ option_map (λ v. value_view v.now) value.entry) }
+{
+    match value {
+        Some(value) => Ok(Some(value.copy()?)),
+        None => Ok(None),
+    }
+}
+
+// Puts the value by the instance, or finds memory wanting: then all is as it was.
+fn insert(found: &mut IndexMap<Inst, Value>, inst: Inst, value: Value) -> Result<(), AllocError>
+    ensures inserted { OnOk result (found.new.entries ≡ insert_entry same_instance found.old.entries inst value) }
+    ensures err { OnErr result (found.new.entries ≡ found.old.entries) }
+{
+    found.insert(inst, value)?;
+    Ok(())
 }

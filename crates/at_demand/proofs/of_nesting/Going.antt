@@ -11,11 +11,9 @@ use Rattle.at_body.specs.declared.trial.Step.{Step}
 use Rattle.at_body.specs.declared.trial.Step.TheVariants as step
 use Rattle.at_body.specs.declared.trial.Trial.{Trial}
 use Rattle.at_body.specs.Values.{value_view}
-use Rattle.at_cache.specs.Kept.{Entries}
 use Rattle.at_demand.specs.declared.direct.Level.{Level}
 use Rattle.at_demand.specs.Inner.{HasTold, IsEvaluated, is_inner}
-use Rattle.at_demand.specs.Known.{meaning, kept_values, KeepsEntries}
-use Rattle.at_demand.proofs.Entered.{value_on}
+use Rattle.at_demand.specs.Known.{meaning}
 use Rattle.at_body.specs.declared.value.Value.{Value as ValueCode}
 use Rattle.at_demand.specs.UnderWay.{left_of}
 
@@ -98,42 +96,41 @@ module _ {N A : Type 0} (look : Contents N) (equation : Equations N) (inner : In
         goes_on look deep r j k v ls ms us ts front next
 
 -- the evaluation of i has come to that step, behind what the level has
-abbrev pub IsGoing : Rules → Contents ℕ → Entries → Instance ℕ → Level → Step → Type 0
-IsGoing rules look entries i level s = (depth : ℕ) × GoesOver look (meaning rules) (is_inner rules) (kept_values entries) depth (meaning rules i) (left_of (reached rules.classes s level.trial)) level.trial.reads level.uses.items
+abbrev pub IsGoing : Rules → Contents ℕ → Known ℕ → Instance ℕ → Level → Step → Type 0
+IsGoing rules look known i level s = (depth : ℕ) × GoesOver look (meaning rules) (is_inner rules) known depth (meaning rules i)
+    (left_of (reached rules.classes s level.trial)) level.trial.reads level.uses.items
 
 module _ (rules : Rules) (look : Contents ℕ) where
   -- as it begins
-  pub begun_going : (entries : Entries) (i : Instance ℕ) (level : Level) (s : Step) → follow look [] (evaluation rules nat_eq i) ≡ (reached rules.classes s level.trial, level.trial.reads) → level.uses.items ≡ [] → IsGoing rules look entries i level s
-  begun_going entries i level s e none =
-      let tells = Tells look (meaning rules) (kept_values entries) (is_inner rules) 0 in
+  pub begun_going : (known : Known ℕ) (i : Instance ℕ) (level : Level) (s : Step) → follow look [] (evaluation rules nat_eq i) ≡ (reached rules.classes s level.trial, level.trial.reads) → level.uses.items ≡ [] → IsGoing rules look known i level s
+  begun_going known i level s e none =
+      let tells = Tells look (meaning rules) known (is_inner rules) 0 in
       let (new, is, p) = follows look tells [] (meaning rules i) (reached rules.classes s level.trial) level.trial.reads e in
       (0, subst (λ us. Goes look tells (meaning rules i) (left_of (reached rules.classes s level.trial)) level.trial.reads us) (sym none) (subst (λ ls. Goes look tells (meaning rules i) (left_of (reached rules.classes s level.trial)) ls []) (sym is) p))
 
   -- at its end
-  pub going_whole : (entries : Entries) (i : Instance ℕ) (level : Level) (s : Step) (v : ValueCode) → s ≡ step.Value v → IsGoing rules look entries i level s → IsEvaluated rules look entries i (value_view v) level.trial.reads level.uses.items
-  going_whole entries i level s v e (n, p) =
+  pub going_whole : (known : Known ℕ) (i : Instance ℕ) (level : Level) (s : Step) (v : ValueCode) → s ≡ step.Value v → IsGoing rules look known i level s → IsEvaluated rules look known i (value_view v) level.trial.reads level.uses.items
+  going_whole known i level s v e (n, p) =
       let left = ap (λ (x : Step). left_of (reached rules.classes x level.trial)) e in
-      (n, goes_whole look (Tells look (meaning rules) (kept_values entries) (is_inner rules) n) (meaning rules i) (left_of (reached rules.classes s level.trial)) (value_view v) level.trial.reads level.uses.items left p)
+      (n, goes_whole look (Tells look (meaning rules) known (is_inner rules) n) (meaning rules i) (left_of (reached rules.classes s level.trial)) (value_view v) level.trial.reads level.uses.items left p)
 
-  going_to : (entries : Entries) (i : Instance ℕ) (level : Level) (s : Step) (j : Instance ℕ) → s ≡ step.Need j → (n : ℕ) → GoesOver look (meaning rules) (is_inner rules) (kept_values entries) n (meaning rules i) (left_of (reached rules.classes s level.trial)) level.trial.reads level.uses.items →
-      GoesOver look (meaning rules) (is_inner rules) (kept_values entries) n (meaning rules i) (Demands j (resumed rules.classes level.trial)) level.trial.reads level.uses.items
-  going_to entries i level s j e n p = subst (λ (x : Step). GoesOver look (meaning rules) (is_inner rules) (kept_values entries) n (meaning rules i) (left_of (reached rules.classes x level.trial)) level.trial.reads level.uses.items) e p
+  going_to : (known : Known ℕ) (i : Instance ℕ) (level : Level) (s : Step) (j : Instance ℕ) → s ≡ step.Need j → (n : ℕ) → GoesOver look (meaning rules) (is_inner rules) known n (meaning rules i) (left_of (reached rules.classes s level.trial)) level.trial.reads level.uses.items →
+      GoesOver look (meaning rules) (is_inner rules) known n (meaning rules i) (Demands j (resumed rules.classes level.trial)) level.trial.reads level.uses.items
+  going_to known i level s j e n p = subst (λ (x : Step). GoesOver look (meaning rules) (is_inner rules) known n (meaning rules i) (left_of (reached rules.classes x level.trial)) level.trial.reads level.uses.items) e p
 
   -- at a demand, to which its instance comes
-  pub going_needs : (entries : Entries) (i : Instance ℕ) (level : Level) (s : Step) (j : Instance ℕ) → Right look (meaning rules) (kept_values entries) → s ≡ step.Need j → IsGoing rules look entries i level s → Comes look (meaning rules) i j
-  going_needs entries i level s j right e (n, p) = comes_to look (meaning rules) (is_inner rules) (kept_values entries) right n (meaning rules i) j (resumed rules.classes level.trial) level.trial.reads level.uses.items (going_to entries i level s j e n p)
+  pub going_needs : (known : Known ℕ) (i : Instance ℕ) (level : Level) (s : Step) (j : Instance ℕ) → Right look (meaning rules) known → s ≡ step.Need j → IsGoing rules look known i level s → Comes look (meaning rules) i j
+  going_needs known i level s j right e (n, p) = comes_to look (meaning rules) (is_inner rules) known right n (meaning rules i) j (resumed rules.classes level.trial) level.trial.reads level.uses.items (going_to known i level s j e n p)
 
   -- past a demand, and on by itself
-  pub going_on : (old new : Entries) (i j : Instance ℕ) (level fed next : Level) (s r : Step) (v : Value ℕ) → Right look (meaning rules) (kept_values old) → Right look (meaning rules) (kept_values new) → KeepsEntries old new → s ≡ step.Need j → IsGoing rules look old i level s →
-      HasTold rules look new level fed j v → next.uses.items ≡ fed.uses.items → follow look fed.trial.reads (resumed rules.classes fed.trial v) ≡ (reached rules.classes r next.trial, next.trial.reads) → IsGoing rules look new i next r
-  going_on old new i j level fed next s r v right also still e (n, p) h same found =
+  pub going_on : (old new : Known ℕ) (i j : Instance ℕ) (level fed next : Level) (s r : Step) (v : Value ℕ) → Right look (meaning rules) old → Right look (meaning rules) new → ((m : Instance ℕ) (w : Value ℕ) → old m ≡ Some w → new m ≡ Some w) →
+      s ≡ step.Need j → IsGoing rules look old i level s → HasTold rules look new level fed j v → next.uses.items ≡ fed.uses.items → follow look fed.trial.reads (resumed rules.classes fed.trial v) ≡ (reached rules.classes r next.trial, next.trial.reads) → IsGoing rules look new i next r
+  going_on old new i j level fed next s r v right also grows e (n, p) h same found =
       let d = h.given.0 in
-      let known = kept_values new in
       let k = resumed rules.classes level.trial in
       let front = going_to old i level s j e n p in
-      let past = goes_past look (meaning rules) (is_inner rules) (kept_values old) right known also (value_on old new still) n d (meaning rules i) j k v level.trial.reads h.looks level.uses.items h.takes front h.given.1 in
-      let tells = Tells look (meaning rules) known (is_inner rules) (d + n) in
-      let reads = ap (λ (t : Trial). t.reads) h.trial in
+      let past = goes_past look (meaning rules) (is_inner rules) old right new also grows n d (meaning rules i) j k v level.trial.reads h.looks level.uses.items h.takes front h.given.1 in
+      let tells = Tells look (meaning rules) new (is_inner rules) (d + n) in
       let found' = subst (λ (t : Trial). follow look t.reads (resumed rules.classes t v) ≡ (reached rules.classes r next.trial, next.trial.reads)) h.trial found in
       let (more, is, q) = follows look tells (level.trial.reads ++ h.looks) (k v) (reached rules.classes r next.trial) next.trial.reads found' in
       let all = goes_then look tells (meaning rules i) (k v) (left_of (reached rules.classes r next.trial)) (level.trial.reads ++ h.looks) more (level.uses.items ++ h.takes) [] past q in

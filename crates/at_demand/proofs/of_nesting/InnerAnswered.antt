@@ -56,4 +56,4 @@ pub answered_kept : {E : Type 0} (rules : Rules) (s : Shown) (exact : Bool) (i :
     kept_values entries i ≡ Some (value_view v) → HasAnswered {E = E} rules s exact entries entries w w i (Ok (answer.Value v))
 answered_kept {E} rules s exact i entries w v few right plain is =
     answered_by rules s exact i (Ok (answer.Value v)) entries entries w w (gains_none rules s exact i entries w few right plain) (right i (value_view v) is)
-        (λ k spare. asked_kept rules (contents s) i entries (is_there (kept_values entries i) (value_view v) is) spare.deep)
+    (λ k spare. asked_kept rules (contents s) i entries (is_there (kept_values entries i) (value_view v) is) spare.deep)

@@ -2,7 +2,7 @@ use Rattle.std.proofs.Common.{◌+◌, ◌*◌}
 use Rattle.at_store.specs.Shown.{contents}
 use Rattle.at_body.specs.Rest.{left}
 use Rattle.at_body.specs.Typed.{IsTypedStep, class_shown}
-use Rattle.at_demand.specs.Inner.{Gains}
+use Rattle.at_demand.specs.Inner.{Gains, known_by}
 use Rattle.at_demand.proofs.of_nesting.Going.{IsGoing}
 use Rattle.at_demand.proofs.direct.Direct.+direct.Given as goal
 
@@ -17,8 +17,9 @@ decreases-evaluate g l = 3 * l.above + 2
 
 abbrev pub invariant-evaluate-loop-step : goal.invariant-evaluate-loop-step
 invariant-evaluate-loop-step g l = record {
-  gains : Gains l.rules l.store g.K.Keeper.exact l.inst (g.K.Keeper.contents l.initial.keeper) (g.K.Keeper.contents l.keeper) l.initial.self.work l.self.work;
-  goes : IsGoing l.rules (contents l.store) (g.K.Keeper.contents l.keeper) l.inst l.level l.step;
+  gains : Gains l.rules l.store g.K.Keeper.exact l.inst (g.K.Keeper.contents l.initial.keeper) (g.K.Keeper.contents l.keeper) l.initial.self.found.entries
+      l.self.found.entries l.initial.self.work l.self.work;
+  goes : IsGoing l.rules (contents l.store) (known_by (g.K.Keeper.contents l.keeper) l.self.found.entries) l.inst l.level l.step;
   typed : IsTypedStep l.rules (class_shown l.store) l.step l.level.trial;
 }
 

@@ -15,7 +15,7 @@ returns-clause-value g c =
     let s = c.args.store.now in
     let new = g.K.Keeper.contents c.told.new.keeper in
     IfOk-weaker c.told.result _ _ (λ v h. subst (λ (i : Instance ℕ). HasValue (contents s) (meaning rules) i (value_view v)) c.in_ok-needed.ensures
-        (told_holds rules s g.K.Keeper.exact new c.in_ok-needed.needed (value_view v) h.looks h.takes c.told.ensures.gains.right h.given)) c.told.ensures.told
+    (told_holds rules s g.K.Keeper.exact new c.in_ok-needed.needed (value_view v) h.looks h.takes c.told.ensures.gains.right h.given)) c.told.ensures.told
 
 pub returns-clause-all : goal.returns-clause-all
 returns-clause-all g c = λ k spare.
@@ -23,4 +23,4 @@ returns-clause-all g c = λ k spare.
     let s = c.args.store.now in
     let new = g.K.Keeper.contents c.told.new.keeper in
     IfOk-weaker c.told.result _ _ (λ v h. subst (λ (i : Instance ℕ). HasWorthy rules (contents s) i new) c.in_ok-needed.ensures
-        (told_whole rules s g.K.Keeper.exact new c.in_ok-needed.needed (value_view v) h.looks h.takes (c.told.ensures.gains.spare k spare) c.told.ensures.gains.right h.given)) c.told.ensures.told
+    (told_whole rules s g.K.Keeper.exact new c.in_ok-needed.needed (value_view v) h.looks h.takes (c.told.ensures.gains.spare k spare) c.told.ensures.gains.right h.given)) c.told.ensures.told

@@ -1,13 +1,20 @@
-use Rattle.std.proofs.Common.{ℕ, Some, ◌∷◌, [], ◌++◌, refl, sym, ap, ◌∙◌}
-use Rattle.at_model.specs.Run.{Instance, Value}
+use Rattle.std.proofs.Common.{ℕ, ◌++◌, ◌∷◌, [], refl, ap, ◌∙◌, Option, subst}
+use Rattle.at_model.specs.Run.{Instance}
 use Rattle.at_store.specs.Shown.{contents}
 use Rattle.at_body.specs.Values.{value_view}
+use Rattle.at_body.specs.declared.value.Value.{Value as ValueCode}
+use Rattle.at_demand.specs.Inner.{IsOneOf, known_by, remembered}
+use Rattle.at_demand.specs.Known.{kept_values}
 use Rattle.at_demand.proofs.of_nesting.InnerGains.{told_kept}
+use Rattle.at_demand.proofs.of_nesting.Remembered.{one_known}
 use Rattle.at_demand.proofs.direct.Direct.recall.Goals as goal
 
 pub returns : goal.returns
 returns g c =
     let old = c.args.level.now in
-    told_kept c.args.rules.now (contents c.args._store.now) (g.K.Keeper.contents c.args.keeper.now) old (record { trial = old.trial; uses = c.push.new.self }) c.args.needed.now (value_view c.in_ok-value.value)
-        (sym c.in-Some.ensures ∙ ap (λ (v : Value ℕ). Some v) (sym c.in_ok-value.ensures)) refl
-        (c.in_ok-push.ensures.items ∙ ap (λ (i : Instance ℕ). old.uses.items ++ i ∷ []) c.in_ok-copy.ensures)
+    let entries = g.K.Keeper.contents c.args.keeper.now in
+    let found = c.args.self.now.found.entries in
+    let is = subst (λ (o : Option ValueCode). IsOneOf (kept_values entries c.args.needed.now) (remembered found c.args.needed.now) o) c.in-Some.is c.in_ok-value.ensures in
+    told_kept c.args.rules.now (contents c.args._store.now) (known_by entries found) old (record { trial = old.trial; uses = c.push.new.self }) c.args.needed.now (value_view c.in-Some.value)
+    (one_known c.args.rules.now (contents c.args._store.now) entries found c.requires.known c.args.needed.now (value_view c.in-Some.value) is) refl
+    (c.in_ok-push.ensures.items ∙ ap (λ (i : Instance ℕ). old.uses.items ++ i ∷ []) c.in_ok-copy.ensures)
