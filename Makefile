@@ -2,7 +2,7 @@
 SHELL := /bin/bash
 SAMPLE := crates/attrd/data
 PREFIX ?= /usr/local
-PAGES := docs/MANUAL.md docs/EDGES.md docs/REFUSALS.md docs/TUTORIAL.md samples/calculator samples/objects samples/machines
+PAGES := README.md docs/ATTRIBUTE_GRAMMARS.md docs/MANUAL.md docs/EDGES.md docs/REFUSALS.md docs/TUTORIAL.md docs/FROM_JASTADD.md samples/calculator samples/objects samples/machines
 
 .PHONY: help run try build install package warm check edits counts test examples starve tries bench tools python crate
 
