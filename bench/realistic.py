@@ -1,0 +1,199 @@
+#!/usr/bin/env python3
+"""A realistic program: how fast all errors are told of a program as people write them, and after each keystroke, beside Java.
+
+    python3 bench/realistic.py [PROGRAM] [--nodes N ..] [--rounds N] [--seed N] [--row NAME] [--instructions] [--hold]
+
+PROGRAM is ./attrd where none is given; the programs have 1,000, 10,000 and 60,000 nodes of the tutorial's language. The Java program has
+the form that JastAdd2 generates, forgets all at each edit, and is warm, in one process; where there is no `javac`, attrd is measured
+alone. All answers of the two are compared. Times are processor times, the least of several rounds by turns; instructions are counted
+where there is `valgrind`, of keystrokes only with --instructions, which takes minutes. --row measures the rows whose names have that
+in them. What is wanted is told beside what was measured; with --hold the status is 1 where it isn't reached. It takes three minutes.
+"""
+from __future__ import annotations
+
+import argparse
+import os
+import sys
+import tempfile
+from dataclasses import dataclass, field
+from pathlib import Path
+from typing import Dict, List, Optional
+
+from bounds import Bounds
+from figures import program_in, row, table
+from full_flush import Keystrokes as Java
+from instructions import instructions_behind
+from keystrokes import ASK, KINDS, Keystrokes, keystrokes
+from programs import ASPECTS, GRAMMAR, written
+from served import Served
+
+from attrd import Grammar
+
+SIZES, SEED, ROUNDS = (1_000, 10_000, 60_000), 1, 3
+# How long the Java program does the same again in each round, in seconds; the first round has its code compiled.
+JAVA_SECONDS = 0.5
+# How often the lines are sent in each round.
+REPEATED = 2
+COLD = "all errors, nothing kept"
+# What is wanted: instructions of the cold question by the size of the program, and the most memory behind it, in megabytes.
+MOST_INSTRUCTIONS = {10_000: 0.36 * 456e6, 60_000: 0.36 * 2_489e6}
+MOST_MEMORY = {60_000: 55.0}
+# Times of version 0.23 as multiples of Java's, by row and size, and how much of them a keystroke may take.
+SHARE = 0.6
+BEFORE: Dict[str, Dict[int, float]] = {}
+
+
+@dataclass
+class Figures:
+    """The least times that were measured, by row, in seconds."""
+
+    attrd: Dict[str, float] = field(default_factory=dict)
+    java: Dict[str, float] = field(default_factory=dict)
+
+    @staticmethod
+    def note(least: Dict[str, float], what: str, seconds: float) -> None:
+        least[what] = min(seconds, least.get(what, seconds))
+
+    def ratio(self, what: str) -> Optional[float]:
+        """What attrd takes against Java; None where there is no Java."""
+        return self.attrd[what] / self.java[what] if what in self.java else None
+
+
+class Bench:
+    """One size: the program that is edited, in a folder, and the two that answer."""
+
+    def __init__(self, program: str, folder: str, nodes: int, arguments: argparse.Namespace) -> None:
+        self.program, self.folder, self.nodes = program, folder, nodes
+        grammar = Grammar.load(GRAMMAR)
+        tree = written(nodes, arguments.seed)
+        self.size, self.file = tree.size, f"program{nodes}.txt"
+        (Path(folder) / self.file).write_text(f"{tree}\n", encoding="utf-8")
+        self.rows = [it for it in keystrokes(grammar, tree) if arguments.row in it.name]
+        self.java = Java.begun(folder, self.file)
+        self.figures, self.peak = Figures(), sys.maxsize
+
+    @property
+    def words(self) -> List[str]:
+        """What stands behind the program on its command line."""
+        return [str(GRAMMAR), self.file, *map(str, ASPECTS)]
+
+    def round(self) -> None:
+        """Measures each row once, attrd and Java by turns."""
+        run = Served(self.program, self.folder, self.words)
+        spent, replies = run.answered(ASK)
+        self.figures.note(self.figures.attrd, COLD, spent)
+        self.peak = min(self.peak, run.peak())
+        if self.java:
+            seconds, errors = self.java.cold(JAVA_SECONDS)
+            self.figures.note(self.figures.java, COLD, seconds)
+            self.compare(COLD, replies, [errors])
+        for it in self.rows:
+            self.typed(run, it)
+        run.end()
+
+    def typed(self, run: Served, it: Keystrokes) -> None:
+        """Measures one row."""
+        for _ in range(REPEATED):
+            spent, replies = run.answered(it.lines)
+            self.figures.note(self.figures.attrd, it.name, spent / it.edits)
+        if self.java:
+            file = Path(self.folder) / "lines"
+            file.write_text(it.lines, encoding="utf-8")
+            seconds, errors = self.java.row(file.name, JAVA_SECONDS)
+            self.figures.note(self.figures.java, it.name, seconds)
+            self.compare(it.name, [reply for reply in replies if " = " in reply], errors)
+
+    def compare(self, what: str, replies: List[str], errors: List[int]) -> None:
+        """Ends the process where the two tell different numbers of errors."""
+        told = [int(reply.split(" = ")[1]) for reply in replies]
+        if told != errors:
+            sys.exit(f"{what}, {self.size:,} nodes: attrd tells {told} errors and Java {errors}")
+
+    def counted(self, before: str, lines: str, count: int) -> Optional[float]:
+        """The instructions of lines behind others, for one of so many."""
+        counted = instructions_behind([self.program, *self.words], self.folder, before, lines)
+        return None if counted is None else counted / count
+
+    def end(self) -> None:
+        if self.java:
+            self.java.end()
+
+
+def microseconds(seconds: Optional[float]) -> str:
+    """A time in microseconds, with three digits or more; empty where there is none."""
+    if seconds is None:
+        return ""
+    number = seconds * 1e6
+    return f"{number:,.0f}" if number >= 100 else f"{number:.1f}"
+
+
+def short(number: Optional[float]) -> str:
+    """A ratio with two digits that count; empty where there is none."""
+    if number is None:
+        return ""
+    return f"{number:.0f}" if number >= 10 else f"{number:.2g}"
+
+
+def millions(count: Optional[float]) -> str:
+    """Instructions in millions; empty where they weren't counted."""
+    return "" if count is None else f"{count / 1e6:,.1f}" if count >= 1e6 else f"{count / 1e6:.4f}"
+
+
+def tell_cold(benches: List[Bench], bounds: Bounds) -> None:
+    """Prints what the first question takes at each size."""
+    table(COLD, "attrd", "Java behind a flush", "attrd / Java", "Instructions, millions", "Wanted", "Most memory, MB", "Wanted")
+    for bench in benches:
+        figures, memory = bench.figures, bench.peak * 1024 / 1e6
+        counted = bench.counted("", ASK, 1)
+        most, most_memory = MOST_INSTRUCTIONS.get(bench.nodes), MOST_MEMORY.get(bench.nodes)
+        of = f"{COLD}, {bench.size:,} nodes"
+        row(f"{bench.size:,} nodes", f"{figures.attrd[COLD] * 1e3:.2f} ms", f"{figures.java[COLD] * 1e3:.2f} ms" if bench.java else "",
+            short(figures.ratio(COLD)), millions(counted), bounds.at_most(f"{of}, millions of instructions", counted / 1e6, most / 1e6) if counted and most else "-",
+            f"{memory:.1f}", bounds.at_most(f"{of}, MB", memory, most_memory) if most_memory else "-")
+
+
+def tell_rows(benches: List[Bench], bounds: Bounds, is_counted: bool) -> None:
+    """Prints what each kind of keystroke takes at each size, with all errors asked behind it."""
+    for bench in benches:
+        table(f"A keystroke and all errors, {bench.size:,} nodes", "attrd, us", "Java, us", "attrd / Java", "Version 0.23", "Against it", "Instructions, millions")
+        for it in bench.rows:
+            ratio, before = bench.figures.ratio(it.name), BEFORE.get(it.name, {}).get(bench.nodes)
+            against = bounds.at_most(f"{it.name}, {bench.size:,} nodes, against version 0.23", ratio / before, SHARE) if ratio and before else "-"
+            counted = bench.counted(ASK, it.lines, it.edits) if is_counted else None
+            row(it.name, microseconds(bench.figures.attrd[it.name]), microseconds(bench.figures.java.get(it.name)), short(ratio), short(before), against, millions(counted))
+
+
+def read_arguments() -> argparse.Namespace:
+    """The words of the command line."""
+    parser = argparse.ArgumentParser(description=(__doc__ or "").splitlines()[0])
+    parser.add_argument("program", nargs="?")
+    parser.add_argument("--nodes", type=int, nargs="+", default=SIZES)
+    parser.add_argument("--rounds", type=int, default=ROUNDS)
+    parser.add_argument("--seed", type=int, default=SEED)
+    parser.add_argument("--row", default="", help=f"a part of a name: {'; '.join(KINDS)}")
+    parser.add_argument("--instructions", action="store_true")
+    parser.add_argument("--hold", action="store_true")
+    return parser.parse_args()
+
+
+def main() -> None:
+    arguments, bounds = read_arguments(), Bounds()
+    program = program_in([arguments.program] if arguments.program else [], __doc__)
+    with tempfile.TemporaryDirectory() as folder:
+        benches = [Bench(program, folder, nodes, arguments) for nodes in arguments.nodes]
+        if not benches[0].java:
+            print("attrd alone is measured: there is no javac")
+        for bench in benches:
+            for _ in range(arguments.rounds):
+                bench.round()
+            bench.end()
+        print(f"processors {os.cpu_count()}, load {os.getloadavg()[0]:.1f}")
+        tell_cold(benches, bounds)
+        tell_rows(benches, bounds, arguments.instructions)
+    print(f"\n{bounds.told()}")
+    if arguments.hold and bounds.broken:
+        sys.exit(1)
+
+
+if __name__ == "__main__":
+    main()
