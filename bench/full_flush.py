@@ -13,6 +13,8 @@ SOURCES = Path(__file__).resolve().parent / "java"
 JAVA = ("java", "-XX:+UseSerialGC")
 # Units in a batch, and batches: the first ones are to have the code compiled.
 BATCH, BATCHES, ASKED = 20, 400, 40
+# The seconds of one measure while the program gets warm, how many there are at most, what is a gain, and how many without one end it.
+WARMING, WARMINGS, GAIN, LEVEL = 0.5, 20, 0.97, 3
 
 
 def compiled(folder: str, *names: str) -> bool:
@@ -67,6 +69,16 @@ class Keystrokes:
         """The least time of a question behind a flush, in seconds, over about so many; and how many errors were answered."""
         nanoseconds, errors = self.told(f"cold {seconds}")
         return nanoseconds / 1e9, errors
+
+    def warm(self) -> None:
+        """Asks behind flushes until that gets no faster: what the compiler of the running program does takes seconds beside other work."""
+        least, level = self.cold(WARMING)[0], 0
+        for _ in range(WARMINGS):
+            seconds, _ = self.cold(WARMING)
+            level = 0 if seconds < GAIN * least else level + 1
+            least = min(least, seconds)
+            if level == LEVEL:
+                break
 
     def row(self, file: str, seconds: float) -> Tuple[float, List[int]]:
         """The least time of an edit with its question, in seconds, over about so many; and what each question was answered."""

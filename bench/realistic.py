@@ -17,7 +17,7 @@ import sys
 import tempfile
 from dataclasses import dataclass, field
 from pathlib import Path
-from typing import Dict, List, Optional
+from typing import Dict, List, Optional, Tuple
 
 from bounds import Bounds
 from figures import program_in, row, table
@@ -30,7 +30,7 @@ from served import Served
 from attrd import Grammar
 
 SIZES, SEED, ROUNDS = (1_000, 10_000, 60_000), 1, 3
-# How long the Java program does the same again in each round, in seconds; the first round has its code compiled.
+# How long the Java program does the same again in each round, in seconds.
 JAVA_SECONDS = 0.5
 # How often the lines are sent in each round.
 REPEATED = 2
@@ -38,9 +38,22 @@ COLD = "all errors, nothing kept"
 # What is wanted: instructions of the cold question by the size of the program, and the most memory behind it, in megabytes.
 MOST_INSTRUCTIONS = {10_000: 0.36 * 456e6, 60_000: 0.36 * 2_489e6}
 MOST_MEMORY = {60_000: 55.0}
-# Times of version 0.23 as multiples of Java's, by row and size, and how much of them a keystroke may take.
+# The times of version 0.23 as multiples of Java's, for these sizes and this seed, by a program that isn't proved; and how much of them
+# a keystroke may take.
 SHARE = 0.6
-BEFORE: Dict[str, Dict[int, float]] = {}
+BEFORE: Dict[str, Tuple[float, ...]] = {
+    "a number that nothing rests on": (0.015, 0.0011, 0.00022),
+    "a use mistyped and corrected": (0.4, 0.065, 0.016),
+    "a statement in or out at the front of a method": (5.1, 0.41, 0.072),
+    "a declaration in or out at the front of a method": (5.1, 0.51, 0.068),
+    "a declaration renamed": (3.6, 2, 0.19),
+    "a field renamed": (4, 0.52, 0.42),
+    "a field in or out": (6.4, 1.5, 0.38),
+    "a declaration in or out at the front of the largest scope": (9.5, 13, 2.9),
+    "a class renamed": (6.4, 6.5, 14),
+    "a class in or out at the top": (45, 41, 51),
+    "a class in or out at the end": (43, 45, 53),
+}
 
 
 @dataclass
@@ -71,6 +84,8 @@ class Bench:
         self.rows = [it for it in keystrokes(grammar, tree) if arguments.row in it.name]
         self.java = Java.begun(folder, self.file)
         self.figures, self.peak = Figures(), sys.maxsize
+        if self.java:
+            self.java.warm()
 
     @property
     def words(self) -> List[str]:
@@ -83,12 +98,12 @@ class Bench:
         spent, replies = run.answered(ASK)
         self.figures.note(self.figures.attrd, COLD, spent)
         self.peak = min(self.peak, run.peak())
+        for it in self.rows:
+            self.typed(run, it)
         if self.java:
             seconds, errors = self.java.cold(JAVA_SECONDS)
             self.figures.note(self.figures.java, COLD, seconds)
             self.compare(COLD, replies, [errors])
-        for it in self.rows:
-            self.typed(run, it)
         run.end()
 
     def typed(self, run: Served, it: Keystrokes) -> None:
@@ -136,7 +151,7 @@ def short(number: Optional[float]) -> str:
 
 def millions(count: Optional[float]) -> str:
     """Instructions in millions; empty where they weren't counted."""
-    return "" if count is None else f"{count / 1e6:,.1f}" if count >= 1e6 else f"{count / 1e6:.4f}"
+    return "" if count is None else f"{count / 1e6:,.1f}" if count >= 1e6 else f"{count / 1e6:.3f}"
 
 
 def tell_cold(benches: List[Bench], bounds: Bounds) -> None:
@@ -157,7 +172,7 @@ def tell_rows(benches: List[Bench], bounds: Bounds, is_counted: bool) -> None:
     for bench in benches:
         table(f"A keystroke and all errors, {bench.size:,} nodes", "attrd, us", "Java, us", "attrd / Java", "Version 0.23", "Against it", "Instructions, millions")
         for it in bench.rows:
-            ratio, before = bench.figures.ratio(it.name), BEFORE.get(it.name, {}).get(bench.nodes)
+            ratio, before = bench.figures.ratio(it.name), dict(zip(SIZES, BEFORE[it.name])).get(bench.nodes)
             against = bounds.at_most(f"{it.name}, {bench.size:,} nodes, against version 0.23", ratio / before, SHARE) if ratio and before else "-"
             counted = bench.counted(ASK, it.lines, it.edits) if is_counted else None
             row(it.name, microseconds(bench.figures.attrd[it.name]), microseconds(bench.figures.java.get(it.name)), short(ratio), short(before), against, millions(counted))
