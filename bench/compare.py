@@ -21,7 +21,8 @@ from dataclasses import dataclass, replace
 from pathlib import Path
 from typing import List, Optional, Tuple
 
-from sessions import LANGUAGES, Language, Session
+from languages import LANGUAGES, Language
+from sessions import Session
 
 # A program that takes longer for a session than this, in seconds, is ended.
 PATIENCE = 60
@@ -107,6 +108,8 @@ class Comparison:
 def kind_of(reply: bytes) -> str:
     """What a reply is: `=`, `ok`, `fault`, `circular`, `refused` and so on; of an answer in turns what it tells."""
     words = reply.decode("utf-8", "replace").split(" ")
+    if len(words) < 2:
+        return "no reply"
     return f"done {words[4]}" if words[1] == "done" else words[1]
 
 

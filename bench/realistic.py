@@ -13,6 +13,7 @@ from __future__ import annotations
 
 import argparse
 import os
+import shutil
 import sys
 import tempfile
 from dataclasses import dataclass, field
@@ -83,7 +84,7 @@ class Bench:
         (Path(folder) / self.file).write_text(f"{tree}\n", encoding="utf-8")
         self.rows = [it for it in keystrokes(grammar, tree) if arguments.row in it.name]
         self.java = Java.begun(folder, self.file)
-        self.figures, self.peak = Figures(), sys.maxsize
+        self.figures, self.peak, self.heap = Figures(), sys.maxsize, 0
         if self.java:
             self.java.warm()
 
@@ -130,7 +131,9 @@ class Bench:
         return None if counted is None else counted / count
 
     def end(self) -> None:
+        """Ends the Java program, and notes how many bytes it holds."""
         if self.java:
+            self.heap = self.java.heap()
             self.java.end()
 
 
@@ -156,7 +159,7 @@ def millions(count: Optional[float]) -> str:
 
 def tell_cold(benches: List[Bench], bounds: Bounds) -> None:
     """Prints what the first question takes at each size."""
-    table(COLD, "attrd", "Java behind a flush", "attrd / Java", "Instructions, millions", "Wanted", "Most memory, MB", "Wanted")
+    table(COLD, "attrd", "Java behind a flush", "attrd / Java", "Instructions, millions", "Wanted", "Most memory, MB", "Wanted", "Java's heap, MB")
     for bench in benches:
         figures, memory = bench.figures, bench.peak * 1024 / 1e6
         counted = bench.counted("", ASK, 1)
@@ -164,7 +167,8 @@ def tell_cold(benches: List[Bench], bounds: Bounds) -> None:
         of = f"{COLD}, {bench.size:,} nodes"
         row(f"{bench.size:,} nodes", f"{figures.attrd[COLD] * 1e3:.2f} ms", f"{figures.java[COLD] * 1e3:.2f} ms" if bench.java else "",
             short(figures.ratio(COLD)), millions(counted), bounds.at_most(f"{of}, millions of instructions", counted / 1e6, most / 1e6) if counted and most else "-",
-            f"{memory:.1f}", bounds.at_most(f"{of}, MB", memory, most_memory) if most_memory else "-")
+            f"{memory:.1f}", bounds.at_most(f"{of}, MB", memory, most_memory) if most_memory else "-",
+            f"{bench.heap / 1e6:.1f}" if bench.java else "")
 
 
 def tell_rows(benches: List[Bench], bounds: Bounds, is_counted: bool) -> None:
@@ -194,6 +198,8 @@ def read_arguments() -> argparse.Namespace:
 def main() -> None:
     arguments, bounds = read_arguments(), Bounds()
     program = program_in([arguments.program] if arguments.program else [], __doc__)
+    if arguments.hold and not (shutil.which("javac") and shutil.which("valgrind")):
+        sys.exit("--hold looks at bounds that take javac and valgrind, and one of them isn't there")
     with tempfile.TemporaryDirectory() as folder:
         benches = [Bench(program, folder, nodes, arguments) for nodes in arguments.nodes]
         if not benches[0].java:
