@@ -4,7 +4,7 @@
     python3 bench/compare.py A B [--sessions 500] [--seed 1] [--lines 80] [--language NAME]
 
 A and B are programs. A session has a tree by chance, of the tutorial's language, of the samples or of bench/nested (attributes that aren't
-lazy, with arguments, faults and circles within them), a fourth of them 400 deep; its lines edit, ask, post and mark. Where the two differ,
+lazy, with arguments, faults and circles within them), some of them 400 deep; its lines edit, ask, post and mark. Where the two differ,
 the session is made shorter for as long as they do, its files are left in a folder, and the status is 1. What was answered is counted, so that
 one sees what the sessions came to.
 """

@@ -13,6 +13,8 @@ from attrd import Grammar, Node, Part, Shape
 from attrd.declarations import Attribute, attributes_of
 
 SAMPLES, NESTED = ROOT / "samples", ROOT / "bench" / "nested"
+# Of how many random trees a session gets the largest one.
+TRIED = 8
 
 
 @dataclass(frozen=True)
@@ -92,8 +94,10 @@ class Trees:
             node = self.node(name, 0, **{part.name: [node] if part.shape is Shape.LIST else node})
         return node
 
-    def root(self) -> Node:
-        """A tree for a session: mostly small, now and then a deep one or, of the tutorial's language, a program."""
+    def root(self, most: int) -> Node:
+        """A tree for a session, of at most so many nodes: the largest of a few, or of the tutorial's language now and then a program."""
         if self.language.name == "tutorial" and self.random.random() < 0.5:
             return written(self.random.randint(30, 400), self.random.randrange(10 ** 6))
-        return self.tree(self.grammar.start, self.random.randint(2, 7))
+        depth = self.random.randint(2, 7)
+        tried = [self.tree(self.grammar.start, depth) for _ in range(TRIED)]
+        return max((it for it in tried if it.size <= most), key=lambda it: it.size, default=self.grammar.smallest(self.grammar.start))

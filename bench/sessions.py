@@ -35,15 +35,13 @@ class Session:
         self.options = [*slices, *keeps]
 
     def begun(self) -> Node:
-        """The tree that a session begins with: in one of four it is deep somewhere."""
-        self.tree = self.trees.root()
-        while self.tree.size > MOST_NODES:
-            self.tree = self.trees.root()
-        if self.random.random() < 0.25:
-            path, kind = self.slot()
-            deep = self.trees.deepened(self.trees.tree(kind, 1), kind, DEEP)
-            return applied(self.grammar, self.tree, [SetNode(path, deep)]) if path.steps else self.tree
-        return self.tree
+        """The tree that a session begins with: in one of three it is made deep somewhere, where its language lets it."""
+        self.tree = self.trees.root(MOST_NODES // 4)
+        path, kind = self.slot()
+        if not path.steps or self.random.random() >= 0.35:
+            return self.tree
+        deep = self.trees.deepened(self.trees.tree(kind, 1), kind, DEEP)
+        return applied(self.grammar, self.tree, [SetNode(path, deep)])
 
     def lines(self, count: int) -> List[str]:
         """So many lines and, in one of three sessions, questions of all attributes behind them."""
