@@ -7,7 +7,8 @@ PROGRAM is ./attrd where none is given; the programs have 1,000, 10,000 and 60,0
 the form that JastAdd2 generates, forgets all at each edit, and is warm, in one process; where there is no `javac`, attrd is measured
 alone. All answers of the two are compared. Times are processor times, the least of several rounds by turns; instructions are counted
 where there is `valgrind`, of keystrokes only with --instructions, which takes minutes. --row measures the rows whose names have that
-in them. What is wanted is told beside what was measured; with --hold the status is 1 where it isn't reached. It takes three minutes.
+in them. What is wanted of the programs of the first seed
+is told beside what was measured; with --hold the status is 1 where it isn't reached. It takes five minutes.
 """
 from __future__ import annotations
 
@@ -30,9 +31,9 @@ from served import Served
 
 from attrd import Grammar
 
-SIZES, SEED, ROUNDS = (1_000, 10_000, 60_000), 1, 3
+SIZES, SEED, ROUNDS = (1_000, 10_000, 60_000), 1, 4
 # How long the Java program does the same again in each round, in seconds.
-JAVA_SECONDS = 0.5
+JAVA_SECONDS = 0.7
 # How often the lines are sent in each round.
 REPEATED = 2
 COLD = "all errors, nothing kept"
@@ -78,6 +79,7 @@ class Bench:
 
     def __init__(self, program: str, folder: str, nodes: int, arguments: argparse.Namespace) -> None:
         self.program, self.folder, self.nodes = program, folder, nodes
+        self.is_known = arguments.seed == SEED
         grammar = Grammar.load(GRAMMAR)
         tree = written(nodes, arguments.seed)
         self.size, self.file = tree.size, f"program{nodes}.txt"
@@ -163,7 +165,7 @@ def tell_cold(benches: List[Bench], bounds: Bounds) -> None:
     for bench in benches:
         figures, memory = bench.figures, bench.peak * 1024 / 1e6
         counted = bench.counted("", ASK, 1)
-        most, most_memory = MOST_INSTRUCTIONS.get(bench.nodes), MOST_MEMORY.get(bench.nodes)
+        most, most_memory = (wanted.get(bench.nodes) if bench.is_known else None for wanted in (MOST_INSTRUCTIONS, MOST_MEMORY))
         of = f"{COLD}, {bench.size:,} nodes"
         row(f"{bench.size:,} nodes", f"{figures.attrd[COLD] * 1e3:.2f} ms", f"{figures.java[COLD] * 1e3:.2f} ms" if bench.java else "",
             short(figures.ratio(COLD)), millions(counted), bounds.at_most(f"{of}, millions of instructions", counted / 1e6, most / 1e6) if counted and most else "-",
@@ -176,7 +178,7 @@ def tell_rows(benches: List[Bench], bounds: Bounds, is_counted: bool) -> None:
     for bench in benches:
         table(f"A keystroke and all errors, {bench.size:,} nodes", "attrd, us", "Java, us", "attrd / Java", "Version 0.23", "Against it", "Instructions, millions")
         for it in bench.rows:
-            ratio, before = bench.figures.ratio(it.name), dict(zip(SIZES, BEFORE[it.name])).get(bench.nodes)
+            ratio, before = bench.figures.ratio(it.name), dict(zip(SIZES, BEFORE[it.name])).get(bench.nodes) if bench.is_known else None
             against = bounds.at_most(f"{it.name}, {bench.size:,} nodes, against version 0.23", ratio / before, SHARE) if ratio and before else "-"
             counted = bench.counted(ASK, it.lines, it.edits) if is_counted else None
             row(it.name, microseconds(bench.figures.attrd[it.name]), microseconds(bench.figures.java.get(it.name)), short(ratio), short(before), against, millions(counted))
@@ -211,9 +213,9 @@ def main() -> None:
         print(f"processors {os.cpu_count()}, load {os.getloadavg()[0]:.1f}")
         tell_cold(benches, bounds)
         tell_rows(benches, bounds, arguments.instructions)
-    print(f"\n{bounds.told()}")
+    print(f"\n{bounds.looked_at - len(bounds.broken)} of {bounds.looked_at} bounds hold")
     if arguments.hold and bounds.broken:
-        sys.exit(1)
+        sys.exit(bounds.told())
 
 
 if __name__ == "__main__":
