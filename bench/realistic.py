@@ -5,16 +5,17 @@
 
 PROGRAM is ./attrd where none is given; the programs have 1,000, 10,000 and 60,000 nodes of the tutorial's language. The Java program has
 the form that JastAdd2 generates, forgets all at each edit, and is warm, in one process; where there is no `javac`, attrd is measured
-alone. All answers of the two are compared. Times are processor times, the least of several rounds by turns; instructions are counted
-where there is `valgrind`, of keystrokes only with --instructions, which takes minutes. --row measures the rows whose names have that
-in them. What is wanted of the programs of the first seed
-is told beside what was measured; with --hold the status is 1 where it isn't reached. It takes five minutes.
+alone. All answers of the two are compared. Times are processor times, the least of several rounds by turns; values are those of lazy
+attributes that --work counts; instructions are counted where there is `valgrind`, of keystrokes only with --instructions, which takes
+minutes. --row measures the rows whose names have that in them. What is wanted is told beside what was measured, for the programs of
+the first seed; with --hold the status is 1 where it isn't reached. It takes five minutes.
 """
 from __future__ import annotations
 
 import argparse
 import os
 import shutil
+import subprocess
 import sys
 import tempfile
 from dataclasses import dataclass, field
@@ -132,6 +133,11 @@ class Bench:
         counted = instructions_behind([self.program, *self.words], self.folder, before, lines)
         return None if counted is None else counted / count
 
+    def evaluated(self, lines: str) -> int:
+        """How many values of lazy attributes are evaluated for these lines, as the program counts them."""
+        run = subprocess.run([self.program, "--work", *self.words], cwd=self.folder, input=lines, capture_output=True, text=True, check=True)
+        return int(run.stderr.split()[-1])
+
     def end(self) -> None:
         """Ends the Java program, and notes how many bytes it holds."""
         if self.java:
@@ -161,13 +167,13 @@ def millions(count: Optional[float]) -> str:
 
 def tell_cold(benches: List[Bench], bounds: Bounds) -> None:
     """Prints what the first question takes at each size."""
-    table(COLD, "attrd", "Java behind a flush", "attrd / Java", "Instructions, millions", "Wanted", "Most memory, MB", "Wanted", "Java's heap, MB")
+    table(COLD, "Values", "attrd", "Java behind a flush", "attrd / Java", "Instructions, millions", "Wanted", "Most memory, MB", "Wanted", "Java's heap, MB")
     for bench in benches:
         figures, memory = bench.figures, bench.peak * 1024 / 1e6
         counted = bench.counted("", ASK, 1)
         most, most_memory = (wanted.get(bench.nodes) if bench.is_known else None for wanted in (MOST_INSTRUCTIONS, MOST_MEMORY))
         of = f"{COLD}, {bench.size:,} nodes"
-        row(f"{bench.size:,} nodes", f"{figures.attrd[COLD] * 1e3:.2f} ms", f"{figures.java[COLD] * 1e3:.2f} ms" if bench.java else "",
+        row(f"{bench.size:,} nodes", f"{bench.evaluated(ASK):,}", f"{figures.attrd[COLD] * 1e3:.2f} ms", f"{figures.java[COLD] * 1e3:.2f} ms" if bench.java else "",
             short(figures.ratio(COLD)), millions(counted), bounds.at_most(f"{of}, millions of instructions", counted / 1e6, most / 1e6) if counted and most else "-",
             f"{memory:.1f}", bounds.at_most(f"{of}, MB", memory, most_memory) if most_memory else "-",
             f"{bench.heap / 1e6:.1f}" if bench.java else "")
@@ -176,12 +182,15 @@ def tell_cold(benches: List[Bench], bounds: Bounds) -> None:
 def tell_rows(benches: List[Bench], bounds: Bounds, is_counted: bool) -> None:
     """Prints what each kind of keystroke takes at each size, with all errors asked behind it."""
     for bench in benches:
-        table(f"A keystroke and all errors, {bench.size:,} nodes", "attrd, us", "Java, us", "attrd / Java", "Version 0.23", "Against it", "Instructions, millions")
+        table(f"A keystroke and all errors, {bench.size:,} nodes", "attrd, us", "Java, us", "attrd / Java", "Version 0.23", "Against it", "Values anew",
+              "Instructions, millions")
+        cold = bench.evaluated(ASK)
         for it in bench.rows:
             ratio, before = bench.figures.ratio(it.name), dict(zip(SIZES, BEFORE[it.name])).get(bench.nodes) if bench.is_known else None
             against = bounds.at_most(f"{it.name}, {bench.size:,} nodes, against version 0.23", ratio / before, SHARE) if ratio and before else "-"
             counted = bench.counted(ASK, it.lines, it.edits) if is_counted else None
-            row(it.name, microseconds(bench.figures.attrd[it.name]), microseconds(bench.figures.java.get(it.name)), short(ratio), short(before), against, millions(counted))
+            row(it.name, microseconds(bench.figures.attrd[it.name]), microseconds(bench.figures.java.get(it.name)), short(ratio), short(before), against,
+                f"{(bench.evaluated(ASK + it.lines) - cold) / it.edits:,.1f}", millions(counted))
 
 
 def read_arguments() -> argparse.Namespace:
