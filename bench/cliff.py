@@ -3,7 +3,7 @@
 
     python3 bench/cliff.py [PROGRAM] [--items N ..] [--limit SECONDS]
 
-PROGRAM is ./attrd where none is given. A chain of attributes that aren't lazy goes through 2,000, 21,800 and 30,000 items, and each item
+PROGRAM is ./attrd where none is given. A chain of attributes that aren't lazy goes through 2,000 to 30,000 items, and each item
 has a lazy one over its own. The last item is asked for a sum of them that goes through all, which evaluates them from the last one on or
 from the first one on; and for a lazy attribute that asks that of the item before first, and then the chain. Each is asked by `ask`, and by
 `post` and `wait`. Then 2,000 items ask for one attribute that isn't lazy and rests on others that aren't. Times are processor times,
@@ -24,7 +24,7 @@ from typing import NamedTuple, Sequence
 from figures import program_in, row, table
 from instructions import instructions_behind
 
-SIZES, LIMIT, ASKING = (2_000, 21_800, 30_000), 20, 2_000
+SIZES, LIMIT, ASKING = (2_000, 4_000, 21_800, 30_000), 20, 2_000
 GRAMMAR = "Names ::= Item*;\nItem ::= <ID>;\n"
 CHAIN = """aspect Chain {
   inh int Item.before();
