@@ -45,16 +45,16 @@ MOST_MEMORY = {60_000: 55.0}
 # a keystroke may take.
 SHARE = 0.6
 BEFORE: Dict[str, Tuple[float, ...]] = {
-    "a number that nothing rests on": (0.015, 0.0011, 0.00022),
-    "a use mistyped and corrected": (0.4, 0.065, 0.016),
-    "a statement in or out at the front of a method": (5.1, 0.41, 0.072),
-    "a declaration in or out at the front of a method": (5.1, 0.51, 0.068),
-    "a declaration renamed": (3.6, 2, 0.19),
-    "a field renamed": (4, 0.52, 0.42),
-    "a field in or out": (6.4, 1.5, 0.38),
+    "a number that nothing rests on": (0.015, 0.0017, 0.00022),
+    "a use mistyped and corrected": (0.4, 0.068, 0.016),
+    "a statement in or out at the front of a method": (5.1, 0.44, 0.072),
+    "a declaration in or out at the front of a method": (5.1, 0.49, 0.068),
+    "a declaration renamed": (3.6, 2.1, 0.19),
+    "a field renamed": (4, 0.66, 0.42),
+    "a field in or out": (6.4, 1.2, 0.43),
     "a declaration in or out at the front of the largest scope": (9.5, 13, 2.9),
-    "a class renamed": (6.4, 6.5, 14),
-    "a class in or out at the top": (45, 41, 51),
+    "a class renamed": (6.4, 6.6, 14),
+    "a class in or out at the top": (45, 42, 51),
     "a class in or out at the end": (43, 45, 53),
 }
 
