@@ -18,6 +18,8 @@ LINE = 65_000
 LOOKED = 40
 # How many questions of all attributes stand behind a session.
 SWEPT = 500
+# Of how many of the last questions one is asked again.
+RECENT = 12
 
 
 class Session:
@@ -31,6 +33,7 @@ class Session:
         self.asked = {it.name: [one for one in known if self.grammar.is_below(it.name, one.of)] for it in self.grammar}
         self.tree = self.first = self.begun()
         self.version, self.posted = 0, 0
+        self.questions: List[str] = []
         slices, keeps = self.random.choice(((), ("--slice", "3"), ("--slice", "100"))), self.random.choice(((), (), ("--keep", "1"), ("--keep", "40")))
         self.options = [*slices, *keeps]
 
@@ -165,8 +168,16 @@ class Session:
         return f"{self.random.randrange(3)} {command}"
 
     def question(self) -> str:
-        """A question of a node by chance, or of a mark."""
-        found = self.looked_for(lambda path, node: bool(self.asked[node.name]))
+        """A question: one that was asked before, as often as a new one, so that an answer that should be another one by now shows."""
+        if self.questions and self.random.random() < 0.5:
+            return self.random.choice(self.questions[-RECENT:])
+        self.questions.append(self.new_question())
+        return self.questions[-1]
+
+    def new_question(self) -> str:
+        """A question of the root, which rests on much, of a node by chance, or of a mark."""
+        at_root = self.random.random() < 0.2 and self.asked[self.tree.name]
+        found = None if at_root else self.looked_for(lambda path, node: bool(self.asked[node.name]))
         path, node = found or (Path(), self.tree)
         known = self.random.choice(self.asked[node.name]) if self.asked[node.name] else Attribute("", "nothing", "int", (), False, False)
         place = str(path) if self.random.random() < 0.9 else f"$m{self.random.randrange(3)}"
