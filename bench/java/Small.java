@@ -6,8 +6,9 @@ import java.util.Map;
 /**
  * The tutorial's language (clients/lsp/attrd_lsp/data) in the form that JastAdd2 generates: a class for each class of the grammar; for each
  * cached attribute a field and a flag, or a map where it has a parameter; a direct call for each other one; a walk up the tree, node by
- * node, for what is inherited. An edit is followed by a flush: a walk over the whole tree that forgets all. Checks for circles, which
- * JastAdd2 can generate, are left out: this is the fastest form.
+ * node, for what is inherited. An attribute that is declared for three classes stands in each of them, as it is generated. An edit is
+ * followed by a flush: a walk over the whole tree that forgets all. Checks for circles, which JastAdd2 can generate, are left out: this
+ * is the fastest form.
  */
 final class Small {
     private Small() {}
