@@ -21,6 +21,7 @@ from dataclasses import dataclass, replace
 from pathlib import Path
 from typing import List, Optional, Tuple
 
+from figures import program_in
 from languages import LANGUAGES, Language
 from sessions import Session
 
@@ -137,7 +138,7 @@ def main() -> None:
     parser.add_argument("--language", choices=sorted(LANGUAGES))
     arguments = parser.parse_args()
     languages = [LANGUAGES[arguments.language]] if arguments.language else list(LANGUAGES.values())
-    first, second = (str(Path(it).resolve()) for it in arguments.programs)
+    first, second = (program_in([it], __doc__) for it in arguments.programs)
     folder = Path(tempfile.mkdtemp(prefix="attrd-compare-"))
     counted = compared(Comparison((first, second), folder), languages, arguments)
     shutil.rmtree(folder)

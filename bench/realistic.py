@@ -57,6 +57,20 @@ BEFORE: Dict[str, Tuple[float, ...]] = {
     "a class in or out at the top": (45, 42, 51),
     "a class in or out at the end": (43, 45, 53),
 }
+# Its instructions, in millions, with 1,000 and 10,000 nodes.
+COUNTED_BEFORE: Dict[str, Tuple[float, ...]] = {
+    "a number that nothing rests on": (0.006, 0.006),
+    "a use mistyped and corrected": (0.273, 0.633),
+    "a statement in or out at the front of a method": (3, 2.8),
+    "a declaration in or out at the front of a method": (3, 2.8),
+    "a declaration renamed": (2.2, 12.9),
+    "a field renamed": (2.4, 3.4),
+    "a field in or out": (3.6, 5.7),
+    "a declaration in or out at the front of the largest scope": (5.2, 82.6),
+    "a class renamed": (3.5, 30.4),
+    "a class in or out at the top": (21.8, 199.5),
+    "a class in or out at the end": (21.8, 199.5),
+}
 
 
 @dataclass
@@ -179,6 +193,16 @@ def tell_cold(benches: List[Bench], bounds: Bounds) -> None:
             f"{bench.heap / 1e6:.1f}" if bench.java else "")
 
 
+def known_of(figures: Dict[str, Tuple[float, ...]], bench: Bench, name: str) -> Optional[float]:
+    """The figure of version 0.23 for a row of this bench; None where there is none for its size or seed."""
+    return dict(zip(SIZES, figures[name])).get(bench.nodes) if bench.is_known else None
+
+
+def against(counted: Optional[float], before: Optional[float]) -> str:
+    """Instructions in millions, with how many they are of those before; empty where they weren't counted."""
+    return millions(counted) + (f" ({counted / 1e6 / before:.2f} of 0.23's)" if counted and before else "")
+
+
 def tell_rows(benches: List[Bench], bounds: Bounds, is_counted: bool) -> None:
     """Prints what each kind of keystroke takes at each size, with all errors asked behind it."""
     for bench in benches:
@@ -186,11 +210,11 @@ def tell_rows(benches: List[Bench], bounds: Bounds, is_counted: bool) -> None:
               "Instructions, millions")
         cold = bench.evaluated(ASK)
         for it in bench.rows:
-            ratio, before = bench.figures.ratio(it.name), dict(zip(SIZES, BEFORE[it.name])).get(bench.nodes) if bench.is_known else None
-            against = bounds.at_most(f"{it.name}, {bench.size:,} nodes, against version 0.23", ratio / before, SHARE) if ratio and before else "-"
+            ratio, before = bench.figures.ratio(it.name), known_of(BEFORE, bench, it.name)
+            told = bounds.at_most(f"{it.name}, {bench.size:,} nodes, against version 0.23", ratio / before, SHARE) if ratio and before else "-"
             counted = bench.counted(ASK, it.lines, it.edits) if is_counted else None
-            row(it.name, microseconds(bench.figures.attrd[it.name]), microseconds(bench.figures.java.get(it.name)), short(ratio), short(before), against,
-                f"{(bench.evaluated(ASK + it.lines) - cold) / it.edits:,.1f}", millions(counted))
+            row(it.name, microseconds(bench.figures.attrd[it.name]), microseconds(bench.figures.java.get(it.name)), short(ratio), short(before), told,
+                f"{(bench.evaluated(ASK + it.lines) - cold) / it.edits:,.1f}", against(counted, known_of(COUNTED_BEFORE, bench, it.name)))
 
 
 def read_arguments() -> argparse.Namespace:
