@@ -26,7 +26,7 @@ help:
 	@echo "  make examples      runs the examples of the pages by ./attrd (a minute, behind make build)"
 	@echo "  make starve        a session with each keeper, with each request for memory refused in turn (a minute, behind its proof)"
 	@echo "  make tries         the examples of single tries of equations (a minute, behind its proof)"
-	@echo "  make bench         measures ./attrd (15 minutes, behind make build)"
+	@echo "  make bench         measures ./attrd (20 minutes, behind make build)"
 
 # The sample session, answered by the proved program where it was built, else by one that isn't proved.
 run: tools
@@ -102,8 +102,8 @@ tries: tools python
 	cd crates/tries && rt run < stdin -- data/calc.ast data/calc.jrag data/tree.txt
 	@python3 tools/examples.py docs/TRIES.md
 
-# Speed, by the proved program, as ratios in one run; what the program takes at its limits; and what evaluations, loading, lines and
-# edits cost where everything is kept, which fails where a bound doesn't hold.
+# Speed, by the proved program, as ratios in one run; what the program takes at its limits; what evaluations, loading, lines and
+# edits cost where everything is kept, which fails where a bound doesn't hold; and a realistic program, beside Java.
 bench: build
 	cd crates/tries && rt run < stdin -- data/calc.ast data/calc.jrag data/tree.txt > /dev/null
 	python3 bench/bench.py
@@ -111,7 +111,7 @@ bench: build
 	python3 bench/clients.py
 	python3 bench/editor.py
 	python3 bench/hub.py
-	@status=0; for it in evaluation kept; do python3 bench/$$it.py || status=1; done; exit $$status
+	@status=0; for it in evaluation kept cliff realistic; do python3 bench/$$it.py || status=1; done; exit $$status
 
 tools:
 	@command -v rt > /dev/null || { echo "attrd is written in Rattle: install the Rattle kit, so that the command 'rt' is on the PATH."; exit 1; }

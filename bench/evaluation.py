@@ -15,9 +15,9 @@ from math import log2
 from pathlib import Path
 
 from bench import calculator, doubling_grammar, doubling_term, long_aspects
+from bounds import Bounds
 from full_flush import FullFlush
 from instructions import instructions
-from kept import Bounds
 from served import Served
 from trees import ASPECTS, GRAMMAR, SumTree
 
@@ -196,8 +196,8 @@ def main():
         for part in (sums, questions, elements, declarations, shared, loading, reading):
             part(bench)
     if bench.bounds.broken:
-        sys.exit("these bounds don't hold:\n" + "\n".join(f"  {it}" for it in bench.bounds.broken))
-    print("all bounds hold")
+        sys.exit(bench.bounds.told())
+    print(bench.bounds.told())
 
 
 if __name__ == "__main__":

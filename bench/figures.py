@@ -1,12 +1,15 @@
 """What the benchmarks of the clients share: the program, and tables as docs/PERFORMANCE.md has them."""
+from __future__ import annotations
+
 import os
 import sys
 from pathlib import Path
+from typing import List, Optional, Sequence
 
 ROOT = Path(__file__).resolve().parent.parent
 
 
-def program_in(words, usage):
+def program_in(words: Sequence[str], usage: Optional[str]) -> str:
     """The program that the first word names, ./attrd where there is none. Ends the process where there is no such program."""
     program = Path(words[0]) if words else ROOT / "attrd"
     if not os.access(program, os.X_OK) or program.is_dir():
@@ -14,30 +17,30 @@ def program_in(words, usage):
     return str(program.resolve())
 
 
-def numbers_in(words, otherwise, usage):
+def numbers_in(words: Sequence[str], otherwise: Sequence[int], usage: Optional[str]) -> List[int]:
     """The sizes that these words name, or the others where there are none. Ends the process where one is no number."""
     if not all(it.isdigit() and int(it) for it in words):
         sys.exit(usage)
     return [int(it) for it in words] or list(otherwise)
 
 
-def table(*heads):
+def table(*heads: object) -> None:
     """Prints the head of a table."""
     print()
     row(*heads)
     row(*("---" for _ in heads))
 
 
-def row(*cells):
+def row(*cells: object) -> None:
     """Prints a row of a table."""
     print("| " + " | ".join(str(it) for it in cells) + " |", flush=True)
 
 
-def ms(number):
+def ms(number: float) -> str:
     """A time in milliseconds, with three digits or more."""
     return f"{number:.0f} ms" if number >= 100 else f"{number:.1f} ms" if number >= 10 else f"{number:.2f} ms"
 
 
-def ratio(number, unit):
+def ratio(number: Optional[float], unit: Optional[float]) -> str:
     """How often the one goes into the other; empty where that isn't known."""
     return f"{number / unit:.2f}" if number is not None and unit else ""

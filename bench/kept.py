@@ -14,6 +14,7 @@ import tempfile
 from pathlib import Path
 from typing import NamedTuple
 
+from bounds import Bounds
 from full_flush import FullFlush
 from instructions import instructions
 from served import Served
@@ -34,25 +35,6 @@ class Row(NamedTuple):
     count: int
     growth: float | None = None
     most: float | None = None
-
-
-class Bounds:
-    """What was measured against what it may be."""
-
-    def __init__(self):
-        self.broken = []
-
-    def at_most(self, what, value, most):
-        """The value with its bound, which is noted where it doesn't hold."""
-        if value > most:
-            self.broken.append(f"{what}: {value:.2f}, at most {most:g}")
-        return f"{value:.2f} (at most {most:g}{'' if value <= most else ': BROKEN'})"
-
-    def at_least(self, what, value, least):
-        """The same of what it has to be at least."""
-        if value < least:
-            self.broken.append(f"{what}: {value:.1f}, at least {least:g}")
-        return f"{value:.1f} (at least {least:g}{'' if value >= least else ': BROKEN'})"
 
 
 def sum_rows(tree):
@@ -254,8 +236,8 @@ def main():
         marks(bounds, program, folder)
         keystrokes(bounds, program, folder)
     if bounds.broken:
-        sys.exit("these bounds don't hold:\n" + "\n".join(f"  {it}" for it in bounds.broken))
-    print("all bounds hold")
+        sys.exit(bounds.told())
+    print(bounds.told())
 
 
 if __name__ == "__main__":

@@ -1,4 +1,7 @@
 """Trees of about so many nodes, and the questions after which every attribute of every node is kept."""
+from __future__ import annotations
+
+from typing import List
 
 SIZES = (1_000, 10_000, 60_000)
 
@@ -39,14 +42,14 @@ EDITED = 16
 SMALL = 31
 
 
-def balanced(leaves):
+def balanced(leaves: int) -> str:
     """A sum of so many numbers, as deep on the left as on the right."""
     if leaves == 1:
         return 'Num(1,"")'
     return f"Add({balanced(leaves // 2)},{balanced(leaves - leaves // 2)})"
 
 
-def leaves_at(leaves, path, depth):
+def leaves_at(leaves: int, path: str, depth: int) -> List[str]:
     """The paths of those numbers of a sum of so many that stand so many levels below its root."""
     if leaves == 1:
         return [path] if depth == 0 else []
@@ -59,9 +62,10 @@ class SumTree:
     """About so many nodes, nearly all of them of one sum: each number of it is within 15 levels and some; from its root goes a row of
     15 sums down to an optional, and beside each stands a sum of its own."""
 
-    def __init__(self, nodes, items=0):
+    def __init__(self, nodes: int, items: int = 0) -> None:
         side = ((nodes - items) // (DEPTH - 1) + 1) // 2 - 3
-        term, paths = "Spare(-)", []
+        term = "Spare(-)"
+        paths: List[str] = []
         for level in reversed(range(DEPTH)):
             count = SMALL if level == DEPTH - 1 else side
             term = f"Add({balanced(count)},{term})"
@@ -80,5 +84,5 @@ class SumTree:
 class ListTree(SumTree):
     """About so many nodes, of which half are the elements of one list."""
 
-    def __init__(self, nodes):
+    def __init__(self, nodes: int) -> None:
         super().__init__(nodes, nodes // 2)

@@ -1,0 +1,255 @@
+#!/usr/bin/env python3
+"""A realistic program: how fast all errors are told of a program as people write them, and after each keystroke, beside Java.
+
+    python3 bench/realistic.py [PROGRAM] [--nodes N ..] [--rounds N] [--seed N] [--row NAME] [--instructions] [--hold]
+
+PROGRAM is ./attrd where none is given; the programs have 1,000, 10,000 and 60,000 nodes of the tutorial's language. The Java program has
+the form that JastAdd2 generates, forgets all at each edit, and is warm, in one process; where there is no `javac`, attrd is measured
+alone. All answers of the two are compared. Times are processor times, the least of several rounds by turns; values are those of lazy
+attributes that --work counts; instructions are counted where there is `valgrind`, of keystrokes only with --instructions, which takes
+minutes. --row measures the rows whose names have that in them. What is wanted is told beside what was measured, for the programs of
+the first seed; with --hold the status is 1 where it isn't reached. It takes five minutes.
+"""
+from __future__ import annotations
+
+import argparse
+import os
+import shutil
+import subprocess
+import sys
+import tempfile
+from dataclasses import dataclass, field
+from pathlib import Path
+from typing import Dict, List, Optional, Tuple
+
+from bounds import Bounds
+from figures import program_in, row, table
+from full_flush import Keystrokes as Java
+from instructions import instructions_behind
+from keystrokes import ASK, KINDS, Keystrokes, keystrokes
+from programs import ASPECTS, GRAMMAR, written
+from served import Served
+
+from attrd import Grammar
+
+SIZES, SEED, ROUNDS = (1_000, 10_000, 60_000), 1, 4
+# How long the Java program does the same again in each round, in seconds.
+JAVA_SECONDS = 0.7
+# How often the lines are sent in each round.
+REPEATED = 2
+COLD = "all errors, nothing kept"
+# What is wanted: instructions of the cold question by the size of the program, and the most memory behind it, in megabytes.
+MOST_INSTRUCTIONS = {10_000: 0.36 * 456e6, 60_000: 0.36 * 2_489e6}
+MOST_MEMORY = {60_000: 55.0}
+# The times of version 0.23 as multiples of Java's, for these sizes and this seed, by a program that isn't proved; and how much of them
+# a keystroke may take.
+SHARE = 0.6
+BEFORE: Dict[str, Tuple[float, ...]] = {
+    "a number that nothing rests on": (0.015, 0.0017, 0.00022),
+    "a use mistyped and corrected": (0.4, 0.068, 0.016),
+    "a statement in or out at the front of a method": (5.1, 0.44, 0.072),
+    "a declaration in or out at the front of a method": (5.1, 0.49, 0.068),
+    "a declaration renamed": (3.6, 2.1, 0.19),
+    "a field renamed": (4, 0.66, 0.42),
+    "a field in or out": (6.4, 1.2, 0.43),
+    "a declaration in or out at the front of the largest scope": (9.5, 13, 2.9),
+    "a class renamed": (6.4, 6.6, 14),
+    "a class in or out at the top": (45, 42, 51),
+    "a class in or out at the end": (43, 45, 53),
+}
+# Its instructions, in millions, with 1,000 and 10,000 nodes.
+COUNTED_BEFORE: Dict[str, Tuple[float, ...]] = {
+    "a number that nothing rests on": (0.006, 0.006),
+    "a use mistyped and corrected": (0.273, 0.633),
+    "a statement in or out at the front of a method": (3, 2.8),
+    "a declaration in or out at the front of a method": (3, 2.8),
+    "a declaration renamed": (2.2, 12.9),
+    "a field renamed": (2.4, 3.4),
+    "a field in or out": (3.6, 5.7),
+    "a declaration in or out at the front of the largest scope": (5.2, 82.6),
+    "a class renamed": (3.5, 30.4),
+    "a class in or out at the top": (21.8, 199.5),
+    "a class in or out at the end": (21.8, 199.5),
+}
+
+
+@dataclass
+class Figures:
+    """The least times that were measured, by row, in seconds."""
+
+    attrd: Dict[str, float] = field(default_factory=dict)
+    java: Dict[str, float] = field(default_factory=dict)
+
+    @staticmethod
+    def note(least: Dict[str, float], what: str, seconds: float) -> None:
+        least[what] = min(seconds, least.get(what, seconds))
+
+    def ratio(self, what: str) -> Optional[float]:
+        """What attrd takes against Java; None where there is no Java."""
+        return self.attrd[what] / self.java[what] if what in self.java else None
+
+
+class Bench:
+    """One size: the program that is edited, in a folder, and the two that answer."""
+
+    def __init__(self, program: str, folder: str, nodes: int, arguments: argparse.Namespace) -> None:
+        self.program, self.folder, self.nodes = program, folder, nodes
+        self.is_known = arguments.seed == SEED
+        grammar = Grammar.load(GRAMMAR)
+        tree = written(nodes, arguments.seed)
+        self.size, self.file = tree.size, f"program{nodes}.txt"
+        (Path(folder) / self.file).write_text(f"{tree}\n", encoding="utf-8")
+        self.rows = [it for it in keystrokes(grammar, tree) if arguments.row in it.name]
+        self.java = Java.begun(folder, self.file)
+        self.figures, self.peak, self.heap = Figures(), sys.maxsize, 0
+        if self.java:
+            self.java.warm()
+
+    @property
+    def words(self) -> List[str]:
+        """What stands behind the program on its command line."""
+        return [str(GRAMMAR), self.file, *map(str, ASPECTS)]
+
+    def round(self) -> None:
+        """Measures each row once, attrd and Java by turns."""
+        run = Served(self.program, self.folder, self.words)
+        spent, replies = run.answered(ASK)
+        self.figures.note(self.figures.attrd, COLD, spent)
+        self.peak = min(self.peak, run.peak())
+        for it in self.rows:
+            self.typed(run, it)
+        if self.java:
+            seconds, errors = self.java.cold(JAVA_SECONDS)
+            self.figures.note(self.figures.java, COLD, seconds)
+            self.compare(COLD, replies, [errors])
+        run.end()
+
+    def typed(self, run: Served, it: Keystrokes) -> None:
+        """Measures one row."""
+        for _ in range(REPEATED):
+            spent, replies = run.answered(it.lines)
+            self.figures.note(self.figures.attrd, it.name, spent / it.edits)
+        if self.java:
+            file = Path(self.folder) / "lines"
+            file.write_text(it.lines, encoding="utf-8")
+            seconds, errors = self.java.row(file.name, JAVA_SECONDS)
+            self.figures.note(self.figures.java, it.name, seconds)
+            self.compare(it.name, [reply for reply in replies if " = " in reply], errors)
+
+    def compare(self, what: str, replies: List[str], errors: List[int]) -> None:
+        """Ends the process where the two tell different numbers of errors."""
+        told = [int(reply.split(" = ")[1]) for reply in replies]
+        if told != errors:
+            sys.exit(f"{what}, {self.size:,} nodes: attrd tells {told} errors and Java {errors}")
+
+    def counted(self, before: str, lines: str, count: int) -> Optional[float]:
+        """The instructions of lines behind others, for one of so many."""
+        counted = instructions_behind([self.program, *self.words], self.folder, before, lines)
+        return None if counted is None else counted / count
+
+    def evaluated(self, lines: str) -> int:
+        """How many values of lazy attributes are evaluated for these lines, as the program counts them."""
+        run = subprocess.run([self.program, "--work", *self.words], cwd=self.folder, input=lines, capture_output=True, text=True, check=True)
+        return int(run.stderr.split()[-1])
+
+    def end(self) -> None:
+        """Ends the Java program, and notes how many bytes it holds."""
+        if self.java:
+            self.heap = self.java.heap()
+            self.java.end()
+
+
+def microseconds(seconds: Optional[float]) -> str:
+    """A time in microseconds, with three digits or more; empty where there is none."""
+    if seconds is None:
+        return ""
+    number = seconds * 1e6
+    return f"{number:,.0f}" if number >= 100 else f"{number:.1f}"
+
+
+def short(number: Optional[float]) -> str:
+    """A ratio with two digits that count; empty where there is none."""
+    if number is None:
+        return ""
+    return f"{number:.0f}" if number >= 10 else f"{number:.2g}"
+
+
+def millions(count: Optional[float]) -> str:
+    """Instructions in millions; empty where they weren't counted."""
+    return "" if count is None else f"{count / 1e6:,.1f}" if count >= 1e6 else f"{count / 1e6:.3f}"
+
+
+def tell_cold(benches: List[Bench], bounds: Bounds) -> None:
+    """Prints what the first question takes at each size."""
+    table(COLD, "Values", "attrd", "Java behind a flush", "attrd / Java", "Instructions, millions", "Wanted", "Most memory, MB", "Wanted", "Java's heap, MB")
+    for bench in benches:
+        figures, memory = bench.figures, bench.peak * 1024 / 1e6
+        counted = bench.counted("", ASK, 1)
+        most, most_memory = (wanted.get(bench.nodes) if bench.is_known else None for wanted in (MOST_INSTRUCTIONS, MOST_MEMORY))
+        of = f"{COLD}, {bench.size:,} nodes"
+        row(f"{bench.size:,} nodes", f"{bench.evaluated(ASK):,}", f"{figures.attrd[COLD] * 1e3:.2f} ms", f"{figures.java[COLD] * 1e3:.2f} ms" if bench.java else "",
+            short(figures.ratio(COLD)), millions(counted), bounds.at_most(f"{of}, millions of instructions", counted / 1e6, most / 1e6) if counted and most else "-",
+            f"{memory:.1f}", bounds.at_most(f"{of}, MB", memory, most_memory) if most_memory else "-",
+            f"{bench.heap / 1e6:.1f}" if bench.java else "")
+
+
+def known_of(figures: Dict[str, Tuple[float, ...]], bench: Bench, name: str) -> Optional[float]:
+    """The figure of version 0.23 for a row of this bench; None where there is none for its size or seed."""
+    return dict(zip(SIZES, figures[name])).get(bench.nodes) if bench.is_known else None
+
+
+def against(counted: Optional[float], before: Optional[float]) -> str:
+    """Instructions in millions, with how many they are of those before; empty where they weren't counted."""
+    return millions(counted) + (f" ({counted / 1e6 / before:.2f} of 0.23's)" if counted and before else "")
+
+
+def tell_rows(benches: List[Bench], bounds: Bounds, is_counted: bool) -> None:
+    """Prints what each kind of keystroke takes at each size, with all errors asked behind it."""
+    for bench in benches:
+        table(f"A keystroke and all errors, {bench.size:,} nodes", "attrd, us", "Java, us", "attrd / Java", "Version 0.23", "Against it", "Values anew",
+              "Instructions, millions")
+        cold = bench.evaluated(ASK)
+        for it in bench.rows:
+            ratio, before = bench.figures.ratio(it.name), known_of(BEFORE, bench, it.name)
+            told = bounds.at_most(f"{it.name}, {bench.size:,} nodes, against version 0.23", ratio / before, SHARE) if ratio and before else "-"
+            counted = bench.counted(ASK, it.lines, it.edits) if is_counted else None
+            row(it.name, microseconds(bench.figures.attrd[it.name]), microseconds(bench.figures.java.get(it.name)), short(ratio), short(before), told,
+                f"{(bench.evaluated(ASK + it.lines) - cold) / it.edits:,.1f}", against(counted, known_of(COUNTED_BEFORE, bench, it.name)))
+
+
+def read_arguments() -> argparse.Namespace:
+    """The words of the command line."""
+    parser = argparse.ArgumentParser(description=(__doc__ or "").splitlines()[0])
+    parser.add_argument("program", nargs="?")
+    parser.add_argument("--nodes", type=int, nargs="+", default=SIZES)
+    parser.add_argument("--rounds", type=int, default=ROUNDS)
+    parser.add_argument("--seed", type=int, default=SEED)
+    parser.add_argument("--row", default="", help=f"a part of a name: {'; '.join(KINDS)}")
+    parser.add_argument("--instructions", action="store_true")
+    parser.add_argument("--hold", action="store_true")
+    return parser.parse_args()
+
+
+def main() -> None:
+    arguments, bounds = read_arguments(), Bounds()
+    program = program_in([arguments.program] if arguments.program else [], __doc__)
+    if arguments.hold and not (shutil.which("javac") and shutil.which("valgrind")):
+        sys.exit("--hold looks at bounds that take javac and valgrind, and one of them isn't there")
+    with tempfile.TemporaryDirectory() as folder:
+        benches = [Bench(program, folder, nodes, arguments) for nodes in arguments.nodes]
+        if not benches[0].java:
+            print("attrd alone is measured: there is no javac")
+        for bench in benches:
+            for _ in range(arguments.rounds):
+                bench.round()
+            bench.end()
+        print(f"processors {os.cpu_count()}, load {os.getloadavg()[0]:.1f}")
+        tell_cold(benches, bounds)
+        tell_rows(benches, bounds, arguments.instructions)
+    print(f"\n{bounds.looked_at - len(bounds.broken)} of {bounds.looked_at} bounds hold")
+    if arguments.hold and bounds.broken:
+        sys.exit(bounds.told())
+
+
+if __name__ == "__main__":
+    main()
