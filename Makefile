@@ -4,7 +4,11 @@ SAMPLE := crates/attrd/data
 PREFIX ?= /usr/local
 PAGES := docs/MANUAL.md docs/EDGES.md docs/REFUSALS.md docs/TUTORIAL.md samples/calculator samples/objects samples/machines
 
-.PHONY: help run try build install package warm check edits counts test examples starve tries bench tools python crate
+# What examples, program and clients test: PROGRAM=.., else ./attrd where it stands, else a program with no proof.
+QUICK := .quick/attrd
+TESTED := $(or $(PROGRAM),$(if $(wildcard attrd),./attrd,$(QUICK)))
+
+.PHONY: help run try quick build install package warm check edits counts test examples program clients starve tries bench tools python crate tested
 
 # What there is, and how long it takes on two cores.
 help:
@@ -22,8 +26,13 @@ help:
 	@echo "                     tries the crate's wrong bodies, which the prover has to refuse (1 to 5 minutes, behind make check)"
 	@echo "  make counts        long clauses, contracts and repeats (seconds)"
 	@echo "to test it:"
+	@echo "  make quick         all tests that need no proof, by a program that isn't proved (5 minutes; 2 where the program is taken up)"
 	@echo "  make test          the gate: every proof, wrong bodies, tests, programs, examples (90 minutes; 15 where it passed before)"
-	@echo "  make examples      runs the examples of the pages by ./attrd (a minute, behind make build)"
+	@echo "  make examples      the examples of the pages alone (half a minute)"
+	@echo "  make program       the tests of the command line, streams and sockets alone (seconds)"
+	@echo "  make clients [T=test_update]"
+	@echo "                     the tests of the clients alone, or of one client or module (2 minutes)"
+	@echo "                     These three take PROGRAM=..; else ./attrd where it stands, else the program of make quick (2 minutes more)"
 	@echo "  make starve        a session with each keeper, with each request for memory refused in turn (a minute, behind its proof)"
 	@echo "  make tries         the examples of single tries of equations (a minute, behind its proof)"
 	@echo "  make bench         measures ./attrd (15 minutes, behind make build)"
@@ -45,6 +54,11 @@ test: tools python
 	@tools/editors.sh nvim chromium || true
 	@python3 clients/run_tests.py crates/attrd/out/attrd
 	@python3 tools/examples.py --program crates/attrd/out/attrd --tries crates/tries/out/tries $(PAGES) docs/TRIES.md
+
+# All tests that need no proof (see tools/quick.py).
+quick: tools python
+	@tools/editors.sh nvim chromium || true
+	@python3 -m tools.quick $(PAGES)
 
 # The sample session with no proof, in a minute or two.
 try: tools
@@ -88,9 +102,22 @@ crate:
 	@test -n "$(C)" || { echo "name a crate, as in: make check C=at_demand"; exit 1; }
 	@test -d "crates/$(C)" || { echo "there is no crate $(C); crates.txt has them all"; exit 1; }
 
-# The examples of the manual, the tutorial and the samples, run by the proved program.
-examples: build python
-	@python3 tools/examples.py $(PAGES)
+# The program that the next three test, built with no proof where it is none of the others.
+tested: python
+	@$(if $(filter $(QUICK),$(TESTED)),$(MAKE) --no-print-directory tools && python3 -m tools.quick_program,test -x $(TESTED) || { echo "there is no program $(TESTED)"; exit 1; })
+	@echo "tested: $(TESTED)"
+
+# The examples of the manual, the tutorial and the samples.
+examples: tested
+	@python3 tools/examples.py --program $(TESTED) $(PAGES)
+
+# The words of the command line, streams that fail, and real sockets.
+program: tested
+	@python3 tools/program.py $(TESTED)
+
+# The tests of the clients, or of the client or module T.
+clients: tested
+	@python3 clients/run_tests.py --skip-missing $(TESTED) $(T)
 
 # A session with each keeper, by the proved program, with each request for memory refused in turn.
 starve: tools python

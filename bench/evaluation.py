@@ -8,7 +8,6 @@ them; a time is processor time, the least of TURNS runs. Where `javac` is there,
 The run ends with status 1 where a bound doesn't hold.
 """
 import os
-import subprocess
 import sys
 import tempfile
 from math import log2
