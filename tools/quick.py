@@ -24,9 +24,13 @@ from tools.sources import ROOT
 
 LANES = 2
 COUNTED = re.compile(r"^(\d+) passed, (\d+) failed$", re.M)
+# The same, as unittest tells it.
+RAN = re.compile(r"^Ran (\d+) tests? in ", re.M)
+FAILURES = re.compile(r"\b(?:failures|errors)=(\d+)")
 SKIPPED = re.compile(r"^skipped: .*$", re.M)
+TOOLS_TESTS = ("discover", "-s", "tools/tests", "-t", ".")
 # What is typed in full beside the clients.
-TYPED = ("bench/unproved.py", "clients/run_tests.py", "tools/quick.py", "tools/quick_program.py", "tools/sources.py")
+TYPED = ("bench/unproved.py", "clients/run_tests.py", "tools/build.py", "tools/flakes.py", "tools/quick.py", "tools/tests")
 
 
 @dataclass(frozen=True)
@@ -56,10 +60,20 @@ class Outcome:
         sys.stdout.flush()
 
 
+def counted(status: int, printed: str) -> Tuple[int, int]:
+    """How many tests passed and failed, by what was printed: its last line 'N passed, M failed', or what unittest tells; else one test."""
+    lines, ran = COUNTED.findall(printed), RAN.findall(printed)
+    if lines:
+        return int(lines[-1][0]), int(lines[-1][1])
+    if ran:
+        failed = sum(map(int, FAILURES.findall(printed[printed.rindex("\nRan "):])))
+        return max(0, int(ran[-1]) - failed), failed
+    return int(status == 0), int(status != 0)
+
+
 def outcome_of(name: str, status: int, printed: str, seconds: float) -> Outcome:
-    """The outcome by what was printed: its last line 'N passed, M failed', or else one test, which the status tells."""
-    counted = COUNTED.findall(printed)
-    passed, failed = map(int, counted[-1]) if counted else (int(status == 0), int(status != 0))
+    """What became of a part; a status that isn't 0 is at least one failure."""
+    passed, failed = counted(status, printed)
     return Outcome(name, passed, max(failed, int(status != 0)), printed, seconds)
 
 
@@ -90,7 +104,7 @@ def of_the_program(program: Path, pages: Sequence[str]) -> List[Part]:
 
 def of_the_sources() -> List[Part]:
     """The parts that run no program; mypy and pyflakes are left out, and told, where they aren't installed."""
-    parts = [Part("counts", python("tools/counts.py", "--hold"))]
+    parts = [Part("counts", python("tools/counts.py", "--hold")), Part("tools", python("-m", "unittest", *TOOLS_TESTS))]
     if shutil.which("mypy"):
         path = os.pathsep.join(str(ROOT / "clients" / it) for it in clients())
         parts.append(Part("types of the clients", ["sh", "-c", "cd clients && mypy"]))
