@@ -60,7 +60,7 @@ class Progress:
     def state(self) -> str:
         """What goes on now."""
         if self.crate is None:
-            return f"before the first of {len(self.crates)} crates: all sources are read, in some minutes, for what needs no proof to be found"
+            return f"before the first of {len(self.crates)} crates: reads all sources, in 3 to 5 minutes, for what is found with no proof"
         place = f"proves {self.crate}, crate {self.crates.index(self.crate) + 1} of {len(self.crates)}"
         done = max(self.checked, self.proved_anew())
         return f"{place}: {done} of {self.functions or 'its'} functions" if done or self.functions else place
@@ -105,7 +105,8 @@ def build() -> bool:
     """Proves and builds the program; whether that was done. What rt printed last is told where it wasn't."""
     folder = sources.ROOT / "crates" / NAME
     with open(folder / "stdin", "rb") as given:
-        run = subprocess.Popen(WORDS, cwd=folder, stdin=given, stdout=subprocess.PIPE, stderr=subprocess.STDOUT, text=True, errors="replace")
+        run = subprocess.Popen(WORDS, cwd=folder, stdin=given, stdout=subprocess.PIPE, stderr=subprocess.STDOUT,
+                               text=True, errors="replace")
     with run:
         status = watched(run)
     if status:

@@ -6,7 +6,8 @@
 A line of numbers for each crate, or for those that are named. --list names what is too long, each as FILE:LINE. With --hold the
 status is 1 where a bound doesn't hold: no line of a clause or a definition over 160 characters, no contract over 1,000 in
 at_demand and at_engine, at most one in ten clauses of at_engine a repeat, no function over 40 lines, at most 30 files of
-lemmas in one folder, and none with the name of a file of specs."""
+lemmas in one folder, and none with the name of a file of specs. The last line tells how many lines of proofs are longer than
+they are to be from now on; nothing holds it."""
 import argparse
 import re
 import sys
@@ -15,6 +16,7 @@ from dataclasses import dataclass
 from pathlib import Path
 
 LINE, CONTRACT, REPEATS, FUNCTION_LINES, FILES = 160, 1_000, 0.1, 40, 30
+PROOF_LINE = 120
 SHORT_CONTRACTS, FEW_REPEATS = ("at_demand", "at_engine"), ("at_engine",)
 FUNCTION = re.compile(r"^ *(?:pub(?:\(\w+\))? )?(?:const )?fn (\w+)")
 # What stands in a folder of proofs beside lemmas.
@@ -112,6 +114,13 @@ def counts_of(crate):
     return Counts(len(clauses), len(clauses) - len(said), long_clauses, long_contracts, long_lines, functions, crowded_in(folder / "proofs"), same_names)
 
 
+def long_proof_lines(crate):
+    """How many lines of the crate's proofs are longer than they are to be, but for imports, and how many there are in all."""
+    files = Path("crates", crate, "proofs").rglob("*.antt")
+    lines = [it for file in files for it in file.read_text(encoding="utf-8").splitlines() if not it.startswith("use ")]
+    return sum(len(it) > PROOF_LINE for it in lines), len(lines)
+
+
 def holds(crate, counts):
     """Whether the crate is within its bounds."""
     contracts = crate not in SHORT_CONTRACTS or not counts.long_contracts
@@ -160,6 +169,8 @@ def main():
     told_of_all(counts, given.list)
     over = [name for name, it in counts.items() if not holds(name, it)]
     print(f"within their bounds: {len(counts) - len(over)} of {len(counts)}" + (f"; not yet: {', '.join(over)}" if over else ""))
+    long, lines = map(sum, zip(*map(long_proof_lines, names)))
+    print(f"lines of proofs over {PROOF_LINE} characters: {long:,} of {lines:,}")
     return 1 if over and given.hold else 0
 
 
