@@ -30,7 +30,8 @@ FAILURES = re.compile(r"\b(?:failures|errors)=(\d+)")
 SKIPPED = re.compile(r"^skipped: .*$", re.M)
 TOOLS_TESTS = ("discover", "-s", "tools/tests", "-t", ".")
 # What is typed in full beside the clients.
-TYPED = ("bench/bench.py", "bench/limits.py", "bench/unproved.py", "clients/run_tests.py", "tools")
+TYPED = ("bench/bench.py", "bench/limits.py", "bench/unproved.py", "clients/packaging/backend.py",
+         "clients/run_tests.py", "tools")
 
 
 @dataclass(frozen=True)
@@ -92,7 +93,7 @@ def python(*words: str) -> List[str]:
 
 def clients() -> List[str]:
     """The names of the clients' folders."""
-    return sorted(it.parent.name for it in ROOT.glob("clients/*/pyproject.toml"))
+    return sorted(it.parent.name for it in ROOT.glob("clients/*/tests"))
 
 
 def of_the_program(program: Path, pages: Sequence[str]) -> List[Part]:
