@@ -24,7 +24,7 @@ from typing import List, Optional, Sequence, Tuple
 
 sys.dont_write_bytecode = True
 sys.path.insert(0, str(Path(__file__).resolve().parent.parent))
-from tools import refused  # noqa: E402
+from tools import edits, refused  # noqa: E402
 
 # The trial of a round of edits, once it is begun.
 Trial = Future[List[refused.Line]]
@@ -39,11 +39,11 @@ def copied(room: Path) -> None:
             shutil.copy2(name, room / name)
 
 
-def tried_in(lanes: threading.Semaphore, proved: refused.Proved, crate: str, edits: Sequence[refused.Edit],
-             texts: Optional[refused.Texts]) -> List[refused.Line]:
+def tried_in(lanes: threading.Semaphore, proved: refused.Proved, crate: str, turned: Sequence[edits.Edit],
+             texts: Optional[edits.Texts]) -> List[refused.Line]:
     """Tries a round of edits once a lane is free, and prints what is told of it."""
     with lanes:
-        lines = refused.tried(proved, crate, edits, texts)
+        lines = refused.tried(proved, crate, turned, texts)
     print("\n".join(line for _, line in lines), flush=True)
     return lines
 
@@ -54,8 +54,8 @@ def proved_in(room: Path, pool: ThreadPoolExecutor, lanes: threading.Semaphore) 
 
     def begin(crate: str) -> None:
         begun.add(crate)
-        for edits, texts in refused.rounds_of(crate, refused.edits_of(crate)):
-            trials.append(pool.submit(tried_in, lanes, proved, crate, edits, texts))
+        for turned, texts in edits.rounds_of(crate, edits.edits_of(crate)):
+            trials.append(pool.submit(tried_in, lanes, proved, crate, turned, texts))
 
     # one job for each check: several jobs of one check do a part of its work twice, and other crates can use the processor
     jobs = {"RT_JOBS": str(len(os.sched_getaffinity(0))), **os.environ}
@@ -78,7 +78,7 @@ def proved_in(room: Path, pool: ThreadPoolExecutor, lanes: threading.Semaphore) 
 def main() -> int:
     assert isinstance(sys.stdout, io.TextIOWrapper)
     sys.stdout.reconfigure(line_buffering=True)
-    wanted = sum(len(refused.edits_of(it.name)) for it in Path("crates").iterdir())
+    wanted = sum(len(edits.edits_of(it.name)) for it in Path("crates").iterdir())
     # edits have half of the processors while rt ci goes on, and then all
     processors = len(os.sched_getaffinity(0))
     lanes = threading.Semaphore(max(1, processors // 2))
