@@ -255,6 +255,8 @@ def chosen_edits(crate: str, parts: Sequence[str]) -> List[Edit]:
 def main() -> int:
     given = given_words()
     chosen = {crate: chosen_edits(crate, given.k) for crate in given.crates or uses(Path("."))}
+    if given.k and not any(chosen.values()):
+        sys.exit("no edit has such a name")
     if given.list:
         print("\n".join(f"{crate}/{it.name}: {it.refused}" for crate, edits in chosen.items() for it in edits))
         return 0
