@@ -40,7 +40,7 @@ help:
 # The sample session, answered by ./attrd where it was built, else by a program that isn't proved. Whether ./attrd is proved is known
 # by its record, attrd.proved (tools/proved.py).
 run: tools python
-	@if [ -x attrd ]; then echo "answered by ./attrd: $$(python3 -B -m tools.proved tell ./attrd)" >&2; cd $(SAMPLE) && ../../../attrd calc.ast tree.txt calc.jrag < session; \
+	@if [ -x attrd ]; then echo "$$(python3 -B -m tools.proved tell ./attrd); it answers:" >&2; cd $(SAMPLE) && ../../../attrd calc.ast tree.txt calc.jrag < session; \
 	else echo "answered with no proof, in a minute or two (make build proves the program first):" >&2; $(MAKE) --no-print-directory try; fi
 
 # The gate: the counts, the tests of the tools, every proof (see tools/gate.py), the tests, the programs, the must-fail edits; and

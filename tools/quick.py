@@ -107,9 +107,9 @@ def of_the_sources() -> List[Part]:
     """The parts that run no program; mypy and pyflakes are left out, and told, where they aren't installed."""
     parts = [Part("counts", python("tools/counts.py", "--hold")), Part("tools", python("-m", "unittest", *TOOLS_TESTS))]
     if shutil.which("mypy"):
-        path = os.pathsep.join(str(ROOT / "clients" / it) for it in clients())
+        path = os.pathsep.join(str(it) for client in clients() for it in (ROOT / "clients" / client, ROOT / "clients" / client / "tests"))
         parts.append(Part("types of the clients", ["sh", "-c", "cd clients && mypy"]))
-        parts.append(Part("types of the tools", ["mypy", "--config-file", "clients/mypy.ini", *TYPED], (("MYPYPATH", path),)))
+        parts.append(Part("types of the tools", ["mypy", "--config-file", "clients/mypy.ini", "--follow-imports=silent", *TYPED], (("MYPYPATH", path),)))
     else:
         print("skipped: types: the package mypy is missing")
     flakes = shutil.which("pyflakes3") or shutil.which("pyflakes")
