@@ -29,7 +29,7 @@ RAN = re.compile(r"^Ran (\d+) tests? in ", re.M)
 FAILURES = re.compile(r"\b(?:failures|errors)=(\d+)")
 SKIPPED = re.compile(r"^skipped: .*$", re.M)
 TOOLS_TESTS = ("discover", "-s", "tools/tests", "-t", ".")
-# What is typed in full beside the clients.
+# What is typed in full beside the clients' packages.
 TYPED = ("bench/bench.py", "bench/limits.py", "bench/unproved.py", "clients/packaging/backend.py",
          "clients/run_tests.py", "tools")
 
@@ -107,9 +107,11 @@ def of_the_sources() -> List[Part]:
     """The parts that run no program; mypy and pyflakes are left out, and told, where they aren't installed."""
     parts = [Part("counts", python("tools/counts.py", "--hold")), Part("tools", python("-m", "unittest", *TOOLS_TESTS))]
     if shutil.which("mypy"):
-        path = os.pathsep.join(str(it) for client in clients() for it in (ROOT / "clients" / client, ROOT / "clients" / client / "tests"))
+        folders = [ROOT / "clients" / client / part for client in clients() for part in ("", "tests")]
+        path = ("MYPYPATH", os.pathsep.join(map(str, folders)))
+        command = ["mypy", "--config-file", "clients/mypy.ini", "--follow-imports=silent", *TYPED]
         parts.append(Part("types of the clients", ["sh", "-c", "cd clients && mypy"]))
-        parts.append(Part("types of the tools", ["mypy", "--config-file", "clients/mypy.ini", "--follow-imports=silent", *TYPED], (("MYPYPATH", path),)))
+        parts.append(Part("types of the tools", command, (path,)))
     else:
         print("skipped: types: the package mypy is missing")
     flakes = shutil.which("pyflakes3") or shutil.which("pyflakes")
