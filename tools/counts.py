@@ -117,7 +117,8 @@ def counts_of(crate: str) -> Counts:
     functions = [it for file in sorted((folder / "src").rglob("*.rt")) for it in long_functions(file)]
     names = {it.name for it in (folder / "specs").glob("*.antt")} - set(NOT_LEMMAS)
     same_names = [str(it) for it in sorted((folder / "proofs").rglob("*.antt")) if it.name in names]
-    return Counts(len(clauses), len(clauses) - len(said), long_clauses, long_contracts, long_lines, functions, crowded_in(folder / "proofs"), same_names)
+    repeats, crowded = len(clauses) - len(said), crowded_in(folder / "proofs")
+    return Counts(len(clauses), repeats, long_clauses, long_contracts, long_lines, functions, crowded, same_names)
 
 
 def long_proof_lines(crate: str) -> Tuple[int, int]:
