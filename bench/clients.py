@@ -12,7 +12,7 @@ import statistics
 import sys
 import time
 from pathlib import Path
-from typing import Callable, Dict, List, Mapping, NamedTuple, Optional, Sequence, Tuple, TypeVar, cast
+from typing import NamedTuple
 
 from figures import ROOT, ms, numbers_in, program_in, ratio, row, table
 
@@ -20,33 +20,26 @@ sys.path.insert(0, str(ROOT / "clients" / "python"))
 
 import attrd  # noqa: E402
 from attrd import Document, Grammar, Node  # noqa: E402
-from attrd.channel import Program  # noqa: E402
-
-# A change of a class's statements, of which it is told how often it was made.
-Change = Callable[[Sequence[Node], int], List[Node]]
-Result = TypeVar("Result")
 
 ASPECTS = ("kinds.jrag", "names.jrag", "types.jrag", "errors.jrag")
 STROKES = 9
 
 
-def tutorial() -> Dict[str, str]:
+def tutorial():
     """The files of the tutorial."""
     page = (ROOT / "docs" / "TUTORIAL.md").read_text(encoding="utf-8")
     return {it[1]: it[2] for it in re.finditer(r"^```file (\S+)\n(.*?)^```$", page, re.M | re.S)}
 
 
-def use(name: str) -> Node:
-    """The use of a kind."""
+def use(name):
     return Node("KindUse", name)
 
 
-def name(text: str) -> Node:
-    """The use of a declaration."""
+def name(text):
     return Node("Name", text)
 
 
-def class_of(number: int, faults: bool) -> Node:
+def class_of(number, faults):
     """A class of about 50 nodes, with a superclass but for the first; its names are declared where no faults are wanted."""
     field = f"f{number}"
     above = use(f"C{number - 1}") if number else None
@@ -55,35 +48,25 @@ def class_of(number: int, faults: bool) -> Node:
     return Node("ClassDecl", f"C{number}", above, [Node("Decl", field, use("int"), None)], Node("Block", statements))
 
 
-def program(nodes: int, faults: bool = False) -> Node:
+def program(nodes, faults=False):
     """A program of about so many nodes."""
     count = max(1, nodes // class_of(1, False).size)
     return Node("Program", [Node("Basic", "int"), Node("Basic", "boolean"), *(class_of(it, faults) for it in range(count))])
 
 
-def child(node: Node, at: int) -> Node:
-    """A child that is no list."""
-    return cast(Node, node.cells[at])
-
-
-def elements(node: Node, at: int) -> Tuple[Node, ...]:
-    """The elements of a list."""
-    return cast(Tuple[Node, ...], node.cells[at])
-
-
-def changed_class(tree: Node, at: int, change: Callable[[Node], Node]) -> Node:
+def changed_class(tree, at, change):
     """The tree with another class at an index of its list."""
-    kinds = elements(tree, 0)
+    kinds = tree.cells[0]
     return Node("Program", [*kinds[:at], change(kinds[at]), *kinds[at + 1:]])
 
 
-def with_statements(kind: Node, change: Callable[[Sequence[Node]], List[Node]]) -> Node:
-    """The class with other statements."""
-    return Node("ClassDecl", *kind.cells[:3], Node("Block", change(elements(child(kind, 3), 0))))
+def with_statements(kind, change):
+    block = kind.cells[3]
+    return Node("ClassDecl", *kind.cells[:3], Node("Block", change(list(block.cells[0]))))
 
 
-CHANGES: Dict[str, Change] = {
-    "a number": lambda s, n: [Node("Decl", "v0", None, Node("Plus", child(s[0], 2).cells[0], Node("Num", 100 + n))), *s[1:]],
+CHANGES = {
+    "a number": lambda s, n: [Node("Decl", "v0", None, Node("Plus", s[0].cells[2].cells[0], Node("Num", 100 + n))), *s[1:]],
     "a use": lambda s, n: [*s[:-1], Node("Show", name(f"v{n % 5}"))],
     "a statement in": lambda s, n: [s[0], Node("Show", Node("Num", n)), *s[1:]],
     "a statement out": lambda s, n: [s[0], *s[2:]],
@@ -96,44 +79,43 @@ CHANGES: Dict[str, Change] = {
 class Bench:
     """A server over a program of so many nodes."""
 
-    def __init__(self, executable: str, files: Mapping[str, str], nodes: int, faults: bool = False) -> None:
+    def __init__(self, executable, files, nodes, faults=False):
         self.grammar = Grammar.read(files["small.ast"])
         self.checks = attrd.diagnostics(self.grammar, [files[it] for it in ASPECTS], ["error"])
         self.tree = program(nodes, faults)
         self.server = attrd.start(attrd.Text("small.ast", files["small.ast"]), self.tree, *[attrd.Text(it, files[it]) for it in ASPECTS],
                                   self.checks.aspect, program=executable)
         self.document = Document(self.server.session(), self.grammar)
-        self.found: List[attrd.Diagnostic] = []
+        self.found = []
 
-    def processor(self) -> float:
+    def processor(self):
         """The server's processor time so far, in milliseconds."""
         try:
-            process = cast(Program, self.server._channel).process
-            return int(Path(f"/proc/{process.pid}/schedstat").read_text().split()[0]) / 1e6
+            return int(Path(f"/proc/{self.server._channel.process.pid}/schedstat").read_text().split()[0]) / 1e6
         except (OSError, ValueError):
             return 0.0
 
-    def timed(self, work: Callable[[], Result]) -> "Tuple[Spent, Result]":
+    def timed(self, work):
         """The milliseconds of a piece of work: the client's, the server's, and by the clock; and its result."""
         before, begun, clock = self.processor(), time.process_time(), time.perf_counter()
         result = work()
         ended = time.process_time()
         return Spent((ended - begun) * 1e3, self.processor() - before, (time.perf_counter() - clock) * 1e3), result
 
-    def stroke(self, new: Node) -> "Stroke":
+    def stroke(self, new):
         """From a new tree to all diagnostics: what the difference, the edits and the questions took, and how many there were."""
         differing, edits = self.timed(lambda: attrd.difference(self.grammar, self.document.tree, new, self.document.costs))
         sending, _ = self.timed(lambda: self.document.send(edits, new))
         asking, self.found = self.timed(lambda: self.checks.find(self.document, self.found))
         return Stroke(differing, sending, asking, len(edits), len(self.found))
 
-    def naive(self, new: Node) -> Optional[float]:
+    def naive(self, new):
         """The same by `set /`, or None where its line is too long."""
         try:
             spent, _ = self.timed(lambda: self.document.session.set("/", new))
         except attrd.LineFault:
             return None
-        self.document.tree, self.document.version = new, cast(int, self.server.version)
+        self.document.tree, self.document.version = new, self.server.version
         asking, _ = self.timed(lambda: self.checks.find(self.document))
         return spent.both + asking.both
 
@@ -146,8 +128,7 @@ class Spent(NamedTuple):
     clock: float
 
     @property
-    def both(self) -> float:
-        """Both processor times."""
+    def both(self):
         return self.client + self.server
 
 
@@ -160,21 +141,19 @@ class Stroke(NamedTuple):
     edits: int
     faults: int
 
-    def sum(self, what: Callable[[Spent], float]) -> float:
-        """The sum of that over the three parts."""
+    def sum(self, what):
         return sum(what(it) for it in (self.differing, self.sending, self.asking))
 
 
-def middle(numbers: Sequence[float]) -> float:
-    """The median."""
+def middle(numbers):
     return statistics.median(numbers)
 
 
-def keystrokes(executable: str, files: Mapping[str, str], sizes: Sequence[int]) -> None:
+def keystrokes(executable, files, sizes):
     """From a changed number to all diagnostics, in programs of these sizes, without faults and with one in each 20th class."""
     table("Nodes", "Faults", "First diagnostics", "A keystroke, to all diagnostics", "Difference", "Edits", "Questions",
           "The server's share", "By the clock", "Against the smallest tree", "`set /` in its place", "Against the keystroke")
-    units: Dict[bool, float] = {}
+    units = {}
     for nodes in sizes:
         for faults in (False, True):
             bench = Bench(executable, files, nodes, faults)
@@ -191,17 +170,16 @@ def keystrokes(executable: str, files: Mapping[str, str], sizes: Sequence[int]) 
             bench.server.close()
 
 
-def numbered(bench: Bench, number: int) -> Node:
+def numbered(bench, number):
     """The program with another number in the class in its middle."""
-    at = len(elements(bench.tree, 0)) // 2
+    at = len(bench.tree.cells[0]) // 2
     return changed_class(bench.document.tree, at, lambda kind: with_statements(kind, lambda s: CHANGES["a number"](s, number)))
 
 
-def edits_of_changes(executable: str, files: Mapping[str, str]) -> None:
+def edits_of_changes(executable, files):
     """The edits that each kind of change comes to, and what it takes to all diagnostics."""
     table("Change, at 5,000 nodes", "Edits", "To all diagnostics", "Against another number")
-    bench = Bench(executable, files, 5000)
-    unit: Optional[float] = None
+    bench, unit = Bench(executable, files, 5000), None
     bench.checks.find(bench.document)
     for what, change in CHANGES.items():
         rows = []
@@ -214,16 +192,14 @@ def edits_of_changes(executable: str, files: Mapping[str, str]) -> None:
     bench.server.close()
 
 
-def lines(executable: str, files: Mapping[str, str]) -> None:
+def lines(executable, files):
     """A kept question again and again, waited for each time and not; and what edits of each kind cost."""
     table("A line, a kept question", "The client", "The server", "By the clock", "Both against a round trip")
     bench = Bench(executable, files, 5000)
-    session = bench.document.session
-    unit: Optional[float] = None
+    session, unit = bench.document.session, None
     session.ask("/", "errors")
-    kinds: Dict[str, Tuple[int, Callable[[int], object]]] = {
-        "a round trip": (2_000, lambda count: [session.ask("/", "errors") for _ in range(count)]),
-        "without waiting": (50_000, lambda count: [it.reply() for it in session.send_all(["ask / errors()"] * count)])}
+    kinds = {"a round trip": (2_000, lambda count: [session.ask("/", "errors") for _ in range(count)]),
+             "without waiting": (50_000, lambda count: [it.reply() for it in session.send_all(["ask / errors()"] * count)])}
     for what, (count, work) in kinds.items():
         spent, _ = bench.timed(lambda: work(count))
         unit = unit or spent.both / count
@@ -235,7 +211,7 @@ def lines(executable: str, files: Mapping[str, str]) -> None:
     bench.server.close()
 
 
-def main(words: Sequence[str]) -> None:
+def main(words):
     executable = program_in(words, __doc__)
     sizes, files = numbers_in(words[1:], (1000, 5000, 50_000), __doc__), tutorial()
     keystrokes(executable, files, sizes)

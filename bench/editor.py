@@ -13,14 +13,10 @@ import sys
 import tempfile
 import time
 from pathlib import Path
-from typing import TYPE_CHECKING, Dict, List, Optional, Sequence, Tuple
 
 from figures import ROOT, ms, numbers_in, program_in, ratio, row, table
 
 sys.path.insert(0, str(ROOT / "clients" / "lsp" / "tests"))
-if TYPE_CHECKING:
-    from neovim import Neovim
-    from test_lsp_neovim import Folder
 
 RUNS = 15
 SIZES = (1_000, 5_000, 50_000)
@@ -67,7 +63,7 @@ return { taken / 1e6, (vim.loop.hrtime() - began) / 1e6, seen == 0 }
 """
 
 
-def opened(nodes: int, program: Optional[str] = None) -> "Tuple[Folder, Neovim]":
+def opened(nodes, program=None):
     """A file of so many nodes in Neovim, and the folder that it stands in."""
     from lsp_support import large_program
     from test_lsp_neovim import Folder
@@ -80,7 +76,7 @@ def opened(nodes: int, program: Optional[str] = None) -> "Tuple[Folder, Neovim]"
     return folder, folder.open()
 
 
-def in_neovim(nodes: int) -> Dict[str, float]:
+def in_neovim(nodes):
     """The times of one file in Neovim, in milliseconds, by what was measured."""
     began = time.monotonic()
     folder, editor = opened(nodes)
@@ -93,7 +89,7 @@ def in_neovim(nodes: int) -> Dict[str, float]:
         folder.temporary.cleanup()
 
 
-def place_in(lines: Sequence[str]) -> Tuple[int, int]:
+def place_in(lines):
     """The line and column in the middle of a file at which a use begins."""
     line = len(lines) // 2
     while "t4 = " not in lines[line]:
@@ -101,11 +97,10 @@ def place_in(lines: Sequence[str]) -> Tuple[int, int]:
     return line, lines[line].index("t4 = ") + len("t4 = ")
 
 
-def changes(editor: "Neovim") -> Dict[str, float]:
+def changes(editor):
     """From a change to its diagnostics: an error that comes, and one that goes."""
     line, column = place_in(editor.lines())
-    come: List[float] = []
-    gone: List[float] = []
+    come, gone = [], []
     for _ in range(RUNS):
         spent, count = editor.lua(CHANGE, line, column, column, "q")
         assert count == 1, count
@@ -116,7 +111,7 @@ def changes(editor: "Neovim") -> Dict[str, float]:
     return {"a key that brings an error": statistics.median(come), "a key that takes it away": statistics.median(gone)}
 
 
-def requests(editor: "Neovim") -> Dict[str, float]:
+def requests(editor):
     """What an editor asks of a name in the middle of the file."""
     lines = editor.lines()
     line = next(it for it in range(len(lines) // 2, len(lines)) if "me" in lines[it] and " a" in lines[it])
@@ -130,7 +125,7 @@ def requests(editor: "Neovim") -> Dict[str, float]:
     return {it: statistics.median([editor.lua(REQUEST, method, *place, more) for _ in range(RUNS)]) for it, (method, more) in kinds.items()}
 
 
-def spent_by_program(editor: "Neovim") -> float:
+def spent_by_program(editor):
     """The processor time of the program behind the language server of an editor, in seconds; 0 before it has begun."""
     from lsp_support import children
 
@@ -143,7 +138,7 @@ def spent_by_program(editor: "Neovim") -> float:
     return max(times) / 1e9
 
 
-def beside_a_check(nodes: int, program: str) -> Tuple[Sequence[float], Sequence[float], int]:
+def beside_a_check(nodes, program):
     """An edit in the middle of the first check of a file: until it is taken, and until a question about it is answered, in milliseconds;
     and how often the check was under way still."""
     found = []
@@ -161,7 +156,7 @@ def beside_a_check(nodes: int, program: str) -> Tuple[Sequence[float], Sequence[
     return taken, answered, sum(is_alive)
 
 
-def length_of_check(nodes: int) -> float:
+def length_of_check(nodes):
     """The processor time that the first check of a file takes the program, in milliseconds."""
     folder, editor = opened(nodes)
     try:
@@ -172,7 +167,7 @@ def length_of_check(nodes: int) -> float:
         folder.temporary.cleanup()
 
 
-def beside(nodes: int, program: str) -> None:
+def beside(nodes, program):
     """An edit beside the first check of a file, whose questions are posted, and beside one whose questions are asked."""
     table(f"An edit beside the first check of {nodes:,} nodes ({ms(length_of_check(nodes))} of processor time)", "It is taken after",
           "At most", "A question about it is answered after", "At most", "The check was under way still")
@@ -182,11 +177,11 @@ def beside(nodes: int, program: str) -> None:
         asking.chmod(0o755)
         for what, it in (("its questions are posted", program), ("they are asked, without turns", str(asking))):
             taken, answered, alive = beside_a_check(nodes, it)
-            told = [ms(it) for times in (taken, answered) for it in (statistics.median(times), max(times))]
-            row(what, *told, f"{alive} of {BESIDE} times")
+            times = [ms(of(times)) for times in (taken, answered) for of in (statistics.median, max)]
+            row(what, *times, f"{alive} of {BESIDE} times")
 
 
-def main(words: Sequence[str]) -> None:
+def main(words):
     program = program_in(words, __doc__)
     os.environ["ATTRD"] = os.environ["ATTRD_ASKED"] = program
     sizes = numbers_in(words[1:], SIZES, __doc__)
