@@ -4,12 +4,16 @@ SAMPLE := crates/attrd/data
 PREFIX ?= /usr/local
 PAGES := README.md docs/ATTRIBUTE_GRAMMARS.md docs/MANUAL.md docs/EDGES.md docs/REFUSALS.md docs/TUTORIAL.md docs/FROM_JASTADD.md samples/calculator samples/objects samples/machines
 
-.PHONY: help run try build install package warm check edits counts test examples starve tries bench tools python crate
+# What examples, program and clients test: PROGRAM=.., else ./attrd where it stands, else a program with no proof.
+QUICK := .quick/attrd
+TESTED := $(or $(PROGRAM),$(if $(wildcard attrd),./attrd,$(QUICK)))
+
+.PHONY: help run try quick build install package warm check edits counts test examples program clients starve tries bench tools python crate tested
 
 # What there is, and how long it takes on two cores.
 help:
 	@echo "to use it:"
-	@echo "  make run           answers the sample session: by the proved ./attrd where it was built, else with no proof (2 minutes)"
+	@echo "  make run           answers the sample session: by ./attrd where it was built, else with no proof (2 minutes)"
 	@echo "  make try           the sample session with no proof (2 minutes)"
 	@echo "  make build         the proved program, as ./attrd (60 minutes; one where it was built before)"
 	@echo "  make install       ./attrd and its man page, below PREFIX, /usr/local if none is given (a second, behind make build)"
@@ -22,23 +26,30 @@ help:
 	@echo "                     tries the crate's wrong bodies, which the prover has to refuse (1 to 5 minutes, behind make check)"
 	@echo "  make counts        long clauses, contracts and repeats (seconds)"
 	@echo "to test it:"
+	@echo "  make quick         all tests that need no proof, by a program that isn't proved (5 minutes; 2 where the program is taken up)"
 	@echo "  make test          the gate: every proof, wrong bodies, tests, programs, examples (90 minutes; 15 where it passed before)"
-	@echo "  make examples      runs the examples of the pages by ./attrd (a minute, behind make build)"
+	@echo "  make examples      the examples of the pages alone (half a minute)"
+	@echo "  make program       the tests of the command line, streams and sockets alone (seconds)"
+	@echo "  make clients [T=test_update]"
+	@echo "                     the tests of the clients alone, or of one client or module (2 minutes)"
+	@echo "                     These three take PROGRAM=..; else ./attrd where it stands, else the program of make quick (2 minutes more)"
 	@echo "  make starve        a session with each keeper, with each request for memory refused in turn (a minute, behind its proof)"
 	@echo "  make tries         the examples of single tries of equations (a minute, behind its proof)"
 	@echo "  make bench         measures ./attrd (20 minutes, behind make build)"
 
-# The sample session, answered by the proved program where it was built, else by one that isn't proved.
-run: tools
-	@if [ -x attrd ]; then echo "answered by ./attrd, which is proved:" >&2; cd $(SAMPLE) && ../../../attrd calc.ast tree.txt calc.jrag < session; \
+# The sample session, answered by ./attrd where it was built, else by a program that isn't proved. Whether ./attrd is proved is known
+# by its record, attrd.proved (tools/proved.py).
+run: tools python
+	@if [ -x attrd ]; then echo "$$(python3 -B -m tools.proved tell ./attrd); it answers:" >&2; cd $(SAMPLE) && ../../../attrd calc.ast tree.txt calc.jrag < session; \
 	else echo "answered with no proof, in a minute or two (make build proves the program first):" >&2; $(MAKE) --no-print-directory try; fi
 
-# The gate: every proof (see tools/gate.py), the tests, the programs, the must-fail edits; and then, on the programs that
-# were proved, a session with each request for memory refused in turn, the words of the command line and real sockets, the
-# tests of the clients (in Neovim and Chromium, which are installed where they are missing and that may be; else their tests
-# name the package), and the examples of the manual, the tutorial, the samples and single tries.
+# The gate: the counts, the tests of the tools, every proof (see tools/gate.py), the tests, the programs, the must-fail edits; and
+# then, on the programs that were proved, a session with each request for memory refused in turn, the words of the command line and
+# real sockets, the tests of the clients (in Neovim and Chromium, which are installed where they are missing and that may be; else
+# their tests name the package), and the examples of the manual, the tutorial, the samples and single tries.
 test: tools python
 	@python3 tools/counts.py --hold
+	@python3 -B -m unittest discover -s tools/tests -t .
 	@python3 tools/gate.py
 	@python3 tools/starve.py crates/starve/out/starve
 	@python3 tools/program.py crates/attrd/out/attrd
@@ -46,23 +57,30 @@ test: tools python
 	@python3 clients/run_tests.py crates/attrd/out/attrd
 	@python3 tools/examples.py --program crates/attrd/out/attrd --tries crates/tries/out/tries $(PAGES) docs/TRIES.md
 
+# All tests that need no proof (see tools/quick.py).
+quick: tools python
+	@tools/editors.sh nvim chromium || true
+	@python3 -B -m tools.quick $(PAGES)
+
 # The sample session with no proof, in a minute or two.
 try: tools
 	@cd crates/attrd && rt try attrd -- data/calc.ast data/tree.txt data/calc.jrag < data/session
 
-# The proved program, as ./attrd. It may run meanwhile.
-build: tools
-	@tools/build.sh
+# The proved program, as ./attrd, with its record. It may run meanwhile.
+build: tools python
+	@python3 -B -m tools.build
 
-# The program that was built and its man page, below PREFIX.
-install:
+# The program that was built and its man page, below PREFIX; it is told whether it is proved.
+install: python
 	@test -x attrd || { echo "there is no ./attrd yet: make build first"; exit 1; }
 	install -d $(DESTDIR)$(PREFIX)/bin $(DESTDIR)$(PREFIX)/share/man/man1
 	install -m 755 attrd $(DESTDIR)$(PREFIX)/bin/attrd
 	install -m 644 docs/attrd.1 $(DESTDIR)$(PREFIX)/share/man/man1/attrd.1
+	@python3 -B -m tools.proved tell ./attrd || true
 
-# The program that was built, with its man page, licences, samples and systemd unit, as a tarball and a Debian package.
-package: tools
+# The program that was built, with its man page, licences, samples and systemd unit, as a tarball and a Debian package. Only a program
+# that is proved, and made of the sources that stand here, is packaged.
+package: tools python
 	@test -x attrd || { echo "there is no ./attrd yet: make build first"; exit 1; }
 	@tools/package.sh ./attrd dist
 
@@ -88,9 +106,22 @@ crate:
 	@test -n "$(C)" || { echo "name a crate, as in: make check C=at_demand"; exit 1; }
 	@test -d "crates/$(C)" || { echo "there is no crate $(C); crates.txt has them all"; exit 1; }
 
-# The examples of the manual, the tutorial and the samples, run by the proved program.
-examples: build python
-	@python3 tools/examples.py $(PAGES)
+# The program that the next three test, built with no proof where it is none of the others.
+tested: python
+	@$(if $(filter $(QUICK),$(TESTED)),$(MAKE) --no-print-directory tools && python3 -B -m tools.quick_program,test -x $(TESTED) || { echo "there is no program $(TESTED)"; exit 1; })
+	@echo "tested: $$(python3 -B -m tools.proved tell $(TESTED))"
+
+# The examples of the manual, the tutorial and the samples.
+examples: tested
+	@python3 tools/examples.py --program $(TESTED) $(PAGES)
+
+# The words of the command line, streams that fail, and real sockets.
+program: tested
+	@python3 tools/program.py $(TESTED)
+
+# The tests of the clients, or of the client or module T.
+clients: tested
+	@python3 clients/run_tests.py --skip-missing $(TESTED) $(T)
 
 # A session with each keeper, by the proved program, with each request for memory refused in turn.
 starve: tools python

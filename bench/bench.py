@@ -7,15 +7,25 @@ import sys
 import tempfile
 import time
 from pathlib import Path
+from typing import IO, Callable, Dict, List, Sequence, Tuple, cast
+
+# Writes a file of the folder, by its name and its text, and gives the name back.
+Put = Callable[[str, str], str]
+# The seconds that lines take over these files.
+Spent = Callable[[Sequence[str], str], float]
+# A kind of edits: what they are, how many, and their lines.
+Edits = Tuple[str, int, str]
+# A run of the program tries: a tree and a line.
+Try = Tuple[str, str]
 
 PROGRAM = Path(__file__).resolve().parent.parent / "attrd"
 TRIES = PROGRAM.parent / "crates" / "tries" / "out" / "tries"
 RUNS = 5
 
 
-def best_of_turns(folder, names, inputs, runs, statuses=(0,)):
+def best_of_turns(folder: str, names: Sequence[str], inputs: Sequence[Path], runs: int, statuses: Sequence[int] = (0,)) -> List[float]:
     """The least time of so many runs over these files with each of these inputs, in seconds, by turns; the lines come through a pipe."""
-    times = [[] for _ in inputs]
+    times: List[List[float]] = [[] for _ in inputs]
     texts = [Path(stdin).read_bytes() for stdin in inputs]
     for _ in range(runs):
         for lines, spent in zip(texts, times):
@@ -28,31 +38,32 @@ def best_of_turns(folder, names, inputs, runs, statuses=(0,)):
     return [min(spent) for spent in times]
 
 
-def best(folder, names, stdin, statuses=(0,)):
+def best(folder: str, names: Sequence[str], stdin: Path, statuses: Sequence[int] = (0,)) -> float:
     """The least time of a few runs over these files, in seconds."""
     return best_of_turns(folder, names, [stdin], RUNS, statuses)[0]
 
 
-def doubling_grammar(levels):
+def doubling_grammar(levels: int) -> str:
     """Classes C0 to C(levels-1), each with two children of the next, the last one a number: 2^levels - 1 nodes."""
     lines = [f"C{k} ::= L:C{k + 1} R:C{k + 1};" for k in range(levels - 1)]
     return "\n".join(lines + [f"C{levels - 1} ::= <V:int>;"]) + "\n"
 
 
-def doubling_term(levels):
+def doubling_term(levels: int) -> str:
+    """A term of that grammar with all its nodes."""
     text = f"C{levels - 1}(7)"
     for k in range(levels - 2, -1, -1):
         text = f"C{k}({text},{text})"
     return text
 
 
-def flat_grammar(classes):
+def flat_grammar(classes: int) -> str:
     """Classes of which each has a token and thirty children, but for the first, which the tree is of."""
     parts = " ".join(f"P{i}:C0" for i in range(30))
     return "C0 ::= <V:int>;\n" + "".join(f"C{k} ::= <V:int> {parts};\n" for k in range(1, classes))
 
 
-def calculator(put, statements, inner=0):
+def calculator(put: Put, statements: int, inner: int = 0) -> List[str]:
     """The sample grammar and aspects, over a block of that many statements, of which the last two are the sample's; behind them
     a block of so many inner ones, where there are any."""
     samples = PROGRAM.parent / "samples" / "calculator"
@@ -64,18 +75,18 @@ def calculator(put, statements, inner=0):
             put("calc.jrag", (samples / "calc.jrag").read_text())]
 
 
-def source(mebibytes):
+def source(mebibytes: int) -> str:
     """Names, signs, numbers, texts and comments; no grammar, so that reading ends where scanning does."""
     line = ';Größe ::= left:Name [right] <count:int> 1234567890 "a text \\" with \\n escapes" /* a comment */ // to the end\n'
     return (line * (mebibytes * (1 << 20) // len(line.encode())))
 
 
-def operators(count):
+def operators(count: int) -> str:
     """An expression of that many operators, by turns minus, times and plus."""
     return " ".join(f"{k} {'+-*'[k % 3]}" for k in range(1, count + 1)) + f" {count + 1}"
 
 
-def chained():
+def chained() -> str:
     """Aspects over the calculator's blocks: each statement counts those before it, and a block sums a one for each."""
     return ("aspect Counting {\n  inh lazy int Stmt.before();\n"
             "  eq Block.getStmt(int i).before() = i == 0 ? 0 : getStmt(i - 1).before() + 1;\n"
@@ -84,7 +95,7 @@ def chained():
             "  syn int Program.long() = " + operators(60) + ";\n}\n")
 
 
-def many_equations(classes, attributes, bodies):
+def many_equations(classes: int, attributes: int, bodies: int) -> Tuple[str, str]:
     """A grammar of that many classes below one, and aspects with an equation of each class for each attribute, and as many more
     attributes with a body."""
     grammar = "Top ::= One:Base;\nabstract Base;\n" + "".join(f"C{k} : Base ::= <V:int>;\n" for k in range(classes))
@@ -93,19 +104,20 @@ def many_equations(classes, attributes, bodies):
     return grammar, "aspect Many {\n" + "\n".join(lines) + "\n}\n"
 
 
-def long_aspects(size):
+def long_aspects(size: int) -> str:
     """Aspects of that size, all of it in bodies."""
     body = " + ".join(["getLeft().getValue() * getRight().getValue()"] * 60)
-    lines, length, k = [], 0, 0
+    lines: List[str] = []
+    length, k = 0, 0
     while length < size - 3000:
         lines.append(f"  syn int Sum.total{k}() = {body};")
         length, k = length + len(lines[-1]) + 1, k + 1
     return "aspect S {\n" + "\n".join(lines) + "\n}\n"
 
 
-def edits_of(statements):
+def edits_of(statements: int) -> List[Edits]:
     """Kinds of edits of a calculator's tree of that many statements and ten inner ones: what they are, how many, and their lines."""
-    def spread(k, count):
+    def spread(k: int, count: int) -> str:
         """The k-th of so many declarations, from the first one to the last."""
         return f"/Block/Stmt:{k * (statements - 1) // count}"
 
@@ -121,14 +133,14 @@ def edits_of(statements):
             ("token edits, each with a question after it", many, "".join(f"0 token {spread(k, many)}/Init Value {k}\n0 ask {spread(k, many)} value()\n" for k in range(many)))]
 
 
-def edits(files, spent):
+def edits(files: Sequence[Sequence[str]], spent: Spent) -> None:
     """What edits cost on a tree of 61,000 nodes, each kind against the same on one of 4,000."""
     for (what, count, few), (_, _, many) in zip(edits_of(2000), edits_of(30500)):
         times = [spent(of, lines) for of, lines in zip(files, (few, many))]
         print(f"{count:,} {what}: {times[0] * 1e6 / count:.2f} us each on 4,000 nodes, {times[1] * 1e6 / count:.2f} us on 61,000: ratio {times[1] / times[0]:.2f}")
 
 
-def moves_of(elements):
+def moves_of(elements: int) -> List[Tuple[str, str]]:
     """Kinds of moves in a tree whose third statement is a block of so many elements: what they are, and 1,000 lines of them."""
     many, behind = "/Block/Stmt:2", "/Block/Stmt:3"
     return [("from the front of a long list to its end", f"0 move {many}/Stmt:0 to {many} Stmt {elements - 1}\n" * 1000),
@@ -138,7 +150,7 @@ def moves_of(elements):
             ("of a block with a long list, to where it stands", f"0 move {many} to /Block Stmt 2\n" * 1000)]
 
 
-def moves(put, spent):
+def moves(put: Put, spent: Spent) -> None:
     """What moves cost in a list of 60,000 elements, each kind against the same in one of 30,000."""
     sizes = (30000, 60000)
     files = [calculator(put, 2, size) for size in sizes]
@@ -147,14 +159,14 @@ def moves(put, spent):
         print(f"1,000 moves {what}: {times[1] * 1e3:.0f} us each with 60,000 elements, against 30,000: ratio {times[1] / times[0]:.2f}")
 
 
-def folding():
+def folding() -> str:
     """Aspects over the calculator's blocks: a block sums a one for each statement, and for each statement such a sum."""
     return ("aspect Folding {\n  syn int Block.many() = sum (s : getStmtList()) { s.one() };\n  syn int Stmt.one() = 1;\n"
             "  syn int Block.pairs() = sum (s : getStmtList()) { s.all() };\n  inh int Stmt.all();\n"
             "  eq Block.getStmt(int i).all() = sum (s : getStmtList()) { s.one() };\n  eq Program.getBlock().all() = 0;\n}\n")
 
 
-def questions(folder, put):
+def questions(folder: str, put: Put) -> None:
     """What a question takes in turns, by `wait` and at the end of the input, against `ask`; and how long an edit waits beside one."""
     aspects = put("folding.jrag", folding())
     nothing = Path(folder) / put("nothing", "")
@@ -167,28 +179,29 @@ def questions(folder, put):
         print(f"{count} folds over {size:,} elements: {(asked - begun) * 1000:.0f} ms by `ask`; by `wait` {(awaited - begun) / (asked - begun):.2f} times that, "
               f"at the end of the input {(posted - begun) / (asked - begun):.2f} times")
     files = calculator(put, 2000)[:2] + [aspects]
-    asked, *posted = (min(waited(folder, ["--slice", slice, *files], f"0 {word} /Block pairs()\n", word == "post") for _ in range(RUNS))
+    one, *turns = (min(waited(folder, ["--slice", slice, *files], f"0 {word} /Block pairs()\n", word == "post") for _ in range(RUNS))
                       for word, slice in (("ask", "1"), ("post", "1"), ("post", "100")))
-    print(f"an edit is answered {asked * 1000:.0f} ms behind an `ask`, and behind a `post` of the same question {posted[0] * 1000:.2f} ms "
-          f"with one turn behind each line, {posted[1] * 1000:.2f} ms with 100")
+    print(f"an edit is answered {one * 1000:.0f} ms behind an `ask`, and behind a `post` of the same question {turns[0] * 1000:.2f} ms "
+          f"with one turn behind each line, {turns[1] * 1000:.2f} ms with 100")
 
 
-def waited(folder, names, question, is_told):
+def waited(folder: str, names: Sequence[str], question: str, is_told: bool) -> float:
     """How long an edit waits for its reply that is sent behind this question, or, where that is told at once, behind its reply."""
-    pipes = {"stdin": subprocess.PIPE, "stdout": subprocess.PIPE}
-    with subprocess.Popen([str(PROGRAM), *names], cwd=folder, **pipes) as program:
-        def tell(line):
-            program.stdin.write(line.encode())
-            program.stdin.flush()
+    with subprocess.Popen([str(PROGRAM), *names], cwd=folder, stdin=subprocess.PIPE, stdout=subprocess.PIPE) as program:
+        lines, replies = cast(IO[bytes], program.stdin), cast(IO[bytes], program.stdout)
+
+        def tell(line: str) -> None:
+            lines.write(line.encode())
+            lines.flush()
 
         tell("0 version\n")
-        program.stdout.readline()
+        replies.readline()
         tell(question)
         if is_told:
-            program.stdout.readline()
+            replies.readline()
         began = time.perf_counter()
         tell("1 token /Block/Stmt:0 ID \"z\"\n")
-        while not (reply := program.stdout.readline()).startswith(b"1 "):
+        while not (reply := replies.readline()).startswith(b"1 "):
             if not reply:
                 sys.exit(f"attrd told nothing of an edit behind {question}")
         spent = time.perf_counter() - began
@@ -196,13 +209,13 @@ def waited(folder, names, question, is_told):
     return spent
 
 
-def layers(put, spent):
+def layers(put: Put, spent: Spent) -> None:
     """What the store, questions and rules cost, each against a smaller tree or half as much."""
     small, large = calculator(put, 2000, 10), calculator(put, 30500, 10)
     edits((small, large), spent)
     moves(put, spent)
 
-    def halves(what, files, lines):
+    def halves(what: str, files: Sequence[Sequence[str]], lines: Sequence[str]) -> None:
         times = [spent(of, text) for of, text in zip(files, lines)]
         print(f"{what}: {times[1] * 1000:.0f} ms, against half of it: ratio {times[1] / times[0]:.2f}")
 
@@ -216,7 +229,7 @@ def layers(put, spent):
     halves("20,000 expressions of 60 operators", (trees[0], trees[0]), ["0 ask / long()\n" * n for n in (10000, 20000)])
 
 
-def rules(put, begun):
+def rules(put: Put, begun: Callable[[Sequence[str]], float]) -> None:
     """What rules cost, each against half as much."""
     times = []
     for classes in (500, 1000):
@@ -229,9 +242,9 @@ def rules(put, begun):
     print(f"4 MiB of aspects: {times[1] * 1000:.0f} ms, against half of it: ratio {times[1] / times[0]:.2f}")
 
 
-def by_turns(folder, files, runs):
+def by_turns(folder: str, files: Sequence[str], runs: Sequence[Try]) -> Dict[Try, float]:
     """The least processor time of each of these runs of `tries`, by turns; a run is a tree and a line, answered by a value."""
-    times = {run: [] for run in runs}
+    times: Dict[Try, List[float]] = {run: [] for run in runs}
     for _ in range(2 * RUNS):
         for (tree, line), spent in times.items():
             began = resource.getrusage(resource.RUSAGE_CHILDREN).ru_utime
@@ -242,7 +255,7 @@ def by_turns(folder, files, runs):
     return {run: min(spent) for run, spent in times.items()}
 
 
-def trials(folder, put):
+def trials(folder: str, put: Put) -> None:
     """What a trial takes, against a plain recursion over the same equation and against half of it, in the same run."""
     files = [put("trials.ast", "Top ::= Item*; Item ::= <Value:int>;\n"),
              put("trials.jrag", f"aspect S {{\n  syn int Top.long() = {operators(60)};\n  syn int Top.half() = {operators(30)};\n"
@@ -259,11 +272,11 @@ def trials(folder, put):
               f"ratio {trial / taken['trial', *half]:.2f}, plain {plain / taken['plain', *half]:.2f}")
 
 
-def main():
+def main() -> None:
     if not PROGRAM.exists() or not TRIES.exists():
         sys.exit("make bench builds ./attrd and crates/tries/out/tries first")
     with tempfile.TemporaryDirectory() as folder:
-        def put(name, text):
+        def put(name: str, text: str) -> str:
             (Path(folder) / name).write_text(text, encoding="utf-8")
             return name
 
@@ -280,7 +293,7 @@ def main():
             whole = best(folder, sum_files, Path(folder) / put("whole", line * 200000)) - idle
             print(f"200,000 lines `{name}`: {200000 / whole:,.0f} lines a second; against 100,000: ratio {whole / half:.2f}")
 
-        def ratio(files, what, lines, count):
+        def ratio(files: Sequence[str], what: str, lines: str, count: int) -> float:
             """What these lines cost, each as a multiple of a `version` line of the same run."""
             inputs = [nothing, Path(folder) / put("versions", "0 version\n" * count), Path(folder) / put("lines", lines)]
             begun, versions, spent = best_of_turns(folder, files, inputs, 3 * RUNS)

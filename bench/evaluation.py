@@ -7,12 +7,14 @@ PROGRAM is ./attrd where none is given. Instructions are those of a run less tho
 them; a time is processor time, the least of TURNS runs. Where `javac` is there, a Java program asks for all attributes in the same run.
 The run ends with status 1 where a bound doesn't hold.
 """
+from __future__ import annotations
+
 import os
-import subprocess
 import sys
 import tempfile
 from math import log2
 from pathlib import Path
+from typing import List, Optional, Sequence, Tuple
 
 from bench import calculator, doubling_grammar, doubling_term, long_aspects
 from bounds import Bounds
@@ -36,22 +38,24 @@ SHARED = ("aspect Shared {\n  syn lazy int Item.kept() = chained() + 1;\n  inh i
 class Bench:
     """The program, a folder for its files, and the bounds."""
 
-    def __init__(self, program, folder, turns):
+    def __init__(self, program: str, folder: str, turns: int) -> None:
         self.program, self.folder, self.turns = program, folder, turns
         self.bounds = Bounds()
 
-    def put(self, name, text):
+    def put(self, name: str, text: str) -> str:
+        """Writes a file, and gives its name back."""
         (Path(self.folder) / name).write_text(text, encoding="utf-8")
         return name
 
-    def counted(self, words, lines, without=""):
+    def counted(self, words: Sequence[str], lines: str, without: str = "") -> Optional[int]:
         """The instructions for the lines, less those for the lines of which they are told; None where there is no `valgrind`."""
-        counts = [instructions([self.program, *words], self.folder, it) for it in (without, lines)]
-        return None if None in counts else counts[1] - counts[0]
+        fewer, more = (instructions([self.program, *words], self.folder, it) for it in (without, lines))
+        return None if fewer is None or more is None else more - fewer
 
-    def spent(self, words, lines, before="", turns=0):
+    def spent(self, words: Sequence[str], lines: str, before: str = "", turns: int = 0) -> Tuple[float, int]:
         """The least processor time for the lines behind others, each time by a new run of the program, and the most memory of one, in KiB."""
-        times, peaks = [], []
+        times: List[float] = []
+        peaks: List[int] = []
         for _ in range(turns or self.turns):
             run = Served(self.program, self.folder, words)
             if before:
@@ -61,17 +65,18 @@ class Bench:
             run.end()
         return min(times), min(peaks)
 
-    def told(self, what, value, most=None, unit=""):
+    def told(self, what: str, value: Optional[float], most: Optional[float] = None, unit: str = "") -> None:
         """Prints a row; nothing where the value isn't known."""
         if value is not None:
             print(f"{what}: {self.bounds.at_most(what, value, most) if most else format(value, '.2f')}{unit}", flush=True)
 
 
-def each(count, units):
+def each(count: Optional[int], units: int) -> Optional[float]:
+    """How many there are for each unit; None where the count isn't known."""
     return None if count is None else count / units
 
 
-def sums(bench):
+def sums(bench: Bench) -> None:
     """An instance of a sum over 60,000 nodes, and what is kept of it."""
     tree = SumTree(60_000)
     words = ["kept.ast", bench.put("sums.txt", tree.term), "kept.jrag"]
@@ -84,7 +89,7 @@ def sums(bench):
     bench.told("a node at the peak of loading, in bytes", (loaded - empty) * 1024 / tree.nodes, 150)
 
 
-def paths_below(term, path, at=0):
+def paths_below(term: str, path: str, at: int = 0) -> Tuple[List[str], int]:
     """The paths of all sums and numbers of a term of sums, and where each part ends."""
     found, end = [path], term.index("(", at) + 1
     if term.startswith("Add(", at):
@@ -96,7 +101,7 @@ def paths_below(term, path, at=0):
     return found, term.index(")", end) + 1
 
 
-def questions(bench):
+def questions(bench: Bench) -> None:
     """All attributes of all nodes, each asked once, against Java."""
     tree = SumTree(10_000)
     words = ["kept.ast", bench.put(f"{tree.name}.txt", tree.term), "kept.jrag"]
@@ -115,7 +120,7 @@ def questions(bench):
     bench.told("all attributes of all nodes, a question each, against Java's time in its process and a line `version`", asked / lines.count("\n") / own, 2.5)
 
 
-def elements(bench):
+def elements(bench: Bench) -> None:
     """An element of `first` with its text."""
     count = 10_000
     items = ",".join(f'Item("name{k}")' for k in range(count))
@@ -124,12 +129,12 @@ def elements(bench):
     bench.told("an element of `first` with its text, in instructions", each(bench.counted(words, line), count), 3_500)
 
 
-def declarations(bench):
+def declarations(bench: Bench) -> None:
     """Chains of declarations in the calculator, of which each is looked up by the next: each look-up goes through those before it."""
     samples = ROOT / "samples" / "calculator"
     for count, most, most_from_front, turns in ((2_000, 260, 260, bench.turns), (10_000, 763, 143, 1)):
         chain = ",".join(['Decl("x0",Num(1))'] + [f'Decl("x{k}",Use("x{k - 1}"))' for k in range(1, count)])
-        words = [samples / "calc.ast", bench.put("chain.txt", f"Program(Block([{chain}]))\n"), samples / "calc.jrag"]
+        words = [str(samples / "calc.ast"), bench.put("chain.txt", f"Program(Block([{chain}]))\n"), str(samples / "calc.jrag")]
         asked = (("at its end", f"0 ask /Block/Stmt:{count - 1} value()\n", most),
                  ("from the front", "".join(f"0 ask /Block/Stmt:{k} value()\n" for k in range(count)), most_from_front))
         for where, lines, bound in asked:
@@ -138,9 +143,10 @@ def declarations(bench):
             bench.told("the same, in seconds", time)
 
 
-def shared(bench):
+def shared(bench: Bench) -> None:
     """Lazy attributes over a shared chain of others: how time and memory grow."""
-    words, spent = [bench.put("names.ast", NAMES), "", bench.put("shared.jrag", SHARED)], []
+    words = [bench.put("names.ast", NAMES), "", bench.put("shared.jrag", SHARED)]
+    spent: List[Tuple[float, int]] = []
     for count in (500, 4_000):
         items = ",".join(['Item("n")'] * count)
         words[1] = bench.put(f"shared{count}.txt", f"Names([{items}])\n")
@@ -151,7 +157,7 @@ def shared(bench):
         bench.told(f"lazy attributes over a shared chain of others: the exponent of their {what}", log2(last / first) / 3, 1.1)
 
 
-def loading(bench):
+def loading(bench: Bench) -> None:
     """The term of 65,535 nodes, from its bytes to the tree."""
     aspects = bench.put("none.jrag", "aspect A { }\n")
     words = [bench.put("doubling.ast", doubling_grammar(16)), bench.put("doubling.txt", doubling_term(16)), aspects]
@@ -174,19 +180,20 @@ def loading(bench):
     bench.told("a term in a line, in instructions a node", each(bench.counted(files, line * 20, "0 version\n" * 20), 20 * term.count("(")), 2_700)
 
 
-def reading(bench):
+def reading(bench: Bench) -> None:
     """A kept question and aspects."""
     words = calculator(bench.put, 2)
     line, count = "0 ask /Block/Stmt:1/Expr value()\n", 10_000
     bench.told("a kept question, in instructions", each(bench.counted(words, line * (count + 1), line), count), 2_600)
     files = [bench.put("sum.ast", "Sum ::= Left:Num Right:Num; Num ::= <Value:int>;\n"), bench.put("sum.txt", "Sum(Num(3),Num(4))\n")]
-    counts = [instructions([bench.program, *files, bench.put(f"long{size}.jrag", long_aspects(size))], bench.folder, "") for size in (1 << 20, 4 << 20)]
-    if None not in counts:
-        bench.told("aspects of 4 MiB, in instructions a byte", (counts[1] - counts[0]) / (3 << 20), 400)
+    aspects = [bench.put(f"long{size}.jrag", long_aspects(size)) for size in (1 << 20, 4 << 20)]
+    less, more = (instructions([bench.program, *files, it], bench.folder, "") for it in aspects)
+    if less is not None and more is not None:
+        bench.told("aspects of 4 MiB, in instructions a byte", (more - less) / (3 << 20), 400)
 
 
-def main():
-    program = os.path.abspath(sys.argv[1] if len(sys.argv) > 1 else ROOT / "attrd")
+def main() -> None:
+    program = os.path.abspath(sys.argv[1] if len(sys.argv) > 1 else str(ROOT / "attrd"))
     if not os.path.exists(program):
         sys.exit("make bench builds ./attrd first")
     with tempfile.TemporaryDirectory() as folder:

@@ -14,17 +14,22 @@ import sys
 import tempfile
 import time
 from pathlib import Path
+from typing import Dict, List, Sequence, Tuple
 
 from figures import ROOT, program_in, ratio, row, table
 
 sys.path.insert(0, str(ROOT / "clients" / "page" / "tests"))
+
+# A client of a socket; and of round trips the median and the 99th percentile in microseconds, and lines a second with and without waiting.
+Client = Tuple[asyncio.StreamReader, asyncio.StreamWriter]
+Trips = Tuple[float, float, float, float]
 
 CLIENTS = (1, 16, 64)
 LINES = 4_000
 LINE = b"0 where u\n"
 
 
-async def open_client(path):
+async def open_client(path: str) -> Client:
     """A client of the hub's socket that has marked a node."""
     reader, writer = await asyncio.open_unix_connection(path)
     writer.write(b"0 mark u /Kind:2\n")
@@ -32,7 +37,7 @@ async def open_client(path):
     return reader, writer
 
 
-async def waiting(client, lines):
+async def waiting(client: Client, lines: int) -> List[float]:
     """The seconds of each of these round trips."""
     reader, writer = client
     times = []
@@ -44,7 +49,7 @@ async def waiting(client, lines):
     return times
 
 
-async def pipelined(client, lines):
+async def pipelined(client: Client, lines: int) -> None:
     """Sends all lines at once, and reads all replies."""
     reader, writer = client
     writer.write(LINE * lines)
@@ -52,7 +57,7 @@ async def pipelined(client, lines):
         await reader.readline()
 
 
-async def round_trips(path, clients):
+async def round_trips(path: str, clients: int) -> Trips:
     """With so many clients: the median and the 99th percentile of a round trip in microseconds, and how many lines a second there are
     with waiting, and without."""
     opened = [await open_client(path) for _ in range(clients)]
@@ -69,7 +74,7 @@ async def round_trips(path, clients):
     return statistics.median(times), times[len(times) * 99 // 100], each * clients / waited, each * clients / seconds
 
 
-def own_socket(program):
+def own_socket(program: str) -> Trips:
     """The round trips of one client at the program's own socket."""
     from page_support import until, write_files
     with tempfile.TemporaryDirectory(prefix="attrd-hub-") as folder:
@@ -83,7 +88,7 @@ def own_socket(program):
             process.wait()
 
 
-def over_hub(program):
+def over_hub(program: str) -> Dict[int, Trips]:
     """The round trips with each number of clients over a hub."""
     from page_support import Served
     os.environ["ATTRD"] = program
@@ -94,7 +99,7 @@ def over_hub(program):
         served.close()
 
 
-def main(words):
+def main(words: Sequence[str]) -> None:
     program = program_in(words, __doc__)
     own = own_socket(program)
     found = {"1, at the program's own socket": own}

@@ -7,12 +7,15 @@ PROGRAM is ./attrd where none is given. A time is processor time, the least of m
 `version` line of the same run. Each batch begins with everything kept. Where `javac` is there, a Java program that flushes everything
 at an edit does the same edits in the same run. The run ends with status 1 where a bound doesn't hold.
 """
+from __future__ import annotations
+
 import os
 import subprocess
 import sys
 import tempfile
+from functools import partial
 from pathlib import Path
-from typing import NamedTuple
+from typing import Callable, Dict, List, NamedTuple, Sequence, Tuple
 
 from bounds import Bounds
 from full_flush import FullFlush
@@ -29,67 +32,73 @@ MARKED = 50
 
 
 class Row(NamedTuple):
-    """A batch of lines that does the same `count` times, and how much longer it may take on the largest tree than on the smallest."""
+    """A batch of lines that does the same `units` times, and how much longer it may take on the largest tree than on the smallest."""
     what: str
     lines: str
-    count: int
+    units: int
     growth: float | None = None
     most: float | None = None
 
 
-def sum_rows(tree):
+def sum_rows(tree: SumTree) -> List[Row]:
     """Batches over a tree of sums."""
     leaves = tree.leaves
     above = [leaf.rsplit("/", 3)[0] for leaf in leaves]
     pairs = [leaf.rsplit("/", 1)[0] for leaf in leaves]
     whole = "0 ask /Main value()\n"
 
-    def rounds(times, units):
+    def rounds(times: int, units: Sequence[Callable[[int], str]]) -> str:
         return "".join(unit(k) for k in range(times) for unit in units)
 
-    tokens = [lambda k, it=it: f"0 token {it} Value {k}\n" for it in leaves]
+    def each(paths: Sequence[str], of: Callable[[str, int], str]) -> List[Callable[[int], str]]:
+        """The lines of each path, by the round."""
+        return [partial(of, path) for path in paths]
+
+    questions = dict(zip(leaves, above))
     return [
-        Row("a token edit, 4 values anew", rounds(20, [lambda k, e=e, q=q: e(k) + f"0 ask {q} value()\n" for e, q in zip(tokens, above)]), 320, 1.5, 45),
-        Row("a token edit, 16 values anew", rounds(20, [lambda k, e=e: e(k) + whole for e in tokens]), 320, 1.5),
-        Row("an edit of a token that nothing rests on", rounds(40, [lambda k, it=it: f'0 token {it} Note "n{k}"\n' for it in leaves]), 640, 1.2, 10),
-        Row("a set of 3 nodes", rounds(20, [lambda k, it=it: f'0 set {it} Add(Num({k},""),Num(1,""))\n{whole}' for it in pairs]), 320, 2.0),
+        Row("a token edit, 4 values anew", rounds(20, each(leaves, lambda it, k: f"0 token {it} Value {k}\n0 ask {questions[it]} value()\n")), 320, 1.5, 45),
+        Row("a token edit, 16 values anew", rounds(20, each(leaves, lambda it, k: f"0 token {it} Value {k}\n{whole}")), 320, 1.5),
+        Row("an edit of a token that nothing rests on", rounds(40, each(leaves, lambda it, k: f'0 token {it} Note "n{k}"\n')), 640, 1.2, 10),
+        Row("a set of 3 nodes", rounds(20, each(pairs, lambda it, k: f'0 set {it} Add(Num({k},""),Num(1,""))\n{whole}')), 320, 2.0),
         Row("a set of 61 nodes", rounds(60, [lambda k: f"0 set {tree.small} {tree.small_term}\n{whole}"]), 60, 2.0),
         Row("a put or a drop", rounds(160, [lambda k: f'0 put {tree.spare} Extra Num({k},"")\n{whole}0 drop {tree.spare}/Extra\n{whole}']), 320, 2.0),
-        Row("a kept question", rounds(40, [lambda k, it=it: f"0 ask {it} value()\n" for it in leaves]), 640),
+        Row("a kept question", rounds(40, each(leaves, lambda it, k: f"0 ask {it} value()\n")), 640),
     ]
 
 
-def list_rows(tree):
+def list_rows(tree: SumTree) -> List[Row]:
     """Batches over a tree of which half is one long list."""
-    def at(index):
+    def at(index: int) -> str:
         return f"0 insert / Item {index} Item(7)\n0 ask /Item:{index} price()\n0 drop /Item:{index}\n"
 
     return [Row("an insert or a drop at the end of a long list", at(tree.items) * 200, 400, 2.0),
             Row("an insert or a drop at its front", at(0) * 40, 80)]
 
 
+# The least time of each row, by what it is, in seconds for one unit.
+Least = Dict[str, float]
 VERSIONS = Row("a version line", "0 version\n" * 2000, 2000)
 
 
-def least_of_turns(served, rows_of, turns):
+def least_of_turns(served: Sequence[Served], rows_of: Sequence[Sequence[Row]], turns: int) -> List[Least]:
     """The least time of each row on each tree, in seconds for one unit, by turns: each behind the questions that fill the keeper, and
     behind the same batch, since what fills the keeper leaves little of the tree in the processor's cache."""
-    least = [{} for _ in served]
+    least: List[Least] = [{} for _ in served]
     for _ in range(turns):
         for run, rows, times in zip(served, rows_of, least):
             for row in rows:
                 run.spent(FILL)
                 run.spent(row.lines)
-                times[row.what] = min(times.get(row.what, 1e9), run.spent(row.lines) / row.count)
+                times[row.what] = min(times.get(row.what, 1e9), run.spent(row.lines) / row.units)
     return least
 
 
-def line_of(least):
+def line_of(least: Sequence[Least]) -> float:
     """What a `version` line takes, in seconds."""
     return min(times[VERSIONS.what] for times in least)
 
 
-def tell_rows(bounds, rows, least):
+def tell_rows(bounds: Bounds, rows: Sequence[Row], least: Sequence[Least]) -> None:
     """Prints the rows, each with what it takes on each tree and its bounds."""
     for row in rows:
         units = [times[row.what] / line_of(least) for times in least]
@@ -102,7 +111,7 @@ def tell_rows(bounds, rows, least):
         print(f"{row.what}: {told}", flush=True)
 
 
-def started(program, folder, trees):
+def started(program: str, folder: str, trees: Sequence[SumTree]) -> List[Served]:
     """The program over each tree, with all attributes of all nodes kept."""
     served = []
     for tree in trees:
@@ -113,7 +122,7 @@ def started(program, folder, trees):
     return served
 
 
-def edits(bounds, program, folder, turns, trees, rows_of):
+def edits(bounds: Bounds, program: str, folder: str, turns: int, trees: Sequence[SumTree], rows_of: Callable[[SumTree], List[Row]]) -> List[Least]:
     """The rows over these trees: their least times."""
     served = started(program, folder, trees)
     rows = [[VERSIONS, *rows_of(tree)] for tree in trees]
@@ -124,7 +133,7 @@ def edits(bounds, program, folder, turns, trees, rows_of):
     return least
 
 
-def sums(bounds, program, folder, turns):
+def sums(bounds: Bounds, program: str, folder: str, turns: int) -> None:
     """Edits in a sum."""
     trees = [SumTree(size) for size in SIZES]
     least = edits(bounds, program, folder, turns, trees, sum_rows)
@@ -133,7 +142,7 @@ def sums(bounds, program, folder, turns):
     against_java(bounds, folder, trees, least)
 
 
-def against_java(bounds, folder, trees, least):
+def against_java(bounds: Bounds, folder: str, trees: Sequence[SumTree], least: Sequence[Least]) -> None:
     """How much faster the program is than a flush of everything and the evaluation of what is asked."""
     java = FullFlush.compiled(folder)
     if java is None:
@@ -148,7 +157,7 @@ def against_java(bounds, folder, trees, least):
         print(f"{what}: against full flush and evaluation in Java, on {', '.join(f'{size:,}' for size in SIZES)} nodes, {told} times as fast", flush=True)
 
 
-def lists(bounds, program, folder, turns):
+def lists(bounds: Bounds, program: str, folder: str, turns: int) -> None:
     """Edits of a long list."""
     least = edits(bounds, program, folder, turns, [ListTree(size) for size in SIZES], list_rows)
     front = least[-1]["an insert or a drop at its front"] / line_of(least)
@@ -156,23 +165,23 @@ def lists(bounds, program, folder, turns):
     print(f"an insert or a drop at its front, with {SIZES[-1]:,} nodes: {told} `version` lines, a twentieth of what they were")
 
 
-def filling(bounds, program, folder):
+def filling(bounds: Bounds, program: str, folder: str) -> None:
     """The instructions of an entry that is filled in, of the program itself."""
     tree = SumTree(10_000)
     (Path(folder) / "fill.txt").write_text(tree.term)
     words = [program, "kept.ast", "fill.txt", "kept.jrag"]
-    counts = [instructions(words, folder, lines) for lines in ("", FILL)]
-    if None in counts:
+    empty, filled = (instructions(words, folder, lines) for lines in ("", FILL))
+    if empty is None or filled is None:
         print("filling the keeper isn't counted: there is no valgrind")
         return
-    each = (counts[1] - counts[0]) / tree.entries
+    each = (filled - empty) / tree.entries
     print(f"filling the keeper: {each:,.0f} instructions an entry, against {BEFORE['fill']:,.0f} before: {bounds.at_most('filling', each / BEFORE['fill'], 1.0)}")
 
 
 STROKES, NESTED, DECLARED = 20_000, 4, 60
 
 
-def nested_use():
+def nested_use() -> Tuple[str, str]:
     """A tree of the calculator: a use below so many blocks, each with declarations of other names, and its path."""
     term, path = 'Print(Use("x"))', "/Expr"
     for level in range(NESTED):
@@ -181,22 +190,23 @@ def nested_use():
     return f"Program({term})\n", f"/Block{path}"
 
 
-def strokes(path, begin, count):
+def strokes(path: str, begin: int, count: int) -> str:
     """Lines that give the use another name each time, and ask for its declaration."""
     return "".join(f'0 token {path} ID "x{k}"\n0 ask {path} decl()\n' for k in range(begin, begin + count))
 
 
-def keystrokes(bounds, program, folder):
+def keystrokes(bounds: Bounds, program: str, folder: str) -> None:
     """20,000 keystrokes at one name: the memory and the time of an edit stay level from the 5,000th on."""
     samples = ROOT / "samples" / "calculator"
     term, path = nested_use()
     (Path(folder) / "strokes.txt").write_text(term)
-    words = ["--keep", "10000", samples / "calc.ast", "strokes.txt", samples / "calc.jrag"]
+    words = ["--keep", "10000", str(samples / "calc.ast"), "strokes.txt", str(samples / "calc.jrag")]
     if subprocess.run([program, *words], cwd=folder, stdin=subprocess.DEVNULL, capture_output=True).returncode:
         print("no row of keystrokes: the program has no option --keep")
         return
     run, quarter = Served(program, folder, words), STROKES // 4
-    spent, peaks = [], []
+    spent: List[float] = []
+    peaks: List[int] = []
     for begin in range(0, STROKES, quarter):
         spent.append(run.spent(strokes(path, begin, quarter)))
         peaks.append(run.peak())
@@ -207,9 +217,9 @@ def keystrokes(bounds, program, folder):
           f"at most {peaks[3]:,} KiB, against the first ones: {memory}")
 
 
-def marks(bounds, program, folder):
+def marks(bounds: Bounds, program: str, folder: str) -> None:
     """200 sessions with 50 marks each: making them takes as long for each as with 100 sessions."""
-    def lines(sessions):
+    def lines(sessions: int) -> str:
         return "".join(f"{session} mark m{mark} /Item:{mark}\n" for mark in range(MARKED) for session in range(sessions))
 
     least = [1e9, 1e9]
@@ -221,8 +231,8 @@ def marks(bounds, program, folder):
     print(f"200 sessions with {MARKED} marks each made: {least[1] / 200 / MARKED * 1e6:.2f} us a mark; against 100 sessions: {bounds.at_most('marks', least[1] / least[0], 2.5)}")
 
 
-def main():
-    program = os.path.abspath(sys.argv[1] if len(sys.argv) > 1 else ROOT / "attrd")
+def main() -> None:
+    program = os.path.abspath(sys.argv[1] if len(sys.argv) > 1 else str(ROOT / "attrd"))
     if not os.path.exists(program):
         sys.exit("make bench builds ./attrd first")
     turns = int(sys.argv[2]) if len(sys.argv) > 2 else TURNS

@@ -8,6 +8,10 @@ import tempfile
 import threading
 import time
 from pathlib import Path
+from typing import IO, Callable, Dict, Iterable, List, Sequence, Tuple, cast
+
+# The seconds, the peak in KiB and the replies by kind of a session.
+Session = Tuple[float, int, Dict[bytes, int]]
 
 ROOT = Path(__file__).resolve().parent.parent
 LINE = 65_535
@@ -16,7 +20,7 @@ CYCLE = 50
 SLOW = 2.0
 
 
-def cycle(k):
+def cycle(k: int) -> str:
     """The lines of one cycle: a question with another text each time, as long as a line may be, and then marks and edits.
     Their number is CYCLE."""
     front, end = '0 ask /Block/Stmt:1/Expr/Left lookup("', '")'
@@ -26,13 +30,13 @@ def cycle(k):
     return "\n".join([front + text + end, *others * (CYCLE // len(others))]) + "\n"
 
 
-def peak(pid):
+def peak(pid: int) -> int:
     """The most memory that the process has held so far, in KiB."""
     status = Path(f"/proc/{pid}/status").read_text()
     return next(int(line.split()[1]) for line in status.splitlines() if line.startswith("VmHWM:"))
 
 
-def count_replies(stream, wanted, told, done):
+def count_replies(stream: Iterable[bytes], wanted: int, told: Dict[bytes, int], done: threading.Event) -> None:
     """Counts the replies by their kind, up to that many."""
     for reply in stream:
         told[reply.split()[1]] = told.get(reply.split()[1], 0) + 1
@@ -42,41 +46,44 @@ def count_replies(stream, wanted, told, done):
     done.set()
 
 
-def session(program, lines):
+def session(program: str, lines: int) -> Session:
     """The seconds, the peak in KiB and the replies by kind of a session of about so many lines on the calculator sample."""
     samples = ROOT / "samples" / "calculator"
     cycles = lines // CYCLE
     began = time.perf_counter()
     with subprocess.Popen([program, "calc.ast", "tree.txt", "calc.jrag"], cwd=samples, stdin=subprocess.PIPE, stdout=subprocess.PIPE) as run:
-        told, done = {}, threading.Event()
+        told: Dict[bytes, int] = {}
+        done, sent = threading.Event(), cast(IO[bytes], run.stdin)
         reader = threading.Thread(target=count_replies, args=(run.stdout, cycles * CYCLE, told, done))
         reader.start()
         for k in range(cycles):
-            run.stdin.write(cycle(k).encode())
-        run.stdin.flush()
+            sent.write(cycle(k).encode())
+        sent.flush()
         done.wait()
         most = peak(run.pid)
-        run.stdin.close()
+        sent.close()
         reader.join()
     if run.returncode != 0:
         sys.exit(f"attrd ended with status {run.returncode}")
     return time.perf_counter() - began, most, told
 
 
-def sessions(program, lines):
+def sessions(program: str, lines: int) -> None:
+    """Prints what a session of so many lines takes, and the memory of a tenth of it."""
     short, long = (session(program, count) for count in (lines // 10, lines))
     replies = ", ".join(f"{count:,} {kind.decode()}" for kind, count in sorted(long[2].items()))
     print(f"{lines:,} lines with texts that fill a line, marks and edits: {long[0]:.0f} s, peak {long[1]:,} KiB; of a tenth of them {short[1]:,} KiB: ratio {long[1] / short[1]:.3f} ({replies})")
 
 
-def filled(front, piece, end):
+def filled(front: str, piece: str, end: str) -> str:
     """The front, the piece as often as it fits, and the end: at most as much as a file may have."""
     return front + piece * ((FILE - len(front) - len(end)) // len(piece)) + end
 
 
-def numbered(front, piece, end):
+def numbered(front: str, piece: Callable[[int], str], end: str) -> str:
     """The front, the pieces of 0, 1 and so on, as many as fit, and the end."""
-    pieces, room, k = [], FILE - len(front) - len(end), 0
+    pieces: List[str] = []
+    room, k = FILE - len(front) - len(end), 0
     while room >= len(piece(k)):
         pieces.append(piece(k))
         room -= len(pieces[-1])
@@ -84,23 +91,23 @@ def numbered(front, piece, end):
     return front + "".join(pieces) + end
 
 
-def part_of_chain(k):
+def part_of_chain(k: int) -> str:
     """A component, of a name of its own. Every 500th begins a class, which has all those before it above itself."""
     opening = f"; C{k // 500:x}:C{k // 500 - 1:x} ::=" if k > 0 and k % 500 == 0 else ""
     return f"{opening} N{k:x}:Num"
 
 
-def below_a_chain(front, link, classes):
+def below_a_chain(front: str, link: Callable[[int], str], classes: int) -> str:
     """So many classes, each with the next one above it, of which the first stands above those in front."""
     return front + "".join(link(k) for k in range(classes)) + f"C{classes:x};\n"
 
 
-def folds(levels):
+def folds(levels: int) -> str:
     """A disjunction of so many folds, as a power of two."""
     return "exists (s : getMoreList()) { true }" if levels == 0 else f"({folds(levels - 1)}) || ({folds(levels - 1)})"
 
 
-def whole_files():
+def whole_files() -> List[Tuple[str, int, str]]:
     """Files that are one piece, by name, each with the place on the command line where it stands."""
     nested = FILE // 5
     return [
@@ -129,16 +136,16 @@ def whole_files():
     ]
 
 
-def processor_time(words, folder):
+def processor_time(words: Sequence[str], folder: str) -> Tuple[int, float, str]:
     """The status of a run without lines, its seconds of processor time, and what it writes on standard error."""
     with subprocess.Popen(words, cwd=folder, stdin=subprocess.DEVNULL, stdout=subprocess.DEVNULL, stderr=subprocess.PIPE, text=True) as run:
-        said = run.stderr.read()
+        said = cast(IO[str], run.stderr).read()
         _, status, used = os.wait4(run.pid, 0)
         run.returncode = os.waitstatus_to_exitcode(status)
     return run.returncode, used.ru_utime + used.ru_stime, said
 
 
-def file_times(program, folder):
+def file_times(program: str, folder: str) -> None:
     """The processor time until each of these files is accepted or refused."""
     names = ["sum.ast", "sum.txt", "sum.jrag"]
     plain = ["Sum ::= Left:Num Right:Num More:Num*; Num ::= <Value:int>;\n", "Sum(Num(3),Num(4),[])\n", "aspect S { }\n"]
@@ -154,8 +161,8 @@ def file_times(program, folder):
         print(f"{len(text) / 2 ** 20:.1f} MiB, {what}: {seconds * 1000:.0f} ms{late}; {said[:80]}")
 
 
-def main():
-    program = os.path.abspath(sys.argv[1] if len(sys.argv) > 1 else ROOT / "attrd")
+def main() -> None:
+    program = os.path.abspath(sys.argv[1] if len(sys.argv) > 1 else str(ROOT / "attrd"))
     if not os.path.exists(program):
         sys.exit("make bench builds ./attrd first")
     with tempfile.TemporaryDirectory() as folder:

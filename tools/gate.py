@@ -9,6 +9,7 @@ from nothing. What an earlier run on the machine proved of the same files it tak
 as it is proved (`tools/refused.py`). The proved programs are left in crates/NAME/out. The last line tells what passed; status
 1 where anything failed.
 """
+import io
 import os
 import re
 import resource
@@ -17,14 +18,19 @@ import subprocess
 import sys
 import tempfile
 import threading
-from concurrent.futures import ThreadPoolExecutor
+from concurrent.futures import Future, ThreadPoolExecutor
 from pathlib import Path
+from typing import List, Optional, Sequence, Tuple
 
 sys.dont_write_bytecode = True
-import refused
+sys.path.insert(0, str(Path(__file__).resolve().parent.parent))
+from tools import edits, refused  # noqa: E402
+
+# The trial of a round of edits, once it is begun.
+Trial = Future[List[refused.Line]]
 
 
-def copied(room):
+def copied(room: Path) -> None:
     """Copies what git tracks, or would, into the folder, but for the edits."""
     names = subprocess.run(["git", "ls-files", "-z", "--cached", "--others", "--exclude-standard"], capture_output=True, check=True)
     for name in filter(None, os.fsdecode(names.stdout).split("\0")):
@@ -33,31 +39,34 @@ def copied(room):
             shutil.copy2(name, room / name)
 
 
-def tried_in(lanes, *trial):
+def tried_in(lanes: threading.Semaphore, proved: refused.Proved, crate: str, turned: Sequence[edits.Edit],
+             texts: Optional[edits.Texts]) -> List[refused.Line]:
+    """Tries a round of edits once a lane is free, and prints what is told of it."""
     with lanes:
-        lines = refused.tried(*trial)
+        lines = refused.tried(proved, crate, turned, texts)
     print("\n".join(line for _, line in lines), flush=True)
     return lines
 
 
-def proved_in(room, pool, lanes):
+def proved_in(room: Path, pool: ThreadPoolExecutor, lanes: threading.Semaphore) -> Tuple[int, List[Trial]]:
     """Runs `rt ci` in the folder and prints what it tells. Gives its status, and the trials of edits, begun as crates were proved."""
-    proved, trials, begun = refused.Proved(room), [], set()
+    proved, trials, begun = refused.Proved(room), list[Trial](), set[str]()
 
-    def begin(crate):
+    def begin(crate: str) -> None:
         begun.add(crate)
-        for edits, texts in refused.rounds_of(crate, refused.edits_of(crate)):
-            trials.append(pool.submit(tried_in, lanes, proved, crate, edits, texts))
+        for turned, texts in edits.rounds_of(crate, edits.edits_of(crate)):
+            trials.append(pool.submit(tried_in, lanes, proved, crate, turned, texts))
 
     # one job for each check: several jobs of one check do a part of its work twice, and other crates can use the processor
     jobs = {"RT_JOBS": str(len(os.sched_getaffinity(0))), **os.environ}
-    how = {"stdout": subprocess.PIPE, "stderr": subprocess.STDOUT}
-    ran = subprocess.Popen(["rt", "ci"], cwd=room, env=jobs, text=True, errors="replace", **how)
+    ran = subprocess.Popen(["rt", "ci"], cwd=room, env=jobs, text=True, errors="replace", stdout=subprocess.PIPE,
+                           stderr=subprocess.STDOUT)
+    assert ran.stdout
     for line in ran.stdout:
         print(line, end="", flush=True)
-        crate = re.match(r"rt: (\w+) (?:proved$|is kept: )", line)
-        if crate:
-            begin(crate[1])
+        told = re.match(r"rt: (\w+) (?:proved$|is kept: )", line)
+        if told:
+            begin(told[1])
     status = ran.wait()
     # should the kit tell of it in other words
     for crate in proved.uses if status == 0 else []:
@@ -66,14 +75,15 @@ def proved_in(room, pool, lanes):
     return status, trials
 
 
-def main():
+def main() -> int:
+    assert isinstance(sys.stdout, io.TextIOWrapper)
     sys.stdout.reconfigure(line_buffering=True)
-    wanted = sum(len(refused.edits_of(it.name)) for it in Path("crates").iterdir())
+    wanted = sum(len(edits.edits_of(it.name)) for it in Path("crates").iterdir())
     # edits have half of the processors while rt ci goes on, and then all
     processors = len(os.sched_getaffinity(0))
     lanes = threading.Semaphore(max(1, processors // 2))
-    with tempfile.TemporaryDirectory(prefix="attrd-gate-") as room, ThreadPoolExecutor(processors) as pool:
-        room = Path(room)
+    with tempfile.TemporaryDirectory(prefix="attrd-gate-") as folder, ThreadPoolExecutor(processors) as pool:
+        room = Path(folder)
         copied(room)
         status, trials = proved_in(room, pool, lanes)
         lanes.release(processors - processors // 2)

@@ -17,19 +17,22 @@ import shutil
 import subprocess
 import sys
 from pathlib import Path
+from typing import Dict, List, Optional, Sequence, Tuple
 
-from refused import PARTS, Proved
+sys.dont_write_bytecode = True
+sys.path.insert(0, str(Path(__file__).resolve().parent.parent))
+from tools.refused import PARTS, Proved  # noqa: E402
 
 ROOM = Path("/tmp/attrd-lab")
 
 
-def contents(folder):
+def contents(folder: Path) -> Dict[Path, bytes]:
     """The files of a crate's parts, by their paths, and what they hold."""
     found = [it for part in PARTS for it in (folder / part).rglob("*") if it.is_file()]
     return {it.relative_to(folder): it.read_bytes() for it in found}
 
 
-def copied(source, folder):
+def copied(source: Path, folder: Path) -> None:
     """Puts a crate's files into the folder, where they aren't there yet; others go. Those that stay keep their times."""
     wanted, there = contents(source), contents(folder)
     for path in there.keys() - wanted.keys():
@@ -43,11 +46,11 @@ def copied(source, folder):
 class Lab:
     """A folder of its own for each repository, with copies of its crates."""
 
-    def __init__(self, root):
+    def __init__(self, root: str) -> None:
         self.proved = Proved(root)
         self.room = ROOM / hashlib.sha256(str(self.proved.root).encode()).hexdigest()[:12]
 
-    def opened(self, crate, functions):
+    def opened(self, crate: str, functions: Optional[Sequence[str]]) -> Path:
         """A copy of the crate in which all but these functions is left open."""
         stage, folder = self.room / "stage", self.room / crate
         shutil.rmtree(stage, ignore_errors=True)
@@ -57,11 +60,11 @@ class Lab:
         copied(stage, folder)
         return folder
 
-    def below(self, crate):
+    def below(self, crate: str) -> Tuple[List[str], List[str]]:
         """The crates below, those first on which others stand, and the libraries of the kit that they all use."""
-        order, kit = [], {"std"}
+        order, kit = list[str](), {"std"}
 
-        def add(name):
+        def add(name: str) -> None:
             for used in self.proved.uses[name]:
                 if used not in self.proved.uses:
                     kit.add(used)
@@ -72,12 +75,12 @@ class Lab:
         add(crate)
         return order, sorted(kit)
 
-    def words(self, crate, functions):
+    def words(self, crate: str, functions: Sequence[str]) -> List[str]:
         """The words of the check."""
         order, kit = self.below(crate)
         rlibs, logic = self.proved.kit / "rlibs", self.proved.kit / "rattle/logic/antt-project.json"
         root = "main" if (self.proved.root / "crates" / crate / "src/main.rt").exists() else "lib"
-        words = [self.proved.kit / "bin/rattle", "check", "--crate-name", crate, f"src/{root}.rt", "--jobs", "1", "--allow-holes"]
+        words = [str(self.proved.kit / "bin/rattle"), "check", "--crate-name", crate, f"src/{root}.rt", "--jobs", "1", "--allow-holes"]
         for name in order:
             uses = ",".join(["std", *self.proved.uses[name]])
             words += ["--lib", f"{name}:{uses}={self.opened(name, [])}/src/lib.rt"]
@@ -85,12 +88,12 @@ class Lab:
             words += ["--extern", f"{name}={rlibs}/{name}.rlib"]
         kept = self.room / f"checked-{crate}"
         kept.mkdir(parents=True, exist_ok=True)
-        words += ["-L", f"dependency={rlibs}", "--antt-project", logic, "--logic-built", self.proved.kit / "logic_built"]
-        words += ["--links", f"{crate}=", "--incremental", kept]
+        words += ["-L", f"dependency={rlibs}", "--antt-project", str(logic), "--logic-built", f"{self.proved.kit}/logic_built"]
+        words += ["--links", f"{crate}=", "--incremental", str(kept)]
         return [*words, *(word for it in functions or [""] for word in ("--only", it))]
 
 
-def main():
+def main() -> int:
     words = argparse.ArgumentParser(description="Proves functions of a crate before the crates below it are proved.")
     words.add_argument("--whole", action="store_true", help="leave nothing open in the crate itself")
     words.add_argument("crate")

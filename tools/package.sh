@@ -4,7 +4,8 @@
 #
 #     tools/package.sh PROGRAM FOLDER
 #
-# The packages stand in FOLDER afterwards; the version is that of the file VERSION.
+# The packages stand in FOLDER afterwards; the version is that of the file VERSION. A program is refused that isn't known to be
+# proved, or was made of other sources than stand here (tools/proved.py).
 set -euo pipefail
 cd "$(dirname "$0")/.."
 
@@ -77,6 +78,7 @@ if [ $# -ne 2 ] || [ ! -x "$1" ]; then
 fi
 program=$1
 folder=$2
+python3 -B -m tools.proved require "$program"
 version=$(cat VERSION)
 root=$(mktemp -d)
 trap 'rm -rf "$root"' EXIT

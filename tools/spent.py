@@ -13,20 +13,22 @@ import os
 import re
 import sys
 from pathlib import Path
+from typing import DefaultDict
 
 GAP = 120
 PARTS = re.compile(r"\.(?:Statement|Lts|Tie|Proof|Named|Layout|Met|Goals|Given|View|Code|Answers|Invariants|Goal|Carried|[+]).*")
 
 
-def main():
+def main() -> None:
     files = [(os.stat(it).st_mtime, it.stem) for it in Path(sys.argv[1]).glob("out/incremental/*/*.oantt")]
     files.sort()
-    spent = collections.Counter()
+    spent: DefaultDict[str, float] = collections.defaultdict(float)
+    count = int(sys.argv[2]) if len(sys.argv) > 2 else 40
     for (before, _), (after, module) in zip(files, files[1:]):
         if after - before < GAP:
             spent[PARTS.sub("", module.partition(".")[2])] += after - before
     print(f"{sum(spent.values()):8.1f} seconds, {len(files)} modules")
-    for name, seconds in spent.most_common(int(sys.argv[2]) if len(sys.argv) > 2 else 40):
+    for name, seconds in sorted(spent.items(), key=lambda it: it[1], reverse=True)[:count]:
         print(f"{seconds:8.1f} {name}")
 
 

@@ -1,10 +1,12 @@
 #!/usr/bin/env python3
 """Refuses the first request for memory, then the second alone, and so on, until no run asks for that many.
 
-    tools/starve.py PROGRAM
+    tools/starve.py [-k PART].. PROGRAM
 
-In each session of the program `starve`, with each keeper. A round may end for want of memory before the session's first
+In each session of the program `starve`, with each keeper; with -k in those alone of whose names, SESSION/KEEPER, it is a part.
+What each took is told. A round may end for want of memory before the session's first
 line, or have one line answered `memory`; each other line must be answered right."""
+import argparse
 import os
 import shutil
 import subprocess
@@ -13,6 +15,7 @@ import tempfile
 import time
 from collections import Counter
 from pathlib import Path
+from typing import Dict
 
 # The words that choose a session.
 SESSIONS = ("edits", "moves", "turns")
@@ -22,17 +25,18 @@ BEFORE, ANSWERED, UNSEEN, NONE = "ended before the first line", "had a line answ
 MOST_ROUNDS = 100_000
 
 
-def refusing(folder):
-    """A library that, preloaded, refuses the request for memory whose number stands in REFUSE."""
+def refusing(folder: str) -> Dict[str, str]:
+    """The environment with a library that refuses the request for memory whose number stands in REFUSE; it is built in the folder."""
     library = Path(folder) / "refuse.so"
     compiler = os.environ.get("CC") or shutil.which("cc") or "clang"
     subprocess.run([compiler, "-O2", "-shared", "-fPIC", "-o", library, Path(__file__).with_name("refuse.c"), "-ldl"], check=True)
     return {"LD_PRELOAD": str(library)}
 
 
-def round_of(program, name, word, environment, nth):
+def round_of(program: str, name: str, word: str, environment: Dict[str, str], nth: int) -> str:
     """How the session went with the nth request refused."""
-    run = subprocess.run([program, name, word], env={**environment, "REFUSE": str(nth)}, capture_output=True, text=True, timeout=60)
+    refused = {**environment, "REFUSE": str(nth)}
+    run = subprocess.run([program, name, word], env=refused, capture_output=True, text=True, timeout=60)
     verdict = f"{name}, {KEEPERS[word]}: right"
     outcomes = {
         (0, verdict + "\n", ""): NONE,
@@ -46,10 +50,10 @@ def round_of(program, name, word, environment, nth):
     return outcome
 
 
-def session(program, name, word, environment):
+def session(program: str, name: str, word: str, environment: Dict[str, str]) -> None:
     """Runs the rounds of one keeper, until in one no request is refused."""
     began = time.perf_counter()
-    counts = Counter()
+    counts = Counter[str]()
     for nth in range(1, MOST_ROUNDS):
         outcome = round_of(program, name, word, environment, nth)
         if outcome == NONE:
@@ -66,18 +70,19 @@ def session(program, name, word, environment):
     print(f"{name}, {KEEPERS[word]}: {sum(counts.values()):,} rounds in {seconds:.0f} s, all right: {told}", flush=True)
 
 
-def sessions(program):
+def main() -> None:
+    words = argparse.ArgumentParser(description="Refuses each request for memory in turn, in each session with each keeper.")
+    words.add_argument("-k", metavar="PART", action="append", default=[], help="in those alone whose names, SESSION/KEEPER, have this part")
+    words.add_argument("program", metavar="PROGRAM")
+    given = words.parse_args()
+    pairs = [(name, word) for name in SESSIONS for word in KEEPERS]
+    chosen = [it for it in pairs if not given.k or any(part in "/".join(it) for part in given.k)]
+    if not chosen:
+        words.error(f"no session has such a name; there are {', '.join(map('/'.join, pairs))}")
     with tempfile.TemporaryDirectory() as folder:
         environment = refusing(folder)
-        for name in SESSIONS:
-            for word in KEEPERS:
-                session(program, name, word, environment)
-
-
-def main():
-    if len(sys.argv) != 2:
-        sys.exit("tools/starve.py PROGRAM")
-    sessions(os.path.abspath(sys.argv[1]))
+        for name, word in chosen:
+            session(os.path.abspath(given.program), name, word, environment)
 
 
 if __name__ == "__main__":

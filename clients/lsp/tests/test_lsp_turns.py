@@ -1,7 +1,6 @@
 """Questions in turns: edits go between, and answers for older versions are dropped.
 
 The program behind is `turns.py`, which has questions in turns of any length, whatever the program under test has."""
-import os
 import re
 import tempfile
 import time

@@ -4,7 +4,7 @@ from __future__ import annotations
 import asyncio
 from contextlib import suppress
 from pathlib import Path as FilePath
-from typing import Any, Callable, Dict, List, Optional, Sequence, Set
+from typing import Callable, List, Optional, Sequence, Set
 
 from attrd import Grammar, ProtocolFault, write_term
 from attrd.declarations import Attribute, attributes_of

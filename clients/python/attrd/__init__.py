@@ -13,9 +13,10 @@ from .grammar import ClassOf, Grammar, Part, Shape
 from .measuring import measured
 from .paths import FromMark, Path, Step
 from .replies import (Answer, AskValue, Circular, Code, Done, Fault, FaultKind, Memory, Ok, Opened, RefusedReply, Reply, Value)
-from .server import KEPT, Server, Text, connect, known_options, lasting_options, start
+from .server import KEPT, Server, Text, connect, known_options, lasting_options, program_version, start
 from .session import Mark, Question, Session
 from .terms import Node, read_term, write_term
+from .versions import VERSION, VersionWarning
 
 __all__ = [
     "Answer", "AskValue", "AspectFault", "AttrdError", "Check", "Circular", "ClassOf", "Code", "Connection",
@@ -23,7 +24,8 @@ __all__ = [
     "FaultKind", "FromMark", "Grammar", "GrammarFault", "Insert", "KEPT", "LineFault", "Mark", "Memory", "Move", "NoValue",
     "Node", "Ok", "Opened", "OutOfMemory", "Part", "Path", "Pending", "ProtocolFault", "Put", "Question", "Refused",
     "RefusedReply", "Reply", "ReplyTimeout", "Server", "ServerLost", "ServerRestarted", "Session", "SetNode", "SetToken",
-    "Shape", "StartFault", "Step", "SyntaxFault", "TermFault", "Text", "TreeDiffers", "UnknownName", "Update", "Value",
+    "Shape", "StartFault", "Step", "SyntaxFault", "TermFault", "Text", "TreeDiffers", "UnknownName", "Update", "VERSION", "Value",
+    "VersionWarning",
     "accepted", "applied", "connect", "diagnostics", "difference", "explain", "known_options", "lasting_options",
-    "measured", "read_term", "start", "write_term",
+    "measured", "program_version", "read_term", "start", "write_term",
 ]

@@ -6,7 +6,9 @@ import re
 import shutil
 import subprocess
 import tempfile
+import warnings
 from dataclasses import dataclass
+from functools import lru_cache
 from pathlib import Path as FilePath
 from typing import FrozenSet, List, Optional, Union
 
@@ -14,10 +16,12 @@ from .channel import Program, open_socket
 from .connection import Connection
 from .errors import AttrdError, ServerLost, ServerRestarted, StartFault, text_of
 from .terms import Node, write_term
+from .versions import VersionWarning, misfit
 
 # How many values a program that runs long keeps, by `--keep`: six for each node of the largest tree.
 KEPT = 400_000
 HELP_SECONDS = 30.0
+_VERSION = re.compile(r"attrd (\S+)\s*\Z")
 _OPTION = re.compile(r"--[a-z]+")
 _REFUSED = re.compile(r"(?P<file>.*): (?P<code>[GJF][0-9]+) (?P<name>.*?)(?: at (?P<line>[0-9]+):(?P<column>[0-9]+))?\Z")
 
@@ -65,7 +69,8 @@ def start(grammar: Source, tree: Union[Source, Node], *aspects: Source, program:
     """Starts the program with pipes, and waits until it answers.
 
     Files may be given by path or as a `Text`, the tree also as a Node. Raises StartFault where a file is refused or can't be read,
-    or the program ends in another way; AttrdError where it can't be started.
+    or the program ends in another way; AttrdError where it can't be started. A VersionWarning tells, once for each program, where
+    its version isn't this library's.
     """
     folder = FilePath(tempfile.mkdtemp(prefix="attrd-"))
     try:
@@ -82,17 +87,41 @@ def start(grammar: Source, tree: Union[Source, Node], *aspects: Source, program:
     except ServerLost as lost:
         server.close()
         raise start_fault(lost.status, lost.message) from None
+    _warn_of_misfit(_path(program))
     return server
 
 
 def known_options(program: Union[str, "os.PathLike[str]"]) -> FrozenSet[str]:
     """The options that the program's `--help` names, as `--slice`. Raises AttrdError where it can't be started."""
-    words = [_path(program), "--help"]
+    return frozenset(_OPTION.findall(_told(_path(program), "--help")))
+
+
+def program_version(program: Union[str, "os.PathLike[str]"]) -> str:
+    """The version that the program tells, as 0.23. Raises AttrdError where it can't be started or tells none."""
+    name = _path(program)
+    found = _VERSION.match(_told(name, "--version"))
+    if not found:
+        raise AttrdError(f"{name}: it tells no version")
+    return found[1]
+
+
+@lru_cache(maxsize=None)
+def _warn_of_misfit(program: str) -> None:
     try:
-        told = subprocess.run(words, stdin=subprocess.DEVNULL, stdout=subprocess.PIPE, stderr=subprocess.STDOUT, timeout=HELP_SECONDS, check=False)
+        told = misfit(program_version(program))
+    except AttrdError:
+        return
+    if told:
+        warnings.warn(f"{program}: {told}", VersionWarning, stacklevel=3)
+
+
+def _told(program: str, word: str) -> str:
+    try:
+        told = subprocess.run([program, word], stdin=subprocess.DEVNULL, stdout=subprocess.PIPE, stderr=subprocess.STDOUT,
+                              timeout=HELP_SECONDS, check=False)
     except (OSError, ValueError, UnicodeError, subprocess.TimeoutExpired) as fault:
-        raise cannot_start(words[0], fault) from None
-    return frozenset(_OPTION.findall(told.stdout.decode("utf-8", "replace")))
+        raise cannot_start(program, fault) from None
+    return told.stdout.decode("utf-8", "replace")
 
 
 def lasting_options(known: FrozenSet[str], values: int = KEPT) -> List[str]:

@@ -1,5 +1,4 @@
 """Diagnostics: all faults of a tree, also where a circle takes a count away."""
-import re
 import unittest
 
 import attrd

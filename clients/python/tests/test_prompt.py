@@ -1,5 +1,4 @@
 """The prompt."""
-import io
 import os
 import subprocess
 import sys

@@ -1,0 +1,165 @@
+"""Tests all that needs no proof, in five minutes on two cores. Nothing is proved by it.
+
+    python3 -m tools.quick PAGE|FOLDER ..
+
+The program is the quick one (tools/quick_program.py). With it run the examples of the pages and sample folders, the tests of
+the program and those of the clients; beside it the counts (tools/counts.py --hold) and, where they are installed, mypy and
+pyflakes. Two parts run side by side. Of each it is told how many of its tests passed, and what it printed where one failed.
+The last line is 'N passed, M failed', a part that counts nothing being one; the status is 1 where one failed.
+"""
+import os
+import re
+import shutil
+import subprocess
+import sys
+import time
+from concurrent.futures import Future, ThreadPoolExecutor
+from dataclasses import dataclass
+from functools import partial
+from pathlib import Path
+from typing import Callable, List, Sequence, Tuple
+
+from tools import quick_program
+from tools.sources import ROOT
+
+LANES = 2
+COUNTED = re.compile(r"^(\d+) passed, (\d+) failed$", re.M)
+# The same, as unittest tells it.
+RAN = re.compile(r"^Ran (\d+) tests? in ", re.M)
+FAILURES = re.compile(r"\b(?:failures|errors)=(\d+)")
+SKIPPED = re.compile(r"^skipped: .*$", re.M)
+TOOLS_TESTS = ("discover", "-s", "tools/tests", "-t", ".")
+# What is typed in full beside the clients' packages.
+TYPED = ("bench/bench.py", "bench/limits.py", "bench/unproved.py", "clients/packaging/backend.py",
+         "clients/run_tests.py", "tools")
+
+
+@dataclass(frozen=True)
+class Part:
+    """A part of the tests: what it is called, its command, and what its environment has beside that of this process."""
+
+    name: str
+    command: Sequence[str]
+    environment: Tuple[Tuple[str, str], ...] = ()
+
+
+@dataclass(frozen=True)
+class Outcome:
+    """What became of a part: how many of its tests passed and failed, what it printed, and how many seconds it took."""
+
+    name: str
+    passed: int
+    failed: int
+    printed: str
+    seconds: float
+
+    def tell(self) -> None:
+        """Prints a line, what was left out, and all that was printed where something failed."""
+        print(f"{self.name}: {self.passed} passed, {self.failed} failed ({self.seconds:.0f} s)")
+        for line in self.printed.splitlines() if self.failed else SKIPPED.findall(self.printed):
+            print(f"    {line}")
+        sys.stdout.flush()
+
+
+def counted(status: int, printed: str) -> Tuple[int, int]:
+    """How many tests passed and failed, by what was printed: its last line 'N passed, M failed', or what unittest tells; else one test."""
+    lines, ran = COUNTED.findall(printed), RAN.findall(printed)
+    if lines:
+        return int(lines[-1][0]), int(lines[-1][1])
+    if ran:
+        failed = sum(map(int, FAILURES.findall(printed[printed.rindex("\nRan "):])))
+        return max(0, int(ran[-1]) - failed), failed
+    return int(status == 0), int(status != 0)
+
+
+def outcome_of(name: str, status: int, printed: str, seconds: float) -> Outcome:
+    """What became of a part; a status that isn't 0 is at least one failure."""
+    passed, failed = counted(status, printed)
+    return Outcome(name, passed, max(failed, int(status != 0)), printed, seconds)
+
+
+def run(part: Part) -> Outcome:
+    """Runs a part to its end."""
+    began = time.monotonic()
+    ran = subprocess.run(part.command, cwd=ROOT, env={**os.environ, **dict(part.environment)}, stdin=subprocess.DEVNULL,
+                         stdout=subprocess.PIPE, stderr=subprocess.STDOUT, text=True, errors="replace")
+    return outcome_of(part.name, ran.returncode, ran.stdout, time.monotonic() - began)
+
+
+def python(*words: str) -> List[str]:
+    """The command that runs Python with these words."""
+    return [sys.executable, *words]
+
+
+def clients() -> List[str]:
+    """The names of the clients' folders."""
+    return sorted(it.parent.name for it in ROOT.glob("clients/*/tests"))
+
+
+def of_the_program(program: Path, pages: Sequence[str]) -> List[Part]:
+    """The parts that run a program, the longest first."""
+    tests = [Part(f"client {it}", python("clients/run_tests.py", "--skip-missing", str(program), it)) for it in clients()]
+    examples = Part("examples of pages", python("tools/examples.py", "--program", str(program), *pages))
+    return [*tests, examples, Part("the program", python("tools/program.py", str(program)))]
+
+
+def of_the_sources() -> List[Part]:
+    """The parts that run no program; mypy and pyflakes are left out, and told, where they aren't installed."""
+    parts = [Part("counts", python("tools/counts.py", "--hold")), Part("tools", python("-m", "unittest", *TOOLS_TESTS))]
+    if shutil.which("mypy"):
+        folders = [ROOT / "clients" / client / part for client in clients() for part in ("", "tests")]
+        path = ("MYPYPATH", os.pathsep.join(map(str, folders)))
+        command = ["mypy", "--config-file", "clients/mypy.ini", "--follow-imports=silent", *TYPED]
+        parts.append(Part("types of the clients", ["sh", "-c", "cd clients && mypy"]))
+        parts.append(Part("types of the tools", command, (path,)))
+    else:
+        print("skipped: types: the package mypy is missing")
+    flakes = shutil.which("pyflakes3") or shutil.which("pyflakes")
+    if flakes:
+        parts.append(Part("pyflakes", python("-m", "tools.flakes", flakes, "bench", "clients", "tools")))
+    else:
+        print("skipped: pyflakes: the package pyflakes3 is missing")
+    return parts
+
+
+def build() -> Outcome:
+    """Builds the quick program, or takes it up."""
+    began = time.monotonic()
+    name = "the quick program, taken up" if quick_program.is_current() else "the quick program, built"
+    try:
+        quick_program.quick_program()
+    except quick_program.NotBuilt as why:
+        return Outcome(name, 0, 1, str(why), time.monotonic() - began)
+    return Outcome(name, 1, 0, "", time.monotonic() - began)
+
+
+def tested(pages: Sequence[str]) -> List[Outcome]:
+    """Runs all parts, and tells each as it ends. Where the program can't be built those that run it are left out."""
+    with ThreadPoolExecutor(LANES) as pool:
+        def begin(work: Callable[[], Outcome]) -> "Future[Outcome]":
+            future = pool.submit(work)
+            future.add_done_callback(lambda it: it.result().tell())
+            return future
+
+        built = begin(build)
+        begun = [begin(partial(run, part)) for part in of_the_sources()]
+        if built.result().failed == 0:
+            begun += [begin(partial(run, part)) for part in of_the_program(quick_program.PROGRAM, pages)]
+        else:
+            print("not tried: what runs the program")
+    return [built.result(), *(it.result() for it in begun)]
+
+
+def main() -> int:
+    if len(sys.argv) < 2:
+        sys.exit(__doc__)
+    began = time.monotonic()
+    outcomes = tested(sys.argv[1:])
+    passed, failed = sum(it.passed for it in outcomes), sum(it.failed for it in outcomes)
+    print(f"In {time.monotonic() - began:.0f} s. Nothing was proved: make check C=.. proves a crate, and make test everything.")
+    print(f"{passed} passed, {failed} failed")
+    return 1 if failed else 0
+
+
+if __name__ == "__main__":
+    sys.exit(main())
