@@ -13,6 +13,7 @@ from .errors import AttrdError, ConnectionClosed, LineFault, OutOfMemory, Protoc
 from .lexical import GREATEST_VERSION, LINE_BYTES
 from .replies import Code, Done, Memory, Ok, RefusedReply, Reply, read_reply
 from .session import Session
+from .terms import Node
 
 SESSIONS = 1_000
 HIGH_WATER = 1 << 16
@@ -80,11 +81,13 @@ def accepted(reply: Reply, line: str) -> Reply:
 class Connection:
     """Lines and replies over one channel. Threads may share it: one waits while another one's line is under way.
 
-    `version` is the last version that any reply told, None before the first.
+    `version` is the last version that any reply told, None before the first. `started_with` is the tree of a server that was
+    started here with a Node; None of any other.
     """
 
     def __init__(self, channel: Channel) -> None:
         self.version: Optional[int] = None
+        self.started_with: Optional[Node] = None
         self._channel = channel
         self._lock = threading.RLock()
         self._out = bytearray()

@@ -29,13 +29,22 @@ class Document:
     """The server's tree, as its own edits made it. Each edit asks for the version that is known: none goes to another tree."""
 
     def __init__(self, session: Session, grammar: Grammar, costs: Optional[Costs] = None) -> None:
-        """Reads the server's tree. Where no costs are given, `costs` follow what the edits take on this server.
+        """Takes the server's tree. Where no costs are given, `costs` follow what the edits take on this server.
 
-        Raises as `Session.show`, and TermFault where the grammar isn't the server's.
+        A server that was started here with a Node has that tree until its first edit: then nothing is read back. Raises as
+        `Session.show`, and TermFault where the grammar isn't the server's.
         """
         self.session, self.grammar = session, grammar
         self.costs, self._learns = costs or Costs(), costs is None
-        self.tree, self.version = self._read()
+        self.tree, self.version = self._known() or self._read()
+
+    def _known(self) -> Optional[Tuple[Node, int]]:
+        """The tree that the server was started with, where it has had no edit, and its version; None where it isn't known."""
+        tree = self.session.connection.started_with
+        if tree is None or self.session.version() != 0:
+            return None
+        self.grammar.check(tree)
+        return tree, 0
 
     def _read(self) -> Tuple[Node, int]:
         while True:

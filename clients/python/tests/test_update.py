@@ -206,6 +206,23 @@ class Documents(ServerTest):
         self.update(self.program(Node("Print", Node("Num", 1)), deep))
         self.update(self.program(deep.cells[0][0]))
 
+    def test_the_tree_that_it_was_started_with_is_not_read_back(self):
+        tree = self.program(Node("Print", Node("Num", 1)))
+        with attrd.start(CALCULATOR / "calc.ast", tree, CALCULATOR / "calc.jrag", program=PROGRAM) as server:
+            document = Document(server.session(), calculator_grammar())
+            self.assertIs(document.tree, tree)
+            document.verify()
+            server.session().token("/Block/Stmt:0/Expr", "Value", 2)
+            again = Document(server.session(), calculator_grammar())
+            self.assertEqual((str(again.tree), again.version), ("Program(Block([Print(Num(2))]))", 1))
+            self.assertRaises(attrd.TermFault, Document, self.other_server(tree), Grammar.read("Program ::= Block; Block;"))
+
+    def other_server(self, tree):
+        """A session of a server of its own over the tree."""
+        server = attrd.start(CALCULATOR / "calc.ast", tree, CALCULATOR / "calc.jrag", program=PROGRAM)
+        self.addCleanup(server.close)
+        return server.session()
+
     def test_costs_follow_the_server(self):
         document = Document(self.session, calculator_grammar())
         for number in range(5):
