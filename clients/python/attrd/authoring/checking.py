@@ -5,13 +5,12 @@ What only follows from a fault that is told already is left out.
 """
 from __future__ import annotations
 
-import itertools
-from typing import List, NamedTuple, Sequence
+from typing import Generator, List, NamedTuple, Sequence
 
 from ..errors import GrammarFault, TermFault
 from .advice import Advice
 from .finding import Finding
-from .mending import Mending
+from .mending import Mending, Refused
 from .refusal import Judge, offset_of
 from .specification import Source, Specification
 
@@ -27,8 +26,11 @@ class Checked(NamedTuple):
     following: int
 
 
-def check(grammar: Source, aspects: Sequence[Source], program: str = "attrd") -> Checked:
-    """Finds the faults of a grammar and of aspects. Raises AttrdError where the program can't be started."""
+def checking(grammar: Source, aspects: Sequence[Source], program: str = "attrd") -> Generator[None, None, Checked]:
+    """Finds the faults of a grammar and of aspects, and yields before each run of the program that may find one.
+
+    Raises AttrdError where the program can't be started.
+    """
     specification = Specification(grammar, aspects)
     found = [_of_grammar(specification, it) for it in specification.whole.faults]
     found.sort(key=lambda it: it.start)
@@ -40,9 +42,26 @@ def check(grammar: Source, aspects: Sequence[Source], program: str = "attrd") ->
         endless = Finding(grammar.name, "G", "no finite tree", 1, 1, 0, 0, fault.reason, "Have a list or an optional where the class comes again.")
         return Checked(found or [endless], 0)
     mending, advice = Mending(specification, judge), Advice(specification)
-    refused = list(itertools.islice(iter(mending.next, None), MOST)) if aspects else []
-    told = sorted((it for it in refused if it is not None and not it.follows), key=lambda it: (it.file, it.offset))
+    refused: List[Refused] = []
+    while aspects and len(refused) < MOST:
+        yield
+        following = mending.next()
+        if following is None:
+            break
+        refused.append(following)
+    told = sorted((it for it in refused if not it.follows), key=lambda it: (it.file, it.offset))
     return Checked(found + [advice.of_aspects(it) for it in told], len(refused) - len(told))
+
+
+def check(grammar: Source, aspects: Sequence[Source], program: str = "attrd") -> Checked:
+    """The faults of a grammar and of aspects. Raises AttrdError where the program can't be started."""
+    steps = checking(grammar, aspects, program)
+    while True:
+        try:
+            next(steps)
+        except StopIteration as end:
+            found: Checked = end.value
+            return found
 
 
 def _of_grammar(specification: Specification, fault: GrammarFault) -> Finding:
