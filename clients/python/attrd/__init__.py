@@ -16,6 +16,7 @@ from .replies import (Answer, AskValue, Circular, Code, Done, Fault, FaultKind, 
 from .server import KEPT, Server, Text, connect, known_options, lasting_options, start
 from .session import Mark, Question, Session
 from .terms import Node, read_term, write_term
+from .view import View, Views
 
 __all__ = [
     "Answer", "AskValue", "AspectFault", "AttrdError", "Check", "Circular", "ClassOf", "Code", "Connection",
@@ -23,7 +24,7 @@ __all__ = [
     "FaultKind", "FromMark", "Grammar", "GrammarFault", "Insert", "KEPT", "LineFault", "Mark", "Memory", "Move", "NoValue",
     "Node", "Ok", "Opened", "OutOfMemory", "Part", "Path", "Pending", "ProtocolFault", "Put", "Question", "Refused",
     "RefusedReply", "Reply", "ReplyTimeout", "Server", "ServerLost", "ServerRestarted", "Session", "SetNode", "SetToken",
-    "Shape", "StartFault", "Step", "SyntaxFault", "TermFault", "Text", "TreeDiffers", "UnknownName", "Update", "Value",
+    "Shape", "StartFault", "Step", "SyntaxFault", "TermFault", "Text", "TreeDiffers", "UnknownName", "Update", "Value", "View", "Views",
     "accepted", "applied", "connect", "diagnostics", "difference", "explain", "known_options", "lasting_options",
     "measured", "read_term", "start", "write_term",
 ]
