@@ -11,6 +11,8 @@ import time
 from pathlib import Path
 from typing import Any, Callable, List, Optional
 
+from websocket import TEXT, Inbox, accept_key, frame, new_key
+
 CLONE = Path(__file__).resolve().parents[3]
 PYTHONPATH = [str(CLONE / "clients" / "python"), str(CLONE / "clients" / "page")]
 sys.path[:0] = [it for it in PYTHONPATH if it not in sys.path]
@@ -132,14 +134,13 @@ class Served:
 
 
 class Wire:
-    """A WebSocket by hand. `is_client_of` tells the host, the port and the path of its server."""
+    """A WebSocket by hand, as Chromium wants it of who drives it."""
 
-    def __init__(self, host: str, port: int, path: str, origin: Optional[str] = None) -> None:
-        from attrd_page.websocket import Inbox, accept_key, new_key
+    def __init__(self, host: str, port: int, path: str) -> None:
         key = new_key()
         self.stream = socket.create_connection((host, port), timeout=SECONDS)
         head = [f"GET {path} HTTP/1.1", f"Host: {host}:{port}", "Upgrade: websocket", "Connection: Upgrade",
-                f"Sec-WebSocket-Key: {key}", "Sec-WebSocket-Version: 13", *([f"Origin: {origin}"] if origin else []), "", ""]
+                f"Sec-WebSocket-Key: {key}", "Sec-WebSocket-Version: 13", "", ""]
         self.stream.sendall("\r\n".join(head).encode("ascii"))
         answer = b""
         while b"\r\n\r\n" not in answer:
@@ -159,7 +160,6 @@ class Wire:
 
     def send(self, text: str) -> None:
         """Sends a message."""
-        from attrd_page.websocket import TEXT, frame
         self.stream.sendall(frame(TEXT, text.encode("utf-8"), is_client=True))
 
     def next(self) -> bytes:

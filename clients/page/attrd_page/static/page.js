@@ -6,7 +6,7 @@ const nodes = new Map();      // number of a node -> the rows below it, of those
 const rows = new Map();       // number of a node -> its row
 const probes = new Map();     // number of a probe -> its card
 const open = new Set();
-const state = {rootNode: null, focus: 0, at: 0, detail: null, detailText: "", roundVersion: -1, isTermOpen: false, socket: null};
+const state = {rootNode: null, focus: 0, at: 0, detail: null, detailText: "", roundVersion: -1, isTermOpen: false, key: "", sending: Promise.resolve()};
 
 function make(name, properties = {}, ...children) {
   const element = document.createElement(name);
@@ -19,8 +19,15 @@ function make(name, properties = {}, ...children) {
   return element;
 }
 
+// One thing after the other: each waits until the one before is done.
 function send(message) {
-  if (state.socket.readyState === WebSocket.OPEN) state.socket.send(JSON.stringify(message));
+  state.sending = state.sending.then(async () => {
+    try {
+      await fetch(`do/${state.key}`, {method: "POST", body: JSON.stringify(message)});
+    } catch {
+      lose("The page's program has ended");
+    }
+  });
 }
 
 function say(text) { by("live").textContent = text; }
@@ -397,6 +404,7 @@ function drawWork(told) {
 // Messages of the hub.
 
 const takes = {
+  window(told) { state.key = told.key; },
   hello(told) {
     nodes.clear();
     open.clear();
@@ -447,12 +455,15 @@ function lose(text) {
 function begin() {
   by("tree").addEventListener("keydown", treeKey);
   by("tree").addEventListener("click", treeClick);
-  state.socket = new WebSocket(`${location.href.replace(/^http/, "ws").replace(/[?#].*/, "")}socket`);
-  state.socket.addEventListener("message", (event) => {
+  const events = new EventSource("events");
+  events.addEventListener("message", (event) => {
     const told = JSON.parse(event.data);
     takes[told.kind](told);
   });
-  state.socket.addEventListener("close", () => lose("The page's program has ended"));
+  events.addEventListener("error", () => {
+    events.close();
+    lose("The page's program has ended");
+  });
 }
 
 begin();
