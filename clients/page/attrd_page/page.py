@@ -2,9 +2,10 @@
 from __future__ import annotations
 
 import asyncio
+from collections import deque
 from contextlib import suppress
 from pathlib import Path as FilePath
-from typing import Any, Callable, Dict, List, Optional, Sequence, Set
+from typing import Any, Callable, Deque, List, Optional, Sequence, Set
 
 from attrd import Grammar, ProtocolFault, write_term
 from attrd.declarations import Attribute, attributes_of
@@ -16,6 +17,9 @@ from .hub import Hub, Member
 from .mirror import Astray, Change, Mirror
 from .views import Json
 from .window import Window
+
+# How many edits a window that comes later is told.
+EDITS = 100
 
 
 class Page:
@@ -30,6 +34,7 @@ class Page:
         self.names = [FilePath(it).name for it in files]
         self.mirror: Mirror
         self.windows: Set[Window] = set()
+        self.edits: Deque[Json] = deque(maxlen=EDITS)
         self._count = 0
         self._member = hub.member()
         self._is_astray = True
@@ -109,10 +114,17 @@ class Page:
             return
         items = {it.number for it in change.items}
         above = {it.above.number for it in change.items if it.above is not None}
+        self._note(member, version, change)
         for window in list(self.windows):
-            window.edited(items | above, change.became, self._edited(window, member, version, change))
+            window.edited(items | above, change, self._edited(window, member, version, change), window.member is member)
         if copy is not None:
             self._count_work(work.Copy(version, copy.term, copy.marks, copy.questions, change.line))
+
+    def _note(self, member: Optional[Member], version: int, change: Change) -> None:
+        """Notes an edit, for windows that come later."""
+        by = next((it.number for it in self.windows if it.member is member), None)
+        who = f"window {by}" if by is not None else "another client"
+        self.edits.append({"kind": "edited", "version": version, "line": change.line[:200], "by": who})
 
     def _edited(self, window: Window, member: Optional[Member], version: int, change: Change) -> Json:
         by = next((it.number for it in self.windows if it.member is member), None)

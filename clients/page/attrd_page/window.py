@@ -3,16 +3,16 @@ from __future__ import annotations
 
 import asyncio
 import time
-from typing import TYPE_CHECKING, Any, Callable, Dict, List, Optional, Set, Tuple
+from typing import TYPE_CHECKING, Any, Callable, Dict, List, Optional, Set
 
 from attrd import AttrdError, Node, Path, SyntaxFault, TermFault, commands
 from attrd.grammar import Part, Shape, token_fault
 from attrd.replies import Code, Ok, RefusedReply, Reply
 from attrd.terms import read_term
 
-from .mirror import Item
+from .mirror import Change, Inverse, Item
 from .probes import Probes, Round
-from .views import Json, brief, detail, view
+from .views import Json, attributes_of, brief, detail, view
 
 if TYPE_CHECKING:
     from .page import Page
@@ -31,21 +31,28 @@ class Window:
     def __init__(self, page: Page, number: int, tell: Callable[[Json], None]) -> None:
         self.page, self.number, self.tell = page, number, tell
         self.member = page.hub.member(on_lost=self._lost)
-        self.probes = Probes(page.hub, self.member, page.mirror)
+        self.probes = Probes(page.hub, self.member, page.mirror, self._plain)
         self.opened: Dict[int, int] = {}
         self.selected: Optional[int] = None
         self._round: Optional[asyncio.Task[None]] = None
         self._is_due = False
         self._doing: Dict[str, Callable[[Json], Any]] = {
             "open": self._open, "close": self._close, "more": self._more, "select": self._select, "reveal": self._reveal,
-            "probe": self._probe, "unprobe": self._unprobe, "edit": self._edit}
+            "probe": self._probe, "unprobe": self._unprobe, "edit": self._edit,
+            "undo": self._undo, "survey": self._survey}
+        self._undone: List[Inverse] = []
+        self._taking_back: Optional[Inverse] = None
 
-    def greet(self) -> None:
-        """Tells the tree's first rows."""
+    def _plain(self, name: str) -> List[str]:
+        return [it.name for it in attributes_of(self.page.grammar, name, self.page.attributes) if not it.parameters]
+
+    def greet(self, is_new: bool = True) -> None:
+        """Tells the tree's first rows; of a new window the browser asks for the probes that its address has."""
         self._open_first()
         page = self.page
-        self.tell({"kind": "hello", "window": self.number, "files": page.names, "version": page.hub.version,
-                   "root": page.mirror.root.number, "rootNode": brief(page.mirror, page.mirror.root), "nodes": self._views(self.opened)})
+        self.tell({"kind": "hello", "isNew": is_new, "window": self.number, "files": page.names, "version": page.hub.version,
+                   "root": page.mirror.root.number, "rootNode": brief(page.mirror, page.mirror.root), "nodes": self._views(self.opened),
+                   "edits": list(page.edits)})
 
     def _open_first(self) -> None:
         left, rows = [self.page.mirror.root], 0
@@ -119,7 +126,8 @@ class Window:
         self._tell_detail()
 
     async def _probe(self, message: Json) -> None:
-        item, name = self._item(message["id"]), str(message["attribute"])
+        item = self._item(message["id"]) if "id" in message else self.page.mirror.at(Path.read(message["path"]))
+        name = str(message["attribute"])
         known = next((it for it in self.page.attributes if it.name == name and self.page.grammar.is_below(item.name, it.of)), None)
         if known is None:
             raise Asked(f"{item.name} has no attribute {name}")
@@ -127,7 +135,14 @@ class Window:
         if len(given) != len(known.parameters):
             raise Asked(f"{name} has {len(known.parameters)} parameters")
         arguments = [str(text) if kind == "String" else self._node_argument(str(text)) for kind, text in zip(known.parameters, given)]
-        await self.probes.add(item, name, arguments)
+        await self.probes.add(item, name, arguments, [commands.name_text(it) for it in message.get("then") or []])
+        self.ask_again()
+
+    def _survey(self, message: Json) -> None:
+        of, name = self.page.grammar.class_named(str(message["of"])).name, str(message["attribute"])
+        if name not in self._plain(of):
+            raise Asked(f"{of} has no attribute {name} without parameters")
+        self.probes.survey(of, name)
         self.ask_again()
 
     def _node_argument(self, text: str) -> Optional[Item]:
@@ -140,9 +155,27 @@ class Window:
 
     async def _edit(self, message: Json) -> None:
         """Sends an edit of a node, wherever the node is by then."""
+        await self._send_edit(lambda: self._command(message))
+
+    async def _undo(self, message: Json) -> None:
+        """Takes the last edit of this window back that isn't taken back yet."""
+        if not self._undone:
+            raise Asked("there is no edit of this window to take back")
+        inverse = self._taking_back = self._undone.pop()
+        try:
+            await self._send_edit(lambda: self.page.mirror.inverse_command(inverse))
+        finally:
+            self._taking_back = None
+            self._tell_undo()
+
+    def _tell_undo(self) -> None:
+        self.tell({"kind": "undo", "edits": len(self._undone)})
+
+    async def _send_edit(self, spelled: Callable[[], str]) -> None:
+        """Sends the line of an edit, spelled anew where another client was faster. Raises Asked where it is refused."""
         start = time.perf_counter()
         for _ in range(TRIES):
-            command = self._command(message)
+            command = spelled()
             reply: Reply = await self.member.reply(f"at {self.page.hub.version} {command}")
             if not (isinstance(reply, RefusedReply) and reply.code is Code.STALE):
                 break
@@ -183,12 +216,15 @@ class Window:
             raise Asked(f"the term doesn't fit: {fault}") from None
         return term
 
-    def edited(self, items: Set[int], became: Optional[Tuple[int, int]], told: Json) -> None:
+    def edited(self, items: Set[int], change: Change, told: Json, is_own: bool) -> None:
         """An edit was accepted, of whichever client: the rows that changed, and then the probes.
 
-        What was open or selected and was replaced is so no less in its new form.
+        What was open or selected and was replaced is so no less in its new form. An edit of this window can be taken back.
         """
-        known = self.page.mirror.items
+        known, became = self.page.mirror.items, change.became
+        if is_own and self._taking_back is None:
+            self._undone.append(change.inverse)
+            self._tell_undo()
         if became is not None:
             old, new = became
             items = items | {new}
@@ -207,7 +243,7 @@ class Window:
         """The tree was asked for as a whole: all nodes have other numbers."""
         self.opened.clear()
         self.selected = None
-        self.greet()
+        self.greet(False)
         self.ask_again()
 
     def ask_again(self) -> None:
@@ -226,7 +262,7 @@ class Window:
                     self.tell({"kind": "refused", "text": str(fault)})
 
     def _tell_round(self, told: Round) -> None:
-        self.tell({"kind": "probes", "version": told.version, "milliseconds": told.seconds * 1000, "asked": len(self.probes.probes),
+        self.tell({"kind": "probes", "version": told.version, "milliseconds": told.seconds * 1000, "asked": len(self.probes.probes) + len(self.probes.surveys),
                    "probes": told.probes})
 
     def _lost(self) -> None:

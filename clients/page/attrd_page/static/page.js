@@ -6,7 +6,8 @@ const nodes = new Map();      // number of a node -> the rows below it, of those
 const rows = new Map();       // number of a node -> its row
 const probes = new Map();     // number of a probe -> its card
 const open = new Set();
-const state = {rootNode: null, focus: 0, at: 0, detail: null, detailText: "", roundVersion: -1, isTermOpen: false, key: "", sending: Promise.resolve()};
+const state = {rootNode: null, focus: 0, at: 0, detail: null, detailText: "", roundVersion: -1, isTermOpen: false, key: "", tried: "", sending: Promise.resolve()};
+const specs = new Map();      // number of a probe -> what makes it again
 
 function make(name, properties = {}, ...children) {
   const element = document.createElement(name);
@@ -32,7 +33,25 @@ function send(message) {
 
 function say(text) { by("live").textContent = text; }
 
-function fault(text) { by("fault").textContent = text ? `Refused: ${text}` : ""; }
+// A refusal is told beside what was tried: behind its form, in its card, or below the path of the node.
+function fault(text) {
+  by("fault").textContent = text ? `Refused: ${text}` : "";
+  placeFault();
+  if (text) by("fault").scrollIntoView({block: "nearest"});
+}
+
+function placeFault() {
+  const tried = state.tried && document.querySelector(`[data-tried="${CSS.escape(state.tried)}"]`);
+  const where = by("node").querySelector(".where");
+  if (tried) (tried.closest("details:not([open])") || tried).after(by("fault"));
+  else if (where) where.after(by("fault"));
+  else by("node").after(by("fault"));
+}
+
+function trying(what) {
+  state.tried = what;
+  fault("");
+}
 
 const milliseconds = (value) => `${value < 10 ? value.toFixed(1) : Math.round(value)} ms`;
 const named = (node) => node.label ? `${node.class} ${node.label}` : node.class;
@@ -140,7 +159,6 @@ function focusRow(id, isMoved) {
   const row = rows.get(id);
   if (row && isMoved) row.focus();
   if (row) row.scrollIntoView({block: "nearest"});
-  fault("");
   send({do: "select", id});
 }
 
@@ -208,7 +226,9 @@ function drawDetail(detail) {
   if (text === state.detailText) return;
   state.detailText = text;
   const kept = keptFields(detail);
+  if (!detail || !state.detail || detail.id !== state.detail.id) trying("");
   state.detail = detail;
+  by("node").after(by("fault"));
   if (!detail) {
     by("node").replaceChildren(make("p", {className: "empty"}, "Select a node in the tree."));
     return;
@@ -218,6 +238,7 @@ function drawDetail(detail) {
     ...detail.cells.filter((it) => it.shape === "token").map((it) => tokenForm(detail, it)),
     ...detail.cells.filter((it) => it.shape === "list" || (it.shape === "optional" && !it.filled)).map((it) => newForm(detail, it)),
     ...buttons(detail), termForm(detail), attributeList(detail));
+  placeFault();
   const details = by("node").querySelector("details");
   if (details) details.open = state.isTermOpen;
   for (const {key, value, hasFocus, range} of kept) {
@@ -239,8 +260,8 @@ function keptFields(detail) {
   });
 }
 
-function form(action, ...children) {
-  return make("form", {className: "line", onsubmit: (event) => { event.preventDefault(); fault(""); action(); }}, ...children);
+function form(name, action, ...children) {
+  return make("form", {className: "line", "data-tried": name, onsubmit: (event) => { event.preventDefault(); trying(name); action(); }}, ...children);
 }
 
 function labelled(text, control) { return make("label", {}, make("span", {}, text), control); }
@@ -252,7 +273,7 @@ function tokenForm(detail, cell) {
     : make("input", {type: "text", value: cell.value, spellcheck: false, autocomplete: "off", inputMode: cell.kind === "int" ? "numeric" : "text"});
   control.dataset.field = field;
   control.dataset.told = cell.value;
-  return form(() => send({do: "edit", edit: "token", id: detail.id, part: cell.name, value: control.value}),
+  return form(field, () => send({do: "edit", edit: "token", id: detail.id, part: cell.name, value: control.value}),
     labelled(`${cell.name} (${cell.kind})`, control), make("button", {type: "submit"}, "Change"));
 }
 
@@ -267,20 +288,20 @@ function newForm(detail, cell) {
   const act = () => cell.shape === "list"
     ? send({do: "edit", edit: "insert", id: detail.id, part: cell.name, index: Number(index.value), term: term.value})
     : send({do: "edit", edit: "put", id: detail.id, part: cell.name, term: term.value});
-  return form(act, labelled(`${cell.name} (${cell.shape === "list" ? `list of ${cell.count}` : "empty"})`, choice),
+  return form(`new ${cell.name}`, act, labelled(`${cell.name} (${cell.shape === "list" ? `list of ${cell.count}` : "empty"})`, choice),
     labelled("term", term), index ? labelled("at", index) : null,
     make("button", {type: "submit"}, cell.shape === "list" ? "Insert" : "Fill"));
 }
 
 function buttons(detail) {
   const found = [];
-  const add = (text, action, isOff) => found.push(make("button", {type: "button", disabled: isOff, "data-field": text, onclick: () => { fault(""); action(); }}, text));
+  const add = (text, action, isOff) => found.push(make("button", {type: "button", disabled: isOff, "data-field": text, onclick: () => { trying("buttons"); action(); }}, text));
   if (detail.canDrop) add("Remove", () => send({do: "edit", edit: "drop", id: detail.id}), false);
   if (detail.index !== null) {
     add("Move up", () => moveInList(-1), detail.index === 0);
     add("Move down", () => moveInList(1), detail.index === detail.count - 1);
   }
-  return found.length ? [make("p", {className: "buttons"}, ...found)] : [];
+  return found.length ? [make("p", {className: "buttons", "data-tried": "buttons"}, ...found)] : [];
 }
 
 function termForm(detail) {
@@ -290,7 +311,7 @@ function termForm(detail) {
   return make("details", {ontoggle: (event) => { state.isTermOpen = event.target.open; }},
     make("summary", {"data-field": "summary"}, "Its term"),
     detail.term === null ? make("p", {className: "empty"}, "The term is long, and isn't shown.") : null,
-    form(() => send({do: "edit", edit: "set", id: detail.id, term: term.value}), labelled("term", term), make("button", {type: "submit"}, "Replace")));
+    form("term", () => send({do: "edit", edit: "set", id: detail.id, term: term.value}), labelled("term", term), make("button", {type: "submit"}, "Replace")));
 }
 
 function attributeList(detail) {
@@ -304,8 +325,10 @@ function attributeForm(detail, it) {
     spellcheck: false, autocomplete: "off", "data-field": `argument ${it.name} ${at}`, "data-told": ""}));
   const told = [it.kind, it.inherited ? "inherited" : "", it.lazy ? "lazy" : ""].filter((word) => word).join(", ");
   const act = () => send({do: "probe", id: detail.id, attribute: it.name, arguments: fields.map((field) => field.value)});
-  const line = form(act, make("button", {type: "submit", "data-field": `probe ${it.name}`, "aria-label": `Probe ${it.name}`}, "Probe"),
-    make("code", {}, `${it.name}(${it.parameters.join(", ")})`), make("span", {className: "kind"}, told), ...fields);
+  const line = form(`probe ${it.name}`, act, make("button", {type: "submit", "data-field": `probe ${it.name}`, "aria-label": `Probe ${it.name}`}, "Probe"),
+    make("code", {}, `${it.name}(${it.parameters.join(", ")})`), make("span", {className: "kind"}, told), ...fields,
+    fields.length ? null : make("button", {type: "button", className: "survey", "data-field": `survey ${it.name}`, "aria-label": `Ask ${it.name} of all nodes of a class`,
+      onclick: () => { trying(`probe ${it.name}`); send({do: "survey", of: it.of, attribute: it.name}); }}, `All ${it.of}`));
   line.className = "attribute";
   return line;
 }
@@ -318,13 +341,27 @@ function link(node) {
     make("code", {}, node.path));
 }
 
-const SIGNS = {value: "=", node: "→", fault: "!", circular: "↻", gone: "×", refused: "!"};
+const SIGNS = {survey: "Σ", value: "=", node: "→", fault: "!", circular: "↻", gone: "×", refused: "!"};
 
 function answerOf(it) {
   const sign = make("span", {className: "sign", "aria-hidden": "true"}, SIGNS[it.kind]);
-  if (it.kind === "node") return [sign, link(it.link)];
+  if (it.kind === "node") return [sign, link(it.link), ...askResult(it)];
   const told = [sign, make("span", {className: "text"}, it.value)];
   return it.link ? [...told, make("span", {className: "in"}, ` in ${it.in}() of `), link(it.link)] : told;
+}
+
+// What may be asked of the node that a probe has for a result: another probe, which follows whatever the result is then.
+function askResult(it) {
+  if (!it.spec || !it.attributes || !it.attributes.length) return [];
+  const choice = make("select", {"aria-label": `Attribute of the result of ${it.attribute}`}, ...it.attributes.map((name) => make("option", {}, name)));
+  const act = () => send({do: "probe", ...it.spec, then: [...it.spec.then, choice.value]});
+  return [make("form", {className: "then", onsubmit: (event) => { event.preventDefault(); trying(`card ${it.probe}`); act(); }}, choice,
+    make("button", {type: "submit", "aria-label": `Probe the result of ${it.attribute}`}, "Probe its"))];
+}
+
+function rowsOf(it) {
+  if (!it.rows) return [];
+  return [make("ul", {className: "rows"}, ...it.rows.map((row) => make("li", {}, link(row.node), make("code", {}, row.value))))];
 }
 
 function drawProbe(it) {
@@ -339,12 +376,13 @@ function drawProbe(it) {
   card.dataset.kind = it.kind;
   card.dataset.probe = it.probe;
   const isChanged = Object.hasOwn(it, "before");
-  const name = `${it.attribute}${it.node ? ` of ${named(it.node)}` : ""}`;
+  const name = `${it.attribute}${it.of ? ` of all ${it.of}` : it.node ? ` of ${named(it.node)}` : ""}`;
+  if (it.spec) specs.set(it.probe, it.spec);
   card.replaceChildren(
     make("div", {className: "head"}, make("code", {className: "attribute-name"}, it.attribute), " of ",
-      it.node && it.kind !== "gone" ? link(it.node) : make("span", {className: "label"}, it.node ? named(it.node) : "a node"),
+      it.node && it.kind !== "gone" ? link(it.node) : make("span", {className: "label"}, it.of ? `all ${it.of}` : it.node ? named(it.node) : "a node"),
       make("button", {type: "button", className: "close", "aria-label": `Remove the probe ${name}`, onclick: () => removeProbe(it.probe)}, "Remove")),
-    make("div", {className: "answer"}, ...answerOf(it)),
+    make("div", {className: "answer", "data-tried": `card ${it.probe}`}, ...answerOf(it)), ...rowsOf(it),
     make("p", {className: "change"}, isChanged ? `changed, was ${it.before}` : ""));
   card.classList.toggle("changed", isChanged);
   if (had !== null) (card.querySelector(`.${had.split(" ")[0]}`) || card).focus();
@@ -371,11 +409,31 @@ function drawRound(told) {
   }
   state.roundVersion = told.version;
   const said = told.probes.map(drawProbe).filter((it) => it);
+  remember();
   if (said.length) say(said.length > 4 ? `${said.length} probes changed` : said.join(". "));
   const changed = told.probes.filter((it) => Object.hasOwn(it, "before")).length;
   by("round").textContent = told.asked ? `${told.asked} asked at version ${told.version}, in ${milliseconds(told.milliseconds)}` : "";
   const entry = by("edits").querySelector(`[data-version="${told.version}"] .round`);
   if (entry && told.asked) entry.textContent = `${changed} of ${told.asked} probes changed, ${milliseconds(told.milliseconds)}`;
+}
+
+// The address has the probes, so that they are there again when the page is loaded anew.
+
+function remember() {
+  const kept = [...probes.keys()].map((it) => specs.get(it)).filter((it) => it);
+  history.replaceState(null, "", kept.length ? `#${encodeURIComponent(JSON.stringify(kept))}` : location.pathname);
+}
+
+function askRemembered() {
+  let kept = [];
+  try {
+    kept = JSON.parse(decodeURIComponent(location.hash.slice(1)) || "[]");
+  } catch {
+    fault("the address has no probes that can be read");
+  }
+  for (const it of Array.isArray(kept) ? kept : []) {
+    send(it.survey ? {do: "survey", of: it.survey, attribute: it.attribute} : {do: "probe", ...it});
+  }
 }
 
 // Edits.
@@ -408,6 +466,14 @@ const takes = {
   hello(told) {
     nodes.clear();
     open.clear();
+    if (told.isNew) {
+      for (const card of probes.values()) card.remove();
+      probes.clear();
+      by("edits").replaceChildren();
+      for (const it of told.edits) drawEdit(it);
+      by("undo").disabled = true;
+      state.focus = 0;
+    }
     take(told.nodes);
     for (const it of told.nodes) open.add(it.id);
     state.rootNode = told.rootNode;
@@ -417,6 +483,7 @@ const takes = {
     by("version").textContent = `version ${told.version}`;
     drawTree();
     send({do: "select", id: state.focus});
+    if (told.isNew) askRemembered();
   },
   nodes(told) {
     take(told.nodes);
@@ -438,10 +505,16 @@ const takes = {
     const card = probes.get(told.probe);
     if (card) card.remove();
     probes.delete(told.probe);
+    specs.delete(told.probe);
+    remember();
     by("no-probes").hidden = probes.size > 0;
   },
   accepted() { fault(""); },
   refused(told) { fault(told.text); },
+  undo(told) {
+    by("undo").disabled = told.edits === 0;
+    by("undo").textContent = told.edits ? `Undo (${told.edits})` : "Undo";
+  },
   work(told) { drawWork(told); },
   clients(told) { by("clients").textContent = told.clients === 1 ? "1 client" : `${told.clients} clients`; },
   lost(told) { lose(told.text); },
@@ -452,7 +525,21 @@ function lose(text) {
   if (!by("lost").textContent) by("lost").textContent = `${text}. Start the page again.`;
 }
 
+function undo() {
+  trying("undo");
+  send({do: "undo"});
+}
+
+function undoKey(event) {
+  const isTyping = ["INPUT", "TEXTAREA", "SELECT"].includes(event.target.tagName);
+  if (event.key !== "z" || !(event.ctrlKey || event.metaKey) || isTyping || by("undo").disabled) return;
+  event.preventDefault();
+  undo();
+}
+
 function begin() {
+  by("undo").addEventListener("click", undo);
+  document.addEventListener("keydown", undoKey);
   by("tree").addEventListener("keydown", treeKey);
   by("tree").addEventListener("click", treeClick);
   const events = new EventSource("events");
