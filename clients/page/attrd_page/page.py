@@ -8,6 +8,7 @@ from pathlib import Path as FilePath
 from typing import Any, Callable, Deque, List, Optional, Sequence, Set
 
 from attrd import Grammar, ProtocolFault, write_term
+from attrd.authoring import Source, Specification
 from attrd.declarations import Attribute, attributes_of
 from attrd.grammar import read_file
 from attrd.terms import read_term
@@ -29,8 +30,9 @@ class Page:
         """`files` are the grammar, the tree and the aspects; `program` counts the work, if it is there. Raises AttrdError."""
         self.hub, self.files, self.program = hub, list(files), program
         self.grammar = Grammar.load(files[0])
-        self.attributes: List[Attribute] = [
-            it for name in files[2:] for it in attributes_of(read_file(name).decode("utf-8", "replace"))]
+        sources = [Source(FilePath(name).name, read_file(name).decode("utf-8", "replace")) for name in (files[0], *files[2:])]
+        self.specification = Specification(sources[0], sources[1:])
+        self.attributes: List[Attribute] = [it for source in sources[1:] for it in attributes_of(source.text)]
         self.names = [FilePath(it).name for it in files]
         self.mirror: Mirror
         self.windows: Set[Window] = set()

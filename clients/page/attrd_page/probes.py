@@ -124,7 +124,7 @@ class Probes:
                 return
             probe, node = asked[index // 2], nodes[-1]
             shown.append({"probe": probe.number, "attribute": self._spelled(probe), "node": node, **self._answer(node, reply),
-                          "spec": self._spec(probe, node)})
+                          "spec": self._spec(probe, node), "instance": self._instance(probe, node)})
             if probe.then and node is not None and isinstance(reply, Value) and isinstance(reply.value, Path):
                 results[probe.number] = reply.value
             elif probe.then:
@@ -151,6 +151,7 @@ class Probes:
                     shown[number].update({} if probe is None else probe.shown)
                     continue
                 shown[number].update(self._answer(self._node(path), reply))
+                shown[number]["instance"] = f"{path} {probe.then[level]}()"
                 if level + 1 < len(probe.then):
                     if isinstance(reply, Value) and isinstance(reply.value, Path):
                         results_below[number] = reply.value
@@ -174,6 +175,13 @@ class Probes:
             return None
         given = [self._path_of(probe, it) if isinstance(it, FromMark) else "null" if it is None else it for it in probe.arguments]
         return {"path": node["path"], "attribute": probe.attribute, "arguments": given, "then": list(probe.then)}
+
+    def _instance(self, probe: Probe, node: Optional[Json]) -> Optional[str]:
+        """What a probe asks, by paths: what is told of why its value is what it is is asked by that."""
+        if node is None:
+            return None
+        given = [self._path_of(probe, it) if isinstance(it, FromMark) else commands.argument_text(it) for it in probe.arguments]
+        return f"{node['path']} {probe.attribute}({','.join(given)})"
 
     def _changed(self, probe: Union[Probe, Survey], shown: Json) -> Optional[Json]:
         """What the window has to show of a probe, where it is something else than before."""

@@ -9,7 +9,9 @@ from attrd import AttrdError, Node, Path, SyntaxFault, TermFault, commands
 from attrd.grammar import Part, Shape, token_fault
 from attrd.replies import Code, Ok, RefusedReply, Reply
 from attrd.terms import read_term
+from attrd.why import read_instance
 
+from .explaining import explained
 from .mirror import Change, Inverse, Item
 from .probes import Probes, Round
 from .views import Json, attributes_of, brief, detail, view
@@ -39,7 +41,7 @@ class Window:
         self._doing: Dict[str, Callable[[Json], Any]] = {
             "open": self._open, "close": self._close, "more": self._more, "select": self._select, "reveal": self._reveal,
             "probe": self._probe, "unprobe": self._unprobe, "edit": self._edit,
-            "undo": self._undo, "survey": self._survey}
+            "undo": self._undo, "survey": self._survey, "why": self._why}
         self._undone: List[Inverse] = []
         self._taking_back: Optional[Inverse] = None
 
@@ -137,6 +139,12 @@ class Window:
         arguments = [str(text) if kind == "String" else self._node_argument(str(text)) for kind, text in zip(known.parameters, given)]
         await self.probes.add(item, name, arguments, [commands.name_text(it) for it in message.get("then") or []])
         self.ask_again()
+
+    async def _why(self, message: Json) -> None:
+        """Tells where the value of an instance comes from; `to` says to the browser what had asked."""
+        mirror, hub = self.page.mirror, self.page.hub
+        told = await explained(self.member, self.page.specification, mirror.term(mirror.root), hub.version, read_instance(str(message["instance"])))
+        self.tell({**told, "to": message.get("to")})
 
     def _survey(self, message: Json) -> None:
         of, name = self.page.grammar.class_named(str(message["of"])).name, str(message["attribute"])

@@ -210,6 +210,17 @@ class Windows(unittest.TestCase):
         self.client.ask("0 drop /Kind:2/Field:0")
         self.shows(tab, "[data-probe='2']", "null, so there is no kind()")
 
+    def test_why_a_value_is_what_it_is(self) -> None:
+        tab = self.window()
+        card = self.probe(tab, "/Kind:3/Block/Stmt:1/Expr", "kind")
+        self.shows(tab, card, "/Kind:0")
+        tab.value(f"document.querySelector({json.dumps(card + ' .ask-why')}).click()")
+        self.shows(tab, f"{card} .why", "Name.kind() = decl() != null ? decl().kind() : null", "types.jrag:11", "decl() = /Kind:3/Block/Stmt:0")
+        tab.value(f"document.querySelectorAll({json.dumps(card + ' .why .ask-why')})[1].click()")
+        self.shows(tab, f"{card} .why .why + li, {card} .why li:nth-child(2) .why", "Decl.kind()", "getInit().kind() = /Kind:0")
+        tab.value(f"document.querySelector({json.dumps(card + ' .ask-why')}).click()")
+        tab.until(f"!document.querySelector({json.dumps(card + ' .why')}).textContent", "it is closed again")
+
     def test_nothing_comes_from_elsewhere(self) -> None:
         tab = self.window()
         names = tab.value("performance.getEntriesByType('resource').map((it) => it.name)")

@@ -364,6 +364,35 @@ function rowsOf(it) {
   return [make("ul", {className: "rows"}, ...it.rows.map((row) => make("li", {}, link(row.node), make("code", {}, row.value))))];
 }
 
+// Why a value is what it is: the equation, and a line for each attribute that it asked, which may be asked about in its turn.
+
+let whyCount = 0;
+
+function whyButton(instance, name) {
+  const place = make("div", {className: "why", "data-why": ++whyCount});
+  const number = whyCount;
+  const ask = () => {
+    if (place.childElementCount) place.replaceChildren();
+    else { trying(`why ${number}`); send({do: "why", instance, to: number}); }
+  };
+  return [make("button", {type: "button", className: "ask-why", "data-tried": `why ${number}`, "aria-label": `Why is ${name} what it is?`, onclick: ask}, "Why?"), place];
+}
+
+function drawWhy(told) {
+  const place = document.querySelector(`[data-why="${told.to}"]`);
+  if (!place) return;
+  const facts = [...(told.at ? [`at ${told.at}`] : []), ...told.bound];
+  place.replaceChildren(
+    make("p", {}, make("code", {}, `${told.head} = ${told.equation}`), " ", make("span", {className: "kind"}, told.place)),
+    ...facts.map((it) => make("p", {className: "kind"}, it)),
+    make("ol", {}, ...told.steps.map((it) => {
+      const [button, below] = whyButton(it.instance, it.text);
+      return make("li", {title: it.instance}, make("code", {}, `${it.text} ${it.answer}`), " ", button, below);
+    })),
+    ...(told.stopped ? [make("p", {className: "stopped"}, told.stopped)] : []));
+  say(`${told.head} = ${told.equation}`);
+}
+
 function drawProbe(it) {
   let card = probes.get(it.probe);
   const isNew = !card;
@@ -383,6 +412,7 @@ function drawProbe(it) {
       it.node && it.kind !== "gone" ? link(it.node) : make("span", {className: "label"}, it.of ? `all ${it.of}` : it.node ? named(it.node) : "a node"),
       make("button", {type: "button", className: "close", "aria-label": `Remove the probe ${name}`, onclick: () => removeProbe(it.probe)}, "Remove")),
     make("div", {className: "answer", "data-tried": `card ${it.probe}`}, ...answerOf(it)), ...rowsOf(it),
+    ...(it.instance && it.kind !== "gone" ? whyButton(it.instance, name) : []),
     make("p", {className: "change"}, isChanged ? `changed, was ${it.before}` : ""));
   card.classList.toggle("changed", isChanged);
   if (had !== null) (card.querySelector(`.${had.split(" ")[0]}`) || card).focus();
@@ -515,6 +545,7 @@ const takes = {
     by("undo").disabled = told.edits === 0;
     by("undo").textContent = told.edits ? `Undo (${told.edits})` : "Undo";
   },
+  why(told) { drawWhy(told); },
   work(told) { drawWork(told); },
   clients(told) { by("clients").textContent = told.clients === 1 ? "1 client" : `${told.clients} clients`; },
   lost(told) { lose(told.text); },
