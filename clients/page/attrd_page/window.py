@@ -5,12 +5,11 @@ import asyncio
 import time
 from typing import TYPE_CHECKING, Any, Callable, Dict, List, Optional, Set
 
-from attrd import AttrdError, Node, Path, SyntaxFault, TermFault, commands
-from attrd.grammar import Part, Shape, token_fault
+from attrd import AttrdError, Path, commands
 from attrd.replies import Code, Ok, RefusedReply, Reply
-from attrd.terms import read_term
 from attrd.why import read_instance
 
+from .editing import Asked, edit_command, item_of
 from .explaining import explained
 from .mirror import Change, Inverse, Item
 from .probes import Probes, Round
@@ -21,10 +20,6 @@ if TYPE_CHECKING:
 
 ROWS, FIRST_ROWS = 200, 40
 TRIES = 8
-
-
-class Asked(AttrdError):
-    """What a window asked for can't be done."""
 
 
 class Window:
@@ -41,7 +36,7 @@ class Window:
         self._doing: Dict[str, Callable[[Json], Any]] = {
             "open": self._open, "close": self._close, "more": self._more, "select": self._select, "reveal": self._reveal,
             "probe": self._probe, "unprobe": self._unprobe, "edit": self._edit,
-            "undo": self._undo, "survey": self._survey, "why": self._why}
+            "undo": self._undo, "survey": self._survey, "why": self._why, "source": self._source}
         self._undone: List[Inverse] = []
         self._taking_back: Optional[Inverse] = None
 
@@ -71,10 +66,7 @@ class Window:
 
     def _item(self, number: Any) -> Item:
         """The node of a number. Raises Asked where it is gone."""
-        item = self.page.mirror.items.get(number) if type(number) is int else None
-        if item is None:
-            raise Asked("that node is gone")
-        return item
+        return item_of(self.page.mirror, number)
 
     async def do(self, message: Json) -> None:
         """Does what a message asks for; what goes wrong is told. Raises ServerLost."""
@@ -140,6 +132,17 @@ class Window:
         await self.probes.add(item, name, arguments, [commands.name_text(it) for it in message.get("then") or []])
         self.ask_again()
 
+    async def _source(self, message: Json) -> None:
+        """Takes another source text, and makes the tree that of the text by few edits."""
+        source = self.page.source
+        if source is None:
+            raise Asked("there is no source text: start the page with --source and --parser")
+        tree = source.take(str(message["text"]))
+        for _ in range(TRIES):
+            if tree is None or await source.send(tree, self.member, self.page.hub, self.page.mirror):
+                break
+        self.page.tell_source(self)
+
     async def _why(self, message: Json) -> None:
         """Tells where the value of an instance comes from; `to` says to the browser what had asked."""
         mirror, hub = self.page.mirror, self.page.hub
@@ -163,7 +166,7 @@ class Window:
 
     async def _edit(self, message: Json) -> None:
         """Sends an edit of a node, wherever the node is by then."""
-        await self._send_edit(lambda: self._command(message))
+        await self._send_edit(lambda: edit_command(self.page.mirror, message))
 
     async def _undo(self, message: Json) -> None:
         """Takes the last edit of this window back that isn't taken back yet."""
@@ -191,38 +194,6 @@ class Window:
             self.tell({"kind": "accepted", "milliseconds": (time.perf_counter() - start) * 1000, "version": reply.version})
         else:
             raise Asked(f"{reply} ({command[:200]})")
-
-    def _command(self, message: Json) -> str:
-        """The line of an edit. Raises Asked and TermFault with the reason where the server would refuse it."""
-        item, what = self._item(message["id"]), message["edit"]
-        mirror, grammar = self.page.mirror, self.page.grammar
-        path = mirror.path(item)
-        if what == "drop":
-            return commands.drop(path)
-        if what == "set":
-            wanted = mirror.part_of(item).kind if item.above is not None else grammar.start
-            return commands.set_node(path, self._term(message, wanted))
-        part = grammar.class_named(item.name).part(str(message["part"]))
-        if part is None:
-            raise Asked(f"{item.name} has no component {message['part']}")
-        if what == "token":
-            return commands.token(path, part.name, _token(part, message["value"]))
-        if what == "put":
-            return commands.put(path, part.name, self._term(message, part.kind))
-        if what == "insert":
-            return commands.insert(path, part.name, int(message["index"]), self._term(message, part.kind))
-        if what == "move":
-            moved = self._item(message["moved"])
-            return commands.move(mirror.path(moved), path, part.name, int(message["index"]))
-        raise Asked(f"there is no edit {what!r}")
-
-    def _term(self, message: Json, wanted: str) -> Node:
-        try:
-            term = read_term(str(message["term"]).strip())
-            self.page.grammar.check(term, wanted)
-        except (SyntaxFault, TermFault) as fault:
-            raise Asked(f"the term doesn't fit: {fault}") from None
-        return term
 
     def edited(self, items: Set[int], change: Change, told: Json, is_own: bool) -> None:
         """An edit was accepted, of whichever client: the rows that changed, and then the probes.
@@ -281,21 +252,3 @@ class Window:
         if self._round is not None:
             self._round.cancel()
         self.member.leave()
-
-
-def _token(part: Part, text: Any) -> Any:
-    """The value of a token that was typed. Raises Asked with the reason where it is none."""
-    value: Any = text
-    if part.shape is not Shape.TOKEN:
-        raise Asked(f"{part.name} is no token")
-    if part.kind == "int":
-        try:
-            value = int(str(text).strip())
-        except ValueError:
-            raise Asked(f"{str(text)!r} is no number") from None
-    elif part.kind == "boolean":
-        value = {"true": True, "false": False}.get(str(text).strip(), text)
-    fault = token_fault(part, value)
-    if fault:
-        raise Asked(fault)
-    return value

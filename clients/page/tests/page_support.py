@@ -9,7 +9,7 @@ import sys
 import tempfile
 import time
 from pathlib import Path
-from typing import Any, Callable, List, Optional
+from typing import Any, Callable, List
 
 from websocket import TEXT, Inbox, accept_key, frame, new_key
 
@@ -90,14 +90,14 @@ class Lines:
 
 
 class Served:
-    """The page and the hub in a process of their own, over the tutorial's files."""
+    """The page and the hub in a process of their own, over the tutorial's files or others."""
 
-    def __init__(self, *words: str) -> None:
+    def __init__(self, *words: str, files: Callable[[Path], List[str]] = write_files) -> None:
         self._folder = tempfile.TemporaryDirectory(prefix="attrd-page-test-")
         self.folder = Path(self._folder.name)
         self.socket = str(self.folder / "hub.sock")
         self.errors = tempfile.TemporaryFile()
-        given = ["--program", program(), "--no-browser", "--listen", self.socket, *words, *write_files(self.folder)]
+        given = ["--program", program(), "--no-browser", "--listen", self.socket, *words, *files(self.folder)]
         self.process = subprocess.Popen(
             [sys.executable, "-m", "attrd_page", *given], stdout=subprocess.PIPE, stderr=self.errors, text=True,
             env={**os.environ, "PYTHONPATH": os.pathsep.join(PYTHONPATH)})

@@ -221,6 +221,25 @@ class Windows(unittest.TestCase):
         tab.value(f"document.querySelector({json.dumps(card + ' .ask-why')}).click()")
         tab.until(f"!document.querySelector({json.dumps(card + ' .why')}).textContent", "it is closed again")
 
+    def test_aspects_that_change_are_taken(self) -> None:
+        tab = self.window()
+        card = self.probe(tab, "/Kind:2/Block/Stmt:0/Init/Left", "error")
+        self.client.ask('0 token /Kind:2/Block/Stmt:0/Init/Left ID "q"')
+        self.shows(tab, card, "no declaration of q")
+        file = self.served.folder / "errors.jrag"
+        text = file.read_text("utf-8")
+        file.write_text(text.replace('"no declaration of "', '"there is no "'), "utf-8")
+        self.shows(tab, "[data-probe='1']", "there is no q")
+        file.write_text(text.replace("getID();", "getId();"), "utf-8")
+        self.shows(tab, "#refused-file", "A file was changed, and isn't taken", "errors.jrag:", "J3 unknown name")
+        self.shows(tab, "[data-probe='1']", "there is no q")
+        file.write_text(text, "utf-8")
+        self.shows(tab, "[data-probe='1']", "no declaration of q")
+        tab.until("document.getElementById('refused-file').hidden", "the refusal goes")
+        again = self.served.client()
+        self.addCleanup(again.close)
+        self.assertIn('Name("q")', again.ask("0 show /"))
+
     def test_nothing_comes_from_elsewhere(self) -> None:
         tab = self.window()
         names = tab.value("performance.getEntriesByType('resource').map((it) => it.name)")

@@ -6,7 +6,7 @@ const nodes = new Map();      // number of a node -> the rows below it, of those
 const rows = new Map();       // number of a node -> its row
 const probes = new Map();     // number of a probe -> its card
 const open = new Set();
-const state = {rootNode: null, focus: 0, at: 0, detail: null, detailText: "", roundVersion: -1, isTermOpen: false, key: "", tried: "", sending: Promise.resolve()};
+const state = {rootNode: null, focus: 0, at: 0, detail: null, detailText: "", roundVersion: -1, isTermOpen: false, key: "", tried: "", isFromSource: false, sending: Promise.resolve()};
 const specs = new Map();      // number of a probe -> what makes it again
 
 function make(name, properties = {}, ...children) {
@@ -159,6 +159,7 @@ function focusRow(id, isMoved) {
   const row = rows.get(id);
   if (row && isMoved) row.focus();
   if (row) row.scrollIntoView({block: "nearest"});
+  tellPlace();
   send({do: "select", id});
 }
 
@@ -333,6 +334,40 @@ function attributeForm(detail, it) {
   return line;
 }
 
+// The source text: the cursor selects the node that stands there, and what is typed goes to the tree.
+
+const source = {places: [], isCurrent: false, fault: "", timer: 0, typed: ""};
+const TYPING_MILLISECONDS = 250;
+
+function drawSource(told) {
+  by("source").hidden = false;
+  if (told.text !== null) by("source-text").value = told.text;
+  Object.assign(source, {places: told.places, isCurrent: told.isCurrent, fault: told.fault});
+  source.typed = by("source-text").value;
+  tellPlace();
+}
+
+function tellPlace() {
+  const place = source.places.find(([id]) => id === state.focus);
+  const text = place ? by("source-text").value.slice(place[1], place[2]).trim().split("\n")[0].slice(0, 80) : "";
+  by("source-state").textContent = source.fault ? `This can't be read: ${source.fault}`
+    : !source.isCurrent ? "The tree was edited, and is that of this text no more, until the text is changed."
+    : text ? `The selected node: ${text}` : "The selected node stands nowhere in the text.";
+}
+
+function sourceCursor() {
+  const at = by("source-text").selectionStart;
+  const found = source.places.filter(([, start, end]) => start <= at && at <= end).sort((a, b) => (a[2] - a[1]) - (b[2] - b[1]))[0];
+  if (!found || found[0] === state.focus || source.typed !== by("source-text").value) return;
+  state.isFromSource = true;
+  send({do: "reveal", id: found[0]});
+}
+
+function sourceTyped() {
+  clearTimeout(source.timer);
+  source.timer = setTimeout(() => send({do: "source", text: by("source-text").value}), TYPING_MILLISECONDS);
+}
+
 // Probes.
 
 function link(node) {
@@ -497,6 +532,7 @@ const takes = {
     nodes.clear();
     open.clear();
     if (told.isNew) {
+      by("refused-file").hidden = true;
       for (const card of probes.values()) card.remove();
       probes.clear();
       by("edits").replaceChildren();
@@ -519,7 +555,8 @@ const takes = {
     take(told.nodes);
     for (const id of told.above || []) open.add(id);
     drawTree();
-    if (told.reveal) focusRow(told.reveal, true);
+    if (told.reveal) focusRow(told.reveal, !state.isFromSource);
+    state.isFromSource = false;
   },
   edited(told) {
     const isHere = by("tree").contains(document.activeElement) || by("node").contains(document.activeElement);
@@ -545,6 +582,11 @@ const takes = {
     by("undo").disabled = told.edits === 0;
     by("undo").textContent = told.edits ? `Undo (${told.edits})` : "Undo";
   },
+  source(told) { drawSource(told); },
+  files(told) {
+    by("refused-file").hidden = false;
+    by("refused-file").textContent = `A file was changed, and isn't taken; all goes on as it was.\n${told.text}`;
+  },
   why(told) { drawWhy(told); },
   work(told) { drawWork(told); },
   clients(told) { by("clients").textContent = told.clients === 1 ? "1 client" : `${told.clients} clients`; },
@@ -569,6 +611,8 @@ function undoKey(event) {
 }
 
 function begin() {
+  for (const name of ["keyup", "click"]) by("source-text").addEventListener(name, sourceCursor);
+  by("source-text").addEventListener("input", sourceTyped);
   by("undo").addEventListener("click", undo);
   document.addEventListener("keydown", undoKey);
   by("tree").addEventListener("keydown", treeKey);
