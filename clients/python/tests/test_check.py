@@ -1,5 +1,6 @@
 """All faults of a grammar and its aspects at once."""
 import os
+import random
 import re
 import subprocess
 import sys
@@ -8,12 +9,15 @@ import unittest
 from pathlib import Path as FilePath
 
 import attrd
-from attrd.authoring import Source, check
+from attrd.authoring import Source, Specification, check
 from attrd.authoring.patched import Patched
+from attrd.authoring.refusal import Judge
 from support import CALCULATOR, PROGRAM, SAMPLES, page_files, refused_files
 
 GRAMMAR = Source("calc.ast", (CALCULATOR / "calc.ast").read_text())
 CALC = Source("calc.jrag", (CALCULATOR / "calc.jrag").read_text())
+# How many texts are made by chance.
+TEXTS = 40
 # Each line has the faults that are named at its end, and no other.
 BAD = """import java.util.*; //: J10
 aspect Bad {
@@ -104,6 +108,39 @@ class Aspects(unittest.TestCase):
                 self.assertIn((found[1], int(found[2]), int(found[3])), places, text)
             count += 1
         self.assertGreater(count, 30)
+
+
+class Chance(unittest.TestCase):
+    def test_the_first_fault_is_always_among_them(self):
+        """Words of right aspects taken out, doubled and exchanged: what the program tells first is found at its place, and the search ends."""
+        chance = random.Random(3)
+        specification = Specification(GRAMMAR, [])
+        refused = 0
+        for _ in range(TEXTS):
+            text = changed_words(chance, CALC.text)
+            first = Judge(specification.grammar, PROGRAM).refusal([text])
+            findings = bad_check(Source("a.jrag", text)).findings
+            if first is None:
+                self.assertEqual(findings, [], text)
+            else:
+                refused += 1
+                self.assertIn((first.code, first.offset), [(it.code, it.start) for it in findings], text)
+                self.assertLess(len(findings), 60, text)
+        self.assertGreater(refused, TEXTS // 2)
+
+
+def changed_words(chance, text):
+    """A text with a few of its words taken out, others' copies, or new ones."""
+    words = re.findall(r"\w+|\s+|[^\w\s]", text)
+    for _ in range(chance.choice((1, 1, 2, 3, 6))):
+        at, what = chance.randrange(len(words)), chance.random()
+        if what < 0.3:
+            del words[at]
+        elif what < 0.6:
+            words[at] = chance.choice(words)
+        else:
+            words.insert(at, chance.choice([*words, '"', "(", ")", "{", "}", "\u00a7", "int", "circular", "/*"]))
+    return "".join(words)
 
 
 class Grammars(unittest.TestCase):

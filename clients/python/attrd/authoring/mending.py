@@ -55,6 +55,15 @@ class Mending:
         refusal = self._ask(self.patched)
         if refusal is None or refusal.file >= len(self.patched):
             return None
+        before = (self.patched[refusal.file].text, len(self.extra))
+        found = self._mended_refusal(refusal)
+        patched = self.patched[refusal.file]
+        if (patched.text, len(self.extra)) == before:
+            patched.put(0, len(patched.original), "")
+        return found
+
+    def _mended_refusal(self, refusal: Refusal) -> Optional[Refused]:
+        """Mends what is refused; the fault as it stands in the aspects, None where nothing of the file is left."""
         offset = self.patched[refusal.file].original_offset(refusal.offset)
         if refusal.code == "J1" and self._mend_word(refusal.file, offset):
             return Refused(refusal.file, refusal.code, refusal.name, offset, None, None, False)
@@ -75,6 +84,8 @@ class Mending:
         if offset not in [offset_of(patched.original, it.line, it.column) for it in scan.faults]:
             return False
         word = next((it for it in words if it.at <= offset < it.end), None)
+        if word is not None and not patched.is_free(word.at, word.end):
+            return False
         if word is None:
             patched.put(offset, len(patched.original), " ")
         else:
