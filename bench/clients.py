@@ -83,10 +83,14 @@ class Bench:
         self.grammar = Grammar.read(files["small.ast"])
         self.checks = attrd.diagnostics(self.grammar, [files[it] for it in ASPECTS], ["error"])
         self.tree = program(nodes, faults)
+        self.found = []
+        self.open(executable, files)
+
+    def open(self, executable, files):
+        """Starts a server over the tree, and opens its document."""
         self.server = attrd.start(attrd.Text("small.ast", files["small.ast"]), self.tree, *[attrd.Text(it, files[it]) for it in ASPECTS],
                                   self.checks.aspect, program=executable)
         self.document = Document(self.server.session(), self.grammar)
-        self.found = []
 
     def processor(self):
         """The server's processor time so far, in milliseconds."""
@@ -147,6 +151,21 @@ class Stroke(NamedTuple):
 
 def middle(numbers):
     return statistics.median(numbers)
+
+
+def openings(executable, files, sizes):
+    """A server is started over a tree that the client has, and its document is opened; the same by reading the tree back."""
+    table("Nodes", "Opening: start and document", "The client's share", "With the tree read back", "The client's share", "Client against reading back")
+    for nodes in sizes:
+        bench = Bench(executable, files, nodes)
+        bench.server.close()
+        spent, _ = bench.timed(lambda: bench.open(executable, files))
+        reading, _ = bench.timed(bench.document.refresh)
+        checking, _ = bench.timed(lambda: bench.grammar.check(bench.tree))
+        client = spent.client + reading.client - checking.client
+        row(f"{bench.tree.size:,}", ms(spent.clock), ms(spent.client), ms(spent.clock + reading.clock - checking.clock), ms(client),
+            ratio(spent.client, client))
+        bench.server.close()
 
 
 def keystrokes(executable, files, sizes):
@@ -214,6 +233,7 @@ def lines(executable, files):
 def main(words):
     executable = program_in(words, __doc__)
     sizes, files = numbers_in(words[1:], (1000, 5000, 50_000), __doc__), tutorial()
+    openings(executable, files, sizes)
     keystrokes(executable, files, sizes)
     edits_of_changes(executable, files)
     lines(executable, files)

@@ -10,12 +10,10 @@ import webbrowser
 from contextlib import suppress
 from typing import Any, List, Optional
 
-from attrd import KEPT, AttrdError, StartFault, explain, known_options, lasting_options
+from attrd import KEPT, AttrdError, StartFault, explain
 
 from .front import listen
-from .hub import Hub
-from .page import Page
-from .upstream import Upstream, connect, start_program
+from .running import Running, Watched
 from .web import Web
 
 
@@ -32,83 +30,110 @@ def options(words: Optional[List[str]] = None) -> argparse.Namespace:
     reader.add_argument("--connect", metavar="SOCKET", help="takes the program that runs at this socket already, over these files")
     reader.add_argument("--listen", metavar="SOCKET", help="has other clients speak the server's protocol at this socket, all at once")
     reader.add_argument("--port", type=int, default=0, help="the page's port at 127.0.0.1 (a random one, where none is given)")
+    reader.add_argument("--source", metavar="FILE", help="a source text, which is shown beside the tree, and can be edited; the tree follows it")
+    reader.add_argument("--parser", metavar="FILE.py[:FUNCTION]", help="the function that reads such a text: it gives the tree and the places of nodes")
     reader.add_argument("--no-browser", action="store_true", help="tells the page's address, and opens no browser")
-    return reader.parse_args(words)
+    given = reader.parse_args(words)
+    if (given.source is None) is not (given.parser is None):
+        reader.error("--source and --parser belong together")
+    return given
 
 
-async def upstream(given: argparse.Namespace) -> Upstream:
-    """The stream to the server. Raises AttrdError."""
-    if given.connect:
-        return await connect(given.connect)
-    options = ["--work", *lasting_options(known_options(given.program), given.keep)]
-    return await start_program(given.program, [given.grammar, given.tree, *given.aspects], options)
+class Service:
+    """What is served: a page at an address that stays, and where it is wanted the hub's own socket."""
+
+    def __init__(self, given: argparse.Namespace, running: Running) -> None:
+        self.given, self.running = given, running
+        self.web = Web(running.page)
+        self._front: Optional[asyncio.AbstractServer] = None
+
+    async def begin(self) -> None:
+        """Serves the page, tells its address, and opens it. Raises AttrdError where that can't be."""
+        await self.web.begin(self.given.port)
+        await self._listen()
+        print(f"page: {self.web.address}", flush=True)
+        if not self.given.no_browser:
+            asyncio.get_running_loop().run_in_executor(None, webbrowser.open, self.web.address)
+
+    async def _listen(self) -> None:
+        if self.given.listen:
+            self._front = await listen(self.running.hub, self.given.listen)
+
+    def _close_front(self) -> None:
+        if self._front is not None:
+            self._front.close()
+            with suppress(OSError):
+                os.unlink(self.given.listen)
+
+    async def serve(self, stop: asyncio.Event) -> int:
+        """Serves until it is to stop, or until the server ends; the status."""
+        watched = Watched([self.given.grammar, *self.given.aspects])
+        while True:
+            waited: List[asyncio.Future[Any]] = [asyncio.ensure_future(stop.wait()), asyncio.ensure_future(watched.changed())]
+            await asyncio.wait([*waited, self.running.replies], return_when=asyncio.FIRST_COMPLETED)
+            is_changed = waited[1].done()
+            for it in waited:
+                it.cancel()
+            if stop.is_set():
+                return 0
+            if self.running.replies.done():
+                print(f"{self.running.hub.lost}", file=sys.stderr, flush=True)
+                return 3
+            if is_changed and not self.given.connect:
+                await self._renew()
+
+    async def _renew(self) -> None:
+        """Goes on with the files as they are now, over the tree as it is. Where one is refused, that is told, and all stays as it was."""
+        try:
+            other = await self.running.renewed(self.given)
+        except AttrdError as fault:
+            self.running.page.tell_files(told(fault, self.given))
+            return
+        before, self.running = self.running, other
+        self._close_front()
+        self.web.take(other.page)
+        with suppress(AttrdError):
+            await before.page.empty()
+        await before.end()
+        await self._listen()
+
+    async def end(self) -> None:
+        """Serves no more, and tells what the program told at its end."""
+        await self.web.close()
+        self._close_front()
+        message = await self.running.end()
+        if message:
+            print(f"attrd: {message.strip()}", flush=True)
 
 
 async def serve(given: argparse.Namespace) -> int:
     """Serves the page until a signal, or until the server ends; the status. Raises AttrdError."""
-    files = [given.grammar, given.tree, *given.aspects]
-    stream = await upstream(given)
-    hub = Hub(stream)
-    replies = asyncio.ensure_future(hub.run())
-    try:
-        try:
-            first = hub.member()
-            await first.reply("version")
-            first.leave()
-        except AttrdError:
-            raise await stream.fault() if stream.process is not None else AttrdError(f"{given.connect}: the server has ended") from None
-        page = Page(hub, files, given.program if stream.process is not None else None)
-        try:
-            await page.begin()
-            return await _serve_page(given, hub, page, replies)
-        finally:
-            await page.end()
-    finally:
-        replies.cancel()
-        told = await hub.close()
-        if told:
-            print(f"attrd: {told.strip()}", flush=True)
-
-
-async def _serve_page(given: argparse.Namespace, hub: Hub, page: Page, replies: asyncio.Future[Any]) -> int:
-    web = Web(page)
-    await web.begin(given.port)
-    front = await listen(hub, given.listen) if given.listen else None
+    service = Service(given, await Running.begin(given))
     stop = asyncio.Event()
     for number in (signal.SIGINT, signal.SIGTERM, signal.SIGHUP):
         asyncio.get_running_loop().add_signal_handler(number, stop.set)
-    print(f"page: {web.address}", flush=True)
-    if not given.no_browser:
-        asyncio.get_running_loop().run_in_executor(None, webbrowser.open, web.address)
-    stopped: asyncio.Future[Any] = asyncio.ensure_future(stop.wait())
     try:
-        await asyncio.wait([stopped, replies], return_when=asyncio.FIRST_COMPLETED)
-        if replies.done():
-            print(f"{hub.lost}", file=sys.stderr, flush=True)
-        return 0 if stop.is_set() else 3
+        await service.begin()
+        return await service.serve(stop)
     finally:
-        stopped.cancel()
-        await web.close()
-        if front is not None:
-            front.close()
-            with suppress(OSError):
-                os.unlink(given.listen)
+        await service.end()
+
+
+def told(fault: AttrdError, given: argparse.Namespace) -> str:
+    """A fault in words; of a file with its place and a hint."""
+    if isinstance(fault, StartFault):
+        with suppress(AttrdError):
+            return str(explain(fault, [given.grammar, given.tree, *given.aspects]))
+    return str(fault)
 
 
 def main(words: Optional[List[str]] = None) -> int:
     """Serves the page; the status: 0, 1 where a file is refused, 3 where the server is lost or nothing can be served."""
     given = options(words)
-    files = [given.grammar, given.tree, *given.aspects]
     try:
         return asyncio.run(serve(given))
-    except StartFault as fault:
-        try:
-            print(explain(fault, files), file=sys.stderr)
-        except AttrdError:
-            print(fault, file=sys.stderr)
-        return fault.status or 3
     except AttrdError as fault:
-        print(fault, file=sys.stderr)
-        return 3
+        print(told(fault, given), file=sys.stderr)
+        return (fault.status if isinstance(fault, StartFault) else None) or 3
     except KeyboardInterrupt:
         return 0

@@ -43,14 +43,32 @@ class Item:
 
 
 @dataclass(frozen=True)
+class Inverse:
+    """What takes an edit back, wherever its nodes are by then.
+
+    `edit` is the word of a command: `drop` and `set` of `item`; `token`, `put` and `insert` of its component `part`; `move` of `moved`
+    into that. `value` is a token's value; `old` the node that was there, whose items are no more in the tree but stay as they were.
+    """
+
+    edit: str
+    item: Item
+    part: str = ""
+    index: int = 0
+    value: Any = None
+    old: Optional[Item] = None
+    moved: Optional[Item] = None
+
+
+@dataclass(frozen=True)
 class Change:
-    """What an accepted edit did: the items whose own cells changed, and its line with paths in the place of marks.
+    """What an accepted edit did: the items whose own cells changed, its line with paths in the place of marks, and what takes it back.
 
     `became` are the numbers of a node that was replaced and of the one in its place.
     """
 
     items: Tuple[Item, ...]
     line: str
+    inverse: Inverse
     became: Optional[Tuple[int, int]] = None
 
 
@@ -174,45 +192,65 @@ class Mirror:
         else:
             old.above.cells[old.part][old.index] = new
         self._forget(old)
-        return Change((new if old.above is None else old.above,), line, (old.number, new.number))
+        return Change((new if old.above is None else old.above,), line, Inverse("set", new, old=old), (old.number, new.number))
 
     def _put(self, session: int, rest: str) -> Change:
         place, part, term = rest.split(" ", 2)
         item = self.at(_place(place), session)
         at = self._part(item, part, Shape.OPTIONAL)
-        item.cells[at] = self._grown(read_term(term), item, at)
-        return Change((item,), commands.put(self.path(item), part, term))
+        grown = item.cells[at] = self._grown(read_term(term), item, at)
+        return Change((item,), commands.put(self.path(item), part, term), Inverse("drop", grown))
 
     def _drop(self, session: int, rest: str) -> Change:
         item = self.at(_place(rest), session)
-        line = commands.drop(self.path(item))
+        line, part, index = commands.drop(self.path(item)), self.part_of(item).name if item.above is not None else "", item.index
         above = self._taken_out(item)
         self._forget(item)
-        return Change((above,), line)
+        inverse = Inverse("put", above, part, old=item) if index is None else Inverse("insert", above, part, index, old=item)
+        return Change((above,), line, inverse)
 
     def _insert(self, session: int, rest: str) -> Change:
         place, part, index, term = rest.split(" ", 3)
         item = self.at(_place(place), session)
         at = self._part(item, part, Shape.LIST)
         line = commands.insert(self.path(item), part, int(index), term)
-        item.cells[at].insert(int(index), self._grown(read_term(term), item, at))
-        return Change((item,), line)
+        grown = self._grown(read_term(term), item, at)
+        item.cells[at].insert(int(index), grown)
+        return Change((item,), line, Inverse("drop", grown))
 
     def _token(self, session: int, rest: str) -> Change:
         place, part, value = rest.split(" ", 2)
         item = self.at(_place(place), session)
-        item.cells[self._part(item, part, Shape.TOKEN)] = read_value(value)
-        return Change((item,), f"token {self.path(item)} {part} {value}")
+        at = self._part(item, part, Shape.TOKEN)
+        before, item.cells[at] = item.cells[at], read_value(value)
+        return Change((item,), f"token {self.path(item)} {part} {value}", Inverse("token", item, part, value=before))
 
     def _move(self, session: int, rest: str) -> Change:
         place, _, target, part, index = rest.split(" ")
         item, to = self.at(_place(place), session), self.at(_place(target), session)
         line = commands.move(self.path(item), self.path(to), part, int(index))
-        at = self._part(to, part, Shape.LIST)
+        at, origin, old_index = self._part(to, part, Shape.LIST), self.part_of(item).name if item.above is not None else "", item.index or 0
         above = self._taken_out(item)
         to.cells[at].insert(int(index), item)
         item.above, item.part = to, at
-        return Change((above,) if above is to else (above, to), line)
+        inverse = Inverse("move", above, origin, old_index, moved=item)
+        return Change((above,) if above is to else (above, to), line, inverse)
+
+    def inverse_command(self, it: Inverse) -> str:
+        """The command that takes an edit back on the tree as it is now. Raises Astray where a node of it is gone."""
+        if any(node is not None and node.number not in self.items for node in (it.item, it.moved)):
+            raise Astray("the node that was edited is gone, so the edit can't be taken back")
+        path = self.path(it.item)
+        if it.edit == "token":
+            return commands.token(path, it.part, it.value)
+        if it.edit == "move" and it.moved is not None:
+            return commands.move(self.path(it.moved), path, it.part, it.index)
+        if it.old is None:
+            return commands.drop(path)
+        term = self.term(it.old)
+        if it.edit == "set":
+            return commands.set_node(path, term)
+        return commands.put(path, it.part, term) if it.edit == "put" else commands.insert(path, it.part, it.index, term)
 
     def _taken_out(self, item: Item) -> Item:
         above, index = item.above, item.index

@@ -2,11 +2,13 @@
 from __future__ import annotations
 
 import asyncio
+from collections import deque
 from contextlib import suppress
 from pathlib import Path as FilePath
-from typing import Callable, List, Optional, Sequence, Set
+from typing import Callable, Deque, List, Optional, Sequence, Set
 
 from attrd import Grammar, ProtocolFault, write_term
+from attrd.authoring import Source, Specification
 from attrd.declarations import Attribute, attributes_of
 from attrd.grammar import read_file
 from attrd.terms import read_term
@@ -14,22 +16,29 @@ from attrd.terms import read_term
 from . import work
 from .hub import Hub, Member
 from .mirror import Astray, Change, Mirror
+from .source import SourceText
 from .views import Json
 from .window import Window
+
+# How many edits a window that comes later is told.
+EDITS = 100
 
 
 class Page:
     """The windows over one hub. `names` are those of the files."""
 
-    def __init__(self, hub: Hub, files: Sequence[str], program: Optional[str]) -> None:
+    def __init__(self, hub: Hub, files: Sequence[str], program: Optional[str], source: Optional[SourceText] = None) -> None:
         """`files` are the grammar, the tree and the aspects; `program` counts the work, if it is there. Raises AttrdError."""
+        self.source = source
         self.hub, self.files, self.program = hub, list(files), program
         self.grammar = Grammar.load(files[0])
-        self.attributes: List[Attribute] = [
-            it for name in files[2:] for it in attributes_of(read_file(name).decode("utf-8", "replace"))]
+        sources = [Source(FilePath(name).name, read_file(name).decode("utf-8", "replace")) for name in (files[0], *files[2:])]
+        self.specification = Specification(sources[0], sources[1:])
+        self.attributes: List[Attribute] = [it for source in sources[1:] for it in attributes_of(source.text)]
         self.names = [FilePath(it).name for it in files]
         self.mirror: Mirror
         self.windows: Set[Window] = set()
+        self.edits: Deque[Json] = deque(maxlen=EDITS)
         self._count = 0
         self._member = hub.member()
         self._is_astray = True
@@ -43,6 +52,22 @@ class Page:
         """Asks for the tree. Raises ServerLost."""
         self._resync()
         await self._member.reply("version")
+        if self.source is not None:
+            self.source.match(self.mirror, self.hub.version)
+
+    async def empty(self) -> None:
+        """Closes all windows, and waits until all that they have sent is answered. Raises ServerLost."""
+        for window in list(self.windows):
+            self.close(window)
+        await self._member.reply("version")
+
+    def tell_source(self, but: Optional[Window] = None) -> None:
+        """Tells all windows of the source text; one of them without the text, since it stands there."""
+        if self.source is None:
+            return
+        told = self.source.view(self.mirror, self.hub.version)
+        for window in list(self.windows):
+            window.tell({**told, "text": None} if window is but else told)
 
     async def end(self) -> None:
         """Counts no more work, and waits until no copy runs."""
@@ -76,6 +101,8 @@ class Page:
         window = Window(self, self._count, tell)
         self.windows.add(window)
         window.greet()
+        if self.source is not None:
+            window.tell(self.source.view(self.mirror, self.hub.version))
         self._tell_clients()
         return window
 
@@ -88,6 +115,10 @@ class Page:
     def clients(self) -> int:
         """How many clients share the server: windows, and whoever came over the hub's socket."""
         return len(self.hub.members) - 1
+
+    def tell_files(self, fault: str) -> None:
+        """Has all windows show that a file as it is now isn't taken."""
+        self._tell_all({"kind": "files", "text": fault})
 
     def _tell_clients(self) -> None:
         self._tell_all({"kind": "clients", "clients": self.clients})
@@ -109,10 +140,26 @@ class Page:
             return
         items = {it.number for it in change.items}
         above = {it.above.number for it in change.items if it.above is not None}
+        self._note(member, version, change)
         for window in list(self.windows):
-            window.edited(items | above, change.became, self._edited(window, member, version, change))
+            window.edited(items | above, change, self._edited(window, member, version, change), window.member is member)
+        if self.source is not None and self.source.version is not None:
+            self._source_is_behind(version)
         if copy is not None:
             self._count_work(work.Copy(version, copy.term, copy.marks, copy.questions, change.line))
+
+    def _source_is_behind(self, version: int) -> None:
+        """The tree was edited: it is that of the text no more, unless the text is just being sent."""
+        assert self.source is not None
+        if self.source.version is not None and version > self.source.version:
+            self.source.version = None
+            self.tell_source()
+
+    def _note(self, member: Optional[Member], version: int, change: Change) -> None:
+        """Notes an edit, for windows that come later."""
+        by = next((it.number for it in self.windows if it.member is member), None)
+        who = f"window {by}" if by is not None else "another client"
+        self.edits.append({"kind": "edited", "version": version, "line": change.line[:200], "by": who})
 
     def _edited(self, window: Window, member: Optional[Member], version: int, change: Change) -> Json:
         by = next((it.number for it in self.windows if it.member is member), None)

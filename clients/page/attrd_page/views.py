@@ -88,4 +88,4 @@ def attributes_of(grammar: Grammar, name: str, attributes: Sequence[Attribute]) 
 
 def attribute_view(it: Attribute) -> Json:
     """An attribute as a window shows it."""
-    return {"name": it.name, "kind": it.kind, "parameters": list(it.parameters), "inherited": it.is_inherited, "lazy": it.is_lazy}
+    return {"name": it.name, "of": it.of, "kind": it.kind, "parameters": list(it.parameters), "inherited": it.is_inherited, "lazy": it.is_lazy}

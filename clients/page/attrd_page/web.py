@@ -1,29 +1,33 @@
-"""The page over HTTP, at 127.0.0.1 alone, and a WebSocket for each window. No address without the token is answered."""
+"""The page over HTTP, at 127.0.0.1 alone: a stream of events for each window, and a POST for each thing that it does.
+
+No address without the token is answered.
+"""
 from __future__ import annotations
 
 import asyncio
 import hmac
 import json
 import secrets
+from contextlib import suppress
 from pathlib import Path as FilePath
-from typing import Dict, NamedTuple, Optional, Set, Tuple
+from typing import Callable, Dict, List, NamedTuple, Optional, Set, Tuple
 
 from attrd import AttrdError
 
 from .page import Page
 from .views import Json
-from .websocket import CLOSE, PING, PONG, TEXT, FrameFault, Inbox, accept_key, frame
 from .window import Window
 
 HOST = "127.0.0.1"
 STATIC = FilePath(__file__).resolve().parent / "static"
 FILES = {"": ("page.html", "text/html"), "page.css": ("page.css", "text/css"), "page.js": ("page.js", "text/javascript")}
-LONGEST_HEAD, LONGEST_MESSAGE, CHUNK = 1 << 14, 1 << 20, 1 << 16
+LONGEST_HEAD, LONGEST_MESSAGE = 1 << 14, 1 << 20
 HEAD_SECONDS = 10.0
 # A window that takes nothing while so many bytes wait for it is let go of.
 MOST_WAITING = 1 << 26
 POLICY = "default-src 'none'; script-src 'self'; style-src 'self'; connect-src 'self'; img-src data:; base-uri 'none'; form-action 'none'"
-STATUS = {200: "OK", 400: "Bad Request", 403: "Forbidden", 404: "Not Found", 405: "Method Not Allowed"}
+STATUS = {200: "OK", 204: "No Content", 400: "Bad Request", 403: "Forbidden", 404: "Not Found", 405: "Method Not Allowed",
+          410: "Gone", 413: "Content Too Large"}
 
 
 class Request(NamedTuple):
@@ -50,17 +54,28 @@ def read_head(head: bytes) -> Optional[Request]:
 
 def response(status: int, kind: str, content: bytes) -> bytes:
     """A whole response, behind which the connection is closed."""
-    head = [f"HTTP/1.1 {status} {STATUS[status]}", f"Content-Type: {kind}; charset=utf-8", f"Content-Length: {len(content)}",
-            f"Content-Security-Policy: {POLICY}", "Referrer-Policy: no-referrer", "X-Content-Type-Options: nosniff",
+    return response_head(status, kind, [f"Content-Length: {len(content)}"]) + content
+
+
+def response_head(status: int, kind: str, more: List[str]) -> bytes:
+    """The head of a response, with these lines too."""
+    head = [f"HTTP/1.1 {status} {STATUS[status]}", f"Content-Type: {kind}; charset=utf-8", *more, f"Content-Security-Policy: {POLICY}", "Referrer-Policy: no-referrer", "X-Content-Type-Options: nosniff",
             "X-Frame-Options: DENY", "Cache-Control: no-store", "Connection: close", "", ""]
-    return "\r\n".join(head).encode("latin-1") + content
+    return "\r\n".join(head).encode("latin-1")
+
+
+def event(message: Json) -> bytes:
+    """A message as an event of a stream."""
+    return b"data: " + json.dumps(message, ensure_ascii=False, separators=(",", ":")).encode("utf-8", "replace") + b"\n\n"
 
 
 class Web:
-    """Serves a page. `address` is where a browser finds it."""
+    """Serves a page. `address` is where a browser finds it; `take` has another page in its place, in all windows that are open."""
 
     def __init__(self, page: Page) -> None:
         self.page = page
+        self._tells: Dict[str, Callable[[Json], None]] = {}
+        self._windows: Dict[str, Window] = {}
         self.token = secrets.token_urlsafe(16)
         self.port = 0
         self._server: Optional[asyncio.AbstractServer] = None
@@ -98,15 +113,23 @@ class Web:
             self._tasks.discard(task)
             writer.close()
 
+    def take(self, page: Page) -> None:
+        """Has all windows show this page from now on. The windows of the one before are gone with it."""
+        self.page = page
+        for key, tell in self._tells.items():
+            self._windows[key] = page.window(tell)
+
     async def _answer(self, reader: asyncio.StreamReader, writer: asyncio.StreamWriter) -> None:
         head = await asyncio.wait_for(reader.readuntil(b"\r\n\r\n"), HEAD_SECONDS)
         request = read_head(head[:-4]) if len(head) <= LONGEST_HEAD else None
         status, name = self._resource(request)
-        if request is None or status != 200:
-            writer.write(response(status, "text/plain", STATUS[status].encode("ascii")))
-        elif name == "socket":
-            await self._socket(request, reader, writer)
+        if status == 200 and name == "events":
+            await self._events(reader, writer)
             return
+        if request is not None and status == 200 and request.method == "POST":
+            status = await self._do(request, name[len("do/"):], reader)
+        if status != 200:
+            writer.write(response(status, "text/plain", STATUS[status].encode("ascii") if status != 204 else b""))
         else:
             file, kind = FILES[name]
             writer.write(response(200, kind, (STATIC / file).read_bytes()))
@@ -116,66 +139,57 @@ class Web:
         """The status, and the name of what is asked for."""
         if request is None:
             return 400, ""
-        if request.headers.get("host") not in (f"{HOST}:{self.port}", f"localhost:{self.port}"):
+        homes = (f"{HOST}:{self.port}", f"localhost:{self.port}")
+        origin = request.headers.get("origin")
+        if request.headers.get("host") not in homes or (origin is not None and origin not in [f"http://{it}" for it in homes]):
             return 403, ""
         _, token, name = (request.target.split("?")[0].split("/", 2) + ["", ""])[:3]
         if not hmac.compare_digest(token.encode("latin-1", "replace"), self.token.encode("ascii")):
             return 403, ""
-        if request.method != "GET":
+        if request.method != ("POST" if name.startswith("do/") else "GET"):
             return 405, ""
-        return (200, name) if name in FILES or name == "socket" else (404, "")
+        return (200, name) if name in FILES or name == "events" or name.startswith("do/") else (404, "")
 
-    async def _socket(self, request: Request, reader: asyncio.StreamReader, writer: asyncio.StreamWriter) -> None:
-        """A window: messages both ways until it is closed."""
-        key, origin = request.headers.get("sec-websocket-key"), request.headers.get("origin")
-        if key is None or request.headers.get("upgrade", "").lower() != "websocket":
-            writer.write(response(400, "text/plain", b"no WebSocket"))
-            return
-        if origin is not None and origin not in (f"http://{HOST}:{self.port}", f"http://localhost:{self.port}"):
-            writer.write(response(403, "text/plain", b"another origin"))
-            return
-        writer.write(("HTTP/1.1 101 Switching Protocols\r\nUpgrade: websocket\r\nConnection: Upgrade\r\n"
-                      f"Sec-WebSocket-Accept: {accept_key(key)}\r\n\r\n").encode("ascii"))
+    async def _events(self, reader: asyncio.StreamReader, writer: asyncio.StreamWriter) -> None:
+        """A window: what it is told, until the browser closes it."""
+        writer.write(response_head(200, "text/event-stream", []))
 
         def tell(message: Json) -> None:
             if writer.transport.get_write_buffer_size() > MOST_WAITING:
                 writer.transport.abort()
             elif not writer.is_closing():
-                writer.write(frame(TEXT, json.dumps(message, ensure_ascii=False, separators=(",", ":")).encode("utf-8", "replace")))
-        window = self.page.window(tell)
+                writer.write(event(message))
+        key = secrets.token_urlsafe(16)
+        tell({"kind": "window", "key": key})
+        self._tells[key] = tell
         try:
-            await self._messages(window, reader, writer)
-        except AttrdError:
-            writer.write(frame(CLOSE, b""))
+            self._windows[key] = self.page.window(tell)
+            while await reader.read(1):
+                pass
         finally:
-            self.page.close(window)
+            del self._tells[key]
+            window = self._windows.pop(key, None)
+            if window is not None:
+                window.page.close(window)
 
-    async def _messages(self, window: Window, reader: asyncio.StreamReader, writer: asyncio.StreamWriter) -> None:
-        inbox = Inbox(wants_mask=True, longest=LONGEST_MESSAGE)
-        while True:
-            data = await reader.read(CHUNK)
-            if not data:
-                return
-            try:
-                messages = inbox.feed(data)
-            except FrameFault:
-                return
-            for kind, content in messages:
-                if kind == CLOSE:
-                    writer.write(frame(CLOSE, content[:2]))
-                    return
-                if kind == PING:
-                    writer.write(frame(PONG, content))
-                elif kind == TEXT:
-                    await self._message(window, content)
-            await writer.drain()
-
-    async def _message(self, window: Window, content: bytes) -> None:
+    async def _do(self, request: Request, key: str, reader: asyncio.StreamReader) -> int:
+        """Has a window do what it asks for; the status. It is answered when that is done: so the next thing comes behind it."""
+        length = request.headers.get("content-length", "")
+        if not length.isdigit():
+            return 400
+        if int(length) > LONGEST_MESSAGE:
+            return 413
+        content = await asyncio.wait_for(reader.readexactly(int(length)), HEAD_SECONDS)
+        window = self._windows.get(key)
+        if window is None:
+            return 410
         try:
             message = json.loads(content)
         except (ValueError, RecursionError):
             message = None
         if isinstance(message, dict):
-            await window.do(message)
+            with suppress(AttrdError):
+                await window.do(message)
         else:
             window.tell({"kind": "refused", "text": "a message is no object of JSON"})
+        return 204

@@ -3,16 +3,17 @@ from __future__ import annotations
 
 import asyncio
 import time
-from typing import TYPE_CHECKING, Any, Callable, Dict, List, Optional, Set, Tuple
+from typing import TYPE_CHECKING, Any, Callable, Dict, List, Optional, Set
 
-from attrd import AttrdError, Node, Path, SyntaxFault, TermFault, commands
-from attrd.grammar import Part, Shape, token_fault
+from attrd import AttrdError, Path, commands
 from attrd.replies import Code, Ok, RefusedReply, Reply
-from attrd.terms import read_term
+from attrd.why import read_instance
 
-from .mirror import Item
+from .editing import Asked, edit_command, item_of
+from .explaining import explained
+from .mirror import Change, Inverse, Item
 from .probes import Probes, Round
-from .views import Json, brief, detail, view
+from .views import Json, attributes_of, brief, detail, view
 
 if TYPE_CHECKING:
     from .page import Page
@@ -21,31 +22,34 @@ ROWS, FIRST_ROWS = 200, 40
 TRIES = 8
 
 
-class Asked(AttrdError):
-    """What a window asked for can't be done."""
-
-
 class Window:
     """Tells a browser of nodes, probes and edits by `tell`, and does what it asks for."""
 
     def __init__(self, page: Page, number: int, tell: Callable[[Json], None]) -> None:
         self.page, self.number, self.tell = page, number, tell
         self.member = page.hub.member(on_lost=self._lost)
-        self.probes = Probes(page.hub, self.member, page.mirror)
+        self.probes = Probes(page.hub, self.member, page.mirror, self._plain)
         self.opened: Dict[int, int] = {}
         self.selected: Optional[int] = None
         self._round: Optional[asyncio.Task[None]] = None
         self._is_due = False
         self._doing: Dict[str, Callable[[Json], Any]] = {
             "open": self._open, "close": self._close, "more": self._more, "select": self._select, "reveal": self._reveal,
-            "probe": self._probe, "unprobe": self._unprobe, "edit": self._edit}
+            "probe": self._probe, "unprobe": self._unprobe, "edit": self._edit,
+            "undo": self._undo, "survey": self._survey, "why": self._why, "source": self._source}
+        self._undone: List[Inverse] = []
+        self._taking_back: Optional[Inverse] = None
 
-    def greet(self) -> None:
-        """Tells the tree's first rows."""
+    def _plain(self, name: str) -> List[str]:
+        return [it.name for it in attributes_of(self.page.grammar, name, self.page.attributes) if not it.parameters]
+
+    def greet(self, is_new: bool = True) -> None:
+        """Tells the tree's first rows; of a new window the browser asks for the probes that its address has."""
         self._open_first()
         page = self.page
-        self.tell({"kind": "hello", "window": self.number, "files": page.names, "version": page.hub.version,
-                   "root": page.mirror.root.number, "rootNode": brief(page.mirror, page.mirror.root), "nodes": self._views(self.opened)})
+        self.tell({"kind": "hello", "isNew": is_new, "window": self.number, "files": page.names, "version": page.hub.version,
+                   "root": page.mirror.root.number, "rootNode": brief(page.mirror, page.mirror.root), "nodes": self._views(self.opened),
+                   "edits": list(page.edits)})
 
     def _open_first(self) -> None:
         left, rows = [self.page.mirror.root], 0
@@ -62,10 +66,7 @@ class Window:
 
     def _item(self, number: Any) -> Item:
         """The node of a number. Raises Asked where it is gone."""
-        item = self.page.mirror.items.get(number) if type(number) is int else None
-        if item is None:
-            raise Asked("that node is gone")
-        return item
+        return item_of(self.page.mirror, number)
 
     async def do(self, message: Json) -> None:
         """Does what a message asks for; what goes wrong is told. Raises ServerLost."""
@@ -119,7 +120,8 @@ class Window:
         self._tell_detail()
 
     async def _probe(self, message: Json) -> None:
-        item, name = self._item(message["id"]), str(message["attribute"])
+        item = self._item(message["id"]) if "id" in message else self.page.mirror.at(Path.read(message["path"]))
+        name = str(message["attribute"])
         known = next((it for it in self.page.attributes if it.name == name and self.page.grammar.is_below(item.name, it.of)), None)
         if known is None:
             raise Asked(f"{item.name} has no attribute {name}")
@@ -127,7 +129,31 @@ class Window:
         if len(given) != len(known.parameters):
             raise Asked(f"{name} has {len(known.parameters)} parameters")
         arguments = [str(text) if kind == "String" else self._node_argument(str(text)) for kind, text in zip(known.parameters, given)]
-        await self.probes.add(item, name, arguments)
+        await self.probes.add(item, name, arguments, [commands.name_text(it) for it in message.get("then") or []])
+        self.ask_again()
+
+    async def _source(self, message: Json) -> None:
+        """Takes another source text, and makes the tree that of the text by few edits."""
+        source = self.page.source
+        if source is None:
+            raise Asked("there is no source text: start the page with --source and --parser")
+        tree = source.take(str(message["text"]))
+        for _ in range(TRIES):
+            if tree is None or await source.send(tree, self.member, self.page.hub, self.page.mirror):
+                break
+        self.page.tell_source(self)
+
+    async def _why(self, message: Json) -> None:
+        """Tells where the value of an instance comes from; `to` says to the browser what had asked."""
+        mirror, hub = self.page.mirror, self.page.hub
+        told = await explained(self.member, self.page.specification, mirror.term(mirror.root), hub.version, read_instance(str(message["instance"])))
+        self.tell({**told, "to": message.get("to")})
+
+    def _survey(self, message: Json) -> None:
+        of, name = self.page.grammar.class_named(str(message["of"])).name, str(message["attribute"])
+        if name not in self._plain(of):
+            raise Asked(f"{of} has no attribute {name} without parameters")
+        self.probes.survey(of, name)
         self.ask_again()
 
     def _node_argument(self, text: str) -> Optional[Item]:
@@ -140,9 +166,27 @@ class Window:
 
     async def _edit(self, message: Json) -> None:
         """Sends an edit of a node, wherever the node is by then."""
+        await self._send_edit(lambda: edit_command(self.page.mirror, message))
+
+    async def _undo(self, message: Json) -> None:
+        """Takes the last edit of this window back that isn't taken back yet."""
+        if not self._undone:
+            raise Asked("there is no edit of this window to take back")
+        inverse = self._taking_back = self._undone.pop()
+        try:
+            await self._send_edit(lambda: self.page.mirror.inverse_command(inverse))
+        finally:
+            self._taking_back = None
+            self._tell_undo()
+
+    def _tell_undo(self) -> None:
+        self.tell({"kind": "undo", "edits": len(self._undone)})
+
+    async def _send_edit(self, spelled: Callable[[], str]) -> None:
+        """Sends the line of an edit, spelled anew where another client was faster. Raises Asked where it is refused."""
         start = time.perf_counter()
         for _ in range(TRIES):
-            command = self._command(message)
+            command = spelled()
             reply: Reply = await self.member.reply(f"at {self.page.hub.version} {command}")
             if not (isinstance(reply, RefusedReply) and reply.code is Code.STALE):
                 break
@@ -151,44 +195,15 @@ class Window:
         else:
             raise Asked(f"{reply} ({command[:200]})")
 
-    def _command(self, message: Json) -> str:
-        """The line of an edit. Raises Asked and TermFault with the reason where the server would refuse it."""
-        item, what = self._item(message["id"]), message["edit"]
-        mirror, grammar = self.page.mirror, self.page.grammar
-        path = mirror.path(item)
-        if what == "drop":
-            return commands.drop(path)
-        if what == "set":
-            wanted = mirror.part_of(item).kind if item.above is not None else grammar.start
-            return commands.set_node(path, self._term(message, wanted))
-        part = grammar.class_named(item.name).part(str(message["part"]))
-        if part is None:
-            raise Asked(f"{item.name} has no component {message['part']}")
-        if what == "token":
-            return commands.token(path, part.name, _token(part, message["value"]))
-        if what == "put":
-            return commands.put(path, part.name, self._term(message, part.kind))
-        if what == "insert":
-            return commands.insert(path, part.name, int(message["index"]), self._term(message, part.kind))
-        if what == "move":
-            moved = self._item(message["moved"])
-            return commands.move(mirror.path(moved), path, part.name, int(message["index"]))
-        raise Asked(f"there is no edit {what!r}")
-
-    def _term(self, message: Json, wanted: str) -> Node:
-        try:
-            term = read_term(str(message["term"]).strip())
-            self.page.grammar.check(term, wanted)
-        except (SyntaxFault, TermFault) as fault:
-            raise Asked(f"the term doesn't fit: {fault}") from None
-        return term
-
-    def edited(self, items: Set[int], became: Optional[Tuple[int, int]], told: Json) -> None:
+    def edited(self, items: Set[int], change: Change, told: Json, is_own: bool) -> None:
         """An edit was accepted, of whichever client: the rows that changed, and then the probes.
 
-        What was open or selected and was replaced is so no less in its new form.
+        What was open or selected and was replaced is so no less in its new form. An edit of this window can be taken back.
         """
-        known = self.page.mirror.items
+        known, became = self.page.mirror.items, change.became
+        if is_own and self._taking_back is None:
+            self._undone.append(change.inverse)
+            self._tell_undo()
         if became is not None:
             old, new = became
             items = items | {new}
@@ -207,7 +222,7 @@ class Window:
         """The tree was asked for as a whole: all nodes have other numbers."""
         self.opened.clear()
         self.selected = None
-        self.greet()
+        self.greet(False)
         self.ask_again()
 
     def ask_again(self) -> None:
@@ -226,7 +241,7 @@ class Window:
                     self.tell({"kind": "refused", "text": str(fault)})
 
     def _tell_round(self, told: Round) -> None:
-        self.tell({"kind": "probes", "version": told.version, "milliseconds": told.seconds * 1000, "asked": len(self.probes.probes),
+        self.tell({"kind": "probes", "version": told.version, "milliseconds": told.seconds * 1000, "asked": len(self.probes.probes) + len(self.probes.surveys),
                    "probes": told.probes})
 
     def _lost(self) -> None:
@@ -237,21 +252,3 @@ class Window:
         if self._round is not None:
             self._round.cancel()
         self.member.leave()
-
-
-def _token(part: Part, text: Any) -> Any:
-    """The value of a token that was typed. Raises Asked with the reason where it is none."""
-    value: Any = text
-    if part.shape is not Shape.TOKEN:
-        raise Asked(f"{part.name} is no token")
-    if part.kind == "int":
-        try:
-            value = int(str(text).strip())
-        except ValueError:
-            raise Asked(f"{str(text)!r} is no number") from None
-    elif part.kind == "boolean":
-        value = {"true": True, "false": False}.get(str(text).strip(), text)
-    fault = token_fault(part, value)
-    if fault:
-        raise Asked(fault)
-    return value

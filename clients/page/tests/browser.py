@@ -18,7 +18,7 @@ WORDS = ["--headless=new", "--remote-debugging-port=0", "--no-sandbox", "--disab
 # The code and the virtual key of keys that type no character.
 KEYS = {"Tab": 9, "Enter": 13, "Escape": 27, " ": 32, "End": 35, "Home": 36, "ArrowLeft": 37, "ArrowUp": 38, "ArrowRight": 39,
         "ArrowDown": 40, "Backspace": 8}
-ALT = 1
+ALT, CONTROL = 1, 2
 
 
 def chromium() -> str:

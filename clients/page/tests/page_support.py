@@ -9,7 +9,9 @@ import sys
 import tempfile
 import time
 from pathlib import Path
-from typing import Any, Callable, List, Optional
+from typing import Any, Callable, List
+
+from websocket import TEXT, Inbox, accept_key, frame, new_key
 
 CLONE = Path(__file__).resolve().parents[3]
 PYTHONPATH = [str(CLONE / "clients" / "python"), str(CLONE / "clients" / "page")]
@@ -88,14 +90,14 @@ class Lines:
 
 
 class Served:
-    """The page and the hub in a process of their own, over the tutorial's files."""
+    """The page and the hub in a process of their own, over the tutorial's files or others."""
 
-    def __init__(self, *words: str) -> None:
+    def __init__(self, *words: str, files: Callable[[Path], List[str]] = write_files) -> None:
         self._folder = tempfile.TemporaryDirectory(prefix="attrd-page-test-")
         self.folder = Path(self._folder.name)
         self.socket = str(self.folder / "hub.sock")
         self.errors = tempfile.TemporaryFile()
-        given = ["--program", program(), "--no-browser", "--listen", self.socket, *words, *write_files(self.folder)]
+        given = ["--program", program(), "--no-browser", "--listen", self.socket, *words, *files(self.folder)]
         self.process = subprocess.Popen(
             [sys.executable, "-m", "attrd_page", *given], stdout=subprocess.PIPE, stderr=self.errors, text=True,
             env={**os.environ, "PYTHONPATH": os.pathsep.join(PYTHONPATH)})
@@ -132,14 +134,13 @@ class Served:
 
 
 class Wire:
-    """A WebSocket by hand. `is_client_of` tells the host, the port and the path of its server."""
+    """A WebSocket by hand, as Chromium wants it of who drives it."""
 
-    def __init__(self, host: str, port: int, path: str, origin: Optional[str] = None) -> None:
-        from attrd_page.websocket import Inbox, accept_key, new_key
+    def __init__(self, host: str, port: int, path: str) -> None:
         key = new_key()
         self.stream = socket.create_connection((host, port), timeout=SECONDS)
         head = [f"GET {path} HTTP/1.1", f"Host: {host}:{port}", "Upgrade: websocket", "Connection: Upgrade",
-                f"Sec-WebSocket-Key: {key}", "Sec-WebSocket-Version: 13", *([f"Origin: {origin}"] if origin else []), "", ""]
+                f"Sec-WebSocket-Key: {key}", "Sec-WebSocket-Version: 13", "", ""]
         self.stream.sendall("\r\n".join(head).encode("ascii"))
         answer = b""
         while b"\r\n\r\n" not in answer:
@@ -159,7 +160,6 @@ class Wire:
 
     def send(self, text: str) -> None:
         """Sends a message."""
-        from attrd_page.websocket import TEXT, frame
         self.stream.sendall(frame(TEXT, text.encode("utf-8"), is_client=True))
 
     def next(self) -> bytes:

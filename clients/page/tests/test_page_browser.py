@@ -6,7 +6,7 @@ import time
 import unittest
 from typing import Any
 
-from browser import ALT, Browser, Tab
+from browser import ALT, CONTROL, Browser, Tab
 from page_support import Served
 
 # From an edit of another client to the value that a window shows.
@@ -137,6 +137,108 @@ class Windows(unittest.TestCase):
         tab.value("document.querySelector('[data-field=\"term\"]').value = 'Block([Show(Nix())])'")
         tab.value("document.querySelector('[data-field=\"term\"]').form.requestSubmit()")
         self.shows(tab, "#fault", "Refused", "there is no class Nix")
+
+    def submit(self, tab: Tab, field: str, value: str) -> None:
+        """Types a value into a field of the node, and sends its form."""
+        tab.value(f"document.querySelector('#node [data-field=\"{field}\"]').value = {json.dumps(value)}")
+        tab.value(f"document.querySelector('#node [data-field=\"{field}\"]').form.requestSubmit()")
+
+    def test_a_refusal_stands_where_one_looks(self) -> None:
+        tab = self.window()
+        self.select(tab, "/Kind:2/Block/Stmt:0/Init/Right")
+        self.submit(tab, "token Value", "1x")
+        self.shows(tab, "#fault", "Refused", "is no number")
+        inside = "(() => { const it = document.getElementById('fault').getBoundingClientRect(); return it.top >= 0 && it.bottom <= innerHeight; })()"
+        self.assertTrue(tab.value(inside))
+        self.assertTrue(tab.value("document.getElementById('fault').previousElementSibling.dataset.tried === 'token Value'"))
+        self.submit(tab, "token Value", "12")
+        tab.until("document.getElementById('fault').textContent === ''", "the refusal goes")
+
+    def test_probes_and_edits_stay_over_a_reload(self) -> None:
+        tab = self.window()
+        card = self.probe(tab, "/Kind:2/Block/Stmt:0/Init/Left", "decl")
+        self.shows(tab, card, "/Kind:2/Field:0")
+        self.client.ask('0 insert / Kind 0 Basic("text")')
+        self.shows(tab, card, "/Kind:3/Field:0")
+        tab.until("decodeURIComponent(location.hash).includes('/Kind:3/Block')", "the address has the place as it is now")
+        tab.call("Page.reload")
+        self.shows(tab, "[data-probe='1']", "decl()", "/Kind:3/Block/Stmt:0/Init/Left", "/Kind:3/Field:0")
+        self.shows(tab, "#edits li", "insert / Kind 0", "by another client")
+        tab.value("document.querySelector('.close').click()")
+        tab.until("location.hash === ''", "a probe that is removed is in the address no more")
+
+    def test_own_edits_are_undone(self) -> None:
+        tab = self.window()
+        before = self.client.ask("0 show /")
+        self.select(tab, "/Kind:2/Block/Stmt:0/Init/Left")
+        self.submit(tab, "token ID", "q")
+        self.shows(tab, "#undo", "Undo (1)")
+        self.client.ask('0 insert / Kind 0 Basic("text")')
+        self.select(tab, "/Kind:3/Block/Stmt:0")
+        tab.value("[...document.querySelectorAll('#node button')].find((it) => it.textContent === 'Remove').click()")
+        self.shows(tab, "#undo", "Undo (2)")
+        tab.value("document.getElementById('undo').click()")
+        self.shows(tab, "#edits li", "insert /Kind:3/Block Stmt 0")
+        tab.value("document.querySelector('#tree [tabindex=\"0\"]').focus()")
+        tab.call("Input.dispatchKeyEvent", type="keyDown", key="z", modifiers=CONTROL, windowsVirtualKeyCode=90)
+        self.shows(tab, "#fault", "the node that was edited is gone")
+        self.client.ask("0 drop /Kind:0")
+        self.assertIn('Name("q")', self.client.ask("0 show /"))
+        self.assertIn('Name("x")', before)
+
+    def test_all_nodes_of_a_class(self) -> None:
+        tab = self.window()
+        self.select(tab, "/Kind:2/Block/Stmt:0/Init/Left")
+        tab.value("document.querySelector('[data-field=\"survey error\"]').click()")
+        self.shows(tab, "[data-probe='1']", "error()", "all Expr", "0 of 8 not empty")
+        self.client.ask('0 token /Kind:2/Block/Stmt:0/Init/Left ID "q"')
+        self.shows(tab, "[data-probe='1']", "1 of 8 not empty", '"no declaration of q"', "changed, was 0 of 8")
+        tab.value("document.querySelector('[data-probe=\"1\"] .rows .link').click()")
+        tab.until("document.getElementById('path')?.textContent === '/Kind:2/Block/Stmt:0/Init/Left'", "the node with the error is selected")
+        tab.call("Page.reload")
+        self.shows(tab, "[data-probe='1']", "all Expr", "1 of 8 not empty")
+
+    def test_a_probe_of_a_result(self) -> None:
+        tab = self.window()
+        card = self.probe(tab, "/Kind:2/Block/Stmt:0/Init/Left", "decl")
+        self.shows(tab, card, "/Kind:2/Field:0")
+        tab.value(f"document.querySelector({json.dumps(card + ' select')}).value = 'kind'")
+        tab.value(f"document.querySelector({json.dumps(card + ' form')}).requestSubmit()")
+        self.shows(tab, "[data-probe='2']", "decl().kind()", "/Kind:0")
+        self.client.ask('0 token /Kind:2/Field:0/Declared ID "boolean"')
+        self.shows(tab, "[data-probe='2']", "/Kind:1", "changed")
+        self.client.ask("0 drop /Kind:2/Field:0")
+        self.shows(tab, "[data-probe='2']", "null, so there is no kind()")
+
+    def test_why_a_value_is_what_it_is(self) -> None:
+        tab = self.window()
+        card = self.probe(tab, "/Kind:3/Block/Stmt:1/Expr", "kind")
+        self.shows(tab, card, "/Kind:0")
+        tab.value(f"document.querySelector({json.dumps(card + ' .ask-why')}).click()")
+        self.shows(tab, f"{card} .why", "Name.kind() = decl() != null ? decl().kind() : null", "types.jrag:11", "decl() = /Kind:3/Block/Stmt:0")
+        tab.value(f"document.querySelectorAll({json.dumps(card + ' .why .ask-why')})[1].click()")
+        self.shows(tab, f"{card} .why .why + li, {card} .why li:nth-child(2) .why", "Decl.kind()", "getInit().kind() = /Kind:0")
+        tab.value(f"document.querySelector({json.dumps(card + ' .ask-why')}).click()")
+        tab.until(f"!document.querySelector({json.dumps(card + ' .why')}).textContent", "it is closed again")
+
+    def test_aspects_that_change_are_taken(self) -> None:
+        tab = self.window()
+        card = self.probe(tab, "/Kind:2/Block/Stmt:0/Init/Left", "error")
+        self.client.ask('0 token /Kind:2/Block/Stmt:0/Init/Left ID "q"')
+        self.shows(tab, card, "no declaration of q")
+        file = self.served.folder / "errors.jrag"
+        text = file.read_text("utf-8")
+        file.write_text(text.replace('"no declaration of "', '"there is no "'), "utf-8")
+        self.shows(tab, "[data-probe='1']", "there is no q")
+        file.write_text(text.replace("getID();", "getId();"), "utf-8")
+        self.shows(tab, "#refused-file", "A file was changed, and isn't taken", "errors.jrag:", "J3 unknown name")
+        self.shows(tab, "[data-probe='1']", "there is no q")
+        file.write_text(text, "utf-8")
+        self.shows(tab, "[data-probe='1']", "no declaration of q")
+        tab.until("document.getElementById('refused-file').hidden", "the refusal goes")
+        again = self.served.client()
+        self.addCleanup(again.close)
+        self.assertIn('Name("q")', again.ask("0 show /"))
 
     def test_nothing_comes_from_elsewhere(self) -> None:
         tab = self.window()

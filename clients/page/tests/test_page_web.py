@@ -2,6 +2,7 @@
 from __future__ import annotations
 
 import asyncio
+import http.client
 import json
 import os
 import socket
@@ -12,38 +13,44 @@ from pathlib import Path
 from typing import Any, Dict, List, Optional
 from unittest import mock
 
-from page_support import CLONE, Served, Wire, program
+from page_support import CLONE, SECONDS, Served, program
 
-from attrd_page.websocket import TEXT, FrameFault, Inbox, frame
 from attrd_page.work import Copy, count
 
 
-class Frames(unittest.TestCase):
-    def test_each_length(self) -> None:
-        for length in (0, 1, 125, 126, 127, 65_535, 65_536, 70_001):
-            for is_client in (False, True):
-                inbox = Inbox(wants_mask=is_client)
-                data = bytes(it % 251 for it in range(length))
-                sent = frame(TEXT, data, is_client) + frame(TEXT, b"next", is_client)
-                found = [message for at in range(0, len(sent), 1009) for message in inbox.feed(sent[at:at + 1009])]
-                self.assertEqual(found, [(TEXT, data), (TEXT, b"next")])
-
-    def test_a_message_in_pieces(self) -> None:
-        inbox = Inbox(wants_mask=False)
-        self.assertEqual(inbox.feed(b"\x01\x02ab" + b"\x89\x01p" + b"\x80\x01c"), [(9, b"p"), (1, b"abc")])
-
-    def test_faults(self) -> None:
-        for data in (b"\xc1\x00", b"\x80\x00", b"\x01\x01a\x01\x01b", frame(TEXT, b"", True), b"\x81\x7f" + b"\xff" * 8):
-            with self.assertRaises(FrameFault, msg=data):
-                Inbox(wants_mask=False).feed(data)
-
-
-class Page(Wire):
+class Page:
     """A window without a browser."""
 
     def __init__(self, served: Served, origin: Optional[str] = None) -> None:
-        path = served.address.split(str(served.port), 1)[1]
-        super().__init__("127.0.0.1", served.port, f"{path}socket", origin)
+        self.served, self.origin = served, origin
+        self.path = served.address.split(str(served.port), 1)[1]
+        self.stream = http.client.HTTPConnection("127.0.0.1", served.port, timeout=SECONDS)
+        self.stream.request("GET", f"{self.path}events", headers=self.headers)
+        self.events = self.stream.getresponse()
+        self.is_open = self.events.status == 200
+        self.key = self.told("window")["key"] if self.is_open else ""
+
+    @property
+    def headers(self) -> Dict[str, str]:
+        return {} if self.origin is None else {"Origin": self.origin}
+
+    def next(self) -> Dict[str, Any]:
+        """The next message. Raises EOFError where the stream has ended."""
+        while True:
+            line = self.events.readline()
+            if not line:
+                raise EOFError("the stream has ended")
+            if line.startswith(b"data: "):
+                message: Dict[str, Any] = json.loads(line[len(b"data: "):])
+                return message
+
+    def send(self, text: str) -> int:
+        """Sends a message; the status."""
+        connection = http.client.HTTPConnection("127.0.0.1", self.served.port, timeout=SECONDS)
+        connection.request("POST", f"{self.path}do/{self.key}", text.encode("utf-8"), self.headers)
+        status = connection.getresponse().status
+        connection.close()
+        return status
 
     def do(self, **message: Any) -> None:
         self.send(json.dumps(message))
@@ -51,9 +58,14 @@ class Page(Wire):
     def told(self, kind: str) -> Dict[str, Any]:
         """The next message of this kind; others before it are passed over."""
         while True:
-            message: Dict[str, Any] = json.loads(self.next())
+            message = self.next()
             if message["kind"] == kind:
                 return message
+
+    def close(self) -> None:
+        """Leaves."""
+        self.events.close()
+        self.stream.close()
 
     def probe(self, path: str, attribute: str, *arguments: str) -> Dict[str, Any]:
         """A new probe of a node, as it is shown first."""
@@ -107,7 +119,8 @@ class Web(unittest.TestCase):
         self.assertEqual(self.status(path, host=f"elsewhere.example:{self.served.port}"), 403)
         self.assertEqual(self.status(path + "../page.py"), 404)
         self.assertEqual(self.status(path, method="POST"), 405)
-        self.assertEqual(self.status(path + "socket"), 400)
+        self.assertEqual(self.status(path + "do/nix"), 405)
+        self.assertEqual(self.status(path + "do/nix", method="POST"), 400)
         self.assertFalse(self.page(origin="http://elsewhere.example").is_open)
         self.assertTrue(self.page(origin=f"http://127.0.0.1:{self.served.port}").is_open)
 

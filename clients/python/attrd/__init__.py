@@ -17,15 +17,17 @@ from .server import KEPT, Server, Text, connect, known_options, lasting_options,
 from .session import Mark, Question, Session
 from .terms import Node, read_term, write_term
 from .versions import VERSION, VersionWarning
+from .view import View, Views
+from .why import Instance, NoReason, Reason, Why
 
 __all__ = [
     "Answer", "AskValue", "AspectFault", "AttrdError", "Check", "Circular", "ClassOf", "Code", "Connection",
     "ConnectionClosed", "Costs", "Diagnostic", "Diagnostics", "Document", "Done", "Drop", "Edit", "Explanation", "Fault",
-    "FaultKind", "FromMark", "Grammar", "GrammarFault", "Insert", "KEPT", "LineFault", "Mark", "Memory", "Move", "NoValue",
-    "Node", "Ok", "Opened", "OutOfMemory", "Part", "Path", "Pending", "ProtocolFault", "Put", "Question", "Refused",
-    "RefusedReply", "Reply", "ReplyTimeout", "Server", "ServerLost", "ServerRestarted", "Session", "SetNode", "SetToken",
-    "Shape", "StartFault", "Step", "SyntaxFault", "TermFault", "Text", "TreeDiffers", "UnknownName", "Update", "VERSION", "Value",
-    "VersionWarning",
+    "FaultKind", "FromMark", "Grammar", "GrammarFault", "Insert", "Instance", "KEPT", "LineFault", "Mark", "Memory", "Move",
+    "NoReason", "NoValue", "Node", "Ok", "Opened", "OutOfMemory", "Part", "Path", "Pending", "ProtocolFault", "Put", "Question",
+    "Reason", "Refused", "RefusedReply", "Reply", "ReplyTimeout", "Server", "ServerLost", "ServerRestarted", "Session",
+    "SetNode", "SetToken", "Shape", "StartFault", "Step", "SyntaxFault", "TermFault", "Text", "TreeDiffers", "UnknownName",
+    "Update", "VERSION", "Value", "VersionWarning", "View", "Views", "Why",
     "accepted", "applied", "connect", "diagnostics", "difference", "explain", "known_options", "lasting_options",
     "measured", "program_version", "read_term", "start", "write_term",
 ]

@@ -1,10 +1,11 @@
-"""`python -m attrd GRAMMAR TREE ASPECT..`: a prompt."""
+"""`python -m attrd GRAMMAR TREE ASPECT..`: a prompt; `python -m attrd check GRAMMAR ASPECT..`: all faults at once."""
 from __future__ import annotations
 
 import argparse
 import sys
 from typing import List, Optional
 
+from . import check_command
 from .errors import AttrdError, StartFault
 from .explain import explain
 from .prompt import Prompt
@@ -13,7 +14,8 @@ from .prompt import Prompt
 def options(words: Optional[List[str]] = None) -> argparse.Namespace:
     """The words of the command line. Ends the process with status 2 where they are wrong."""
     reader = argparse.ArgumentParser(prog="python -m attrd", description="A prompt for attrd: lines as the manual has them, with "
-                                     "history (arrow keys) and completion (tab) of commands, paths, parts and attributes.")
+                                     "history (arrow keys) and completion (tab) of commands, paths, parts and attributes. "
+                                     "'check GRAMMAR ASPECT..' in the place of files tells all faults of these at once.")
     reader.add_argument("grammar", metavar="GRAMMAR")
     reader.add_argument("tree", metavar="TREE")
     reader.add_argument("aspects", metavar="ASPECT", nargs="+")
@@ -25,6 +27,9 @@ def options(words: Optional[List[str]] = None) -> argparse.Namespace:
 
 def main(words: Optional[List[str]] = None) -> int:
     """Runs the prompt until its input ends; the status: 0, 1 where a file is refused, 3 where the server is lost."""
+    words = sys.argv[1:] if words is None else words
+    if words[:1] == ["check"]:
+        return check_command.main(words[1:])
     given = options(words)
     files = [given.grammar, given.tree, *given.aspects]
     try:

@@ -22,9 +22,13 @@ def place_text(place: Place) -> str:
     if isinstance(place, (Path, FromMark)):
         return str(place)
     marked = getattr(place, "place", None)
-    if isinstance(marked, FromMark):
+    if isinstance(marked, (Path, FromMark)):
         return str(marked)
-    raise LineFault(f"no place: {type(place).__name__}")
+    raise LineFault(f"a place is a str that spells one, a Path, a mark or a View, and not {_told(place)}")
+
+
+def _told(value: object) -> str:
+    return "None" if value is None else f"{type(value).__name__} {value!r}"[:60]
 
 
 def name_text(name: str) -> str:
@@ -35,10 +39,16 @@ def name_text(name: str) -> str:
 
 
 def argument_text(argument: Argument) -> str:
-    """An argument: a `str` is a text, a place is a Path, a FromMark or a mark, and None is null. Raises LineFault."""
+    """An argument: a `str` is a text, a place is a Path, a FromMark, a mark or a View, and None is null. Raises LineFault."""
     if argument is None:
         return "null"
-    return quoted(argument) if isinstance(argument, str) else place_text(argument)
+    if isinstance(argument, str):
+        return quoted(argument)
+    try:
+        return place_text(argument)
+    except LineFault:
+        raise LineFault(f"an argument is a str (for a text), a Path, a mark or a View (for a node), or None (for null), and not {_told(argument)}: "
+                        "a parameter is a String or a class") from None
 
 
 def index_text(index: int) -> str:
@@ -51,14 +61,14 @@ def index_text(index: int) -> str:
 def value_text(value: Token) -> str:
     """The value of a token. Raises LineFault where it is none."""
     if not isinstance(value, (str, int)) or (isinstance(value, int) and not LEAST_INT <= value <= GREATEST_INT):
-        raise LineFault(f"no value of a token: {value!r}")
+        raise LineFault(f"a token is a str, an int of 32 bits or a bool, and not {_told(value)}")
     return write_token(value)
 
 
 def term_text(term: Union[str, Node]) -> str:
     """The term of a tree; a `str` is sent as it is. Raises LineFault."""
     if not isinstance(term, (str, Node)):
-        raise LineFault(f"no term: {type(term).__name__}")
+        raise LineFault(f"a term is a Node, or a str that spells one, and not {_told(term)}")
     return term if isinstance(term, str) else write_term(term)
 
 

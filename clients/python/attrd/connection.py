@@ -13,6 +13,7 @@ from .errors import AttrdError, ConnectionClosed, LineFault, OutOfMemory, Protoc
 from .lexical import GREATEST_VERSION, LINE_BYTES
 from .replies import Code, Done, Memory, Ok, RefusedReply, Reply, read_reply
 from .session import Session
+from .terms import Node
 
 SESSIONS = 1_000
 HIGH_WATER = 1 << 16
@@ -25,7 +26,7 @@ ConnectionOrServer = TypeVar("ConnectionOrServer", bound="Connection")
 class Pending:
     """A line that was sent, and its reply when it comes."""
 
-    __slots__ = ("session", "command", "_connection", "_reply", "_failure", "received")
+    __slots__ = ("session", "command", "_connection", "_reply", "_failure", "received", "_calls")
 
     def __init__(self, connection: Connection, session: int, command: str) -> None:
         self.session, self.command = session, command
@@ -33,6 +34,14 @@ class Pending:
         self._connection = connection
         self._reply: Optional[Reply] = None
         self._failure: Optional[AttrdError] = None
+        self._calls: List[Callable[[], None]] = []
+
+    def when_answered(self, call: Callable[[], None]) -> None:
+        """Calls this when the reply is here, or will never come: at once where that is so already."""
+        if self.is_answered:
+            call()
+        else:
+            self._calls.append(call)
 
     @property
     def is_answered(self) -> bool:
@@ -66,6 +75,9 @@ class Pending:
 
     def _settle(self, reply: Optional[Reply], failure: Optional[AttrdError] = None) -> None:
         self._reply, self._failure, self.received = reply, failure, time.perf_counter()
+        calls, self._calls = self._calls, []
+        for call in calls:
+            call()
 
 
 def accepted(reply: Reply, line: str) -> Reply:
@@ -80,11 +92,13 @@ def accepted(reply: Reply, line: str) -> Reply:
 class Connection:
     """Lines and replies over one channel. Threads may share it: one waits while another one's line is under way.
 
-    `version` is the last version that any reply told, None before the first.
+    `version` is the last version that any reply told, None before the first. `started_with` is the tree of a server that was
+    started here with a Node; None of any other.
     """
 
     def __init__(self, channel: Channel) -> None:
         self.version: Optional[int] = None
+        self.started_with: Optional[Node] = None
         self._channel = channel
         self._lock = threading.RLock()
         self._out = bytearray()
@@ -175,6 +189,10 @@ class Connection:
     def fileno(self) -> int:
         """The end to read from, for `select` and event loops: when it is readable, call `poll`."""
         return self._channel.incoming
+
+    def writing_fileno(self) -> Optional[int]:
+        """The end to write to, where lines wait to be written: when it is writable, call `poll`. None where none wait."""
+        return self._channel.outgoing if self._out and self._lost is None else None
 
     def settle(self, is_done: Callable[[], bool], seconds: Optional[float] = None) -> None:
         """Writes and reads until this is so, until the time is over, or until the stream ends."""

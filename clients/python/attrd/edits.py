@@ -115,10 +115,10 @@ def _apply(grammar: Grammar, tree: Node, edit: Edit) -> Node:
     if node is None or edit.path.steps[-1].index is None:
         raise _miss(edit)
     without = _dropped(grammar, tree, edit.path)
-    return _inserted(grammar, without, _behind(edit.path, edit.target), edit.part, edit.index, node)
+    return _inserted(grammar, without, behind(edit.path, edit.target), edit.part, edit.index, node)
 
 
-def _behind(dropped: Path, path: Path) -> Path:
+def behind(dropped: Path, path: Path) -> Path:
     """Where the node of a path is when an element of a list was taken out."""
     *above, last = dropped.steps
     at = len(above)

@@ -40,7 +40,7 @@ def _read_steps(what: str, text: str, at: int) -> Tuple[Step, ...]:
     return tuple(steps)
 
 
-@dataclass(frozen=True)
+@dataclass(frozen=True, repr=False)
 class Path:
     """A path from the root: `Path()` is the root itself."""
 
@@ -74,8 +74,11 @@ class Path:
     def __str__(self) -> str:
         return "/" + "/".join(map(str, self.steps))
 
+    def __repr__(self) -> str:
+        return f"<Path {self}>"
 
-@dataclass(frozen=True)
+
+@dataclass(frozen=True, repr=False)
 class FromMark:
     """Steps from a marked node: `$u/Left`."""
 
@@ -95,3 +98,6 @@ class FromMark:
 
     def __str__(self) -> str:
         return "/".join(["$" + self.mark, *map(str, self.steps)])
+
+    def __repr__(self) -> str:
+        return f"<FromMark {self}>"

@@ -5,9 +5,10 @@ import os
 import re
 import sys
 from pathlib import Path as FilePath
-from typing import Callable, Dict, List, Optional, Sequence, TextIO
+from typing import Callable, Dict, List, Optional, Sequence, TextIO, Tuple
 
 from . import commands
+from .authoring import Source, Specification
 from .declarations import Attribute, attributes_of
 from .diagnostics import Diagnostics, diagnostics
 from .document import Document
@@ -17,6 +18,7 @@ from .paths import FromMark, Path
 from .replies import Done, Ok, Opened, Value
 from .server import Server, start
 from .terms import Node
+from .why import Reason, Step, Why, read_instance
 
 HELP = """A line is [SESSION] [at VERSION] COMMAND; without a session it is of session 0. A '> ' in front is passed over, and so are replies
 that were pasted with it.
@@ -25,6 +27,7 @@ that were pasted with it.
   insert PLACE PART INDEX TERM         drop PLACE
   token PLACE PART VALUE               move PLACE to PLACE PART INDEX
   mark NAME PLACE                      unmark NAME         where NAME
+  why PLACE ATTRIBUTE(ARGUMENTS)       the equation of a value, and what it asked; then 'why 2' goes on with the second of these
   faults     all faults (with --faults ATTRIBUTE)     help     this     quit     the end"""
 COMMANDS = ("ask", "show", "set", "put", "drop", "insert", "token", "move", "mark", "unmark", "where", "version", "post", "wait")
 SHAPES = {"put": Shape.OPTIONAL, "insert": Shape.LIST, "move": Shape.LIST, "token": Shape.TOKEN}
@@ -51,7 +54,7 @@ class Completion:
             words = words[2:]
         last = words[-1]
         if len(words) == 1:
-            return [it for it in (*COMMANDS, "faults", "help", "quit") if it.startswith(last)]
+            return [it for it in (*COMMANDS, "why", "faults", "help", "quit") if it.startswith(last)]
         return sorted(it for it in self._candidates(words) if it.startswith(last))
 
     def _candidates(self, words: List[str]) -> List[str]:
@@ -64,7 +67,7 @@ class Completion:
         if command == "move" and count == 3:
             return ["to"]
         at = 3 if command == "move" else 1
-        if command in ("ask", "post") and count == 3:
+        if command in ("ask", "post", "why") and count == 3:
             return [f"{it}(" for it in self.attribute_names(words[1])]
         if command in SHAPES and count == at + 2:
             return self.parts(words[at], SHAPES[command])
@@ -103,8 +106,11 @@ class Completion:
 class Prompt:
     """A server, and what is typed to it."""
 
-    def __init__(self, server: Server, grammar: Grammar, attributes: Sequence[Attribute], checks: Optional[Diagnostics]) -> None:
+    def __init__(self, server: Server, grammar: Grammar, specification: Specification, checks: Optional[Diagnostics]) -> None:
         self.server, self.grammar, self.checks = server, grammar, checks
+        self.specification = specification
+        self._steps: Tuple[Step, ...] = ()
+        attributes = [it for file in specification.aspects for it in attributes_of(file.text)]
         self._session = server.session(999)
         self._document: Optional[Document] = None
         self._marks: Dict[str, int] = {}
@@ -114,14 +120,14 @@ class Prompt:
     def start(grammar: str, tree: str, aspects: Sequence[str], program: str, faults: Sequence[str]) -> Prompt:
         """Starts the program. Raises StartFault and AttrdError; a grammar that is refused is told by the program."""
         texts = [read_file(it).decode("utf-8", "replace") for it in aspects]
-        attributes = [it for text in texts for it in attributes_of(text)]
-        if not faults:
-            server = start(grammar, tree, *aspects, program=program)
-            return Prompt(server, Grammar.load(grammar), attributes, None)
         server = start(grammar, tree, *aspects, program=program)
+        known, sources = Grammar.load(grammar), [Source(name, text) for name, text in zip(aspects, texts)]
+        specification = Specification(Source(grammar, read_file(grammar).decode("utf-8")), sources)
+        if not faults:
+            return Prompt(server, known, specification, None)
         server.close()
-        checks = diagnostics(Grammar.load(grammar), texts, faults)
-        return Prompt(start(grammar, tree, *aspects, checks.aspect, program=program), checks.grammar, attributes, checks)
+        checks = diagnostics(known, texts, faults)
+        return Prompt(start(grammar, tree, *aspects, checks.aspect, program=program), known, specification, checks)
 
     def __enter__(self) -> Prompt:
         return self
@@ -153,6 +159,8 @@ class Prompt:
             return HELP
         if line.strip() == "faults":
             return self.faults()
+        if line.startswith("why "):
+            return self.why(line[len("why "):].strip())
         found = _SESSION.match(line)
         session, command = (int(found[1]), found[2]) if found else (0, line)
         reply = self.server.send(session, command).reply()
@@ -162,6 +170,34 @@ class Prompt:
         if isinstance(reply, Opened):
             self.server.on_done(reply.number, lambda done: print(f"{session} {done}", flush=True))
         return None if isinstance(reply, Done) else f"{session} {reply}"
+
+    def why(self, asked: str) -> str:
+        """Why a value is what it is: of an instance, or of a step of the last reason, by its number. Raises what `Session.ask` raises,
+        NoReason and SyntaxFault."""
+        tree = self._tree()
+        if asked.isdigit():
+            if not 1 <= int(asked) <= len(self._steps):
+                return f"the last reason has {len(self._steps)} steps"
+            instance = self._steps[int(asked) - 1].instance
+        else:
+            instance = read_instance(self._with_path(asked))
+        running = Why(self.specification, tree).reason(instance)
+        try:
+            wanted = next(running)
+            while True:
+                answer = self._session.ask(wanted.path, wanted.attribute, *wanted.arguments)
+                wanted = running.send(answer)
+        except StopIteration as end:
+            reason: Reason = end.value
+        self._steps = reason.steps
+        return str(reason)
+
+    def _with_path(self, asked: str) -> str:
+        """A question whose place is a path, where it was a mark that was made here."""
+        place, blank, rest = asked.partition(" ")
+        marked = FromMark.read(place) if place.startswith("$") else None
+        path = None if marked is None else self._where(marked.mark)
+        return asked if path is None or marked is None else f"{Path(path.steps + marked.steps)}{blank}{rest}"
 
     def faults(self) -> str:
         """All faults, one a line. Raises what `Diagnostics.find` raises."""

@@ -78,6 +78,7 @@ def start(grammar: Source, tree: Union[Source, Node], *aspects: Source, program:
         files = [_put(folder, it) for it in (grammar, source, *aspects)]
         server = Server(_run([_path(program), *(options or []), "--", *files]))
         server.files = files
+        server.started_with = tree if isinstance(tree, Node) else None
         server.on_close(lambda: shutil.rmtree(folder, ignore_errors=True))
     except BaseException:
         shutil.rmtree(folder, ignore_errors=True)

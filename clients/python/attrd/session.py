@@ -63,6 +63,9 @@ class Mark:
     def __str__(self) -> str:
         return "$" + self.name
 
+    def __repr__(self) -> str:
+        return f"<Mark ${self.name} of session {self._session.number}>"
+
 
 class Question:
     """A posted question. `number` is the server's."""

@@ -8,6 +8,8 @@ import tempfile
 import unittest
 from pathlib import Path as FilePath
 
+from attrd.__main__ import main
+from attrd.prompt import Prompt
 from support import PROGRAM, ROOT, page_files
 
 PAGE = (ROOT / "docs" / "CLIENTS.md").read_text(encoding="utf-8")
@@ -47,6 +49,27 @@ class Page(unittest.TestCase):
         finally:
             names["session"].connection.close()
             names["server"].close()
+
+    def test_its_prompt(self):
+        """The prompt answers what stands behind each line that is typed on the page."""
+        files = ["kinds.jrag", "names.jrag", "types.jrag", "errors.jrag"]
+        with Prompt.start("small.ast", "tree.txt", files, PROGRAM, ["error"]) as prompt:
+            count = 0
+            for block in re.findall(r"^```text\n(attrd> .*?)^```$", PAGE, re.M | re.S):
+                for typed, wanted in re.findall(r"^attrd> (.*)\n((?:(?!attrd> ).*\n)*)", block, re.M):
+                    self.assertEqual(f"{prompt.answer(typed)}\n", wanted)
+                    count += 1
+            self.assertEqual(count, 5)
+
+    def test_its_faults(self):
+        """The command that tells all faults of `more.jrag` tells what stands below it."""
+        aspect, command, wanted = re.search(r"^```text\n(aspect More \{\n.*?)^```\n\n```sh\npython -m attrd (check .*?)\n```\n\n```text\n(.*?)^```$",
+                                            PAGE, re.M | re.S).groups()
+        FilePath("more.jrag").write_text(aspect, encoding="utf-8")
+        printed = io.StringIO()
+        with contextlib.redirect_stdout(printed):
+            status = main(command.split(" "))
+        self.assertEqual((status, printed.getvalue()), (1, wanted))
 
 
 if __name__ == "__main__":

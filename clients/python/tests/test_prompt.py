@@ -24,6 +24,17 @@ class Lines(unittest.TestCase):
             self.assertEqual(answer(typed), told, typed)
         self.assertIn("insert", answer("help"))
 
+    def test_why(self):
+        answer = self.prompt.answer
+        self.assertEqual(answer("why /Block/Stmt:1/Expr value").splitlines()[0], "/Block/Stmt:1/Expr.value() = 3")
+        self.assertEqual(answer("why 1").splitlines()[0], "/Block/Stmt:1/Expr/Left.value() = 1")
+        self.assertEqual(answer("why 9"), "the last reason has 2 steps")
+        answer("mark u /Block/Stmt:1/Expr")
+        answer("token /Block/Stmt:1/Expr/Right Value 5")
+        self.assertIn("= 6", answer("why $u value()"))
+        self.assertIn('local("x")', answer('why $u/Left lookup("x")'))
+        self.assertEqual(self.prompt.completion.words("why /Block/Stmt:1/Expr v"), ["value("])
+
     def test_completion(self):
         words = self.prompt.completion.words
         self.prompt.answer("1 mark u /Block/Stmt:1")

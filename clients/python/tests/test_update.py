@@ -206,6 +206,70 @@ class Documents(ServerTest):
         self.update(self.program(Node("Print", Node("Num", 1)), deep))
         self.update(self.program(deep.cells[0][0]))
 
+    def test_the_tree_that_it_was_started_with_is_not_read_back(self):
+        tree = self.program(Node("Print", Node("Num", 1)))
+        with attrd.start(CALCULATOR / "calc.ast", tree, CALCULATOR / "calc.jrag", program=PROGRAM) as server:
+            document = Document(server.session(), calculator_grammar())
+            self.assertIs(document.tree, tree)
+            document.verify()
+            server.session().token("/Block/Stmt:0/Expr", "Value", 2)
+            again = Document(server.session(), calculator_grammar())
+            self.assertEqual((str(again.tree), again.version), ("Program(Block([Print(Num(2))]))", 1))
+            self.assertRaises(attrd.TermFault, Document, self.other_server(tree), Grammar.read("Program ::= Block; Block;"))
+
+    def other_server(self, tree):
+        """A session of a server of its own over the tree."""
+        server = attrd.start(CALCULATOR / "calc.ast", tree, CALCULATOR / "calc.jrag", program=PROGRAM)
+        self.addCleanup(server.close)
+        return server.session()
+
+    def test_marks_stand_where_the_server_says(self):
+        """Random edits: the places that the document knows are those that the server tells."""
+        grammar, chance = calculator_grammar(), random.Random(5)
+        trees = Trees(grammar, chance)
+        begun = trees.sized(20, 60)
+        kept = moved = 0
+        with attrd.start(CALCULATOR / "calc.ast", begun, CALCULATOR / "calc.jrag", program=PROGRAM) as server:
+            document = Document(server.session(), grammar)
+            for round_number in range(60):
+                views = list(document.view.all())
+                for number, view in enumerate(chance.sample(views, min(3, len(views)))):
+                    document.mark(f"m{round_number}_{number}", view)
+                before = document.places
+                document.update(trees.other(document.tree, 10, 80))
+                for name in before:
+                    told = server.send(document.session.number, f"where {name}").reply()
+                    known = document.places.get(name)
+                    self.assertEqual(str(told), "refused 3 mark" if known is None else f"= {known}")
+                    kept += known is not None
+                    moved += known is not None and known != before[name]
+                for name in list(document.places)[:-20]:
+                    document.unmark(name)
+        self.assertGreater(kept, 100)
+        self.assertGreater(moved, 20)
+
+    def test_another_server_takes_its_place(self):
+        grammar = calculator_grammar()
+        document = Document(self.session, grammar)
+        document.mark("use", "/Block/Stmt:1/Expr/Left")
+        document.update(self.program(Node("Print", Node("Num", 1)), *document.tree.cells[0].cells[0]))
+        wanted = document.tree
+        self.server._channel.process.kill()
+        self.assertRaises(attrd.ServerLost, document.update, self.program())
+        with attrd.start(CALCULATOR / "calc.ast", CALCULATOR / "tree.txt", CALCULATOR / "calc.jrag", program=PROGRAM) as again:
+            document.reopen(again.session())
+            document.verify()
+            self.assertEqual((document.tree, str(document.marks["use"].where())), (wanted, "/Block/Stmt:2/Expr/Left"))
+            document.update(self.program(*wanted.cells[0].cells[0][1:]))
+            self.assertEqual(str(document.places["use"]), "/Block/Stmt:1/Expr/Left")
+            document.reopen(document.session)
+            self.assertEqual(str(again.session(0).where("use")), "/Block/Stmt:1/Expr/Left")
+            again.session().insert("/Block", "Stmt", 0, 'Decl("z",-)')
+            document.refresh()
+            self.assertEqual(str(document.places["use"]), "/Block/Stmt:2/Expr/Left")
+            document.unmark("use")
+            self.assertEqual((document.marks, document.places), ({}, {}))
+
     def test_costs_follow_the_server(self):
         document = Document(self.session, calculator_grammar())
         for number in range(5):

@@ -6,7 +6,8 @@ const nodes = new Map();      // number of a node -> the rows below it, of those
 const rows = new Map();       // number of a node -> its row
 const probes = new Map();     // number of a probe -> its card
 const open = new Set();
-const state = {rootNode: null, focus: 0, at: 0, detail: null, detailText: "", roundVersion: -1, isTermOpen: false, socket: null};
+const state = {rootNode: null, focus: 0, at: 0, detail: null, detailText: "", roundVersion: -1, isTermOpen: false, key: "", tried: "", isFromSource: false, sending: Promise.resolve()};
+const specs = new Map();      // number of a probe -> what makes it again
 
 function make(name, properties = {}, ...children) {
   const element = document.createElement(name);
@@ -19,13 +20,38 @@ function make(name, properties = {}, ...children) {
   return element;
 }
 
+// One thing after the other: each waits until the one before is done.
 function send(message) {
-  if (state.socket.readyState === WebSocket.OPEN) state.socket.send(JSON.stringify(message));
+  state.sending = state.sending.then(async () => {
+    try {
+      await fetch(`do/${state.key}`, {method: "POST", body: JSON.stringify(message)});
+    } catch {
+      lose("The page's program has ended");
+    }
+  });
 }
 
 function say(text) { by("live").textContent = text; }
 
-function fault(text) { by("fault").textContent = text ? `Refused: ${text}` : ""; }
+// A refusal is told beside what was tried: behind its form, in its card, or below the path of the node.
+function fault(text) {
+  by("fault").textContent = text ? `Refused: ${text}` : "";
+  placeFault();
+  if (text) by("fault").scrollIntoView({block: "nearest"});
+}
+
+function placeFault() {
+  const tried = state.tried && document.querySelector(`[data-tried="${CSS.escape(state.tried)}"]`);
+  const where = by("node").querySelector(".where");
+  if (tried) (tried.closest("details:not([open])") || tried).after(by("fault"));
+  else if (where) where.after(by("fault"));
+  else by("node").after(by("fault"));
+}
+
+function trying(what) {
+  state.tried = what;
+  fault("");
+}
 
 const milliseconds = (value) => `${value < 10 ? value.toFixed(1) : Math.round(value)} ms`;
 const named = (node) => node.label ? `${node.class} ${node.label}` : node.class;
@@ -133,7 +159,7 @@ function focusRow(id, isMoved) {
   const row = rows.get(id);
   if (row && isMoved) row.focus();
   if (row) row.scrollIntoView({block: "nearest"});
-  fault("");
+  tellPlace();
   send({do: "select", id});
 }
 
@@ -201,7 +227,9 @@ function drawDetail(detail) {
   if (text === state.detailText) return;
   state.detailText = text;
   const kept = keptFields(detail);
+  if (!detail || !state.detail || detail.id !== state.detail.id) trying("");
   state.detail = detail;
+  by("node").after(by("fault"));
   if (!detail) {
     by("node").replaceChildren(make("p", {className: "empty"}, "Select a node in the tree."));
     return;
@@ -211,6 +239,7 @@ function drawDetail(detail) {
     ...detail.cells.filter((it) => it.shape === "token").map((it) => tokenForm(detail, it)),
     ...detail.cells.filter((it) => it.shape === "list" || (it.shape === "optional" && !it.filled)).map((it) => newForm(detail, it)),
     ...buttons(detail), termForm(detail), attributeList(detail));
+  placeFault();
   const details = by("node").querySelector("details");
   if (details) details.open = state.isTermOpen;
   for (const {key, value, hasFocus, range} of kept) {
@@ -232,8 +261,8 @@ function keptFields(detail) {
   });
 }
 
-function form(action, ...children) {
-  return make("form", {className: "line", onsubmit: (event) => { event.preventDefault(); fault(""); action(); }}, ...children);
+function form(name, action, ...children) {
+  return make("form", {className: "line", "data-tried": name, onsubmit: (event) => { event.preventDefault(); trying(name); action(); }}, ...children);
 }
 
 function labelled(text, control) { return make("label", {}, make("span", {}, text), control); }
@@ -245,7 +274,7 @@ function tokenForm(detail, cell) {
     : make("input", {type: "text", value: cell.value, spellcheck: false, autocomplete: "off", inputMode: cell.kind === "int" ? "numeric" : "text"});
   control.dataset.field = field;
   control.dataset.told = cell.value;
-  return form(() => send({do: "edit", edit: "token", id: detail.id, part: cell.name, value: control.value}),
+  return form(field, () => send({do: "edit", edit: "token", id: detail.id, part: cell.name, value: control.value}),
     labelled(`${cell.name} (${cell.kind})`, control), make("button", {type: "submit"}, "Change"));
 }
 
@@ -260,20 +289,20 @@ function newForm(detail, cell) {
   const act = () => cell.shape === "list"
     ? send({do: "edit", edit: "insert", id: detail.id, part: cell.name, index: Number(index.value), term: term.value})
     : send({do: "edit", edit: "put", id: detail.id, part: cell.name, term: term.value});
-  return form(act, labelled(`${cell.name} (${cell.shape === "list" ? `list of ${cell.count}` : "empty"})`, choice),
+  return form(`new ${cell.name}`, act, labelled(`${cell.name} (${cell.shape === "list" ? `list of ${cell.count}` : "empty"})`, choice),
     labelled("term", term), index ? labelled("at", index) : null,
     make("button", {type: "submit"}, cell.shape === "list" ? "Insert" : "Fill"));
 }
 
 function buttons(detail) {
   const found = [];
-  const add = (text, action, isOff) => found.push(make("button", {type: "button", disabled: isOff, "data-field": text, onclick: () => { fault(""); action(); }}, text));
+  const add = (text, action, isOff) => found.push(make("button", {type: "button", disabled: isOff, "data-field": text, onclick: () => { trying("buttons"); action(); }}, text));
   if (detail.canDrop) add("Remove", () => send({do: "edit", edit: "drop", id: detail.id}), false);
   if (detail.index !== null) {
     add("Move up", () => moveInList(-1), detail.index === 0);
     add("Move down", () => moveInList(1), detail.index === detail.count - 1);
   }
-  return found.length ? [make("p", {className: "buttons"}, ...found)] : [];
+  return found.length ? [make("p", {className: "buttons", "data-tried": "buttons"}, ...found)] : [];
 }
 
 function termForm(detail) {
@@ -283,7 +312,7 @@ function termForm(detail) {
   return make("details", {ontoggle: (event) => { state.isTermOpen = event.target.open; }},
     make("summary", {"data-field": "summary"}, "Its term"),
     detail.term === null ? make("p", {className: "empty"}, "The term is long, and isn't shown.") : null,
-    form(() => send({do: "edit", edit: "set", id: detail.id, term: term.value}), labelled("term", term), make("button", {type: "submit"}, "Replace")));
+    form("term", () => send({do: "edit", edit: "set", id: detail.id, term: term.value}), labelled("term", term), make("button", {type: "submit"}, "Replace")));
 }
 
 function attributeList(detail) {
@@ -297,10 +326,46 @@ function attributeForm(detail, it) {
     spellcheck: false, autocomplete: "off", "data-field": `argument ${it.name} ${at}`, "data-told": ""}));
   const told = [it.kind, it.inherited ? "inherited" : "", it.lazy ? "lazy" : ""].filter((word) => word).join(", ");
   const act = () => send({do: "probe", id: detail.id, attribute: it.name, arguments: fields.map((field) => field.value)});
-  const line = form(act, make("button", {type: "submit", "data-field": `probe ${it.name}`, "aria-label": `Probe ${it.name}`}, "Probe"),
-    make("code", {}, `${it.name}(${it.parameters.join(", ")})`), make("span", {className: "kind"}, told), ...fields);
+  const line = form(`probe ${it.name}`, act, make("button", {type: "submit", "data-field": `probe ${it.name}`, "aria-label": `Probe ${it.name}`}, "Probe"),
+    make("code", {}, `${it.name}(${it.parameters.join(", ")})`), make("span", {className: "kind"}, told), ...fields,
+    fields.length ? null : make("button", {type: "button", className: "survey", "data-field": `survey ${it.name}`, "aria-label": `Ask ${it.name} of all nodes of a class`,
+      onclick: () => { trying(`probe ${it.name}`); send({do: "survey", of: it.of, attribute: it.name}); }}, `All ${it.of}`));
   line.className = "attribute";
   return line;
+}
+
+// The source text: the cursor selects the node that stands there, and what is typed goes to the tree.
+
+const source = {places: [], isCurrent: false, fault: "", timer: 0, typed: ""};
+const TYPING_MILLISECONDS = 250;
+
+function drawSource(told) {
+  by("source").hidden = false;
+  if (told.text !== null) by("source-text").value = told.text;
+  Object.assign(source, {places: told.places, isCurrent: told.isCurrent, fault: told.fault});
+  source.typed = by("source-text").value;
+  tellPlace();
+}
+
+function tellPlace() {
+  const place = source.places.find(([id]) => id === state.focus);
+  const text = place ? by("source-text").value.slice(place[1], place[2]).trim().split("\n")[0].slice(0, 80) : "";
+  by("source-state").textContent = source.fault ? `This can't be read: ${source.fault}`
+    : !source.isCurrent ? "The tree was edited, and is that of this text no more, until the text is changed."
+    : text ? `The selected node: ${text}` : "The selected node stands nowhere in the text.";
+}
+
+function sourceCursor() {
+  const at = by("source-text").selectionStart;
+  const found = source.places.filter(([, start, end]) => start <= at && at <= end).sort((a, b) => (a[2] - a[1]) - (b[2] - b[1]))[0];
+  if (!found || found[0] === state.focus || source.typed !== by("source-text").value) return;
+  state.isFromSource = true;
+  send({do: "reveal", id: found[0]});
+}
+
+function sourceTyped() {
+  clearTimeout(source.timer);
+  source.timer = setTimeout(() => send({do: "source", text: by("source-text").value}), TYPING_MILLISECONDS);
 }
 
 // Probes.
@@ -311,13 +376,56 @@ function link(node) {
     make("code", {}, node.path));
 }
 
-const SIGNS = {value: "=", node: "→", fault: "!", circular: "↻", gone: "×", refused: "!"};
+const SIGNS = {survey: "Σ", value: "=", node: "→", fault: "!", circular: "↻", gone: "×", refused: "!"};
 
 function answerOf(it) {
   const sign = make("span", {className: "sign", "aria-hidden": "true"}, SIGNS[it.kind]);
-  if (it.kind === "node") return [sign, link(it.link)];
+  if (it.kind === "node") return [sign, link(it.link), ...askResult(it)];
   const told = [sign, make("span", {className: "text"}, it.value)];
   return it.link ? [...told, make("span", {className: "in"}, ` in ${it.in}() of `), link(it.link)] : told;
+}
+
+// What may be asked of the node that a probe has for a result: another probe, which follows whatever the result is then.
+function askResult(it) {
+  if (!it.spec || !it.attributes || !it.attributes.length) return [];
+  const choice = make("select", {"aria-label": `Attribute of the result of ${it.attribute}`}, ...it.attributes.map((name) => make("option", {}, name)));
+  const act = () => send({do: "probe", ...it.spec, then: [...it.spec.then, choice.value]});
+  return [make("form", {className: "then", onsubmit: (event) => { event.preventDefault(); trying(`card ${it.probe}`); act(); }}, choice,
+    make("button", {type: "submit", "aria-label": `Probe the result of ${it.attribute}`}, "Probe its"))];
+}
+
+function rowsOf(it) {
+  if (!it.rows) return [];
+  return [make("ul", {className: "rows"}, ...it.rows.map((row) => make("li", {}, link(row.node), make("code", {}, row.value))))];
+}
+
+// Why a value is what it is: the equation, and a line for each attribute that it asked, which may be asked about in its turn.
+
+let whyCount = 0;
+
+function whyButton(instance, name) {
+  const place = make("div", {className: "why", "data-why": ++whyCount});
+  const number = whyCount;
+  const ask = () => {
+    if (place.childElementCount) place.replaceChildren();
+    else { trying(`why ${number}`); send({do: "why", instance, to: number}); }
+  };
+  return [make("button", {type: "button", className: "ask-why", "data-tried": `why ${number}`, "aria-label": `Why is ${name} what it is?`, onclick: ask}, "Why?"), place];
+}
+
+function drawWhy(told) {
+  const place = document.querySelector(`[data-why="${told.to}"]`);
+  if (!place) return;
+  const facts = [...(told.at ? [`at ${told.at}`] : []), ...told.bound];
+  place.replaceChildren(
+    make("p", {}, make("code", {}, `${told.head} = ${told.equation}`), " ", make("span", {className: "kind"}, told.place)),
+    ...facts.map((it) => make("p", {className: "kind"}, it)),
+    make("ol", {}, ...told.steps.map((it) => {
+      const [button, below] = whyButton(it.instance, it.text);
+      return make("li", {title: it.instance}, make("code", {}, `${it.text} ${it.answer}`), " ", button, below);
+    })),
+    ...(told.stopped ? [make("p", {className: "stopped"}, told.stopped)] : []));
+  say(`${told.head} = ${told.equation}`);
 }
 
 function drawProbe(it) {
@@ -332,12 +440,14 @@ function drawProbe(it) {
   card.dataset.kind = it.kind;
   card.dataset.probe = it.probe;
   const isChanged = Object.hasOwn(it, "before");
-  const name = `${it.attribute}${it.node ? ` of ${named(it.node)}` : ""}`;
+  const name = `${it.attribute}${it.of ? ` of all ${it.of}` : it.node ? ` of ${named(it.node)}` : ""}`;
+  if (it.spec) specs.set(it.probe, it.spec);
   card.replaceChildren(
     make("div", {className: "head"}, make("code", {className: "attribute-name"}, it.attribute), " of ",
-      it.node && it.kind !== "gone" ? link(it.node) : make("span", {className: "label"}, it.node ? named(it.node) : "a node"),
+      it.node && it.kind !== "gone" ? link(it.node) : make("span", {className: "label"}, it.of ? `all ${it.of}` : it.node ? named(it.node) : "a node"),
       make("button", {type: "button", className: "close", "aria-label": `Remove the probe ${name}`, onclick: () => removeProbe(it.probe)}, "Remove")),
-    make("div", {className: "answer"}, ...answerOf(it)),
+    make("div", {className: "answer", "data-tried": `card ${it.probe}`}, ...answerOf(it)), ...rowsOf(it),
+    ...(it.instance && it.kind !== "gone" ? whyButton(it.instance, name) : []),
     make("p", {className: "change"}, isChanged ? `changed, was ${it.before}` : ""));
   card.classList.toggle("changed", isChanged);
   if (had !== null) (card.querySelector(`.${had.split(" ")[0]}`) || card).focus();
@@ -364,11 +474,31 @@ function drawRound(told) {
   }
   state.roundVersion = told.version;
   const said = told.probes.map(drawProbe).filter((it) => it);
+  remember();
   if (said.length) say(said.length > 4 ? `${said.length} probes changed` : said.join(". "));
   const changed = told.probes.filter((it) => Object.hasOwn(it, "before")).length;
   by("round").textContent = told.asked ? `${told.asked} asked at version ${told.version}, in ${milliseconds(told.milliseconds)}` : "";
   const entry = by("edits").querySelector(`[data-version="${told.version}"] .round`);
   if (entry && told.asked) entry.textContent = `${changed} of ${told.asked} probes changed, ${milliseconds(told.milliseconds)}`;
+}
+
+// The address has the probes, so that they are there again when the page is loaded anew.
+
+function remember() {
+  const kept = [...probes.keys()].map((it) => specs.get(it)).filter((it) => it);
+  history.replaceState(null, "", kept.length ? `#${encodeURIComponent(JSON.stringify(kept))}` : location.pathname);
+}
+
+function askRemembered() {
+  let kept = [];
+  try {
+    kept = JSON.parse(decodeURIComponent(location.hash.slice(1)) || "[]");
+  } catch {
+    fault("the address has no probes that can be read");
+  }
+  for (const it of Array.isArray(kept) ? kept : []) {
+    send(it.survey ? {do: "survey", of: it.survey, attribute: it.attribute} : {do: "probe", ...it});
+  }
 }
 
 // Edits.
@@ -397,9 +527,19 @@ function drawWork(told) {
 // Messages of the hub.
 
 const takes = {
+  window(told) { state.key = told.key; },
   hello(told) {
     nodes.clear();
     open.clear();
+    if (told.isNew) {
+      by("refused-file").hidden = true;
+      for (const card of probes.values()) card.remove();
+      probes.clear();
+      by("edits").replaceChildren();
+      for (const it of told.edits) drawEdit(it);
+      by("undo").disabled = true;
+      state.focus = 0;
+    }
     take(told.nodes);
     for (const it of told.nodes) open.add(it.id);
     state.rootNode = told.rootNode;
@@ -409,12 +549,14 @@ const takes = {
     by("version").textContent = `version ${told.version}`;
     drawTree();
     send({do: "select", id: state.focus});
+    if (told.isNew) askRemembered();
   },
   nodes(told) {
     take(told.nodes);
     for (const id of told.above || []) open.add(id);
     drawTree();
-    if (told.reveal) focusRow(told.reveal, true);
+    if (told.reveal) focusRow(told.reveal, !state.isFromSource);
+    state.isFromSource = false;
   },
   edited(told) {
     const isHere = by("tree").contains(document.activeElement) || by("node").contains(document.activeElement);
@@ -430,10 +572,22 @@ const takes = {
     const card = probes.get(told.probe);
     if (card) card.remove();
     probes.delete(told.probe);
+    specs.delete(told.probe);
+    remember();
     by("no-probes").hidden = probes.size > 0;
   },
   accepted() { fault(""); },
   refused(told) { fault(told.text); },
+  undo(told) {
+    by("undo").disabled = told.edits === 0;
+    by("undo").textContent = told.edits ? `Undo (${told.edits})` : "Undo";
+  },
+  source(told) { drawSource(told); },
+  files(told) {
+    by("refused-file").hidden = false;
+    by("refused-file").textContent = `A file was changed, and isn't taken; all goes on as it was.\n${told.text}`;
+  },
+  why(told) { drawWhy(told); },
   work(told) { drawWork(told); },
   clients(told) { by("clients").textContent = told.clients === 1 ? "1 client" : `${told.clients} clients`; },
   lost(told) { lose(told.text); },
@@ -444,15 +598,34 @@ function lose(text) {
   if (!by("lost").textContent) by("lost").textContent = `${text}. Start the page again.`;
 }
 
+function undo() {
+  trying("undo");
+  send({do: "undo"});
+}
+
+function undoKey(event) {
+  const isTyping = ["INPUT", "TEXTAREA", "SELECT"].includes(event.target.tagName);
+  if (event.key !== "z" || !(event.ctrlKey || event.metaKey) || isTyping || by("undo").disabled) return;
+  event.preventDefault();
+  undo();
+}
+
 function begin() {
+  for (const name of ["keyup", "click"]) by("source-text").addEventListener(name, sourceCursor);
+  by("source-text").addEventListener("input", sourceTyped);
+  by("undo").addEventListener("click", undo);
+  document.addEventListener("keydown", undoKey);
   by("tree").addEventListener("keydown", treeKey);
   by("tree").addEventListener("click", treeClick);
-  state.socket = new WebSocket(`${location.href.replace(/^http/, "ws").replace(/[?#].*/, "")}socket`);
-  state.socket.addEventListener("message", (event) => {
+  const events = new EventSource("events");
+  events.addEventListener("message", (event) => {
     const told = JSON.parse(event.data);
     takes[told.kind](told);
   });
-  state.socket.addEventListener("close", () => lose("The page's program has ended"));
+  events.addEventListener("error", () => {
+    events.close();
+    lose("The page's program has ended");
+  });
 }
 
 begin();

@@ -1,4 +1,4 @@
-"""Frames of WebSockets, apart from any stream: what is read is fed in, what is to be written comes out."""
+"""Frames of WebSockets, by which Chromium is driven: what is read is fed in, what is to be written comes out."""
 from __future__ import annotations
 
 import base64

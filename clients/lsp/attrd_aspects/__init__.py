@@ -1,0 +1,1 @@
+"""A language server for those who write grammars (`.ast`) and aspects (`.jrag`)."""

@@ -1,0 +1,22 @@
+"""The command line: `python3 -m attrd_aspects [--program PROGRAM]`."""
+from __future__ import annotations
+
+import argparse
+import sys
+from typing import List, Optional
+
+from attrd_lsp.editor import Editor, EditorGone
+from attrd_lsp.rpc import Inbox
+
+from .server import Server
+
+
+def main(words: Optional[List[str]] = None) -> int:
+    """Serves an editor on standard input and output; the exit status: 0 where the editor said before that it ends, else 1."""
+    parser = argparse.ArgumentParser(prog="attrd_aspects", description="A language server for grammars (.ast) and aspects (.jrag) of attrd.")
+    parser.add_argument("--program", default="attrd", help="the program attrd (found on the PATH if it isn't given)")
+    options = parser.parse_args(words)
+    try:
+        return Server(Inbox(sys.stdin.fileno()), Editor(sys.stdout.buffer), options.program).serve()
+    except EditorGone:
+        return 1

@@ -1,0 +1,120 @@
+"""The language server for grammars and aspects, by its protocol."""
+from __future__ import annotations
+
+import sys
+import tempfile
+import unittest
+from pathlib import Path
+from typing import Any, Dict, List
+
+from aspects_support import AspectsClient, write_small
+
+
+class OfPlaces(unittest.TestCase):
+    """What is answered of places in the tutorial's files."""
+
+    def setUp(self) -> None:
+        temporary = tempfile.TemporaryDirectory(prefix="attrd-aspects-")
+        self.addCleanup(temporary.cleanup)
+        self.folder = write_small(Path(temporary.name))
+        self.client = AspectsClient(self.folder)
+        self.addCleanup(self.client.close)
+
+    def at(self, file: str, text: str, number: int = 0, behind: int = 0) -> Dict[str, Any]:
+        """The place of a text where it stands for the time of that number, and so many characters on."""
+        return self.client.place(file, text, number, behind)
+
+    def told(self, *place: Any) -> str:
+        hover = self.client.ask("textDocument/hover", self.at(*place))
+        return "" if hover is None else str(hover["contents"]["value"])
+
+    def lines(self, method: str, *place: Any) -> List[str]:
+        """The stretches that a request answers, as FILE:LINE TEXT."""
+        return self.client.stretches(self.client.ask(f"textDocument/{method}", self.at(*place)))
+
+    def test_hover(self) -> None:
+        for file in ("small.ast", "names.jrag", "errors.jrag"):
+            self.client.open(file)
+        self.assertEqual(self.told("names.jrag", "field(n)", 1), "syn lazy Decl ClassDecl.field(String n)\nequations: ClassDecl")
+        self.assertEqual(self.told("names.jrag", "getSuper"), "ClassDecl ::= [Super:KindUse]\nKindUse getSuper()\nboolean hasSuper()")
+        self.assertEqual(self.told("names.jrag", "ClassDecl"), "ClassDecl : Kind ::= <ID:String> [Super:KindUse] Field:Decl* Block;")
+        self.assertEqual(self.told("errors.jrag", "errors() }"), "syn lazy int Kind.errors()\nequations: Kind, ClassDecl")
+        self.assertEqual(self.told("errors.jrag", "(k :", 0, 1), "Kind k")
+        self.assertEqual(self.told("small.ast", "Stmt;"), "abstract Stmt;\nbelow it: Block, Decl, Show")
+        self.assertEqual(self.told("errors.jrag", "aspect"), "")
+
+    def test_definitions_equations_and_references(self) -> None:
+        for file in ("small.ast", "names.jrag", "types.jrag"):
+            self.client.open(file)
+        self.assertEqual(self.lines("definition", "types.jrag", "getInit"), ["small.ast:10 Init"])
+        self.assertEqual(self.lines("definition", "names.jrag", "kind()"), ["kinds.jrag:7 kind"])
+        self.assertEqual(self.lines("definition", "names.jrag", "(Decl)", 0, 1), ["small.ast:10 Decl"])
+        self.assertEqual(self.lines("implementation", "types.jrag", "kind()", 0), ["types.jrag:4 kind"])
+        equations = self.lines("implementation", "types.jrag", "kind();")
+        self.assertEqual(equations, [f"types.jrag:{it} kind" for it in range(7, 13)])
+        uses = self.lines("references", "names.jrag", "superClass()", 0)
+        self.assertEqual(uses, ["errors.jrag:3 superClass", "errors.jrag:3 superClass", "errors.jrag:6 superClass", *["names.jrag:12 superClass"] * 2,
+                                "names.jrag:14 superClass"])
+        self.assertIn("small.ast:10 Init", self.lines("references", "small.ast", "Init"))
+        self.assertEqual(len(self.lines("references", "small.ast", "Init")), 9)
+
+    def test_completion(self) -> None:
+        self.client.open("types.jrag")
+        self.client.change("types.jrag", 'eq Num.kind() = lookupKind("int");', "eq Num.kind() = this.get")
+        self.assertEqual(self.labels("types.jrag", "this.get", 8), ["error", "errors", "getValue", "kind", "lookupKind", "mayBeInt", "own"])
+        self.client.change("types.jrag", "this.get", "getLe")
+        self.assertIn("getValue", self.labels("types.jrag", "getLe\n", 5))
+        self.client.change("types.jrag", "getLe", "((ClassDecl) lookupKind(\"int\")).;")
+        self.assertIn("superClass", self.labels("types.jrag", ")).;", 3))
+        self.client.change("types.jrag", "eq Truth.kind()", "eq Truth.")
+        self.assertEqual(self.labels("types.jrag", "eq Truth.", 9)[:2], ["error", "errors"])
+
+    def labels(self, file: str, text: str, behind: int) -> List[str]:
+        found = self.client.ask("textDocument/completion", self.at(file, text, 0, behind))
+        return [str(it["label"]) for it in found]
+
+    def test_symbols(self) -> None:
+        for file in ("small.ast", "kinds.jrag"):
+            self.client.open(file)
+        named = {file: [it["name"] for it in self.client.ask("textDocument/documentSymbol", self.at(file, ""))] for file in ("small.ast", "kinds.jrag")}
+        self.assertEqual(named["small.ast"][:4], ["Program", "Kind", "Basic", "ClassDecl"])
+        self.assertEqual(named["kinds.jrag"], ["Program.kindNamed", "KindUse.lookupKind", "Program.getKind().lookupKind", "KindUse.kind"])
+
+    def test_all_faults_in_all_files(self) -> None:
+        self.client.open("types.jrag")
+        self.assertEqual(self.client.diagnoses("types.jrag"), [])
+        self.client.change("types.jrag", 'eq Num.kind() = lookupKind("int");', "eq Num.kind() = nix();")
+        self.client.change("types.jrag", "getInit().kind()", "getInit().kin()")
+        self.assertEqual(self.client.diagnoses("types.jrag"), ["4 J3", "7 J3"])
+        self.client.open("small.ast")
+        self.client.change("small.ast", "Show : Stmt ::= Expr;", "Show : Stmt ::= Exp;")
+        self.assertEqual(self.client.diagnoses("small.ast"), ["11 G3"])
+        self.client.change("small.ast", "::= Exp;", "::= Expr;")
+        self.assertEqual(self.client.diagnoses("small.ast"), [])
+
+    def test_which_files_belong_together(self) -> None:
+        (self.folder / "other.ast").write_text("A;", "utf-8")
+        self.client.open("kinds.jrag")
+        self.assertIn("has 2 grammars: a file attrd.files there", self.client.shown())
+        self.assertEqual(self.told("kinds.jrag", "KindUse"), "")
+        (self.folder / "attrd.files").write_text("small.ast\nkinds.jrag\n", "utf-8")
+        self.client.notify("textDocument/didSave", self.client.place("kinds.jrag", ""))
+        self.assertEqual(self.client.diagnoses("kinds.jrag"), [])
+        self.assertEqual(self.told("kinds.jrag", "KindUse"), "KindUse ::= <ID:String>;")
+
+    def test_messages_that_are_none(self) -> None:
+        self.assertEqual(self.client.ask("textDocument/hover", {})["code"], -32602)
+        self.assertEqual(self.client.ask("textDocument/nix", {})["code"], -32601)
+        place = {"textDocument": {"uri": "file:///x.txt"}, "position": {"line": 0, "character": 0}}
+        self.assertIsNone(self.client.ask("textDocument/hover", place))
+
+    def test_a_program_that_is_not_there(self) -> None:
+        client = AspectsClient(self.folder, attrd="./nosuch")
+        self.addCleanup(client.close)
+        client.open("kinds.jrag")
+        self.assertIn("it can't be started", client.shown())
+        self.assertIn("KindUse ::=", str(client.ask("textDocument/hover", client.place("kinds.jrag", "KindUse"))))
+
+
+if __name__ == "__main__":
+    sys.exit(unittest.main())

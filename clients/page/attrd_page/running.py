@@ -1,0 +1,106 @@
+"""A program with its hub and its page, from its start to its end; and the next one, when a file of the language is another one."""
+from __future__ import annotations
+
+import argparse
+import asyncio
+import os
+import tempfile
+from pathlib import Path as FilePath
+from typing import Any, Dict, List, Optional, Sequence
+
+from attrd import AttrdError, Grammar, known_options, lasting_options, write_term
+
+from .hub import Hub
+from .page import Page
+from .source import SourceText
+from .upstream import Upstream, connect, start_program
+
+LOOK_SECONDS = 0.5
+
+
+class Running:
+    """A server that answers, with its hub and its page. `replies` ends when the server does."""
+
+    def __init__(self, stream: Upstream, hub: Hub, replies: asyncio.Future[Any], page: Page) -> None:
+        self.stream, self.hub, self.replies, self.page = stream, hub, replies, page
+
+    @classmethod
+    async def begin(cls, given: argparse.Namespace, tree: Optional[str] = None) -> Running:
+        """Starts the program over the files, or over a tree in the place of that which is named; or takes the one that is told.
+
+        Raises StartFault where a file is refused, and AttrdError.
+        """
+        files = [given.grammar, tree or given.tree, *given.aspects]
+        stream = await _upstream(given, files)
+        hub = Hub(stream)
+        replies = asyncio.ensure_future(hub.run())
+        try:
+            try:
+                first = hub.member()
+                await first.reply("version")
+                first.leave()
+            except AttrdError:
+                raise await stream.fault() if stream.process is not None else AttrdError(f"{given.connect}: the server has ended") from None
+            source = SourceText.load(given.parser, Grammar.load(given.grammar), given.source) if given.source else None
+            page = Page(hub, [given.grammar, given.tree, *given.aspects], given.program if stream.process is not None else None, source)
+            await page.begin()
+        except BaseException:
+            replies.cancel()
+            await hub.close()
+            raise
+        return cls(stream, hub, replies, page)
+
+    async def renewed(self, given: argparse.Namespace) -> Running:
+        """Another one over the files as they are now, with the tree as it is now. Raises as `begin`; this one stays what it is."""
+        while True:
+            version, mirror = self.hub.version, self.page.mirror
+            with tempfile.TemporaryDirectory(prefix="attrd-page-") as folder:
+                tree = FilePath(folder) / "tree.txt"
+                tree.write_text(write_term(mirror.term(mirror.root)), "utf-8")
+                other = await Running.begin(given, str(tree))
+            if self.hub.version == version:
+                if self.page.source is not None and other.page.source is not None:
+                    other.page.source.take(self.page.source.text)
+                    other.page.source.match(other.page.mirror, other.hub.version)
+                return other
+            await other.end()
+
+    async def end(self) -> str:
+        """Ends the page and the server; what a program that was started here wrote on standard error."""
+        await self.page.end()
+        self.replies.cancel()
+        return await self.hub.close()
+
+
+async def _upstream(given: argparse.Namespace, files: Sequence[str]) -> Upstream:
+    if given.connect:
+        return await connect(given.connect)
+    options = ["--work", *lasting_options(known_options(given.program), given.keep)]
+    return await start_program(given.program, files, options)
+
+
+class Watched:
+    """Files that are looked at again and again."""
+
+    def __init__(self, files: Sequence[str]) -> None:
+        self.files = list(files)
+        self._seen = self._stamps()
+
+    def _stamps(self) -> Dict[str, Any]:
+        found: Dict[str, Any] = {}
+        for file in self.files:
+            try:
+                status = os.stat(file)
+                found[file] = (status.st_mtime_ns, status.st_size, status.st_ino)
+            except OSError:
+                found[file] = None
+        return found
+
+    async def changed(self) -> List[str]:
+        """Waits until a file is another one than it was when this was called last; the names of those that are."""
+        while True:
+            await asyncio.sleep(LOOK_SECONDS)
+            before, self._seen = self._seen, self._stamps()
+            found = [it for it in self.files if before[it] != self._seen[it] and self._seen[it] is not None]
+            if found:
+                return found

@@ -1,0 +1,96 @@
+"""What an aspect file is made of: declarations and expressions, each with its stretch of the text."""
+from __future__ import annotations
+
+from dataclasses import dataclass, field
+from enum import Enum
+from typing import Iterator, List, Optional, Tuple
+
+from ..scanning import Word
+
+
+class Form(Enum):
+    """The forms of expressions. `CALL` is also a fold's list; `GROUP` is a pair of parentheses."""
+
+    NUMBER = "number"
+    TEXT = "text"
+    CONSTANT = "constant"
+    NAME = "name"
+    CALL = "call"
+    FOLD = "fold"
+    CAST = "cast"
+    INSTANCE = "instanceof"
+    UNARY = "unary"
+    BINARY = "binary"
+    CHOICE = "choice"
+    GROUP = "group"
+
+
+@dataclass(eq=False)
+class Binding:
+    """A name that is bound: a parameter or an index has a `kind`, that of a fold the call of its list."""
+
+    name: Word
+    kind: Optional[Word] = None
+    among: Optional[Expression] = None
+
+
+@dataclass(eq=False)
+class Expression:
+    """An expression from `start` to before `end`. `word` is its name, operator, class or constant.
+
+    `parts` are the expressions in it, in order: a call that has a receiver has it first, and `has_receiver` says so; a fold has
+    its list and its body. `bound` are the names that are bound where it stands, inner ones last.
+    """
+
+    form: Form
+    start: int
+    end: int
+    word: Word
+    parts: List[Expression] = field(default_factory=list)
+    bound: Tuple[Binding, ...] = ()
+    has_receiver: bool = False
+
+    @property
+    def receiver(self) -> Optional[Expression]:
+        """The receiver of a call, where it has one."""
+        return self.parts[0] if self.has_receiver else None
+
+    @property
+    def arguments(self) -> List[Expression]:
+        """The arguments of a call."""
+        return self.parts[1:] if self.has_receiver else self.parts
+
+    def all(self) -> Iterator[Expression]:
+        """It and all expressions in it, each before those in it."""
+        yield self
+        for part in self.parts:
+            yield from part.all()
+
+
+@dataclass(eq=False)
+class Declaration:
+    """A declaration, as far as it could be read, from `start` to before `end`. `form` is syn, inh, eq or other.
+
+    `of` is its class and `name` its attribute; an equation for a component has its accessor in `getter` (`getStmt`), and perhaps the
+    name of an `index`. `left_out` are stretches that this profile leaves out (`circular [..]`, `nta`). `made` are all expressions that were read, whole ones and those of what could not be read to its end.
+    """
+
+    form: str
+    start: int
+    end: int = 0
+    is_whole: bool = False
+    kind: Optional[Word] = None
+    of: Optional[Word] = None
+    getter: Optional[Word] = None
+    index: Optional[Word] = None
+    name: Optional[Word] = None
+    parameters: List[Binding] = field(default_factory=list)
+    parameters_end: int = 0
+    body: Optional[Expression] = None
+    left_out: List[Tuple[int, int]] = field(default_factory=list)
+    made: List[Expression] = field(default_factory=list)
+
+    @property
+    def is_declaring(self) -> bool:
+        """Whether it declares an attribute."""
+        return self.form in ("syn", "inh") and self.name is not None and self.of is not None

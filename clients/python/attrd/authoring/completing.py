@@ -1,0 +1,89 @@
+"""Which names may stand at a place of an aspect file or of a grammar."""
+from __future__ import annotations
+
+import re
+from typing import Dict, List, Optional, Tuple
+
+from .aspect_reader import KINDS, read_aspects
+from .aspect_tree import Declaration, Expression, Form
+from .specification import Source, Specification
+
+_BEGUN = re.compile(r"\w*\Z")
+_HEAD = re.compile(r"\b(syn|inh|eq)\s+[^;=]*\Z")
+HERE = "here__"
+
+
+class Completing:
+    """The names at a place. What is written there by now is taken for the beginning of a name, and passed over."""
+
+    def __init__(self, specification: Specification, file: str, offset: int) -> None:
+        text = specification.text(file)
+        self.file = file
+        self.front = text[:offset - len(_BEGUN.findall(text[:offset])[0])]
+        self.behind = text[offset:]
+        self.specification = specification
+
+    def names(self) -> Dict[str, str]:
+        """Each name with what it is. A name that is begun already isn't looked at: the editor does that."""
+        if self.file == self.specification.grammar_file.name:
+            return self._classes()
+        found = self._here()
+        if found is None:
+            return self._in_head()
+        declaration, call = found
+        if call.receiver is not None:
+            return self._on(self.specification.kind_of(call.receiver, declaration))
+        of = declaration.of.text if declaration.of is not None else None
+        bound = {it.name.text: self.specification.kind_of_binding(it, declaration) or "" for it in call.bound}
+        return {**self._on(of), **bound, **{it: "" for it in ("this", "null", "true", "false", "exists", "first", "sum")}}
+
+    def _here(self) -> Optional[Tuple[Declaration, Expression]]:
+        """The call that stands at the place when a name is put there, and its declaration; None where no expression can stand."""
+        others = [it for it in self.specification.aspects if it.name != self.file]
+        text = f"{self.front}{HERE}(){self.behind}"
+        whole = Specification(self.specification.grammar_file, [*others, Source(self.file, text)])
+        for declaration in read_aspects(text):
+            call = next((it for it in declaration.made if it.form is Form.CALL and it.word.text == HERE), None)
+            if call is not None:
+                self.specification = whole
+                return declaration, call
+        return None
+
+    def _on(self, kind: Optional[str]) -> Dict[str, str]:
+        """What can be asked of a value of a kind; the attributes of all classes where it isn't known."""
+        if kind == "String":
+            return {"equals": "boolean equals(String)"}
+        if kind is None:
+            return {name: "" for name in self.specification.attribute_names}
+        found = {name: f"{it.kind} {name}" for name, it in self.specification.accessors(kind).items()}
+        for placed in self.specification.attributes_of(kind) if kind in self.specification.grammar else []:
+            it = placed.declaration
+            assert it.name is not None and it.kind is not None
+            found[it.name.text] = f"{it.kind.text} {it.name.text}({', '.join(_kinds(it))})"
+        return found
+
+    def _in_head(self) -> Dict[str, str]:
+        """The names in the head of a declaration: of a class, or behind its dot of what it may declare or have an equation for."""
+        head = _HEAD.search(self.front)
+        if head is None:
+            return {it: "" for it in ("syn", "inh", "eq", "lazy", "aspect")}
+        owner = re.search(r"(\w+)\s*\.\s*\Z", head[0])
+        if owner is None:
+            return {**self._classes(), **({it: "" for it in KINDS} if head[1] != "eq" else {})}
+        getters = {name: it.kind for name, it in self.specification.accessors(owner[1]).items() if name == "get" + it.part.name}
+        attributes = {} if owner[1] not in self.specification.grammar else self._on(owner[1])
+        own = {name: told for name, told in attributes.items() if name not in self.specification.accessors(owner[1])}
+        return {**getters, "getChild": "", **own}
+
+    def _classes(self) -> Dict[str, str]:
+        return {name: "class" for name in self.specification.classes}
+
+
+def _kinds(it: Declaration) -> List[str]:
+    return [binding.kind.text for binding in it.parameters if binding.kind is not None]
+
+
+def completions(specification: Specification, file: str, offset: int) -> Dict[str, str]:
+    """The names that may stand at an offset of a file, each with what it is: attributes and accessors behind a dot, or where an
+    expression may begin; classes; names that are bound there."""
+    return Completing(specification, file, offset).names()

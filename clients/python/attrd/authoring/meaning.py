@@ -1,0 +1,174 @@
+"""What the names in a grammar and its aspects mean: where each is declared, where it is used, and what there is to tell of it."""
+from __future__ import annotations
+
+import re
+from dataclasses import dataclass
+from typing import Iterator, List, NamedTuple, Optional, Tuple
+
+from ..grammar import Shape
+from ..scanning import Word
+from .aspect_reader import KINDS
+from .aspect_tree import Binding, Declaration, Expression, Form
+from .specification import Placed, Specification
+
+# What a name means: a class, a component of a class, an attribute, or a name that is bound in one declaration.
+Key = Tuple[str, ...]
+_COMMENT = re.compile(r"(?:[ \t]*//[^\n]*\n|[ \t]*/\*.*?\*/[ \t]*\n)+[ \t]*\Z", re.S)
+
+
+class Place(NamedTuple):
+    """A stretch of a file's text."""
+
+    file: str
+    start: int
+    end: int
+
+
+@dataclass(frozen=True)
+class Meaning:
+    """What a word means: its own place, the places of its declarations, and a text that tells of it."""
+
+    place: Place
+    key: Key
+    declared: Tuple[Place, ...]
+    told: str
+
+
+class Names:
+    """The meanings of all words of a specification."""
+
+    def __init__(self, specification: Specification) -> None:
+        self.specification = specification
+        self.meanings: List[Meaning] = [*self._of_grammar(), *self._of_aspects()]
+
+    def at(self, file: str, offset: int) -> Optional[Meaning]:
+        """The meaning of the word at an offset, or just before it."""
+        return next((it for it in self.meanings if it.place.file == file and it.place.start <= offset <= it.place.end), None)
+
+    def references(self, meaning: Meaning) -> List[Place]:
+        """All places of words that mean the same, the declaration among them, each once."""
+        return list(dict.fromkeys(it.place for it in self.meanings if it.key == meaning.key))
+
+    def _of_grammar(self) -> Iterator[Meaning]:
+        file = self.specification.grammar_file.name
+        for it in self.specification.whole.declared:
+            yield from self._class(file, it.name)
+            if it.above is not None:
+                yield from self._class(file, it.above)
+            for name, shape, kind in it.parts:
+                if shape is not Shape.TOKEN:
+                    yield from self._class(file, kind)
+                yield from self._component(file, name, it.name.text, name.text)
+
+    def _of_aspects(self) -> Iterator[Meaning]:
+        for placed in self.specification.declarations:
+            yield from self._header(placed)
+            for expression in placed.declaration.made:
+                yield from self._expression(placed, expression)
+
+    def _header(self, placed: Placed) -> Iterator[Meaning]:
+        file, it = placed
+        kinds = [it.kind, it.of, *(binding.kind for binding in it.parameters)]
+        for word in kinds:
+            if word is not None and word.text not in KINDS:
+                yield from self._class(file, word)
+        if it.getter is not None and it.of is not None:
+            yield from self._accessor(file, it.getter, it.of.text)
+        if it.name is not None and it.of is not None:
+            own = placed if it.is_declaring else None if it.getter is not None else self.specification.attribute(it.of.text, it.name.text)
+            yield from self._attribute(file, it.name, own)
+        for binding in [*it.parameters, *([Binding(it.index)] if it.index is not None else [])]:
+            yield self._bound(file, binding.name, binding, it)
+
+    def _expression(self, placed: Placed, it: Expression) -> Iterator[Meaning]:
+        file, declaration = placed
+        if it.form in (Form.CAST, Form.INSTANCE):
+            yield from self._class(file, it.word)
+        elif it.form is Form.NAME:
+            binding = next((known for known in reversed(it.bound) if known.name.text == it.word.text), None)
+            if binding is not None:
+                yield self._bound(file, it.word, binding, declaration)
+        elif it.form is Form.FOLD:
+            own = it.parts[1].bound[-1]
+            yield self._bound(file, own.name, own, declaration)
+        elif it.form is Form.CALL:
+            yield from self._call(file, it, declaration)
+
+    def _call(self, file: str, it: Expression, within: Declaration) -> Iterator[Meaning]:
+        of = self.specification.receiver_kind(it, within)
+        if of is not None and it.word.text in self.specification.accessors(of):
+            yield from self._accessor(file, it.word, of)
+        elif of is None or of in self.specification.grammar:
+            own = None if of is None else self.specification.attribute(of, it.word.text)
+            if own is not None or of is None:
+                yield from self._attribute(file, it.word, own)
+
+    def _class(self, file: str, word: Word) -> Iterator[Meaning]:
+        known = self.specification.classes.get(word.text)
+        if known is not None:
+            declared = (Place(self.specification.grammar_file.name, known.name.at, known.name.end),)
+            yield Meaning(_place(file, word), ("class", word.text), declared, self.told_of_class(word.text))
+
+    def _accessor(self, file: str, word: Word, of: str) -> Iterator[Meaning]:
+        accessor = self.specification.accessors(of).get(word.text)
+        if accessor is not None:
+            yield from self._component(file, word, accessor.of, accessor.part.name)
+
+    def _component(self, file: str, word: Word, of: str, part: str) -> Iterator[Meaning]:
+        known = self.specification.classes.get(of)
+        names = [name for name, _, _ in known.parts if name.text == part] if known is not None else []
+        if names and of in self.specification.grammar:
+            declared = (_place(self.specification.grammar_file.name, names[0]),)
+            yield Meaning(_place(file, word), ("component", of, part), declared, self.told_of_component(of, part))
+
+    def _attribute(self, file: str, word: Word, own: Optional[Placed]) -> Iterator[Meaning]:
+        """The meaning of an attribute's name: that of its declaration, or of all of that name where it isn't known which."""
+        found = [own] if own is not None else self.specification.named(word.text)
+        if found:
+            first = found[0].declaration
+            assert first.of is not None
+            key = ("attribute", word.text) if first.form == "inh" else ("attribute", first.of.text, word.text)
+            declared = tuple(_place(it.file, it.declaration.name) for it in found if it.declaration.name is not None)
+            yield Meaning(_place(file, word), key, declared, "\n".join(self.told_of_attribute(it) for it in found))
+
+    def _bound(self, file: str, word: Word, binding: Binding, within: Declaration) -> Meaning:
+        kind = self.specification.kind_of_binding(binding, within)
+        key = ("bound", file, str(binding.name.at))
+        return Meaning(_place(file, word), key, (_place(file, binding.name),), f"{kind or 'unknown kind'} {word.text}")
+
+    def told_of_class(self, name: str) -> str:
+        """A class as the grammar declares it, with inherited components, and what is below it."""
+        grammar = self.specification.grammar
+        if name not in grammar:
+            return f"class {name}"
+        it = grammar.class_named(name)
+        above = f" : {it.superclass}" if it.superclass else ""
+        parts = f" ::= {' '.join(map(str, it.parts))}" if it.parts else ""
+        below = [sub.name for sub in grammar if sub.superclass == name]
+        told = f"{'abstract ' if it.is_abstract else ''}{name}{above}{parts};"
+        return told + (f"\nbelow it: {', '.join(below)}" if below else "")
+
+    def told_of_component(self, of: str, part: str) -> str:
+        """A component and its accessors with their kinds."""
+        known = {name: it.kind for name, it in self.specification.accessors(of).items() if it.part.name == part}
+        form = next(it for it in self.specification.grammar.parts(of) if it.name == part)
+        spelled = [f"{kind} {name}({'int' if form.shape is Shape.LIST and name == 'get' + part else ''})" for name, kind in known.items()]
+        return f"{of} ::= {form}\n" + "\n".join(spelled)
+
+    def told_of_attribute(self, placed: Placed) -> str:
+        """The head of an attribute's declaration, the comment above it, and the classes that have equations."""
+        it, text = placed.declaration, self.specification.text(placed.file)
+        head = re.sub(r"\s+", " ", text[it.start:it.parameters_end or it.end])
+        comment = _COMMENT.search(text[:it.start])
+        lines = [line.strip().lstrip("/* ").rstrip("*/ ") for line in comment[0].strip().splitlines()] if comment else []
+        by = [_equation_head(equation.declaration) for equation in self.specification.equations(it)]
+        return "\n".join([head, *(line for line in lines if line), *([f"equations: {', '.join(by)}"] if by else [])])
+
+
+def _equation_head(it: Declaration) -> str:
+    of = "" if it.of is None else it.of.text
+    return of if it.getter is None else f"{of}.{it.getter.text}()"
+
+
+def _place(file: str, word: Word) -> Place:
+    return Place(file, word.at, word.end)

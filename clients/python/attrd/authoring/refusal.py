@@ -1,0 +1,59 @@
+"""Asks the program whether it takes a grammar and aspects, and where it refuses them."""
+from __future__ import annotations
+
+from pathlib import Path as FilePath
+from typing import List, NamedTuple, Optional, Sequence
+
+from ..errors import StartFault
+from ..grammar import Grammar
+from ..server import Text, start
+
+
+class Refusal(NamedTuple):
+    """A fault that the program tells: the number of the aspect file, the code, its name, and the offset in the text that was given."""
+
+    file: int
+    code: str
+    name: str
+    offset: int
+
+
+class Judge:
+    """Has the program judge texts of aspects over one grammar. `runs` counts how often it was started."""
+
+    def __init__(self, grammar: Grammar, program: str) -> None:
+        """Raises TermFault where no finite tree fits the grammar: then nothing can be judged."""
+        self.tree = grammar.smallest(grammar.start)
+        self.grammar, self.program, self.runs = written(grammar), program, 0
+
+    def refusal(self, texts: Sequence[str]) -> Optional[Refusal]:
+        """The first fault of these aspects, or None where they are taken. Raises AttrdError where the program can't be started."""
+        self.runs += 1
+        names = [f"{number}.jrag" for number in range(len(texts))]
+        try:
+            server = start(Text("grammar.ast", self.grammar), self.tree, *map(Text, names, texts), program=self.program)
+        except StartFault as fault:
+            name = "" if fault.file is None else FilePath(fault.file).name
+            if name not in names or fault.code is None or fault.line is None or fault.column is None:
+                raise
+            number = names.index(name)
+            return Refusal(number, fault.code, fault.name or "", offset_of(texts[number], fault.line, fault.column))
+        server.close()
+        return None
+
+
+def offset_of(text: str, line: int, column: int) -> int:
+    """The offset of a place that the program tells: lines and columns count from 1, lines end at newlines alone."""
+    start = 0
+    for _ in range(line - 1):
+        start = text.find("\n", start) + 1
+    return min(start + column - 1, len(text))
+
+
+def written(grammar: Grammar) -> str:
+    """The grammar as a text."""
+    lines: List[str] = []
+    for it in grammar:
+        above = f" : {it.superclass}" if it.superclass else ""
+        lines.append(f"{'abstract ' if it.is_abstract else ''}{it.name}{above} ::= {' '.join(map(str, it.own))};")
+    return "\n".join(lines) + "\n"

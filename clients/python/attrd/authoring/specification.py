@@ -1,0 +1,182 @@
+"""A grammar and its aspects as they are written: classes, attributes and equations, each with its place, and kinds of expressions."""
+from __future__ import annotations
+
+from typing import Dict, Iterator, List, NamedTuple, Optional, Sequence, Set, Tuple
+
+from ..grammar import Grammar, Part, Shape
+from ..grammar_reader import Declared
+from .aspect_reader import FOLDS, KINDS, read_aspects
+from .aspect_tree import Binding, Declaration, Expression, Form
+from .grammar_faults import WholeGrammar
+
+BOOLEAN_SIGNS = ("||", "&&", "==", "!=", "<", "<=", ">", ">=")
+
+
+class Source(NamedTuple):
+    """A file: its name and its text."""
+
+    name: str
+    text: str
+
+
+class Placed(NamedTuple):
+    """A declaration with the name of its file."""
+
+    file: str
+    declaration: Declaration
+
+
+class Accessor(NamedTuple):
+    """An accessor: the class that declares the component, the component, and the kind of its value; that of a list is `Stmt*`."""
+
+    of: str
+    part: Part
+    kind: str
+
+
+class Specification:
+    """What a grammar and aspects declare, whether they are right or not: what can't be read is passed over."""
+
+    def __init__(self, grammar: Source, aspects: Sequence[Source]) -> None:
+        self.grammar_file, self.aspects = grammar, list(aspects)
+        self.whole = WholeGrammar(grammar.text)
+        self.grammar: Grammar = self.whole.grammar or WholeGrammar("Nothing;").grammar  # type: ignore[assignment]
+        self.classes: Dict[str, Declared] = {}
+        for it in self.whole.declared:
+            self.classes.setdefault(it.name.text, it)
+        self.declarations = [Placed(file.name, it) for file in self.aspects for it in read_aspects(file.text)]
+        self._named: Dict[str, List[Placed]] = {}
+        for placed in self.declarations:
+            if placed.declaration.is_declaring and placed.declaration.name is not None:
+                self._named.setdefault(placed.declaration.name.text, []).append(placed)
+        self._accessors: Dict[str, Dict[str, Accessor]] = {}
+
+    def text(self, file: str) -> str:
+        """The text of a file of this name; empty where there is none."""
+        return next((it.text for it in (self.grammar_file, *self.aspects) if it.name == file), "")
+
+    @property
+    def attribute_names(self) -> Set[str]:
+        """The names of all attributes that are declared."""
+        return set(self._named)
+
+    def named(self, name: str) -> List[Placed]:
+        """All declarations of attributes of this name."""
+        return self._named.get(name, [])
+
+    def attribute(self, of: str, name: str) -> Optional[Placed]:
+        """The declaration of an attribute for a class, or for the nearest class above it that has one."""
+        if of not in self.grammar:
+            return None
+        own = {it.declaration.of.text: it for it in reversed(self.named(name)) if it.declaration.of is not None}
+        return next((own[it] for it in self.grammar.ancestors(of) if it in own), None)
+
+    def attributes_of(self, of: str) -> List[Placed]:
+        """The attributes that a class has, by their names, each once."""
+        found = (self.attribute(of, name) for name in sorted(self._named))
+        return [it for it in found if it is not None]
+
+    def accessors(self, of: str) -> Dict[str, Accessor]:
+        """The accessors of a class, by their names; none of a class that isn't declared."""
+        if of not in self._accessors:
+            self._accessors[of] = dict(self._accessors_of(of)) if of in self.grammar else {}
+        return self._accessors[of]
+
+    def _accessors_of(self, of: str) -> Iterator[Tuple[str, Accessor]]:
+        for part in self.grammar.parts(of):
+            owner = self.owner(of, part.name)
+            yield f"get{part.name}", Accessor(owner, part, part.kind)
+            if part.shape is Shape.LIST:
+                yield f"getNum{part.name}", Accessor(owner, part, "int")
+                yield f"get{part.name}List", Accessor(owner, part, part.kind + "*")
+            elif part.shape is Shape.OPTIONAL:
+                yield f"has{part.name}", Accessor(owner, part, "boolean")
+
+    def owner(self, of: str, part: str) -> str:
+        """The class that declares a component that a class has."""
+        above = self.grammar.ancestors(of)
+        return next((it for it in above if any(own.name == part for own in self.grammar.classes[it].own)), of)
+
+    def equations(self, attribute: Declaration) -> List[Placed]:
+        """The equations for an attribute, that of its declaration among them."""
+        assert attribute.name is not None and attribute.of is not None
+        found = []
+        for placed in self.declarations:
+            it = placed.declaration
+            if it.name is None or it.of is None or it.name.text != attribute.name.text:
+                continue
+            if it is attribute:
+                if it.body is not None:
+                    found.append(placed)
+            elif it.form == "eq" and self._is_for(it, attribute):
+                found.append(placed)
+        return found
+
+    def _is_for(self, equation: Declaration, attribute: Declaration) -> bool:
+        if attribute.form == "inh":
+            return equation.getter is not None
+        assert equation.of is not None and attribute.of is not None
+        return equation.getter is None and self.grammar.is_below(equation.of.text, attribute.of.text)
+
+    def kind_of(self, expression: Expression, within: Declaration) -> Optional[str]:
+        """The kind of an expression in a declaration: int, boolean, String, null, a class, or a list as `Stmt*`; None where it isn't known."""
+        form, word = expression.form, expression.word.text
+        if form is Form.CALL:
+            return self._kind_of_call(expression, within)
+        if form is Form.NAME:
+            binding = next((it for it in reversed(expression.bound) if it.name.text == word), None)
+            return None if binding is None else self.kind_of_binding(binding, within)
+        if form is Form.CONSTANT:
+            this = None if within.of is None else within.of.text
+            return {"this": this, "null": "null"}.get(word, "boolean")
+        if form is Form.FOLD:
+            return {"exists": "boolean", "sum": "int"}.get(word) or self._element(expression.parts[0], within)
+        if form is Form.BINARY:
+            return self._kind_of_binary(expression, within)
+        if form in (Form.GROUP, Form.CHOICE):
+            return self._wider([self.kind_of(it, within) for it in expression.parts[-2:]])
+        return {Form.NUMBER: "int", Form.TEXT: "String", Form.CAST: word, Form.INSTANCE: "boolean"}.get(
+            form, "boolean" if word == "!" else "int")
+
+    def _kind_of_binary(self, expression: Expression, within: Declaration) -> str:
+        if expression.word.text in BOOLEAN_SIGNS:
+            return "boolean"
+        is_text = expression.word.text == "+" and self.kind_of(expression.parts[0], within) == "String"
+        return "String" if is_text else "int"
+
+    def _wider(self, kinds: List[Optional[str]]) -> Optional[str]:
+        told = [it for it in kinds if it not in (None, "null")]
+        if len(told) == 2 and told[0] is not None and told[1] is not None and self.grammar.is_below(told[0], told[1]):
+            return told[1]
+        return told[0] if told else kinds[0]
+
+    def kind_of_binding(self, binding: Binding, within: Declaration) -> Optional[str]:
+        """The kind of a bound name: that of a parameter, int of an index, the elements' class of a fold's name."""
+        if binding.among is not None:
+            return self._element(binding.among, within)
+        return "int" if binding.kind is None else binding.kind.text
+
+    def _element(self, among: Expression, within: Declaration) -> Optional[str]:
+        kind = self.kind_of(among, within)
+        return None if kind is None else kind.rstrip("*")
+
+    def receiver_kind(self, call: Expression, within: Declaration) -> Optional[str]:
+        """The kind of that on which a call is made: the class of the declaration where there is no receiver."""
+        if call.receiver is None:
+            return None if within.of is None else within.of.text
+        return self.kind_of(call.receiver, within)
+
+    def _kind_of_call(self, call: Expression, within: Declaration) -> Optional[str]:
+        of, name = self.receiver_kind(call, within), call.word.text
+        if of == "String":
+            return "boolean" if name == "equals" else None
+        accessor = self.accessors(of).get(name) if of is not None else None
+        if accessor is not None:
+            return accessor.kind
+        placed = self.attribute(of, name) if of is not None else None
+        return None if placed is None or placed.declaration.kind is None else placed.declaration.kind.text
+
+
+def is_class_kind(kind: Optional[str]) -> bool:
+    """Whether a kind is that of a class."""
+    return kind is not None and kind not in (*KINDS, "null", *FOLDS) and not kind.endswith("*")

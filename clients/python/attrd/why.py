@@ -1,0 +1,183 @@
+"""Why an attribute has its value: the equation that gives it, and the values of the attributes that the equation came to ask.
+
+The server tells values alone. So the equation is evaluated here, over the tree that is known; the attributes in it are asked of the
+server. What isn't evaluated, behind a decided `&&`, `||` or `? :`, isn't asked either, as on the server.
+"""
+from __future__ import annotations
+
+from dataclasses import dataclass
+from typing import Dict, Generator, List, Mapping, NamedTuple, Optional, Tuple
+
+from . import commands
+from .authoring.aspect_tree import Declaration, Expression
+from .authoring.specification import Placed, Specification
+from .errors import AttrdError
+from .evaluating import Evaluation, Stopped
+from .instances import read_call
+from .paths import Path
+from .replies import Answer, AskValue, Value
+from .terms import Node
+
+# What is done to find a reason: attributes are asked, and their answers come back.
+Asking = Generator["Instance", Answer, "Reason"]
+
+
+# So many steps are written out.
+SHOWN = 100
+
+
+class NoReason(AttrdError):
+    """Why a value is what it is can't be told: there is no such attribute, no equation of it, or no such node."""
+
+
+class Instance(NamedTuple):
+    """An attribute of a node with its arguments."""
+
+    path: Path
+    attribute: str
+    arguments: Tuple[AskValue, ...] = ()
+
+    @property
+    def command(self) -> str:
+        """The line that asks it."""
+        return commands.ask(self.path, self.attribute, self.arguments)
+
+    def __str__(self) -> str:
+        return f"{self.path}.{self.attribute}({', '.join(map(commands.argument_text, self.arguments))})"
+
+
+@dataclass(frozen=True)
+class Step:
+    """An attribute that an equation asked: as it is written there, which instance it was, and its answer."""
+
+    text: str
+    instance: Instance
+    answer: Answer
+
+
+@dataclass(frozen=True)
+class Reason:
+    """An instance with its answer, and where that comes from.
+
+    `equation` is the text of the equation's expression, `head` what it is for (`Block.getStmt().level`), `place` where it stands
+    (`names.jrag:7`); `at` is the node for which it was evaluated: for an inherited attribute the one above that has the equation.
+    `bound` are its parameters and index with their values. `steps` are the attributes that it asked, in order. `stopped` tells where
+    evaluation here met a fault, or is empty.
+    """
+
+    instance: Instance
+    answer: Answer
+    head: str
+    equation: str
+    place: str
+    at: Path
+    bound: Mapping[str, AskValue]
+    steps: Tuple[Step, ...]
+    stopped: str = ""
+
+    def __str__(self) -> str:
+        lines = [f"{self.instance} {self.answer}", f"  {self.place}: {self.head} = {' '.join(self.equation.split())}"]
+        if self.at != self.instance.path:
+            lines.append(f"  at {self.at}")
+        lines += [f"  with {name} = {written(value)}" for name, value in self.bound.items()]
+        lines += [f"  {number}. {step.text} {step.answer}   ({step.instance})" for number, step in enumerate(self.steps[:SHOWN], 1)]
+        lines += [f"  and {len(self.steps) - SHOWN} more"] if len(self.steps) > SHOWN else []
+        return "\n".join([*lines, *([f"  {self.stopped}"] if self.stopped else [])])
+
+
+def written(value: AskValue) -> str:
+    """A value as the server writes it."""
+    if value is None:
+        return "null"
+    return commands.value_text(value) if isinstance(value, (bool, int, str)) else str(value)
+
+
+class Why:
+    """Finds reasons over a specification and a tree of its grammar."""
+
+    def __init__(self, specification: Specification, tree: Node) -> None:
+        self.specification, self.tree = specification, tree
+
+    def reason(self, instance: Instance) -> Asking:
+        """Why an instance has its value. Yields instances, and wants their answers; the first one is the instance itself.
+
+        Raises NoReason.
+        """
+        answer = yield instance
+        placed, at, index = self._equation(instance)
+        it = placed.declaration
+        assert it.body is not None
+        bound: Dict[str, AskValue] = {known.name.text: value for known, value in zip(it.parameters, instance.arguments)}
+        if it.index is not None and index is not None:
+            bound[it.index.text] = index
+        evaluation = Evaluation(self.specification.grammar, self.tree, at, bound)
+        stopped = ""
+        steps: List[Step] = []
+        try:
+            yield from self._steps(evaluation, it.body, placed, steps)
+        except Stopped as fault:
+            stopped = str(fault)
+        text = self.specification.text(placed.file)
+        place = f"{placed.file}:{text.count(chr(10), 0, it.start) + 1}"
+        return Reason(instance, answer, _head(it), text[it.body.start:it.body.end], place, at, bound, tuple(steps), stopped)
+
+    def _steps(self, evaluation: Evaluation, body: Expression, placed: Placed, steps: List[Step]) -> Generator[Instance, Answer, None]:
+        text = self.specification.text(placed.file)
+        running = evaluation.value(body)
+        given: Optional[AskValue] = None
+        try:
+            asked = next(running)
+            while True:
+                instance = Instance(asked.path, asked.attribute, asked.arguments)
+                known = next((it.answer for it in steps if it.instance == instance), None)
+                answer = known if known is not None else (yield instance)
+                if known is None:
+                    steps.append(Step(" ".join(text[asked.start:asked.end].split()), instance, answer))
+                if not isinstance(answer, Value):
+                    raise Stopped(f"{instance} has no value, and so this has none")
+                given = answer.value
+                asked = running.send(given)
+        except StopIteration:
+            return
+
+    def _equation(self, instance: Instance) -> Tuple[Placed, Path, Optional[int]]:
+        """The equation that gives an instance, the node for which it is evaluated, and the index of the element below that."""
+        node = self.specification.grammar.node_at(self.tree, instance.path)
+        if node is None:
+            raise NoReason(f"there is no node at {instance.path}")
+        declared = self.specification.attribute(node.name, instance.attribute)
+        if declared is None:
+            raise NoReason(f"{node.name} has no attribute {instance.attribute}")
+        found = [it for it in self.specification.equations(declared.declaration) if it.declaration.body is not None]
+        if declared.declaration.form == "inh":
+            return self._above(instance, found)
+        by_class = {it.declaration.of.text: it for it in found if it.declaration.of is not None}
+        nearest = next((by_class[it] for it in self.specification.grammar.ancestors(node.name) if it in by_class), None)
+        if nearest is None:
+            raise NoReason(f"{node.name} comes to no equation for {instance.attribute}")
+        return nearest, instance.path, None
+
+    def _above(self, instance: Instance, found: List[Placed]) -> Tuple[Placed, Path, Optional[int]]:
+        grammar, path = self.specification.grammar, instance.path
+        while path.steps:
+            step, path = path.steps[-1], path.parent
+            node = grammar.node_at(self.tree, path)
+            for name in grammar.ancestors(node.name) if node is not None else ():
+                for getter in (f"get{step.part}", "getChild"):
+                    for it in found:
+                        own = it.declaration
+                        if own.of is not None and own.getter is not None and (own.of.text, own.getter.text) == (name, getter):
+                            return it, path, step.index
+        raise NoReason(f"no node above {instance.path} has an equation for {instance.attribute}")
+
+
+def _head(it: Declaration) -> str:
+    getter = "" if it.getter is None else f"{it.getter.text}()."
+    parameters = ", ".join(known.name.text for known in it.parameters)
+    return f"{'' if it.of is None else it.of.text}.{getter}{'' if it.name is None else it.name.text}({parameters})"
+
+
+def read_instance(text: str) -> Instance:
+    """The instance that `PATH ATTRIBUTE(ARGUMENTS)` spells; without arguments the parentheses may be left out. Raises SyntaxFault."""
+    place, _, call = text.strip().partition(" ")
+    return Instance(Path.read(place), *read_call(call if "(" in call else f"{call}()"))
