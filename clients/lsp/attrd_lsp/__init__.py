@@ -1,1 +1,8 @@
-"""A language server for the tutorial's language, over `attrd`."""
+"""A language server over `attrd`, for any language: `serve(Language(..))`."""
+from .language import Language, Listed, plain_name
+from .main import serve
+from .phrases import Fault, Parsed, Phrase, phrase
+from .positions import Span
+from .protocol import Symbol
+
+__all__ = ["Fault", "Language", "Listed", "Parsed", "Phrase", "Span", "Symbol", "phrase", "plain_name", "serve"]

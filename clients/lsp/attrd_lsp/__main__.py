@@ -1,4 +1,4 @@
-"""Runs the language server."""
+"""Runs the language server of the tutorial's language."""
 import importlib.util
 import sys
 
@@ -8,7 +8,7 @@ def run() -> int:
     if importlib.util.find_spec("attrd") is None:
         print("attrd_lsp: the package attrd is missing: put clients/python on PYTHONPATH, or install it from there", file=sys.stderr)
         return 2
-    from .main import main
+    from .small.main import main
 
     return main()
 

@@ -5,8 +5,8 @@ from typing import Any, BinaryIO, Dict, List, Optional
 
 from .rpc import Failure, Message, write_message
 
-# The protocol's numbers for kinds of messages.
-ERROR, WARNING = 1, 2
+# The protocol's numbers for kinds of messages and of diagnostics.
+ERROR, WARNING, INFORMATION = 1, 2, 3
 
 
 class EditorGone(Exception):

@@ -17,7 +17,10 @@ LSP = CLONE / "clients" / "lsp"
 PYTHONPATH = [str(CLONE / "clients" / "python"), str(LSP)]
 sys.path[:0] = [it for it in PYTHONPATH if it not in sys.path]
 
+from attrd_lsp.reading import Reader  # noqa: E402
 from attrd_lsp.rpc import Inbox, message_of  # noqa: E402
+from attrd_lsp.small.language import tutorials  # noqa: E402
+from attrd_lsp.source import Source  # noqa: E402
 
 # How long an answer may take on a machine that is busy.
 SECONDS = 120.0
@@ -36,6 +39,15 @@ def tutorial_file(name: str) -> str:
 
 # The tutorial's program, as the tutorial shows it.
 SMALL = re.search(r"^```text\n(class Point.*?)^```$", TUTORIAL, re.M | re.S)[1]  # type: ignore[index]
+
+
+# The name of the file of `read_source`.
+FILE = "circle.small"
+
+
+def read_source(text: str, old: Optional[Source] = None) -> Source:
+    """A file of the tutorial's language with that text, which was `old` before."""
+    return (old or Source(Reader(tutorials()), {})).with_file(FILE, text)
 
 
 # How many nodes a class of a large program has.

@@ -8,7 +8,7 @@ import unittest
 from pathlib import Path
 
 from lsp_support import PYTHONPATH, SMALL, Client, Editing, Ended, children, program, shown, tutorial_file
-from attrd_lsp.language import DATA, Language, NoLanguage
+from attrd_lsp.small.language import DATA, NoLanguage, in_folder
 
 CONTENT_MODIFIED, CANCELLED, FAILED = -32801, -32800, -32803
 HELD = "can't be parsed: what is told of it goes by its last text that could be"
@@ -116,7 +116,7 @@ class OnTheTutorialsProgram(unittest.TestCase):
             ("x", 0, "show"): "'show' is no name",
             ("x", 0, "1"): "'1' is no name",
             ("x", 0, "r"): "'x' in line 7 would mean something else",
-            ("int", 0, "number"): "no name that is declared in this file stands here",
+            ("int", 0, "number"): "no name that is declared in a file stands here",
         }
         for (word, number, new), wanted in cases.items():
             with self.subTest(word=word, new=new):
@@ -176,7 +176,7 @@ class OnTheLanguage(unittest.TestCase):
         self.types = self.folder / "types.jrag"
 
     def test_the_data_is_the_tutorials(self):
-        for it in Language.in_folder(DATA).files:
+        for it in in_folder(DATA).files:
             self.assertEqual(it.read_text("utf-8"), tutorial_file(it.name), it.name)
 
     def test_a_refused_file_shows_its_fault_at_its_place(self):
@@ -218,14 +218,14 @@ class OnTheLanguage(unittest.TestCase):
         (self.folder / "errors.jrag").unlink()
         with Client("--language", str(self.folder)) as client:
             document = Editing(client, SMALL)
-            self.assertEqual(document.settled(), ["1:1 attrd answers: refused 13 attribute"])
+            self.assertEqual(document.settled(), ["1:1 no errors are told: no aspect declares an attribute error"])
             self.assertEqual(client.ask("textDocument/hover", document.at("near"))["contents"]["value"], "near: boolean")
 
     def test_a_folder_without_a_language(self):
         for file in self.folder.glob("*.ast"):
             file.unlink()
         with self.assertRaises(NoLanguage):
-            Language.in_folder(self.folder)
+            in_folder(self.folder)
         client = Client("--language", str(self.folder))
         with self.assertRaises(Ended):
             client.ask("initialize", {})
@@ -279,7 +279,7 @@ class OnFaults(unittest.TestCase):
         self.addCleanup(client.close)
         self.assertEqual(client.ask("textDocument/hover", {})["code"], -32002)
         client.ask("initialize", {})
-        self.assertEqual(client.ask("workspace/symbol", {})["code"], -32601)
+        self.assertEqual(client.ask("textDocument/inlayHint", {})["code"], -32601)
         for params in (None, {}, {"textDocument": 1}, {"textDocument": {"uri": "file:///x"}}, []):
             self.assertEqual(client.ask("textDocument/hover", params)["code"], -32602)
         client.raw(b"Content-Length: 3\r\n\r\n{x}")

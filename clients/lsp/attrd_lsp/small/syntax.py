@@ -18,12 +18,10 @@ were there; reading goes on behind its `;`, or at the next brace."""
 from __future__ import annotations
 
 import re
-from dataclasses import dataclass
-from typing import Callable, List, NamedTuple, Optional, Tuple, Union
+from typing import Callable, List, NamedTuple, Optional, Tuple
 
-from attrd import Node
-
-from .positions import Span
+from ..phrases import Fault, Parsed, Phrase, phrase
+from ..positions import Span
 
 KEYWORDS = frozenset(["class", "extends", "show", "true", "false"])
 LARGEST_NUMBER = 2147483647
@@ -33,38 +31,6 @@ DEEPEST = 512
 TOKEN = re.compile(
     r"(?P<blank>(?:[ \t\r\n\f\ufeff]+|//[^\r\n]*)+)|(?P<name>[^\W\d]\w*)|(?P<number>[0-9]+\w*)|(?P<sign>[{}();.=+<])|(?P<other>.)"
 )
-
-TreeCell = Union[Node, Tuple[Node, ...], None, str, int, bool]
-Cell = Union["Phrase", Tuple["Phrase", ...], None, str, int, bool]
-
-
-@dataclass(frozen=True)
-class Phrase:
-    """A node of the tree and where it stands in the text: the whole of it, and its name where it has one."""
-
-    tree: Node
-    span: Span
-    identifier: str
-    name: Optional[Span]
-    children: Tuple[Tuple[str, Phrase], ...]
-    """The phrases of the children, each with its step in a path: `Left`, `Stmt:3`."""
-
-    @property
-    def kind(self) -> str:
-        """The node's class in the grammar."""
-        return self.tree.name
-
-    def child(self, step: str) -> Optional[Phrase]:
-        """The phrase of a child, and None where there is none."""
-        return next((it for name, it in self.children if name == step), None)
-
-
-class Fault(NamedTuple):
-    """What is wrong in the text, and where."""
-
-    text: str
-    span: Span
-
 
 class Token(NamedTuple):
     """A word or sign: its sort is `name`, `word`, `number`, `sign` or, behind the last one, `end`."""
@@ -123,15 +89,15 @@ def is_name(text: str) -> bool:
     return it is not None and it.lastgroup == "name" and text not in KEYWORDS and wrong_token("name", text) is None
 
 
-def read_class(text: str) -> Tuple[Optional[Phrase], List[Fault]]:
+def read_class(text: str) -> Parsed:
     """The class whose word `class` the text begins with, and the faults in the order of their places.
 
     It is None where even the name of the class is missing."""
     reader = Reader(text)
-    phrase = reader.class_declaration()
-    if phrase is not None and phrase.tree.depth >= DEEPEST:
-        reader.faults.append(Fault(f"the class nests more than {DEEPEST} deep", phrase.name or phrase.span))
-    return phrase, sorted(reader.faults, key=lambda it: it.span)
+    found = reader.class_declaration()
+    if found is not None and found.tree.depth >= DEEPEST:
+        reader.faults.append(Fault(f"the class nests more than {DEEPEST} deep", found.name or found.span))
+    return Parsed(found, sorted(reader.faults, key=lambda it: it.span))
 
 
 def read_front(text: str) -> List[Fault]:
@@ -263,7 +229,7 @@ class Reader:
         span = Span(start, self.behind)
         if closed and self.token.sort != "end":
             self.faults.append(self.unexpected("'class' or the end").fault)
-        return phrase("ClassDecl", span, name, ID=name.text, Super=above, Field=tuple(fields), Block=block)
+        return phrase("ClassDecl", span, name.span, ID=name.text, Super=above, Field=tuple(fields), Block=block)
 
     def superclass(self) -> Optional[Phrase]:
         if self.token.sort == "name":
@@ -275,7 +241,7 @@ class Reader:
         if self.at("{"):
             return self.block()
         self.missing("the block of the class")
-        return phrase("Block", Span(self.behind, self.behind), None, Stmt=())
+        return phrase("Block", Span(self.behind, self.behind), Stmt=())
 
     def block(self) -> Phrase:
         start = self.deeper().span.start
@@ -284,7 +250,7 @@ class Reader:
             statements += self.recovered(self.statement)
         self.nested -= 1
         self.want("}")
-        return phrase("Block", Span(start, self.behind), None, Stmt=tuple(statements))
+        return phrase("Block", Span(start, self.behind), Stmt=tuple(statements))
 
     def deeper(self) -> Token:
         """A brace or parenthesis that opens. Raises Unexpected where too many are open."""
@@ -304,7 +270,7 @@ class Reader:
         start = self.take().span.start
         shown_value = self.expression()
         self.semicolon()
-        return phrase("Show", Span(start, self.behind), None, Expr=shown_value)
+        return phrase("Show", Span(start, self.behind), Expr=shown_value)
 
     def declaration(self) -> Phrase:
         first = self.name("a declaration, 'show' or a block")
@@ -314,40 +280,40 @@ class Reader:
             declared, name = kind_use(first), self.take()
         value = self.expression() if self.took("=") else None
         self.semicolon()
-        return phrase("Decl", Span(first.span.start, self.behind), name, ID=name.text, Declared=declared, Init=value)
+        return phrase("Decl", Span(first.span.start, self.behind), name.span, ID=name.text, Declared=declared, Init=value)
 
     def expression(self) -> Phrase:
         left = self.sum()
         while self.took("<"):
             right = self.sum()
-            left = phrase("Less", Span(left.span.start, right.span.end), None, Left=left, Right=right)
+            left = phrase("Less", Span(left.span.start, right.span.end), Left=left, Right=right)
         return left
 
     def sum(self) -> Phrase:
         left = self.operand()
         while self.took("+"):
             right = self.operand()
-            left = phrase("Plus", Span(left.span.start, right.span.end), None, Left=left, Right=right)
+            left = phrase("Plus", Span(left.span.start, right.span.end), Left=left, Right=right)
         return left
 
     def operand(self) -> Phrase:
         left = self.primary()
         while self.took("."):
             name = self.name("the name of a field")
-            left = phrase("Dot", Span(left.span.start, name.span.end), name, Left=left, ID=name.text)
+            left = phrase("Dot", Span(left.span.start, name.span.end), name.span, Left=left, ID=name.text)
         return left
 
     def primary(self) -> Phrase:
         token = self.token
         if token.sort == "name":
             self.take()
-            return phrase("Name", token.span, token, ID=token.text)
+            return phrase("Name", token.span, token.span, ID=token.text)
         if token.sort == "number":
             self.take()
-            return phrase("Num", token.span, None, Value=int(token.text) if is_number(token.text) else 0)
+            return phrase("Num", token.span, Value=int(token.text) if is_number(token.text) else 0)
         if self.at("true", "false"):
             self.take()
-            return phrase("Truth", token.span, None, Value=token.text == "true")
+            return phrase("Truth", token.span, Value=token.text == "true")
         if self.at("("):
             return self.parenthesis()
         raise self.unexpected("an expression")
@@ -360,25 +326,6 @@ class Reader:
         return inner
 
 
-def phrase(kind: str, span: Span, name: Optional[Token], **cells: Cell) -> Phrase:
-    """A node with its place; its cells are given by their parts, in the order of the grammar."""
-    children: List[Tuple[str, Phrase]] = []
-    for part, cell in cells.items():
-        if isinstance(cell, Phrase):
-            children.append((part, cell))
-        elif isinstance(cell, tuple):
-            children.extend((f"{part}:{index}", it) for index, it in enumerate(cell))
-    tree = Node(kind, *map(tree_of, cells.values()))
-    return Phrase(tree, span, name.text if name is not None else "", name.span if name is not None else None, tuple(children))
-
-
-def tree_of(cell: Cell) -> TreeCell:
-    """The cell without places."""
-    if isinstance(cell, Phrase):
-        return cell.tree
-    return tuple(it.tree for it in cell) if isinstance(cell, tuple) else cell
-
-
 def kind_use(name: Token) -> Phrase:
     """The use of a kind that is a name."""
-    return phrase("KindUse", name.span, name, ID=name.text)
+    return phrase("KindUse", name.span, name.span, ID=name.text)
