@@ -7,16 +7,11 @@ import tempfile
 import unittest
 from pathlib import Path
 
-from lsp_support import PYTHONPATH, SMALL, Client, Editing, Ended, children, program, shown, tutorial_file
+from lsp_support import PYTHONPATH, SMALL, Client, Editing, Ended, children, program, ranges, shown, tutorial_file
 from attrd_lsp.small.language import DATA, NoLanguage, in_folder
 
 CONTENT_MODIFIED, CANCELLED, FAILED = -32801, -32800, -32803
 HELD = "can't be parsed: what is told of it goes by its last text that could be"
-
-
-def ranges(locations):
-    """Where these locations begin, from 1."""
-    return [(it["range"]["start"]["line"] + 1, it["range"]["start"]["character"] + 1) for it in locations]
 
 
 class OnTheTutorialsProgram(unittest.TestCase):

@@ -18,58 +18,25 @@ were there; reading goes on behind its `;`, or at the next brace."""
 from __future__ import annotations
 
 import re
-from typing import Callable, List, NamedTuple, Optional, Tuple
+from typing import Callable, List, Optional
 
 from ..phrases import Fault, Parsed, Phrase, phrase
 from ..positions import Span
+from ..scanning import Scanner, Token, Unexpected, tokens_of
 
 KEYWORDS = frozenset(["class", "extends", "show", "true", "false"])
 LARGEST_NUMBER = 2147483647
 LONGEST_NAME = 4096
 DEEPEST = 512
+BRACES = ("{", "}")
 
 TOKEN = re.compile(
     r"(?P<blank>(?:[ \t\r\n\f\ufeff]+|//[^\r\n]*)+)|(?P<name>[^\W\d]\w*)|(?P<number>[0-9]+\w*)|(?P<sign>[{}();.=+<])|(?P<other>.)"
 )
 
-class Token(NamedTuple):
-    """A word or sign: its sort is `name`, `word`, `number`, `sign` or, behind the last one, `end`."""
-
-    sort: str
-    text: str
-    span: Span
-
-
-class Unexpected(Exception):
-    """A statement can't be read on."""
-
-    def __init__(self, fault: Fault) -> None:
-        super().__init__(fault.text)
-        self.fault = fault
-
-
-def tokens_of(text: str) -> Tuple[List[Token], List[Fault]]:
-    """The words and signs of the text, with one `end` behind them, and what is none."""
-    tokens: List[Token] = []
-    faults: List[Fault] = []
-    for it in TOKEN.finditer(text):
-        if it.lastgroup == "blank":
-            continue
-        span = Span(*it.span())
-        wrong = wrong_token(it.lastgroup or "", it[0])
-        if wrong is not None:
-            faults.append(Fault(wrong, span))
-        if it.lastgroup != "other":
-            tokens.append(Token("word" if it[0] in KEYWORDS else it.lastgroup or "", it[0], span))
-    last = tokens[-1].span.end if tokens else 0
-    tokens.append(Token("end", "the end", Span(last, last)))
-    return tokens, faults
-
 
 def wrong_token(sort: str, text: str) -> Optional[str]:
     """What is wrong with a token of that sort, and None where nothing is."""
-    if sort == "other":
-        return f"unexpected character {text!r}"
     if sort == "name" and len(text.encode()) > LONGEST_NAME:
         return f"a name has at most {LONGEST_NAME} bytes"
     if sort == "number" and not is_number(text):
@@ -97,109 +64,30 @@ def read_class(text: str) -> Parsed:
     found = reader.class_declaration()
     if found is not None and found.tree.depth >= DEEPEST:
         reader.faults.append(Fault(f"the class nests more than {DEEPEST} deep", found.name or found.span))
-    return Parsed(found, sorted(reader.faults, key=lambda it: it.span))
+    return Parsed(found, reader.found_faults())
 
 
 def read_front(text: str) -> List[Fault]:
     """The faults of a text that stands before the first class: anything but blanks and comments is one."""
-    tokens, faults = tokens_of(text)
-    if tokens[0].sort != "end":
-        faults.append(Fault(f"expected 'class', found {shown(tokens[0])}", tokens[0].span))
-    return sorted(faults, key=lambda it: it.span)
+    reader = Reader(text)
+    if reader.token.sort != "end":
+        reader.faults.append(reader.unexpected("'class'").fault)
+    return reader.found_faults()
 
 
-def shown(token: Token) -> str:
-    """The token, for a message."""
-    return token.text if token.sort == "end" else f"'{token.text}'"
-
-
-class Reader:
+class Reader(Scanner):
     """Reads one class from its tokens, and collects faults."""
 
     def __init__(self, text: str) -> None:
-        self.tokens, self.faults = tokens_of(text)
-        self.index = 0
+        super().__init__(*tokens_of(TOKEN, text, KEYWORDS, wrong_token))
         self.nested = 0
 
-    # Tokens
-
-    @property
-    def token(self) -> Token:
-        """The token that is next."""
-        return self.tokens[self.index]
-
-    @property
-    def behind(self) -> int:
-        """Where the token before the next one ends."""
-        return self.tokens[self.index - 1].span.end if self.index > 0 else 0
-
-    @property
-    def last_place(self) -> Span:
-        """The last character of the token before the next one."""
-        return Span(max(self.behind - 1, 0), self.behind)
-
-    def at(self, *texts: str) -> bool:
-        """Whether the next token is one of these words and signs."""
-        return self.token.sort in ("word", "sign") and self.token.text in texts
-
-    def take(self) -> Token:
-        """The next token; the one behind it is next then."""
-        token = self.token
-        if token.sort != "end":
-            self.index += 1
-        return token
-
-    def took(self, text: str) -> bool:
-        """Whether the next token is this word or sign, which is taken then."""
-        found = self.at(text)
-        if found:
-            self.take()
-        return found
-
-    def unexpected(self, wanted: str) -> Unexpected:
-        """The fault that the next token is another one than is wanted."""
-        place = self.last_place if self.token.sort == "end" else self.token.span
-        return Unexpected(Fault(f"expected {wanted}, found {shown(self.token)}", place))
-
-    def name(self, wanted: str) -> Token:
-        """The name that is next. Raises Unexpected where there is none."""
-        if self.token.sort != "name":
-            raise self.unexpected(wanted)
-        return self.take()
-
-    def want(self, text: str) -> Token:
-        """The word or sign, which is next; where it isn't, that is a fault, and reading goes on as if it were there."""
-        if self.at(text):
-            return self.take()
-        self.missing(f"'{text}'")
-        return Token("sign", text, Span(self.behind, self.behind))
-
-    def missing(self, wanted: str) -> None:
-        """The fault that something is missing behind the last token; only the first one is told of each place."""
-        place = self.last_place
-        if all(it.span != place for it in self.faults):
-            self.faults.append(Fault(f"expected {wanted} before {shown(self.token)}", place))
-
-    # Going on behind a fault
-
-    def recovered(self, read: Callable[[], Phrase]) -> List[Phrase]:
+    def without_fault(self, read: Callable[[], Phrase]) -> List[Phrase]:
         """What is read, or nothing and a fault; then the rest of the statement is passed over."""
-        before, nested = self.index, self.nested
-        try:
-            return [read()]
-        except Unexpected as it:
-            self.faults.append(it.fault)
-            self.nested = nested
-            if self.index == before:
-                self.take()
-            self.pass_over()
-            return []
-
-    def pass_over(self) -> None:
-        """Goes on behind the next `;`, or to the next brace or the end."""
-        while self.token.sort != "end" and not self.at("{", "}"):
-            if self.take().text == ";":
-                return
+        nested = self.nested
+        found = self.recovered(read, ";", BRACES)
+        self.nested = nested
+        return found
 
     def semicolon(self) -> None:
         """The `;` behind a statement. Where it is missing, what can't begin a statement is passed over."""
@@ -207,7 +95,7 @@ class Reader:
             return
         self.want(";")
         if self.token.sort != "name" and not self.at("{", "}", "show"):
-            self.pass_over()
+            self.pass_over(";", BRACES)
 
     # The grammar
 
@@ -222,7 +110,7 @@ class Reader:
         self.want("{")
         fields: List[Phrase] = []
         while self.token.sort != "end" and not self.at("{", "}"):
-            fields += self.recovered(self.declaration)
+            fields += self.without_fault(self.declaration)
         block = self.class_block()
         closed = self.at("}")
         self.want("}")
@@ -247,7 +135,7 @@ class Reader:
         start = self.deeper().span.start
         statements: List[Phrase] = []
         while self.token.sort != "end" and not self.at("}"):
-            statements += self.recovered(self.statement)
+            statements += self.without_fault(self.statement)
         self.nested -= 1
         self.want("}")
         return phrase("Block", Span(start, self.behind), Stmt=tuple(statements))
