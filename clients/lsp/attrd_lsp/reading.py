@@ -4,7 +4,9 @@ A part whose text is as it was is not read again. A part that can't be parsed ke
 nodes stand then where that text went, as far as it can be told. A language that isn't split has one part, the whole file."""
 from __future__ import annotations
 
+import traceback
 from dataclasses import dataclass, field
+from pathlib import Path
 from typing import Dict, List, Optional, Tuple
 
 import attrd
@@ -72,7 +74,7 @@ class Reader:
             parsed = self.language.parse(text)
             trouble = self.trouble_with(parsed, len(text))
         except Exception as fault:  # noqa: BLE001  the parser is anybody's
-            parsed, trouble = Parsed(None, []), f"the parser fails: {type(fault).__name__}: {fault}"
+            parsed, trouble = Parsed(None, []), failed(fault)
         return Piece.of(text, parsed if trouble is None else Parsed(None, []), trouble)
 
     def trouble_with(self, parsed: Parsed, length: int) -> Optional[str]:
@@ -101,6 +103,12 @@ class Reader:
     def front(self, text: str) -> List[Fault]:
         """The faults of a text that stands before the first part."""
         return self.language.listed.front(text) if text and self.language.listed is not None else []
+
+
+def failed(fault: Exception) -> str:
+    """That a parser raised this, and where."""
+    place = traceback.extract_tb(fault.__traceback__)[-1]
+    return f"the parser fails: {type(fault).__name__}: {fault} ({Path(place.filename).name}, line {place.lineno})"
 
 
 @dataclass(frozen=True)
@@ -135,7 +143,7 @@ def read_file(text: str, old: Reading, reader: Reader, holds: bool = True) -> Re
         starts = reader.starts(text)
         front = reader.front(text[: starts[0]] if starts else text)
     except Exception as fault:  # noqa: BLE001  the language is anybody's
-        return unread(old, f"the parser fails: {type(fault).__name__}: {fault}")
+        return unread(old, failed(fault))
     texts = shared([text[start:end] for start, end in zip(starts, [*starts[1:], len(text)])], old.texts)
     pieces = {it: old.pieces.get(it) or reader.piece(it) for it in texts}
     read = [pieces[it] for it in texts]
