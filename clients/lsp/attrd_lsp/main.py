@@ -1,12 +1,14 @@
-"""The server of a language, and its command line: `[--program PROGRAM] [--keep N]`."""
+"""The server of a language, and its command line: `[--program PROGRAM] [--keep N] [--check FILE ..]`."""
 from __future__ import annotations
 
 import argparse
 import sys
+from pathlib import Path
 from typing import List, Optional
 
 import attrd
 
+from .checking import check_files
 from .desk import Program
 from .editor import Editor, EditorGone
 from .language import Language
@@ -31,14 +33,19 @@ def command_line(description: str) -> argparse.ArgumentParser:
     parser.add_argument("--program", default="attrd", help="the program attrd (found on the PATH if it isn't given)")
     keep_help = "how many values attrd keeps at most, if it has the option (%(default)s if it isn't given)"
     parser.add_argument("--keep", type=int, metavar="N", default=attrd.KEPT, help=keep_help)
+    check_help = "tells what is wrong with these files, and serves no editor; the status is 1 where there is an error"
+    parser.add_argument("--check", type=Path, nargs="+", metavar="FILE", help=check_help)
     return parser
 
 
 def serve_editor(language: Language, options: argparse.Namespace) -> int:
-    """Serves an editor on standard input and output; the exit status."""
+    """Serves an editor on standard input and output, or checks files; the exit status."""
     sys.setrecursionlimit(max(CALLS, sys.getrecursionlimit()))
+    program = Program(options.program, options.keep)
+    if options.check:
+        return check_files(language, program, options.check)
     editor = Editor(sys.stdout.buffer)
-    files = LanguageFiles(Program(options.program, options.keep), language, editor)
+    files = LanguageFiles(program, language, editor)
     try:
         return LanguageServer(Inbox(sys.stdin.fileno()), editor, Workspace(files, editor)).serve()
     except EditorGone:
