@@ -18,7 +18,8 @@ packages_of() {
 
 missing=()
 for program in "${@:-nvim}"; do
-  read -ra packages <<< "$(packages_of "$program")"
+  words=$(packages_of "$program")
+  read -ra packages <<< "$words"
   command -v "$program" > /dev/null || missing+=("${packages[@]}")
 done
 if [ ${#missing[@]} -eq 0 ]; then

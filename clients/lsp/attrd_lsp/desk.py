@@ -7,6 +7,7 @@ from __future__ import annotations
 
 import time
 from dataclasses import dataclass
+from functools import lru_cache
 from typing import Callable, Dict, Generic, List, Optional, TypeVar
 
 import attrd
@@ -24,7 +25,7 @@ SLICE = 100
 # How long a step should take, in seconds.
 SHORTEST, LONGEST = 0.003, 0.010
 # How many questions a task sends in its first step, how many ticks it sends first, and how many lines at most.
-QUESTIONS, TICKS, MOST = 16, 2, 1024
+QUESTIONS, TICKS, MOST = 64, 2, 1024
 # How many questions are open at a time; the program takes 100 in a session.
 OPEN = 90
 
@@ -71,7 +72,7 @@ class Desk:
 
     def ask(self, questions: List[Question]) -> List[Answer]:
         """The answers of these questions, each evaluated to its end. Raises AttrdError."""
-        sent = [self.session.send(commands.ask(it.path, it.attribute, it.arguments)) for it in questions]
+        sent = [self.session.send(line_of("ask", it)) for it in questions]
         return [answer_of(it.reply()) for it in sent]
 
     def post(self, questions: List[Question], take: Taker) -> List[Question]:
@@ -81,7 +82,7 @@ class Desk:
         new = [it for it in questions if it not in self.open]
         for question in questions:
             self.open.setdefault(question, []).append(take)
-        sent = [(it, self.session.send(commands.post(it.path, it.attribute, it.arguments))) for it in new]
+        sent = [(it, self.session.send(line_of("post", it))) for it in new]
         self.tick(1)
         return [question for question, pending in sent if not self.is_posted(question, pending.reply())]
 
@@ -110,6 +111,13 @@ class Desk:
     def close(self) -> None:
         """Ends the program."""
         self.server.close()
+
+
+@lru_cache(maxsize=1 << 14)
+def line_of(command: str, question: Question) -> str:
+    """The line of a question, which is asked again at most keys. Raises SyntaxFault where its path is none."""
+    words = commands.ask if command == "ask" else commands.post
+    return words(question.path, question.attribute, question.arguments)
 
 
 def answer_of(reply: attrd.Reply) -> Answer:

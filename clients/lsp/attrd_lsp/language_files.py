@@ -18,6 +18,8 @@ from .reading import Reader
 from .source import Source
 
 WORD = re.compile(r"\w+|.")
+# The ends of the names of grammars and aspects.
+SUFFIXES = (".ast", ".jrag")
 Given = Union[Path, attrd.Text]
 
 
@@ -93,7 +95,7 @@ class LanguageFiles:
 
     def file_of(self, uri: str) -> Optional[Path]:
         """The file of this language that the editor tells so; None where it is another one."""
-        path = path_of(uri)
+        path = path_of(uri) if uri.endswith(SUFFIXES) else None
         return next((it for it in self.language.files if path is not None and it.resolve() == path.resolve()), None)
 
     def put(self, path: Path, uri: str, text: Text) -> None:

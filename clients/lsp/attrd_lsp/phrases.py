@@ -9,7 +9,7 @@ names of their components, in the order of the grammar: a phrase, a sequence of 
 from __future__ import annotations
 
 from dataclasses import dataclass
-from typing import List, NamedTuple, Optional, Sequence, Tuple, Union
+from typing import Dict, List, NamedTuple, Optional, Sequence, Tuple, Union
 
 import attrd
 from attrd import Node
@@ -86,31 +86,34 @@ def misplaced(top: Phrase, length: int) -> Optional[str]:
     waiting = [(top, Span(0, length))]
     while waiting:
         it, around = waiting.pop()
-        wrong = misplaced_in(it, around) or overlapping(it)
+        wrong = misplaced_in(it.kind, it.span, around)
+        if wrong is None and it.name is not None and it.name != it.span:
+            wrong = misplaced_in(f"the name of {it.kind}", it.name, it.span)
+        if wrong is None and len(it.children) > 1:
+            wrong = overlapping(it)
         if wrong is not None:
             return wrong
-        waiting.extend((child, it.span) for _, child in it.children)
+        waiting.extend([(child, it.span) for _, child in it.children])
     return None
 
 
-def misplaced_in(it: Phrase, around: Span) -> Optional[str]:
-    """What is wrong with the place of a phrase within that of the one around it."""
-    for what, span, outer in ((it.kind, it.span, around), (f"the name of {it.kind}", it.name or it.span, it.span)):
-        if not is_span(span):
-            return f"{what} has no place in the text"
-        if not outer[0] <= span[0] <= span[1] <= outer[1]:
-            return f"{what} stands at {span[0]} to {span[1]}, which isn't within {outer[0]} to {outer[1]}"
+def misplaced_in(what: str, span: Span, around: Span) -> Optional[str]:
+    """What is wrong with the place of a phrase or a name within another one."""
+    if not is_span(span):
+        return f"{what} has no place in the text"
+    if not around[0] <= span[0] <= span[1] <= around[1]:
+        return f"{what} stands at {span[0]} to {span[1]}, which isn't within {around[0]} to {around[1]}"
     return None
 
 
 def is_span(span: object) -> bool:
     """Whether this is two offsets."""
-    return isinstance(span, tuple) and len(span) == 2 and all(type(it) is int for it in span)
+    return isinstance(span, tuple) and len(span) == 2 and type(span[0]) is int and type(span[1]) is int
 
 
 def overlapping(it: Phrase) -> Optional[str]:
     """Which two phrases just below this one stand at the same characters; None where there are none."""
-    below = sorted(((child.span, step) for step, child in it.children if is_span(child.span)), key=lambda at: tuple(at[0]))
+    below = sorted([(child.span, step) for step, child in it.children if is_span(child.span)])
     for (one, first), (other, second) in zip(below, below[1:]):
         if one[1] > other[0]:
             return f"{first} and {second} of {it.kind} overlap: they stand at {one[0]} to {one[1]} and {other[0]} to {other[1]}"
@@ -128,10 +131,11 @@ def misfit(grammar: attrd.Grammar, top: Phrase, wanted: str) -> Optional[str]:
     except attrd.AttrdError as fault:
         return str(fault)
     waiting = [top]
+    names: Dict[str, Tuple[str, ...]] = {}
     while waiting:
         it = waiting.pop()
-        parts = tuple(part.name for part in grammar.parts(it.kind))
+        parts = names.get(it.kind) or names.setdefault(it.kind, tuple(part.name for part in grammar.parts(it.kind)))
         if it.parts != parts:
             return f"{it.kind} has the components {' '.join(parts)}, and the parser gives {' '.join(it.parts)}"
-        waiting.extend(child for _, child in it.children)
+        waiting.extend([child for _, child in it.children])
     return None

@@ -48,7 +48,7 @@ def find_problems(source: Source, checks: Diagnostics, known: Known) -> Inquiry[
     counts, nothing else is asked."""
     asking = Asking(source, checks)
     numbers = range(len(source.parts))
-    fresh = [it for it in numbers if source.text(it) not in known.parts]
+    fresh = [it for it, text in enumerate(source.texts) if text not in known.parts]
     standing, likely = standing_in(source, known, set(fresh))
     few = fresh if known.parts and len(fresh) <= FRESH else []
     first = yield from asking.first(standing, likely, few)
@@ -65,7 +65,8 @@ def find_problems(source: Source, checks: Diagnostics, known: Known) -> Inquiry[
 
 def standing_in(source: Source, known: Known, fresh: Set[int]) -> Tuple[List[Spot], List[Spot]]:
     """The nodes that had problems: those in parts that are as they were, and those in the other parts."""
-    kept = [(source.path(it) + below) or "/" for it in range(len(source.parts)) for below in known.parts.get(source.text(it), ())]
+    wrong = [(it, text) for it, text in enumerate(source.texts) if known.parts.get(text)] if known.paths else []
+    kept = [(source.path(it) + below) or "/" for it, text in wrong for below in known.parts[text]]
     gone = [it for it in known.paths if source.number(it)[0] in fresh]
     spots = [[spot for spot in map(source.spot, paths) if spot is not None] for paths in (kept, gone)]
     return spots[0], spots[1]
@@ -78,12 +79,12 @@ def in_order(source: Source, found: List[Problem]) -> List[Problem]:
 
 def known_by(source: Source, found: Iterable[Problem]) -> Known:
     """Where problems are, for the next check."""
-    parts: Dict[str, Tuple[str, ...]] = {source.text(it): () for it in range(len(source.parts))}
+    parts: Dict[str, Tuple[str, ...]] = dict.fromkeys(source.texts, ())
     paths = tuple(dict.fromkeys(it.path for it in found))
     for path in paths:
         number, below = source.number(path)
         if number >= 0:
-            text = source.text(number)
+            text = source.texts[number]
             parts[text] = (*parts[text], *(() if below in parts[text] else (below,)))
     return Known(parts, paths)
 

@@ -198,8 +198,8 @@ class Project:
 
     def is_gone(self, problem: Problem) -> bool:
         """Whether the problem's text, of a part that is held, isn't there any more."""
-        spot = self.source.spot(problem.path)
-        return problem.span.start == problem.span.end and spot is not None and spot.phrase.span[0] < spot.phrase.span[1]
+        spot = self.source.spot(problem.path) if problem.span.start == problem.span.end else None
+        return spot is not None and spot.phrase.span[0] < spot.phrase.span[1]
 
     def lost(self, fault: AttrdError) -> None:
         """The program can't be used any more. Where it ended it is started anew once for what is under way; else that fails."""

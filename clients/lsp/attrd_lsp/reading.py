@@ -6,6 +6,7 @@ from __future__ import annotations
 
 import traceback
 from dataclasses import dataclass, field
+from functools import cached_property
 from pathlib import Path
 from typing import Dict, List, Optional, Tuple
 
@@ -39,7 +40,7 @@ class Piece:
                 named.setdefault(it.identifier, []).append(path)
         return cls(text, parsed.phrase, tuple(parsed.faults), trouble, phrases, named)
 
-    @property
+    @cached_property
     def is_good(self) -> bool:
         """Whether the text was read without a fault."""
         return not self.faults and self.trouble is None
@@ -147,10 +148,11 @@ def read_file(text: str, old: Reading, reader: Reader, holds: bool = True) -> Re
     texts = shared([text[start:end] for start, end in zip(starts, [*starts[1:], len(text)])], old.texts)
     pieces = {it: old.pieces.get(it) or reader.piece(it) for it in texts}
     read = [pieces[it] for it in texts]
-    trouble = next((it.trouble for it in read if it.trouble is not None), None)
-    faults = front + [Fault(it.text, it.span.moved(start)) for start, piece in zip(starts, read) for it in piece.faults]
-    if not faults and trouble is None and None not in (it.phrase for it in read):
+    bad = [it for it in read if not it.is_good or it.phrase is None]
+    if not bad and not front:
         return Reading(starts, texts, read, (), None, pieces)
+    trouble = next((it.trouble for it in bad if it.trouble is not None), None)
+    faults = front + [Fault(it.text, it.span.moved(start)) for start, piece in zip(starts, read) for it in piece.faults]
     last = last_good(read, old) if holds else {}
     taken = [it if it.is_good else last.get(number, it) for number, it in enumerate(read)]
     numbers = [number for number, it in enumerate(taken) if it.phrase is not None]

@@ -11,6 +11,7 @@ from .desk import Desk
 from .editor import Editor
 from .fixing import Fix, find_fixes
 from .inquiry import Inquiry
+from .language_files import SUFFIXES
 from .meaning import Hover, find_definition, find_hover, find_references, word_at
 from .outline import folds_of, location_of, matching_symbols, symbols_of
 from .params import part, position_in, uri_in
@@ -20,7 +21,7 @@ from .protocol import Json, Symbol, range_of
 from .renaming import Places, find_renaming
 from .rpc import INVALID_PARAMS, REQUEST_FAILED, Failure
 from .source import Spot
-from .workspace import LANGUAGE_SUFFIXES, Workspace
+from .workspace import Workspace
 
 # The protocol's numbers: how a name is used, and kinds of what completes.
 READ, WRITTEN = 2, 3
@@ -56,7 +57,7 @@ class Requests:
 
     def handle(self, method: str, number: Any, params: Any) -> None:
         """Has a request answered that is one of `handlers`; nothing is told of a file of a language itself. Raises Failure."""
-        if method.startswith("textDocument/") and uri_in(params).endswith(LANGUAGE_SUFFIXES):
+        if method.startswith("textDocument/") and uri_in(params).endswith(SUFFIXES):
             self.editor.answer(number, None)
         else:
             self.handlers[method](number, params)

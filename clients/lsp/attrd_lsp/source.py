@@ -65,7 +65,7 @@ class Source:
     @cached_property
     def tree(self) -> Node:
         """The tree of all files. Without any part it is the smallest that fits. Raises TermFault where none does."""
-        trees = [it.tree for it in (self.piece(number).phrase for number in range(len(self.parts))) if it is not None]
+        trees = [piece.phrase.tree for it in self.files.values() for piece in it.taken if piece.phrase is not None]
         listed = self.language.listed
         if listed is not None:
             return Node(listed.root, (*listed.before, *trees))
@@ -78,10 +78,10 @@ class Source:
         file, index = self.parts[number]
         return self.files[file].taken[index]
 
-    def text(self, number: int) -> str:
-        """The text of the part of that number, as it is now."""
-        file, index = self.parts[number]
-        return self.files[file].texts[index]
+    @cached_property
+    def texts(self) -> List[str]:
+        """The texts of all parts, as they are now."""
+        return [text for it in self.files.values() for text in it.texts]
 
     @property
     def is_good(self) -> bool:
@@ -123,8 +123,9 @@ class Source:
     def spot(self, path: str) -> Optional[Spot]:
         """The phrase of the node of that path; None for what stands in no text, or isn't there."""
         number, below = self.number(path)
-        there = 0 <= number < len(self.parts) and below in self.piece(number).phrases
-        return self.located(number, below) if there else None
+        if not 0 <= number < len(self.parts) or below not in self.piece(number).phrases:
+            return None
+        return self.located(number, below)
 
     def node(self, path: str) -> Optional[Node]:
         """The node of that path where it stands in no text, but before all parts of a list."""

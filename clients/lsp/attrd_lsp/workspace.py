@@ -9,7 +9,7 @@ from attrd import AttrdError
 
 from .editor import ERROR, Editor
 from .folders import Stamp, files_in, folder_of, text_of
-from .language_files import LanguageFiles, path_of
+from .language_files import SUFFIXES, LanguageFiles, path_of
 from .outline import diagnostics_of
 from .params import change_in, part, uri_in
 from .positions import Text
@@ -17,7 +17,6 @@ from .project import Project
 from .protocol import Json
 from .rpc import CANCELLED, CONTENT_MODIFIED, REQUEST_FAILED, Failure
 
-LANGUAGE_SUFFIXES = (".ast", ".jrag")
 CLOSED = Failure(CONTENT_MODIFIED, "the document was closed")
 
 
@@ -69,7 +68,7 @@ class Workspace:
     def open(self, params: Any) -> None:
         """A document is open now."""
         uri, text = uri_in(params), part(params, str, "textDocument", "text")
-        if uri.endswith(LANGUAGE_SUFFIXES):
+        if uri.endswith(SUFFIXES):
             self.put_language(uri, Text.of(text))
             return
         version = part(params, int, "textDocument", "version")
