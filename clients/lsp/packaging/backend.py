@@ -9,7 +9,7 @@ NAME, VERSION = "attrd_lsp", "1.0.0"
 METADATA = f"""Metadata-Version: 2.1
 Name: attrd-lsp
 Version: {VERSION}
-Summary: A language server for the language of attrd's tutorial
+Summary: A language server for languages with a grammar and aspects of attrd
 Requires-Python: >=3.9
 Description-Content-Type: text/markdown
 
