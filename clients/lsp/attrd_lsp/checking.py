@@ -16,7 +16,7 @@ SEVERITIES = {ERROR: "error", WARNING: "warning"}
 
 
 class Console(Editor):
-    """Keeps what is told of files, and writes messages on standard error."""
+    """Keeps what is told of files. Messages aren't written: what they say is told at the top of a file, too."""
 
     def __init__(self) -> None:
         super().__init__(sys.stdout.buffer)
@@ -27,8 +27,7 @@ class Console(Editor):
         self.told[uri] = diagnostics
 
     def show(self, kind: int, text: str) -> None:
-        """Writes a message."""
-        print(text, file=sys.stderr)
+        """Passes a message over."""
 
 
 def check_files(language: Language, program: Program, files: Sequence[Path]) -> int:

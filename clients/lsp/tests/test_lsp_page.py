@@ -106,7 +106,7 @@ class Followed(unittest.TestCase):
         (self.home.sums / "sums.jrag").write_text("aspect A { syn int Expr.value( }\n", "utf-8")
         command = block("sh", 1).strip()
         told = subprocess.run(["sh", "-c", command], env=self.home.environment, capture_output=True, text=True, timeout=SECONDS)
-        self.assertEqual(told.returncode, 1)
+        self.assertEqual((told.returncode, told.stderr), (1, ""))
         self.assertRegex(told.stdout, r"sums.jrag:1:[0-9]+: error: J")
 
     def test_in_neovim(self):
