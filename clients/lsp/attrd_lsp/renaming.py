@@ -1,7 +1,7 @@
 """Another name for a declaration and all names that mean it, tried on the program's tree before the editor is told."""
 from __future__ import annotations
 
-from typing import Dict, List, Mapping, Optional, Tuple
+from typing import Dict, List, Mapping, NamedTuple, Optional, Tuple
 
 from .desk import Desk
 from .inquiry import Answer, Inquiry
@@ -19,13 +19,22 @@ class CannotRename(Exception):
 Places = Dict[str, List[Span]]
 
 
-def find_renaming(desk: Desk, texts: Mapping[str, str], source: Source, file: str, offset: int, new: str) -> Inquiry[Places]:
-    """Where the new name is to stand, for the declaration that the name at the offset means.
+class Wish(NamedTuple):
+    """That what the name at this place means gets another name."""
+
+    file: str
+    offset: int
+    name: str
+
+
+def find_renaming(desk: Desk, texts: Mapping[str, str], source: Source, known: Known, wish: Wish) -> Inquiry[Places]:
+    """Where the new name is to stand; `known` tells where problems were at the last check.
 
     The renamed files are shown to the program: each name with the old or the new text has to mean what it meant before, and no
     error may come. Raises CannotRename where that isn't so, and NoAnswer and AttrdError as questions do."""
+    new = wish.name
     check_name(source, new)
-    found = yield from find_references(source, file, offset)
+    found = yield from find_references(source, wish.file, wish.offset)
     if found is None:
         raise CannotRename("no name that is declared in a file stands here")
     places: Places = {}
@@ -35,11 +44,11 @@ def find_renaming(desk: Desk, texts: Mapping[str, str], source: Source, file: st
     tried = with_texts(source, new_texts, new)
     names = names_like(source, found[0], new)
     before = yield from find_meanings(source, names)
-    errors = yield from errors_of(desk, source)
+    errors = yield from errors_of(desk, source, known)
     desk.show(tried.tree)
     try:
         after = yield from find_meanings(source, names)
-        come = yield from errors_of(desk, tried)
+        come = yield from errors_of(desk, tried, known)
     finally:
         desk.show(source.tree)
     check_meanings(texts, names, before, after)
@@ -86,11 +95,11 @@ def check_meanings(texts: Mapping[str, str], names: List[Spot], before: List[Tup
             raise CannotRename(f"'{name.phrase.identifier}' in line {line_of(texts, name.file, name.span)} would mean something else")
 
 
-def errors_of(desk: Desk, source: Source) -> Inquiry[Optional[List[Problem]]]:
+def errors_of(desk: Desk, source: Source, known: Known) -> Inquiry[Optional[List[Problem]]]:
     """The errors of the tree; None where the language tells none."""
     if desk.checks is None:
         return None
-    found = yield from find_problems(source, desk.checks, Known())
+    found = yield from find_problems(source, desk.checks, known)
     return [it for it in found if it.is_error]
 
 

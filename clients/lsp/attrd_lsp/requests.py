@@ -18,7 +18,7 @@ from .params import part, position_in, uri_in
 from .positions import Span
 from .project import Project, Request
 from .protocol import Json, Symbol, range_of
-from .renaming import Places, find_renaming
+from .renaming import Places, Wish, find_renaming
 from .rpc import INVALID_PARAMS, REQUEST_FAILED, Failure
 from .source import Spot
 from .workspace import Workspace
@@ -114,17 +114,17 @@ class Requests:
     def rename(self, number: Any, params: Any) -> None:
         """Another name for what the name at a place means."""
         project, file, offset = self.place(params)
-        new = part(params, str, "newName")
+        wish = Wish(file, offset, part(params, str, "newName"))
 
         def result(places: Places) -> Json:
             changes = {
-                project.uris[it]: [{"range": range_of(project.texts[it], span), "newText": new} for span in sorted(spans)]
+                project.uris[it]: [{"range": range_of(project.texts[it], span), "newText": wish.name} for span in sorted(spans)]
                 for it, spans in places.items()
             }
             return {"changes": changes}
 
         texts = {name: it.text for name, it in project.texts.items()}
-        self.ask(project, number, lambda desk: find_renaming(desk, texts, project.source, file, offset, new), result)
+        self.ask(project, number, lambda desk: find_renaming(desk, texts, project.source, project.known, wish), result)
 
     def completion(self, number: Any, params: Any) -> None:
         """The names and words that may be typed at a place."""

@@ -146,7 +146,7 @@ class Workspace:
         for path, stamp in there.items():
             text = None if str(path) in project.versions or known.get(path) == stamp else text_of(path)
             if text is not None:
-                project.put(str(path), path.as_uri(), text)
+                project.put(str(path), project.uris.get(str(path), path.as_uri()), text)
         for name in [it for it in project.texts if it not in project.versions and Path(it) not in there]:
             self.editor.publish(project.uris.pop(name), None, [])
             project.remove(name)
