@@ -156,7 +156,8 @@ class InAnEditor(unittest.TestCase):
         text = GRAMMAR.replace("<ID>", "<Name>")
         opened = {"uri": grammar.as_uri(), "languageId": "ast", "version": 0, "text": text}
         self.client.notify("textDocument/didOpen", {"textDocument": opened})
-        self.client.notify("textDocument/didChange", {"textDocument": {"uri": grammar.as_uri(), "version": 1}, "contentChanges": [{"text": GRAMMAR}]})
+        changed = {"textDocument": {"uri": grammar.as_uri(), "version": 1}, "contentChanges": [{"text": GRAMMAR}]}
+        self.client.notify("textDocument/didChange", changed)
         self.assertEqual(self.document.settled(), ["2:1 no is said"])
 
     def test_what_a_language_doesnt_give_isnt_offered(self):

@@ -16,6 +16,7 @@ FLOATING = (
     "for _, it in ipairs(vim.api.nvim_list_wins()) do if vim.api.nvim_win_get_config(it).relative ~= '' then "
     "return vim.api.nvim_buf_get_lines(vim.api.nvim_win_get_buf(it), 0, -1, true) end end"
 )
+TOLD = f"{DIAGNOSTICS.replace('return', 'local told =', 1)} return vim.deep_equal(told, ...)"
 # What Emacs does: it waits for the error, corrects it, goes to a declaration and changes its name; each step writes what came of it.
 IN_EMACS = """
 (defun wait-for (what test)
@@ -111,7 +112,7 @@ class Followed(unittest.TestCase):
 
     def test_in_neovim(self):
         editor = self.home.neovim(self, block("lua", 0), self.home.sums / "one.sums")
-        editor.until(f"{DIAGNOSTICS.replace('return', 'local told =', 1)} return vim.deep_equal(told, ...)", ["2:21 nothing is named widht"])
+        editor.until(TOLD, ["2:21 nothing is named widht"])
         editor.keys("2G0f(llllxpb")
         editor.until("return #vim.diagnostic.get(0) == 0")
         editor.keys("2G0fa")
@@ -148,18 +149,18 @@ class Sample(unittest.TestCase):
         home = Home(self)
         (home.folder / "tokens.rules").write_text('token NUMBER;\ntoken PLUS "+";\n', "utf-8")
         (home.folder / "sums.rules").write_text('sum = NUMBER { "+" NUMBRE };\n', "utf-8")
-        lines = block("lua", 0).replace("vim.env.HOME .. '/sums/sums_server.py'", f"'{SAMPLE / 'rules_server.py'}'").replace("*.sums", "*.rules")
+        lines = block("lua", 0).replace("vim.env.HOME .. '/sums/sums_server.py'", f"'{SAMPLE / 'rules_server.py'}'")
+        lines = lines.replace("*.sums", "*.rules")
         editor = home.neovim(self, lines, home.folder / "sums.rules")
-        told = f"{DIAGNOSTICS.replace('return', 'local told =', 1)} return vim.deep_equal(told, ...)"
-        editor.until(told, ["1:16 this is the token PLUS", "1:20 no rule or token is named NUMBRE"])
+        editor.until(TOLD, ["1:16 this is the token PLUS", "1:20 no rule or token is named NUMBRE"])
         elsewhere = "for _, it in ipairs(vim.diagnostic.get()) do if it.message == 'PLUS is never used' then return true end end"
         editor.until(elsewhere)
         editor.keys("1G$F}bcwNUMBER<Esc>")
-        editor.until(told, ["1:16 this is the token PLUS"])
+        editor.until(TOLD, ["1:16 this is the token PLUS"])
         editor.lua("vim.ui.select = function(items, _, choose) choose(items[1]) end")
         editor.keys("0f+<F4>")
         editor.until("return vim.deep_equal(vim.api.nvim_buf_get_lines(0, 0, -1, true), ...)", ["sum = NUMBER { PLUS NUMBER };"])
-        editor.until(told, [])
+        editor.until(TOLD, [])
         editor.lua("vim.cmd('write')")
         editor.keys("0fN")
         editor.keys("gd")
