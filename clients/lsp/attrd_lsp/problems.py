@@ -49,27 +49,27 @@ def find_problems(source: Source, checks: Diagnostics, known: Known) -> Inquiry[
     asking = Asking(source, checks)
     numbers = range(len(source.parts))
     fresh = [it for it, text in enumerate(source.texts) if text not in known.parts]
-    standing, likely = standing_in(source, known, set(fresh))
+    is_fresh = set(fresh)
     few = fresh if known.parts and len(fresh) <= FRESH else []
-    first = yield from asking.first(standing, likely, few)
-    if first.total == len(first.told) + len(first.likely):
-        return in_order(source, first.told + first.likely)
+    first = yield from asking.first(standing_in(source, known, is_fresh), few)
+    if first.total == len(first.told):
+        return in_order(source, first.told)
     counted = first.counted if few == fresh else (yield from asking.counts([source.located(it, "") for it in fresh]))
-    found = first.told
-    if first.total is None or total_of(counted) is None or (total_of(counted) or 0) + len(found) != first.total:
-        counted += yield from asking.counts([source.located(it, "") for it in numbers if it not in set(fresh)])
+    found = [it for it in first.told if source.number(it.path)[0] not in is_fresh]
+    number = total_of(counted)
+    if first.total is None or number is None or number + len(found) != first.total:
+        counted += yield from asking.counts([source.located(it, "") for it in numbers if it not in is_fresh])
         found = [] if source.language.listed is None else (yield from asking.of_root(first.total, counted))
-    found += yield from asking.down([it for it in counted if number_in(it.told) != 0])
+    found += yield from asking.down(counted, first.told)
     return in_order(source, found)
 
 
-def standing_in(source: Source, known: Known, fresh: Set[int]) -> Tuple[List[Spot], List[Spot]]:
-    """The nodes that had problems: those in parts that are as they were, and those in the other parts."""
+def standing_in(source: Source, known: Known, fresh: Set[int]) -> List[Spot]:
+    """The nodes that had problems: by their texts those in parts that are as they were, and by their paths those in the other parts."""
     wrong = [(it, text) for it, text in enumerate(source.texts) if known.parts.get(text)] if known.paths else []
-    kept = [(source.path(it) + below) or "/" for it, text in wrong for below in known.parts[text]]
-    gone = [it for it in known.paths if source.number(it)[0] in fresh]
-    spots = [[spot for spot in map(source.spot, paths) if spot is not None] for paths in (kept, gone)]
-    return spots[0], spots[1]
+    paths = [(source.path(it) + below) or "/" for it, text in wrong for below in known.parts[text]]
+    paths += [it for it in known.paths if source.number(it)[0] in fresh]
+    return [it for it in map(source.spot, paths) if it is not None]
 
 
 def in_order(source: Source, found: List[Problem]) -> List[Problem]:
@@ -90,11 +90,10 @@ def known_by(source: Source, found: Iterable[Problem]) -> Known:
 
 
 class First(NamedTuple):
-    """What was asked first: the count of the root, problems in parts that are as they were and in others, and counts of those."""
+    """What was asked first: the count of the root, problems at nodes that had some, and the counts of some parts."""
 
     total: Optional[int]
     told: List[Problem]
-    likely: List[Problem]
     counted: List[Counted]
 
 
@@ -117,17 +116,15 @@ class Asking:
         """What is asked of the nodes themselves."""
         return [(spot, check) for spot in spots for check in self.checks_of(spot)]
 
-    def first(self, standing: List[Spot], likely: List[Spot], fresh: List[int]) -> Inquiry[First]:
+    def first(self, standing: List[Spot], fresh: List[int]) -> Inquiry[First]:
         """What is told of these nodes themselves, the count of the root, and those of these parts. Raises NoAnswer."""
-        own, other = self.own(standing), self.own(likely)
-        parts = [self.source.located(it, "") for it in fresh]
-        questions = [Question(spot.path, check.name) for spot, check in own + other]
+        own, parts = self.own(standing), [self.source.located(it, "") for it in fresh]
+        questions = [Question(spot.path, check.name) for spot, check in own]
         answers = yield [Question("/", self.count), *questions, *(Question(it.path, self.count) for it in parts)]
         if isinstance(answers[0], (RefusedReply, Memory)):
             raise NoAnswer(why_not(answers[0]))
-        told, behind, rest = answers[1 : len(own) + 1], answers[len(own) + 1 :], answers[len(questions) + 1 :]
-        counted = [Counted(spot, it) for spot, it in zip(parts, rest)]
-        return First(number_in(answers[0]), self.told(own, told), self.told(other, behind), counted)
+        counted = [Counted(spot, it) for spot, it in zip(parts, answers[1 + len(own) :])]
+        return First(number_in(answers[0]), self.told(own, answers[1:]), counted)
 
     def counts(self, spots: List[Spot]) -> Inquiry[List[Counted]]:
         """The counts of these nodes."""
@@ -143,19 +140,26 @@ class Asking:
         answers = yield [Question("/", it.name) for it in checks]
         return self.told([(parts[0].spot, it) for it in checks], answers)
 
-    def down(self, wrong: List[Counted]) -> Inquiry[List[Problem]]:
-        """The problems at these nodes and below them: each level in one batch, with what is left to ask of the nodes above it."""
+    def down(self, counted: List[Counted], told: List[Problem]) -> Inquiry[List[Problem]]:
+        """The problems at these nodes and below them: each level in one batch, with what is left to ask of the nodes above it.
+
+        Where problems that are told already are as many as a node counts, they are its problems."""
+        told_below = by_ancestors(told)
         found: List[Problem] = []
         due: List[Tuple[Spot, Check]] = []
+        wrong = counted
         while wrong or due:
-            below = [[*self.children(it.spot)] for it in wrong]
-            counted = [Question(it.path, self.count) for spots in below for it in spots]
-            answers = yield [Question(spot.path, check.name) for spot, check in due] + counted
+            are_told = [number_in(it.told) == len(told_below.get(it.spot.path, ())) for it in wrong]
+            found += [problem for it, is_told in zip(wrong, are_told) if is_told for problem in told_below.get(it.spot.path, ())]
+            wrong = [it for it, is_told in zip(wrong, are_told) if not is_told]
+            below = [self.children(it.spot) for it in wrong]
+            questions = [Question(it.path, self.count) for spots in below for it in spots]
+            answers = yield [Question(spot.path, check.name) for spot, check in due] + questions
             found += self.told(due, answers)
             counts = iter(answers[len(due) :])
             level = [[Counted(it, next(counts)) for it in spots] for spots in below]
             due = self.own(it.spot for it, inner in zip(wrong, level) if not is_made_up(it, inner))
-            wrong = [it for inner in level for it in inner if number_in(it.told) != 0]
+            wrong = [it for inner in level for it in inner]
         return found
 
     def children(self, spot: Spot) -> List[Spot]:
@@ -172,6 +176,18 @@ class Asking:
         """The problem with this text at the name of the node, or else at the whole of it."""
         span = spot.span if spot.phrase.name is None else spot.name
         return Problem(text, spot.file, span, check.name not in self.source.language.warnings, spot.path)
+
+
+def by_ancestors(told: List[Problem]) -> Dict[str, List[Problem]]:
+    """By the path of each node with a problem at it or below it these problems, in their order."""
+    found: Dict[str, List[Problem]] = {}
+    for it in told:
+        path = it.path
+        while path and path != "/":
+            found.setdefault(path, []).append(it)
+            path = path.rpartition("/")[0]
+        found.setdefault("/", []).append(it)
+    return found
 
 
 def is_made_up(it: Counted, below: List[Counted]) -> bool:
