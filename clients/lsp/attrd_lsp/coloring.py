@@ -16,6 +16,8 @@ TYPES: Dict[int, str] = {
     Symbol.CONSTANT: "variable", Symbol.ENUM_MEMBER: "enumMember", Symbol.STRUCT: "struct", Symbol.EVENT: "event",
     Symbol.OPERATOR: "operator", Symbol.TYPE_PARAMETER: "typeParameter", Symbol.STRING: "string", Symbol.NUMBER: "number",
 }  # fmt: skip
+# Of how many uses is asked at most what they mean: those behind them in the text have no colour.
+MOST = 5_000
 # What stands in no text, and what no symbol is.
 BUILT_IN, OTHER = "type", "variable"
 LEGEND = list(dict.fromkeys([*TYPES.values(), BUILT_IN, OTHER]))
@@ -35,7 +37,7 @@ def find_tokens(source: Source, file: str, within: Span) -> Inquiry[List[Token]]
     spots = [it for it in source.in_file(file) if it.phrase.name is not None and within.start <= it.name.start < within.end]
     declared = [(it, source.symbol_kind(it)) for it in spots]
     found = [Token(it.name, type_of(kind), True) for it, kind in declared if kind is not None]
-    uses = [it for it in spots if source.meanings(it)]
+    uses = [it for it in spots if source.meanings(it)][:MOST]
     answers = yield from find_meanings(source, uses)
     for it, told in zip(uses, answers):
         path = meant(told)

@@ -34,6 +34,10 @@ class Editor:
         """Tells that a request can't be answered."""
         self.write({"id": number, "error": {"code": failure.code, "message": failure.text}})
 
+    def ask(self, method: str, params: Dict[str, Any]) -> None:
+        """Sends a request, whose answer isn't waited for."""
+        self.write({"id": method, "method": method, "params": params})
+
     def publish(self, uri: str, version: Optional[int], diagnostics: List[Dict[str, Any]]) -> None:
         """Has these diagnostics shown for a file, in the place of all others."""
         params: Dict[str, Any] = {"uri": uri, "diagnostics": diagnostics}

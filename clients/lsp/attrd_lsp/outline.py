@@ -16,10 +16,11 @@ def location_of(project: Project, spot: Spot) -> Json:
 
 
 def diagnostics_of(project: Project, file: str) -> List[Json]:
-    """All that is to be told of a file: why nothing is known, faults of its syntax, parts that are held, problems."""
+    """All that is to be told of a file: why nothing is known, where it is open; faults of its syntax, parts that are held, problems."""
     text, reading = project.texts[file], project.source.files[file]
     top = Span(0, len(text.line(0)))
-    told = [(top, it, ERROR) for it in (project.trouble, reading.trouble) if it is not None]
+    trouble = project.trouble if file in project.versions else None
+    told = [(top, it, ERROR) for it in (trouble, reading.trouble) if it is not None]
     told += [(it.span, it.text, ERROR) for it in reading.faults]
     told += [(it.name, held_text(it, is_last_good), INFORMATION) for it, is_last_good in project.source.held(file)]
     told += [(it.span, it.text, ERROR if it.is_error else WARNING) for it in project.problems if it.file == file]

@@ -1,7 +1,7 @@
 """The files of one tree: their texts, the tree's program, and what is asked of it.
 
-At most one inquiry is under way at a time. Requests come before the check for problems, in their order; an edit ends them all,
-and begins a new check."""
+At most one inquiry is under way at a time. Requests come before the check for problems, in their order, but for those that are
+patient; an edit ends them all, and begins a new check."""
 from __future__ import annotations
 
 from collections import deque
@@ -29,12 +29,15 @@ CHANGED = Failure(CONTENT_MODIFIED, "the document was changed meanwhile")
 
 @dataclass
 class Request:
-    """A request of the editor that takes questions: the inquiry that it begins, and what is done with its result or failure."""
+    """A request of the editor that takes questions: the inquiry that it begins, and what is done with its result or failure.
+
+    One that is patient waits for the check."""
 
     number: Any
     begin: Callable[[Desk], Inquiry[Any]]
     answer: Callable[[Any], None]
     fail: Callable[[Failure], None]
+    is_patient: bool = False
     task: Optional[Task[Any]] = None
 
 
@@ -140,10 +143,13 @@ class Project:
         """One short step of what is under way."""
         try:
             desk = self.desk or self.opened()
-            if self.requests:
-                self.step_request(desk, self.requests[0])
+            urgent = next((it for it in self.requests if not it.is_patient), None)
+            if urgent is not None:
+                self.step_request(desk, urgent)
             elif self.wants_check:
                 self.step_check(desk)
+            elif self.requests:
+                self.step_request(desk, self.requests[0])
         except AttrdError as fault:
             self.lost(fault)
 
@@ -163,11 +169,11 @@ class Project:
             if not request.task.is_over:
                 return
         except (NoAnswer, CannotRename) as fault:
-            self.requests.popleft()
+            self.requests.remove(request)
             request.fail(Failure(REQUEST_FAILED, str(fault)))
             return
         self.losses = 0
-        self.requests.popleft()
+        self.requests.remove(request)
         request.answer(request.task.result)
 
     def step_check(self, desk: Desk) -> None:

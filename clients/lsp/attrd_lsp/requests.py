@@ -178,10 +178,12 @@ class Requests:
         def result(tokens: List[Token]) -> Json:
             return {"data": encoded(text, tokens)}
 
-        self.ask(project, number, lambda _: find_tokens(project.source, file, within), result)
+        self.ask(project, number, lambda _: find_tokens(project.source, file, within), result, is_patient=True)
 
-    def ask(self, project: Project, number: Any, begin: Callable[[Desk], Inquiry[Any]], result: Callable[[Any], Any]) -> None:
-        """Has an inquiry made; what it finds is answered as `result` says."""
+    def ask(
+        self, project: Project, number: Any, begin: Callable[[Desk], Inquiry[Any]], result: Callable[[Any], Any], is_patient: bool = False
+    ) -> None:
+        """Has an inquiry made, behind the check where it is patient; what it finds is answered as `result` says."""
 
         def answer(found: Any) -> None:
             self.editor.answer(number, result(found))
@@ -189,7 +191,7 @@ class Requests:
         def fail(failure: Failure) -> None:
             self.editor.fail(number, failure)
 
-        project.requests.append(Request(number, begin, answer, fail))
+        project.requests.append(Request(number, begin, answer, fail, is_patient))
 
     def document(self, params: Any) -> Tuple[Project, str]:
         """The tree and the file of a request. Raises Failure where it isn't open."""

@@ -46,12 +46,20 @@ def capabilities_of(language: Language) -> Dict[str, Any]:
     }
 
 
+def can_watch(params: Any) -> bool:
+    """Whether the editor says that it can be asked to tell of files that are written."""
+    found = params
+    for name in ("capabilities", "workspace", "didChangeWatchedFiles", "dynamicRegistration"):
+        found = found.get(name) if isinstance(found, dict) else None
+    return found is True
+
+
 class LanguageServer:
     """Serves one editor."""
 
     def __init__(self, inbox: Inbox, editor: Editor, workspace: Workspace) -> None:
         self.inbox, self.editor, self.workspace = inbox, editor, workspace
-        self.is_initialized = False
+        self.is_initialized = self.may_watch = False
         self.is_shut_down = False
         self.status: Optional[int] = None
         self.notifications: Dict[str, Callable[[Any], None]] = {
@@ -59,6 +67,7 @@ class LanguageServer:
             "textDocument/didChange": workspace.change,
             "textDocument/didClose": workspace.close,
             "workspace/didChangeWatchedFiles": workspace.watched,
+            "initialized": self.watch,
             "$/cancelRequest": workspace.cancel,
             "exit": self.exit,
         }
@@ -92,7 +101,7 @@ class LanguageServer:
                 self.take(message)
 
     def take(self, message: Message) -> None:
-        """Takes a message. Answers of the editor aren't looked at: nothing is asked of it."""
+        """Takes a message. Answers of the editor aren't looked at: nothing is asked of it but to tell of files."""
         method = message.get("method")
         if isinstance(method, str):
             self.dispatch(method, message)
@@ -144,7 +153,16 @@ class LanguageServer:
     def initialize(self, number: Any, params: Any) -> None:
         """The editor begins; it is told what this server can do."""
         self.is_initialized = True
+        self.may_watch = can_watch(params)
         self.editor.answer(number, {"capabilities": capabilities_of(self.workspace.files.language), "serverInfo": {"name": "attrd_lsp"}})
+
+    def watch(self, params: Any) -> None:
+        """Has the editor tell of files that are written, where files of a folder are one tree and it can do so."""
+        suffix = self.workspace.files.language.suffix
+        if suffix is not None and self.may_watch:
+            options = {"watchers": [{"globPattern": f"**/*{suffix}"}]}
+            wanted = {"id": "files", "method": "workspace/didChangeWatchedFiles", "registerOptions": options}
+            self.editor.ask("client/registerCapability", {"registrations": [wanted]})
 
     def shut_down(self, number: Any, params: Any) -> None:
         """The editor is about to end."""

@@ -115,6 +115,17 @@ class OnAFolder(unittest.TestCase):
         self.client.notify("workspace/didChangeWatchedFiles", {"changes": changes})
         self.assertEqual(self.document.settled(), ["2:17 no rule or token is named PLUS", "4:9 no rule or token is named NUMBER"])
 
+    def test_an_editor_that_can_is_asked_to_tell_of_written_files(self):
+        able = {"capabilities": {"workspace": {"didChangeWatchedFiles": {"dynamicRegistration": True}}}}
+        client = Client(script=SAMPLE / "rules_server.py")
+        self.addCleanup(client.close)
+        client.ask("initialize", able)
+        client.notify("initialized", {})
+        (asked,) = client.note("client/registerCapability")["registrations"]
+        self.assertEqual(asked["registerOptions"], {"watchers": [{"globPattern": "**/*.rules"}]})
+        client.write({"id": "client/registerCapability", "result": None})
+        self.assertEqual(client.ask("workspace/symbol", {"query": ""}), [])
+
     def test_what_stands_in_the_editor_counts_until_it_is_closed(self):
         self.document.settled()
         tokens = Editing(self.client, TOKENS.replace("PLUS", "ADD"), self.tokens.as_uri())

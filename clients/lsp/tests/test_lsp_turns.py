@@ -93,6 +93,14 @@ class InTurns(unittest.TestCase):
         self.assertEqual(client.notes, [])
         self.assertEqual(document.settled(), [])
 
+    def test_colours_wait_for_the_check(self):
+        client = self.client(300, 0.0005)
+        document = Editing(client, SMALL.replace("x + r", "q + r"))
+        request = client.begun("textDocument/semanticTokens/full", {"textDocument": {"uri": document.uri}})
+        client.write(request)
+        self.assertNotEqual(client.answer(request["id"])["data"], [])
+        self.assertEqual([len(it["params"]["diagnostics"]) for it in client.notes], [1])
+
     def test_what_is_told_of_a_version_is_what_its_text_has(self):
         client = self.client(5, 0.001)
         document = Editing(client, SMALL)
