@@ -1,17 +1,7 @@
 """Runs the language server of the tutorial's language."""
-import importlib.util
 import sys
 
-
-def run() -> int:
-    """Runs it, where the library that it is made on is there; the exit status."""
-    if importlib.util.find_spec("attrd") is None:
-        print("attrd_lsp: the package attrd is missing: put clients/python on PYTHONPATH, or install it from there", file=sys.stderr)
-        return 2
-    from .small.main import main
-
-    return main()
-
+from .small.main import main as run
 
 if __name__ == "__main__":
     sys.exit(run())

@@ -7,7 +7,7 @@ import tempfile
 import unittest
 from pathlib import Path
 
-from lsp_support import PYTHONPATH, SMALL, Client, Editing, Ended, children, program, ranges, shown, tutorial_file
+from lsp_support import LSP, PYTHONPATH, SMALL, Client, Editing, Ended, children, program, ranges, shown, tutorial_file
 from attrd_lsp.small.language import DATA, NoLanguage, in_folder
 
 CONTENT_MODIFIED, CANCELLED, FAILED = -32801, -32800, -32803
@@ -308,6 +308,23 @@ class OnFaults(unittest.TestCase):
         told = subprocess.run(command, env=environment, capture_output=True)
         self.assertEqual(told.returncode, 0)
         self.assertIn(b"--language", told.stdout)
+
+    def test_a_library_that_is_missing_is_named(self):
+        environment = {**os.environ, "PYTHONPATH": str(LSP)}
+        told = subprocess.run(["python3", "-S", "-m", "attrd_lsp"], env=environment, capture_output=True, text=True)
+        self.assertEqual(told.returncode, 1)
+        self.assertIn("the package attrd is missing: put clients/python on PYTHONPATH", told.stderr.splitlines()[-1])
+
+    def test_files_are_checked_without_an_editor(self):
+        with tempfile.TemporaryDirectory(prefix="attrd-lsp-") as folder:
+            file = Path(folder) / "one.small"
+            file.write_text(SMALL.replace("x + r", "q + r"), "utf-8")
+            command = ["python3", "-m", "attrd_lsp", "--program", program(), "--check"]
+            environment = {**os.environ, "PYTHONPATH": os.pathsep.join(PYTHONPATH)}
+            told = subprocess.run([*command, str(file)], env=environment, capture_output=True, text=True)
+            self.assertEqual((told.returncode, told.stdout), (1, f"{file}:7:11: error: no declaration of q\n"))
+            told = subprocess.run([*command, str(file) + ".none"], env=environment, capture_output=True, text=True)
+            self.assertEqual((told.returncode, told.stderr), (2, f"{file}.none: it can't be read\n"))
 
 
 class OnItsProgram(unittest.TestCase):
