@@ -34,7 +34,8 @@ class Token(NamedTuple):
 
 def find_tokens(source: Source, file: str, within: Span) -> Inquiry[List[Token]]:
     """The names of a file that begin within the stretch, in the order of the text; those that mean nothing are left out."""
-    spots = [it for it in source.in_file(file) if it.phrase.name is not None and within.start <= it.name.start < within.end]
+    named = source.in_file(file, within, lambda _, __, phrase: phrase.name is not None)
+    spots = [it for it in named if within.start <= it.name.start < within.end]
     declared = [(it, source.symbol_kind(it)) for it in spots]
     found = [Token(it.name, type_of(kind), True) for it, kind in declared if kind is not None]
     uses = [it for it in spots if source.meanings(it)][:MOST]

@@ -1,7 +1,7 @@
 """Diagnostics, symbols and folds of a file, as the editor's protocol has them."""
 from __future__ import annotations
 
-from typing import Dict, Iterator, List
+from typing import Dict, Iterator, List, Tuple
 
 from .editor import ERROR, INFORMATION, WARNING
 from .positions import Span
@@ -36,30 +36,20 @@ def held_text(spot: Spot, is_last_good: bool) -> str:
 def symbols_of(project: Project, file: str) -> List[Json]:
     """The declarations of a file, each with those below it, in the order of the text."""
     source = project.source
-    first = source.first[file]
-    parts = [source.located(it, "") for it in range(first, first + len(source.files[file].taken))]
-    return [symbol(project, it) for spot in parts for it in declarations(project, spot)]
-
-
-def declarations(project: Project, spot: Spot) -> Iterator[Spot]:
-    """The phrase where it is a declaration, or else the nearest declarations below it."""
-    waiting = [spot]
-    while waiting:
-        it = waiting.pop()
-        if project.source.symbol_kind(it) is not None:
-            yield it
-        else:
-            waiting.extend(reversed(below(project, it)))
-
-
-def below(project: Project, spot: Spot) -> List[Spot]:
-    """The phrases just below."""
-    number, path = project.source.number(spot.path)
-    return [project.source.located(number, f"{path}/{step}") for step, _ in spot.phrase.children]
+    found: List[Json] = []
+    around: List[Tuple[str, Json]] = []
+    whole = Span(0, len(project.texts[file].text))
+    for spot in source.in_file(file, whole, lambda number, path, _: source.declares(number, path) is not None):
+        told = symbol(project, spot)
+        while around and not spot.path.startswith(around[-1][0]):
+            around.pop()
+        (around[-1][1]["children"] if around else found).append(told)
+        around.append((spot.path.rstrip("/") + "/", told))
+    return found
 
 
 def symbol(project: Project, spot: Spot) -> Json:
-    """The symbol of a declaration, with those below it."""
+    """The symbol of a declaration, as yet without those below it."""
     text = project.texts[spot.file]
     return {
         "name": spot.phrase.identifier or spot.phrase.kind,
@@ -67,7 +57,7 @@ def symbol(project: Project, spot: Spot) -> Json:
         "detail": detail_of(project, spot),
         "range": range_of(text, spot.span),
         "selectionRange": range_of(text, spot.name),
-        "children": [symbol(project, it) for child in below(project, spot) for it in declarations(project, child)],
+        "children": [],
     }
 
 
@@ -80,11 +70,13 @@ def detail_of(project: Project, spot: Spot) -> str:
 
 def matching_symbols(project: Project, query: str) -> Iterator[Json]:
     """The declarations of all files whose names have the query in them, whatever the case of letters."""
-    wanted = query.casefold()
-    for file in project.source.files:
-        for spot in project.source.in_file(file):
-            kind = project.source.symbol_kind(spot) if spot.phrase.name is not None else None
-            if kind is not None and wanted in spot.phrase.identifier.casefold():
+    source, wanted = project.source, query.casefold()
+    for number in range(len(source.parts)):
+        named = source.piece(number).named
+        for below in [it for name, paths in named.items() if wanted in name.casefold() for it in paths]:
+            kind = source.declares(number, below)
+            if kind is not None:
+                spot = source.located(number, below)
                 yield {"name": spot.phrase.identifier, "kind": kind, "location": location_of(project, spot)}
 
 
@@ -92,7 +84,9 @@ def folds_of(project: Project, file: str) -> List[Json]:
     """The stretches of lines that can be folded: each phrase of more than one line, the longest one of those that begin in a line."""
     text = project.texts[file]
     longest: Dict[int, int] = {}
-    for spot in project.source.in_file(file):
+    whole = Span(0, len(text.text))
+    source = project.source
+    for spot in source.in_file(file, whole, lambda number, _, it: "\n" in source.piece(number).text[it.span[0] : it.span[1]]):
         start, end = text.position(spot.span.start).line, text.position(spot.span.end).line
         if end > longest.get(start, start):
             longest[start] = end

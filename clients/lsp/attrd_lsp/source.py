@@ -4,7 +4,7 @@ from __future__ import annotations
 import bisect
 from dataclasses import dataclass
 from functools import cached_property
-from typing import Dict, Iterator, List, Mapping, NamedTuple, Optional, Sequence, Tuple, TypeVar
+from typing import Callable, Dict, Iterator, List, Mapping, NamedTuple, Optional, Sequence, Tuple, TypeVar
 
 from attrd import Node, Path
 
@@ -169,12 +169,15 @@ class Source:
             for below in self.piece(number).named.get(name, ()):
                 yield self.located(number, below)
 
-    def in_file(self, file: str) -> Iterator[Spot]:
-        """The phrases of a file, each before those below it, in the order of its text."""
-        first = self.first[file]
-        for number in range(first, first + len(self.files[file].taken)):
-            for below in self.piece(number).phrases:
-                yield self.located(number, below)
+    def in_file(self, file: str, within: Span, is_wanted: Callable[[int, str, Phrase], bool]) -> Iterator[Spot]:
+        """The wanted phrases of the parts of a file that stand in the stretch, each before those below it, in the order of the text.
+
+        What is wanted is told by the number of the part, the path below it and the phrase."""
+        first, last = max(self.part_at(file, within.start), self.first[file]), self.part_at(file, within.end)
+        for number in range(first, last + 1):
+            for below, phrase in self.piece(number).phrases.items():
+                if is_wanted(number, below, phrase):
+                    yield self.located(number, below)
 
     # What the language says of classes
 
