@@ -42,29 +42,29 @@ def find_completions(desk: Desk, texts: Mapping[str, str], source: Source, file:
     typed = (WORD_END.search(text[:offset]) or [""])[0]
     start = offset - len(typed)
     if typed and source.is_good:
-        return (yield from completions_in(source, source, file, start, typed))
+        return (yield from completions_in(source, file, start, typed))
     behind = WORD_START.match(text, offset)
     changed = text[:start] + (typed or UNTYPED) + text[behind.end() if behind else offset :]
     tried = source.with_file(file, changed, holds=False)
     desk.show(tried.tree)
     try:
-        return (yield from completions_in(tried, source, file, start, typed))
+        return (yield from completions_in(tried, file, start, typed))
     finally:
         desk.show(source.tree)
 
 
-def completions_in(tried: Source, source: Source, file: str, start: int, typed: str) -> Inquiry[Completions]:
-    """What may stand at the name that begins there; `source` has the declarations as they are, `tried` those that are asked for."""
-    spot = tried.at(file, start + 1)
+def completions_in(source: Source, file: str, start: int, typed: str) -> Inquiry[Completions]:
+    """What may stand in the place of the name that begins there; so much of it is typed."""
+    spot = source.at(file, start + 1)
     lookups: Sequence[str] = ()
     while spot is not None and not lookups:
-        lookups = tried.of_class(tried.language.lookup, spot.phrase.kind) or ()
-        spot = spot if lookups else tried.above(spot)
+        lookups = source.of_class(source.language.lookup, spot.phrase.kind) or ()
+        spot = spot if lookups else source.above(spot)
     words = [Completion(it, None, "") for it in source.language.words if typed and it.startswith(typed) and it != typed]
     if spot is None:
         return Completions(words, True)
-    names = [it for it in declared_names(tried) if it.casefold().startswith(typed.casefold())]
-    found = yield from seen_names(tried, spot, lookups, names[:MOST])
+    names = [it for it in declared_names(source) if it.casefold().startswith(typed.casefold()) and (typed or it != UNTYPED)]
+    found = yield from seen_names(source, spot, lookups, names[:MOST])
     return Completions(found + words, len(names) <= MOST)
 
 

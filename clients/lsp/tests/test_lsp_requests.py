@@ -58,6 +58,10 @@ class Completion(OnTheTutorialsProgram):
         self.assertEqual(self.names(self.document, "Point", 1, 1), [("Point", 7, "class Point")])
         self.assertEqual(self.names(self.document, "int", 0, 2), [("int", 6, "int")])
 
+    def test_the_name_that_stands_for_none_isnt_offered(self):
+        self.document.change("show end;", "int ; show end;")
+        self.assertEqual([it[0] for it in self.names(self.document, "int", 3, 4)], ["end", "r", "x", "y"])
+
     def test_words_of_the_language_are_offered(self):
         self.document.change("show end;", "show tr;")
         self.assertEqual(self.names(self.document, "tr", 0, 2), [("true", 14, "")])

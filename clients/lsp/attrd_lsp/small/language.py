@@ -46,7 +46,7 @@ def in_folder(folder: Path) -> Language:
         aspects=aspects,
         parse=read_class,
         meaning={"Name": ("decl",), "Dot": ("decl",), "KindUse": ("kind",)},
-        lookup={"Name": ("lookup",), "Block": ("lookup",), "KindUse": ("lookupKind",)},
+        lookup={"Name": ("lookup",), "Block": ("local", "lookup"), "KindUse": ("lookupKind",)},
         hover={"Decl": "kind", "Expr": "kind", "KindUse": "kind"},
         kinds={"ClassDecl": Symbol.CLASS, "Decl": Symbol.VARIABLE, "ClassDecl.Field": Symbol.FIELD},
         details={"ClassDecl": "Super", "Decl": "Declared"},
