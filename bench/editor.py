@@ -20,6 +20,8 @@ sys.path.insert(0, str(ROOT / "clients" / "lsp" / "tests"))
 
 RUNS = 15
 SIZES = (1_000, 5_000, 50_000)
+# How many errors stand in the file where keys are measured beside some.
+STANDING = 36
 # How often an edit is measured beside the first check of a file, and how much processor time that has taken by then, in seconds.
 BESIDE, AFTER = 5, 0.2
 # A program whose help names no option for turns: so the language server asks, and posts nothing.
@@ -83,7 +85,8 @@ def in_neovim(nodes):
     try:
         editor.until("return seen > 0", seconds=300)
         first = (time.monotonic() - began) * 1000
-        return {"the file is opened, to its first diagnostics": first, **changes(editor), **requests(editor)}
+        alone = {"the file is opened, to its first diagnostics": first, **changes(editor, 0), **requests(editor)}
+        return {**alone, **changes(editor, errors_in(editor))}
     finally:
         editor.close()
         folder.temporary.cleanup()
@@ -97,18 +100,33 @@ def place_in(lines):
     return line, lines[line].index("t4 = ") + len("t4 = ")
 
 
-def changes(editor):
-    """From a change to its diagnostics: an error that comes, and one that goes."""
+def errors_in(editor):
+    """Puts STANDING errors into the file, all over it, and waits until they are told; their number."""
+    lines = editor.lines()
+    place, _ = place_in(lines)
+    numbers = [it for it, line in enumerate(lines) if " = t" in line and it != place]
+    chosen = numbers[:: len(numbers) // STANDING][:STANDING]
+    for it in chosen:
+        lines[it] = lines[it].replace(" = t", " = q", 1)
+    editor.lua("vim.api.nvim_buf_set_lines(0, 0, -1, true, ...)", lines)
+    editor.until(f"return #vim.diagnostic.get(0) == {len(chosen)}", seconds=300)
+    return len(chosen)
+
+
+def changes(editor, standing):
+    """From a change to its diagnostics, beside so many errors: an error that comes, and one that goes."""
     line, column = place_in(editor.lines())
     come, gone = [], []
     for _ in range(RUNS):
         spent, count = editor.lua(CHANGE, line, column, column, "q")
-        assert count == 1, count
+        assert count == standing + 1, count
         come.append(spent)
         spent, count = editor.lua(CHANGE, line, column, column + 1, "")
-        assert count == 0, count
+        assert count == standing, count
         gone.append(spent)
-    return {"a key that brings an error": statistics.median(come), "a key that takes it away": statistics.median(gone)}
+    beside_errors = f", beside {standing} errors" if standing else ""
+    come_and_gone = statistics.median(come), statistics.median(gone)
+    return {f"a key that brings an error{beside_errors}": come_and_gone[0], f"a key that takes it away{beside_errors}": come_and_gone[1]}
 
 
 def requests(editor):
@@ -146,7 +164,7 @@ def beside_a_check(nodes, program):
         folder, editor = opened(nodes, program)
         try:
             line, column = place_in(editor.lines())
-            while spent_by_program(editor) < AFTER:
+            while spent_by_program(editor) < AFTER and not editor.lua("return seen > 0"):
                 time.sleep(0.005)
             found.append(editor.lua(BESIDE_CHECK, line, column, column + 1, "b", column))
         finally:

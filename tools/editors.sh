@@ -3,21 +3,24 @@
 #
 #     tools/editors.sh [PROGRAM ..]
 #
-# PROGRAM is nvim (the package neovim) or chromium; nvim alone where none is given. The status is 1 where one can't be installed.
+# PROGRAM is nvim (the package neovim), chromium or emacs (with eglot; it is large, so a test that wants it is skipped where it isn't
+# there); nvim alone where none is given. The status is 1 where one can't be installed.
 set -euo pipefail
 
-package_of() {
+packages_of() {
   case "$1" in
     nvim) echo neovim ;;
     chromium) echo chromium ;;
+    emacs) echo emacs-nox elpa-eglot ;;
     *) echo "no editor or browser: $1" >&2; return 1 ;;
   esac
 }
 
 missing=()
 for program in "${@:-nvim}"; do
-  package=$(package_of "$program")
-  command -v "$program" > /dev/null || missing+=("$package")
+  words=$(packages_of "$program")
+  read -ra packages <<< "$words"
+  command -v "$program" > /dev/null || missing+=("${packages[@]}")
 done
 if [ ${#missing[@]} -eq 0 ]; then
   exit 0

@@ -1,15 +1,11 @@
-"""Runs the language server."""
-import importlib.util
+"""Runs the language server of the tutorial's language."""
 import sys
+
+from .small.main import main
 
 
 def run() -> int:
-    """Runs it, where the library that it is made on is there; the exit status."""
-    if importlib.util.find_spec("attrd") is None:
-        print("attrd_lsp: the package attrd is missing: put clients/python on PYTHONPATH, or install it from there", file=sys.stderr)
-        return 2
-    from .main import main
-
+    """Serves an editor on standard input and output; the exit status."""
     return main()
 
 

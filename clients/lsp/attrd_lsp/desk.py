@@ -1,4 +1,4 @@
-"""The tree of one document in a program of its own, and the questions that are asked of it.
+"""A tree in a program of its own, and the questions that are asked of it.
 
 Questions go in steps that are short, so that an edit waits for none of them: `Task.step` sends some and takes what is
 answered. Where the program goes on with questions in turns, the questions of a check are posted. Then a step that sends no
@@ -7,15 +7,14 @@ from __future__ import annotations
 
 import time
 from dataclasses import dataclass
-from pathlib import Path
-from typing import Callable, Dict, Generic, List, Mapping, Optional, TypeVar
+from functools import lru_cache
+from typing import Callable, Dict, Generic, List, Optional, TypeVar
 
 import attrd
 from attrd import commands
 from attrd.replies import Circular, Code, Done, Fault, Memory, Opened, RefusedReply, Value
 
 from .inquiry import Answer, Inquiry, Question
-from .language import Language
 
 T = TypeVar("T")
 Taker = Callable[[Question, Done], None]
@@ -26,7 +25,7 @@ SLICE = 100
 # How long a step should take, in seconds.
 SHORTEST, LONGEST = 0.003, 0.010
 # How many questions a task sends in its first step, how many ticks it sends first, and how many lines at most.
-QUESTIONS, TICKS, MOST = 16, 2, 1024
+QUESTIONS, TICKS, MOST = 64, 2, 1024
 # How many questions are open at a time; the program takes 100 in a session.
 OPEN = 90
 
@@ -47,10 +46,14 @@ class Pace:
 
 
 class Desk:
-    """A program over the tree of one document. `posts` tells whether it knows questions in turns."""
+    """A program over a tree. `posts` tells whether it knows questions in turns, `checks` what tells problems.
+
+    Where the aspects don't declare what the language says, `checks` is None, and `why` the reason."""
 
     def __init__(self, server: attrd.Server, grammar: attrd.Grammar, tree: attrd.Node, posts: bool) -> None:
         self.server, self.grammar, self.tree, self.posts = server, grammar, tree, posts
+        self.checks: Optional[attrd.Diagnostics] = None
+        self.why = ""
         self.session = server.session(SESSION)
         self.open: Dict[Question, List[Taker]] = {}
 
@@ -69,7 +72,7 @@ class Desk:
 
     def ask(self, questions: List[Question]) -> List[Answer]:
         """The answers of these questions, each evaluated to its end. Raises AttrdError."""
-        sent = [self.session.send(commands.ask(it.path, it.attribute)) for it in questions]
+        sent = [self.session.send(line_of("ask", it)) for it in questions]
         return [answer_of(it.reply()) for it in sent]
 
     def post(self, questions: List[Question], take: Taker) -> List[Question]:
@@ -79,7 +82,7 @@ class Desk:
         new = [it for it in questions if it not in self.open]
         for question in questions:
             self.open.setdefault(question, []).append(take)
-        sent = [(it, self.session.send(commands.post(it.path, it.attribute))) for it in new]
+        sent = [(it, self.session.send(line_of("post", it))) for it in new]
         self.tick(1)
         return [question for question, pending in sent if not self.is_posted(question, pending.reply())]
 
@@ -110,6 +113,13 @@ class Desk:
         self.server.close()
 
 
+@lru_cache(maxsize=1 << 14)
+def line_of(command: str, question: Question) -> str:
+    """The line of a question, which is asked again at most keys. Raises SyntaxFault where its path is none."""
+    words = commands.ask if command == "ask" else commands.post
+    return words(question.path, question.attribute, question.arguments)
+
+
 def answer_of(reply: attrd.Reply) -> Answer:
     """The reply to a question. Raises ProtocolFault where it is none."""
     if isinstance(reply, (Value, Fault, Circular, Memory, RefusedReply)):
@@ -124,15 +134,10 @@ class Program:
     file: str
     kept: int = attrd.KEPT
 
-    def open(self, language: Language, tree: attrd.Node, texts: Mapping[Path, str]) -> Desk:
-        """A desk over this tree, with questions in turns where the program has them. Raises StartFault, TermFault and AttrdError."""
+    def options(self) -> List[str]:
+        """The options with which it is started. Raises AttrdError where it can't be."""
         known = attrd.known_options(self.file)
-        posts = "--slice" in known
-        options = [*(["--slice", str(SLICE)] if posts else []), *attrd.lasting_options(known, self.kept)]
-        server = language.start(self.file, tree, options, texts)
-        grammar = attrd.Grammar.read(language.text(language.grammar, texts))
-        grammar.check(tree)
-        return Desk(server, grammar, tree, posts)
+        return [*(["--slice", str(SLICE)] if "--slice" in known else []), *attrd.lasting_options(known, self.kept)]
 
 
 class Task(Generic[T]):

@@ -5,8 +5,8 @@ from typing import Any, BinaryIO, Dict, List, Optional
 
 from .rpc import Failure, Message, write_message
 
-# The protocol's numbers for kinds of messages.
-ERROR, WARNING = 1, 2
+# The protocol's numbers for kinds of messages and of diagnostics.
+ERROR, WARNING, INFORMATION = 1, 2, 3
 
 
 class EditorGone(Exception):
@@ -33,6 +33,10 @@ class Editor:
     def fail(self, number: Any, failure: Failure) -> None:
         """Tells that a request can't be answered."""
         self.write({"id": number, "error": {"code": failure.code, "message": failure.text}})
+
+    def ask(self, method: str, params: Dict[str, Any]) -> None:
+        """Sends a request, whose answer isn't waited for."""
+        self.write({"id": method, "method": method, "params": params})
 
     def publish(self, uri: str, version: Optional[int], diagnostics: List[Dict[str, Any]]) -> None:
         """Has these diagnostics shown for a file, in the place of all others."""

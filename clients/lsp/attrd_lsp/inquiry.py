@@ -5,7 +5,7 @@ knows nothing of how questions are sent, and between two of its steps an edit ca
 from __future__ import annotations
 
 from dataclasses import dataclass
-from typing import Generator, List, Optional, TypeVar, Union
+from typing import Generator, List, Optional, Tuple, TypeVar, Union
 
 from attrd.replies import Circular, Fault, Memory, RefusedReply, Value, read_value
 
@@ -15,10 +15,11 @@ Answer = Union[Value, Fault, Circular, RefusedReply, Memory]
 
 @dataclass(frozen=True)
 class Question:
-    """The value of an attribute without parameters, of the node of that path."""
+    """The value of an attribute of the node of that path, with these texts as its arguments."""
 
     path: str
     attribute: str
+    arguments: Tuple[str, ...] = ()
 
 
 Inquiry = Generator[List[Question], List[Answer], T]

@@ -1,79 +1,97 @@
-"""The grammar and the aspects of a language, as files in a folder."""
+"""What a language gives to the language server: its files, its parser, and names of attributes."""
 from __future__ import annotations
 
-from dataclasses import dataclass
+import re
+from dataclasses import dataclass, field
 from pathlib import Path
-from typing import List, Mapping, Optional, Tuple, Union
-from urllib.parse import unquote, urlsplit
+from typing import Callable, List, Mapping, Optional, Sequence, Tuple
 
-import attrd
+from attrd import Node
 
-DATA = Path(__file__).resolve().parent / "data"
-Given = Union[Path, attrd.Text]
+from .phrases import Fault, Parsed, Phrase
+from .positions import Span
+
+Names = Mapping[str, Sequence[str]]
+PLAIN_NAME = re.compile(r"[^\W\d]\w*")
 
 
-class NoLanguage(Exception):
-    """A folder has no language in it; the text says why."""
+def plain_name(text: str) -> bool:
+    """Whether the text is a letter or `_`, and then letters, digits and `_`."""
+    return PLAIN_NAME.fullmatch(text) is not None
+
+
+def nothing_in(text: str) -> List[Fault]:
+    """The fault that anything but blanks stands in the text."""
+    found = re.search(r"\S+", text)
+    return [Fault(f"nothing begins with '{found[0]}'", Span(*found.span()))] if found else []
+
+
+@dataclass(frozen=True)
+class Listed:
+    """The root of the tree has one component, a list, and the parser reads an element of it.
+
+    Without `starts` each file is an element. With `starts` a file may have many: it answers for a text where each of them begins,
+    and an element whose text is as it was isn't read again. `front` answers the faults of what stands before the first one."""
+
+    root: str
+    """The class of the root."""
+    component: str
+    """The name of the list."""
+    element: str
+    """The class of its elements."""
+    before: Tuple[Node, ...] = ()
+    """Elements that are there before all others, and stand in no text."""
+    starts: Optional[Callable[[str], List[int]]] = None
+    front: Callable[[str], List[Fault]] = nothing_in
 
 
 @dataclass(frozen=True)
 class Language:
-    """The files of a language. Aspects are taken in the order of their names."""
+    """A language. Where a mapping has names of classes, one of a class counts for those below it, too, unless they have their own."""
 
     grammar: Path
-    aspects: Tuple[Path, ...]
+    """The file of the grammar."""
+    aspects: Sequence[Path]
+    """The files of the aspects."""
+    parse: Callable[[str], Parsed]
+    """Reads a text. What it raises is told at the top of the document."""
+    errors: Sequence[str] = ("error",)
+    """Attributes that tell an error of their node: a text that isn't empty, a boolean that is true, a node that is null."""
+    warnings: Sequence[str] = ()
+    """Attributes that tell a warning, in the same way."""
+    meaning: Names = field(default_factory=dict)
+    """Attributes that answer what a name means, by the class of its node: the first one counts that isn't null."""
+    lookup: Names = field(default_factory=dict)
+    """Attributes with a name as their argument, which tell what it would mean there, by classes: names are completed by them."""
+    hover: Mapping[str, str] = field(default_factory=dict)
+    """The attribute whose value is shown of a node, by classes. Without one the declaration is shown that the name means."""
+    kinds: Mapping[str, int] = field(default_factory=dict)
+    """The classes of declarations, each with the protocol's number for its kind of symbol. `Class.Component` is what stands there."""
+    details: Mapping[str, str] = field(default_factory=dict)
+    """The component whose name is shown beside a symbol, by its class."""
+    fixes: Mapping[str, str] = field(default_factory=dict)
+    """The attribute that tells the text by which a node with an error is to be replaced, by classes; an empty text is none."""
+    words: Sequence[str] = ()
+    """Words of the language that are offered beside names."""
+    triggers: Sequence[str] = ()
+    """Signs behind which names are to be completed at once."""
+    title: Optional[Callable[[Phrase], str]] = None
+    """How a declaration is shown; by the first line of its text where nothing is given."""
+    is_name: Callable[[str], bool] = plain_name
+    """Whether a text may be a name."""
+    listed: Optional[Listed] = None
+    """How the tree is made of many parts. Where nothing is given, the parser reads the whole tree from one file."""
+    suffix: Optional[str] = None
+    """The end of the names of files: all of them in one folder are one tree, where the language is `listed`."""
+    source: str = "attrd"
+    """What diagnostics are said to come from."""
 
-    @classmethod
-    def in_folder(cls, folder: Path) -> Language:
-        """The language of the folder. Raises NoLanguage where it hasn't one grammar and an aspect."""
-        try:
-            names = sorted(folder.iterdir())
-        except OSError as fault:
-            raise NoLanguage(f"{folder}: {fault.strerror}") from fault
-        grammars = [it for it in names if it.suffix == ".ast"]
-        aspects = [it for it in names if it.suffix == ".jrag"]
-        if len(grammars) != 1 or not aspects:
-            raise NoLanguage(f"{folder}: a language is one .ast file and one .jrag file or more")
-        return cls(grammars[0], tuple(aspects))
+    def __post_init__(self) -> None:
+        """Raises ValueError where the parts don't fit each other."""
+        if self.suffix is not None and self.listed is None:
+            raise ValueError("files of a folder are one tree only where the language is `listed`")
 
     @property
     def files(self) -> Tuple[Path, ...]:
         """The grammar, and then the aspects."""
         return (self.grammar, *self.aspects)
-
-    def file_of(self, uri: str) -> Optional[Path]:
-        """The file of this language that the editor tells so; None where it is another one."""
-        path = path_of(uri)
-        return next((it for it in self.files if path is not None and it.resolve() == path.resolve()), None)
-
-    def start(self, program: str, tree: attrd.Node, options: List[str], texts: Mapping[Path, str]) -> attrd.Server:
-        """A program over this tree; a file that is open in the editor has the text that stands there.
-
-        Raises StartFault and AttrdError as `attrd.start` does; the file of a StartFault is one of `files`, or the tree's."""
-        given: List[Given] = [attrd.Text(it.name, texts[it]) if it in texts else it for it in self.files]
-        try:
-            return attrd.start(given[0], tree, *given[1:], program=program, options=options)
-        except attrd.StartFault as fault:
-            fault.file = self.named(fault.file)
-            raise
-
-    def text(self, file: Path, texts: Mapping[Path, str]) -> str:
-        """The text of a file of the language. Raises AttrdError where it can't be read."""
-        try:
-            return texts[file] if file in texts else file.read_bytes().decode("utf-8")
-        except (OSError, UnicodeDecodeError) as fault:
-            raise attrd.AttrdError(f"{file}: {fault}") from fault
-
-    def named(self, told: Optional[str]) -> Optional[str]:
-        """The file of this language that the program tells so, where it is one."""
-        return next((str(it) for it in self.files if told is not None and Path(told).name == it.name), told)
-
-
-def path_of(uri: str) -> Optional[Path]:
-    """The file that a `file:` URI names, and None for others."""
-    try:
-        parts = urlsplit(uri)
-    except ValueError:
-        return None
-    name = unquote(parts.path)
-    return Path(name) if parts.scheme == "file" and name and "\0" not in name else None

@@ -3,19 +3,24 @@ from __future__ import annotations
 
 import re
 from pathlib import Path
-from typing import Dict, Optional
+from typing import Dict, List, Optional, Tuple, Union
+from urllib.parse import unquote, urlsplit
 
 import attrd
 from attrd.explain import SENTENCES
 
 from .desk import Desk, Program
-from .editor import Editor
+from .editor import ERROR, Editor
 from .language import Language
-from .outline import ERROR, diagnostic
 from .positions import Span, Text
+from .protocol import diagnostic
+from .reading import Reader
 from .source import Source
 
 WORD = re.compile(r"\w+|.")
+# The ends of the names of grammars and aspects.
+SUFFIXES = (".ast", ".jrag")
+Given = Union[Path, attrd.Text]
 
 
 class LanguageFiles:
@@ -26,16 +31,72 @@ class LanguageFiles:
         self.texts: Dict[Path, Text] = {}
         self.uris: Dict[Path, str] = {}
         self.refused: Optional[Path] = None
+        self.read: Dict[str, Reader] = {}
+
+    def reader(self) -> Reader:
+        """Reads texts of the language as its grammar is now, the same one while that is so; a grammar with a fault isn't known."""
+        try:
+            text = self.text(self.language.grammar)
+            if text not in self.read:
+                self.read = {text: Reader(self.language, attrd.Grammar.read(text))}
+            return self.read[text]
+        except attrd.AttrdError:
+            return Reader(self.language)
 
     def start(self, tree: attrd.Node) -> Desk:
         """A program over the tree. Raises StartFault, which is shown at its place, and AttrdError."""
         try:
-            desk = self.program.open(self.language, tree, {path: it.text for path, it in self.texts.items()})
+            desk = self.opened(tree)
         except attrd.StartFault as fault:
             self.show(fault)
             raise
         self.clear()
         return desk
+
+    def opened(self, tree: attrd.Node) -> Desk:
+        """A program over the tree, with questions in turns where it has them.
+
+        Raises StartFault, whose file is one of the language or the tree's, and AttrdError."""
+        options = self.program.options()
+        given: List[Given] = [attrd.Text(it.name, self.texts[it].text) if it in self.texts else it for it in self.language.files]
+        checks, why = self.checks()
+        counts = [] if checks is None else [checks.aspect]
+        try:
+            server = attrd.start(given[0], tree, *given[1:], *counts, program=self.program.file, options=options)
+        except attrd.StartFault as fault:
+            fault.file = self.named(fault.file)
+            raise
+        desk = Desk(server, attrd.Grammar.read(self.text(self.language.grammar)), tree, "--slice" in options)
+        desk.checks, desk.why = checks, why
+        return desk
+
+    def checks(self) -> Tuple[Optional[attrd.Diagnostics], str]:
+        """What tells problems, or None and why nothing does. Files with faults are the program's to refuse."""
+        try:
+            grammar = attrd.Grammar.read(self.text(self.language.grammar))
+        except attrd.GrammarFault:
+            return None, "the grammar has a fault"
+        names = [*self.language.errors, *self.language.warnings]
+        try:
+            return attrd.diagnostics(grammar, [self.text(it) for it in self.language.aspects], names), ""
+        except attrd.AspectFault as fault:
+            return None, f"no errors are told: {fault}"
+
+    def text(self, file: Path) -> str:
+        """The text of a file of the language. Raises AttrdError where it can't be read."""
+        try:
+            return self.texts[file].text if file in self.texts else file.read_bytes().decode("utf-8")
+        except (OSError, UnicodeDecodeError) as fault:
+            raise attrd.AttrdError(f"{file}: {fault}") from fault
+
+    def named(self, told: Optional[str]) -> Optional[str]:
+        """The file of this language that the program tells so, where it is one."""
+        return next((str(it) for it in self.language.files if told is not None and Path(told).name == it.name), told)
+
+    def file_of(self, uri: str) -> Optional[Path]:
+        """The file of this language that the editor tells so; None where it is another one."""
+        path = path_of(uri) if uri.endswith(SUFFIXES) else None
+        return next((it for it in self.language.files if path is not None and it.resolve() == path.resolve()), None)
 
     def put(self, path: Path, uri: str, text: Text) -> None:
         """Takes the text of a file that is open in the editor."""
@@ -48,7 +109,7 @@ class LanguageFiles:
     def are_accepted(self) -> bool:
         """Whether a program takes the files; where it refuses one, that is shown there. Raises AttrdError where none starts."""
         try:
-            self.start(Source().tree).close()
+            self.start(Source(self.reader(), {}).tree).close()
         except attrd.StartFault as fault:
             return fault.file is None or all(str(it) != fault.file for it in self.language.files)
         return True
@@ -75,6 +136,16 @@ class LanguageFiles:
     def uri(self, path: Path) -> str:
         """What the editor calls the file."""
         return self.uris.get(path) or path.resolve().as_uri()
+
+
+def path_of(uri: str) -> Optional[Path]:
+    """The file that a `file:` URI names, and None for others."""
+    try:
+        parts = urlsplit(uri)
+    except ValueError:
+        return None
+    name = unquote(parts.path)
+    return Path(name) if parts.scheme == "file" and name and "\0" not in name else None
 
 
 def explained(fault: attrd.StartFault) -> str:

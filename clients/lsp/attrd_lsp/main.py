@@ -1,4 +1,4 @@
-"""The command line: `python3 -m attrd_lsp [--program PROGRAM] [--keep N] [--language FOLDER]`."""
+"""The server of a language, and its command line: `[--program PROGRAM] [--keep N] [--check FILE ..]`."""
 from __future__ import annotations
 
 import argparse
@@ -8,9 +8,10 @@ from typing import List, Optional
 
 import attrd
 
+from .checking import check_files
 from .desk import Program
 from .editor import Editor, EditorGone
-from .language import DATA, Language, NoLanguage
+from .language import Language
 from .language_files import LanguageFiles
 from .rpc import Inbox
 from .server import LanguageServer
@@ -20,24 +21,32 @@ from .workspace import Workspace
 CALLS = 20_000
 
 
-def main(words: Optional[List[str]] = None) -> int:
-    """Serves an editor on standard input and output; the exit status."""
-    parser = argparse.ArgumentParser(prog="attrd_lsp", description="A language server for the tutorial's language, over attrd.")
+def serve(language: Language, words: Optional[List[str]] = None) -> int:
+    """Serves an editor on standard input and output, by the words of the command line; the exit status."""
+    parser = command_line("A language server over attrd.")
+    return serve_editor(language, parser.parse_args(words))
+
+
+def command_line(description: str) -> argparse.ArgumentParser:
+    """The options that the server of each language has."""
+    parser = argparse.ArgumentParser(description=description)
     parser.add_argument("--program", default="attrd", help="the program attrd (found on the PATH if it isn't given)")
     keep_help = "how many values attrd keeps at most, if it has the option (%(default)s if it isn't given)"
     parser.add_argument("--keep", type=int, metavar="N", default=attrd.KEPT, help=keep_help)
-    language_help = "a folder with the grammar and the aspects (the tutorial's if none is given)"
-    parser.add_argument("--language", type=Path, default=DATA, help=language_help)
-    options = parser.parse_args(words)
+    check_help = "tells what is wrong with these files, and serves no editor; the status is 1 where there is an error"
+    parser.add_argument("--check", type=Path, nargs="+", metavar="FILE", help=check_help)
+    return parser
+
+
+def serve_editor(language: Language, options: argparse.Namespace) -> int:
+    """Serves an editor on standard input and output, or checks files; the exit status."""
     sys.setrecursionlimit(max(CALLS, sys.getrecursionlimit()))
+    program = Program(options.program, options.keep)
+    if options.check:
+        return check_files(language, program, options.check)
+    editor = Editor(sys.stdout.buffer)
+    files = LanguageFiles(program, language, editor)
     try:
-        language = Language.in_folder(options.language)
-        editor = Editor(sys.stdout.buffer)
-        files = LanguageFiles(Program(options.program, options.keep), language, editor)
-        workspace = Workspace(files, editor)
-        return LanguageServer(Inbox(sys.stdin.fileno()), editor, workspace).serve()
-    except NoLanguage as fault:
-        print(f"attrd_lsp: {fault}", file=sys.stderr)
-        return 2
+        return LanguageServer(Inbox(sys.stdin.fileno()), editor, Workspace(files, editor)).serve()
     except EditorGone:
         return 1

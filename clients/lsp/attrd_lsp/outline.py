@@ -1,81 +1,93 @@
-"""What an editor's protocol calls things, made of what stands in a document."""
+"""Diagnostics, symbols and folds of a file, as the editor's protocol has them."""
 from __future__ import annotations
 
-from typing import Any, Dict, List
+from typing import Dict, Iterator, List, Tuple
 
-from .document import Document
-from .positions import Span, Text
+from .editor import ERROR, INFORMATION, WARNING
+from .positions import Span
+from .project import Project
+from .protocol import Json, diagnostic, range_of
 from .source import Spot
 
-Json = Dict[str, Any]
 
-ERROR, INFORMATION = 1, 3
-SOURCE = "attrd"
-# The protocol's numbers for kinds of symbols.
-CLASS, FIELD, VARIABLE = 5, 8, 13
-
-
-def range_of(text: Text, span: Span) -> Json:
-    """The stretch of the text, for the editor."""
-    start, end = text.position(span.start), text.position(span.end)
-    return {"start": start._asdict(), "end": end._asdict()}
-
-
-def location_of(document: Document, spot: Spot) -> Json:
+def location_of(project: Project, spot: Spot) -> Json:
     """Where the phrase's name stands."""
-    return {"uri": document.uri, "range": range_of(document.text, spot.name)}
+    return {"uri": project.uris[spot.file], "range": range_of(project.texts[spot.file], spot.name)}
 
 
-def diagnostic(text: Text, span: Span, message: str, severity: int) -> Json:
-    """A message at a stretch of the text."""
-    return {"range": range_of(text, span), "severity": severity, "source": SOURCE, "message": message}
-
-
-def diagnostics_of(document: Document) -> List[Json]:
-    """All that is to be told of the document: why nothing is known, faults of its syntax, classes that are held, problems."""
-    text, source = document.text, document.source
+def diagnostics_of(project: Project, file: str) -> List[Json]:
+    """All that is to be told of a file: why nothing is known, where it is open; faults of its syntax, parts that are held, problems."""
+    text, reading = project.texts[file], project.source.files[file]
     top = Span(0, len(text.line(0)))
-    told = [diagnostic(text, top, document.trouble, ERROR)] if document.trouble is not None else []
-    told += [diagnostic(text, it.span, it.text, ERROR) for it in source.faults]
-    told += [diagnostic(text, it.name, held_text(it, is_last_good), INFORMATION) for it, is_last_good in source.held]
-    told += [diagnostic(text, it.span, it.text, ERROR) for it in document.problems]
-    return told
+    trouble = project.trouble if file in project.versions else None
+    told = [(top, it, ERROR) for it in (trouble, reading.trouble) if it is not None]
+    told += [(it.span, it.text, ERROR) for it in reading.faults]
+    told += [(it.name, held_text(it, is_last_good), INFORMATION) for it, is_last_good in project.source.held(file)]
+    told += [(it.span, it.text, ERROR if it.is_error else WARNING) for it in project.problems if it.file == file]
+    return [diagnostic(text, span, message, severity, project.source.language.source) for span, message, severity in told]
 
 
 def held_text(spot: Spot, is_last_good: bool) -> str:
-    """What is told of a class that the tree doesn't have as its text is."""
+    """What is told of a part that the tree doesn't have as its text is."""
     by = "its last text that could be" if is_last_good else "what could be read of it"
-    return f"{spot.phrase.identifier} can't be parsed: what is told of it goes by {by}"
+    return f"{spot.phrase.identifier or 'this'} can't be parsed: what is told of it goes by {by}"
 
 
-def symbols_of(document: Document) -> List[Json]:
-    """The classes with their fields and the declarations in their blocks, in the order of the text."""
-    source = document.source
-    return [symbol(document, source.located(number, ""), CLASS) for number in range(len(source.taken))]
+def symbols_of(project: Project, file: str) -> List[Json]:
+    """The declarations of a file, each with those below it, in the order of the text."""
+    source = project.source
+    found: List[Json] = []
+    around: List[Tuple[str, Json]] = []
+    whole = Span(0, len(project.texts[file].text))
+    for spot in source.in_file(file, whole, lambda number, path, _: source.declares(number, path) is not None):
+        told = symbol(project, spot)
+        while around and not spot.path.startswith(around[-1][0]):
+            around.pop()
+        (around[-1][1]["children"] if around else found).append(told)
+        around.append((spot.path.rstrip("/") + "/", told))
+    return found
 
 
-def symbol(document: Document, spot: Spot, kind: int) -> Json:
-    """The symbol of a class or declaration, with those below it."""
-    above = spot.phrase.child("Super" if kind == CLASS else "Declared")
+def symbol(project: Project, spot: Spot) -> Json:
+    """The symbol of a declaration, as yet without those below it."""
+    text = project.texts[spot.file]
     return {
-        "name": spot.phrase.identifier,
-        "kind": kind,
-        "detail": above.identifier if above is not None else "",
-        "range": range_of(document.text, spot.span),
-        "selectionRange": range_of(document.text, spot.name),
-        "children": symbols_below(document, spot),
+        "name": spot.phrase.identifier or spot.phrase.kind,
+        "kind": project.source.symbol_kind(spot),
+        "detail": detail_of(project, spot),
+        "range": range_of(text, spot.span),
+        "selectionRange": range_of(text, spot.name),
+        "children": [],
     }
 
 
-def symbols_below(document: Document, spot: Spot) -> List[Json]:
-    """The symbols of the declarations below the phrase; blocks have none of their own."""
-    found: List[Json] = []
-    waiting = [spot]
-    while waiting:
-        it = waiting.pop()
-        if it.phrase.kind == "Decl" and it is not spot:
-            found.append(symbol(document, it, FIELD if "/Field:" in it.path else VARIABLE))
-            continue
-        paths = [f"{it.path}/{step}" for step, child in it.phrase.children if child.kind in ("Block", "Decl")]
-        waiting.extend(below for below in map(document.source.spot, reversed(paths)) if below is not None)
-    return found
+def detail_of(project: Project, spot: Spot) -> str:
+    """What stands beside a symbol: the name of the component that the language says."""
+    component = project.source.of_class(project.source.language.details, spot.phrase.kind)
+    told = spot.phrase.child(component) if component is not None else None
+    return "" if told is None else told.identifier
+
+
+def matching_symbols(project: Project, query: str) -> Iterator[Json]:
+    """The declarations of all files whose names have the query in them, whatever the case of letters."""
+    source, wanted = project.source, query.casefold()
+    for number in range(len(source.parts)):
+        named = source.piece(number).named
+        for below in [it for name, paths in named.items() if wanted in name.casefold() for it in paths]:
+            kind = source.declares(number, below)
+            if kind is not None:
+                spot = source.located(number, below)
+                yield {"name": spot.phrase.identifier, "kind": kind, "location": location_of(project, spot)}
+
+
+def folds_of(project: Project, file: str) -> List[Json]:
+    """The stretches of lines that can be folded: each phrase of more than one line, the longest one of those that begin in a line."""
+    text = project.texts[file]
+    longest: Dict[int, int] = {}
+    whole = Span(0, len(text.text))
+    source = project.source
+    for spot in source.in_file(file, whole, lambda number, _, it: "\n" in source.piece(number).text[it.span[0] : it.span[1]]):
+        start, end = text.position(spot.span.start).line, text.position(spot.span.end).line
+        if end > longest.get(start, start):
+            longest[start] = end
+    return [{"startLine": start, "endLine": end} for start, end in sorted(longest.items())]

@@ -8,7 +8,10 @@ import sys
 import traceback
 from typing import Any, Callable, Dict, Optional
 
+from .coloring import LEGEND, MODIFIERS
 from .editor import ERROR, Editor
+from .language import Language
+from .requests import Requests
 from .rpc import (
     INTERNAL_ERROR,
     INVALID_REQUEST,
@@ -24,14 +27,31 @@ from .rpc import (
 )
 from .workspace import Workspace
 
-CAPABILITIES = {
-    "textDocumentSync": {"openClose": True, "change": 2},
-    "hoverProvider": True,
-    "definitionProvider": True,
-    "referencesProvider": True,
-    "renameProvider": {"prepareProvider": True},
-    "documentSymbolProvider": True,
-}
+
+def capabilities_of(language: Language) -> Dict[str, Any]:
+    """What the server can do for the language, as the editor is told."""
+    return {
+        "textDocumentSync": {"openClose": True, "change": 2},
+        "hoverProvider": True,
+        "definitionProvider": True,
+        "referencesProvider": True,
+        "documentHighlightProvider": True,
+        "renameProvider": {"prepareProvider": True},
+        "documentSymbolProvider": True,
+        "workspaceSymbolProvider": True,
+        "foldingRangeProvider": True,
+        "semanticTokensProvider": {"legend": {"tokenTypes": LEGEND, "tokenModifiers": MODIFIERS}, "full": True, "range": True},
+        **({"completionProvider": {"triggerCharacters": list(language.triggers)}} if language.lookup else {}),
+        **({"codeActionProvider": {"codeActionKinds": ["quickfix"]}} if language.fixes else {}),
+    }
+
+
+def can_watch(params: Any) -> bool:
+    """Whether the editor says that it can be asked to tell of files that are written."""
+    found = params
+    for name in ("capabilities", "workspace", "didChangeWatchedFiles", "dynamicRegistration"):
+        found = found.get(name) if isinstance(found, dict) else None
+    return found is True
 
 
 class LanguageServer:
@@ -39,26 +59,20 @@ class LanguageServer:
 
     def __init__(self, inbox: Inbox, editor: Editor, workspace: Workspace) -> None:
         self.inbox, self.editor, self.workspace = inbox, editor, workspace
-        self.is_initialized = False
+        self.is_initialized = self.may_watch = False
         self.is_shut_down = False
         self.status: Optional[int] = None
         self.notifications: Dict[str, Callable[[Any], None]] = {
             "textDocument/didOpen": workspace.open,
             "textDocument/didChange": workspace.change,
             "textDocument/didClose": workspace.close,
+            "workspace/didChangeWatchedFiles": workspace.watched,
+            "initialized": self.watch,
             "$/cancelRequest": workspace.cancel,
             "exit": self.exit,
         }
-        self.requests: Dict[str, Callable[[Any, Any], None]] = {
-            "initialize": self.initialize,
-            "shutdown": self.shut_down,
-            "textDocument/hover": workspace.hover,
-            "textDocument/definition": workspace.definition,
-            "textDocument/references": workspace.references,
-            "textDocument/prepareRename": workspace.prepare_rename,
-            "textDocument/rename": workspace.rename,
-            "textDocument/documentSymbol": workspace.symbols,
-        }
+        self.about_documents = Requests(workspace, editor)
+        self.requests: Dict[str, Callable[[Any, Any], None]] = {"initialize": self.initialize, "shutdown": self.shut_down}
 
     def serve(self) -> int:
         """Serves until the editor ends; the exit status, 0 where it said so before. Raises EditorGone."""
@@ -87,7 +101,7 @@ class LanguageServer:
                 self.take(message)
 
     def take(self, message: Message) -> None:
-        """Takes a message. Answers of the editor aren't looked at: nothing is asked of it."""
+        """Takes a message. Answers of the editor aren't looked at: nothing is asked of it but to tell of files."""
         method = message.get("method")
         if isinstance(method, str):
             self.dispatch(method, message)
@@ -110,9 +124,12 @@ class LanguageServer:
             raise Failure(INVALID_REQUEST, "the server was shut down")
         if not self.is_initialized and method != "initialize":
             raise Failure(NOT_INITIALIZED, "the server isn't initialized")
-        if method not in self.requests:
+        if method in self.requests:
+            self.requests[method](number, params)
+        elif method in self.about_documents.handlers:
+            self.about_documents.handle(method, number, params)
+        else:
             raise Failure(METHOD_NOT_FOUND, f"there is no {method} here")
-        self.requests[method](number, params)
 
     def guarded(self, request: Optional[Message], handle: Callable[[], None]) -> None:
         """Does this; a failure is the answer to the request, or is shown where there is none."""
@@ -136,7 +153,16 @@ class LanguageServer:
     def initialize(self, number: Any, params: Any) -> None:
         """The editor begins; it is told what this server can do."""
         self.is_initialized = True
-        self.editor.answer(number, {"capabilities": CAPABILITIES, "serverInfo": {"name": "attrd_lsp"}})
+        self.may_watch = can_watch(params)
+        self.editor.answer(number, {"capabilities": capabilities_of(self.workspace.files.language), "serverInfo": {"name": "attrd_lsp"}})
+
+    def watch(self, params: Any) -> None:
+        """Has the editor tell of files that are written, where files of a folder are one tree and it can do so."""
+        suffix = self.workspace.files.language.suffix
+        if suffix is not None and self.may_watch:
+            options = {"watchers": [{"globPattern": f"**/*{suffix}"}]}
+            wanted = {"id": "files", "method": "workspace/didChangeWatchedFiles", "registerOptions": options}
+            self.editor.ask("client/registerCapability", {"registrations": [wanted]})
 
     def shut_down(self, number: Any, params: Any) -> None:
         """The editor is about to end."""

@@ -1,222 +1,208 @@
-"""A document as a program of the tutorial's language: its classes, each read by itself, and where the nodes stand.
-
-A class whose text is as it was is not read again. A class that can't be parsed keeps the tree of its last good text; its
-nodes stand then where that text went, as far as it can be told."""
+"""The files of one tree: its nodes by their paths, by their places and by their names."""
 from __future__ import annotations
 
 import bisect
-import re
-from dataclasses import dataclass, field
-from typing import Dict, Iterator, List, NamedTuple, Optional, Sequence, Tuple
+from dataclasses import dataclass
+from functools import cached_property
+from typing import Callable, Dict, Iterator, List, Mapping, NamedTuple, Optional, Sequence, Tuple, TypeVar
 
-from attrd import Node
+from attrd import Node, Path
 
-from .positions import Span, carried
-from .syntax import Fault, Phrase, read_class, read_front
+from .language import Language
+from .phrases import Phrase
+from .positions import Span
+from .reading import Piece, Reader, Reading, read_file
 
-# The kinds that are there before all classes; they stand in no text.
-BASIC_KINDS = ("int", "boolean")
-CLASS = re.compile(r"class(?<!\wclass)\b")
-CLASS_NAME = re.compile(r"class\s+([^\W\d]\w*)")
-
-
-@dataclass(frozen=True)
-class Piece:
-    """The text of one class, and what was read of it: the phrases by their paths from the class, and these paths by names."""
-
-    text: str
-    phrase: Optional[Phrase]
-    faults: Tuple[Fault, ...]
-    phrases: Dict[str, Phrase]
-    named: Dict[str, List[str]]
-
-    @classmethod
-    def of(cls, text: str) -> Piece:
-        """Reads the class."""
-        phrase, faults = read_class(text)
-        phrases = {} if phrase is None else with_paths(phrase)
-        named: Dict[str, List[str]] = {}
-        for path, it in phrases.items():
-            if it.identifier:
-                named.setdefault(it.identifier, []).append(path)
-        return cls(text, phrase, tuple(faults), phrases, named)
-
-
-def with_paths(phrase: Phrase) -> Dict[str, Phrase]:
-    """The phrase and all below it by their paths from it, in the order of the text; its own path is empty."""
-    found: Dict[str, Phrase] = {}
-    waiting = [("", phrase)]
-    while waiting:
-        path, it = waiting.pop()
-        found[path] = it
-        waiting.extend((f"{path}/{step}", child) for step, child in reversed(it.children))
-    return found
+T = TypeVar("T")
 
 
 class Spot(NamedTuple):
-    """A phrase of the document: the path of its node, and where the whole of it and its name stand."""
+    """A phrase of the tree: the path of its node, its file, and where the whole of it and its name stand there."""
 
     path: str
     phrase: Phrase
+    file: str
     span: Span
     name: Span
 
 
 @dataclass(frozen=True)
 class Source:
-    """The classes of a document: where the text of each begins, that text, and what the tree has of it; and all faults.
+    """The files of a tree, in the order in which their parts stand in it."""
 
-    `pieces` are the texts that were read, also those of which the tree has nothing."""
-
-    starts: List[int] = field(default_factory=list)
-    texts: List[str] = field(default_factory=list)
-    taken: List[Piece] = field(default_factory=list)
-    faults: Tuple[Fault, ...] = ()
-    pieces: Dict[str, Piece] = field(default_factory=dict)
+    reader: Reader
+    files: Mapping[str, Reading]
 
     @property
+    def language(self) -> Language:
+        """The language of the files."""
+        return self.reader.language
+
+    def with_file(self, file: str, text: str, holds: bool = True) -> Source:
+        """The same files, but for this text of one of them. Another file comes behind all that are there."""
+        return Source(self.reader, {**self.files, file: read_file(text, self.files.get(file, Reading()), self.reader, holds)})
+
+    def without(self, file: str) -> Source:
+        """The same files without this one."""
+        return Source(self.reader, {name: it for name, it in self.files.items() if name != file})
+
+    # The tree
+
+    @cached_property
+    def parts(self) -> List[Tuple[str, int]]:
+        """The file and the number there of each part of the tree."""
+        return [(file, number) for file, it in self.files.items() for number in range(len(it.taken))]
+
+    @cached_property
+    def first(self) -> Dict[str, int]:
+        """The number in the tree of the first part of each file."""
+        found, count = {}, 0
+        for file, it in self.files.items():
+            found[file] = count
+            count += len(it.taken)
+        return found
+
+    @cached_property
     def tree(self) -> Node:
-        """The tree of the document."""
-        basic = [Node("Basic", it) for it in BASIC_KINDS]
-        return Node("Program", (*basic, *(it.phrase.tree for it in self.taken if it.phrase is not None)))
+        """The tree of all files. Without any part it is the smallest that fits. Raises TermFault where none does."""
+        trees = [piece.phrase.tree for it in self.files.values() for piece in it.taken if piece.phrase is not None]
+        listed = self.language.listed
+        if listed is not None:
+            return Node(listed.root, (*listed.before, *trees))
+        if trees or self.reader.grammar is None:
+            return trees[0] if trees else Node("Nothing")
+        return self.reader.grammar.smallest(self.reader.grammar.start)
+
+    def piece(self, number: int) -> Piece:
+        """What the tree has of the part of that number."""
+        file, index = self.parts[number]
+        return self.files[file].taken[index]
+
+    @cached_property
+    def texts(self) -> List[str]:
+        """The texts of all parts, as they are now."""
+        return [text for it in self.files.values() for text in it.texts]
 
     @property
-    def held(self) -> List[Tuple[Spot, bool]]:
-        """The classes that the tree doesn't have as their texts are now, and whether it has their last good text."""
-        told = enumerate(zip(self.taken, self.texts)) if self.faults else ()
-        return [(self.located(it, ""), not piece.faults) for it, (piece, text) in told if piece.faults or piece.text != text]
+    def is_good(self) -> bool:
+        """Whether all files were read without a fault."""
+        return all(it.is_good for it in self.files.values())
 
-    def place(self, number: int, span: Span) -> Span:
-        """Where a span of what was read of the class of that number stands in the document."""
-        old, new, start = self.taken[number].text, self.texts[number], self.starts[number]
-        if old == new:
-            return span.moved(start)
-        return Span(start + carried(span.start, old, new), start + carried(span.end, old, new))
+    def held(self, file: str) -> List[Tuple[Spot, bool]]:
+        """The parts of a file that the tree doesn't have as their texts are, and whether it has their last good text."""
+        reading, first = self.files[file], self.first[file]
+        told = enumerate(zip(reading.taken, reading.texts)) if reading.faults else ()
+        wrong = [(it, piece) for it, (piece, text) in told if not piece.is_good or piece.text != text]
+        return [(self.located(first + it, ""), piece.is_good) for it, piece in wrong]
+
+    # Paths
+
+    def path(self, number: int) -> str:
+        """The path of the part of that number; it is empty where the part is the root."""
+        listed = self.language.listed
+        return "" if listed is None else f"/{listed.component}:{number + len(listed.before)}"
+
+    def number(self, path: str) -> Tuple[int, str]:
+        """The part to which a path leads, and the path from there; a number less than 0 where it leads to none."""
+        listed = self.language.listed
+        if listed is None:
+            return 0, "" if path == "/" else path
+        step, slash, steps = path[1:].partition("/")
+        part, _, index = step.partition(":")
+        there = part == listed.component and index.isdigit()
+        return (int(index) - len(listed.before) if there else -1), slash + steps
 
     def located(self, number: int, below: str) -> Spot:
-        """The phrase of that path below the class of that number; what has no name is named by its first character."""
-        phrase = self.taken[number].phrases[below]
-        name = phrase.name or Span(phrase.span.start, min(phrase.span.start + 1, phrase.span.end))
-        return Spot(class_path(number) + below, phrase, self.place(number, phrase.span), self.place(number, name))
+        """The phrase of that path below the part of that number; what has no name is named by its first character."""
+        file, index = self.parts[number]
+        reading = self.files[file]
+        phrase = reading.taken[index].phrases[below]
+        name = phrase.name or Span(phrase.span[0], min(phrase.span[0] + 1, phrase.span[1]))
+        return Spot(self.path(number) + below or "/", phrase, file, reading.place(index, phrase.span), reading.place(index, name))
 
     def spot(self, path: str) -> Optional[Spot]:
-        """The phrase of the node of that path; None for what stands in no text: the root, a basic kind, a node that isn't there."""
-        step, slash, steps = path[1:].partition("/")
-        number, below = class_number(step), slash + steps
-        there = 0 <= number < len(self.taken) and below in self.taken[number].phrases
-        return self.located(number, below) if there else None
+        """The phrase of the node of that path; None for what stands in no text, or isn't there."""
+        number, below = self.number(path)
+        if not 0 <= number < len(self.parts) or below not in self.piece(number).phrases:
+            return None
+        return self.located(number, below)
 
-    def class_at(self, offset: int) -> int:
-        """The number of the class that begins there or before, and -1 where none does."""
-        return bisect.bisect_right(self.starts, offset) - 1
+    def node(self, path: str) -> Optional[Node]:
+        """The node of that path where it stands in no text, but before all parts of a list."""
+        listed = self.language.listed
+        step = Path.read(path).steps
+        if listed is None or len(step) != 1 or step[0].part != listed.component:
+            return None
+        return next((it for index, it in enumerate(listed.before) if index == step[0].index), None)
 
-    def at(self, offset: int) -> Optional[Spot]:
-        """The innermost phrase at that offset of the document."""
-        number = self.class_at(offset)
+    # Places and names
+
+    def part_at(self, file: str, offset: int) -> int:
+        """The number of the part that begins there or before, and -1 where none does."""
+        if file not in self.files:
+            return -1
+        index = bisect.bisect_right(self.files[file].starts, offset) - 1
+        return -1 if index < 0 else self.first[file] + index
+
+    def at(self, file: str, offset: int) -> Optional[Spot]:
+        """The innermost phrase at that offset of the file."""
+        number = self.part_at(file, offset)
         if number < 0 or not self.located(number, "").span.holds(offset):
             return None
+        index, reading = self.parts[number][1], self.files[file]
         below = ""
         while True:
-            children = self.taken[number].phrases[below].children
-            inner = [step for step, it in children if self.place(number, it.span).holds(offset)]
+            children = self.piece(number).phrases[below].children
+            inner = [step for step, it in children if reading.place(index, it.span).holds(offset)]
             if not inner:
                 return self.located(number, below)
             below = f"{below}/{inner[0]}"
 
-    def named(self, name: str, kinds: Sequence[str]) -> Iterator[Spot]:
-        """The phrases with that name whose nodes are of these classes, in the order of the text."""
-        for number, piece in enumerate(self.taken):
-            for below in piece.named.get(name, ()):
-                if piece.phrases[below].kind in kinds:
+    def above(self, spot: Spot) -> Optional[Spot]:
+        """The phrase just around this one."""
+        number, below = self.number(spot.path)
+        return self.located(number, below.rpartition("/")[0]) if below else None
+
+    def named(self, name: str) -> Iterator[Spot]:
+        """The phrases with that name, in the order of the tree."""
+        for number in range(len(self.parts)):
+            for below in self.piece(number).named.get(name, ()):
+                yield self.located(number, below)
+
+    def in_file(self, file: str, within: Span, is_wanted: Callable[[int, str, Phrase], bool]) -> Iterator[Spot]:
+        """The wanted phrases of the parts of a file that stand in the stretch, each before those below it, in the order of the text.
+
+        What is wanted is told by the number of the part, the path below it and the phrase."""
+        first, last = max(self.part_at(file, within.start), self.first[file]), self.part_at(file, within.end)
+        for number in range(first, last + 1):
+            for below, phrase in self.piece(number).phrases.items():
+                if is_wanted(number, below, phrase):
                     yield self.located(number, below)
 
+    # What the language says of classes
 
-def basic_kind(path: str) -> Optional[str]:
-    """The name of the basic kind of that path, and None where it is none."""
-    return next((it for index, it in enumerate(BASIC_KINDS) if path == f"/Kind:{index}"), None)
+    def of_class(self, told: Mapping[str, T], kind: str) -> Optional[T]:
+        """What is told of the class, or else of the nearest one above it; None where nothing is."""
+        grammar = self.reader.grammar
+        chain: Sequence[str] = grammar.ancestors(kind) if grammar is not None and kind in grammar else (kind,)
+        return next((told[it] for it in chain if it in told), None)
 
+    def symbol_kind(self, spot: Spot) -> Optional[int]:
+        """The protocol's number for what a declaration is; None where the phrase is none."""
+        return self.declares(*self.number(spot.path))
 
-def class_path(number: int) -> str:
-    """The path of the class of that number, from 0."""
-    return f"/Kind:{number + len(BASIC_KINDS)}"
+    def declares(self, number: int, below: str) -> Optional[int]:
+        """The same of the phrase of that path below the part of that number."""
+        phrases = self.piece(number).phrases
+        kinds, phrase = self.language.kinds, phrases[below]
+        if phrase.name is None:
+            return None
+        above, _, step = below.rpartition("/")
+        known = kinds.get(f"{phrases[above].kind}.{step.partition(':')[0]}") if below else None
+        return known if known is not None else self.of_class(kinds, phrase.kind)
 
-
-def class_number(step: str) -> int:
-    """The number of the class to which the first step of a path leads; less than 0 where it leads to none."""
-    part, _, index = step.partition(":")
-    return int(index) - len(BASIC_KINDS) if part == "Kind" and index.isdigit() else -1
-
-
-def read_source(text: str, old: Source) -> Source:
-    """The document with that text, which was `old` before."""
-    starts = class_starts(text)
-    texts = shared([text[start:end] for start, end in zip(starts, [*starts[1:], len(text)])], old.texts)
-    pieces = {it: old.pieces.get(it) or Piece.of(it) for it in texts}
-    read = [pieces[it] for it in texts]
-    faults = read_front(text[: starts[0]] if starts else text)
-    faults += [Fault(it.text, it.span.moved(start)) for start, piece in zip(starts, read) for it in piece.faults]
-    if not faults:
-        return Source(starts, texts, read, (), pieces)
-    last = last_good(texts, old)
-    taken = [last.get(number, it) if it.faults else it for number, it in enumerate(read)]
-    numbers = [number for number, it in enumerate(taken) if it.phrase is not None]
-    chosen = [starts[it] for it in numbers], [texts[it] for it in numbers], [taken[it] for it in numbers]
-    return Source(*chosen, tuple(faults), pieces)
-
-
-def shared(texts: List[str], old: List[str]) -> List[str]:
-    """The same texts; those at the front and at the back that were there before are the old ones, whose hashes are known."""
-    front, back = alike_ends(texts, old)
-    return [*old[:front], *texts[front : len(texts) - back], *old[len(old) - back :]]
-
-
-def class_starts(text: str) -> List[int]:
-    """Where the classes of the text begin: at each word `class` that stands in no comment."""
-    found = [it.start() for it in CLASS.finditer(text)]
-    return [it for it in found if not is_in_comment(text, it)] if "//" in text else found
-
-
-def is_in_comment(text: str, offset: int) -> bool:
-    """Whether a comment begins before the offset, in its line."""
-    line = max(text.rfind("\n", 0, offset), text.rfind("\r", 0, offset)) + 1
-    return text.find("//", line, offset) >= 0
-
-
-def last_good(texts: List[str], old: Source) -> Dict[int, Piece]:
-    """For the texts of classes, by their numbers, what the tree had without faults of the class that stood there before.
-
-    What is alike at the front and at the back goes together; between, classes go together one by one where they are
-    equally many, and else by their names."""
-    front, back = alike_ends(texts, old.texts)
-    found = dict(enumerate(old.taken[:front]))
-    found.update({len(texts) - it: old.taken[len(old.taken) - it] for it in range(1, back + 1)})
-    numbers = range(front, len(texts) - back)
-    between = range(front, len(old.texts) - back)
-    if len(numbers) == len(between):
-        found.update(zip(numbers, old.taken[front:]))
-    else:
-        by_name = {class_name(old.texts[it]): old.taken[it] for it in reversed(between)}
-        found.update({it: by_name[class_name(texts[it])] for it in numbers if class_name(texts[it]) in by_name})
-    return {number: it for number, it in found.items() if not it.faults}
-
-
-def alike_ends(one: List[str], other: List[str]) -> Tuple[int, int]:
-    """How many texts the two lists begin with alike, and how many of the others they end with alike."""
-    front = alike(one, other)
-    return front, min(alike(one[::-1], other[::-1]), min(len(one), len(other)) - front)
-
-
-def alike(one: List[str], other: List[str]) -> int:
-    """How many texts the two lists begin with alike."""
-    count = 0
-    for left, right in zip(one, other):
-        if left != right:
-            break
-        count += 1
-    return count
-
-
-def class_name(text: str) -> str:
-    """The name of the class that begins the text, and an empty one where it is missing."""
-    it = CLASS_NAME.match(text)
-    return it[1] if it else ""
+    def meanings(self, spot: Spot) -> Sequence[str]:
+        """The attributes that answer what the name of the phrase means; none for a declaration."""
+        if spot.phrase.name is None or self.symbol_kind(spot) is not None:
+            return ()
+        return self.of_class(self.language.meaning, spot.phrase.kind) or ()

@@ -1,61 +1,86 @@
-"""The documents that are open in the editor, and what the editor asks of them."""
+"""The trees whose files are open in the editor: which files each has, and what the editor tells of them."""
 from __future__ import annotations
 
 import gc
-from typing import Any, Callable, Dict, List, Optional, Tuple
+from pathlib import Path
+from typing import Any, Dict, Iterable, List, Optional, Tuple
 
 from attrd import AttrdError
 
-from .desk import Desk
-from .document import Document, Request
 from .editor import ERROR, Editor
-from .inquiry import Inquiry
-from .language_files import LanguageFiles
-from .meaning import Hover, find_definition, find_hover, find_references, word_at
-from .outline import Json, diagnostics_of, location_of, range_of, symbols_of
-from .params import change_in, part, position_in, uri_in
-from .positions import Span, Text
-from .renaming import find_renaming
-from .rpc import CANCELLED, CONTENT_MODIFIED, INVALID_PARAMS, REQUEST_FAILED, Failure
-from .source import Spot
+from .folders import Stamp, files_in, folder_of, text_of
+from .language_files import SUFFIXES, LanguageFiles, path_of
+from .outline import diagnostics_of
+from .params import change_in, part, uri_in
+from .positions import Text
+from .project import Project
+from .protocol import Json
+from .rpc import CANCELLED, CONTENT_MODIFIED, REQUEST_FAILED, Failure
 
-LANGUAGE_SUFFIXES = (".ast", ".jrag")
+CLOSED = Failure(CONTENT_MODIFIED, "the document was closed")
 
 
 class Workspace:
-    """Takes notifications and requests about documents. Methods raise Failure where a message isn't as it should be."""
+    """Takes notifications about documents. Methods raise Failure where a message isn't as it should be."""
 
     def __init__(self, files: LanguageFiles, editor: Editor) -> None:
         self.files, self.editor = files, editor
-        self.documents: Dict[str, Document] = {}
+        self.projects: Dict[str, Project] = {}
+        self.stamps: Dict[str, Dict[Path, Stamp]] = {}
+        self.published: Dict[str, List[Json]] = {}
 
     @property
     def is_busy(self) -> bool:
         """Whether something is under way."""
-        return any(it.is_busy for it in self.documents.values())
+        return any(it.is_busy for it in self.projects.values())
 
     def step(self) -> None:
-        """One short step in each document in which something is under way."""
-        for document in list(self.documents.values()):
-            if document.is_busy:
-                document.step()
+        """One short step in each tree of which something is under way."""
+        for project in list(self.projects.values()):
+            if project.is_busy:
+                project.step()
 
     def stop(self, failure: Failure) -> None:
         """Ends all that is under way."""
-        for document in self.documents.values():
-            document.stop(failure)
+        for project in self.projects.values():
+            project.stop(failure)
+
+    def close_all(self) -> None:
+        """Ends all programs."""
+        for project in self.projects.values():
+            project.drop_desk()
+
+    # Which file belongs where
+
+    def place(self, uri: str) -> Tuple[str, str]:
+        """The name of the tree to which a document belongs, and that of its file there."""
+        folder = folder_of(self.files.language, uri)
+        return (uri, uri) if folder is None else (str(folder), str(path_of(uri)))
+
+    def found(self, uri: str) -> Optional[Tuple[Project, str]]:
+        """The tree of a document that is open, and the name of its file there; None where it isn't open."""
+        tree, name = self.place(uri)
+        project = self.projects.get(tree)
+        return (project, name) if project is not None and name in project.versions else None
 
     # Notifications
 
     def open(self, params: Any) -> None:
         """A document is open now."""
         uri, text = uri_in(params), part(params, str, "textDocument", "text")
-        if uri.endswith(LANGUAGE_SUFFIXES):
+        if uri.endswith(SUFFIXES):
             self.put_language(uri, Text.of(text))
             return
-        self.close(params)
         version = part(params, int, "textDocument", "version")
-        self.documents[uri] = Document(uri, version, text, self.files.start, self.publish, self.tell)
+        tree, name = self.place(uri)
+        if self.found(uri) is not None and tree == name:
+            self.close(params)
+        project = self.projects.get(tree)
+        if project is None:
+            project = self.projects[tree] = Project(self.files.reader(), self.files.start, self.publish, self.tell)
+        project.versions[name] = version
+        project.put(name, uri, text)
+        self.refresh(tree, uri)
         # The trees of a document have no circles: they go without the collector, which would hold up a key to look at them all.
         gc.freeze()
 
@@ -63,31 +88,80 @@ class Workspace:
         """A document has other text now."""
         uri = uri_in(params)
         changes = [change_in(it) for it in part(params, list, "contentChanges")]
-        path = self.files.language.file_of(uri)
+        path = self.files.file_of(uri)
+        found = self.found(uri)
         if path in self.files.texts:
             text = self.files.texts[path]
             for it in changes:
                 text = text.changed(text.changed_span(it), it.text)
             self.put_language(uri, text)
-        elif uri in self.documents:
-            self.documents[uri].change(part(params, int, "textDocument", "version"), changes)
+        elif found is not None:
+            project, name = found
+            project.change(name, part(params, int, "textDocument", "version"), changes)
 
     def close(self, params: Any) -> None:
-        """A document isn't open any more."""
+        """A document isn't open any more: where others of its folder are, its text is what is on the disk."""
         uri = uri_in(params)
-        document = self.documents.pop(uri, None)
-        path = self.files.language.file_of(uri)
+        path = self.files.file_of(uri)
         if path in self.files.texts:
             self.files.drop(path)
             self.restart()
-        if document is not None:
-            document.give_up(Failure(CONTENT_MODIFIED, "the document was closed"))
-            document.drop_desk()
-            self.editor.publish(uri, None, [])
+        found = self.found(uri)
+        if found is None:
+            return
+        project, name = found
+        project.versions.pop(name)
+        tree = self.place(uri)[0]
+        if project.versions:
+            self.stamps[tree].pop(Path(name), None)
+            self.refresh(tree, uri)
+        else:
+            self.close_project(tree)
+
+    def close_project(self, tree: str) -> None:
+        """No file of a tree is open any more: what was told of all of them goes."""
+        project = self.projects.pop(tree)
+        self.stamps.pop(tree, None)
+        project.give_up(CLOSED)
+        project.drop_desk()
+        for uri in project.uris.values():
+            if self.published.pop(uri, []) or len(project.uris) == 1:
+                self.editor.publish(uri, None, [])
+
+    def watched(self, params: Any) -> None:
+        """Files were written: those of a folder that aren't open are read again."""
+        for it in part(params, list, "changes"):
+            uri = part(it, str, "uri")
+            tree = self.place(uri)[0]
+            if tree in self.projects:
+                self.refresh(tree, uri)
+
+    def refresh(self, tree: str, uri: str) -> None:
+        """Takes the files of a folder as they are on the disk, but for those that are open."""
+        folder = folder_of(self.files.language, uri)
+        if folder is None:
+            return
+        project, known, there = self.projects[tree], self.stamps.get(tree, {}), files_in(folder, self.files.language)
+        self.stamps[tree] = there
+        for path, stamp in there.items():
+            text = None if str(path) in project.versions or known.get(path) == stamp else text_of(path)
+            if text is not None:
+                project.put(str(path), project.uris.get(str(path), path.as_uri()), text)
+        for name in [it for it in project.texts if it not in project.versions and Path(it) not in there]:
+            self.editor.publish(project.uris.pop(name), None, [])
+            project.remove(name)
+
+    def cancel(self, params: Any) -> None:
+        """A request isn't wanted any more."""
+        number = params.get("id") if isinstance(params, dict) else None
+        for project in self.projects.values():
+            project.cancel(number, Failure(CANCELLED, "the request was cancelled"))
+
+    # The language
 
     def put_language(self, uri: str, text: Text) -> None:
         """A file of the language has this text in the editor. Files of other languages aren't looked at."""
-        path = self.files.language.file_of(uri)
+        path = self.files.file_of(uri)
         if path is not None:
             self.files.put(path, uri, text)
             self.restart()
@@ -98,105 +172,22 @@ class Workspace:
             accepted = self.files.are_accepted()
         except AttrdError as fault:
             raise Failure(REQUEST_FAILED, str(fault)) from fault
-        for document in self.documents.values() if accepted else ():
-            document.restart()
+        reader = self.files.reader()
+        for project in self.projects.values() if accepted else ():
+            if project.source.reader is not reader:
+                project.read_anew(reader)
+            project.restart()
 
-    def close_all(self) -> None:
-        """Ends all programs."""
-        for document in self.documents.values():
-            document.drop_desk()
+    # What is told
 
-    def publish(self, document: Document) -> None:
-        """Has shown what there is to tell of the document."""
-        self.editor.publish(document.uri, document.version, diagnostics_of(document))
+    def publish(self, project: Project, names: Iterable[str]) -> None:
+        """Has shown what there is to tell of these files; of those that aren't open where it is something else than was told."""
+        for name in names:
+            uri, told = project.uris[name], diagnostics_of(project, name)
+            if name in project.versions or told != self.published.get(uri, []):
+                self.editor.publish(uri, project.versions.get(name), told)
+            self.published[uri] = told
 
     def tell(self, text: str) -> None:
         """Has a message shown."""
         self.editor.show(ERROR, text)
-
-    # Requests: each is answered by its number, at once or later
-
-    def hover(self, number: Any, params: Any) -> None:
-        """What is told of the name or expression at a place."""
-        document, offset = self.place(params)
-
-        def result(hover: Optional[Hover]) -> Optional[Json]:
-            if hover is None:
-                return None
-            return {"contents": {"kind": "plaintext", "value": hover.text}, "range": range_of(document.text, hover.span)}
-
-        self.ask(document, number, lambda _: find_hover(document.source, offset), result)
-
-    def definition(self, number: Any, params: Any) -> None:
-        """Where the declaration stands that the name at a place means."""
-        document, offset = self.place(params)
-
-        def result(spot: Optional[Spot]) -> Optional[Json]:
-            return None if spot is None else location_of(document, spot)
-
-        self.ask(document, number, lambda _: find_definition(document.source, offset), result)
-
-    def references(self, number: Any, params: Any) -> None:
-        """The names that mean what the name at a place means."""
-        document, offset = self.place(params)
-        with_declaration = part(params, bool, "context", "includeDeclaration")
-
-        def result(found: Optional[Tuple[Spot, List[Spot]]]) -> List[Json]:
-            spots = [] if found is None else ([found[0]] if with_declaration else []) + found[1]
-            return [location_of(document, it) for it in spots]
-
-        self.ask(document, number, lambda _: find_references(document.source, offset), result)
-
-    def prepare_rename(self, number: Any, params: Any) -> None:
-        """The name at a place, which may be changed."""
-        document, offset = self.place(params)
-        word = word_at(document.source, offset)
-        if word is None:
-            raise Failure(REQUEST_FAILED, "no name stands here")
-        self.editor.answer(number, {"range": range_of(document.text, word.name), "placeholder": word.phrase.identifier})
-
-    def rename(self, number: Any, params: Any) -> None:
-        """Another name for what the name at a place means."""
-        document, offset = self.place(params)
-        new = part(params, str, "newName")
-
-        def result(spans: List[Span]) -> Json:
-            edits = [{"range": range_of(document.text, it), "newText": new} for it in sorted(spans)]
-            return {"changes": {document.uri: edits}}
-
-        begin = lambda desk: find_renaming(desk, document.text.text, document.source, offset, new)  # noqa: E731
-        self.ask(document, number, begin, result)
-
-    def symbols(self, number: Any, params: Any) -> None:
-        """The classes and declarations of a document."""
-        self.editor.answer(number, symbols_of(self.document(params)))
-
-    def cancel(self, params: Any) -> None:
-        """A request isn't wanted any more."""
-        number = params.get("id") if isinstance(params, dict) else None
-        for document in self.documents.values():
-            document.cancel(number, Failure(CANCELLED, "the request was cancelled"))
-
-    def ask(self, document: Document, number: Any, begin: Callable[[Desk], Inquiry[Any]], result: Callable[[Any], Any]) -> None:
-        """Has an inquiry made; what it finds is answered as `result` says."""
-
-        def answer(found: Any) -> None:
-            self.editor.answer(number, result(found))
-
-        def fail(failure: Failure) -> None:
-            self.editor.fail(number, failure)
-
-        document.requests.append(Request(number, begin, answer, fail))
-
-    def document(self, params: Any) -> Document:
-        """The document of a request. Raises Failure where it isn't open."""
-        found = self.documents.get(uri_in(params))
-        if found is None:
-            raise Failure(INVALID_PARAMS, "the document isn't open here")
-        return found
-
-    def place(self, params: Any) -> Tuple[Document, int]:
-        """The document and place of a request. Raises Failure."""
-        document = self.document(params)
-        return document, document.text.offset(position_in(params, "position"))
-

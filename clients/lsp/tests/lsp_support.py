@@ -10,14 +10,17 @@ import sys
 import tempfile
 import time
 from pathlib import Path
-from typing import Any, Dict, List, Optional
+from typing import Any, Dict, List, Optional, Tuple
 
 CLONE = Path(__file__).resolve().parents[3]
 LSP = CLONE / "clients" / "lsp"
 PYTHONPATH = [str(CLONE / "clients" / "python"), str(LSP)]
-sys.path[:0] = [it for it in PYTHONPATH if it not in sys.path]
+sys.path[:0] = [it for it in (*PYTHONPATH, str(LSP / "sample")) if it not in sys.path]
 
+from attrd_lsp.reading import Reader  # noqa: E402
 from attrd_lsp.rpc import Inbox, message_of  # noqa: E402
+from attrd_lsp.small.language import tutorials  # noqa: E402
+from attrd_lsp.source import Source  # noqa: E402
 
 # How long an answer may take on a machine that is busy.
 SECONDS = 120.0
@@ -36,6 +39,16 @@ def tutorial_file(name: str) -> str:
 
 # The tutorial's program, as the tutorial shows it.
 SMALL = re.search(r"^```text\n(class Point.*?)^```$", TUTORIAL, re.M | re.S)[1]  # type: ignore[index]
+
+
+SAMPLE = LSP / "sample"
+# The name of the file of `read_source`.
+FILE = "circle.small"
+
+
+def read_source(text: str, old: Optional[Source] = None) -> Source:
+    """A file of the tutorial's language with that text, which was `old` before."""
+    return (old or Source(Reader(tutorials()), {})).with_file(FILE, text)
 
 
 # How many nodes a class of a large program has.
@@ -65,10 +78,13 @@ class Ended(Exception):
 
 
 class Client:
-    """An editor that speaks the protocol with a language server of its own."""
+    """An editor that speaks the protocol with a language server of its own: that of the tutorial's language, or another script."""
 
-    def __init__(self, *words: str, attrd: Optional[str] = None, environment: Optional[Dict[str, str]] = None) -> None:
-        command = [sys.executable, "-m", "attrd_lsp", "--program", attrd or program(), *words]
+    def __init__(
+        self, *words: str, attrd: Optional[str] = None, environment: Optional[Dict[str, str]] = None, script: Optional[Path] = None
+    ) -> None:
+        server = ["-m", "attrd_lsp"] if script is None else [str(script)]
+        command = [sys.executable, *server, "--program", attrd or program(), *words]
         given = {**os.environ, "PYTHONPATH": os.pathsep.join(PYTHONPATH), **(environment or {})}
         self.errors = tempfile.TemporaryFile()
         self.process = subprocess.Popen(command, stdin=subprocess.PIPE, stdout=subprocess.PIPE, stderr=self.errors, env=given)
@@ -78,7 +94,7 @@ class Client:
         self.answers: Dict[Any, Dict[str, Any]] = {}
 
     def __enter__(self) -> Client:
-        self.ask("initialize", {})
+        self.capabilities = self.ask("initialize", {})["capabilities"]
         self.notify("initialized", {})
         return self
 
@@ -198,6 +214,12 @@ class Editing:
         """Puts `new` in the place of `old`, which stands once in the text."""
         self.client.write(self.changed(old, new))
 
+    def ask(self, method: str, word: str, number: int = 0, behind: int = 0, **more: Any) -> Any:
+        """The result of a request at a word, so many characters on."""
+        place = self.at(word, number)
+        place["position"]["character"] += behind
+        return self.client.ask(f"textDocument/{method}", {**place, **more})
+
     def told(self) -> List[str]:
         """The diagnostics of the text as it is, each as LINE:COLUMN, from 1, and its message: those that are told last."""
         self.client.ask("textDocument/hover", {"textDocument": {"uri": self.uri}, "position": {"line": 0, "character": 0}})
@@ -209,6 +231,11 @@ class Editing:
             params = self.client.note("textDocument/publishDiagnostics")
             if params["uri"] == self.uri and params.get("version") == self.version:
                 return shown(params["diagnostics"])
+
+
+def ranges(locations: List[Dict[str, Any]]) -> List[Tuple[int, int]]:
+    """Where these locations begin, from 1."""
+    return [(it["range"]["start"]["line"] + 1, it["range"]["start"]["character"] + 1) for it in locations]
 
 
 def shown(diagnostics: List[Dict[str, Any]]) -> List[str]:

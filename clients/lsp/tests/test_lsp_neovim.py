@@ -10,7 +10,7 @@ import unittest
 from pathlib import Path
 from typing import List
 
-from attrd_lsp.language import DATA
+from attrd_lsp.small.language import DATA
 from lsp_support import CLASS_NODES, CLONE, LSP, SMALL, children, large_program, program
 from neovim import EditorFault, Neovim
 

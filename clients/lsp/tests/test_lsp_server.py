@@ -7,16 +7,11 @@ import tempfile
 import unittest
 from pathlib import Path
 
-from lsp_support import PYTHONPATH, SMALL, Client, Editing, Ended, children, program, shown, tutorial_file
-from attrd_lsp.language import DATA, Language, NoLanguage
+from lsp_support import LSP, PYTHONPATH, SMALL, Client, Editing, Ended, children, program, ranges, shown, tutorial_file
+from attrd_lsp.small.language import DATA, NoLanguage, in_folder
 
 CONTENT_MODIFIED, CANCELLED, FAILED = -32801, -32800, -32803
 HELD = "can't be parsed: what is told of it goes by its last text that could be"
-
-
-def ranges(locations):
-    """Where these locations begin, from 1."""
-    return [(it["range"]["start"]["line"] + 1, it["range"]["start"]["character"] + 1) for it in locations]
 
 
 class OnTheTutorialsProgram(unittest.TestCase):
@@ -116,7 +111,7 @@ class OnTheTutorialsProgram(unittest.TestCase):
             ("x", 0, "show"): "'show' is no name",
             ("x", 0, "1"): "'1' is no name",
             ("x", 0, "r"): "'x' in line 7 would mean something else",
-            ("int", 0, "number"): "no name that is declared in this file stands here",
+            ("int", 0, "number"): "no name that is declared in a file stands here",
         }
         for (word, number, new), wanted in cases.items():
             with self.subTest(word=word, new=new):
@@ -176,7 +171,7 @@ class OnTheLanguage(unittest.TestCase):
         self.types = self.folder / "types.jrag"
 
     def test_the_data_is_the_tutorials(self):
-        for it in Language.in_folder(DATA).files:
+        for it in in_folder(DATA).files:
             self.assertEqual(it.read_text("utf-8"), tutorial_file(it.name), it.name)
 
     def test_a_refused_file_shows_its_fault_at_its_place(self):
@@ -218,14 +213,14 @@ class OnTheLanguage(unittest.TestCase):
         (self.folder / "errors.jrag").unlink()
         with Client("--language", str(self.folder)) as client:
             document = Editing(client, SMALL)
-            self.assertEqual(document.settled(), ["1:1 attrd answers: refused 13 attribute"])
+            self.assertEqual(document.settled(), ["1:1 no errors are told: no aspect declares an attribute error"])
             self.assertEqual(client.ask("textDocument/hover", document.at("near"))["contents"]["value"], "near: boolean")
 
     def test_a_folder_without_a_language(self):
         for file in self.folder.glob("*.ast"):
             file.unlink()
         with self.assertRaises(NoLanguage):
-            Language.in_folder(self.folder)
+            in_folder(self.folder)
         client = Client("--language", str(self.folder))
         with self.assertRaises(Ended):
             client.ask("initialize", {})
@@ -279,7 +274,7 @@ class OnFaults(unittest.TestCase):
         self.addCleanup(client.close)
         self.assertEqual(client.ask("textDocument/hover", {})["code"], -32002)
         client.ask("initialize", {})
-        self.assertEqual(client.ask("workspace/symbol", {})["code"], -32601)
+        self.assertEqual(client.ask("textDocument/inlayHint", {})["code"], -32601)
         for params in (None, {}, {"textDocument": 1}, {"textDocument": {"uri": "file:///x"}}, []):
             self.assertEqual(client.ask("textDocument/hover", params)["code"], -32602)
         client.raw(b"Content-Length: 3\r\n\r\n{x}")
@@ -313,6 +308,23 @@ class OnFaults(unittest.TestCase):
         told = subprocess.run(command, env=environment, capture_output=True)
         self.assertEqual(told.returncode, 0)
         self.assertIn(b"--language", told.stdout)
+
+    def test_a_library_that_is_missing_is_named(self):
+        environment = {**os.environ, "PYTHONPATH": str(LSP)}
+        told = subprocess.run(["python3", "-S", "-m", "attrd_lsp"], env=environment, capture_output=True, text=True)
+        self.assertEqual(told.returncode, 1)
+        self.assertIn("the package attrd is missing: put clients/python on PYTHONPATH", told.stderr.splitlines()[-1])
+
+    def test_files_are_checked_without_an_editor(self):
+        with tempfile.TemporaryDirectory(prefix="attrd-lsp-") as folder:
+            file = Path(folder) / "one.small"
+            file.write_text(SMALL.replace("x + r", "q + r"), "utf-8")
+            command = ["python3", "-m", "attrd_lsp", "--program", program(), "--check"]
+            environment = {**os.environ, "PYTHONPATH": os.pathsep.join(PYTHONPATH)}
+            told = subprocess.run([*command, str(file)], env=environment, capture_output=True, text=True)
+            self.assertEqual((told.returncode, told.stdout), (1, f"{file}:7:11: error: no declaration of q\n"))
+            told = subprocess.run([*command, str(file) + ".none"], env=environment, capture_output=True, text=True)
+            self.assertEqual((told.returncode, told.stderr), (2, f"{file}.none: it can't be read\n"))
 
 
 class OnItsProgram(unittest.TestCase):

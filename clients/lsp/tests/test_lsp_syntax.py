@@ -3,25 +3,24 @@ import random
 import sys
 import unittest
 
-from lsp_support import LSP, SMALL, tutorial_file
+from lsp_support import FILE, LSP, SMALL, read_source, tutorial_file
 from attrd import Grammar
 from attrd_lsp.positions import Text
-from attrd_lsp.source import Source, read_source
-from attrd_lsp.syntax import is_name
+from attrd_lsp.small.syntax import is_name
 
 GRAMMAR = Grammar.read((LSP / "attrd_lsp" / "data" / "small.ast").read_text("utf-8"))
 
 
 def term(text):
     """The term of the classes of a text, without the basic kinds."""
-    source = read_source(text, Source())
+    source = read_source(text)
     return str(source.tree).replace('Basic("int"),Basic("boolean")', "").replace("([,", "([")
 
 
 def faults(text):
     """The faults of a text, each with its line and column, from 1."""
     places = Text.of(text)
-    found = [(places.position(it.span.start), it.text) for it in read_source(text, Source()).faults]
+    found = [(places.position(it.span.start), it.text) for it in read_source(text).files[FILE].faults]
     return [f"{place.line + 1}:{place.character + 1} {told}" for place, told in found]
 
 
@@ -29,7 +28,7 @@ class Trees(unittest.TestCase):
     """What a text without faults is."""
 
     def test_the_tutorials_program_is_the_tutorials_tree(self):
-        self.assertEqual(str(read_source(SMALL, Source()).tree) + "\n", tutorial_file("tree.txt"))
+        self.assertEqual(str(read_source(SMALL).tree) + "\n", tutorial_file("tree.txt"))
 
     def test_each_form(self):
         cases = {
@@ -120,22 +119,23 @@ class Faults(unittest.TestCase):
         sums = {count: "class A {{ show " + "+".join(["1"] * count) + "; }}" for count in (508, 509)}
         self.assertEqual(faults(sums[508]), [])
         self.assertEqual(faults(sums[509]), ["1:7 the class nests more than 512 deep"])
-        GRAMMAR.check(read_source(sums[508], Source()).tree)
+        GRAMMAR.check(read_source(sums[508]).tree)
         many = "class A {{ show " + "(" * 3000 + "1" + ")" * 3000 + "; }}"
         self.assertEqual(faults(many), ["1:528 the class nests more than 512 deep"])
 
     def test_texts_by_chance_have_a_tree_that_fits_and_faults_at_their_places(self):
         chance = random.Random(2)
         words = [*"class extends show true { } ( ) ; = + < . x int 1 # //".split(" "), "\n", "\ud800", "é"]
-        source = Source()
+        source = None
         for _ in range(3000):
             tokens = SMALL.split(" ")
             for _ in range(chance.randint(1, 6)):
                 tokens[chance.randrange(len(tokens))] = chance.choice(words)
             text = " ".join(tokens)
-            source = read_source(text, source if chance.random() < 0.8 else Source())
+            source = read_source(text, source if chance.random() < 0.8 else None)
             GRAMMAR.check(source.tree)
-            for it in source.faults:
+            self.assertIsNone(source.files[FILE].trouble)
+            for it in source.files[FILE].faults:
                 self.assertTrue(0 <= it.span.start <= it.span.end <= len(text))
             for path in ("/Kind:2", "/Kind:3/Block/Stmt:0"):
                 spot = source.spot(path)

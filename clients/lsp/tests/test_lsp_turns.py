@@ -20,7 +20,7 @@ class OldAnswers(unittest.TestCase):
     """An answer for another version than that of the inquiry."""
 
     def test_it_is_dropped_and_the_question_is_asked_again(self):
-        question = Question("/", "errors")
+        question = Question("/", "faultCount")
         task = Task(iter_of([question]), SimpleNamespace(version=3), True)
         task.unsent.clear()
         task.take(question, Done(1, 2, Value("0")))
@@ -44,7 +44,7 @@ class InTurns(unittest.TestCase):
 
     def client(self, slow, turn):
         """A client of a program in which `errors` takes so many turns, of so many seconds each."""
-        environment = {"ATTRD": program(), "SLOW": f"errors={slow}", "TURN": str(turn), "LINES": str(self.lines)}
+        environment = {"ATTRD": program(), "SLOW": f"faultCount={slow}", "TURN": str(turn), "LINES": str(self.lines)}
         client = Client(attrd=TURNS, environment=environment).__enter__()
         self.addCleanup(client.close)
         return client
@@ -57,7 +57,7 @@ class InTurns(unittest.TestCase):
     def test_a_check_is_posted_and_its_answer_is_told(self):
         document = Editing(self.client(150, 0), SMALL.replace("x + r", "q + r"))
         self.assertEqual(document.settled(), ["7:11 no declaration of q"])
-        self.assertEqual(self.noted("post /")[0], "post / errors()")
+        self.assertEqual(self.noted("post /")[0], "post / faultCount()")
         self.assertEqual(self.noted("ask"), [])
 
     def test_of_many_classes_those_that_may_have_errors_are_asked(self):
@@ -65,15 +65,15 @@ class InTurns(unittest.TestCase):
         self.assertEqual(document.settled(), [])
         document.change("show a30", "show q")
         self.assertEqual(document.settled(), ["31:29 no declaration of q"])
-        self.assertEqual(self.noted("post /Kind:[0-9]+ errors"), ["post /Kind:32 errors()"])
+        self.assertEqual(self.noted("post /Kind:[0-9]+ faultCount"), ["post /Kind:32 faultCount()"])
         document.change("show a20", "show r")
         self.assertEqual(document.settled(), ["21:29 no declaration of r", "31:29 no declaration of q"])
-        self.assertEqual(self.noted("post /Kind:[0-9]+ errors")[1:], ["post /Kind:22 errors()", "post /Kind:32 errors()"])
+        self.assertEqual(self.noted("post /Kind:[0-9]+ faultCount")[1:], ["post /Kind:22 faultCount()"])
 
     def test_an_edit_waits_for_no_question_and_the_question_isnt_posted_again(self):
         client = self.client(2000, 0.0005)
         document = Editing(client, SMALL)
-        self.until("post / errors")
+        self.until("post / faultCount")
         client.ask("textDocument/documentSymbol", {"textDocument": {"uri": document.uri}})
         for old, new in (("x + r", "a + r"), ("a + r", "b + r"), ("b + r", "c + r")):
             began = time.monotonic()
@@ -81,16 +81,24 @@ class InTurns(unittest.TestCase):
             client.ask("textDocument/documentSymbol", {"textDocument": {"uri": document.uri}})
             self.assertLess(time.monotonic() - began, 0.9)
             self.until(f"token .* ID \"{new[0]}\"")
-        self.assertEqual(self.noted("post / errors"), ["post / errors()"])
+        self.assertEqual(self.noted("post / faultCount"), ["post / faultCount()"])
         self.assertEqual(document.settled(), ["7:11 no declaration of c"])
 
     def test_a_request_is_answered_beside_a_check(self):
         client = self.client(3000, 0.0005)
         document = Editing(client, SMALL)
-        self.until("post / errors")
+        self.until("post / faultCount")
         self.assertEqual(client.ask("textDocument/hover", document.at("near"))["contents"]["value"], "near: boolean")
         self.assertEqual(client.notes, [])
         self.assertEqual(document.settled(), [])
+
+    def test_colours_wait_for_the_check(self):
+        client = self.client(300, 0.0005)
+        document = Editing(client, SMALL.replace("x + r", "q + r"))
+        request = client.begun("textDocument/semanticTokens/full", {"textDocument": {"uri": document.uri}})
+        client.write(request)
+        self.assertNotEqual(client.answer(request["id"])["data"], [])
+        self.assertEqual([len(it["params"]["diagnostics"]) for it in client.notes], [1])
 
     def test_what_is_told_of_a_version_is_what_its_text_has(self):
         client = self.client(5, 0.001)

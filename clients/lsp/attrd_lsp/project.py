@@ -1,51 +1,57 @@
-"""An open document: its text and tree, its program, and what is asked of it.
+"""The files of one tree: their texts, the tree's program, and what is asked of it.
 
-At most one inquiry is under way at a time. Requests come before the check for problems, in their order; an edit ends them all,
-and begins a new check."""
+At most one inquiry is under way at a time. Requests come before the check for problems, in their order, but for those that are
+patient; an edit ends them all, and begins a new check."""
 from __future__ import annotations
 
 from collections import deque
 from contextlib import suppress
 from dataclasses import dataclass
-from typing import Any, Callable, Deque, FrozenSet, List, Optional, Set
+from typing import Any, Callable, Deque, Dict, Iterable, List, Optional
 
 from attrd import AttrdError, Code, Node, Refused, ServerLost, StartFault
 
 from .desk import Desk, Task
 from .inquiry import Inquiry, NoAnswer
 from .positions import Change, Text
-from .problems import Problem, find_problems
+from .problems import Known, Problem, find_problems, known_by
+from .reading import Reader
 from .renaming import CannotRename
 from .rpc import CONTENT_MODIFIED, REQUEST_FAILED, Failure
-from .source import Source, read_source
+from .source import Source
 
 # How often in a row a program that ended is started anew, with nothing answered between.
 RESTARTS = 1
 Start = Callable[[Node], Desk]
-Publish = Callable[["Document"], None]
+Publish = Callable[["Project", Iterable[str]], None]
+CHANGED = Failure(CONTENT_MODIFIED, "the document was changed meanwhile")
 
 
 @dataclass
 class Request:
-    """A request of the editor that takes questions: the inquiry that it begins, and what is done with its result or failure."""
+    """A request of the editor that takes questions: the inquiry that it begins, and what is done with its result or failure.
+
+    One that is patient waits for the check."""
 
     number: Any
     begin: Callable[[Desk], Inquiry[Any]]
     answer: Callable[[Any], None]
     fail: Callable[[Failure], None]
+    is_patient: bool = False
     task: Optional[Task[Any]] = None
 
 
-class Document:
-    """A document that is open in the editor."""
+class Project:
+    """The files of one tree, by their names. Those that are open in the editor have versions."""
 
-    def __init__(self, uri: str, version: int, text: str, start: Start, publish: Publish, tell: Callable[[str], None]) -> None:
-        """`start` begins a program over a tree; `publish` has shown what there is to tell of the document, `tell` a message."""
-        self.uri, self.version = uri, version
-        self.text = Text.of(text)
-        self.source = read_source(text, Source())
+    def __init__(self, reader: Reader, start: Start, publish: Publish, tell: Callable[[str], None]) -> None:
+        """`start` begins a program over a tree; `publish` has shown what there is to tell of files, `tell` a message."""
+        self.texts: Dict[str, Text] = {}
+        self.uris: Dict[str, str] = {}
+        self.versions: Dict[str, int] = {}
+        self.source = Source(reader, {})
         self.problems: List[Problem] = []
-        self.faultless: FrozenSet[str] = frozenset()
+        self.known = Known()
         self.trouble: Optional[str] = None
         self.desk: Optional[Desk] = None
         self.check: Optional[Task[List[Problem]]] = None
@@ -59,28 +65,55 @@ class Document:
         """Whether something is under way or wanted."""
         return bool(self.requests) or self.wants_check
 
-    def change(self, version: int, changes: List[Change]) -> None:
+    def put(self, name: str, uri: str, text: str) -> None:
+        """A file has this text now, which isn't told by changes."""
+        self.give_up(CHANGED)
+        self.problems = [it for it in self.problems if it.file != name]
+        self.texts[name], self.uris[name] = Text.of(text), uri
+        self.follow(self.source.with_file(name, text))
+
+    def remove(self, name: str) -> None:
+        """A file isn't there any more."""
+        self.give_up(CHANGED)
+        self.problems = [it for it in self.problems if it.file != name]
+        self.texts.pop(name)
+        self.versions.pop(name, None)
+        self.follow(self.source.without(name))
+
+    def read_anew(self, reader: Reader) -> None:
+        """All files are read from their beginning, by another grammar."""
+        self.source = Source(reader, {})
+        for name, text in self.texts.items():
+            self.source = self.source.with_file(name, text.text)
+
+    def change(self, name: str, version: int, changes: List[Change]) -> None:
         """Takes these changes, one after the other: what was under way ends, the program's tree follows, a new check is wanted."""
-        self.give_up(Failure(CONTENT_MODIFIED, "the document was changed meanwhile"))
+        self.give_up(CHANGED)
         for it in changes:
-            self.replace(it)
-        had_faults = bool(self.source.faults)
-        self.version, self.source = version, read_source(self.text.text, self.source)
+            self.replace(name, it)
+        had_faults = not self.source.files[name].is_good
+        self.versions[name] = version
+        self.follow(self.source.with_file(name, self.texts[name].text))
+        if had_faults or not self.source.files[name].is_good:
+            self.publish(self, [name])
+
+    def replace(self, name: str, change: Change) -> None:
+        """Changes the text. The problems that were told stay where they are in it, but for those whose place is gone."""
+        text = self.texts[name]
+        span = text.changed_span(change)
+        self.texts[name] = text.changed(span, change.text)
+        moved = [it if it.file != name else it._replace(span=it.span.behind(span, len(change.text))) for it in self.problems]
+        self.problems = [it for it in moved if it.file != name or it.span.start < it.span.end]
+
+    def follow(self, source: Source) -> None:
+        """The files are these now: the program's tree follows, and a new check is wanted."""
+        self.source = source
         self.wants_check = True
         if self.desk is not None:
             try:
                 self.desk.show(self.source.tree)
             except AttrdError as fault:
                 self.lost(fault)
-        if had_faults or self.source.faults:
-            self.publish(self)
-
-    def replace(self, change: Change) -> None:
-        """Changes the text. The problems that were told stay where they are in it, but for those whose place is gone."""
-        span = self.text.changed_span(change)
-        self.text = self.text.changed(span, change.text)
-        moved = (Problem(it.text, it.span.behind(span, len(change.text))) for it in self.problems)
-        self.problems = [it for it in moved if it.span.start < it.span.end]
 
     def give_up(self, failure: Failure) -> None:
         """Ends all that is under way; the requests fail so."""
@@ -110,10 +143,13 @@ class Document:
         """One short step of what is under way."""
         try:
             desk = self.desk or self.opened()
-            if self.requests:
-                self.step_request(desk, self.requests[0])
+            urgent = next((it for it in self.requests if not it.is_patient), None)
+            if urgent is not None:
+                self.step_request(desk, urgent)
             elif self.wants_check:
                 self.step_check(desk)
+            elif self.requests:
+                self.step_request(desk, self.requests[0])
         except AttrdError as fault:
             self.lost(fault)
 
@@ -133,18 +169,18 @@ class Document:
             if not request.task.is_over:
                 return
         except (NoAnswer, CannotRename) as fault:
-            self.requests.popleft()
+            self.requests.remove(request)
             request.fail(Failure(REQUEST_FAILED, str(fault)))
             return
         self.losses = 0
-        self.requests.popleft()
+        self.requests.remove(request)
         request.answer(request.task.result)
 
     def step_check(self, desk: Desk) -> None:
         """A step of the check for problems; at its end they are told."""
         try:
             if self.check is None or self.check.desk is not desk or self.check.version != desk.version:
-                self.check = Task(find_problems(self.source, self.likely()), desk, True)
+                self.check = Task(self.begun_check(desk), desk, True)
             if not self.check.is_over:
                 self.check.step()
             if self.check.is_over:
@@ -152,17 +188,24 @@ class Document:
         except NoAnswer as fault:
             self.checked([], str(fault))
 
-    def likely(self) -> Set[int]:
-        """The numbers of the classes in which problems may stand: those that had some, or have another text, at the last check."""
-        return {number for number, text in enumerate(self.source.texts) if text not in self.faultless}
+    def begun_check(self, desk: Desk) -> Inquiry[List[Problem]]:
+        """The inquiry for problems. Raises NoAnswer where none can be told."""
+        if desk.checks is None:
+            raise NoAnswer(desk.why)
+        return find_problems(self.source, desk.checks, self.known)
 
     def checked(self, problems: List[Problem], trouble: Optional[str]) -> None:
         """The check is over, with these problems, or couldn't be made for that reason."""
-        self.problems, self.trouble = problems, trouble
-        wrong = {self.source.class_at(it.span.start) for it in problems}
-        self.faultless = frozenset(text for number, text in enumerate(self.source.texts) if number not in wrong)
+        self.known = known_by(self.source, problems)
+        self.problems = [it for it in problems if not self.is_gone(it)]
+        self.trouble = trouble
         self.check, self.wants_check, self.losses = None, False, 0
-        self.publish(self)
+        self.publish(self, self.texts)
+
+    def is_gone(self, problem: Problem) -> bool:
+        """Whether the problem's text, of a part that is held, isn't there any more."""
+        spot = self.source.spot(problem.path) if problem.span.start == problem.span.end else None
+        return spot is not None and spot.phrase.span[0] < spot.phrase.span[1]
 
     def lost(self, fault: AttrdError) -> None:
         """The program can't be used any more. Where it ended it is started anew once for what is under way; else that fails."""
@@ -175,7 +218,7 @@ class Document:
         if not may_go_on:
             self.wants_check = False
             self.give_up(Failure(REQUEST_FAILED, self.trouble))
-        self.publish(self)
+        self.publish(self, self.texts)
 
     def restart(self) -> None:
         """Goes on with another program, from the start of all that is under way."""

@@ -1,0 +1,141 @@
+"""What a parser gives: a tree whose nodes have places in the text, and the faults of the text.
+
+A `Phrase` is a node of the tree with its place. `phrase` makes one of the phrases below it:
+
+    phrase("Let", Span(0, 9), Span(4, 5), ID="x", Expr=value)
+
+is a node of the class `Let` that stands at the characters 0 to 8; its name stands at the character 4. The cells are given by the
+names of their components, in the order of the grammar: a phrase, a sequence of phrases, None, or a token (str, int or bool)."""
+from __future__ import annotations
+
+from dataclasses import dataclass
+from typing import Dict, List, NamedTuple, Optional, Sequence, Tuple, Union
+
+import attrd
+from attrd import Node
+from attrd.lexical import TREE_NODES
+
+from .positions import Span
+
+TreeCell = Union[Node, Tuple[Node, ...], None, str, int, bool]
+Cell = Union["Phrase", Sequence["Phrase"], None, str, int, bool]
+
+
+@dataclass(frozen=True)
+class Phrase:
+    """A node of the tree and where it stands in the text: the whole of it, and its name where it has one."""
+
+    tree: Node
+    span: Span
+    identifier: str
+    """The first of the node's cells that is a text; empty where the phrase has no name."""
+    name: Optional[Span]
+    children: Tuple[Tuple[str, Phrase], ...]
+    """The phrases of the children, each with its step in a path: `Left`, `Stmt:3`."""
+    parts: Tuple[str, ...]
+    """The names of the components whose cells were given."""
+
+    @property
+    def kind(self) -> str:
+        """The node's class in the grammar."""
+        return self.tree.name
+
+    def child(self, step: str) -> Optional[Phrase]:
+        """The phrase of a child, and None where there is none."""
+        return next((it for name, it in self.children if name == step), None)
+
+
+class Fault(NamedTuple):
+    """What is wrong in the text, and where."""
+
+    text: str
+    span: Span
+
+
+class Parsed(NamedTuple):
+    """What was read of a text: its tree, or None where nothing could be made of it, and the faults in the order of their places."""
+
+    phrase: Optional[Phrase]
+    faults: List[Fault]
+
+
+def phrase(kind: str, span: Span, name: Optional[Span] = None, /, **cells: Cell) -> Phrase:
+    """A node with its place, and that of its name. Raises TermFault where a cell is nothing that a cell may be."""
+    children: List[Tuple[str, Phrase]] = []
+    for part, cell in cells.items():
+        if isinstance(cell, Phrase):
+            children.append((part, cell))
+        elif isinstance(cell, (tuple, list)):
+            children.extend((f"{part}:{index}", it) for index, it in enumerate(cell))
+    tree = Node(kind, *map(tree_of, cells.values()))
+    identifier = "" if name is None else next((it for it in cells.values() if isinstance(it, str)), "")
+    return Phrase(tree, span, identifier, name, tuple(children), tuple(cells))
+
+
+def tree_of(cell: Cell) -> TreeCell:
+    """The cell without places."""
+    if isinstance(cell, Phrase):
+        return cell.tree
+    return tuple(it.tree for it in cell) if isinstance(cell, (tuple, list)) else cell  # type: ignore[return-value]
+
+
+def misplaced(top: Phrase, length: int) -> Optional[str]:
+    """What is wrong with the places of the phrase and those below it, in a text of that length; None where nothing is.
+
+    Each phrase stands in the one around it, beside the others there; a name stands in its phrase."""
+    waiting = [(top, Span(0, length))]
+    while waiting:
+        it, around = waiting.pop()
+        wrong = misplaced_in(it.kind, it.span, around)
+        if wrong is None and it.name is not None and it.name != it.span:
+            wrong = misplaced_in(f"the name of {it.kind}", it.name, it.span)
+        if wrong is None and len(it.children) > 1:
+            wrong = overlapping(it)
+        if wrong is not None:
+            return wrong
+        waiting.extend([(child, it.span) for _, child in it.children])
+    return None
+
+
+def misplaced_in(what: str, span: Span, around: Span) -> Optional[str]:
+    """What is wrong with the place of a phrase or a name within another one."""
+    if not is_span(span):
+        return f"{what} has no place in the text"
+    if not around[0] <= span[0] <= span[1] <= around[1]:
+        return f"{what} stands at {span[0]} to {span[1]}, which isn't within {around[0]} to {around[1]}"
+    return None
+
+
+def is_span(span: object) -> bool:
+    """Whether this is two offsets."""
+    return isinstance(span, tuple) and len(span) == 2 and type(span[0]) is int and type(span[1]) is int
+
+
+def overlapping(it: Phrase) -> Optional[str]:
+    """Which two phrases just below this one stand at the same characters; None where there are none."""
+    below = sorted([(child.span, step) for step, child in it.children if is_span(child.span)])
+    for (one, first), (other, second) in zip(below, below[1:]):
+        if one[1] > other[0]:
+            return f"{first} and {second} of {it.kind} overlap: they stand at {one[0]} to {one[1]} and {other[0]} to {other[1]}"
+    return None
+
+
+def misfit(grammar: attrd.Grammar, top: Phrase, wanted: str) -> Optional[str]:
+    """Why the tree of the phrase doesn't stand where a node of that class is wanted; None where it does.
+
+    That a tree has too many nodes is the program's to tell."""
+    if top.tree.size > TREE_NODES:
+        return None
+    try:
+        grammar.check(top.tree, wanted)
+    except attrd.AttrdError as fault:
+        return str(fault)
+    waiting = [top]
+    names: Dict[str, Tuple[str, ...]] = {}
+    while waiting:
+        it = waiting.pop()
+        parts = names.get(it.kind) or names.setdefault(it.kind, tuple(part.name for part in grammar.parts(it.kind)))
+        if it.parts != parts:
+            return f"{it.kind} has the components {' '.join(parts)}, and the parser gives {' '.join(it.parts)}"
+        waiting.extend([child for _, child in it.children])
+    return None

@@ -1,0 +1,1 @@
+"""The language of the tutorial in an editor."""
