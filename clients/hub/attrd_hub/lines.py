@@ -12,6 +12,7 @@ REFUSED_SYNTAX = b"refused 1 syntax"
 REFUSED_LIMIT = b"refused 12 limit"
 _LINE = re.compile(rb"(0|[1-9][0-9]{0,2})(?: (.*))?\Z", re.S)
 _CONDITION = re.compile(rb"at (0|[1-9][0-9]{0,19}) ")
+_QUESTION = re.compile(rb"(0|[1-9][0-9]{0,2}) (?:ask|show|where) ")
 _QUESTIONS = (b"ask ", b"show ", b"where ")
 # No tree has this version: `at` it is refused as stale.
 _NEVER = 2 ** 64 - 1
@@ -43,6 +44,9 @@ def plain_session(lines: bytes, count: int) -> Optional[bytes]:
 
     `lines` are as many whole lines as `count` says. None where they are anything else.
     """
+    if count == 1:
+        found = _QUESTION.match(lines)
+        return None if found is None else found[1]
     session = lines[:4].partition(b" ")[0]
     if not session.isdigit() or len(session) > 3 or (session[:1] == b"0" and session != b"0"):
         return None
@@ -53,6 +57,10 @@ def plain_session(lines: bytes, count: int) -> Optional[bytes]:
 
 def first_lines(lines: bytes, most: int) -> bytes:
     """The first lines, at most so many, each with its newline."""
+    if most <= 0:
+        return b""
+    if lines.count(b"\n") <= most:
+        return lines
     return lines[:len(lines) - len(lines.split(b"\n", most)[-1])]
 
 
