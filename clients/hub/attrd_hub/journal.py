@@ -109,6 +109,7 @@ class Journal:
         Where the folder has no term yet, that of the file `tree` is version 0. Raises JournalFault.
         """
         try:
+            self.wait()
             self._end_file()
             versions = _versions(self.folder, _TERM)
             if not versions:
