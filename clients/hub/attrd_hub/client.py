@@ -8,7 +8,8 @@ from functools import partial
 from typing import TYPE_CHECKING, List, Optional
 
 from .hub import SHARED, NoSession
-from .lines import (EDITS, LINE_BYTES, REFUSED_LIMIT, REFUSED_SYNTAX, Places, first_lines, plain_session, split_line, without_condition)
+from .lines import (EDITS, LINE_BYTES, REFUSED_LIMIT, REFUSED_SYNTAX, TOLD, Places, first_lines, plain_session, split_line,
+                    without_condition)
 from .loop import GONE, READ, WRITE
 from .member import Member
 
@@ -22,6 +23,8 @@ MANY, FEW = 1_024, 4
 UNREAD = 1 << 20
 # So many lines of a client wait here before no more are read.
 WAITING = 1 << 16
+# Who has no more bytes of lines than that comes before those who have.
+SHORT = 256
 # So many sessions a client may have to itself: for marks and for questions in turns.
 OWN_SESSIONS = 100
 
@@ -46,41 +49,35 @@ class Client:
         if events & WRITE:
             self.flush()
         if events & GONE:
-            self._read_all()
+            self._lose()
         elif events & READ:
             self._read()
         if self._is_last or len(self._lines) >= WAITING:
             self._watch()
 
-    def _read(self) -> bool:
-        """Reads once; whether there may be more."""
+    def _read(self) -> None:
         if self.is_ended or self._is_last:
-            return False
+            return
         try:
             data = self.stream.recv(CHUNK)
         except BlockingIOError:
-            return False
+            return
         except OSError:
             self.end()
-            return False
+            return
         if data:
             self._heard = time.monotonic()
             self._take(data)
         else:
             self._is_last = True
             self._take(b"\n" if self._rest else b"")
-        return bool(data)
 
-    def _read_all(self) -> None:
-        """The other side is gone: what it has sent is served, and its replies go nowhere."""
-        while self._read():
-            pass
-        if self.is_ended:
-            return
-        self.service.loop.forget(self.stream.fileno())
-        self._is_last = True
-        self._lose_reader()
-        self._make_ready()
+    def _lose(self) -> None:
+        """The other side is gone: of what it has sent, `supply` reads the rest, and hands on what changes something."""
+        if not self.is_ended:
+            self.service.loop.forget(self.stream.fileno())
+            self._lose_reader()
+            self._make_ready()
 
     def _take(self, data: bytes) -> None:
         whole, newline, rest = (self._rest + data).rpartition(b"\n")
@@ -104,32 +101,44 @@ class Client:
     def _make_ready(self) -> None:
         if not self.is_ready:
             self.is_ready = True
-            self.service.ready.append(self)
+            if len(self._lines) <= SHORT and not self._is_gone:
+                self.service.ready.appendleft(self)
+            else:
+                self.service.ready.append(self)
 
     def supply(self, share: int) -> bool:
         """Hands on at most so many lines. Whether more of them could go at once."""
         if self.is_ended:
             return False
+        if self._is_gone and not self._lines:
+            self._read()
         if not self._lines:
             self._end_if_done()
             return False
-        room = min(share, MANY - self.member.unanswered) if len(self.unread) < UNREAD else 0
-        lines = first_lines(self._lines, room)
-        if b" show " in lines:
-            lines = first_lines(lines, FEW - self.member.unanswered)
+        lines = self._next_lines(share)
         if lines:
             self._lines = self._lines[len(lines):]
             self._hand_on(lines)
             if not self._events & READ:
                 self._watch()
-        return bool(lines and self._lines)
+        return bool(lines and (self._lines or self._is_gone))
+
+    def _next_lines(self, share: int) -> bytes:
+        """The lines that may go now, at most as many as the share says: more of a client that is gone, since few of these are handed on."""
+        if self._is_gone:
+            return first_lines(self._lines, MANY - self.member.unanswered)
+        if len(self.unread) >= UNREAD:
+            return b""
+        lines = first_lines(self._lines, min(share, MANY - self.member.unanswered))
+        return first_lines(lines, FEW - self.member.unanswered) if b" show " in lines else lines
 
     def _hand_on(self, lines: bytes) -> None:
         count = lines.count(b"\n")
         self.service.counts.lines += count
         own = plain_session(lines, count)
         if own is not None:
-            self._hand_on_block(own, lines, count)
+            if not self._is_gone:
+                self._hand_on_block(own, lines, count)
             return
         for line in lines[:-1].split(b"\n"):
             if line:
@@ -155,6 +164,8 @@ class Client:
         own, command = found
         bare = without_condition(command)
         word = bare.partition(b" ")[0]
+        if self._is_gone and word not in TOLD:
+            return
         try:
             session = self._session(int(own), word)
         except NoSession:
@@ -186,6 +197,8 @@ class Client:
 
     def _refuse(self, own: bytes, form: bytes) -> None:
         """Refuses a line in its order, without handing it on."""
+        if self._is_gone:
+            return
         self.member.send_as(SHARED, b"version", lambda _: self._tell(own, form))
 
     def _tell(self, own: bytes, form: bytes) -> None:
@@ -215,7 +228,7 @@ class Client:
             pass
         except OSError:
             self._lose_reader()
-        if self._lines or self._is_last:
+        if self._lines or self._is_last or self._is_gone:
             self._make_ready()
         if self.unread or self._events & WRITE:
             self._watch()

@@ -27,6 +27,7 @@ from .telling import Level, log, notify
 
 TICK_SECONDS = 0.5
 ACCEPTED_AT_ONCE = 64
+CLIENTS_IN_A_TURN = 64
 # So many bytes that the program hasn't taken may wait.
 UNSENT = 1 << 18
 # So many bytes all clients together may leave unread: beyond it the one with most of them is let go of.
@@ -128,7 +129,7 @@ class Service:
         tick = time.monotonic() + TICK_SECONDS
         while not self._is_stopping:
             now = time.monotonic()
-            self.loop.turn(max(0.0, tick - now))
+            self.loop.turn(0.0 if self._can_hand_on() else max(0.0, tick - now))
             self._hand_on()
             if self._has_ended and not self._go_on():
                 return 3
@@ -138,10 +139,17 @@ class Service:
         self._last_lines()
         return 0
 
+    def _can_hand_on(self) -> bool:
+        return bool(self.ready) and self.hub.in_flight < self.pace.most and len(self.program.unsent) < UNSENT
+
     def _hand_on(self) -> None:
-        """Sends what the turn has brought: lines to the program, edits to the journal, and then replies to clients."""
+        """Sends what the turn has brought: lines to the program, edits to the journal, and then replies to clients.
+
+        Few clients have a share each: then those that have come meanwhile are heard."""
         share = self.pace.share(len(self.ready))
-        while self.ready and self.hub.in_flight < self.pace.most and len(self.program.unsent) < UNSENT:
+        for _ in range(min(len(self.ready), CLIENTS_IN_A_TURN)):
+            if not self._can_hand_on():
+                break
             client = self.ready.popleft()
             client.is_ready = client.supply(share)
             if client.is_ready:
