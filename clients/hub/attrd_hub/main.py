@@ -5,6 +5,7 @@ import argparse
 import json
 import resource
 import sys
+from contextlib import suppress
 from typing import List, Optional
 
 from attrd import KEPT, AttrdError, StartFault, explain, known_options, lasting_options
@@ -66,7 +67,8 @@ def _settings(given: argparse.Namespace) -> Settings:
 def _more_files() -> None:
     """Lets the process have as many open files as it may: each client is one."""
     most = resource.getrlimit(resource.RLIMIT_NOFILE)[1]
-    resource.setrlimit(resource.RLIMIT_NOFILE, (most, most))
+    with suppress(OSError, ValueError):
+        resource.setrlimit(resource.RLIMIT_NOFILE, (most, most))
 
 
 def _explained(fault: StartFault, files: List[str]) -> str:
