@@ -13,7 +13,7 @@ help:
 	@echo "  make try           the sample session with no proof (2 minutes)"
 	@echo "  make build         the proved program, as ./attrd (60 minutes; one where it was built before)"
 	@echo "  make install       ./attrd and its man page, below PREFIX, /usr/local if none is given (a second, behind make build)"
-	@echo "  make package       ./attrd as a tarball and a Debian package, in dist/ (seconds, behind make build)"
+	@echo "  make package       ./attrd as a tarball and Debian packages, in dist/ (seconds, behind make build)"
 	@echo "to change it:"
 	@echo "  make warm          proves the libraries once, so that the next two take minutes (60 minutes)"
 	@echo "  make check C=at_demand [F=demand::Demand::answer]"
@@ -61,7 +61,7 @@ install:
 	install -m 755 attrd $(DESTDIR)$(PREFIX)/bin/attrd
 	install -m 644 docs/attrd.1 $(DESTDIR)$(PREFIX)/share/man/man1/attrd.1
 
-# The program that was built, with its man page, licences, samples and systemd unit, as a tarball and a Debian package.
+# The program that was built, with its man page, licences, pages, samples and systemd units, as a tarball and Debian packages.
 package: tools
 	@test -x attrd || { echo "there is no ./attrd yet: make build first"; exit 1; }
 	@tools/package.sh ./attrd dist
