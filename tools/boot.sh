@@ -55,8 +55,9 @@ S=/run/attrd-hub/calc/socket
 ask() { python3 /root/ask.py "$@" > /root/replies; }
 told() { printf '%s\n' "$@" | diff - /root/replies; }
 
+trap 'test $? = 0 || journalctl --no-pager -b | grep attrd | tail -n 60' EXIT
+
 if [ ! -e /root/second ]; then
-  touch /root/second
   dpkg -i /root/attrd.deb /root/attrd-hub.deb
   attrd --version || test $? = 2
 
@@ -91,6 +92,7 @@ if [ ! -e /root/second ]; then
   ask $S "0 version" "0 show /Block/Stmt:1/Expr/Right" "0 where u" "0 drop /Block/Stmt:0"
   told "0 ok 2" "0 = Num(6)" "0 refused 3 mark" "0 ok 3"
   systemctl enable attrd-hub@calc
+  touch /root/second
   exit 0
 fi
 
@@ -123,6 +125,7 @@ ln -sf ../serve.service "$system/etc/systemd/system/multi-user.target.wants/serv
 
 for boot in 1 2; do
   timeout 300 systemd-nspawn --directory "$system" --register=no --keep-unit --boot > "$system/root/boot.log" 2>&1 || true
+  test -e "$system/root/second" || break
 done
 cat "$system/root/log"
 test -e "$system/root/served" || { echo "the units don't serve: see $system/root/boot.log" >&2; exit 1; }

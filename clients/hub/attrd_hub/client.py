@@ -37,7 +37,7 @@ class Client:
         stream.setblocking(False)
         self.service, self.stream, self._token = service, stream, token
         self.member = Member(service.hub, self.end, self._tell_done)
-        self.unread = bytearray()
+        self.unread: bytearray = bytearray()
         self.is_dirty = self.is_ready = self.is_ended = False
         self._lines = self._rest = b""
         self._is_last = self._is_gone = False

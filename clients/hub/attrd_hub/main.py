@@ -12,7 +12,8 @@ from attrd import KEPT, AttrdError, StartFault, explain, known_options, lasting_
 
 from .journal import SYNCS, JournalFault
 from .program import Unfit
-from .service import Service, Settings
+from .service import Service
+from .settings import Settings
 from .sockets import read_token
 from .status import as_text, asked
 from .telling import Level, log

@@ -8,9 +8,8 @@ import socket
 import time
 from collections import deque
 from contextlib import suppress
-from dataclasses import dataclass
 from pathlib import Path
-from typing import Deque, List, Optional, Sequence, Set, Tuple
+from typing import Deque, List, Optional, Set, Tuple
 
 from attrd import AttrdError, ProtocolFault
 
@@ -21,8 +20,9 @@ from .lines import Places
 from .loop import READ, WRITE, Loop
 from .pace import Pace
 from .program import Program
+from .settings import Settings
 from .sockets import listen_at, listen_tcp
-from .status import Counts, Figure, memory_of, status_path
+from .status import Counts, figures_of, status_path
 from .telling import Level, log, notify
 
 TICK_SECONDS = 0.5
@@ -41,24 +41,6 @@ RESTART_SECONDS = 1.0
 LAST_SECONDS = 5.0
 
 
-@dataclass
-class Settings:
-    """What a service is made from. `state` is the journal's folder, where there is one; `half` a time in seconds."""
-
-    program: str
-    files: Sequence[str]
-    options: Sequence[str]
-    socket: str
-    mode: int = 0o660
-    group: Optional[str] = None
-    port: Optional[int] = None
-    token: Optional[bytes] = None
-    state: Optional[str] = None
-    sync: str = "each"
-    clients: int = 1_000
-    half: float = 30.0
-
-
 class Service:
     """Serves from `run` on until a signal. `ready` are clients with lines that wait, `dirty` those with replies to be sent."""
 
@@ -75,8 +57,8 @@ class Service:
         self.journal = Journal(Path(settings.state), settings.sync) if settings.state is not None else None
         self.pace = Pace()
         self._listening: List[Tuple[socket.socket, Optional[str]]] = []
-        self._is_stopping = self._has_ended = self._is_renewing = False
-        self._began = self._started = time.monotonic()
+        self._is_stopping = self._is_running = self._has_ended = self._is_renewing = False
+        self.began = self._started = time.monotonic()
         self._told: Tuple[int, int] = (0, 0)
 
     def run(self) -> int:
@@ -106,6 +88,7 @@ class Service:
             for text in state.told:
                 log(Level.WARNING, text)
         self.program = Program(self.settings.program, files, self.settings.options)
+        self._is_running = True
         self.program.replay(commands)
         self.hub.version += len(commands)
         self._has_ended = self._is_renewing = False
@@ -132,7 +115,7 @@ class Service:
             self.loop.turn(0.0 if self._can_hand_on() else max(0.0, tick - now))
             self._hand_on()
             if self._has_ended and not self._go_on():
-                return 3
+                return 0 if self._is_stopping else 3
             if time.monotonic() >= tick:
                 self._tick()
                 tick = time.monotonic() + TICK_SECONDS
@@ -211,13 +194,13 @@ class Service:
         self.hub.send(None, SHARED, b"show /", self._take_term)
 
     def _take_term(self, form: bytes) -> None:
+        if self.journal is not None and len(form) - 2 > TERM_BYTES:
+            # `_is_renewing` stays: it isn't asked for again.
+            log(Level.WARNING, f"the tree has more than {TERM_BYTES:,} bytes: no term is written any more, and the journal goes on")
+            return
         self._is_renewing = False
-        if self.journal is None or not form.startswith(b"= "):
-            return
-        if len(form) - 2 > TERM_BYTES:
-            log(Level.WARNING, f"the tree has more than {TERM_BYTES:,} bytes: no term is written, and the journal goes on")
-            return
-        self.journal.renew(form[2:])
+        if self.journal is not None and form.startswith(b"= "):
+            self.journal.renew(form[2:])
 
     def _go_on(self) -> bool:
         """The program has ended: all clients are told by the end of their connections, and it is started again. Whether it is."""
@@ -234,6 +217,9 @@ class Service:
         return True
 
     def _forget_program(self) -> None:
+        if not self._is_running:
+            return
+        self._is_running = False
         for stream in (self.program.input, self.program.output):
             self.loop.forget(stream)
         told = self.program.end()
@@ -272,17 +258,7 @@ class Service:
             connection, _ = stream.accept()
             with connection:
                 connection.setblocking(False)
-                connection.send(json.dumps(self.figures()).encode("ascii") + b"\n")
-
-    def figures(self) -> "dict[str, Figure]":
-        """What the service tells of itself."""
-        journal = self.journal
-        return {
-            **vars(self.counts), "version": self.hub.version, "clients": len(self.clients), "in_flight": self.hub.in_flight,
-            "unread": sum(len(it.unread) for it in self.clients), "seconds": round(time.monotonic() - self._began, 1),
-            "journal_edits": journal.edits if journal is not None else None,
-            "journal_bytes": journal.bytes if journal is not None else None,
-            "hub_memory": memory_of("self"), "program_memory": memory_of(self.program.number), "kept": None}
+                connection.send(json.dumps(figures_of(self)).encode("ascii") + b"\n")
 
     def _tick(self) -> None:
         """What is looked at about each half second."""
@@ -332,13 +308,13 @@ class Service:
         self._listening.clear()
 
     def _end(self) -> None:
+        has_served = bool(self._listening) or self._is_stopping
         self._close_listening()
         for client in list(self.clients):
             client.end()
-        if hasattr(self, "program"):
-            version = self.hub.version
-            self._forget_program()
-            log(Level.INFO, f"the service ends at version {version}, after {self.counts.lines} lines and {self.counts.edits} edits")
+        self._forget_program()
+        if has_served:
+            log(Level.INFO, f"the service ends at version {self.hub.version}, after {self.counts.lines} lines, {self.counts.edits} edits")
         if self.journal is not None:
             self.journal.close()
         self.loop.close()

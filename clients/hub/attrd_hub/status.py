@@ -3,10 +3,14 @@ from __future__ import annotations
 
 import json
 import socket
+import time
 from dataclasses import dataclass
-from typing import Dict, Optional, Union
+from typing import TYPE_CHECKING, Dict, Optional, Union
 
 from attrd import AttrdError
+
+if TYPE_CHECKING:
+    from .service import Service
 
 SECONDS = 10.0
 Figure = Union[int, float, str, None]
@@ -15,7 +19,8 @@ FIGURES = {
     "version": ("version of the tree", ""), "clients": ("clients", ""), "came": ("clients that came", ""),
     "let_go": ("clients that were let go of", ""), "lines": ("lines", ""), "in_flight": ("lines without a reply", ""),
     "edits": ("accepted edits", ""), "unread": ("bytes that clients haven't read", ""), "restarts": ("restarts of the program", ""),
-    "seconds": ("seconds since the start", ""), "journal_edits": ("edits in the journal", ""), "journal_bytes": ("bytes of the journal", ""),
+    "seconds": ("seconds since the start", ""), "journal_edits": ("edits in the journal", ""),
+    "journal_bytes": ("bytes of the journal", ""),
     "hub_memory": ("memory of the hub", "KiB"), "program_memory": ("memory of the program", "KiB"),
     "kept": ("kept values", "(no command of the program tells them)"),
 }
@@ -44,6 +49,17 @@ def memory_of(process: Union[int, str]) -> Optional[int]:
             return next((int(it.split()[1]) for it in lines if it.startswith("VmRSS:")), None)
     except OSError:
         return None
+
+
+def figures_of(service: "Service") -> Dict[str, Figure]:
+    """What a service tells of itself."""
+    journal = service.journal
+    return {
+        **vars(service.counts), "version": service.hub.version, "clients": len(service.clients), "in_flight": service.hub.in_flight,
+        "unread": sum(len(it.unread) for it in service.clients), "seconds": round(time.monotonic() - service.began, 1),
+        "journal_edits": journal.edits if journal is not None else None,
+        "journal_bytes": journal.bytes if journal is not None else None,
+        "hub_memory": memory_of("self"), "program_memory": memory_of(service.program.number), "kept": None}
 
 
 def asked(path: str) -> Dict[str, Figure]:

@@ -26,7 +26,8 @@ WHO = ("hub", "program", "both")
 RENEWED = 7
 EDITS = ['token /Block/Stmt:0 ID "a"', "insert /Block Stmt 0 Block([])", "mark u /Block/Stmt:2", "token $u/Expr/Right Value 3",
          "insert /Block/Stmt:0 Stmt 0 Decl(\"é\",-)", "move $u to /Block/Stmt:0 Stmt 1", "token $u/Expr/Right Value 4",
-         "drop /Block/Stmt:0/Stmt:0", 'set $u/Expr/Left Num(7)', "move $u to /Block Stmt 0", "drop /Block/Stmt:2/Init", "put /Block/Stmt:2 Init Num(1)",
+         "drop /Block/Stmt:0/Stmt:0", 'set $u/Expr/Left Num(7)', "move $u to /Block Stmt 0", "drop /Block/Stmt:2/Init",
+         "put /Block/Stmt:2 Init Num(1)",
          "drop /Block/Stmt:1", "token $u/Expr/Right Value 5", "drop $u", 'insert /Block Stmt 0 Decl("z",Num(9))',
          'token /Block/Stmt:0/Init Value 10', 'token /Block/Stmt:0/Init Value 11', 'set / Program(Block([]))']
 

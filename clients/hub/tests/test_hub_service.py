@@ -14,7 +14,7 @@ import unittest
 from pathlib import Path
 from typing import List
 
-from hub_support import ENVIRONMENT, SECONDS, Hub, Lines, calculator, run_hub, until
+from hub_support import ENVIRONMENT, SECONDS, Hub, Lines, calculator, program, run_hub, until
 
 TERM = '= Program(Block([Decl("x",Num(1)),Print(Add(Use("x"),Num(2)))]))'
 
@@ -172,7 +172,7 @@ class Restarts(unittest.TestCase):
         self.assertFalse(Path(hub.socket).exists())
         self.assertEqual(sorted(it.name for it in hub.state.iterdir()), ["journal-1", "lock", "tree-1.txt"])
         self.assertEqual((hub.state / "tree-1.txt").read_text(), 'Program(Block([Decl("x",Num(1))]))\n')
-        self.assertIn("the service ends at version 1, after 1 lines and 1 edits", hub.told())
+        self.assertIn("the service ends at version 1, after 1 lines, 1 edits", hub.told())
         hub.start()
         self.assertEqual(hub.client().ask("0 version"), "0 ok 1")
 
@@ -270,8 +270,8 @@ class Words(unittest.TestCase):
         self.assertEqual(Path(self.socket).read_text(), "mine")
 
     def test_without_a_journal_it_ends_with_the_program(self) -> None:
-        process = subprocess.Popen([sys.executable, "-m", "attrd_hub", "--program", os.environ.get("ATTRD", "attrd"), "--socket", self.socket,
-                                    *self.files], stderr=subprocess.PIPE, text=True, env=ENVIRONMENT)
+        words = ["--program", program(), "--socket", self.socket, *self.files]
+        process = subprocess.Popen([sys.executable, "-m", "attrd_hub", *words], stderr=subprocess.PIPE, text=True, env=ENVIRONMENT)
         until(lambda: Path(self.socket + ".status").exists(), "the socket")
         child = Path(f"/proc/{process.pid}/task/{process.pid}/children").read_text().split()[0]
         os.kill(int(child), signal.SIGKILL)
