@@ -17,7 +17,7 @@ help:
 	@echo "  make try           the sample session with no proof (2 minutes)"
 	@echo "  make build         the proved program, as ./attrd (60 minutes; one where it was built before)"
 	@echo "  make install       ./attrd and its man page, below PREFIX, /usr/local if none is given (a second, behind make build)"
-	@echo "  make package       ./attrd as a tarball and a Debian package, in dist/ (seconds, behind make build)"
+	@echo "  make package       ./attrd as a tarball and Debian packages, in dist/ (seconds, behind make build)"
 	@echo "to change it:"
 	@echo "  make warm          proves the libraries once, so that the next two take minutes (60 minutes)"
 	@echo "  make check C=at_demand [F=demand::Demand::answer]"
@@ -78,8 +78,8 @@ install: python
 	install -m 644 docs/attrd.1 $(DESTDIR)$(PREFIX)/share/man/man1/attrd.1
 	@python3 -B -m tools.proved tell ./attrd || true
 
-# The program that was built, with its man page, licences, samples and systemd unit, as a tarball and a Debian package. Only a program
-# that is proved, and made of the sources that stand here, is packaged.
+# The program that was built, with its man page, licences, pages, samples and systemd units, as a tarball and Debian packages. Only a
+# program that is proved, and made of the sources that stand here, is packaged.
 package: tools python
 	@test -x attrd || { echo "there is no ./attrd yet: make build first"; exit 1; }
 	@tools/package.sh ./attrd dist

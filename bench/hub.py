@@ -1,113 +1,180 @@
 #!/usr/bin/env python3
-"""Round trips over the hub of clients/page, with 1, 16 and 64 clients at once, and beside it over the program's own socket.
+"""Lines over attrd-hub, with 1, 16 and 64 clients at once, and beside it over the program's own socket.
 
     python3 bench/hub.py [PROGRAM]
 
-Each client sends a line, waits for its reply, and sends the next one. Beside it: the same lines of all clients sent without waiting.
-PROGRAM is ./attrd where none is given. It takes half a minute.
+First each client sends a line, waits for its reply, and sends the next one. Then all clients send all their lines without waiting.
+The clients are one process without asyncio, so that little of the time is theirs; what the hub's process takes for a line is told,
+too. Last come edits, with each way of making them safe. PROGRAM is ./attrd where none is given. It takes half a minute.
 """
-import asyncio
+from __future__ import annotations
+
 import os
+import select
+import socket
 import statistics
 import subprocess
 import sys
 import tempfile
 import time
 from pathlib import Path
-from typing import Dict, List, Sequence, Tuple
+from typing import Dict, List, NamedTuple, Sequence, Tuple
 
 from figures import ROOT, program_in, ratio, row, table
 
-sys.path.insert(0, str(ROOT / "clients" / "page" / "tests"))
-
-# A client of a socket; and of round trips the median and the 99th percentile in microseconds, and lines a second with and without waiting.
-Client = Tuple[asyncio.StreamReader, asyncio.StreamWriter]
-Trips = Tuple[float, float, float, float]
+sys.path.insert(0, str(ROOT / "clients" / "hub" / "tests"))
 
 CLIENTS = (1, 16, 64)
-LINES = 4_000
+WAITING, PIPELINED, EDITS = 20_000, 400_000, 2_000
 LINE = b"0 where u\n"
+CHUNK = 1 << 16
 
 
-async def open_client(path: str) -> Client:
-    """A client of the hub's socket that has marked a node."""
-    reader, writer = await asyncio.open_unix_connection(path)
-    writer.write(b"0 mark u /Kind:2\n")
-    await reader.readline()
-    return reader, writer
+class Trips(NamedTuple):
+    """Of round trips the median and the 99th percentile in microseconds, and how many there are a second; how many lines a second there
+    are without waiting; and beside each of the two the microseconds of the server's process for a line."""
+    median: float
+    late: float
+    each_second: float
+    taken: float
+    lines: float
+    lines_taken: float
 
 
-async def waiting(client: Client, lines: int) -> List[float]:
-    """The seconds of each of these round trips."""
-    reader, writer = client
-    times = []
-    for _ in range(lines):
-        start = time.perf_counter()
-        writer.write(LINE)
-        await reader.readline()
-        times.append(time.perf_counter() - start)
+def connected(path: str) -> socket.socket:
+    """A client that has marked a node."""
+    stream = socket.socket(socket.AF_UNIX, socket.SOCK_STREAM)
+    stream.connect(path)
+    stream.sendall(b"0 mark u /Block\n")
+    stream.recv(CHUNK)
+    return stream
+
+
+def watched(clients: Sequence[socket.socket]) -> Tuple[select.epoll, Dict[int, socket.socket]]:
+    """What waits for the clients' replies, and the clients by their numbers."""
+    waiting = select.epoll()
+    for it in clients:
+        waiting.register(it.fileno(), select.EPOLLIN)
+    return waiting, {it.fileno(): it for it in clients}
+
+
+def waited(clients: Sequence[socket.socket], lines: int) -> List[float]:
+    """The seconds of each of so many round trips, of which each client has one under way."""
+    waiting, by_number = watched(clients)
+    began: Dict[int, float] = {}
+    times: List[float] = []
+    for number, it in by_number.items():
+        began[number] = time.perf_counter()
+        it.send(LINE)
+    while len(times) < lines:
+        for number, _ in waiting.poll():
+            by_number[number].recv(CHUNK)
+            now = time.perf_counter()
+            times.append(now - began[number])
+            if len(times) + len(clients) <= lines:
+                began[number] = now
+                by_number[number].send(LINE)
     return times
 
 
-async def pipelined(client: Client, lines: int) -> None:
-    """Sends all lines at once, and reads all replies."""
-    reader, writer = client
-    writer.write(LINE * lines)
-    for _ in range(lines):
-        await reader.readline()
+def pipelined(clients: Sequence[socket.socket], lines: int) -> None:
+    """Sends so many lines of each client as fast as they are taken, and reads all replies."""
+    waiting, by_number = watched(clients)
+    unsent = {number: memoryview(LINE * lines) for number in by_number}
+    missing = dict.fromkeys(by_number, lines)
+    for number, it in by_number.items():
+        it.setblocking(False)
+        waiting.modify(number, select.EPOLLIN | select.EPOLLOUT)
+    while missing:
+        for number, events in waiting.poll():
+            if events & select.EPOLLOUT:
+                unsent[number] = unsent[number][by_number[number].send(unsent[number][:CHUNK]):]
+                if not unsent[number]:
+                    waiting.modify(number, select.EPOLLIN)
+            if events & select.EPOLLIN:
+                missing[number] -= by_number[number].recv(CHUNK).count(b"\n")
+                if not missing[number]:
+                    del missing[number]
+                    waiting.unregister(number)
 
 
-async def round_trips(path: str, clients: int) -> Trips:
-    """With so many clients: the median and the 99th percentile of a round trip in microseconds, and how many lines a second there are
-    with waiting, and without."""
-    opened = [await open_client(path) for _ in range(clients)]
-    each = LINES // clients
-    start = time.perf_counter()
-    found = await asyncio.gather(*(waiting(it, each) for it in opened))
-    waited = time.perf_counter() - start
-    times = sorted(it * 1e6 for client in found for it in client)
-    start = time.perf_counter()
-    await asyncio.gather(*(pipelined(it, each) for it in opened))
-    seconds = time.perf_counter() - start
-    for _, writer in opened:
-        writer.close()
-    return statistics.median(times), times[len(times) * 99 // 100], each * clients / waited, each * clients / seconds
+def processor_seconds(process: int) -> float:
+    """How long a process has run so far."""
+    return int(Path(f"/proc/{process}/schedstat").read_text().split()[0]) / 1e9
+
+
+def measured(path: str, clients: int, process: int) -> Trips:
+    """The figures of so many clients of this socket, which the process serves."""
+    opened = [connected(path) for _ in range(clients)]
+    before, start = processor_seconds(process), time.perf_counter()
+    times = sorted(it * 1e6 for it in waited(opened, WAITING))
+    seconds, taken = time.perf_counter() - start, processor_seconds(process) - before
+    before, start = processor_seconds(process), time.perf_counter()
+    pipelined(opened, PIPELINED // clients)
+    piped, piped_taken = time.perf_counter() - start, processor_seconds(process) - before
+    for it in opened:
+        it.close()
+    return Trips(statistics.median(times), times[len(times) * 99 // 100], WAITING / seconds, taken / WAITING * 1e6,
+                 PIPELINED / piped, piped_taken / PIPELINED * 1e6)
 
 
 def own_socket(program: str) -> Trips:
-    """The round trips of one client at the program's own socket."""
-    from page_support import until, write_files
+    """The figures of one client at the program's own socket."""
+    from hub_support import calculator, until
     with tempfile.TemporaryDirectory(prefix="attrd-hub-") as folder:
         path = str(Path(folder) / "attrd.sock")
-        process = subprocess.Popen([program, "--socket", path, *write_files(Path(folder))], stdin=subprocess.DEVNULL)
+        process = subprocess.Popen([program, "--socket", path, *calculator(Path(folder))], stdin=subprocess.DEVNULL)
         try:
             until(lambda: os.path.exists(path), "the program's socket")
-            return asyncio.run(round_trips(path, 1))
+            return measured(path, 1, process.pid)
         finally:
             process.kill()
             process.wait()
 
 
-def over_hub(program: str) -> Dict[int, Trips]:
-    """The round trips with each number of clients over a hub."""
-    from page_support import Served
-    os.environ["ATTRD"] = program
-    served = Served()
+def edits(sync: str) -> List[float]:
+    """The microseconds of an edit, with this way of making edits safe: one client that waits, and 64 at once."""
+    from hub_support import Hub
+    hub = Hub("--sync", sync)
+    line = b"0 token /Block/Stmt:0 ID \"y\"\n"
     try:
-        return {clients: asyncio.run(round_trips(served.socket, clients)) for clients in CLIENTS}
+        found = []
+        for clients in (1, 64):
+            opened = [connected(hub.socket) for _ in range(clients)]
+            start = time.perf_counter()
+            for _ in range(EDITS // clients):
+                for it in opened:
+                    it.send(line)
+                for it in opened:
+                    it.recv(CHUNK)
+            found.append((time.perf_counter() - start) / (EDITS // clients * clients) * 1e6)
+            for it in opened:
+                it.close()
+        return found
     finally:
-        served.close()
+        hub.close()
 
 
 def main(words: Sequence[str]) -> None:
     program = program_in(words, __doc__)
+    os.environ["ATTRD"] = program
+    from hub_support import Hub
     own = own_socket(program)
     found = {"1, at the program's own socket": own}
-    found.update({f"{clients} over the hub": it for clients, it in over_hub(program).items()})
-    table("Clients", "A round trip, median", "99 of 100", "Round trips a second, of all clients", "Against the own socket",
-          "Lines a second, without waiting", "Against the own socket")
-    for what, (median, late, waited, lines) in found.items():
-        row(what, f"{median:.0f} us", f"{late:.0f} us", f"{waited:,.0f}", ratio(waited, own[2]), f"{lines:,.0f}", ratio(lines, own[3]))
+    hub = Hub()
+    try:
+        found.update({f"{it} over the hub": measured(hub.socket, it, hub.process.pid) for it in CLIENTS})
+    finally:
+        hub.close()
+    table("Clients", "A round trip, median", "Against the own socket", "99 of 100", "Round trips a second", "The server's time for one",
+          "Lines a second, without waiting", "The server's time for one")
+    for what, it in found.items():
+        row(what, f"{it.median:.0f} us", ratio(it.median, own.median), f"{it.late:.0f} us", f"{it.each_second:,.0f}", f"{it.taken:.1f} us",
+            f"{it.lines:,.0f}", f"{it.lines_taken:.2f} us")
+    table("Edits are made safe", "An edit of one client that waits", "An edit of 64 clients")
+    for sync in ("each", "second", "never"):
+        one, many = edits(sync)
+        row(sync, f"{one:,.0f} us", f"{many:,.0f} us")
 
 
 if __name__ == "__main__":

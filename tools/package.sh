@@ -1,6 +1,6 @@
 #!/usr/bin/env bash
-# Makes a tarball and a Debian package of a program: with its man page, the licences of what is built into it, the samples and
-# a systemd unit. The program needs the C library alone.
+# Makes a tarball and two Debian packages of a program: `attrd` with its man page, the licences of what is built into it, the pages,
+# the samples and a systemd unit, which needs the C library alone; and `attrd-hub`, the service in front of it, which needs Python.
 #
 #     tools/package.sh PROGRAM FOLDER
 #
@@ -42,34 +42,71 @@ depends() {
   echo "libc6 (>= $glibc)$others"
 }
 
-# Prints the Debian package's control file.
+# Prints the control file of the package $1, for the architecture $2, that needs $3; standard input describes it.
 control() {
   cat << END
-Package: attrd
+Package: $1
 Version: $version
-Architecture: $(dpkg --print-architecture)
+Architecture: $2
 Maintainer: attrd <attrd@localhost>
-Installed-Size: $(du -ks "$root" | cut -f 1)
-Depends: $1
+Installed-Size: $(du -ks "$root/$1" | cut -f 1)
+Depends: $3
 Section: devel
 Priority: optional
-Description: attribute tree server in the JastAdd profile
- It holds a syntax tree, answers questions about it by attributes and their
- equations while clients edit it, and keeps the values that an edit leaves
- right. Each function of it is proved.
 END
+  cat
 }
 
-# Puts what is installed below the folder.
-lay_out() {
-  install -D -m 755 "$program" "$root/usr/bin/attrd"
-  install -d "$root/usr/share/man/man1" "$root/usr/share/doc/attrd/examples"
-  gzip -9 -n -c docs/attrd.1 > "$root/usr/share/man/man1/attrd.1.gz"
-  install -D -m 644 "tools/package/attrd@.service" "$root/usr/lib/systemd/system/attrd@.service"
-  install -m 644 docs/MANUAL.md docs/TUTORIAL.md docs/PROVED.md CHANGELOG.md "$root/usr/share/doc/attrd/"
-  cp -r samples/. "$root/usr/share/doc/attrd/examples/"
-  licences > "$root/usr/share/doc/attrd/copyright"
-  chmod -R u=rwX,go=rX "$root"
+# Puts the package attrd below its folder: the pages lie as in the repository, so that their links lead on.
+lay_out_program() {
+  local base=$root/attrd doc=$root/attrd/usr/share/doc/attrd readme
+  install -D -m 755 "$program" "$base/usr/bin/attrd"
+  install -d "$base/usr/share/man/man1" "$doc/docs"
+  gzip -9 -n -c docs/attrd.1 > "$base/usr/share/man/man1/attrd.1.gz"
+  install -D -m 644 "tools/package/attrd@.service" "$base/usr/lib/systemd/system/attrd@.service"
+  install -m 644 README.md CHANGELOG.md "$doc/"
+  install -m 644 docs/*.md docs/*.png "$doc/docs/"
+  for readme in clients/*/README.md; do
+    install -D -m 644 "$readme" "$doc/$readme"
+  done
+  cp -r samples "$doc/samples"
+  ln -s samples "$doc/examples"
+  licences > "$doc/copyright"
+}
+
+# Puts the package attrd-hub below its folder.
+lay_out_hub() {
+  local base=$root/attrd-hub folder file
+  install -D -m 755 tools/package/attrd-hub "$base/usr/bin/attrd-hub"
+  install -D -m 644 "tools/package/attrd-hub@.service" "$base/usr/lib/systemd/system/attrd-hub@.service"
+  for folder in python/attrd hub/attrd_hub; do
+    for file in clients/"$folder"/*.py; do
+      install -D -m 644 "$file" "$base/usr/lib/attrd-hub/$(basename "$folder")/$(basename "$file")"
+    done
+  done
+  install -d "$base/usr/share/doc/attrd-hub"
+  echo "attrd-hub $version is a part of attrd: see /usr/share/doc/attrd/copyright." > "$base/usr/share/doc/attrd-hub/copyright"
+}
+
+# Ends with a failure where a link of an installed page leads nowhere.
+follow_links() {
+  local page link missing=0
+  while IFS= read -r page; do
+    for link in $(grep -o '](\([^)# ]*\)' "$page" | sed 's/^](//' | grep -v '^[a-z]*:' | sort -u || true); do
+      [ -e "$(dirname "$page")/$link" ] || { echo "${page#"$root"}: it links to $link, which isn't in the package" >&2; missing=1; }
+    done
+  done < <(find "$root" -name '*.md')
+  return $missing
+}
+
+# Makes the Debian package $1 out of its folder.
+debian() {
+  local package=$folder/$1_${version}_$2.deb script
+  for script in postinst prerm postrm; do
+    [ ! -e "tools/package/$1.$script" ] || install -D -m 755 "tools/package/$1.$script" "$root/$1/DEBIAN/$script"
+  done
+  dpkg-deb --root-owner-group --build "$root/$1" "$package" > /dev/null
+  echo "$package"
 }
 
 if [ $# -ne 2 ] || [ ! -x "$1" ]; then
@@ -83,18 +120,32 @@ version=$(cat VERSION)
 root=$(mktemp -d)
 trap 'rm -rf "$root"' EXIT
 
-lay_out
+lay_out_program
+lay_out_hub
+chmod -R u=rwX,go=rX "$root"
+follow_links
 mkdir -p "$folder"
 name=attrd-$version-$(uname -m)
-tar -C "$root" --owner=0 --group=0 --transform "s,^\./,$name/," -czf "$folder/$name.tar.gz" ./usr
+tar -C "$root/attrd" --owner=0 --group=0 --transform "s,^\./,$name/," -czf "$folder/$name.tar.gz" ./usr
 echo "$folder/$name.tar.gz"
 if ! command -v dpkg-deb > /dev/null; then
-  echo "no dpkg-deb here: the Debian package isn't made" >&2
+  echo "no dpkg-deb here: the Debian packages aren't made" >&2
   exit 0
 fi
 needed=$(depends)
-mkdir "$root/DEBIAN"
-control "$needed" > "$root/DEBIAN/control"
-package=$folder/attrd_${version}_$(dpkg --print-architecture).deb
-dpkg-deb --root-owner-group --build "$root" "$package" > /dev/null
-echo "$package"
+machine=$(dpkg --print-architecture)
+mkdir "$root/attrd/DEBIAN" "$root/attrd-hub/DEBIAN"
+control attrd "$machine" "$needed" > "$root/attrd/DEBIAN/control" << 'END'
+Description: attribute tree server in the JastAdd profile
+ It holds a syntax tree, answers questions about it by attributes and their
+ equations while clients edit it, and keeps the values that an edit leaves
+ right. Each function of it is proved.
+END
+control attrd-hub all "attrd (= $version), python3 (>= 3.9)" > "$root/attrd-hub/DEBIAN/control" << 'END'
+Description: service in front of attrd, for many clients at once
+ It starts attrd, serves any number of clients over a socket, and keeps the
+ edits that were accepted in a journal, from which it begins again after a
+ crash.
+END
+debian attrd "$machine"
+debian attrd-hub all

@@ -7,7 +7,7 @@ import tempfile
 import unittest
 from pathlib import Path
 
-from lsp_support import CLONE, SAMPLE, SECONDS, Client, Editing, program
+from lsp_support import CLONE, SAMPLE, SECONDS, program
 from neovim import Neovim
 from test_lsp_neovim import DIAGNOSTICS, READY, WATCH
 

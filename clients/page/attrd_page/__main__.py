@@ -4,10 +4,11 @@ import sys
 
 
 def run() -> int:
-    """Serves it, where the library that it is made on is there; the exit status."""
-    if importlib.util.find_spec("attrd") is None:
-        print("attrd_page: the package attrd is missing: put clients/python on PYTHONPATH, or install it from there", file=sys.stderr)
-        return 2
+    """Serves it, where the libraries that it is made on are there; the exit status."""
+    for name, folder in (("attrd", "python"), ("attrd_hub", "hub")):
+        if importlib.util.find_spec(name) is None:
+            print(f"attrd_page: the package {name} is missing: put clients/{folder} on PYTHONPATH, or install it from there", file=sys.stderr)
+            return 2
     from .main import main
 
     return main()

@@ -1,0 +1,276 @@
+"""One connection: its bytes become lines for the hub, and replies become its bytes."""
+from __future__ import annotations
+
+import hmac
+import socket
+import time
+from functools import partial
+from typing import TYPE_CHECKING, List, Optional
+
+from .hub import SHARED, NoSession
+from .lines import (EDITS, LINE_BYTES, REFUSED_LIMIT, REFUSED_SYNTAX, TOLD, Places, first_lines, plain_session, split_line,
+                    without_condition)
+from .loop import GONE, READ, WRITE
+from .member import Member
+
+if TYPE_CHECKING:
+    from .service import Service
+
+CHUNK = 1 << 16
+# So many lines of a client may have no reply; fewer where a reply can be as long as the tree.
+MANY, FEW = 1_024, 4
+# So many bytes a client may leave unread before its next lines wait.
+UNREAD = 1 << 20
+# So many lines of a client wait here before no more are read.
+WAITING = 1 << 16
+# Who has no more bytes of lines than that comes before those who have.
+SHORT = 256
+# So many sessions a client may have to itself: for marks and for questions in turns.
+OWN_SESSIONS = 100
+
+
+class Client:
+    """A connection. `service` is told when it has something to send, and when it has lines that wait."""
+
+    def __init__(self, service: "Service", stream: socket.socket, token: Optional[bytes] = None) -> None:
+        """`token` is what the first line has to be, where one is asked for."""
+        stream.setblocking(False)
+        self.service, self.stream, self._token = service, stream, token
+        self.member = Member(service.hub, self.end, self._tell_done)
+        self.unread: bytearray = bytearray()
+        self.is_dirty = self.is_ready = self.is_ended = False
+        self._lines = self._rest = b""
+        self._is_last = self._is_gone = False
+        self._heard = time.monotonic()
+        self._events = READ
+        service.loop.watch(stream.fileno(), READ, self._on_event)
+
+    def _on_event(self, events: int) -> None:
+        if events & WRITE:
+            self.flush()
+        if events & GONE:
+            self._lose()
+        elif events & READ:
+            self._read()
+        if self._is_last or len(self._lines) >= WAITING:
+            self._watch()
+
+    def _read(self) -> None:
+        if self.is_ended or self._is_last:
+            return
+        try:
+            data = self.stream.recv(CHUNK)
+        except BlockingIOError:
+            return
+        except OSError:
+            self.end()
+            return
+        if data:
+            self._heard = time.monotonic()
+            self._take(data)
+        else:
+            self._is_last = True
+            self._take(b"\n" if self._rest else b"")
+
+    def _lose(self) -> None:
+        """The other side is gone: of what it has sent, `supply` reads the rest, and hands on what changes something."""
+        if not self.is_ended:
+            self.service.loop.forget(self.stream.fileno())
+            self._lose_reader()
+            self._make_ready()
+
+    def _take(self, data: bytes) -> None:
+        whole, newline, rest = (self._rest + data).rpartition(b"\n")
+        # What is over the limit stays over it when its end is cut off.
+        self._rest = rest[:LINE_BYTES + 16]
+        if self._token is not None and newline:
+            whole = self._admit(whole)
+        if whole:
+            self._lines += whole + b"\n"
+        self._make_ready()
+
+    def _admit(self, lines: bytes) -> bytes:
+        """Looks at the token in the first line; the lines behind it. Who has another one is let go of."""
+        first, _, others = lines.partition(b"\n")
+        if not hmac.compare_digest(first.rstrip(b"\r"), self._token or b""):
+            self.service.let_go(self, "no token")
+            return b""
+        self._token = None
+        return others
+
+    def _make_ready(self) -> None:
+        if not self.is_ready:
+            self.is_ready = True
+            if len(self._lines) <= SHORT and not self._is_gone:
+                self.service.ready.appendleft(self)
+            else:
+                self.service.ready.append(self)
+
+    def supply(self, share: int) -> bool:
+        """Hands on at most so many lines. Whether more of them could go at once."""
+        if self.is_ended:
+            return False
+        if self._is_gone and not self._lines:
+            self._read()
+        if not self._lines:
+            self._end_if_done()
+            return False
+        lines = self._next_lines(share)
+        if lines:
+            self._lines = self._lines[len(lines):]
+            self._hand_on(lines)
+            if not self._events & READ:
+                self._watch()
+        return bool(lines and (self._lines or self._is_gone))
+
+    def _next_lines(self, share: int) -> bytes:
+        """The lines that may go now, at most as many as the share says: more of a client that is gone, since few of these are handed on."""
+        if self._is_gone:
+            return first_lines(self._lines, MANY - self.member.unanswered)
+        if len(self.unread) >= UNREAD:
+            return b""
+        lines = first_lines(self._lines, min(share, MANY - self.member.unanswered))
+        return first_lines(lines, FEW - self.member.unanswered) if b" show " in lines else lines
+
+    def _hand_on(self, lines: bytes) -> None:
+        count = lines.count(b"\n")
+        self.service.counts.lines += count
+        own = plain_session(lines, count)
+        if own is not None:
+            if not self._is_gone:
+                self._hand_on_block(own, lines, count)
+            return
+        for line in lines[:-1].split(b"\n"):
+            if line:
+                self._hand_on_line(line)
+
+    def _hand_on_block(self, own: bytes, lines: bytes, count: int) -> None:
+        session = b"%d" % self.member.sessions.get(int(own), SHARED)
+        if session != own:
+            lines = (b"\n" + lines).replace(b"\n%b " % own, b"\n%b " % session)[1:]
+        self.member.send_block(lines, count, partial(self._tell_block, own, session))
+
+    def _tell_block(self, own: bytes, session: bytes, replies: List[bytes]) -> None:
+        told = b"\n".join(replies) + b"\n"
+        if session != own:
+            told = (b"\n" + told).replace(b"\n%b " % session, b"\n%b " % own)[1:]
+        self._write(told)
+
+    def _hand_on_line(self, line: bytes) -> None:
+        found = split_line(line)
+        if found is None:
+            self._refuse(b"?", REFUSED_SYNTAX)
+            return
+        own, command = found
+        bare = without_condition(command)
+        word = bare.partition(b" ")[0]
+        if self._is_gone and word not in TOLD:
+            return
+        try:
+            session = self._session(int(own), word)
+        except NoSession:
+            self._refuse(own, REFUSED_LIMIT)
+            return
+        if word in EDITS:
+            self._edit(own, session, command, Places(bare))
+        else:
+            self.member.send_as(session, command, partial(self._tell, own))
+
+    def _session(self, own: int, word: bytes) -> int:
+        """The server's session for a line. Raises NoSession where the client or the server has none left."""
+        if word in (b"mark", b"post") and own not in self.member.sessions:
+            if len(self.member.sessions) >= OWN_SESSIONS:
+                raise NoSession("the client has as many sessions as it may have")
+            return self.member.session(own)
+        return self.member.sessions.get(own, SHARED)
+
+    def _edit(self, own: bytes, session: int, command: bytes, places: Places) -> None:
+        """Sends an edit, and in front of it a question for the path of each mark in it: the journal has paths from the root."""
+        for mark in places.marks:
+            self.service.hub.send(None, session, b"where " + mark, partial(_take_path, places, mark))
+        self.member.send_as(session, command, partial(self._tell_edit, own, places))
+
+    def _tell_edit(self, own: bytes, places: Places, form: bytes) -> None:
+        if form.startswith(b"ok "):
+            self.service.accepted(places)
+        self._tell(own, form)
+
+    def _refuse(self, own: bytes, form: bytes) -> None:
+        """Refuses a line in its order, without handing it on."""
+        if self._is_gone:
+            return
+        self.member.send_as(SHARED, b"version", lambda _: self._tell(own, form))
+
+    def _tell(self, own: bytes, form: bytes) -> None:
+        self._write(b"%b %b\n" % (own, form))
+
+    def _tell_done(self, session: int, form: bytes) -> None:
+        self._write(b"%d %b\n" % (session, form))
+
+    def _write(self, data: bytes) -> None:
+        if self.is_ended:
+            return
+        if not self._is_gone:
+            self.unread += data
+        if not self.is_dirty:
+            self.is_dirty = True
+            self.service.dirty.append(self)
+
+    def flush(self) -> None:
+        """Sends what the other side takes; lines that waited for that go on."""
+        self.is_dirty = False
+        if self.is_ended:
+            return
+        try:
+            while self.unread:
+                del self.unread[:self.stream.send(self.unread)]
+        except BlockingIOError:
+            pass
+        except OSError:
+            self._lose_reader()
+        if self._lines or self._is_last or self._is_gone:
+            self._make_ready()
+        if self.unread or self._events & WRITE:
+            self._watch()
+
+    def _lose_reader(self) -> None:
+        """Nobody reads the replies any more."""
+        self.unread.clear()
+        self._is_gone = True
+
+    def _watch(self) -> None:
+        """Waits for what is of use now: for more lines only where few of them wait."""
+        if self.is_ended or not self.service.loop.is_watched(self.stream.fileno()):
+            return
+        wants = 0 if self._is_last or len(self._lines) >= WAITING else READ
+        events = wants | (WRITE if self.unread else 0)
+        if events != self._events:
+            if wants and not self._events & READ:
+                self._heard = time.monotonic()
+            self._events = events
+            self.service.loop.change(self.stream.fileno(), events)
+
+    def is_silent(self, since: float) -> bool:
+        """Whether nothing came since then in the middle of a line, or of the token, though it was waited for."""
+        is_within = bool(self._rest) or self._token is not None
+        return is_within and bool(self._events & READ) and self._heard < since
+
+    def _end_if_done(self) -> None:
+        if self._is_last and not self.unread and self.member.unanswered == 0:
+            self.end()
+
+    def end(self) -> None:
+        """Ends the connection. Its marks are taken back."""
+        if self.is_ended:
+            return
+        self.is_ended = True
+        self.service.loop.forget(self.stream.fileno())
+        self.stream.close()
+        self.unread.clear()
+        self.service.left(self)
+        self.member.leave()
+
+
+def _take_path(places: Places, mark: bytes, form: bytes) -> None:
+    if form.startswith(b"= "):
+        places.found(mark, form[2:])

@@ -1,0 +1,228 @@
+"""The hub: many clients over the one stream to a server, each with sessions of its own.
+
+It neither reads nor writes: the bytes of the server come by `feed`, and those for it are taken by `lines`.
+"""
+from __future__ import annotations
+
+import heapq
+import re
+from collections import Counter, deque
+from typing import Any, Callable, Deque, Dict, List, Optional, Set, Tuple, Union
+
+from attrd import AttrdError, ProtocolFault, ServerLost
+
+from .lines import TOLD, condition_moved, without_condition
+from .member import Member
+
+SESSIONS = 1_000
+# The session of all that needs none of its own: it never has a mark.
+SHARED = 0
+_STALE = b"refused 2 stale "
+_REFUSED_QUESTION = b"refused 15 "
+_WAIT = re.compile(rb"(?:at [0-9]+ )?wait ")
+
+# What a client is told of a line: the reply, without its session.
+Sink = Callable[[bytes], None]
+# What a client is told of a block of lines: whole replies, with the server's session.
+BlockSink = Callable[[List[bytes]], None]
+# What a watcher is told of an edit, a mark or an `unmark` that was accepted: the client (None for the hub itself; of whichever class
+# the hub's clients are), the session by the server's number, the command without its condition, the version then.
+Watcher = Callable[[Any, int, bytes, int], None]
+
+
+class NoSession(AttrdError):
+    """The clients have all of the server's sessions, 0 to 999."""
+
+
+class _Sent:
+    """A line that has no reply yet."""
+
+    __slots__ = ("member", "session", "command", "sink")
+
+    def __init__(self, member: Optional[Member], session: int, command: bytes, sink: Sink) -> None:
+        self.member, self.session, self.command, self.sink = member, session, command, sink
+
+
+class _Block:
+    """Lines of a client that ask and change nothing, of which `left` have no reply yet."""
+
+    __slots__ = ("member", "sink", "left")
+
+    def __init__(self, member: Member, sink: BlockSink, left: int) -> None:
+        self.member, self.sink, self.left = member, sink, left
+
+
+def pass_over(_: bytes) -> None:
+    """Takes the reply of a line of the hub's own."""
+
+
+class Hub:
+    """The lines under way to a server. `version` is that of the tree after the replies so far; `lost` tells why no more come.
+
+    `base` is added to each version of the server, as clients see it: so a server that begins anew at 0 goes on where the last one
+    ended. `in_flight` counts the lines without a reply, `answered` those that have one. `on_members` is called when a client comes
+    or leaves, `on_lines` when there are lines for the server where there were none.
+    """
+
+    def __init__(self, base: int = 0) -> None:
+        self.base = self.version = base
+        self.lost: Optional[AttrdError] = None
+        self.in_flight = self.answered = 0
+        self.members: Set[Member] = set()
+        self.watchers: List[Watcher] = []
+        self.on_members: Callable[[], None] = lambda: None
+        self.on_lines: Callable[[], None] = lambda: None
+        self._free = [it for it in range(SESSIONS) if it != SHARED]
+        self._sent: Deque[Union[_Sent, _Block]] = deque()
+        self._questions: Dict[bytes, Tuple[Member, int]] = {}
+        self._open: Counter[int] = Counter()
+        self._lingering: Set[int] = set()
+        self._waited: Optional[_Sent] = None
+        self._out: List[bytes] = []
+        self._rest = b""
+
+    def add(self, member: Member) -> None:
+        """One client more."""
+        self.members.add(member)
+        self.on_members()
+
+    def take_session(self) -> int:
+        """A session that no client has. Raises NoSession."""
+        if not self._free:
+            raise NoSession("all of the server's 1,000 sessions are taken")
+        return heapq.heappop(self._free)
+
+    def give_back(self, session: int) -> None:
+        """Lets another client have the session, whose marks are taken back, as soon as none of its questions is open."""
+        if self._open[session]:
+            self._lingering.add(session)
+        else:
+            heapq.heappush(self._free, session)
+
+    def send(self, member: Optional[Member], session: int, command: bytes, sink: Sink) -> None:
+        """Sends a line; `sink` gets its reply. Raises ServerLost."""
+        if self.lost is not None:
+            raise self.lost
+        self._write(b"%d %b\n" % (session, condition_moved(command, self.base) if self.base else command), 1)
+        self._sent.append(_Sent(member, session, command, sink))
+        if _WAIT.match(command):
+            # Of the answer of a question and the refusal of a late `wait`, which one this line had shows the line behind it.
+            self._write(b"%d version\n" % session, 1)
+            self._sent.append(_Sent(None, session, b"version", pass_over))
+
+    def send_block(self, member: Member, lines: bytes, count: int, sink: BlockSink) -> None:
+        """Sends so many lines as they are, each of which asks and changes nothing; `sink` gets their replies, a part at a time."""
+        if self.lost is not None:
+            raise self.lost
+        self._write(lines, count)
+        self._sent.append(_Block(member, sink, count))
+
+    def _write(self, lines: bytes, count: int) -> None:
+        self.in_flight += count
+        if not self._out:
+            self.on_lines()
+        self._out.append(lines)
+
+    def lines(self) -> bytes:
+        """The lines for the server since the last time."""
+        lines, self._out = b"".join(self._out), []
+        return lines
+
+    def feed(self, data: bytes) -> None:
+        """Bytes of the server. Raises ProtocolFault where there is a reply and no line for it."""
+        lines = (self._rest + data if self._rest else data).split(b"\n")
+        self._rest = lines.pop()
+        at, end = 0, len(lines)
+        while at < end:
+            first = self._sent[0] if self._sent else None
+            if isinstance(first, _Block) and not self._questions:
+                taken = lines[at:at + first.left]
+                at += len(taken)
+                self._settle_block(first, taken)
+            else:
+                self._answer(lines[at])
+                at += 1
+
+    def _settle_block(self, block: _Block, lines: List[bytes]) -> None:
+        block.left -= len(lines)
+        if not block.left:
+            self._sent.popleft()
+        self._count(len(lines))
+        block.sink(lines)
+        block.member.answer(len(lines))
+
+    def _count(self, lines: int) -> None:
+        self.in_flight -= lines
+        self.answered += lines
+
+    def _answer(self, line: bytes) -> None:
+        """One reply, for the first line without one; or the answer of a posted question."""
+        _, _, form = line.partition(b" ")
+        if form.startswith(b"done "):
+            self._done(form)
+            return
+        waited, self._waited = self._waited, None
+        if waited is not None and form.startswith(_REFUSED_QUESTION):
+            waited.sink(form)
+            return
+        if not self._sent:
+            raise ProtocolFault(f"{line[:100]!r} answers no line")
+        first = self._sent[0]
+        if isinstance(first, _Block):
+            self._settle_block(first, [line])
+        else:
+            self._sent.popleft()
+            self._count(1)
+            self._settle(first, form)
+
+    def _settle(self, sent: _Sent, form: bytes) -> None:
+        if form.startswith(b"ok "):
+            self.version = self.base + int(form[3:])
+            form = b"ok %d" % self.version
+            self._accepted(sent)
+        elif form.startswith(_STALE):
+            form = _STALE + b"%d" % (self.base + int(form[len(_STALE):]))
+        elif form.startswith(b"open ") and sent.member is not None:
+            self._questions[form[5:]] = (sent.member, sent.session)
+            self._open[sent.session] += 1
+        sent.sink(form)
+        if sent.member is not None:
+            sent.member.answer(1)
+
+    def _accepted(self, sent: _Sent) -> None:
+        command = without_condition(sent.command)
+        if command.partition(b" ")[0] not in TOLD:
+            return
+        if sent.member is not None:
+            sent.member.accepted(sent.session, command)
+        for watcher in self.watchers:
+            watcher(sent.member, sent.session, command, self.version)
+
+    def _done(self, form: bytes) -> None:
+        _, number, version, rest = form.split(b" ", 3)
+        first = self._sent[0] if self._sent else None
+        if isinstance(first, _Sent) and without_condition(first.command) == b"wait " + number:
+            self._sent.popleft()
+            self._count(1)
+            self._waited = first
+            if first.member is not None:
+                first.member.answer(1)
+        member, session = self._questions.pop(number, (None, SHARED))
+        if member is None:
+            return
+        self._open[session] -= 1
+        if session in self._lingering and not self._open[session]:
+            self._lingering.discard(session)
+            self.give_back(session)
+        member.done(session, b"done %b %d %b" % (number, self.base + int(version), rest))
+
+    def lose(self, reason: str = "the server has ended") -> None:
+        """No more replies come: all clients are told."""
+        if self.lost is None:
+            self.lost = ServerLost(reason, self.in_flight)
+        for sent in self._sent:
+            if sent.member is not None:
+                sent.member.answer(sent.left if isinstance(sent, _Block) else 1)
+        self._sent.clear()
+        for member in list(self.members):
+            member.lose()

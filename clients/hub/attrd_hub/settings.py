@@ -1,0 +1,23 @@
+"""What a service is made from."""
+from __future__ import annotations
+
+from dataclasses import dataclass
+from typing import Optional, Sequence
+
+
+@dataclass
+class Settings:
+    """The words of the command line. `state` is the journal's folder, where there is one; `half` a time in seconds."""
+
+    program: str
+    files: Sequence[str]
+    options: Sequence[str]
+    socket: str
+    mode: int = 0o660
+    group: Optional[str] = None
+    port: Optional[int] = None
+    token: Optional[bytes] = None
+    state: Optional[str] = None
+    sync: str = "each"
+    clients: int = 1_000
+    half: float = 30.0

@@ -1,0 +1,37 @@
+"""What the service tells its surroundings: lines for the system's journal, and datagrams for systemd."""
+from __future__ import annotations
+
+import os
+import socket
+import sys
+from enum import IntEnum
+
+
+class Level(IntEnum):
+    """How much a line matters, as syslog counts it."""
+
+    ERROR = 3
+    WARNING = 4
+    INFO = 6
+
+
+def log(level: Level, text: str) -> None:
+    """Writes lines on standard error; where that is the system's journal, each with its level."""
+    head = f"<{level.value}>" if "JOURNAL_STREAM" in os.environ else ""
+    try:
+        print("\n".join(head + it for it in text.splitlines()), file=sys.stderr, flush=True)
+    except OSError:
+        pass
+
+
+def notify(state: str) -> None:
+    """Tells systemd a state, as `READY=1`, where it has started the service and waits for that."""
+    path = os.environ.get("NOTIFY_SOCKET", "")
+    if not path:
+        return
+    try:
+        with socket.socket(socket.AF_UNIX, socket.SOCK_DGRAM) as stream:
+            stream.connect("\0" + path[1:] if path.startswith("@") else path)
+            stream.send(state.encode("utf-8"))
+    except OSError as fault:
+        log(Level.WARNING, f"systemd isn't told {state}: {fault.strerror}")

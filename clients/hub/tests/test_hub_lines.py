@@ -1,0 +1,87 @@
+"""What the hub reads of lines."""
+from __future__ import annotations
+
+import unittest
+
+import hub_support  # noqa: F401
+from attrd_hub.hub import Hub, NoSession, pass_over
+from attrd_hub.lines import Places, condition_moved, first_lines, plain_session, split_line
+from attrd_hub.member import Member
+from attrd_hub.program import edit_lines
+
+
+class Lines(unittest.TestCase):
+    def test_the_session(self) -> None:
+        for line, found in ((b"0 version", (b"0", b"version")), (b"999 x", (b"999", b"x")), (b"5", (b"5", b"")), (b"5 ", (b"5", b"")),
+                            (b"1000 x", None), (b"05 x", None), (b"x", None), (b" 5 x", None), (b"5\tx", None)):
+            self.assertEqual(split_line(line), found, line)
+
+    def test_lines_that_change_nothing(self) -> None:
+        for lines, session in ((b"0 where u\n", b"0"), (b"17 show /\n17 ask / a()\n17 where u\n", b"17"), (b"0 where u\n1 where u\n", None),
+                               (b"0 drop /\n", None), (b"0 where u\n0 drop /\n", None), (b"0 at 1 show /\n", None), (b"\n", None),
+                               (b"00 show /\n00 show /\n", None), (b"0 show /\n\n", None), (b"1000 show /\n1000 show /\n", None)):
+            self.assertEqual(plain_session(lines, lines.count(b"\n")), session, lines)
+
+    def test_first_lines(self) -> None:
+        self.assertEqual([first_lines(b"a\n\nb\n", it) for it in range(5)], [b"", b"a\n", b"a\n\n", b"a\n\nb\n", b"a\n\nb\n"])
+
+    def test_conditions(self) -> None:
+        self.assertEqual(condition_moved(b"at 7 drop /A", 5), b"at 2 drop /A")
+        self.assertEqual(condition_moved(b"at 4 drop /A", 5), b"at 18446744073709551615 drop /A")
+        self.assertEqual(condition_moved(b"show /", 5), b"show /")
+        self.assertEqual(condition_moved(b"at 07 show /", 5), b"at 07 show /")
+
+    def test_places_get_paths(self) -> None:
+        edit = Places(b'set $u/Left Use("$u")')
+        self.assertEqual(edit.marks, [b"u"])
+        self.assertIsNone(edit.command())
+        edit.found(b"u", b"/A/B:1")
+        self.assertEqual(edit.command(), b'set /A/B:1/Left Use("$u")')
+        move = Places(b"move $a to $b/X Part 3")
+        self.assertEqual(move.marks, [b"a", b"b"])
+        move.found(b"a", b"/L:0")
+        move.found(b"b", b"/")
+        self.assertEqual(move.command(), b"move /L:0 to /X Part 3")
+        self.assertEqual(Places(b'token /A ID "$x y"').command(), b'token /A ID "$x y"')
+
+    def test_a_path_that_is_too_long_is_marked_in_steps(self) -> None:
+        path = b"/" + b"/".join([b"A" * 40_000] * 4)
+        *marks, edit, first, second, third, last = edit_lines(b"drop " + path)
+        self.assertEqual(edit, b"0 drop $a\n")
+        self.assertEqual([it.split()[:3] for it in marks], [[b"0", b"mark", it] for it in (b"a0", b"a1", b"a2", b"a")])
+        self.assertTrue(all(len(it) < 65_536 for it in marks))
+        self.assertEqual(first + second + third + last, b"0 unmark a0\n0 unmark a1\n0 unmark a2\n0 unmark a\n")
+
+
+class Sessions(unittest.TestCase):
+    def test_a_session_with_an_open_question_is_no_other_s(self) -> None:
+        hub = Hub()
+        member = Member(hub, lambda: None, lambda session, form: None)
+        taken = member.session(7)
+        member.send(7, b"post / a()", pass_over)
+        self.assertEqual(hub.lines(), b"%d post / a()\n" % taken)
+        hub.feed(b"%d open 1\n" % taken)
+        member.leave()
+        self.assertEqual(hub.lines(), b"%d version\n" % taken)
+        hub.feed(b"%d ok 0\n" % taken)
+        others = {hub.take_session() for _ in range(998)}
+        self.assertNotIn(taken, others)
+        with self.assertRaises(NoSession):
+            hub.take_session()
+        hub.feed(b"%d done 1 0 = 3\n" % taken)
+        self.assertEqual(hub.take_session(), taken)
+
+    def test_replies_in_pieces(self) -> None:
+        hub, told = Hub(base=5), []
+        member = Member(hub, lambda: None, lambda session, form: told.append((session, form)))
+        member.send_block(b"0 where u\n0 show /\n", 2, told.extend)
+        member.send(3, b"at 7 drop /A", told.append)
+        self.assertEqual(hub.lines(), b"0 where u\n0 show /\n1 at 2 drop /A\n")
+        for at in range(0, 48, 3):
+            hub.feed(b"0 refused 3 mark\n0 = A()\n1 refused 2 stale 4\n"[at:at + 3])
+        self.assertEqual(told, [b"0 refused 3 mark", b"0 = A()", b"refused 2 stale 9"])
+        self.assertEqual((hub.in_flight, hub.answered, member.unanswered), (0, 3, 0))
+
+
+if __name__ == "__main__":
+    unittest.main()
