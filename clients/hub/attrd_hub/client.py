@@ -16,13 +16,13 @@ from .member import Member
 if TYPE_CHECKING:
     from .service import Service
 
-CHUNK = 1 << 16
+CHUNK = 1 << 15
 # So many lines of a client may have no reply; fewer where a reply can be as long as the tree.
 MANY, FEW = 1_024, 4
 # So many bytes a client may leave unread before its next lines wait.
 UNREAD = 1 << 20
-# So many lines of a client wait here before no more are read.
-WAITING = 1 << 16
+# So many bytes of lines wait here before no more are read.
+WAITING = 1 << 15
 # Who has no more bytes of lines than that comes before those who have.
 SHORT = 256
 # So many sessions a client may have to itself: for marks and for questions in turns.

@@ -6,8 +6,10 @@ import tempfile
 import unittest
 from pathlib import Path
 from typing import List
+from unittest import mock
 
-import hub_support  # noqa: F401
+from hub_support import until
+
 from attrd_hub.journal import Journal, JournalFault
 from attrd_hub.records import head, read_journal, record
 
@@ -76,6 +78,21 @@ class Folders(unittest.TestCase):
             self.tree.write_bytes(b"Another()\n")
             self.assertEqual(self.read(), (0, b"A([])\n", EDITS, []))
             self.tree.write_bytes(b"A([])\n")
+
+    def test_when_edits_are_made_safe(self) -> None:
+        for sync, at_once, in_all in (("each", 2, 2), ("second", 0, 1), ("never", 0, 0)):
+            shutil.rmtree(self.folder, ignore_errors=True)
+            journal = self.opened(sync)
+            journal.open(self.tree)
+            with mock.patch("os.fdatasync") as made_safe:
+                self.add(journal, EDITS[:3])
+                self.add(journal, EDITS[3:])
+                self.assertEqual(made_safe.call_count, at_once, sync)
+                journal.tick()
+                until(lambda: made_safe.call_count == in_all, f"what is made safe by {sync}")
+                journal.tick()
+                self.assertEqual(made_safe.call_count, in_all, sync)
+            self.closed(journal)
 
     def test_two_hubs(self) -> None:
         self.opened()
