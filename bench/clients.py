@@ -12,7 +12,7 @@ import statistics
 import sys
 import time
 from pathlib import Path
-from typing import NamedTuple
+from typing import Callable, Dict, List, Mapping, NamedTuple, Optional, Sequence, Tuple, TypeVar, cast
 
 from figures import ROOT, ms, numbers_in, program_in, ratio, row, table
 
@@ -20,26 +20,33 @@ sys.path.insert(0, str(ROOT / "clients" / "python"))
 
 import attrd  # noqa: E402
 from attrd import Document, Grammar, Node  # noqa: E402
+from attrd.channel import Program  # noqa: E402
+
+# A change of a class's statements, of which it is told how often it was made.
+Change = Callable[[Sequence[Node], int], List[Node]]
+Result = TypeVar("Result")
 
 ASPECTS = ("kinds.jrag", "names.jrag", "types.jrag", "errors.jrag")
 STROKES = 9
 
 
-def tutorial():
+def tutorial() -> Dict[str, str]:
     """The files of the tutorial."""
     page = (ROOT / "docs" / "TUTORIAL.md").read_text(encoding="utf-8")
     return {it[1]: it[2] for it in re.finditer(r"^```file (\S+)\n(.*?)^```$", page, re.M | re.S)}
 
 
-def use(name):
+def use(name: str) -> Node:
+    """The use of a kind."""
     return Node("KindUse", name)
 
 
-def name(text):
+def name(text: str) -> Node:
+    """The use of a declaration."""
     return Node("Name", text)
 
 
-def class_of(number, faults):
+def class_of(number: int, faults: bool) -> Node:
     """A class of about 50 nodes, with a superclass but for the first; its names are declared where no faults are wanted."""
     field = f"f{number}"
     above = use(f"C{number - 1}") if number else None
@@ -48,25 +55,35 @@ def class_of(number, faults):
     return Node("ClassDecl", f"C{number}", above, [Node("Decl", field, use("int"), None)], Node("Block", statements))
 
 
-def program(nodes, faults=False):
+def program(nodes: int, faults: bool = False) -> Node:
     """A program of about so many nodes."""
     count = max(1, nodes // class_of(1, False).size)
     return Node("Program", [Node("Basic", "int"), Node("Basic", "boolean"), *(class_of(it, faults) for it in range(count))])
 
 
-def changed_class(tree, at, change):
+def child(node: Node, at: int) -> Node:
+    """A child that is no list."""
+    return cast(Node, node.cells[at])
+
+
+def elements(node: Node, at: int) -> Tuple[Node, ...]:
+    """The elements of a list."""
+    return cast(Tuple[Node, ...], node.cells[at])
+
+
+def changed_class(tree: Node, at: int, change: Callable[[Node], Node]) -> Node:
     """The tree with another class at an index of its list."""
-    kinds = tree.cells[0]
+    kinds = elements(tree, 0)
     return Node("Program", [*kinds[:at], change(kinds[at]), *kinds[at + 1:]])
 
 
-def with_statements(kind, change):
-    block = kind.cells[3]
-    return Node("ClassDecl", *kind.cells[:3], Node("Block", change(list(block.cells[0]))))
+def with_statements(kind: Node, change: Callable[[Sequence[Node]], List[Node]]) -> Node:
+    """The class with other statements."""
+    return Node("ClassDecl", *kind.cells[:3], Node("Block", change(elements(child(kind, 3), 0))))
 
 
-CHANGES = {
-    "a number": lambda s, n: [Node("Decl", "v0", None, Node("Plus", s[0].cells[2].cells[0], Node("Num", 100 + n))), *s[1:]],
+CHANGES: Dict[str, Change] = {
+    "a number": lambda s, n: [Node("Decl", "v0", None, Node("Plus", child(s[0], 2).cells[0], Node("Num", 100 + n))), *s[1:]],
     "a use": lambda s, n: [*s[:-1], Node("Show", name(f"v{n % 5}"))],
     "a statement in": lambda s, n: [s[0], Node("Show", Node("Num", n)), *s[1:]],
     "a statement out": lambda s, n: [s[0], *s[2:]],
@@ -79,47 +96,48 @@ CHANGES = {
 class Bench:
     """A server over a program of so many nodes."""
 
-    def __init__(self, executable, files, nodes, faults=False):
+    def __init__(self, executable: str, files: Mapping[str, str], nodes: int, faults: bool = False) -> None:
         self.grammar = Grammar.read(files["small.ast"])
         self.checks = attrd.diagnostics(self.grammar, [files[it] for it in ASPECTS], ["error"])
         self.tree = program(nodes, faults)
-        self.found = []
+        self.found: List[attrd.Diagnostic] = []
         self.open(executable, files)
 
-    def open(self, executable, files):
+    def open(self, executable: str, files: Mapping[str, str]) -> None:
         """Starts a server over the tree, and opens its document."""
         self.server = attrd.start(attrd.Text("small.ast", files["small.ast"]), self.tree, *[attrd.Text(it, files[it]) for it in ASPECTS],
                                   self.checks.aspect, program=executable)
         self.document = Document(self.server.session(), self.grammar)
 
-    def processor(self):
+    def processor(self) -> float:
         """The server's processor time so far, in milliseconds."""
         try:
-            return int(Path(f"/proc/{self.server._channel.process.pid}/schedstat").read_text().split()[0]) / 1e6
+            process = cast(Program, self.server._channel).process
+            return int(Path(f"/proc/{process.pid}/schedstat").read_text().split()[0]) / 1e6
         except (OSError, ValueError):
             return 0.0
 
-    def timed(self, work):
+    def timed(self, work: Callable[[], Result]) -> "Tuple[Spent, Result]":
         """The milliseconds of a piece of work: the client's, the server's, and by the clock; and its result."""
         before, begun, clock = self.processor(), time.process_time(), time.perf_counter()
         result = work()
         ended = time.process_time()
         return Spent((ended - begun) * 1e3, self.processor() - before, (time.perf_counter() - clock) * 1e3), result
 
-    def stroke(self, new):
+    def stroke(self, new: Node) -> "Stroke":
         """From a new tree to all diagnostics: what the difference, the edits and the questions took, and how many there were."""
         differing, edits = self.timed(lambda: attrd.difference(self.grammar, self.document.tree, new, self.document.costs))
         sending, _ = self.timed(lambda: self.document.send(edits, new))
         asking, self.found = self.timed(lambda: self.checks.find(self.document, self.found))
         return Stroke(differing, sending, asking, len(edits), len(self.found))
 
-    def naive(self, new):
+    def naive(self, new: Node) -> Optional[float]:
         """The same by `set /`, or None where its line is too long."""
         try:
             spent, _ = self.timed(lambda: self.document.session.set("/", new))
         except attrd.LineFault:
             return None
-        self.document.tree, self.document.version = new, self.server.version
+        self.document.tree, self.document.version = new, cast(int, self.server.version)
         asking, _ = self.timed(lambda: self.checks.find(self.document))
         return spent.both + asking.both
 
@@ -132,7 +150,8 @@ class Spent(NamedTuple):
     clock: float
 
     @property
-    def both(self):
+    def both(self) -> float:
+        """Both processor times."""
         return self.client + self.server
 
 
@@ -145,17 +164,20 @@ class Stroke(NamedTuple):
     edits: int
     faults: int
 
-    def sum(self, what):
+    def sum(self, what: Callable[[Spent], float]) -> float:
+        """The sum of that over the three parts."""
         return sum(what(it) for it in (self.differing, self.sending, self.asking))
 
 
-def middle(numbers):
+def middle(numbers: Sequence[float]) -> float:
+    """The median."""
     return statistics.median(numbers)
 
 
-def openings(executable, files, sizes):
+def openings(executable: str, files: Mapping[str, str], sizes: Sequence[int]) -> None:
     """A server is started over a tree that the client has, and its document is opened; the same by reading the tree back."""
-    table("Nodes", "Opening: start and document", "The client's share", "With the tree read back", "The client's share", "Client against reading back")
+    table("Nodes", "Opening: start and document", "The client's share", "With the tree read back", "The client's share",
+          "Client against reading back")
     for nodes in sizes:
         bench = Bench(executable, files, nodes)
         bench.server.close()
@@ -168,11 +190,11 @@ def openings(executable, files, sizes):
         bench.server.close()
 
 
-def keystrokes(executable, files, sizes):
+def keystrokes(executable: str, files: Mapping[str, str], sizes: Sequence[int]) -> None:
     """From a changed number to all diagnostics, in programs of these sizes, without faults and with one in each 20th class."""
     table("Nodes", "Faults", "First diagnostics", "A keystroke, to all diagnostics", "Difference", "Edits", "Questions",
           "The server's share", "By the clock", "Against the smallest tree", "`set /` in its place", "Against the keystroke")
-    units = {}
+    units: Dict[bool, float] = {}
     for nodes in sizes:
         for faults in (False, True):
             bench = Bench(executable, files, nodes, faults)
@@ -189,16 +211,17 @@ def keystrokes(executable, files, sizes):
             bench.server.close()
 
 
-def numbered(bench, number):
+def numbered(bench: Bench, number: int) -> Node:
     """The program with another number in the class in its middle."""
-    at = len(bench.tree.cells[0]) // 2
+    at = len(elements(bench.tree, 0)) // 2
     return changed_class(bench.document.tree, at, lambda kind: with_statements(kind, lambda s: CHANGES["a number"](s, number)))
 
 
-def edits_of_changes(executable, files):
+def edits_of_changes(executable: str, files: Mapping[str, str]) -> None:
     """The edits that each kind of change comes to, and what it takes to all diagnostics."""
     table("Change, at 5,000 nodes", "Edits", "To all diagnostics", "Against another number")
-    bench, unit = Bench(executable, files, 5000), None
+    bench = Bench(executable, files, 5000)
+    unit: Optional[float] = None
     bench.checks.find(bench.document)
     for what, change in CHANGES.items():
         rows = []
@@ -211,14 +234,16 @@ def edits_of_changes(executable, files):
     bench.server.close()
 
 
-def lines(executable, files):
+def lines(executable: str, files: Mapping[str, str]) -> None:
     """A kept question again and again, waited for each time and not; and what edits of each kind cost."""
     table("A line, a kept question", "The client", "The server", "By the clock", "Both against a round trip")
     bench = Bench(executable, files, 5000)
-    session, unit = bench.document.session, None
+    session = bench.document.session
+    unit: Optional[float] = None
     session.ask("/", "errors")
-    kinds = {"a round trip": (2_000, lambda count: [session.ask("/", "errors") for _ in range(count)]),
-             "without waiting": (50_000, lambda count: [it.reply() for it in session.send_all(["ask / errors()"] * count)])}
+    kinds: Dict[str, Tuple[int, Callable[[int], object]]] = {
+        "a round trip": (2_000, lambda count: [session.ask("/", "errors") for _ in range(count)]),
+        "without waiting": (50_000, lambda count: [it.reply() for it in session.send_all(["ask / errors()"] * count)])}
     for what, (count, work) in kinds.items():
         spent, _ = bench.timed(lambda: work(count))
         unit = unit or spent.both / count
@@ -230,7 +255,7 @@ def lines(executable, files):
     bench.server.close()
 
 
-def main(words):
+def main(words: Sequence[str]) -> None:
     executable = program_in(words, __doc__)
     sizes, files = numbers_in(words[1:], (1000, 5000, 50_000), __doc__), tutorial()
     openings(executable, files, sizes)

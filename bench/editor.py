@@ -13,10 +13,14 @@ import sys
 import tempfile
 import time
 from pathlib import Path
+from typing import TYPE_CHECKING, Dict, List, Optional, Sequence, Tuple
 
 from figures import ROOT, ms, numbers_in, program_in, ratio, row, table
 
 sys.path.insert(0, str(ROOT / "clients" / "lsp" / "tests"))
+if TYPE_CHECKING:
+    from neovim import Neovim
+    from test_lsp_neovim import Folder
 
 RUNS = 15
 SIZES = (1_000, 5_000, 50_000)
@@ -65,7 +69,7 @@ return { taken / 1e6, (vim.loop.hrtime() - began) / 1e6, seen == 0 }
 """
 
 
-def opened(nodes, program=None):
+def opened(nodes: int, program: Optional[str] = None) -> "Tuple[Folder, Neovim]":
     """A file of so many nodes in Neovim, and the folder that it stands in."""
     from lsp_support import large_program
     from test_lsp_neovim import Folder
@@ -78,7 +82,7 @@ def opened(nodes, program=None):
     return folder, folder.open()
 
 
-def in_neovim(nodes):
+def in_neovim(nodes: int) -> Dict[str, float]:
     """The times of one file in Neovim, in milliseconds, by what was measured."""
     began = time.monotonic()
     folder, editor = opened(nodes)
@@ -92,7 +96,7 @@ def in_neovim(nodes):
         folder.temporary.cleanup()
 
 
-def place_in(lines):
+def place_in(lines: Sequence[str]) -> Tuple[int, int]:
     """The line and column in the middle of a file at which a use begins."""
     line = len(lines) // 2
     while "t4 = " not in lines[line]:
@@ -100,7 +104,7 @@ def place_in(lines):
     return line, lines[line].index("t4 = ") + len("t4 = ")
 
 
-def errors_in(editor):
+def errors_in(editor: "Neovim") -> int:
     """Puts STANDING errors into the file, all over it, and waits until they are told; their number."""
     lines = editor.lines()
     place, _ = place_in(lines)
@@ -113,10 +117,11 @@ def errors_in(editor):
     return len(chosen)
 
 
-def changes(editor, standing):
+def changes(editor: "Neovim", standing: int) -> Dict[str, float]:
     """From a change to its diagnostics, beside so many errors: an error that comes, and one that goes."""
     line, column = place_in(editor.lines())
-    come, gone = [], []
+    come: List[float] = []
+    gone: List[float] = []
     for _ in range(RUNS):
         spent, count = editor.lua(CHANGE, line, column, column, "q")
         assert count == standing + 1, count
@@ -129,7 +134,7 @@ def changes(editor, standing):
     return {f"a key that brings an error{beside_errors}": come_and_gone[0], f"a key that takes it away{beside_errors}": come_and_gone[1]}
 
 
-def requests(editor):
+def requests(editor: "Neovim") -> Dict[str, float]:
     """What an editor asks of a name in the middle of the file."""
     lines = editor.lines()
     line = next(it for it in range(len(lines) // 2, len(lines)) if "me" in lines[it] and " a" in lines[it])
@@ -143,7 +148,7 @@ def requests(editor):
     return {it: statistics.median([editor.lua(REQUEST, method, *place, more) for _ in range(RUNS)]) for it, (method, more) in kinds.items()}
 
 
-def spent_by_program(editor):
+def spent_by_program(editor: "Neovim") -> float:
     """The processor time of the program behind the language server of an editor, in seconds; 0 before it has begun."""
     from lsp_support import children
 
@@ -156,7 +161,7 @@ def spent_by_program(editor):
     return max(times) / 1e9
 
 
-def beside_a_check(nodes, program):
+def beside_a_check(nodes: int, program: str) -> Tuple[Sequence[float], Sequence[float], int]:
     """An edit in the middle of the first check of a file: until it is taken, and until a question about it is answered, in milliseconds;
     and how often the check was under way still."""
     found = []
@@ -174,7 +179,7 @@ def beside_a_check(nodes, program):
     return taken, answered, sum(is_alive)
 
 
-def length_of_check(nodes):
+def length_of_check(nodes: int) -> float:
     """The processor time that the first check of a file takes the program, in milliseconds."""
     folder, editor = opened(nodes)
     try:
@@ -185,7 +190,7 @@ def length_of_check(nodes):
         folder.temporary.cleanup()
 
 
-def beside(nodes, program):
+def beside(nodes: int, program: str) -> None:
     """An edit beside the first check of a file, whose questions are posted, and beside one whose questions are asked."""
     table(f"An edit beside the first check of {nodes:,} nodes ({ms(length_of_check(nodes))} of processor time)", "It is taken after",
           "At most", "A question about it is answered after", "At most", "The check was under way still")
@@ -195,11 +200,11 @@ def beside(nodes, program):
         asking.chmod(0o755)
         for what, it in (("its questions are posted", program), ("they are asked, without turns", str(asking))):
             taken, answered, alive = beside_a_check(nodes, it)
-            times = [ms(of(times)) for times in (taken, answered) for of in (statistics.median, max)]
-            row(what, *times, f"{alive} of {BESIDE} times")
+            told = [ms(it) for times in (taken, answered) for it in (statistics.median(times), max(times))]
+            row(what, *told, f"{alive} of {BESIDE} times")
 
 
-def main(words):
+def main(words: Sequence[str]) -> None:
     program = program_in(words, __doc__)
     os.environ["ATTRD"] = os.environ["ATTRD_ASKED"] = program
     sizes = numbers_in(words[1:], SIZES, __doc__)

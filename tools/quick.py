@@ -30,8 +30,7 @@ FAILURES = re.compile(r"\b(?:failures|errors)=(\d+)")
 SKIPPED = re.compile(r"^skipped: .*$", re.M)
 TOOLS_TESTS = ("discover", "-s", "tools/tests", "-t", ".")
 # What is typed in full beside the clients' packages.
-TYPED = ("bench/bench.py", "bench/limits.py", "bench/unproved.py", "clients/packaging/backend.py",
-         "clients/run_tests.py", "tools")
+TYPED = ("bench", "clients/packaging/backend.py", "clients/run_tests.py", "tools")
 
 
 @dataclass(frozen=True)
