@@ -11,6 +11,8 @@ cd "$(dirname "$0")/.."
 
 # The libraries of the kit that are built into the program, whose licences ask to be handed on.
 LIBRARIES=(clap indexmap itoa slab smallvec strsim thiserror unicode_ident)
+# What the pages link to in the folders of the clients, beside the pages there.
+EXAMPLES=(clients/lsp/sample clients/lsp/attrd_lsp/small clients/page/examples)
 
 # Prints what the package's file of licences says.
 licences() {
@@ -59,15 +61,15 @@ END
 
 # Puts the package attrd below its folder: the pages lie as in the repository, so that their links lead on.
 lay_out_program() {
-  local base=$root/attrd doc=$root/attrd/usr/share/doc/attrd readme
+  local base=$root/attrd doc=$root/attrd/usr/share/doc/attrd file
   install -D -m 755 "$program" "$base/usr/bin/attrd"
   install -d "$base/usr/share/man/man1" "$doc/docs"
   gzip -9 -n -c docs/attrd.1 > "$base/usr/share/man/man1/attrd.1.gz"
   install -D -m 644 "tools/package/attrd@.service" "$base/usr/lib/systemd/system/attrd@.service"
   install -m 644 README.md CHANGELOG.md "$doc/"
-  install -m 644 docs/*.md docs/*.png "$doc/docs/"
-  for readme in clients/*/README.md; do
-    install -D -m 644 "$readme" "$doc/$readme"
+  install -m 644 docs/*.md docs/*.png docs/*.svg "$doc/docs/"
+  for file in $(find clients -name README.md) $(find "${EXAMPLES[@]}" -type f -not -name '*.pyc'); do
+    install -D -m 644 "$file" "$doc/$file"
   done
   cp -r samples "$doc/samples"
   ln -s samples "$doc/examples"
@@ -79,9 +81,9 @@ lay_out_hub() {
   local base=$root/attrd-hub folder file
   install -D -m 755 tools/package/attrd-hub "$base/usr/bin/attrd-hub"
   install -D -m 644 "tools/package/attrd-hub@.service" "$base/usr/lib/systemd/system/attrd-hub@.service"
-  for folder in python/attrd hub/attrd_hub; do
-    for file in clients/"$folder"/*.py; do
-      install -D -m 644 "$file" "$base/usr/lib/attrd-hub/$(basename "$folder")/$(basename "$file")"
+  for folder in python hub; do
+    for file in $(cd "clients/$folder" && find attrd* -name '*.py'); do
+      install -D -m 644 "clients/$folder/$file" "$base/usr/lib/attrd-hub/$file"
     done
   done
   install -d "$base/usr/share/doc/attrd-hub"
