@@ -7,6 +7,7 @@ from __future__ import annotations
 import asyncio
 import hmac
 import json
+import re
 import secrets
 from contextlib import suppress
 from pathlib import Path as FilePath
@@ -25,6 +26,10 @@ LONGEST_HEAD, LONGEST_MESSAGE = 1 << 14, 1 << 20
 HEAD_SECONDS = 10.0
 # A window that takes nothing while so many bytes wait for it is let go of.
 MOST_WAITING = 1 << 26
+# A browser opens at most six connections to one address: each window holds one of them, and one is wanted for what windows do.
+MOST_WINDOWS = 5
+FULL = f"A browser can hold {MOST_WINDOWS} windows of this page open, and this one has so many. Close one of them, and load this one again."
+_BROWSER = re.compile(r"(?:\A|;)\s*attrd=([\w-]+)")
 POLICY = "default-src 'none'; script-src 'self'; style-src 'self'; connect-src 'self'; img-src data:; base-uri 'none'; form-action 'none'"
 STATUS = {200: "OK", 204: "No Content", 400: "Bad Request", 403: "Forbidden", 404: "Not Found", 405: "Method Not Allowed",
           410: "Gone", 413: "Content Too Large"}
@@ -52,9 +57,9 @@ def read_head(head: bytes) -> Optional[Request]:
     return Request(words[0], words[1], headers)
 
 
-def response(status: int, kind: str, content: bytes) -> bytes:
-    """A whole response, behind which the connection is closed."""
-    return response_head(status, kind, [f"Content-Length: {len(content)}"]) + content
+def response(status: int, kind: str, content: bytes, *more: str) -> bytes:
+    """A whole response, with these lines in its head, behind which the connection is closed."""
+    return response_head(status, kind, [f"Content-Length: {len(content)}", *more]) + content
 
 
 def response_head(status: int, kind: str, more: List[str]) -> bytes:
@@ -62,6 +67,12 @@ def response_head(status: int, kind: str, more: List[str]) -> bytes:
     head = [f"HTTP/1.1 {status} {STATUS[status]}", f"Content-Type: {kind}; charset=utf-8", *more, f"Content-Security-Policy: {POLICY}", "Referrer-Policy: no-referrer", "X-Content-Type-Options: nosniff",
             "X-Frame-Options: DENY", "Cache-Control: no-store", "Connection: close", "", ""]
     return "\r\n".join(head).encode("latin-1")
+
+
+def browser_of(request: Request) -> Optional[str]:
+    """What this page has called the browser that asks; None of one that it hasn't seen."""
+    found = _BROWSER.search(request.headers.get("cookie", ""))
+    return None if found is None else found[1]
 
 
 def event(message: Json) -> bytes:
@@ -76,6 +87,7 @@ class Web:
         self.page = page
         self._tells: Dict[str, Callable[[Json], None]] = {}
         self._windows: Dict[str, Window] = {}
+        self._held: Dict[str, int] = {}
         self.token = secrets.token_urlsafe(16)
         self.port = 0
         self._server: Optional[asyncio.AbstractServer] = None
@@ -123,8 +135,8 @@ class Web:
         head = await asyncio.wait_for(reader.readuntil(b"\r\n\r\n"), HEAD_SECONDS)
         request = read_head(head[:-4]) if len(head) <= LONGEST_HEAD else None
         status, name = self._resource(request)
-        if status == 200 and name == "events":
-            await self._events(reader, writer)
+        if request is not None and status == 200 and name == "events":
+            await self._stream(browser_of(request), reader, writer)
             return
         if request is not None and status == 200 and request.method == "POST":
             status = await self._do(request, name[len("do/"):], reader)
@@ -132,7 +144,9 @@ class Web:
             writer.write(response(status, "text/plain", STATUS[status].encode("ascii") if status != 204 else b""))
         else:
             file, kind = FILES[name]
-            writer.write(response(200, kind, (STATIC / file).read_bytes()))
+            is_known = request is not None and browser_of(request) is not None
+            cookie = [] if is_known else [f"Set-Cookie: attrd={secrets.token_urlsafe(16)}; Path=/; SameSite=Strict; HttpOnly"]
+            writer.write(response(200, kind, (STATIC / file).read_bytes(), *(cookie if not name else [])))
         await writer.drain()
 
     def _resource(self, request: Optional[Request]) -> Tuple[int, str]:
@@ -150,9 +164,23 @@ class Web:
             return 405, ""
         return (200, name) if name in FILES or name == "events" or name.startswith("do/") else (404, "")
 
+    async def _stream(self, browser: Optional[str], reader: asyncio.StreamReader, writer: asyncio.StreamWriter) -> None:
+        """A window, where its browser hasn't as many as it can hold: else that is told, since no window of it could do anything more."""
+        writer.write(response_head(200, "text/event-stream", []))
+        if browser is not None and self._held.get(browser, 0) >= MOST_WINDOWS:
+            writer.write(event({"kind": "full", "text": FULL}))
+            await writer.drain()
+            return
+        if browser is not None:
+            self._held[browser] = self._held.get(browser, 0) + 1
+        try:
+            await self._events(reader, writer)
+        finally:
+            if browser is not None:
+                self._held[browser] -= 1
+
     async def _events(self, reader: asyncio.StreamReader, writer: asyncio.StreamWriter) -> None:
         """A window: what it is told, until the browser closes it."""
-        writer.write(response_head(200, "text/event-stream", []))
 
         def tell(message: Json) -> None:
             if writer.transport.get_write_buffer_size() > MOST_WAITING:

@@ -13,7 +13,7 @@ from pathlib import Path
 from typing import Any, Dict, List, Optional
 from unittest import mock
 
-from page_support import CLONE, SECONDS, Served, program
+from page_support import CLONE, SECONDS, Served, program, until
 
 from attrd_page.work import Copy, count
 
@@ -21,18 +21,19 @@ from attrd_page.work import Copy, count
 class Page:
     """A window without a browser."""
 
-    def __init__(self, served: Served, origin: Optional[str] = None) -> None:
-        self.served, self.origin = served, origin
+    def __init__(self, served: Served, origin: Optional[str] = None, cookie: str = "") -> None:
+        self.served, self.origin, self.cookie = served, origin, cookie
         self.path = served.address.split(str(served.port), 1)[1]
         self.stream = http.client.HTTPConnection("127.0.0.1", served.port, timeout=SECONDS)
         self.stream.request("GET", f"{self.path}events", headers=self.headers)
         self.events = self.stream.getresponse()
         self.is_open = self.events.status == 200
-        self.key = self.told("window")["key"] if self.is_open else ""
+        self.first = self.next() if self.is_open else {}
+        self.key = self.first.get("key", "")
 
     @property
     def headers(self) -> Dict[str, str]:
-        return {} if self.origin is None else {"Origin": self.origin}
+        return {**({} if self.origin is None else {"Origin": self.origin}), **({"Cookie": self.cookie} if self.cookie else {})}
 
     def next(self) -> Dict[str, Any]:
         """The next message. Raises EOFError where the stream has ended."""
@@ -128,6 +129,28 @@ class Web(unittest.TestCase):
         with open("/proc/net/tcp", encoding="ascii") as table:
             ends = [line.split()[1] for line in table if line.split()[3] == "0A"]
         self.assertEqual([it for it in ends if it.endswith(f":{self.served.port:04X}")], [f"0100007F:{self.served.port:04X}"])
+
+    def test_as_many_windows_as_a_browser_can_hold(self) -> None:
+        self.status(self.served.address.split(str(self.served.port), 1)[1])
+        cookie = next(line.split(b" ", 1)[1].split(b";")[0].decode() for line in self.head.split(b"\r\n") if line.startswith(b"Set-Cookie: "))
+        pages = [Page(self.served, cookie=f"other=1; {cookie}") for _ in range(5)]
+        for page in pages[1:]:
+            self.addCleanup(page.close)
+        self.assertEqual({it.first["kind"] for it in pages}, {"window"})
+        more = Page(self.served, cookie=cookie)
+        self.assertEqual(more.first["kind"], "full")
+        self.assertIn("can hold 5 windows", more.first["text"])
+        self.assertRaises(EOFError, more.next)
+        more.close()
+        self.assertEqual(self.page().first["kind"], "window")
+        pages[0].close()
+        pages[1].told("clients")
+
+        def has_room() -> bool:
+            again = Page(self.served, cookie=cookie)
+            self.addCleanup(again.close)
+            return bool(again.first["kind"] == "window")
+        until(has_room, "a window of the browser more")
 
     def test_messages_that_cannot_be_read(self) -> None:
         page = self.page()

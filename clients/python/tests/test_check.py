@@ -17,7 +17,7 @@ from support import CALCULATOR, PROGRAM, SAMPLES, page_files, refused_files
 GRAMMAR = Source("calc.ast", (CALCULATOR / "calc.ast").read_text())
 CALC = Source("calc.jrag", (CALCULATOR / "calc.jrag").read_text())
 # How many texts are made by chance.
-TEXTS = 40
+TEXTS = 20
 # Each line has the faults that are named at its end, and no other.
 BAD = """import java.util.*; //: J10
 aspect Bad {
@@ -56,8 +56,12 @@ def bad_check(*aspects, grammar=GRAMMAR):
 
 
 class Aspects(unittest.TestCase):
+    @classmethod
+    def setUpClass(cls):
+        cls.found = bad_check(CALC, Source("bad.jrag", BAD))
+
     def test_all_faults_and_none_that_only_follows(self):
-        found = bad_check(CALC, Source("bad.jrag", BAD))
+        found = self.found
         wanted = [(number, code) for number, line in enumerate(BAD.splitlines(), 1) for code in line.partition("//:")[2].split()]
         self.assertEqual(sorted((it.line, it.code) for it in found.findings), sorted(wanted))
         self.assertGreater(found.following, 0)
@@ -66,7 +70,7 @@ class Aspects(unittest.TestCase):
             self.assertEqual(BAD.count("\n", 0, it.start) + 1, it.line)
 
     def test_what_is_there_instead(self):
-        told = {(it.line, it.code): f"{it.message} {it.hint}" for it in bad_check(CALC, Source("bad.jrag", BAD)).findings}
+        told = {(it.line, it.code): f"{it.message} {it.hint}" for it in self.found.findings}
         for key, part in {
                 (9, "J3"): "Expr has no attribute or accessor dept. There is depth",
                 (7, "J7"): "Use comes to no equation for depth",

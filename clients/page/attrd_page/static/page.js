@@ -590,6 +590,10 @@ const takes = {
   why(told) { drawWhy(told); },
   work(told) { drawWork(told); },
   clients(told) { by("clients").textContent = told.clients === 1 ? "1 client" : `${told.clients} clients`; },
+  full(told) {
+    by("lost").hidden = false;
+    by("lost").textContent = told.text;
+  },
   lost(told) { lose(told.text); },
 };
 
