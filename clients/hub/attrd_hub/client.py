@@ -71,12 +71,19 @@ class Client:
         else:
             self._is_last = True
             self._take(b"\n" if self._rest else b"")
+            self._end_if_done()
 
     def _lose(self) -> None:
         """The other side is gone: of what it has sent, `supply` reads the rest, and hands on what changes something."""
+        if self.is_ended:
+            return
+        self.service.loop.forget(self.stream.fileno())
+        self._lose_reader()
+        if not self._lines:
+            self._read()
+        if not self._lines:
+            self._end_if_done()
         if not self.is_ended:
-            self.service.loop.forget(self.stream.fileno())
-            self._lose_reader()
             self._make_ready()
 
     def _take(self, data: bytes) -> None:
@@ -87,7 +94,8 @@ class Client:
             whole = self._admit(whole)
         if whole:
             self._lines += whole + b"\n"
-        self._make_ready()
+        if self._lines:
+            self._make_ready()
 
     def _admit(self, lines: bytes) -> bytes:
         """Looks at the token in the first line; the lines behind it. Who has another one is let go of."""
@@ -256,7 +264,7 @@ class Client:
         return is_within and bool(self._events & READ) and self._heard < since
 
     def _end_if_done(self) -> None:
-        if self._is_last and not self.unread and self.member.unanswered == 0:
+        if self._is_last and not self._lines and not self.unread and self.member.unanswered == 0:
             self.end()
 
     def end(self) -> None:

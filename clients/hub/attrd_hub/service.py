@@ -26,7 +26,7 @@ from .status import Counts, figures_of, status_path
 from .telling import Level, log, notify
 
 TICK_SECONDS = 0.5
-ACCEPTED_AT_ONCE = 64
+ACCEPTED_AT_ONCE = 32
 CLIENTS_IN_A_TURN = 64
 # So many bytes that the program hasn't taken may wait.
 UNSENT = 1 << 18

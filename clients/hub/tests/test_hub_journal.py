@@ -13,7 +13,7 @@ from hub_support import until
 from attrd_hub.journal import Journal, JournalFault
 from attrd_hub.records import head, read_journal, record
 
-EDITS = [b"drop /A:%d" % it for it in range(12)]
+EDITS = [b"drop /A:%d" % it for it in range(16)]
 
 
 class Records(unittest.TestCase):
@@ -145,6 +145,28 @@ class Folders(unittest.TestCase):
         self.assertIn(f"it ends with version {len(commands)}", told[0])
         self.assertEqual(path.read_bytes() + (self.folder / "journal-0.cut").read_bytes(), data[:60] + b"\0" * 20 + data[80:])
 
+    def test_a_folder_whose_journal_is_cut_off_at_each_byte(self) -> None:
+        journal = self.opened()
+        journal.open(self.tree)
+        self.add(journal, EDITS)
+        self.closed(journal)
+        path = self.folder / "journal-0"
+        data = path.read_bytes()
+        ends = [at + 1 for at, byte in enumerate(data) if byte == ord("\n")]
+        self.assertGreater(len(data), 300)
+        with mock.patch("os.fsync"):
+            for length in range(len(data)):
+                path.write_bytes(data[:length])
+                whole = max(0, sum(it <= length for it in ends) - 1)
+                base, _, commands, told = self.read()
+                self.assertEqual((base, commands), (0, EDITS[:whole]), length)
+                self.assertEqual(bool(told), length not in (0, *ends), length)
+                journal = self.opened()
+                journal.open(self.tree)
+                self.add(journal, EDITS[whole:])
+                self.closed(journal)
+                self.assertEqual(path.read_bytes(), data)
+
     def test_a_cut_is_told_once(self) -> None:
         journal = self.opened()
         journal.open(self.tree)
@@ -152,8 +174,9 @@ class Folders(unittest.TestCase):
         self.closed(journal)
         path = self.folder / "journal-0"
         path.write_bytes(path.read_bytes()[:-3])
-        self.assertEqual(self.read()[2:], (EDITS[:-1], ["journal-0: it ends with version 11: the edit behind it was cut off in the "
-                                                       "middle, and is left out"]))
+        _, _, commands, told = self.read()
+        self.assertEqual(commands, EDITS[:-1])
+        self.assertEqual(told, ["journal-0: it ends with version 15: the edit behind it was cut off in the middle, and is left out"])
         self.assertEqual(self.read()[2:], (EDITS[:-1], []))
 
 
