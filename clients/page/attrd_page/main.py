@@ -91,11 +91,11 @@ class Service:
             return
         before, self.running = self.running, other
         self._close_front()
+        await self._listen()
         self.web.take(other.page)
         with suppress(AttrdError):
             await before.page.empty()
         await before.end()
-        await self._listen()
 
     async def end(self) -> None:
         """Serves no more, and tells what the program told at its end."""
