@@ -80,7 +80,7 @@ class CommandLines(unittest.TestCase):
 
     def told(self, *words):
         """The status and the standard error of a command line, in the folder of these files."""
-        path = os.pathsep.join(str(ROOT / "clients" / it) for it in ("python", "page"))
+        path = os.pathsep.join(str(ROOT / "clients" / it) for it in ("python", "hub", "page"))
         ran = subprocess.run([sys.executable, "-m", *words], cwd=self.folder, stdin=subprocess.DEVNULL, capture_output=True, text=True,
                              env={**os.environ, "PYTHONPATH": path}, timeout=120, check=False)
         self.assertNotIn("Traceback", ran.stderr, words)
