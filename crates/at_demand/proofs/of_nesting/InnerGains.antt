@@ -187,6 +187,11 @@ module _ (rules : Rules) (s : Shown) (exact : Bool) where
   pub gains_as : (i : Instance ℕ) (old new : Entries) (f g h : Found) (w x y : ℕ) → h ≡ g → y ≡ x → Gains rules s exact i old new f g w x → Gains rules s exact i old new f h w y
   gains_as i old new f g h w x y e d a = subst (λ (z : Found). Gains rules s exact i old new f z w y) (sym e) (subst (λ (z : ℕ). Gains rules s exact i old new f g w z) (sym d) a)
 
+  -- and from the same instance, which was remembered and counted so before
+  pub gains_from : (i j : Instance ℕ) (old new : Entries) (f g h : Found) (w x y : ℕ) → j ≡ i → g ≡ f → x ≡ w → Gains rules s exact j old new g h x y → Gains rules s exact i old new f h w y
+  gains_from i j old new f g h w x y is e d a =
+      subst (λ (z : Instance ℕ). Gains rules s exact z old new f h w y) is (subst (λ (z : Found). Gains rules s exact j old new z h w y) e (subst (λ (z : ℕ). Gains rules s exact j old new g h z y) d a))
+
   -- what an instance was told is its value
   pub told_holds : (entries : Entries) (f : Found) (j : Instance ℕ) (v : Value ℕ) (ls : List (Location ℕ)) (us : List (Instance ℕ)) → AreKnown rules (contents s) entries f → IsGiven rules (contents s) (known_by entries f) j v ls us → HasValue (contents s) (meaning rules) j v
   told_holds entries f j v ls us known given = tells_hold (contents s) (meaning rules) (known_by entries f) (right_by rules (contents s) entries f known) (is_inner rules) given.0 j v ls us given.1
