@@ -25,7 +25,7 @@ use at_store::{Loc, Store};
 use indexmap::IndexMap;
 use std::alloc::{AllocError, AllocFailed, Global};
 
-// How deep instances nest at most. A level takes some 700 bytes of the native stack.
+// How deep instances nest at most. A level takes about a kilobyte of the native stack.
 const DEPTH: usize = 400;
 
 // An instance that isn't lazy is evaluated again at each demand where that looks at no more locations than that, and goes over no more elements.
