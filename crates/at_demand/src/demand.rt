@@ -1,6 +1,6 @@
 //! Questions for the values of instances.
 
-ghost use Rattle.std.specs.Prelude.{◌≡◌, ◌<◌, ◌^◌, map, IfOk, IfSome, OnErr, IsTrue, None, Some, true};
+ghost use Rattle.std.specs.Prelude.{◌≡◌, ◌<◌, ◌^◌, [], map, IfOk, IfSome, OnErr, IsTrue, None, Some, true};
 ghost use Rattle.std.specs.Map.{lookup};
 ghost use Rattle.at_model.specs.Instances.{AnyText};
 ghost use Rattle.at_model.specs.Meaning.{HasValue, Right};

@@ -21,16 +21,16 @@ ghost use Rattle.at_demand.specs.Sparing.{AreSpare, Counts, HasWorthy};
 use at_body::{Inst, Step, Trial, Value};
 use at_cache::{Keeper, Put};
 use at_rules::{AttrId, Rules};
-use at_store::Store;
+use at_store::{Loc, Store};
 use indexmap::IndexMap;
 use std::alloc::{AllocError, AllocFailed, Global};
 
-// How deep instances nest at most. The least of what they need of the native stack: see the tests of the program.
+// How deep instances nest at most. A level takes about a kilobyte of the native stack.
 const DEPTH: usize = 400;
 
-// An instance that isn't lazy, and looks at no more locations than that with all that is evaluated in it, is evaluated again at each demand.
+// An instance that isn't lazy is evaluated again at each demand where that looks at no more locations than that, and goes over no more elements.
 // The value of another one is remembered, and what it rests on stands once.
-const FEW: usize = 8;
+const FEW: usize = 16;
 
 // Why an evaluation in one go comes to no value: memory is wanting, or it gives up.
 #[derive(Clone, Copy)]
@@ -294,6 +294,7 @@ impl<'a> Direct<'a> {
         needed: Inst,
         value: &Value,
     ) -> Result<(), Stop>
+        requires idle { IsIdle store.now }
         requires known { AreKnown rules.now (contents store.now) (K.contents keeper.old) self.old.found.entries }
         requires come { IsEvaluated rules.now (contents store.now) (known_by (K.contents keeper.old) self.old.found.entries) needed
             (value_view value.now) below.old.trial.reads below.old.uses.items }
@@ -305,7 +306,7 @@ impl<'a> Direct<'a> {
         if rules.is_lazy(needed.attribute()) {
             return self.keep(keeper, rules, store, level, below, needed, value);
         }
-        if FEW < below.trial.reads().len() {
+        if !is_small(store, below.trial.reads().as_slice()) {
             return self.remember(keeper, rules, store, level, below, needed, value);
         }
         level.trial.note(below.trial.reads())?;
@@ -441,6 +442,22 @@ impl<'a> Direct<'a> {
         }
         Ok(())
     }
+}
+
+// Whether an evaluation that looked at these locations, in all, was a small one: a fold goes over the elements of a component that it looked at.
+fn is_small(store: &Store, reads: &[Loc]) -> bool
+    requires idle { IsIdle store.now }
+{
+    if FEW < reads.len() {
+        return false;
+    }
+    let mut elements = 0_usize;
+    for loc in reads {
+        if let Loc::Slot(node, part) = loc {
+            elements = elements.saturating_add(store.children(*node, *part).len());
+        }
+    }
+    elements <= FEW
 }
 
 // A value once more, where there is one.

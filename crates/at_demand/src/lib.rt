@@ -5,12 +5,12 @@
 //! `Covering` how the locations of an entry come together, `Only` that nothing else does, `Keeping` what becomes of a
 //! find that is to be kept, and which entries without a value come before; `Sparing` what an exact keeper has and how
 //! much comes, `Advancing` what a step comes to and `Answered` a question, `Touched` and `Spared` what an edit leaves,
-//! `Called` the same by paths. Of questions in turns, `Turns` shows one in the words of `at_model`, `Attempts` is what
+//! `Called` the same by paths. `Inner` is what instances are told that are evaluated in one go, and what comes of it. Of questions in turns, `Turns` shows one in the words of `at_model`, `Attempts` is what
 //! one try comes to, `ChainSteps` what that does to the chain, `KeptTrials` the trials that stay while turns follow
 //! each other.
 //!
-//! **Where to begin:** `Demand::answer` in `demand.rt`, over `evaluation.rt` and its `chain.rt`; what many kept values rest on is gathered in
-//! `gathering.rt` and stands once by `demand/shared.rt`; a question that is given turns is `question.rt` and
+//! **Where to begin:** `Demand::answer` in `demand.rt`: a question is answered in one go by `direct.rt`, a recursion, or where that gives up
+//! over `evaluation.rt` and its `chain.rt`; what many kept values rest on is gathered in `gathering.rt` and stands once by `demand/shared.rt`; a question that is given turns is `question.rt` and
 //! `demand/turning.rt`. It holds nothing of rules or tree between turns.
 //!
 //! **What it keeps true:** what is kept is right, and, with an exact keeper, spare; `laws.rt` and `turning_laws.rt`

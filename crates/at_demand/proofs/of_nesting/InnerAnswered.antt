@@ -1,5 +1,5 @@
 -- What a question is answered where an evaluation in one go came to its value, and where it gave up.
-use Rattle.std.proofs.Common.{◌≡◌, ℕ, ◌<◌, ◌^◌, Bool, Some, Ok}
+use Rattle.std.proofs.Common.{◌≡◌, ℕ, ◌<◌, ◌^◌, Bool, [], Some, Ok}
 use Rattle.std.specs.Prelude.{IfOk, IsTrue, Result}
 use Rattle.std.proofs.lemmas.Result.{IfOk-weaker}
 use Rattle.at_model.specs.Run.{Instance}
@@ -18,27 +18,32 @@ use Rattle.at_demand.specs.Inner.{Gains}
 use Rattle.at_demand.proofs.Counting.{counts_more, work_is}
 use Rattle.at_demand.proofs.Entered.{is_there}
 use Rattle.at_demand.proofs.Gaining.{asked_kept}
-use Rattle.at_demand.proofs.of_nesting.InnerGains.{gains_none, worthy_then}
+use Rattle.at_demand.proofs.of_nesting.InnerGains.{gains_none, known_none, worthy_then}
 
 module _ {E : Type 0} (rules : Rules) (s : Shown) (exact : Bool) (i : Instance ℕ) (r : Result Answer E) where
   -- by what came, where it is right and all that is worth keeping is kept
-  pub answered_by : (old new : Entries) (w x : ℕ) → Gains rules s exact i old new w x → IfOk r (λ a. Answers (contents s) (meaning rules) i (answer_view a)) →
-      (IsTrue exact → AreSpare rules (contents s) old → IfOk r (λ a. HasWorthy rules (contents s) i new)) → HasAnswered rules s exact old new w x i r
+  pub answered_by : (old new : Entries) (w x : ℕ) → Gains rules s exact i old new [] [] w x →
+      IfOk r (λ a. Answers (contents s) (meaning rules) i (answer_view a)) →
+      (IsTrue exact → AreSpare rules (contents s) old → IfOk r (λ a. HasWorthy rules (contents s) i new)) →
+      HasAnswered rules s exact old new w x i r
   answered_by old new w x g answers all = record {
     answers = answers;
     worthy = g.worthy;
     spare = g.spare;
     all = all;
     counts = g.counts;
-    work = λ k spare. IfOk-weaker r _ _ (λ a h. work_is rules (contents s) i old new w x (g.counts k) g.worthy h) (all k spare);
+    work = λ k spare. IfOk-weaker r _ _ (λ a h. work_is rules (contents s) i old new w x (g.counts k) g.worthy h) (all
+        k spare);
     right = g.stays;
-    plain = g.plain;
+    plain = g.known.plain;
   }
 
   -- behind what came while an evaluation in one go gave up
-  pub answered_after : (old mid new : Entries) (w x y : ℕ) → Gains rules s exact i old mid w x → HasAnswered rules s exact mid new x y i r → HasAnswered rules s exact old new w y i r
+  pub answered_after : (old mid new : Entries) (w x y : ℕ) → Gains rules s exact i old mid [] [] w x →
+      HasAnswered rules s exact mid new x y i r → HasAnswered rules s exact old new w y i r
   answered_after old mid new w x y g h =
-      let worthy : AddsWorthy rules (contents s) i old new = worthy_then rules (contents s) i old mid new g.worthy h.worthy in
+      let worthy : AddsWorthy rules (contents s) i old new = worthy_then rules (contents s) i old mid new g.worthy
+      h.worthy in
       let counts = λ (k : IsTrue exact). counts_more old mid new w x y (g.counts k) (h.counts k) in
       record {
         answers = h.answers;
@@ -46,14 +51,19 @@ module _ {E : Type 0} (rules : Rules) (s : Shown) (exact : Bool) (i : Instance �
         spare = λ k spare. h.spare k (g.spare k spare);
         all = λ k spare. h.all k (g.spare k spare);
         counts = counts;
-        work = λ k spare. IfOk-weaker r _ _ (λ a all. work_is rules (contents s) i old new w y (counts k) worthy all) (h.all k (g.spare k spare));
+        work = λ k spare. IfOk-weaker r _ _ (λ a all. work_is rules (contents s) i old new w y (counts k) worthy all)
+            (h.all k (g.spare k spare));
         right = λ there right. h.right there (g.stays there right);
         plain = h.plain;
       }
 
 -- a kept value is the answer, and nothing comes
-pub answered_kept : {E : Type 0} (rules : Rules) (s : Shown) (exact : Bool) (i : Instance ℕ) (entries : Entries) (w : ℕ) (v : ValueCode) → w < 2 ^ 64 → Right (contents s) (meaning rules) (kept_values entries) → ArePlain rules entries →
-    kept_values entries i ≡ Some (value_view v) → HasAnswered {E = E} rules s exact entries entries w w i (Ok (answer.Value v))
+pub answered_kept : {E : Type 0} (rules : Rules) (s : Shown) (exact : Bool) (i : Instance ℕ) (entries : Entries) (w :
+    ℕ) (v : ValueCode) → w < 2 ^ 64 → Right (contents s) (meaning rules) (kept_values entries) →
+    ArePlain rules entries →
+    kept_values entries i ≡ Some (value_view v) → HasAnswered {E = E} rules s exact entries entries w w i (Ok
+    (answer.Value v))
 answered_kept {E} rules s exact i entries w v few right plain is =
-    answered_by rules s exact i (Ok (answer.Value v)) entries entries w w (gains_none rules s exact i entries w few right plain) (right i (value_view v) is)
+    answered_by rules s exact i (Ok (answer.Value v)) entries entries w w (gains_none rules s exact i entries [] w few
+    (known_none rules (contents s) entries right plain)) (right i (value_view v) is)
     (λ k spare. asked_kept rules (contents s) i entries (is_there (kept_values entries i) (value_view v) is) spare.deep)

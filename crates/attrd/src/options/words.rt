@@ -31,7 +31,7 @@ const MAX_SLICE: u32 = 1_000_000;
 const MAX_KEEP: u32 = 1_000_000_000;
 
 /// The program's version, which the file `VERSION` holds, too.
-const VERSION: &str = "0.23";
+const VERSION: &str = "0.24";
 
 /// What stands below the words in the help: a session, and the commands.
 const HELP: &str = "A session:

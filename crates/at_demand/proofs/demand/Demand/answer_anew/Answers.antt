@@ -14,11 +14,17 @@ returns-in-Some g c =
     let rules = c.args.rules.now in
     let s = c.args.store.now in
     let new = g.K.Keeper.contents c.answer_at_once.new.self.keeper in
-    answered_by rules s g.K.Keeper.exact c.args.inst.now _ (g.K.Keeper.contents c.args.self.now.keeper) new c.args.self.now.work c.answer_at_once.new.self.work c.answer_at_once.ensures.gains
-    (subst (λ (o : Option ValueCode). IfSome o (λ v. HasValue (contents s) (meaning rules) c.args.inst.now (value_view v))) c.in-Some.is c.in_ok-at_once.ensures.value)
-    (λ k spare. subst (λ (o : Option ValueCode). IfSome o (λ v. HasWorthy rules (contents s) c.args.inst.now new)) c.in-Some.is (c.in_ok-at_once.ensures.all k spare))
+    answered_by rules s g.K.Keeper.exact c.args.inst.now _ (g.K.Keeper.contents c.args.self.now.keeper) new
+    c.args.self.now.work c.answer_at_once.new.self.work c.answer_at_once.ensures.gains
+    (subst (λ (o : Option ValueCode). IfSome o (λ v. HasValue (contents s) (meaning rules) c.args.inst.now (value_view
+    v))) c.in-Some.is c.in_ok-at_once.ensures.value)
+    (λ k spare. subst (λ (o : Option ValueCode). IfSome o (λ v. HasWorthy rules (contents s) c.args.inst.now new))
+    c.in-Some.is (c.in_ok-at_once.ensures.all k spare))
 
 pub returns-in-None : goal.returns-in-None
 returns-in-None g c =
-    answered_after c.args.rules.now c.args.store.now g.K.Keeper.exact c.args.inst.now c.answer_by_chain.result (g.K.Keeper.contents c.args.self.now.keeper) (g.K.Keeper.contents c.answer_at_once.new.self.keeper) (g.K.Keeper.contents c.answer_by_chain.new.self.keeper)
-    c.args.self.now.work c.answer_at_once.new.self.work c.answer_by_chain.new.self.work c.answer_at_once.ensures.gains c.answer_by_chain.ensures
+    answered_after c.args.rules.now c.args.store.now g.K.Keeper.exact c.args.inst.now c.answer_by_chain.result
+    (g.K.Keeper.contents c.args.self.now.keeper) (g.K.Keeper.contents c.answer_at_once.new.self.keeper)
+    (g.K.Keeper.contents c.answer_by_chain.new.self.keeper)
+    c.args.self.now.work c.answer_at_once.new.self.work c.answer_by_chain.new.self.work c.answer_at_once.ensures.gains
+    c.answer_by_chain.ensures

@@ -17,9 +17,11 @@ decreases-evaluate g l = 3 * l.above + 2
 
 abbrev pub invariant-evaluate-loop-step : goal.invariant-evaluate-loop-step
 invariant-evaluate-loop-step g l = record {
-  gains : Gains l.rules l.store g.K.Keeper.exact l.inst (g.K.Keeper.contents l.initial.keeper) (g.K.Keeper.contents l.keeper) l.initial.self.found.entries
+  gains : Gains l.rules l.store g.K.Keeper.exact l.inst (g.K.Keeper.contents l.initial.keeper) (g.K.Keeper.contents
+      l.keeper) l.initial.self.found.entries
       l.self.found.entries l.initial.self.work l.self.work;
-  goes : IsGoing l.rules (contents l.store) (known_by (g.K.Keeper.contents l.keeper) l.self.found.entries) l.inst l.level l.step;
+  goes : IsGoing l.rules (contents l.store) (known_by (g.K.Keeper.contents l.keeper) l.self.found.entries) l.inst
+      l.level l.step;
   typed : IsTypedStep l.rules (class_shown l.store) l.step l.level.trial;
 }
 

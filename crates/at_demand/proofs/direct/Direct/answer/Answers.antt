@@ -1,26 +1,58 @@
-use Rattle.std.proofs.Common.{ℕ, subst}
+use Rattle.std.proofs.Common.{ℕ, sym, subst}
 use Rattle.std.proofs.lemmas.Result.{IfOk-weaker}
 use Rattle.at_model.specs.Meaning.{HasValue}
 use Rattle.at_model.specs.Run.{Instance}
 use Rattle.at_store.specs.Shown.{contents}
 use Rattle.at_body.specs.Values.{value_view}
+use Rattle.at_demand.specs.Inner.{AreKnown, Gains}
 use Rattle.at_demand.specs.Known.{meaning}
 use Rattle.at_demand.specs.Sparing.{HasWorthy}
-use Rattle.at_demand.proofs.of_nesting.InnerGains.{told_holds, told_whole}
+use Rattle.at_demand.proofs.of_nesting.InnerGains.{Found, gains_as, gains_from, gains_none, told_holds, told_whole}
 use Rattle.at_demand.proofs.direct.Direct.answer.Goals as goal
+
+pub told-requires-clause-known : goal.told-requires-clause-known
+told-requires-clause-known g c =
+    subst (λ (f : Found). AreKnown c.args.rules.now (contents c.args.store.now) (g.K.Keeper.contents c.args.keeper.now)
+    f) (sym c.level-asks.ensures.found) c.requires.known
 
 pub returns-clause-value : goal.returns-clause-value
 returns-clause-value g c =
     let rules = c.args.rules.now in
     let s = c.args.store.now in
     let new = g.K.Keeper.contents c.told.new.keeper in
-    IfOk-weaker c.told.result _ _ (λ v h. subst (λ (i : Instance ℕ). HasValue (contents s) (meaning rules) i (value_view v)) c.in_ok-needed.ensures
-    (told_holds rules s g.K.Keeper.exact new c.in_ok-needed.needed (value_view v) h.looks h.takes c.told.ensures.gains.right h.given)) c.told.ensures.told
+    IfOk-weaker c.told.result _ _ (λ v h. subst (λ (i : Instance ℕ). HasValue (contents s) (meaning rules) i
+    (value_view v)) c.in_ok-needed.ensures
+    (told_holds rules s g.K.Keeper.exact new c.told.new.self.found.entries c.in_ok-needed.needed (value_view v) h.looks
+    h.takes c.told.ensures.gains.known h.given)) c.told.ensures.told
 
 pub returns-clause-all : goal.returns-clause-all
 returns-clause-all g c = λ k spare.
     let rules = c.args.rules.now in
     let s = c.args.store.now in
     let new = g.K.Keeper.contents c.told.new.keeper in
-    IfOk-weaker c.told.result _ _ (λ v h. subst (λ (i : Instance ℕ). HasWorthy rules (contents s) i new) c.in_ok-needed.ensures
-    (told_whole rules s g.K.Keeper.exact new c.in_ok-needed.needed (value_view v) h.looks h.takes (c.told.ensures.gains.spare k spare) c.told.ensures.gains.right h.given)) c.told.ensures.told
+    IfOk-weaker c.told.result _ _ (λ v h. subst (λ (i : Instance ℕ). HasWorthy rules (contents s) i new)
+    c.in_ok-needed.ensures
+    (told_whole rules s g.K.Keeper.exact new c.told.new.self.found.entries c.in_ok-needed.needed (value_view v) h.looks
+    h.takes (c.told.ensures.gains.spare k spare) c.told.ensures.gains.known h.given)) c.told.ensures.told
+
+pub returns-clause-gains : goal.returns-clause-gains
+returns-clause-gains g c =
+    let old = g.K.Keeper.contents c.args.keeper.now in
+    let new = g.K.Keeper.contents c.told.new.keeper in
+    let self = c.args.self.now in
+    let asks = c.level-asks.new.self in
+    let later = c.told.new.self in
+    gains_from c.args.rules.now c.args.store.now g.K.Keeper.exact c.args.inst.now c.in_ok-needed.needed old new
+    self.found.entries asks.found.entries later.found.entries self.work asks.work later.work
+    c.in_ok-needed.ensures c.level-asks.ensures.found c.level-asks.ensures.work c.told.ensures.gains
+
+pub returns-in_err-needed-clause-gains : goal.returns-in_err-needed-clause-gains
+returns-in_err-needed-clause-gains g c =
+    let entries = g.K.Keeper.contents c.args.keeper.now in
+    let self = c.args.self.now in
+    let asks = c.level-asks.new.self in
+    gains_as c.args.rules.now c.args.store.now g.K.Keeper.exact c.args.inst.now entries entries self.found.entries
+    self.found.entries asks.found.entries self.work self.work asks.work c.level-asks.ensures.found
+    c.level-asks.ensures.work
+    (gains_none c.args.rules.now c.args.store.now g.K.Keeper.exact c.args.inst.now entries self.found.entries
+    self.work self.few c.requires.known)

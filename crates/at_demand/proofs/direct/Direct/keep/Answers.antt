@@ -12,7 +12,9 @@ use Rattle.at_demand.proofs.direct.Direct.keep.Goals as goal
 pub put-requires-clause-present : goal.put-requires-clause-present
 put-requires-clause-present g c =
     let entries = g.K.Keeper.contents c.args.keeper.now in
-    taken c.args.rules.now c.args.store.now g.K.Keeper.exact c.args.needed entries entries c.args.self.now.found.entries (value_view c.args.value.now) c.args.below.now.trial.reads c.args.below.now.uses.items c.requires.known c.requires.come
+    taken c.args.rules.now c.args.store.now g.K.Keeper.exact c.args.needed entries entries
+    c.args.self.now.found.entries (value_view c.args.value.now) c.args.below.now.trial.reads
+    c.args.below.now.uses.items c.requires.known c.requires.come
 
 pub returns-in_err-push-in-Kept-clause-gains : goal.returns-in_err-push-in-Kept-clause-gains
 returns-in_err-push-in-Kept-clause-gains g c =
@@ -21,9 +23,12 @@ returns-in_err-push-in-Kept-clause-gains g c =
     let found = c.args.self.now.found.entries in
     let v = value_view c.args.value.now in
     let absent = none_entered (old c.args.needed) c.stands.result c.stands.ensures c.if-stands.false in
-    subst (λ (f : Found). Gains c.args.rules.now c.args.store.now g.K.Keeper.exact c.args.needed old new found f c.args.self.now.work c.put.new.self.work) (sym c.put.ensures.found)
-    (gains_put_so c.args.rules.now c.args.store.now g.K.Keeper.exact c.args.needed old new found v c.args.below.now.trial.reads c.args.below.now.uses.items c.requires.known c.requires.come
-    (Some v) (inl (refl, c.requires.lazy)) absent c.args.self.now.work c.put.new.self.work c.put.ensures.counts c.in_ok-put.put c.in_ok-put.ensures.puts)
+    subst (λ (f : Found). Gains c.args.rules.now c.args.store.now g.K.Keeper.exact c.args.needed old new found f
+    c.args.self.now.work c.put.new.self.work) (sym c.put.ensures.found)
+    (gains_put_so c.args.rules.now c.args.store.now g.K.Keeper.exact c.args.needed old new found v
+    c.args.below.now.trial.reads c.args.below.now.uses.items c.requires.known c.requires.come
+    (Some v) (inl (refl, c.requires.lazy)) absent c.args.self.now.work c.put.new.self.work c.put.ensures.counts
+    c.in_ok-put.put c.in_ok-put.ensures.puts)
 
 pub returns-in_ok-push-in-Kept-clause-told : goal.returns-in_ok-push-in-Kept-clause-told
 returns-in_ok-push-in-Kept-clause-told g c =
@@ -33,9 +38,14 @@ returns-in_ok-push-in-Kept-clause-told g c =
     let v = value_view c.args.value.now in
     let ls = c.args.below.now.trial.reads in
     let us = c.args.below.now.uses.items in
-    let puts = subst (λ (p : Put). HasPut g.K.Keeper.exact entries c.args.needed (Some v) ls us new p) c.in-Kept.is c.in_ok-put.ensures.puts in
-    told_kept c.args.rules.now (contents c.args.store.now) (known_by new c.put.new.self.found.entries) old (record { trial = old.trial; uses = c.push.new.self }) c.args.needed v
-    (kept_now new c.put.new.self.found.entries c.args.needed v (put_kept g.K.Keeper.exact entries new c.args.needed v ls us puts)) refl c.in_ok-push-in-Kept.ensures.items
+    let puts = subst (λ (p : Put). HasPut g.K.Keeper.exact entries c.args.needed (Some v) ls us new p) c.in-Kept.is
+    c.in_ok-put.ensures.puts in
+    told_kept c.args.rules.now (contents c.args.store.now) (known_by new c.put.new.self.found.entries) old (record {
+      trial = old.trial;
+      uses = c.push.new.self;
+    }) c.args.needed v
+    (kept_now new c.put.new.self.found.entries c.args.needed v (put_kept g.K.Keeper.exact entries new c.args.needed v
+    ls us puts)) refl c.in_ok-push-in-Kept.ensures.items
 
 pub returns-in_ok-push-in-Kept-clause-gains : goal.returns-in_ok-push-in-Kept-clause-gains
 returns-in_ok-push-in-Kept-clause-gains g c =
@@ -44,6 +54,9 @@ returns-in_ok-push-in-Kept-clause-gains g c =
     let found = c.args.self.now.found.entries in
     let v = value_view c.args.value.now in
     let absent = none_entered (old c.args.needed) c.stands.result c.stands.ensures c.if-stands.false in
-    subst (λ (f : Found). Gains c.args.rules.now c.args.store.now g.K.Keeper.exact c.args.needed old new found f c.args.self.now.work c.put.new.self.work) (sym c.put.ensures.found)
-    (gains_put_so c.args.rules.now c.args.store.now g.K.Keeper.exact c.args.needed old new found v c.args.below.now.trial.reads c.args.below.now.uses.items c.requires.known c.requires.come
-    (Some v) (inl (refl, c.requires.lazy)) absent c.args.self.now.work c.put.new.self.work c.put.ensures.counts c.in_ok-put.put c.in_ok-put.ensures.puts)
+    subst (λ (f : Found). Gains c.args.rules.now c.args.store.now g.K.Keeper.exact c.args.needed old new found f
+    c.args.self.now.work c.put.new.self.work) (sym c.put.ensures.found)
+    (gains_put_so c.args.rules.now c.args.store.now g.K.Keeper.exact c.args.needed old new found v
+    c.args.below.now.trial.reads c.args.below.now.uses.items c.requires.known c.requires.come
+    (Some v) (inl (refl, c.requires.lazy)) absent c.args.self.now.work c.put.new.self.work c.put.ensures.counts
+    c.in_ok-put.put c.in_ok-put.ensures.puts)

@@ -13,5 +13,7 @@ returns-clause-counts g c =
     let new = g.K.Keeper.contents c.put.new.self in
     let reads = map loc_view c.as_slice-reads.result.now in
     let uses = c.as_slice-uses.result.now in
-    let puts = subst (λ (i : Instance ℕ). HasPut exact old i (Some (value_view c.in_ok-copy-2.field-0)) reads uses new c.in_ok-put.put) c.in_ok-copy.ensures c.in_ok-put.ensures.puts in
-    λ is. counts_put old new exact c.args.inst.now _ reads uses c.args.self.now.work c.saturating_add-self.result is c.requires.absent c.in_ok-put.put puts c.saturating_add-self.ensures
+    let puts = subst (λ (i : Instance ℕ). HasPut exact old i (Some (value_view c.in_ok-copy-2.field-0)) reads uses new
+    c.in_ok-put.put) c.in_ok-copy.ensures c.in_ok-put.ensures.puts in
+    λ is. counts_put old new exact c.args.inst.now _ reads uses c.args.self.now.work c.saturating_add-self.result is
+    c.requires.absent c.in_ok-put.put puts c.saturating_add-self.ensures

@@ -14,7 +14,12 @@ returns g c =
     let old = c.args.level.now in
     let entries = g.K.Keeper.contents c.args.keeper.now in
     let found = c.args.self.now.found.entries in
-    let is = subst (λ (o : Option ValueCode). IsOneOf (kept_values entries c.args.needed.now) (remembered found c.args.needed.now) o) c.in-Some.is c.in_ok-value.ensures in
-    told_kept c.args.rules.now (contents c.args._store.now) (known_by entries found) old (record { trial = old.trial; uses = c.push.new.self }) c.args.needed.now (value_view c.in-Some.value)
-    (one_known c.args.rules.now (contents c.args._store.now) entries found c.requires.known c.args.needed.now (value_view c.in-Some.value) is) refl
+    let is = subst (λ (o : Option ValueCode). IsOneOf (kept_values entries c.args.needed.now) (remembered found
+    c.args.needed.now) o) c.in-Some.is c.in_ok-value.ensures in
+    told_kept c.args.rules.now (contents c.args._store.now) (known_by entries found) old (record {
+      trial = old.trial;
+      uses = c.push.new.self;
+    }) c.args.needed.now (value_view c.in-Some.value)
+    (one_known c.args.rules.now (contents c.args._store.now) entries found c.requires.known c.args.needed.now
+    (value_view c.in-Some.value) is) refl
     (c.in_ok-push.ensures.items ∙ ap (λ (i : Instance ℕ). old.uses.items ++ i ∷ []) c.in_ok-copy.ensures)

@@ -20,8 +20,10 @@ returns-in_err-insert-clause-gains g c =
     let f = c.args.self.now.found.entries in
     let w = c.args.self.now.work in
     let i = c.args.needed in
-    let stood = gains_as rules s exact i old new f c.stand.new.self.found.entries c.see.new.self.found.entries w c.stand.new.self.work c.see.new.self.work c.see.ensures.found c.see.ensures.work c.stand.ensures.gains in
-    gains_as rules s exact i old new f c.see.new.self.found.entries c.insert.new.found.entries w c.see.new.self.work c.see.new.self.work c.in_err-insert.ensures.err refl stood
+    let stood = gains_as rules s exact i old new f c.stand.new.self.found.entries c.see.new.self.found.entries w
+    c.stand.new.self.work c.see.new.self.work c.see.ensures.found c.see.ensures.work c.stand.ensures.gains in
+    gains_as rules s exact i old new f c.see.new.self.found.entries c.insert.new.found.entries w c.see.new.self.work
+    c.see.new.self.work c.in_err-insert.ensures.err refl stood
 
 pub returns-in_err-push-clause-gains : goal.returns-in_err-push-clause-gains
 returns-in_err-push-clause-gains g c =
@@ -33,12 +35,16 @@ returns-in_err-push-clause-gains g c =
     let f = c.args.self.now.found.entries in
     let w = c.args.self.now.work in
     let i = c.args.needed in
-    let stood = gains_as rules s exact i old new f c.stand.new.self.found.entries c.see.new.self.found.entries w c.stand.new.self.work c.see.new.self.work c.see.ensures.found c.see.ensures.work c.stand.ensures.gains in
+    let stood = gains_as rules s exact i old new f c.stand.new.self.found.entries c.see.new.self.found.entries w
+    c.stand.new.self.work c.see.new.self.work c.see.ensures.found c.see.ensures.work c.stand.ensures.gains in
     let copied = c.in_ok-copy-2.field-0 in
-    let put = c.in_ok-insert.ensures.inserted ∙ ap (λ (x : Instance ℕ). insert_entry same_instance c.see.new.self.found.entries x copied) c.in_ok-copy.ensures in
+    let put = c.in_ok-insert.ensures.inserted ∙ ap (λ (x : Instance ℕ). insert_entry same_instance
+    c.see.new.self.found.entries x copied) c.in_ok-copy.ensures in
     let has = subst (λ (v : Value ℕ). HasValue (contents s) (meaning rules) i v) (sym c.in_ok-copy-2.ensures)
-    (valued rules s exact i old old f (value_view c.args.value.now) c.args.below.now.trial.reads c.args.below.now.uses.items c.requires.known c.requires.come) in
-    gains_more rules s exact i old new f c.see.new.self.found.entries c.insert.new.found.entries w c.see.new.self.work copied stood put has c.in_ok-stand.ensures.stands
+    (valued rules s exact i old old f (value_view c.args.value.now) c.args.below.now.trial.reads
+    c.args.below.now.uses.items c.requires.known c.requires.come) in
+    gains_more rules s exact i old new f c.see.new.self.found.entries c.insert.new.found.entries w c.see.new.self.work
+    copied stood put has c.in_ok-stand.ensures.stands
 
 pub returns-clause-told : goal.returns-clause-told
 returns-clause-told g c =
@@ -50,14 +56,22 @@ returns-clause-told g c =
     let f = c.args.self.now.found.entries in
     let w = c.args.self.now.work in
     let i = c.args.needed in
-    let stood = gains_as rules s exact i old new f c.stand.new.self.found.entries c.see.new.self.found.entries w c.stand.new.self.work c.see.new.self.work c.see.ensures.found c.see.ensures.work c.stand.ensures.gains in
+    let stood = gains_as rules s exact i old new f c.stand.new.self.found.entries c.see.new.self.found.entries w
+    c.stand.new.self.work c.see.new.self.work c.see.ensures.found c.see.ensures.work c.stand.ensures.gains in
     let copied = c.in_ok-copy-2.field-0 in
-    let put = c.in_ok-insert.ensures.inserted ∙ ap (λ (x : Instance ℕ). insert_entry same_instance c.see.new.self.found.entries x copied) c.in_ok-copy.ensures in
+    let put = c.in_ok-insert.ensures.inserted ∙ ap (λ (x : Instance ℕ). insert_entry same_instance
+    c.see.new.self.found.entries x copied) c.in_ok-copy.ensures in
     let has = subst (λ (v : Value ℕ). HasValue (contents s) (meaning rules) i v) (sym c.in_ok-copy-2.ensures)
-    (valued rules s exact i old old f (value_view c.args.value.now) c.args.below.now.trial.reads c.args.below.now.uses.items c.requires.known c.requires.come) in
+    (valued rules s exact i old old f (value_view c.args.value.now) c.args.below.now.trial.reads
+    c.args.below.now.uses.items c.requires.known c.requires.come) in
     let level = c.args.level.now in
-    let is = more_known rules s exact i old new f c.see.new.self.found.entries c.insert.new.found.entries w c.see.new.self.work copied stood put has c.in_ok-stand.ensures.stands in
-    told_kept rules (contents s) (known_by new c.insert.new.found.entries) level (record { trial = level.trial; uses = c.push.new.self }) i (value_view c.args.value.now)
+    let is = more_known rules s exact i old new f c.see.new.self.found.entries c.insert.new.found.entries w
+    c.see.new.self.work copied stood put has c.in_ok-stand.ensures.stands in
+    told_kept rules (contents s) (known_by new c.insert.new.found.entries) level (record {
+      trial = level.trial;
+      uses =
+          c.push.new.self;
+    }) i (value_view c.args.value.now)
     (is ∙ ap (λ (v : Value ℕ). Some v) c.in_ok-copy-2.ensures) refl c.in_ok-push.ensures.items
 
 pub returns-clause-gains : goal.returns-clause-gains
@@ -70,9 +84,13 @@ returns-clause-gains g c =
     let f = c.args.self.now.found.entries in
     let w = c.args.self.now.work in
     let i = c.args.needed in
-    let stood = gains_as rules s exact i old new f c.stand.new.self.found.entries c.see.new.self.found.entries w c.stand.new.self.work c.see.new.self.work c.see.ensures.found c.see.ensures.work c.stand.ensures.gains in
+    let stood = gains_as rules s exact i old new f c.stand.new.self.found.entries c.see.new.self.found.entries w
+    c.stand.new.self.work c.see.new.self.work c.see.ensures.found c.see.ensures.work c.stand.ensures.gains in
     let copied = c.in_ok-copy-2.field-0 in
-    let put = c.in_ok-insert.ensures.inserted ∙ ap (λ (x : Instance ℕ). insert_entry same_instance c.see.new.self.found.entries x copied) c.in_ok-copy.ensures in
+    let put = c.in_ok-insert.ensures.inserted ∙ ap (λ (x : Instance ℕ). insert_entry same_instance
+    c.see.new.self.found.entries x copied) c.in_ok-copy.ensures in
     let has = subst (λ (v : Value ℕ). HasValue (contents s) (meaning rules) i v) (sym c.in_ok-copy-2.ensures)
-    (valued rules s exact i old old f (value_view c.args.value.now) c.args.below.now.trial.reads c.args.below.now.uses.items c.requires.known c.requires.come) in
-    gains_more rules s exact i old new f c.see.new.self.found.entries c.insert.new.found.entries w c.see.new.self.work copied stood put has c.in_ok-stand.ensures.stands
+    (valued rules s exact i old old f (value_view c.args.value.now) c.args.below.now.trial.reads
+    c.args.below.now.uses.items c.requires.known c.requires.come) in
+    gains_more rules s exact i old new f c.see.new.self.found.entries c.insert.new.found.entries w c.see.new.self.work
+    copied stood put has c.in_ok-stand.ensures.stands

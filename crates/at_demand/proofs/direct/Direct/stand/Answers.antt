@@ -14,14 +14,18 @@ pub put-requires-clause-present : goal.put-requires-clause-present
 put-requires-clause-present g c = λ u h.
     let entries = g.K.Keeper.contents c.args.keeper.now in
     let below = c.args.below.now in
-    taken c.args.rules.now c.args.store.now g.K.Keeper.exact c.args.needed.now entries entries c.args.self.now.found.entries (value_view c.args.value.now) below.trial.reads below.uses.items c.requires.known c.requires.come u
+    taken c.args.rules.now c.args.store.now g.K.Keeper.exact c.args.needed.now entries entries
+    c.args.self.now.found.entries (value_view c.args.value.now) below.trial.reads below.uses.items c.requires.known
+    c.requires.come u
     (subst (λ (xs : List (Instance ℕ)). Contains xs u) c.as_slice-uses.ensures.value h)
 
 pub returns-in_err-put-clause-gains : goal.returns-in_err-put-clause-gains
 returns-in_err-put-clause-gains g c =
     let old = g.K.Keeper.contents c.args.keeper.now in
     let new = g.K.Keeper.contents c.put.new.self in
-    gains_same c.args.rules.now c.args.store.now g.K.Keeper.exact c.args.needed.now old new c.args.self.now.found.entries c.args.self.now.work c.args.self.now.work c.in_err-put.ensures.err c.requires.known
+    gains_same c.args.rules.now c.args.store.now g.K.Keeper.exact c.args.needed.now old new
+    c.args.self.now.found.entries c.args.self.now.work c.args.self.now.work c.in_err-put.ensures.err
+    c.requires.known
     (λ k. counts_same old new c.args.self.now.work c.args.self.now.few c.in_err-put.ensures.err)
 
 pub returns-in-Kept-clause-stands : goal.returns-in-Kept-clause-stands
@@ -31,7 +35,8 @@ returns-in-Kept-clause-stands g c =
     let new = g.K.Keeper.contents c.put.new.self in
     let ls = map loc_view c.as_slice-reads.result.now in
     let us = c.as_slice-uses.result.now in
-    let one = subst (λ (i : Instance ℕ). HasPut exact old i None ls us new c.in_ok-put.put) c.in_ok-copy.ensures c.in_ok-put.ensures.puts in
+    let one = subst (λ (i : Instance ℕ). HasPut exact old i None ls us new c.in_ok-put.put) c.in_ok-copy.ensures
+    c.in_ok-put.ensures.puts in
     let puts = subst (λ (p : Put). HasPut exact old c.args.needed.now None ls us new p) c.in-Kept.is one in
     put_there exact old new c.args.needed.now None ls us puts
 
@@ -46,8 +51,13 @@ returns-in-Kept-clause-gains g c =
     let i = c.args.needed.now in
     let w = c.args.self.now.work in
     let absent = none_entered (old i) c.stands.result c.stands.ensures c.if-stands.false in
-    let one = subst (λ (x : Instance ℕ). HasPut exact old x None ls us new c.in_ok-put.put) c.in_ok-copy.ensures c.in_ok-put.ensures.puts in
-    let two = subst (λ (xs : List (Location ℕ)). HasPut exact old i None xs us new c.in_ok-put.put) (c.as_slice-reads.ensures ∙ c.reads.ensures) one in
-    let puts = subst (λ (xs : List (Instance ℕ)). HasPut exact old i None below.trial.reads xs new c.in_ok-put.put) c.as_slice-uses.ensures.value two in
-    gains_put_so c.args.rules.now c.args.store.now exact i old new c.args.self.now.found.entries (value_view c.args.value.now) below.trial.reads below.uses.items c.requires.known c.requires.come
-    None (inr (refl, c.requires.lazy)) absent w w (λ k. counts_shared_so c.args.rules.now c.args.store.now exact old new i below.trial.reads below.uses.items w c.args.self.now.few absent c.in_ok-put.put puts) c.in_ok-put.put puts
+    let one = subst (λ (x : Instance ℕ). HasPut exact old x None ls us new c.in_ok-put.put) c.in_ok-copy.ensures
+    c.in_ok-put.ensures.puts in
+    let two = subst (λ (xs : List (Location ℕ)). HasPut exact old i None xs us new c.in_ok-put.put)
+    (c.as_slice-reads.ensures ∙ c.reads.ensures) one in
+    let puts = subst (λ (xs : List (Instance ℕ)). HasPut exact old i None below.trial.reads xs new c.in_ok-put.put)
+    c.as_slice-uses.ensures.value two in
+    gains_put_so c.args.rules.now c.args.store.now exact i old new c.args.self.now.found.entries (value_view
+    c.args.value.now) below.trial.reads below.uses.items c.requires.known c.requires.come
+    None (inr (refl, c.requires.lazy)) absent w w (λ k. counts_shared_so c.args.rules.now c.args.store.now exact old
+    new i below.trial.reads below.uses.items w c.args.self.now.few absent c.in_ok-put.put puts) c.in_ok-put.put puts

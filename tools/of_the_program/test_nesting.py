@@ -1,0 +1,57 @@
+"""Questions whose instances nest: to the depth to which they are evaluated in one go, a level beyond it, and far beyond, by a small stack."""
+import resource
+import subprocess
+
+from tools.of_the_program.runs import NOTHING, SECONDS, ProgramTest
+
+# How deep instances nest at most where they are evaluated in one go, and depths on both sides of it.
+DEPTH = 400
+DEPTHS = (1, DEPTH - 1, DEPTH, DEPTH + 1, DEPTH + 2, 3_000)
+# What reading the deepest tree takes, and a question: less than that.
+STACK = 512 * 1024
+
+GRAMMAR = "Names ::= Item*;\nItem ::= <ID>;\n"
+# Each item asks the one before it, and the first one ends.
+ASPECT = "aspect C {{ inh {lazy} int Item.c(); eq Names.getItem(int i).c() = i == 0 ? {first} : getItem(i - 1).c() + 1; }}\n"
+
+
+def little_stack() -> None:
+    """For a process that begins: it has no more than that."""
+    resource.setrlimit(resource.RLIMIT_STACK, (STACK, STACK))
+
+
+class Nesting(ProgramTest):
+    """Chains of items, asked at their last one, each twice."""
+
+    def told(self, items: int, lazy: str, first: str) -> bytes:
+        """What is told of the last item of so many, asked twice."""
+        files = {"names.ast": GRAMMAR, "names.jrag": ASPECT.format(lazy=lazy, first=first),
+                 "names.txt": "Names([" + ",".join(['Item("n")'] * items) + "])\n"}
+        for name, text in files.items():
+            (self.folder / name).write_text(text, encoding="utf-8")
+        lines = f"0 ask /Item:{items - 1} c()\n".encode() * 2
+        run = subprocess.run([self.program, "names.ast", "names.txt", "names.jrag"], cwd=self.folder, env=NOTHING, input=lines,
+                             stdout=subprocess.PIPE, stderr=subprocess.PIPE, timeout=SECONDS, preexec_fn=little_stack)
+        self.assertEqual((run.returncode, run.stderr), (0, b""))
+        return run.stdout
+
+    def test_lazy_instances_nest(self) -> None:
+        for items in DEPTHS:
+            with self.subTest(items=items):
+                self.assertEqual(self.told(items, "lazy", "0"), f"0 = {items - 1}\n".encode() * 2)
+
+    def test_instances_that_are_not_lazy_nest(self) -> None:
+        for items in DEPTHS:
+            with self.subTest(items=items):
+                self.assertEqual(self.told(items, "", "0"), f"0 = {items - 1}\n".encode() * 2)
+
+    def test_a_fault_at_the_end_is_told_of_the_first_item(self) -> None:
+        for items in DEPTHS:
+            with self.subTest(items=items):
+                self.assertEqual(self.told(items, "lazy", "1 / 0"), b"0 fault zero in /Item:0.c\n" * 2)
+
+    def test_a_circle_is_told(self) -> None:
+        for items in DEPTHS:
+            with self.subTest(items=items):
+                first = f"getItem({items - 1}).c()"
+                self.assertEqual(self.told(items, "", first), f"0 circular /Item:{items - 1}.c\n".encode() * 2)
