@@ -1,0 +1,148 @@
+-- A value that was evaluated with inner ones, and is put for all that was looked at and taken, leaves what is kept right and spare.
+use Rattle.std.proofs.Common.{◌≡◌, ◌⊎◌, ◌||◌, ℕ, Bool, true, false, not, List, [], ◌∷◌, Option, Some, None, inl, inr, refl, sym, ap, ◌∙◌, subst, if◌then◌else◌, true≢false}
+use Rattle.std.specs.Prelude.{IsSome, IsTrue}
+use Rattle.std.specs.List.{list_any}
+use Rattle.std.proofs.lemmas.Option.{same_Some}
+use Rattle.at_model.specs.Run.{Value, Instance, Location, Contents}
+use Rattle.at_model.specs.Rules.{Rules, is_lazy}
+use Rattle.at_model.specs.Meaning.{Among, HasValue, Leads, Right}
+use Rattle.at_model.specs.Support.{Supports}
+use Rattle.at_model.specs.Nested.{Evaluates}
+use Rattle.at_model.proofs.Options.{or_right}
+use Rattle.at_model.proofs.Nesting.{evaluates_value, covered as all_covered, only as only_supports, takes, taken_known, led}
+use Rattle.at_body.specs.Same.{same_instance}
+use Rattle.at_cache.specs.Kept.{Kept, Entries, Puts, covered, covers_at, same_location, value_at}
+use Rattle.at_cache.proofs.Locations.{same_location-is, same_location-itself}
+use Rattle.at_demand.specs.Known.{meaning, kept_values, ArePlain, IsKept, KeepsEntries}
+use Rattle.at_demand.specs.Covering.{AreCovered}
+use Rattle.at_demand.specs.Sparing.{AddsWorthy, AreOnly, AreSpare, IsDeep, IsWorthKeeping}
+use Rattle.at_demand.specs.Inner.{is_inner, KeepsInner}
+use Rattle.at_demand.proofs.Entered.{entered, is_there, kept_on, not_none}
+use Rattle.at_demand.proofs.Gathered.{any_among}
+use Rattle.at_demand.proofs.Leading.{supports_on}
+use Rattle.at_demand.proofs.OnlyLemmas.{any_one}
+use Rattle.at_demand.proofs.Sameness.{same_true}
+
+left : (a b : Bool) → a ≡ true → (a || b) ≡ true
+left true b e = refl
+left false b e = absurd (true≢false (sym e))
+
+one_of : (a b : Bool) → (a || b) ≡ true → (a ≡ true) ⊎ (b ≡ true)
+one_of true b h = inl refl
+one_of false b h = inr h
+
+not_inner : (b : Bool) → not b ≡ true → b ≡ true → ⊥
+not_inner true e h = true≢false (sym e)
+not_inner false e h = true≢false (sym h)
+
+module _ (rules : Rules) (look : Contents ℕ) (exact : Bool) (old new : Entries) (n : ℕ) (i : Instance ℕ) (v : Value ℕ) (ls : List (Location ℕ)) (us : List (Instance ℕ))
+    (right : Right look (meaning rules) (kept_values old)) (lazy : is_lazy rules i.attribute ≡ true) (absent : old i ≡ None)
+    (ev : Evaluates look (meaning rules) (kept_values old) (is_inner rules) n (meaning rules i) v ls us) (puts : Puts exact old i (Some v) ls us new) where
+  holds : HasValue look (meaning rules) i v
+  holds = evaluates_value look (meaning rules) (kept_values old) right (is_inner rules) n i v ls us ev
+
+  -- what stands there now
+  cases : (j : Instance ℕ) → (new j ≡ old j) ⊎ ((i ≡ j) × (new j ≡ Some puts.entry))
+  cases j = by (same_instance i j) refl
+    where
+      by : (t : Bool) → same_instance i j ≡ t → (new j ≡ old j) ⊎ ((i ≡ j) × (new j ≡ Some puts.entry))
+      by true at = inr (same_true i j at, puts.adds j ∙ ap (λ t. if t then Some puts.entry else old j) at)
+      by false at = inl (puts.adds j ∙ ap (λ t. if t then Some puts.entry else old j) at)
+
+  value_now : (j : Instance ℕ) → new j ≡ Some puts.entry → kept_values new j ≡ Some v
+  value_now j e = ap value_at e ∙ puts.value
+
+  stays : KeepsEntries old new
+  stays j some = elim (cases j) [ inl same ↦ same | inr p ↦ absurd (not_none (old j) some (subst (λ x. old x ≡ None) p.0 absent)) ]
+
+  right_now : Right look (meaning rules) (kept_values new)
+  right_now j w e = elim (cases j) [
+    | inl same ↦ right j w (sym (ap value_at same) ∙ e)
+    | inr p ↦ let is : v ≡ w = same_Some v w (sym (value_now j p.1) ∙ e) in subst (λ x. HasValue look (meaning rules) j x) is (subst (λ x. HasValue look (meaning rules) x v) p.0 holds)
+  ]
+
+  plain_now : ArePlain rules old → ArePlain rules new
+  plain_now plain j k is none = elim (cases j) [
+    | inl same ↦ plain j k (sym same ∙ is) none
+    | inr p ↦ let is' : puts.entry ≡ k = same_Some puts.entry k (sym p.1 ∙ is) in let some : Some v ≡ None = sym puts.value ∙ ap (λ (x : Kept). x.value) is' ∙ none in absurd cc
+  ]
+
+  -- what was taken is kept
+  taken : (u : Instance ℕ) → Among u us → IsKept old u
+  taken u a = let (w, e) = taken_known look (meaning rules) (kept_values old) right (is_inner rules) n i v ls us ev u a in is_there (kept_values old u) w e
+
+  -- all that supports the instance is covered
+  covered_all : AreCovered rules look old → (l : Location ℕ) → Supports look (meaning rules) l i → covered old ls us l ≡ true
+  covered_all covers l h = elim (all_covered look (meaning rules) (kept_values old) right (is_inner rules) n i v ls us ev l h) [
+    | inl a ↦ left _ _ (any_among (same_location l) l ls a (same_location-itself l))
+    | inr q ↦ or_right _ _ (any_among (λ u. covers_at (old u) l) q.0 us q.1 (by q.0 q.2 (old q.0) refl (entered old q.0 (taken q.0 q.1))))
+  ]
+    where
+      by : (u : Instance ℕ) → Supports look (meaning rules) l u → (o : Option Kept) → old u ≡ o → IsSome o → covers_at o l ≡ true
+      by u s None e some = absurd (true≢false (sym some))
+      by u s (Some k) e some = covers u k e l s
+
+  covers_now : AreCovered rules look old → AreCovered rules look new
+  covers_now covers m k is l h = elim (cases m) [
+    | inl same ↦ covers m k (sym same ∙ is) l h
+    | inr p ↦
+        let same : puts.entry ≡ k = same_Some puts.entry k (sym p.1 ∙ is) in
+        ap (λ (x : Kept). x.covers l) (sym same) ∙ puts.covers l (covered_all covers l (subst (λ x. Supports look (meaning rules) l x) (sym p.0) h))
+  ]
+
+  -- and nothing else
+  covered_supports : AreOnly rules look old → (l : Location ℕ) → covered old ls us l ≡ true → Supports look (meaning rules) l i
+  covered_supports only l h = elim (one_of _ _ h) [
+    | inl a ↦ (let (m, among, is) = any_one (same_location l) ls a in
+        only_supports look (meaning rules) (kept_values old) right (is_inner rules) n i v ls us ev l (subst (λ x. Among x ls) (sym (same_location-is l m is)) among))
+    | inr b ↦ (let (u, among, is) = any_one (λ u. covers_at (old u) l) us b in
+        supports_on look (meaning rules) i u l (takes look (meaning rules) (kept_values old) right (is_inner rules) n i v ls us ev u among) (by u (old u) refl is))
+  ]
+    where
+      by : (u : Instance ℕ) (o : Option Kept) → old u ≡ o → covers_at o l ≡ true → Supports look (meaning rules) l u
+      by u None is c = absurd (true≢false (sym c))
+      by u (Some k) is c = only u k is l c
+
+  spare_now : IsTrue exact → AreSpare rules look old → AreSpare rules look new
+  spare_now ex spare = record { only = only_now; lazy = lazy_now; deep = deep_now }
+    where
+      only_now : AreOnly rules look new
+      only_now m k is l h = elim (cases m) [
+        | inl same ↦ spare.only m k (sym same ∙ is) l h
+        | inr p ↦
+            let same : puts.entry ≡ k = same_Some puts.entry k (sym p.1 ∙ is) in
+            subst (Supports look (meaning rules) l) p.0 (covered_supports spare.only l (puts.only ex l (ap (λ (x : Kept). x.covers l) same ∙ h)))
+      ]
+
+      lazy_now : (j : Instance ℕ) → IsKept new j → is_lazy rules j.attribute ≡ true
+      lazy_now j kept = elim (cases j) [
+        | inl same ↦ spare.lazy j (subst (λ o. IsSome (value_at o)) same kept)
+        | inr p ↦ subst (λ (x : Instance ℕ). is_lazy rules x.attribute ≡ true) p.0 lazy
+      ]
+
+      below : (m : Instance ℕ) → Leads look (meaning rules) i m → is_lazy rules m.attribute ≡ true → new i ≡ Some puts.entry → IsKept new m
+      below m leads is here = elim (led look (meaning rules) (kept_values old) right (is_inner rules) n i v ls us ev m leads) [
+        | inl same ↦ subst (IsKept new) same (is_there (kept_values new i) v (value_now i here))
+        | inr q ↦ elim q [
+          | inl inner ↦ absurd (not_inner (is_lazy rules m.attribute) inner is)
+          | inr r ↦ kept_on old new stays m (spare.deep r.0 m (entered old r.0 (taken r.0 r.1)) r.2 is)
+        ]
+      ]
+
+      deep_now : IsDeep rules look new new
+      deep_now j m some leads is = elim (cases j) [
+        | inl same ↦ kept_on old new stays m (spare.deep j m (subst IsSome same some) leads is)
+        | inr p ↦ below m (subst (λ x. Leads look (meaning rules) x m) (sym p.0) leads) is (subst (λ x. new x ≡ Some puts.entry) (sym p.0) p.1)
+      ]
+
+  worthy_now : AddsWorthy rules look i old new
+  worthy_now = record { stays = stays; worthy = came }
+    where
+      came : (j : Instance ℕ) → kept_values old j ≡ None → IsKept new j → IsWorthKeeping rules look i j
+      came j none kept = elim (cases j) [
+        | inl same ↦ absurd (not_none (kept_values new j) kept (ap value_at same ∙ none))
+        | inr p ↦ record { reached = inl p.0; lazy = subst (λ (x : Instance ℕ). is_lazy rules x.attribute ≡ true) p.0 lazy; value = v; has = subst (λ x. HasValue look (meaning rules) x v) p.0 holds }
+      ]
+
+  pub keeps_inner : KeepsInner rules look exact i old new
+  keeps_inner = record { worthy = worthy_now; right = λ r. right_now; plain = plain_now; covers = covers_now; spare = spare_now }
