@@ -29,4 +29,5 @@ pub mod Standing
 pub mod Few
 mod Fitting
 mod Putting
+mod InnerPuts
 pub mod Chained

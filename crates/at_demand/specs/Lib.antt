@@ -17,3 +17,4 @@ pub mod Attempts
 pub mod KeptTrials
 pub mod Answered
 pub mod Keeping
+pub mod Inner

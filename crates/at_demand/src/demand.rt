@@ -1,6 +1,6 @@
 //! Questions for the values of instances.
 
-ghost use Rattle.std.specs.Prelude.{◌≡◌, ◌<◌, ◌^◌, map, IfOk, OnErr, IsTrue, None, Some, true};
+ghost use Rattle.std.specs.Prelude.{◌≡◌, ◌<◌, ◌^◌, map, IfOk, IfSome, OnErr, IsTrue, None, Some, true};
 ghost use Rattle.std.specs.Map.{lookup};
 ghost use Rattle.at_model.specs.Instances.{AnyText};
 ghost use Rattle.at_model.specs.Meaning.{HasValue, Right};
@@ -20,13 +20,15 @@ ghost use Rattle.at_demand.specs.Answered.{HasAnswered};
 ghost use Rattle.at_demand.specs.UnderWay.{HasStepped, IsOrderlyIn};
 ghost use Rattle.at_demand.specs.Typing.{AreTypedWaiting, IsTypedIn};
 ghost use Rattle.at_model.specs.Rules.{is_lazy};
-ghost use Rattle.at_demand.specs.Sparing.{Counts};
+ghost use Rattle.at_demand.specs.Sparing.{AreSpare, Counts, HasWorthy};
+ghost use Rattle.at_demand.specs.Inner.{Gains};
 ghost use Rattle.at_demand.specs.Stacked.{IsStackedIn};
 
 mod shared;
 mod turning;
 
 use crate::answer::Answer;
+use crate::direct::{Direct, Stop};
 use crate::evaluation::{Advance, Evaluation, Find};
 use crate::sharing::Sharing;
 use at_body::{Inst, Step, Value};
@@ -64,6 +66,80 @@ impl<K: Keeper> Demand<K> {
     /// exact keeper just the lazy instances come to what is kept that the question leads to and that have a value, and the
     /// work grows by their number. An error where memory is wanting.
     pub fn answer(
+        &mut self,
+        rules: &Rules,
+        store: &Store,
+        inst: &Inst,
+    ) -> Result<Answer, AllocError>
+        requires idle { IsIdle store.now }
+        requires formed { AreWellFormed rules.now }
+        requires sound { IsTreeSound rules.now.classes (tree store.now) }
+        requires typed { IsWellTyped rules.now (class_shown store.now) AnyText inst.now }
+        requires right { Right (contents store.now) (meaning rules.now) (kept_values (K.contents self.old.keeper)) }
+        requires plain { ArePlain rules.now (K.contents self.old.keeper) }
+        ensures { HasAnswered rules.now store.now K.exact (K.contents self.old.keeper) (K.contents self.new.keeper)
+            self.old.work self.new.work inst.now result }
+    {
+        if let Some(value) = self.keeper.get(inst) {
+            return Ok(Answer::Value(value.copy()?));
+        }
+        self.answer_anew(rules, store, inst)
+    }
+
+    // The answer for an instance that isn't kept: in one go or, where that gives up, by a chain of evaluations that wait.
+    #[inline(never)]
+    fn answer_anew(
+        &mut self,
+        rules: &Rules,
+        store: &Store,
+        inst: &Inst,
+    ) -> Result<Answer, AllocError>
+        requires idle { IsIdle store.now }
+        requires formed { AreWellFormed rules.now }
+        requires sound { IsTreeSound rules.now.classes (tree store.now) }
+        requires typed { IsWellTyped rules.now (class_shown store.now) AnyText inst.now }
+        requires right { Right (contents store.now) (meaning rules.now) (kept_values (K.contents self.old.keeper)) }
+        requires plain { ArePlain rules.now (K.contents self.old.keeper) }
+        ensures { HasAnswered rules.now store.now K.exact (K.contents self.old.keeper) (K.contents self.new.keeper)
+            self.old.work self.new.work inst.now result }
+    {
+        let at_once = self.answer_at_once(rules, store, inst)?;
+        match at_once {
+            Some(value) => Ok(Answer::Value(value)),
+            None => self.answer_by_chain(rules, store, inst),
+        }
+    }
+
+    // The value of an instance that isn't kept, by an evaluation in one go; none where that gives up.
+    fn answer_at_once(
+        &mut self,
+        rules: &Rules,
+        store: &Store,
+        inst: &Inst,
+    ) -> Result<Option<Value>, AllocError>
+        requires idle { IsIdle store.now }
+        requires formed { AreWellFormed rules.now }
+        requires sound { IsTreeSound rules.now.classes (tree store.now) }
+        requires typed { IsWellTyped rules.now (class_shown store.now) AnyText inst.now }
+        requires right { Right (contents store.now) (meaning rules.now) (kept_values (K.contents self.old.keeper)) }
+        requires plain { ArePlain rules.now (K.contents self.old.keeper) }
+        ensures value { IfOk result (λ o. IfSome o (λ v. HasValue (contents store.now) (meaning rules.now) inst.now (value_view v))) }
+        ensures all { IsTrue K.exact → AreSpare rules.now (contents store.now) (K.contents self.old.keeper)
+            → IfOk result (λ o. IfSome o (λ v. HasWorthy rules.now (contents store.now) inst.now (K.contents self.new.keeper))) }
+        ensures gains { Gains rules.now store.now K.exact inst.now (K.contents self.old.keeper) (K.contents self.new.keeper) self.old.work self.new.work }
+    {
+        let mut direct = Direct::new(self.alloc, self.work);
+        let told = direct.answer(&mut self.keeper, rules, store, inst);
+        self.work = direct.work;
+        match told {
+            Ok(value) => Ok(Some(value)),
+            Err(Stop::GivesUp) => Ok(None),
+            Err(Stop::Memory) => Err(AllocError),
+        }
+    }
+
+    // The answer for an instance, which may have come to be kept where an evaluation in one go gave up.
+    fn answer_by_chain(
         &mut self,
         rules: &Rules,
         store: &Store,

@@ -20,6 +20,7 @@
 mod answer;
 mod chain;
 mod demand;
+mod direct;
 mod evaluation;
 mod gathering;
 mod laws;

@@ -11,6 +11,7 @@ pub mod Bodies
 pub mod Rules
 pub mod Meaning
 pub mod Support
+pub mod Nested
 pub mod Turning
 pub mod Alike
 pub mod Samples
