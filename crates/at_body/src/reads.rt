@@ -38,7 +38,7 @@ impl Reads {
     }
 
     /// Takes all out; their memory stays.
-    pub(crate) fn clear(&mut self)
+    pub fn clear(&mut self)
         ensures { self.new ≡ [] }
     {
         self.items.clear();

@@ -17,4 +17,6 @@ pub mod Attempts
 pub mod KeptTrials
 pub mod Answered
 pub mod Keeping
+pub mod Looking
+pub mod Place
 pub mod Inner

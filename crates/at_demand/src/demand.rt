@@ -28,9 +28,10 @@ mod shared;
 mod turning;
 
 use crate::answer::Answer;
-use crate::direct::{Direct, Stop};
+use crate::direct::Direct;
 use crate::evaluation::{Advance, Evaluation, Find};
 use crate::sharing::Sharing;
+use crate::stop::Stop;
 use at_body::{Inst, Step, Value};
 use at_cache::{Keeper, Put};
 use at_rules::Rules;

@@ -18,15 +18,19 @@
 #![tactic(auto)]
 
 mod answer;
+mod applying;
 mod chain;
 mod demand;
 mod direct;
 mod evaluation;
+mod folding;
 mod gathering;
+mod here;
 mod laws;
 mod locations;
 mod question;
 mod sharing;
+mod stop;
 mod trials;
 mod turning_laws;
 
