@@ -30,4 +30,7 @@ pub mod Few
 mod Fitting
 mod Putting
 mod InnerPuts
+pub mod Directly
+pub mod Begun
+pub mod InParts
 pub mod Chained

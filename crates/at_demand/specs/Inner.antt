@@ -87,8 +87,8 @@ abbrev pub or_truth : Classes → Place → Option (Bor Body) → Bool → Run �
 or_truth classes p None b = Gives (Truth b)
 or_truth classes p (Some a) b = ev classes (body_view a.now) p
 
-abbrev pub either_of : Classes → Place → Body → (yes no : Option (Bor Body)) → Run ℕ (Value ℕ)
-either_of classes p test yes no = ev classes (body_view test) p >>= λ v. cond (truth_of v) (or_truth classes p yes true) (or_truth classes p no false)
+abbrev pub either_of : Classes → Place → Body → (chosen other : Option (Bor Body)) → Run ℕ (Value ℕ)
+either_of classes p test chosen other = ev classes (body_view test) p >>= λ v. cond (truth_of v) (or_truth classes p chosen true) (or_truth classes p other false)
 
 abbrev pub call_of : Classes → Place → Body → ℕ → List Body → Run ℕ (Value ℕ)
 call_of classes p a attribute bs = ev classes (body_view a) p >>= λ v. ev_all classes (bodies_view bs) p >>= demand_of attribute v

@@ -53,6 +53,11 @@ impl Level {
         self.reads.clear();
         self.uses.clear();
     }
+
+    // Whether many locations came since there were so many.
+    fn has_many_since(&self, before: usize) -> bool {
+        FEW < self.reads.len().saturating_sub(before)
+    }
 }
 
 // Evaluations in one go. One begins in a `spare` level of one that ended, where there is one; what is in it counts for nothing.
@@ -145,7 +150,7 @@ impl Direct {
         }
         let before = level.reads.len();
         let value = self.evaluate(keeper, rules, store, level, &needed, above)?;
-        if FEW < level.reads.len().saturating_sub(before) {
+        if level.has_many_since(before) {
             return Err(Stop::GivesUp);
         }
         Ok(value)
@@ -267,8 +272,8 @@ impl Direct {
         ensures come { IfOk result (λ v. HasCome rules.now (contents store.now) (K.contents keeper.new) level.old level.new (meaning rules.now inst.now) (value_view v)) }
         ensures gains { Gains rules.now store.now K.exact inst.now (K.contents keeper.old) (K.contents keeper.new) self.old.work self.new.work }
     {
-        let (here, body) = begin(self.alloc, rules, store, &mut level.reads, inst)?;
-        self.value(keeper, rules, store, level, &here, body, above)
+        let begun = begin(self.alloc, rules, store, &mut level.reads, inst)?;
+        self.value(keeper, rules, store, level, &begun.0, begun.1, above)
     }
 
     // The value of an expression.
@@ -518,19 +523,19 @@ impl Direct {
             (K.contents keeper.old) (K.contents keeper.new) self.old.work self.new.work }
     {
         let mut inside = here.copy()?;
-        let mut fold = fold;
+        let mut going = fold;
         let mut rest = nodes;
         while let Some((node, others)) = rest.split_first() {
             inside.bound.push(*node)?;
             let value = self.value(keeper, rules, store, level, &inside, body, above)?;
             let _ = inside.bound.pop();
-            match settle(fold, *node, &value)? {
-                Next::On(further) => fold = further,
+            match settle(going, *node, &value)? {
+                Next::On(further) => going = further,
                 Next::End(value) => return Ok(value),
             }
             rest = others;
         }
-        Ok(come_to(&fold))
+        Ok(come_to(&going))
     }
 }
 

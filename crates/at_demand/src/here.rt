@@ -1,6 +1,6 @@
 //! Where the equation of an instance stands, and its beginning.
 
-ghost use Rattle.std.specs.Prelude.{◌≡◌, ◌-◌, [], IfOk, length, map, nat_eq};
+ghost use Rattle.std.specs.Prelude.{◌≡◌, ◌-◌, [], IfOk, length, map, nat_eq, option_copied, slice_get};
 ghost use Rattle.at_model.specs.Bodies.{index_of, named};
 ghost use Rattle.at_model.specs.Classes.{Classes};
 ghost use Rattle.at_model.specs.Rules.{attribute_name, by_inherited};
@@ -16,7 +16,7 @@ ghost use Rattle.at_demand.specs.Place.{place_at};
 
 use crate::stop::Stop;
 use at_body::{Arguments, Inst, Reads, Stack, Value, look_at};
-use at_rules::{Body, Rules};
+use at_rules::{AttrId, Body, Rules};
 use at_store::{Loc, Node, Store};
 use at_tree::reader::MAX_DEPTH;
 use std::alloc::{AllocError, Global};
@@ -99,7 +99,7 @@ impl Here {
         ensures { IfOk result (λ v. named (map value_view self.now.arguments) (position - length self.now.bound) ≡ value_view v) }
     {
         let passed = position.saturating_sub(self.bound.len());
-        match self.arguments.as_slice().iter().nth(passed) {
+        match at(self.arguments.as_slice(), passed) {
             Some(value) => Ok(value.copy()?),
             None => Err(Stop::GivesUp),
         }
@@ -132,14 +132,16 @@ pub fn begin<'a>(
     ensures { IfOk result (λ r. HasBegun (contents store.now) reads.old reads.new (meaning rules.now inst.now)
         (ev rules.now.classes (body_view r.1.now) (place_at r.0))) }
 {
+    let node = inst.node();
+    let attribute = inst.attribute();
     let arguments = inst.shared_arguments()?;
-    reads.push(Loc::Is(inst.node()))?;
+    reads.push(Loc::Is(node))?;
     look_at(arguments.as_slice(), reads)?;
-    if rules.is_inherited(inst.attribute()) {
-        return climb(alloc, rules, store, reads, inst, arguments);
+    if rules.is_inherited(attribute) {
+        return climb(alloc, rules, store, reads, node, attribute, arguments);
     }
-    match rules.own_body(store.class(inst.node()), inst.attribute()) {
-        Some(body) => Ok((Here::new(alloc, inst.node(), None, arguments), body)),
+    match rules.own_body(store.class(node), attribute) {
+        Some(body) => Ok((Here::new(alloc, node, None, arguments), body)),
         None => Err(Stop::GivesUp),
     }
 }
@@ -150,15 +152,16 @@ fn climb<'a>(
     rules: &'a Rules,
     store: &Store,
     reads: &mut Reads,
-    inst: &Inst,
+    node: Node,
+    attribute: AttrId,
     arguments: Arguments,
 ) -> Result<(Here, &'a Body), Stop>
     requires idle { IsIdle store.now }
     ensures { IfOk result (λ r. HasBegun (contents store.now) reads.old reads.new
-        (by_inherited rules.now nat_eq (attribute_name rules.now inst.now.attribute) (map value_view arguments) max_depth inst.now.node)
+        (by_inherited rules.now nat_eq (attribute_name rules.now attribute) (map value_view arguments) max_depth node)
         (ev rules.now.classes (body_view r.1.now) (place_at r.0))) }
 {
-    let mut below = inst.node();
+    let mut below = node;
     let mut height = MAX_DEPTH;
     while height > 0 {
         height -= 1;
@@ -167,10 +170,17 @@ fn climb<'a>(
             return Err(Stop::GivesUp);
         };
         reads.push(Loc::Is(parent))?;
-        if let Some(body) = rules.inherited_body(store.class(parent), part, inst.attribute()) {
+        if let Some(body) = rules.inherited_body(store.class(parent), part, attribute) {
             return Ok((Here::new(alloc, parent, Some(below), arguments), body));
         }
         below = parent;
     }
     Err(Stop::GivesUp)
+}
+
+// The argument at a position.
+fn at(arguments: &[Value], position: usize) -> Option<&Value>
+    ensures { option_copied result ≡ slice_get arguments.now position }
+{
+    arguments.iter().nth(position)
 }

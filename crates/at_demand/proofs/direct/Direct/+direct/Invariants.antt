@@ -1,4 +1,9 @@
-use Rattle.std.proofs.Common.{◌+◌, ◌*◌}
+use Rattle.std.proofs.Common.{◌≡◌, ◌+◌, ◌*◌, ◌++◌, length, map}
+use Rattle.at_rules.specs.Bodies.{bodies_view, body_view}
+use Rattle.at_body.specs.Rest.{ev_all, over}
+use Rattle.at_body.specs.Values.{value_view}
+use Rattle.at_demand.specs.Place.{place_at}
+use Rattle.at_demand.proofs.InParts.{GoesOn}
 use Rattle.at_demand.proofs.direct.Direct.+direct.Given as goal
 
 abbrev pub decreases-value : goal.decreases-value
@@ -33,3 +38,20 @@ decreases-told g l = 8 * l.above + 6
 
 abbrev pub decreases-call : goal.decreases-call
 decreases-call g l = 8 * l.above + 7
+
+abbrev pub invariant-passed-loop-argument : goal.invariant-passed-loop-argument
+invariant-passed-loop-argument g l = GoesOn l.rules l.store g.K.Keeper.exact (g.K.Keeper.contents l.initial.keeper) (g.K.Keeper.contents l.keeper) l.initial.self.work l.self.work l.initial.level l.level
+    (ev_all l.rules.classes (bodies_view l.passed) (place_at l.here)) (ev_all l.rules.classes (bodies_view l.rest) (place_at l.here)) (λ vs. map value_view l.values.items ++ vs)
+
+abbrev pub decreases-passed-loop-argument : goal.decreases-passed-loop-argument
+decreases-passed-loop-argument g l = length l.rest
+
+abbrev pub invariant-each-loop-node : goal.invariant-each-loop-node
+invariant-each-loop-node g l = record {
+  place : place_at l.inside ≡ place_at l.here;
+  goes : GoesOn l.rules l.store g.K.Keeper.exact (g.K.Keeper.contents l.initial.keeper) (g.K.Keeper.contents l.keeper) l.initial.self.work l.self.work l.initial.level l.level
+    (over l.rules.classes l.initial.going (body_view l.body) (place_at l.here) l.nodes) (over l.rules.classes l.going (body_view l.body) (place_at l.here) l.rest) (λ v. v);
+}
+
+abbrev pub decreases-each-loop-node : goal.decreases-each-loop-node
+decreases-each-loop-node g l = length l.rest
