@@ -10,6 +10,7 @@ use Rattle.at_store.specs.Shown.{Shown, contents}
 use Rattle.at_rules.specs.Bodies.{bodies_view, body_view}
 use Rattle.at_rules.specs.declared.body.Body.{Body}
 use Rattle.at_body.specs.Rest.{ev, ev_all, over, settled, with_one, with_two}
+use Rattle.at_body.specs.Stacked.{below}
 use Rattle.at_body.specs.Standing.{Place, inside}
 use Rattle.at_body.specs.Values.{value_view}
 use Rattle.at_body.specs.declared.todo.Unary.{Unary}
@@ -39,6 +40,13 @@ module _ (rules : Rules) (s : Shown) (exact : Bool) where
     come = λ last new b keeps right' h. subst (λ z. HasCome rules (contents s) last level new r z) (sym (same b)) h;
     gains = λ last y g. g;
   }
+
+-- inside a fold, and behind it
+pub bound_at : (q p : Place) (n : ℕ) (bs : List ℕ) → q ≡ p → bs ≡ n ∷ q.bound → record q { bound = bs } ≡ inside p n
+bound_at q p n bs there is = ap (λ (b : List ℕ). let r : Place = record q { bound = b } in r) is ∙ ap (λ z. inside z n) there
+
+pub unbound_at : (q p : Place) (n : ℕ) (bs cs : List ℕ) → q ≡ p → bs ≡ n ∷ q.bound → cs ≡ below bs → record q { bound = cs } ≡ p
+unbound_at q p n bs cs there is left = ap (λ (b : List ℕ). let r : Place = record q { bound = b } in r) (left ∙ ap below is) ∙ there
 
 module _ (rules : Rules) (s : Shown) (exact : Bool) (p : Place) where
   pub one_gains : (u : Unary) (a : Body) (before after : Entries) (w x : ℕ) → HasGained rules s exact (ev rules.classes (body_view a) p) before after w x → HasGained rules s exact (one_of rules.classes p u a) before after w x

@@ -1,27 +1,30 @@
 -- A value that was evaluated with inner ones, and is put for all that was looked at and taken, leaves what is kept right and spare.
-use Rattle.std.proofs.Common.{◌≡◌, ◌⊎◌, ◌||◌, ℕ, Bool, true, false, not, List, [], ◌∷◌, Option, Some, None, inl, inr, refl, sym, ap, ◌∙◌, subst, if◌then◌else◌, true≢false}
-use Rattle.std.specs.Prelude.{IsSome, IsTrue}
+use Rattle.std.proofs.Common.{◌≡◌, ◌⊎◌, ◌||◌, ◌<◌, ℕ, zero, suc, arith, Bool, true, false, not, List, [], ◌∷◌, Option, Some, None, inl, inr, refl, sym, ap, ◌∙◌, subst, if◌then◌else◌, true≢false}
+use Rattle.std.specs.Prelude.{Contains, IsSome, IsTrue}
 use Rattle.std.specs.List.{list_any}
 use Rattle.std.proofs.lemmas.Option.{same_Some}
-use Rattle.at_model.specs.Run.{Value, Instance, Location, Contents}
+use Rattle.at_model.specs.Run.{Value, Instance, Location, Contents, Run, Gives, Fails, Looks, Demands}
 use Rattle.at_model.specs.Rules.{Rules, is_lazy}
 use Rattle.at_model.specs.Meaning.{Among, HasValue, Leads, Right}
 use Rattle.at_model.specs.Support.{Supports}
-use Rattle.at_model.specs.Nested.{Evaluates}
+use Rattle.at_model.specs.Nested.{Evaluates, Passes, gives, looks, told, Tells}
+use Rattle.at_store.specs.Shown.{Shown, contents}
+use Rattle.at_demand.specs.declared.direct.Level.{Level}
+use Rattle.at_demand.specs.Right.{AreRight, IsThere, IsValued}
 use Rattle.at_model.proofs.Options.{or_right}
-use Rattle.at_model.proofs.Nesting.{evaluates_value, covered as all_covered, only as only_supports, takes, taken_known, led}
+use Rattle.at_model.proofs.Nesting.{evaluates_value, covered as all_covered, only as only_supports, takes, taken_known, tells_hold, led}
 use Rattle.at_body.specs.Same.{same_instance}
-use Rattle.at_cache.specs.Kept.{Kept, Entries, Puts, covered, covers_at, same_location, value_at}
+use Rattle.at_cache.specs.Kept.{AreKept, Kept, KeepsAll, Entries, Puts, covered, covers_at, same_location, value_at}
 use Rattle.at_cache.proofs.Locations.{same_location-is, same_location-itself}
 use Rattle.at_demand.specs.Known.{meaning, kept_values, ArePlain, IsKept, KeepsEntries}
 use Rattle.at_demand.specs.Covering.{AreCovered}
-use Rattle.at_demand.specs.Sparing.{AddsWorthy, AreOnly, AreSpare, IsDeep, IsWorthKeeping}
-use Rattle.at_demand.specs.Inner.{is_inner, KeepsInner}
+use Rattle.at_demand.specs.Sparing.{AddsWorthy, AreOnly, AreSpare, Counts, HasWorthy, IsDeep, IsWorthKeeping}
+use Rattle.at_demand.specs.Inner.{Gains, HasCome, IsEvaluated, demand, is_inner}
 use Rattle.at_demand.proofs.Entered.{entered, is_there, kept_on, not_none}
 use Rattle.at_demand.proofs.Gathered.{any_among}
 use Rattle.at_demand.proofs.Leading.{supports_on}
 use Rattle.at_demand.proofs.OnlyLemmas.{any_one}
-use Rattle.at_demand.proofs.Sameness.{same_true}
+use Rattle.at_demand.proofs.Sameness.{same_true, same_refl}
 
 left : (a b : Bool) → a ≡ true → (a || b) ≡ true
 left true b e = refl
@@ -144,5 +147,112 @@ module _ (rules : Rules) (look : Contents ℕ) (exact : Bool) (old new : Entries
         | inr p ↦ record { reached = inl p.0; lazy = subst (λ (x : Instance ℕ). is_lazy rules x.attribute ≡ true) p.0 lazy; value = v; has = subst (λ x. HasValue look (meaning rules) x v) p.0 holds }
       ]
 
-  pub keeps_inner : KeepsInner rules look exact i old new
-  keeps_inner = record { worthy = worthy_now; right = λ r. right_now; plain = plain_now; covers = covers_now; spare = spare_now }
+-- one of a list is among it
+among_of : {A : Type 0} (xs : List A) (x : A) → Contains xs x → Among x xs
+among_of [] x (k, less, e) = absurd (omega (arith, less))
+among_of (y ∷ ys) x (zero, less, e) = inl (sym e)
+among_of (y ∷ ys) x (suc k, less, e) = inr (among_of ys x (k, omega (arith, less), e))
+
+module _ (rules : Rules) (s : Shown) (exact : Bool) where
+  -- what an evaluation took has an entry
+  pub taken_there : (entries : Entries) (i : Instance ℕ) (v : Value ℕ) (ls : List (Location ℕ)) (us : List (Instance ℕ)) → Right (contents s) (meaning rules) (kept_values entries) → IsEvaluated rules (contents s) entries i v ls us → AreKept entries us
+  taken_there entries i v ls us right (n, p) u h = let (w, e) = taken_known (contents s) (meaning rules) (kept_values entries) right (is_inner rules) n i v ls us p u (among_of us u h) in entered entries u (is_there (kept_values entries u) w e)
+
+  -- nothing came to what is kept, whatever the work
+  pub gains_all : (i : Instance ℕ) (old new : Entries) (w x : ℕ) → KeepsAll old new → Right (contents s) (meaning rules) (kept_values old) → ArePlain rules old → (IsTrue exact → Counts old new w x) → Gains rules s exact i old new w x
+  gains_all i old new w x same right plain =
+      subst (λ (k : Entries). (IsTrue exact → Counts old k w x) → Gains rules s exact i old k w x) (λ j k. still k j)
+        (λ counts. record {
+          worthy = record { stays = λ j some. refl; worthy = λ j none some. absurd (not_none (kept_values old j) some none) };
+          right = right; plain = plain; stays = λ is h. h; spare = λ is h. h; counts = counts;
+        })
+    where
+      still : (j : Instance ℕ) → old j ≡ new j
+      still j = sym (same j)
+
+  -- a lazy one is kept at its end
+  pub gains_put : (old new : Entries) (i : Instance ℕ) (v : Value ℕ) (ls : List (Location ℕ)) (us : List (Instance ℕ)) (w x : ℕ) → Right (contents s) (meaning rules) (kept_values old) → ArePlain rules old → is_lazy rules i.attribute ≡ true → old i ≡ None →
+      IsEvaluated rules (contents s) old i v ls us → Puts exact old i (Some v) ls us new → (IsTrue exact → Counts old new w x) → Gains rules s exact i old new w x
+  gains_put old new i v ls us w x right plain lazy absent (n, p) puts counts = record {
+    worthy = worthy_now rules (contents s) exact old new n i v ls us right lazy absent p puts;
+    right = right_new;
+    plain = plain_new;
+    stays = λ is h. record { values = right_new; valued = valued h; there = there is h; covers = covers_now rules (contents s) exact old new n i v ls us right lazy absent p puts h.covers; plain = plain_new };
+    spare = spare_now rules (contents s) exact old new n i v ls us right lazy absent p puts;
+    counts = counts;
+  }
+    where
+      right_new : Right (contents s) (meaning rules) (kept_values new)
+      right_new = right_now rules (contents s) exact old new n i v ls us right lazy absent p puts
+
+      plain_new : ArePlain rules new
+      plain_new = plain_now rules (contents s) exact old new n i v ls us right lazy absent p puts plain
+
+      valued : AreRight rules s old → (j : Instance ℕ) (k : Kept) → new j ≡ Some k → IsValued rules s j
+      valued h j k is = elim (cases rules (contents s) exact old new n i v ls us right lazy absent p puts j) [
+        | inl same ↦ h.valued j k (sym same ∙ is)
+        | inr q ↦ subst (IsValued rules s) q.0 (v, holds rules (contents s) exact old new n i v ls us right lazy absent p puts)
+      ]
+
+      there : IsThere s i → AreRight rules s old → (j : Instance ℕ) (k : Kept) → new j ≡ Some k → IsThere s j
+      there is h j k at = elim (cases rules (contents s) exact old new n i v ls us right lazy absent p puts j) [
+        | inl same ↦ h.there j k (sym same ∙ at)
+        | inr q ↦ subst (IsThere s) q.0 is
+      ]
+
+  -- the value is there afterwards
+  pub put_value : (old new : Entries) (i : Instance ℕ) (v : Value ℕ) (ls : List (Location ℕ)) (us : List (Instance ℕ)) → Puts exact old i (Some v) ls us new → kept_values new i ≡ Some v
+  put_value old new i v ls us puts = ap value_at (puts.adds i ∙ ap (λ b. if b then Some puts.entry else old i) (same_refl i)) ∙ puts.value
+
+-- what a demand was told
+abbrev run_after : Run ℕ (Value ℕ) → Value ℕ → Run ℕ (Value ℕ)
+run_after (Gives a) v = Gives v
+run_after (Fails f) v = Gives v
+run_after (Looks l k) v = Gives v
+run_after (Demands j k) v = k v
+
+abbrev asked_by : Instance ℕ → Run ℕ (Value ℕ) → Instance ℕ
+asked_by i (Gives a) = i
+asked_by i (Fails f) = i
+asked_by i (Looks l k) = i
+asked_by i (Demands j k) = j
+
+gave : (tells : Instance ℕ → Value ℕ → List (Location ℕ) → List (Instance ℕ) → Type 0) (look : Contents ℕ) (r : Run ℕ (Value ℕ)) (w a : Value ℕ) (ls : List (Location ℕ)) (us : List (Instance ℕ)) → Passes look tells r a ls us → r ≡ Gives w → w ≡ a
+gave tells look r w a ls us (gives _) e = sym cc
+gave tells look r w a ls us (looks l k _ ls' _ p) e = absurd cc
+gave tells look r w a ls us (told j k v _ l1 l2 u1 u2 t p) e = absurd cc
+
+told_by : (tells : Instance ℕ → Value ℕ → List (Location ℕ) → List (Instance ℕ) → Type 0) (look : Contents ℕ) (i : Instance ℕ) (r : Run ℕ (Value ℕ)) (a : Value ℕ) (ls : List (Location ℕ)) (us : List (Instance ℕ)) → Passes look tells r a ls us → r ≡ demand i →
+    (ms : List (Location ℕ)) × (ts : List (Instance ℕ)) × tells i a ms ts
+told_by tells look i r a ls us (gives _) e = absurd cc
+told_by tells look i r a ls us (looks l k _ ls' _ p) e = absurd cc
+told_by tells look i r a ls us (told j k v _ l1 l2 u1 u2 t p) e =
+    let one : j ≡ i = ap (asked_by i) e in
+    let same : k v ≡ Gives v = ap (λ q. run_after q v) e in
+    let is : v ≡ a = gave tells look (k v) v a l2 u2 p same in
+    (l1, u1, subst (λ x. tells i x l1 u1) is (subst (λ x. tells x v l1 u1) one t))
+
+module _ (rules : Rules) (s : Shown) where
+  -- what an evaluation comes to by a demand alone is the value of the instance
+  pub value_of_demand : (entries : Entries) (old new : Level) (i : Instance ℕ) (v : Value ℕ) → Right (contents s) (meaning rules) (kept_values entries) → HasCome rules (contents s) entries old new (demand i) v → HasValue (contents s) (meaning rules) i v
+  value_of_demand entries old new i v right p =
+      let (ms, ts, t) = told_by (Tells (contents s) (meaning rules) (kept_values entries) (is_inner rules) p.depth) (contents s) i (demand i) v p.looks p.takes p.evaluates refl in
+      tells_hold (contents s) (meaning rules) (kept_values entries) right (is_inner rules) p.depth i v ms ts t
+
+  worthy_of : (entries : Entries) → Right (contents s) (meaning rules) (kept_values entries) → AreSpare rules (contents s) entries → (n : ℕ) (i : Instance ℕ) (v : Value ℕ) (ls : List (Location ℕ)) (us : List (Instance ℕ)) → Tells (contents s) (meaning rules) (kept_values entries) (is_inner rules) n i v ls us →
+      HasWorthy rules (contents s) i entries
+  worthy_of entries right spare zero i v ls us (e, _, _) j worth = spare.deep i j (entered entries i (is_there (kept_values entries i) v e)) worth.reached worth.lazy
+  worthy_of entries right spare (suc n) i v ls us (inl t) j worth = worthy_of entries right spare n i v ls us t j worth
+  worthy_of entries right spare (suc n) i v ls us (inr (is, p)) j worth = elim (led (contents s) (meaning rules) (kept_values entries) right (is_inner rules) n i v ls us p j worth.reached) [
+    | inl same ↦ absurd (not_inner (is_lazy rules j.attribute) (subst (λ (x : Instance ℕ). is_inner rules x ≡ true) same is) worth.lazy)
+    | inr q ↦ elim q [
+      | inl inner ↦ absurd (not_inner (is_lazy rules j.attribute) inner worth.lazy)
+      | inr r ↦ let (w, e) = taken_known (contents s) (meaning rules) (kept_values entries) right (is_inner rules) n i v ls us p r.0 r.1 in spare.deep r.0 j (entered entries r.0 (is_there (kept_values entries r.0) w e)) r.2 worth.lazy
+    ]
+  ]
+
+  -- and all that is worth keeping for it is kept
+  pub worthy_of_demand : (entries : Entries) (old new : Level) (i : Instance ℕ) (v : Value ℕ) → Right (contents s) (meaning rules) (kept_values entries) → AreSpare rules (contents s) entries → HasCome rules (contents s) entries old new (demand i) v → HasWorthy rules (contents s) i entries
+  worthy_of_demand entries old new i v right spare p =
+      let (ms, ts, t) = told_by (Tells (contents s) (meaning rules) (kept_values entries) (is_inner rules) p.depth) (contents s) i (demand i) v p.looks p.takes p.evaluates refl in
+      worthy_of entries right spare p.depth i v ms ts t

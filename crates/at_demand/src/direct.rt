@@ -200,7 +200,8 @@ impl Direct {
             return Ok(None);
         };
         let value = kept.copy()?;
-        level.uses.push(needed.copy(self.alloc)?)?;
+        let taken = needed.copy(self.alloc)?;
+        level.uses.push(taken)?;
         Ok(Some(value))
     }
 
@@ -226,11 +227,13 @@ impl Direct {
             return Err(Stop::GivesUp);
         }
         let put = self.put(keeper, &needed, value, below)?;
-        if put == Put::Left {
-            return Err(Stop::GivesUp);
+        match put {
+            Put::Left => Err(Stop::GivesUp),
+            Put::Kept => {
+                level.uses.push(needed)?;
+                Ok(())
+            }
         }
-        level.uses.push(needed)?;
-        Ok(())
     }
 
     // Puts a value to what is kept, for all that its evaluation looked at and took, and counts it.
@@ -405,10 +408,10 @@ impl Direct {
             (K.contents keeper.old) (K.contents keeper.new) self.old.work self.new.work }
     {
         let value = self.value(keeper, rules, store, level, here, test, above)?;
-        let is = truth_in(&value)?;
-        match chosen(is, yes, no) {
+        let holds = truth_in(&value)?;
+        match chosen(holds, yes, no) {
             Some(body) => self.value(keeper, rules, store, level, here, body, above),
-            None => Ok(Value::Bool(is)),
+            None => Ok(Value::Bool(holds)),
         }
     }
 
@@ -529,7 +532,8 @@ impl Direct {
             inside.bound.push(*node)?;
             let value = self.value(keeper, rules, store, level, &inside, body, above)?;
             let _ = inside.bound.pop();
-            match settle(going, *node, &value)? {
+            let next = settle(going, *node, &value)?;
+            match next {
                 Next::On(further) => going = further,
                 Next::End(value) => return Ok(value),
             }

@@ -1,4 +1,5 @@
 use Rattle.std.proofs.Common.{◌≡◌, ◌∙◌, ◌++◌, ◌∷◌, ℕ, List, [], Ok, Err, Some, None, IfOk, ap, map, refl, subst, sym}
+use Rattle.std.proofs.lemmas.List.{nil_from_length}
 use Rattle.std.proofs.lemmas.Result.{IfOk-weaker}
 use Rattle.at_model.specs.Bodies as model
 use Rattle.at_model.specs.Run.{Gives, Truth, Value}
@@ -11,11 +12,12 @@ use Rattle.at_body.specs.Values.{value_view}
 use Rattle.at_body.specs.declared.value.Value.{Value as ValueCode}
 use Rattle.at_body.specs.declared.value.Value.TheVariants as value
 use Rattle.at_body.proofs.Entering.{call_view}
-use Rattle.at_demand.specs.Inner.{Gains, HasCome, HasRecalled, demand, or_truth}
+use Rattle.at_demand.specs.Inner.{Gains, HasCome, HasRecalled, demand, next_of, or_truth}
 use Rattle.at_demand.specs.Known.{meaning}
+use Rattle.at_demand.specs.declared.direct.Level.{Level}
 use Rattle.at_demand.specs.Place.{place_at}
 use Rattle.at_demand.proofs.Directly.{come_as, come_begun, come_gives, come_looked, evaluated, gains_as, gains_begun, gains_both, gains_evaluated, gains_none, gains_still, inner_come}
-use Rattle.at_demand.proofs.InParts.{asked, call_come, call_gains, call_gains_first, call_gains_second, each_all, each_ends, each_gains, each_on, either_come, either_gains, either_gains_test, fold_come, fold_gains, fold_gains_first, gains_so_far, one_come, one_gains, passed_all, passed_gains, passed_on, starts, two_come, two_gains, two_gains_first}
+use Rattle.at_demand.proofs.InParts.{asked, bound_at, call_come, call_gains, call_gains_first, call_gains_second, each_all, each_ends, each_gains, each_on, either_come, either_gains, either_gains_test, fold_come, fold_gains, fold_gains_first, gains_so_far, one_come, one_gains, passed_all, passed_gains, passed_on, starts, two_come, two_gains, two_gains_first, unbound_at}
 use Rattle.at_demand.proofs.direct.Direct.+direct.Goals as goal
 
 pub evaluate-returns-in_err-begun-clause-gains : goal.evaluate-returns-in_err-begun-clause-gains
@@ -26,9 +28,6 @@ evaluate-returns-clause-come g t c = IfOk-weaker c.value.result _ _ (λ v h. com
 
 pub evaluate-returns-clause-gains : goal.evaluate-returns-clause-gains
 evaluate-returns-clause-gains g t c = gains_evaluated c.args.rules.now c.args.store.now g.K.Keeper.exact c.requires.idle _ _ _ _ c.args.inst.now (gains_begun c.args.rules.now c.args.store.now g.K.Keeper.exact _ _ _ _ c.args.level.now.reads c.begin.new.reads (meaning c.args.rules.now c.args.inst.now) (ev c.args.rules.now.classes (body_view c.in_ok-begun.begun.1.now) (place_at c.in_ok-begun.begun.0)) c.in_ok-begun.ensures c.value.ensures.gains)
-
-pub lazily-requires-clause-lazy : goal.lazily-requires-clause-lazy
-lazily-requires-clause-lazy g t c = sym (c.is_lazy.ensures ∙ ap (is_lazy c.args.rules.now) c.attribute.ensures) ∙ c.if-is_lazy.true
 
 pub told-returns-then-is_lazy-clause-come : goal.told-returns-then-is_lazy-clause-come
 told-returns-then-is_lazy-clause-come g t c = c.lazily.ensures.come
@@ -42,11 +41,11 @@ told-returns-in_err-value-clause-gains g t c = c.evaluate.ensures.gains
 pub told-returns-then-has_many_since-clause-gains : goal.told-returns-then-has_many_since-clause-gains
 told-returns-then-has_many_since-clause-gains g t c = c.evaluate.ensures.gains
 
-pub told-returns-else-has_many_since-clause-gains : goal.told-returns-else-has_many_since-clause-gains
-told-returns-else-has_many_since-clause-gains g t c = c.evaluate.ensures.gains
+pub told-returns-clause-gains : goal.told-returns-clause-gains
+told-returns-clause-gains g t c = c.evaluate.ensures.gains
 
-pub told-returns-else-has_many_since-clause-come : goal.told-returns-else-has_many_since-clause-come
-told-returns-else-has_many_since-clause-come g t c = inner_come c.args.rules.now c.args.store.now g.K.Keeper.exact (g.K.Keeper.contents c.evaluate.new.keeper) c.args.level.now c.evaluate.new.level c.args.needed (value_view c.in_ok-value.value) (sym (c.is_lazy.ensures ∙ ap (is_lazy c.args.rules.now) c.attribute.ensures) ∙ c.if-is_lazy.false) c.in_ok-value.ensures.come
+pub told-returns-clause-come : goal.told-returns-clause-come
+told-returns-clause-come g t c = inner_come c.args.rules.now c.args.store.now g.K.Keeper.exact (g.K.Keeper.contents c.evaluate.new.keeper) c.args.level.now c.evaluate.new.level c.args.needed (value_view c.in_ok-value.value) (sym (c.is_lazy.ensures ∙ ap (is_lazy c.args.rules.now) c.attribute.ensures) ∙ c.if-is_lazy.false) c.in_ok-value.ensures.come
 
 pub lazily-returns-in_err-recalled-clause-gains : goal.lazily-returns-in_err-recalled-clause-gains
 lazily-returns-in_err-recalled-clause-gains g t c = gains_still c.args.rules.now c.args.store.now g.K.Keeper.exact c.args.needed (g.K.Keeper.contents c.args.keeper.now) c.args.self.now.work c.args.self.now.few c.requires.right c.requires.plain
@@ -70,10 +69,10 @@ pub lazily-returns-clause-gains : goal.lazily-returns-clause-gains
 lazily-returns-clause-gains g t c = gains_both c.args.rules.now c.args.store.now g.K.Keeper.exact c.args.needed (g.K.Keeper.contents c.args.keeper.now) (g.K.Keeper.contents c.evaluate.new.keeper) (g.K.Keeper.contents c.keep.new.keeper) c.args.self.now.work c.evaluate.new.self.work c.keep.new.self.work (subst (λ w. Gains c.args.rules.now c.args.store.now g.K.Keeper.exact c.args.needed (g.K.Keeper.contents c.args.keeper.now) (g.K.Keeper.contents c.evaluate.new.keeper) w c.evaluate.new.self.work) c.level-below.ensures.work c.evaluate.ensures.gains) c.keep.ensures.gains
 
 pub lazily-returns-clause-come : goal.lazily-returns-clause-come
-lazily-returns-clause-come g t c = c.in_ok-keep.ensures.come
+lazily-returns-clause-come g t c = subst (λ (l : Level). HasCome c.args.rules.now (contents c.args.store.now) (g.K.Keeper.contents c.keep.new.keeper) l c.keep.new.level (demand c.args.needed) (value_view c.in_ok-value.value)) (subst (λ o. HasRecalled c.args.rules.now (contents c.args.store.now) (g.K.Keeper.contents c.args.keeper.now) c.args.level.now c.recall.new.level c.args.needed o) c.in_default.is c.in_ok-recalled.ensures) c.in_ok-keep.ensures.come
 
-pub keep-requires-clause-come : goal.keep-requires-clause-come
-keep-requires-clause-come g t c = evaluated c.args.rules.now c.args.store.now g.K.Keeper.exact (g.K.Keeper.contents c.evaluate.new.keeper) c.level-below.result c.evaluate.new.level c.args.needed (value_view c.in_ok-value.value) c.level-below.ensures.reads c.level-below.ensures.uses c.in_ok-value.ensures.come
+pub lazily-keep-requires-clause-come : goal.lazily-keep-requires-clause-come
+lazily-keep-requires-clause-come g t c = evaluated c.args.rules.now c.args.store.now g.K.Keeper.exact (g.K.Keeper.contents c.evaluate.new.keeper) c.level-below.result c.evaluate.new.level c.args.needed (value_view c.in_ok-value.value) c.level-below.ensures.reads c.level-below.ensures.uses c.in_ok-value.ensures.come
 
 pub one-returns-in_err-value-clause-gains : goal.one-returns-in_err-value-clause-gains
 one-returns-in_err-value-clause-gains g t c = one_gains c.args.rules.now c.args.store.now g.K.Keeper.exact (place_at c.args.here.now) c.args.unary c.args.operand.now _ _ _ _ c.value.ensures.gains
@@ -99,20 +98,20 @@ two-returns-clause-come g t c = two_come c.args.rules.now c.args.store.now g.K.K
 pub either-returns-in_err-value-clause-gains : goal.either-returns-in_err-value-clause-gains
 either-returns-in_err-value-clause-gains g t c = either_gains_test c.args.rules.now c.args.store.now g.K.Keeper.exact (place_at c.args.here.now) c.args.test.now c.args.yes c.args.no _ _ _ _ c.value.ensures.gains
 
-pub either-returns-in_err-is-clause-gains : goal.either-returns-in_err-is-clause-gains
-either-returns-in_err-is-clause-gains g t c = either_gains_test c.args.rules.now c.args.store.now g.K.Keeper.exact (place_at c.args.here.now) c.args.test.now c.args.yes c.args.no _ _ _ _ c.value.ensures.gains
+pub either-returns-in_err-holds-clause-gains : goal.either-returns-in_err-holds-clause-gains
+either-returns-in_err-holds-clause-gains g t c = either_gains_test c.args.rules.now c.args.store.now g.K.Keeper.exact (place_at c.args.here.now) c.args.test.now c.args.yes c.args.no _ _ _ _ c.value.ensures.gains
 
 pub either-returns-in-Some-clause-gains : goal.either-returns-in-Some-clause-gains
-either-returns-in-Some-clause-gains g t c = either_gains c.args.rules.now c.args.store.now g.K.Keeper.exact (place_at c.args.here.now) c.args.test.now c.args.yes c.args.no c.in_ok-value.value c.in_ok-is.is (ev c.args.rules.now.classes (body_view c.in-Some.body.now) (place_at c.args.here.now)) _ _ _ _ _ _ c.args.level.now c.value.new.level c.in_ok-is.ensures (ap (λ o. or_truth c.args.rules.now.classes (place_at c.args.here.now) o c.in_ok-is.is) (sym c.in-Some.is) ∙ c.chosen.ensures c.args.rules.now.classes (place_at c.args.here.now)) c.value.ensures.gains c.in_ok-value.ensures.come c.value-in-Some.ensures.gains
+either-returns-in-Some-clause-gains g t c = either_gains c.args.rules.now c.args.store.now g.K.Keeper.exact (place_at c.args.here.now) c.args.test.now c.args.yes c.args.no c.in_ok-value.value c.in_ok-holds.holds (ev c.args.rules.now.classes (body_view c.in-Some.body.now) (place_at c.args.here.now)) _ _ _ _ _ _ c.args.level.now c.value.new.level c.in_ok-holds.ensures (ap (λ o. or_truth c.args.rules.now.classes (place_at c.args.here.now) o c.in_ok-holds.holds) (sym c.in-Some.is) ∙ c.chosen.ensures c.args.rules.now.classes (place_at c.args.here.now)) c.value.ensures.gains c.in_ok-value.ensures.come c.value-in-Some.ensures.gains
 
 pub either-returns-in-Some-clause-come : goal.either-returns-in-Some-clause-come
-either-returns-in-Some-clause-come g t c = either_come c.args.rules.now c.args.store.now g.K.Keeper.exact (place_at c.args.here.now) c.args.test.now c.args.yes c.args.no c.in_ok-value.value c.in_ok-is.is (ev c.args.rules.now.classes (body_view c.in-Some.body.now) (place_at c.args.here.now)) c.value-in-Some.result _ _ c.args.level.now c.value.new.level c.value-in-Some.new.level _ _ c.in_ok-is.ensures (ap (λ o. or_truth c.args.rules.now.classes (place_at c.args.here.now) o c.in_ok-is.is) (sym c.in-Some.is) ∙ c.chosen.ensures c.args.rules.now.classes (place_at c.args.here.now)) c.value.ensures.gains.right c.in_ok-value.ensures.come c.value-in-Some.ensures.gains c.value-in-Some.ensures.come
+either-returns-in-Some-clause-come g t c = either_come c.args.rules.now c.args.store.now g.K.Keeper.exact (place_at c.args.here.now) c.args.test.now c.args.yes c.args.no c.in_ok-value.value c.in_ok-holds.holds (ev c.args.rules.now.classes (body_view c.in-Some.body.now) (place_at c.args.here.now)) c.value-in-Some.result _ _ c.args.level.now c.value.new.level c.value-in-Some.new.level _ _ c.in_ok-holds.ensures (ap (λ o. or_truth c.args.rules.now.classes (place_at c.args.here.now) o c.in_ok-holds.holds) (sym c.in-Some.is) ∙ c.chosen.ensures c.args.rules.now.classes (place_at c.args.here.now)) c.value.ensures.gains.right c.in_ok-value.ensures.come c.value-in-Some.ensures.gains c.value-in-Some.ensures.come
 
-pub either-returns-in-None-clause-gains : goal.either-returns-in-None-clause-gains
-either-returns-in-None-clause-gains g t c = either_gains c.args.rules.now c.args.store.now g.K.Keeper.exact (place_at c.args.here.now) c.args.test.now c.args.yes c.args.no c.in_ok-value.value c.in_ok-is.is (Gives (Truth c.in_ok-is.is)) _ _ _ _ _ _ c.args.level.now c.value.new.level c.in_ok-is.ensures (ap (λ o. or_truth c.args.rules.now.classes (place_at c.args.here.now) o c.in_ok-is.is) (sym c.in-None.is) ∙ c.chosen.ensures c.args.rules.now.classes (place_at c.args.here.now)) c.value.ensures.gains c.in_ok-value.ensures.come (gains_none c.args.rules.now c.args.store.now g.K.Keeper.exact (Gives (Truth c.in_ok-is.is)) (g.K.Keeper.contents c.value.new.keeper) c.value.new.self.work c.value.new.self.few c.value.ensures.gains.right c.value.ensures.gains.plain)
+pub either-returns-clause-gains : goal.either-returns-clause-gains
+either-returns-clause-gains g t c = either_gains c.args.rules.now c.args.store.now g.K.Keeper.exact (place_at c.args.here.now) c.args.test.now c.args.yes c.args.no c.in_ok-value.value c.in_ok-holds.holds (Gives (Truth c.in_ok-holds.holds)) _ _ _ _ _ _ c.args.level.now c.value.new.level c.in_ok-holds.ensures (ap (λ o. or_truth c.args.rules.now.classes (place_at c.args.here.now) o c.in_ok-holds.holds) (sym c.in-None.is) ∙ c.chosen.ensures c.args.rules.now.classes (place_at c.args.here.now)) c.value.ensures.gains c.in_ok-value.ensures.come (gains_none c.args.rules.now c.args.store.now g.K.Keeper.exact (Gives (Truth c.in_ok-holds.holds)) (g.K.Keeper.contents c.value.new.keeper) c.value.new.self.work c.value.new.self.few c.value.ensures.gains.right c.value.ensures.gains.plain)
 
-pub either-returns-in-None-clause-come : goal.either-returns-in-None-clause-come
-either-returns-in-None-clause-come g t c = either_come {E = ℕ} c.args.rules.now c.args.store.now g.K.Keeper.exact (place_at c.args.here.now) c.args.test.now c.args.yes c.args.no c.in_ok-value.value c.in_ok-is.is (Gives (Truth c.in_ok-is.is)) (Ok (value.Bool c.in_ok-is.is)) _ _ c.args.level.now c.value.new.level c.value.new.level _ _ c.in_ok-is.ensures (ap (λ o. or_truth c.args.rules.now.classes (place_at c.args.here.now) o c.in_ok-is.is) (sym c.in-None.is) ∙ c.chosen.ensures c.args.rules.now.classes (place_at c.args.here.now)) c.value.ensures.gains.right c.in_ok-value.ensures.come (gains_none c.args.rules.now c.args.store.now g.K.Keeper.exact (Gives (Truth c.in_ok-is.is)) (g.K.Keeper.contents c.value.new.keeper) c.value.new.self.work c.value.new.self.few c.value.ensures.gains.right c.value.ensures.gains.plain) (come_gives c.args.rules.now c.args.store.now g.K.Keeper.exact (g.K.Keeper.contents c.value.new.keeper) c.value.new.level (Gives (Truth c.in_ok-is.is)) (Truth c.in_ok-is.is) refl)
+pub either-returns-clause-come : goal.either-returns-clause-come
+either-returns-clause-come g t c = either_come {E = ℕ} c.args.rules.now c.args.store.now g.K.Keeper.exact (place_at c.args.here.now) c.args.test.now c.args.yes c.args.no c.in_ok-value.value c.in_ok-holds.holds (Gives (Truth c.in_ok-holds.holds)) (Ok (value.Bool c.in_ok-holds.holds)) _ _ c.args.level.now c.value.new.level c.value.new.level _ _ c.in_ok-holds.ensures (ap (λ o. or_truth c.args.rules.now.classes (place_at c.args.here.now) o c.in_ok-holds.holds) (sym c.in-None.is) ∙ c.chosen.ensures c.args.rules.now.classes (place_at c.args.here.now)) c.value.ensures.gains.right c.in_ok-value.ensures.come (gains_none c.args.rules.now c.args.store.now g.K.Keeper.exact (Gives (Truth c.in_ok-holds.holds)) (g.K.Keeper.contents c.value.new.keeper) c.value.new.self.work c.value.new.self.few c.value.ensures.gains.right c.value.ensures.gains.plain) (come_gives c.args.rules.now c.args.store.now g.K.Keeper.exact (g.K.Keeper.contents c.value.new.keeper) c.value.new.level (Gives (Truth c.in_ok-holds.holds)) (Truth c.in_ok-holds.holds) refl)
 
 pub call-returns-in_err-value-clause-gains : goal.call-returns-in_err-value-clause-gains
 call-returns-in_err-value-clause-gains g t c = call_gains_first c.args.rules.now c.args.store.now g.K.Keeper.exact (place_at c.args.here.now) c.args.receiver.now c.args.attribute c.args.passed.now _ _ _ _ c.value.ensures.gains
@@ -148,13 +147,13 @@ pub passed-loop-argument-init : goal.passed-loop-argument-init
 passed-loop-argument-init g t c = starts c.args.rules.now c.args.store.now g.K.Keeper.exact (g.K.Keeper.contents c.args.keeper.now) c.args.self.now.work c.args.level.now (ev_all c.args.rules.now.classes (bodies_view c.args.passed.now) (place_at c.args.here.now)) (λ vs. map value_view c.new-values.result.items ++ vs) (λ vs. ap (λ (us : List ValueCode). map value_view us ++ vs) c.new-values.ensures.items) c.requires.right c.requires.plain
 
 pub passed-returns-in_err-value-clause-gains : goal.passed-returns-in_err-value-clause-gains
-passed-returns-in_err-value-clause-gains g t c = passed_gains c.args.rules.now c.args.store.now g.K.Keeper.exact (place_at c.args.here.now) (ev_all c.args.rules.now.classes (bodies_view c.args.passed.now) (place_at c.args.here.now)) (g.K.Keeper.contents c.args.keeper.now) (g.K.Keeper.contents c.loop-argument.keeper) (g.K.Keeper.contents c.value.new.keeper) _ _ _ c.args.level.now c.loop-argument.level c.value.new.level c.in-Some.argument.now c.in-Some.others.now c.loop-argument.rest.now ? c.loop-argument.values.items c.loop-argument.invariant c.value.ensures.gains
+passed-returns-in_err-value-clause-gains g t c = passed_gains c.args.rules.now c.args.store.now g.K.Keeper.exact (place_at c.args.here.now) (ev_all c.args.rules.now.classes (bodies_view c.args.passed.now) (place_at c.args.here.now)) (g.K.Keeper.contents c.args.keeper.now) (g.K.Keeper.contents c.loop-argument.keeper) (g.K.Keeper.contents c.value.new.keeper) _ _ _ c.args.level.now c.loop-argument.level c.value.new.level c.in-Some.argument.now c.in-Some.others.now c.loop-argument.rest.now c.in-Some.ensures.cases.0 c.loop-argument.values.items c.loop-argument.invariant c.value.ensures.gains
 
 pub passed-returns-in_err-push-clause-gains : goal.passed-returns-in_err-push-clause-gains
-passed-returns-in_err-push-clause-gains g t c = passed_gains c.args.rules.now c.args.store.now g.K.Keeper.exact (place_at c.args.here.now) (ev_all c.args.rules.now.classes (bodies_view c.args.passed.now) (place_at c.args.here.now)) (g.K.Keeper.contents c.args.keeper.now) (g.K.Keeper.contents c.loop-argument.keeper) (g.K.Keeper.contents c.value.new.keeper) _ _ _ c.args.level.now c.loop-argument.level c.value.new.level c.in-Some.argument.now c.in-Some.others.now c.loop-argument.rest.now ? c.loop-argument.values.items c.loop-argument.invariant c.value.ensures.gains
+passed-returns-in_err-push-clause-gains g t c = passed_gains c.args.rules.now c.args.store.now g.K.Keeper.exact (place_at c.args.here.now) (ev_all c.args.rules.now.classes (bodies_view c.args.passed.now) (place_at c.args.here.now)) (g.K.Keeper.contents c.args.keeper.now) (g.K.Keeper.contents c.loop-argument.keeper) (g.K.Keeper.contents c.value.new.keeper) _ _ _ c.args.level.now c.loop-argument.level c.value.new.level c.in-Some.argument.now c.in-Some.others.now c.loop-argument.rest.now c.in-Some.ensures.cases.0 c.loop-argument.values.items c.loop-argument.invariant c.value.ensures.gains
 
 pub passed-loop-argument-preserved : goal.passed-loop-argument-preserved
-passed-loop-argument-preserved g t c = passed_on c.args.rules.now c.args.store.now g.K.Keeper.exact (place_at c.args.here.now) (ev_all c.args.rules.now.classes (bodies_view c.args.passed.now) (place_at c.args.here.now)) (g.K.Keeper.contents c.args.keeper.now) (g.K.Keeper.contents c.loop-argument.keeper) (g.K.Keeper.contents c.value.new.keeper) _ _ _ c.args.level.now c.loop-argument.level c.value.new.level c.in-Some.argument.now c.in-Some.others.now c.loop-argument.rest.now ? c.loop-argument.values.items c.loop-argument.invariant c.value.ensures.gains c.in_ok-value.value c.push.new.self.items c.in_ok-push.ensures.items c.in_ok-value.ensures.come
+passed-loop-argument-preserved g t c = passed_on c.args.rules.now c.args.store.now g.K.Keeper.exact (place_at c.args.here.now) (ev_all c.args.rules.now.classes (bodies_view c.args.passed.now) (place_at c.args.here.now)) (g.K.Keeper.contents c.args.keeper.now) (g.K.Keeper.contents c.loop-argument.keeper) (g.K.Keeper.contents c.value.new.keeper) _ _ _ c.args.level.now c.loop-argument.level c.value.new.level c.in-Some.argument.now c.in-Some.others.now c.loop-argument.rest.now c.in-Some.ensures.cases.0 c.loop-argument.values.items c.loop-argument.invariant c.value.ensures.gains c.in_ok-value.value c.push.new.self.items c.in_ok-push.ensures.items c.in_ok-value.ensures.come
 
 pub passed-returns-in_err-arguments-clause-gains : goal.passed-returns-in_err-arguments-clause-gains
 passed-returns-in_err-arguments-clause-gains g t c = gains_so_far c.args.rules.now c.args.store.now g.K.Keeper.exact (place_at c.args.here.now) (ev_all c.args.rules.now.classes (bodies_view c.args.passed.now) (place_at c.args.here.now)) _ _ (g.K.Keeper.contents c.args.keeper.now) (g.K.Keeper.contents c.loop-argument.keeper) _ _ c.args.level.now c.loop-argument.level (gains_none c.args.rules.now c.args.store.now g.K.Keeper.exact _ (g.K.Keeper.contents c.loop-argument.keeper) c.loop-argument.self.work c.loop-argument.self.few c.loop-argument.invariant.right c.loop-argument.invariant.plain) c.loop-argument.invariant
@@ -163,7 +162,7 @@ pub passed-returns-clause-gains : goal.passed-returns-clause-gains
 passed-returns-clause-gains g t c = gains_so_far c.args.rules.now c.args.store.now g.K.Keeper.exact (place_at c.args.here.now) (ev_all c.args.rules.now.classes (bodies_view c.args.passed.now) (place_at c.args.here.now)) _ _ (g.K.Keeper.contents c.args.keeper.now) (g.K.Keeper.contents c.loop-argument.keeper) _ _ c.args.level.now c.loop-argument.level (gains_none c.args.rules.now c.args.store.now g.K.Keeper.exact _ (g.K.Keeper.contents c.loop-argument.keeper) c.loop-argument.self.work c.loop-argument.self.few c.loop-argument.invariant.right c.loop-argument.invariant.plain) c.loop-argument.invariant
 
 pub passed-returns-clause-come : goal.passed-returns-clause-come
-passed-returns-clause-come g t c = subst (λ (vs : List ValueCode). HasCome c.args.rules.now (contents c.args.store.now) (g.K.Keeper.contents c.loop-argument.keeper) c.args.level.now c.loop-argument.level (ev_all c.args.rules.now.classes (bodies_view c.args.passed.now) (place_at c.args.here.now)) (map value_view vs)) (sym c.in_ok-arguments.ensures) (passed_all c.args.rules.now c.args.store.now g.K.Keeper.exact (place_at c.args.here.now) (ev_all c.args.rules.now.classes (bodies_view c.args.passed.now) (place_at c.args.here.now)) (g.K.Keeper.contents c.args.keeper.now) (g.K.Keeper.contents c.loop-argument.keeper) _ _ c.args.level.now c.loop-argument.level c.loop-argument.rest.now ? c.loop-argument.values.items c.loop-argument.invariant)
+passed-returns-clause-come g t c = subst (λ (vs : List ValueCode). HasCome c.args.rules.now (contents c.args.store.now) (g.K.Keeper.contents c.loop-argument.keeper) c.args.level.now c.loop-argument.level (ev_all c.args.rules.now.classes (bodies_view c.args.passed.now) (place_at c.args.here.now)) (map value_view vs)) (sym c.in_ok-arguments.ensures) (passed_all c.args.rules.now c.args.store.now g.K.Keeper.exact (place_at c.args.here.now) (ev_all c.args.rules.now.classes (bodies_view c.args.passed.now) (place_at c.args.here.now)) (g.K.Keeper.contents c.args.keeper.now) (g.K.Keeper.contents c.loop-argument.keeper) _ _ c.args.level.now c.loop-argument.level c.loop-argument.rest.now (nil_from_length _ c.in_default.ensures.cases) c.loop-argument.values.items c.loop-argument.invariant)
 
 pub each-returns-in_err-inside-clause-gains : goal.each-returns-in_err-inside-clause-gains
 each-returns-in_err-inside-clause-gains g t c = gains_none c.args.rules.now c.args.store.now g.K.Keeper.exact (over c.args.rules.now.classes c.args.fold (body_view c.args.body.now) (place_at c.args.here.now) c.args.nodes.now) (g.K.Keeper.contents c.args.keeper.now) c.args.self.now.work c.args.self.now.few c.requires.right c.requires.plain
@@ -175,25 +174,25 @@ pub each-returns-in_err-push-clause-gains : goal.each-returns-in_err-push-clause
 each-returns-in_err-push-clause-gains g t c = gains_so_far c.args.rules.now c.args.store.now g.K.Keeper.exact (place_at c.args.here.now) (over c.args.rules.now.classes c.args.fold (body_view c.args.body.now) (place_at c.args.here.now) c.args.nodes.now) _ _ (g.K.Keeper.contents c.args.keeper.now) (g.K.Keeper.contents c.loop-node.keeper) _ _ c.args.level.now c.loop-node.level (gains_none c.args.rules.now c.args.store.now g.K.Keeper.exact _ (g.K.Keeper.contents c.loop-node.keeper) c.loop-node.self.work c.loop-node.self.few c.loop-node.invariant.goes.right c.loop-node.invariant.goes.plain) c.loop-node.invariant.goes
 
 pub each-returns-in_err-value-clause-gains : goal.each-returns-in_err-value-clause-gains
-each-returns-in_err-value-clause-gains g t c = each_gains c.args.rules.now c.args.store.now g.K.Keeper.exact (place_at c.args.here.now) (over c.args.rules.now.classes c.args.fold (body_view c.args.body.now) (place_at c.args.here.now) c.args.nodes.now) (g.K.Keeper.contents c.args.keeper.now) (g.K.Keeper.contents c.loop-node.keeper) (g.K.Keeper.contents c.value.new.keeper) _ _ _ c.args.level.now c.loop-node.level c.value.new.level c.loop-node.going c.args.body.now c.in-Some.node.now c.in-Some.others.now c.loop-node.rest.now ? (place_at (record c.loop-node.inside { bound = c.push.new.self })) ? c.loop-node.invariant.goes c.value.ensures.gains
+each-returns-in_err-value-clause-gains g t c = each_gains c.args.rules.now c.args.store.now g.K.Keeper.exact (place_at c.args.here.now) (over c.args.rules.now.classes c.args.fold (body_view c.args.body.now) (place_at c.args.here.now) c.args.nodes.now) (g.K.Keeper.contents c.args.keeper.now) (g.K.Keeper.contents c.loop-node.keeper) (g.K.Keeper.contents c.value.new.keeper) _ _ _ c.args.level.now c.loop-node.level c.value.new.level c.loop-node.going c.args.body.now c.in-Some.node.now c.in-Some.others.now c.loop-node.rest.now c.in-Some.ensures.cases.0 (place_at (record c.loop-node.inside { bound = c.push.new.self })) (bound_at (place_at c.loop-node.inside) (place_at c.args.here.now) c.in-Some.node.now c.push.new.self c.loop-node.invariant.place c.in_ok-push.ensures) c.loop-node.invariant.goes c.value.ensures.gains
 
-pub each-returns-in_err-settle-clause-gains : goal.each-returns-in_err-settle-clause-gains
-each-returns-in_err-settle-clause-gains g t c = each_gains c.args.rules.now c.args.store.now g.K.Keeper.exact (place_at c.args.here.now) (over c.args.rules.now.classes c.args.fold (body_view c.args.body.now) (place_at c.args.here.now) c.args.nodes.now) (g.K.Keeper.contents c.args.keeper.now) (g.K.Keeper.contents c.loop-node.keeper) (g.K.Keeper.contents c.value.new.keeper) _ _ _ c.args.level.now c.loop-node.level c.value.new.level c.loop-node.going c.args.body.now c.in-Some.node.now c.in-Some.others.now c.loop-node.rest.now ? (place_at (record c.loop-node.inside { bound = c.push.new.self })) ? c.loop-node.invariant.goes c.value.ensures.gains
+pub each-returns-in_err-next-clause-gains : goal.each-returns-in_err-next-clause-gains
+each-returns-in_err-next-clause-gains g t c = each_gains c.args.rules.now c.args.store.now g.K.Keeper.exact (place_at c.args.here.now) (over c.args.rules.now.classes c.args.fold (body_view c.args.body.now) (place_at c.args.here.now) c.args.nodes.now) (g.K.Keeper.contents c.args.keeper.now) (g.K.Keeper.contents c.loop-node.keeper) (g.K.Keeper.contents c.value.new.keeper) _ _ _ c.args.level.now c.loop-node.level c.value.new.level c.loop-node.going c.args.body.now c.in-Some.node.now c.in-Some.others.now c.loop-node.rest.now c.in-Some.ensures.cases.0 (place_at (record c.loop-node.inside { bound = c.push.new.self })) (bound_at (place_at c.loop-node.inside) (place_at c.args.here.now) c.in-Some.node.now c.push.new.self c.loop-node.invariant.place c.in_ok-push.ensures) c.loop-node.invariant.goes c.value.ensures.gains
 
 pub each-returns-in-End-clause-gains : goal.each-returns-in-End-clause-gains
-each-returns-in-End-clause-gains g t c = each_gains c.args.rules.now c.args.store.now g.K.Keeper.exact (place_at c.args.here.now) (over c.args.rules.now.classes c.args.fold (body_view c.args.body.now) (place_at c.args.here.now) c.args.nodes.now) (g.K.Keeper.contents c.args.keeper.now) (g.K.Keeper.contents c.loop-node.keeper) (g.K.Keeper.contents c.value.new.keeper) _ _ _ c.args.level.now c.loop-node.level c.value.new.level c.loop-node.going c.args.body.now c.in-Some.node.now c.in-Some.others.now c.loop-node.rest.now ? (place_at (record c.loop-node.inside { bound = c.push.new.self })) ? c.loop-node.invariant.goes c.value.ensures.gains
+each-returns-in-End-clause-gains g t c = each_gains c.args.rules.now c.args.store.now g.K.Keeper.exact (place_at c.args.here.now) (over c.args.rules.now.classes c.args.fold (body_view c.args.body.now) (place_at c.args.here.now) c.args.nodes.now) (g.K.Keeper.contents c.args.keeper.now) (g.K.Keeper.contents c.loop-node.keeper) (g.K.Keeper.contents c.value.new.keeper) _ _ _ c.args.level.now c.loop-node.level c.value.new.level c.loop-node.going c.args.body.now c.in-Some.node.now c.in-Some.others.now c.loop-node.rest.now c.in-Some.ensures.cases.0 (place_at (record c.loop-node.inside { bound = c.push.new.self })) (bound_at (place_at c.loop-node.inside) (place_at c.args.here.now) c.in-Some.node.now c.push.new.self c.loop-node.invariant.place c.in_ok-push.ensures) c.loop-node.invariant.goes c.value.ensures.gains
 
 pub each-returns-in-End-clause-come : goal.each-returns-in-End-clause-come
-each-returns-in-End-clause-come g t c = each_ends c.args.rules.now c.args.store.now g.K.Keeper.exact (place_at c.args.here.now) (over c.args.rules.now.classes c.args.fold (body_view c.args.body.now) (place_at c.args.here.now) c.args.nodes.now) (g.K.Keeper.contents c.args.keeper.now) (g.K.Keeper.contents c.loop-node.keeper) (g.K.Keeper.contents c.value.new.keeper) _ _ _ c.args.level.now c.loop-node.level c.value.new.level c.loop-node.going c.args.body.now c.in-Some.node.now c.in-Some.others.now c.loop-node.rest.now ? (place_at (record c.loop-node.inside { bound = c.push.new.self })) ? c.loop-node.invariant.goes c.value.ensures.gains (value_view c.in_ok-value.value) c.in_ok-value.ensures.come (value_view c.in-End.value) ?
+each-returns-in-End-clause-come g t c = each_ends c.args.rules.now c.args.store.now g.K.Keeper.exact (place_at c.args.here.now) (over c.args.rules.now.classes c.args.fold (body_view c.args.body.now) (place_at c.args.here.now) c.args.nodes.now) (g.K.Keeper.contents c.args.keeper.now) (g.K.Keeper.contents c.loop-node.keeper) (g.K.Keeper.contents c.value.new.keeper) _ _ _ c.args.level.now c.loop-node.level c.value.new.level c.loop-node.going c.args.body.now c.in-Some.node.now c.in-Some.others.now c.loop-node.rest.now c.in-Some.ensures.cases.0 (place_at (record c.loop-node.inside { bound = c.push.new.self })) (bound_at (place_at c.loop-node.inside) (place_at c.args.here.now) c.in-Some.node.now c.push.new.self c.loop-node.invariant.place c.in_ok-push.ensures) c.loop-node.invariant.goes c.value.ensures.gains (value_view c.in_ok-value.value) c.in_ok-value.ensures.come (value_view c.in-End.value) (c.in_ok-next.ensures c.args.rules.now.classes (body_view c.args.body.now) (place_at c.args.here.now) c.in-Some.others.now ∙ ap (next_of c.args.rules.now.classes (body_view c.args.body.now) (place_at c.args.here.now) c.in-Some.others.now) c.in-End.is)
 
 pub each-loop-node-preserved : goal.each-loop-node-preserved
-each-loop-node-preserved g t c = record { place = ?; goes = each_on c.args.rules.now c.args.store.now g.K.Keeper.exact (place_at c.args.here.now) (over c.args.rules.now.classes c.args.fold (body_view c.args.body.now) (place_at c.args.here.now) c.args.nodes.now) (g.K.Keeper.contents c.args.keeper.now) (g.K.Keeper.contents c.loop-node.keeper) (g.K.Keeper.contents c.value.new.keeper) _ _ _ c.args.level.now c.loop-node.level c.value.new.level c.loop-node.going c.args.body.now c.in-Some.node.now c.in-Some.others.now c.loop-node.rest.now ? (place_at (record c.loop-node.inside { bound = c.push.new.self })) ? c.loop-node.invariant.goes c.value.ensures.gains (value_view c.in_ok-value.value) c.in_ok-value.ensures.come c.in-On.further ? }
+each-loop-node-preserved g t c = record { place = unbound_at (place_at c.loop-node.inside) (place_at c.args.here.now) c.in-Some.node.now c.push.new.self c.pop.new.self c.loop-node.invariant.place c.in_ok-push.ensures c.pop.ensures.left; goes = each_on c.args.rules.now c.args.store.now g.K.Keeper.exact (place_at c.args.here.now) (over c.args.rules.now.classes c.args.fold (body_view c.args.body.now) (place_at c.args.here.now) c.args.nodes.now) (g.K.Keeper.contents c.args.keeper.now) (g.K.Keeper.contents c.loop-node.keeper) (g.K.Keeper.contents c.value.new.keeper) _ _ _ c.args.level.now c.loop-node.level c.value.new.level c.loop-node.going c.args.body.now c.in-Some.node.now c.in-Some.others.now c.loop-node.rest.now c.in-Some.ensures.cases.0 (place_at (record c.loop-node.inside { bound = c.push.new.self })) (bound_at (place_at c.loop-node.inside) (place_at c.args.here.now) c.in-Some.node.now c.push.new.self c.loop-node.invariant.place c.in_ok-push.ensures) c.loop-node.invariant.goes c.value.ensures.gains (value_view c.in_ok-value.value) c.in_ok-value.ensures.come c.in-On.further (c.in_ok-next.ensures c.args.rules.now.classes (body_view c.args.body.now) (place_at c.args.here.now) c.in-Some.others.now ∙ ap (next_of c.args.rules.now.classes (body_view c.args.body.now) (place_at c.args.here.now) c.in-Some.others.now) c.in-On.is) }
 
 pub each-returns-clause-gains : goal.each-returns-clause-gains
 each-returns-clause-gains g t c = gains_so_far c.args.rules.now c.args.store.now g.K.Keeper.exact (place_at c.args.here.now) (over c.args.rules.now.classes c.args.fold (body_view c.args.body.now) (place_at c.args.here.now) c.args.nodes.now) _ _ (g.K.Keeper.contents c.args.keeper.now) (g.K.Keeper.contents c.loop-node.keeper) _ _ c.args.level.now c.loop-node.level (gains_none c.args.rules.now c.args.store.now g.K.Keeper.exact _ (g.K.Keeper.contents c.loop-node.keeper) c.loop-node.self.work c.loop-node.self.few c.loop-node.invariant.goes.right c.loop-node.invariant.goes.plain) c.loop-node.invariant.goes
 
 pub each-returns-clause-come : goal.each-returns-clause-come
-each-returns-clause-come g t c = each_all c.args.rules.now c.args.store.now g.K.Keeper.exact (place_at c.args.here.now) (over c.args.rules.now.classes c.args.fold (body_view c.args.body.now) (place_at c.args.here.now) c.args.nodes.now) (g.K.Keeper.contents c.args.keeper.now) (g.K.Keeper.contents c.loop-node.keeper) _ _ c.args.level.now c.loop-node.level c.loop-node.going c.args.body.now c.loop-node.rest.now ? (value_view c.come_to.result) (c.come_to.ensures c.args.rules.now.classes (body_view c.args.body.now) (place_at c.args.here.now)) c.loop-node.invariant.goes
+each-returns-clause-come g t c = each_all c.args.rules.now c.args.store.now g.K.Keeper.exact (place_at c.args.here.now) (over c.args.rules.now.classes c.args.fold (body_view c.args.body.now) (place_at c.args.here.now) c.args.nodes.now) (g.K.Keeper.contents c.args.keeper.now) (g.K.Keeper.contents c.loop-node.keeper) _ _ c.args.level.now c.loop-node.level c.loop-node.going c.args.body.now c.loop-node.rest.now (nil_from_length _ c.in_default.ensures.cases) (value_view c.come_to.result) (c.come_to.ensures c.args.rules.now.classes (body_view c.args.body.now) (place_at c.args.here.now)) c.loop-node.invariant.goes
 
 pub value-returns-then-above-eq0-clause-gains : goal.value-returns-then-above-eq0-clause-gains
 value-returns-then-above-eq0-clause-gains g t c = gains_none c.args.rules.now c.args.store.now g.K.Keeper.exact (ev c.args.rules.now.classes (body_view c.args.body.now) (place_at c.args.here.now)) (g.K.Keeper.contents c.args.keeper.now) c.args.self.now.work c.args.self.now.few c.requires.right c.requires.plain
@@ -341,3 +340,6 @@ value-returns-in_default-clause-gains g t c = gains_none c.args.rules.now c.args
 
 pub value-returns-in_default-clause-come : goal.value-returns-in_default-clause-come
 value-returns-in_default-clause-come g t c = IfOk-weaker c.value.result _ _ (λ v h. come_looked c.args.rules.now c.args.store.now g.K.Keeper.exact (g.K.Keeper.contents c.args.keeper.now) c.args.level.now (record { reads = c.value.new.reads; uses = c.args.level.now.uses }) (ev c.args.rules.now.classes (body_view c.args.body.now) (place_at c.args.here.now)) (value_view v) refl h) (c.value.ensures c.args.rules.now.classes)
+
+pub each-loop-node-preserved-in-On : goal.each-loop-node-preserved-in-On
+each-loop-node-preserved-in-On g t c = record { place = unbound_at (place_at c.loop-node.inside) (place_at c.args.here.now) c.in-Some.node.now c.push.new.self c.pop.new.self c.loop-node.invariant.place c.in_ok-push.ensures c.pop.ensures.left; goes = each_on c.args.rules.now c.args.store.now g.K.Keeper.exact (place_at c.args.here.now) (over c.args.rules.now.classes c.args.fold (body_view c.args.body.now) (place_at c.args.here.now) c.args.nodes.now) (g.K.Keeper.contents c.args.keeper.now) (g.K.Keeper.contents c.loop-node.keeper) (g.K.Keeper.contents c.value.new.keeper) _ _ _ c.args.level.now c.loop-node.level c.value.new.level c.loop-node.going c.args.body.now c.in-Some.node.now c.in-Some.others.now c.loop-node.rest.now c.in-Some.ensures.cases.0 (place_at (record c.loop-node.inside { bound = c.push.new.self })) (bound_at (place_at c.loop-node.inside) (place_at c.args.here.now) c.in-Some.node.now c.push.new.self c.loop-node.invariant.place c.in_ok-push.ensures) c.loop-node.invariant.goes c.value.ensures.gains (value_view c.in_ok-value.value) c.in_ok-value.ensures.come c.in-On.further (c.in_ok-next.ensures c.args.rules.now.classes (body_view c.args.body.now) (place_at c.args.here.now) c.in-Some.others.now ∙ ap (next_of c.args.rules.now.classes (body_view c.args.body.now) (place_at c.args.here.now) c.in-Some.others.now) c.in-On.is) }

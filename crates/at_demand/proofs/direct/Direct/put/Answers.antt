@@ -1,0 +1,38 @@
+use Rattle.std.proofs.Common.{ℕ, List, Some, refl, subst}
+use Rattle.std.proofs.lemmas.Result.{err_from_is_err_and}
+use Rattle.at_model.specs.Run.{Instance, Location, Value}
+use Rattle.at_body.specs.Values.{value_view}
+use Rattle.at_cache.specs.Kept.{HasPut}
+use Rattle.at_demand.proofs.Counting.{counts_none, counts_put, counts_same}
+use Rattle.at_demand.proofs.direct.Direct.put.Goals as goal
+
+pub returns : goal.returns
+returns g c =
+    let exact = g.K.Keeper.exact in
+    let old = g.K.Keeper.contents c.args.keeper.now in
+    let new = g.K.Keeper.contents c.put.new.self in
+    let reads = c.args.level.now.reads in
+    let uses = c.args.level.now.uses.items in
+    let first = subst (λ (ls : List (Location ℕ)). HasPut exact old c.in_ok-copy.field-0 (Some (value_view c.in_ok-copy-2.field-0)) ls c.as_slice-uses.result.now new c.in_ok-put.put) c.as_slice-reads.ensures c.in_ok-put.ensures.puts in
+    let second = subst (λ (us : List (Instance ℕ)). HasPut exact old c.in_ok-copy.field-0 (Some (value_view c.in_ok-copy-2.field-0)) reads us new c.in_ok-put.put) c.as_slice-uses.ensures.value first in
+    let puts = subst (λ (v : Value ℕ). HasPut exact old c.args.inst.now (Some v) reads uses new c.in_ok-put.put) c.in_ok-copy-2.ensures (subst (λ (i : Instance ℕ). HasPut exact old i (Some (value_view c.in_ok-copy-2.field-0)) reads uses new c.in_ok-put.put) c.in_ok-copy.ensures second) in
+    record {
+      puts = puts;
+      err = tt;
+      counts = λ is. counts_put old new exact c.args.inst.now _ reads uses c.args.self.now.work c.saturating_add-self.result is c.requires.absent c.in_ok-put.put puts c.saturating_add-self.ensures;
+    }
+
+pub returns-in_err-put : goal.returns-in_err-put
+returns-in_err-put g c =
+    let is = (err_from_is_err_and c.from_residual-in_err-put.result c.from_residual-in_err-put.ensures.1).1 in
+    record { puts = rw is tt; err = rw is c.in_err-put.ensures.err; counts = λ exact. counts_same (g.K.Keeper.contents c.args.keeper.now) (g.K.Keeper.contents c.put.new.self) c.args.self.now.work c.args.self.now.few c.in_err-put.ensures.err }
+
+pub returns-in_err-copy : goal.returns-in_err-copy
+returns-in_err-copy g c =
+    let is = (err_from_is_err_and c.from_residual.result c.from_residual.ensures.1).1 in
+    record { puts = rw is tt; err = rw is (λ i. refl); counts = λ exact. counts_none (g.K.Keeper.contents c.args.keeper.now) c.args.self.now.work c.args.self.now.few }
+
+pub returns-in_err-copy-2 : goal.returns-in_err-copy-2
+returns-in_err-copy-2 g c =
+    let is = (err_from_is_err_and c.from_residual-in_err-copy-2.result c.from_residual-in_err-copy-2.ensures.1).1 in
+    record { puts = rw is tt; err = rw is (λ i. refl); counts = λ exact. counts_none (g.K.Keeper.contents c.args.keeper.now) c.args.self.now.work c.args.self.now.few }
