@@ -32,6 +32,7 @@ mod using;
 mod value;
 
 pub use arguments::Arguments;
+pub use calling::is_passed;
 pub use folding::come_to;
 pub use inst::Inst;
 pub use laws::{comes, fails, gives, passes};

@@ -35,6 +35,10 @@ by_rule rules i inherited c = elim inherited [
 abbrev pub at_node : ℕ → Option ℕ → List ValueCode → Place
 at_node n child vs = record { this = n; bound = []; passed = vs; child = child }
 
+-- one more, and then another one
+pub two_more : (old mid now ls ms : List (Location ℕ)) → now ≡ mid ++ ms → mid ≡ old ++ ls → now ≡ (old ++ ls) ++ ms
+two_more old mid now ls ms e f = e ∙ ap (λ z. z ++ ms) f
+
 -- nothing was looked at
 pub begun_none : {A : Type 0} (look : Contents ℕ) (reads : List (Location ℕ)) (r q : Run ℕ A) → r ≡ q → HasBegun look reads reads r q
 begun_none look reads r q e = record { looks = []; goes = e; reads = sym (append-nil reads) }

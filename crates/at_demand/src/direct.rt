@@ -463,6 +463,9 @@ impl Direct {
         ensures gains { HasGained rules.now store.now K.exact (ev_all rules.now.classes (bodies_view passed.now) (place_at here.now))
             (K.contents keeper.old) (K.contents keeper.new) self.old.work self.new.work }
     {
+        if here.hands_on(passed) {
+            return here.handed_on();
+        }
         let mut values = Vec::new(self.alloc);
         let mut rest = passed;
         while let Some((argument, others)) = rest.split_first() {

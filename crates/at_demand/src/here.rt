@@ -1,13 +1,14 @@
 //! Where the equation of an instance stands, and its beginning.
 
-ghost use Rattle.std.specs.Prelude.{◌≡◌, ◌-◌, [], IfOk, length, map, nat_eq, option_copied, slice_get};
+ghost use Rattle.std.specs.Prelude.{◌≡◌, ◌-◌, [], IfOk, IsTrue, length, map, nat_eq, option_copied, slice_get};
 ghost use Rattle.at_model.specs.Bodies.{index_of, named};
 ghost use Rattle.at_model.specs.Classes.{Classes};
 ghost use Rattle.at_model.specs.Rules.{attribute_name, by_inherited};
+ghost use Rattle.at_model.specs.Run.{Gives};
 ghost use Rattle.at_model.specs.Terms.{max_depth};
 ghost use Rattle.at_store.specs.Shown.{IsIdle, contents};
-ghost use Rattle.at_rules.specs.Bodies.{body_view};
-ghost use Rattle.at_body.specs.Rest.{ev};
+ghost use Rattle.at_rules.specs.Bodies.{bodies_view, body_view};
+ghost use Rattle.at_body.specs.Rest.{ev, ev_all};
 ghost use Rattle.at_body.specs.Standing.{scope};
 ghost use Rattle.at_body.specs.Values.{value_view};
 ghost use Rattle.at_demand.specs.Known.{meaning};
@@ -15,7 +16,7 @@ ghost use Rattle.at_demand.specs.Looking.{HasBegun, HasLooked};
 ghost use Rattle.at_demand.specs.Place.{place_at};
 
 use crate::stop::Stop;
-use at_body::{Arguments, Inst, Reads, Stack, Value, look_at};
+use at_body::{Arguments, Inst, Reads, Stack, Value, is_passed, look_at};
 use at_rules::{AttrId, Body, Rules};
 use at_store::{Loc, Node, Store};
 use at_tree::reader::MAX_DEPTH;
@@ -64,6 +65,29 @@ impl Here {
             bound: self.bound.copy()?,
             arguments: self.arguments.share()?,
         })
+    }
+
+    // Whether the arguments of a call are just the names of all that was passed, in order.
+    pub fn hands_on(&self, passed: &[Body]) -> bool
+        ensures { IsTrue result → (classes : Classes) → ev_all classes (bodies_view passed.now) (place_at self.now) ≡ Gives (map value_view self.now.arguments) }
+    {
+        if passed.len() != self.arguments.as_slice().len() {
+            return false;
+        }
+        let bound = self.bound.len();
+        for (index, argument) in passed.iter().enumerate() {
+            if !is_passed(argument, bound, index) {
+                return false;
+            }
+        }
+        true
+    }
+
+    // All that was passed, which is shared.
+    pub fn handed_on(&self) -> Result<Arguments, Stop>
+        ensures { IfOk result (λ a. a ≡ self.now.arguments) }
+    {
+        Ok(self.arguments.share()?)
     }
 
     // The value of an expression that has no parts.

@@ -111,7 +111,7 @@ pub either-returns-clause-gains : goal.either-returns-clause-gains
 either-returns-clause-gains g t c = either_gains c.args.rules.now c.args.store.now g.K.Keeper.exact (place_at c.args.here.now) c.args.test.now c.args.yes c.args.no c.in_ok-value.value c.in_ok-holds.holds (Gives (Truth c.in_ok-holds.holds)) _ _ _ _ _ _ c.args.level.now c.value.new.level c.in_ok-holds.ensures (ap (λ o. or_truth c.args.rules.now.classes (place_at c.args.here.now) o c.in_ok-holds.holds) (sym c.in-None.is) ∙ c.chosen.ensures c.args.rules.now.classes (place_at c.args.here.now)) c.value.ensures.gains c.in_ok-value.ensures.come (gains_none c.args.rules.now c.args.store.now g.K.Keeper.exact (Gives (Truth c.in_ok-holds.holds)) (g.K.Keeper.contents c.value.new.keeper) c.value.new.self.work c.value.new.self.few c.value.ensures.gains.right c.value.ensures.gains.plain)
 
 pub either-returns-clause-come : goal.either-returns-clause-come
-either-returns-clause-come g t c = either_come {E = ℕ} c.args.rules.now c.args.store.now g.K.Keeper.exact (place_at c.args.here.now) c.args.test.now c.args.yes c.args.no c.in_ok-value.value c.in_ok-holds.holds (Gives (Truth c.in_ok-holds.holds)) (Ok (value.Bool c.in_ok-holds.holds)) _ _ c.args.level.now c.value.new.level c.value.new.level _ _ c.in_ok-holds.ensures (ap (λ o. or_truth c.args.rules.now.classes (place_at c.args.here.now) o c.in_ok-holds.holds) (sym c.in-None.is) ∙ c.chosen.ensures c.args.rules.now.classes (place_at c.args.here.now)) c.value.ensures.gains.right c.in_ok-value.ensures.come (gains_none c.args.rules.now c.args.store.now g.K.Keeper.exact (Gives (Truth c.in_ok-holds.holds)) (g.K.Keeper.contents c.value.new.keeper) c.value.new.self.work c.value.new.self.few c.value.ensures.gains.right c.value.ensures.gains.plain) (come_gives c.args.rules.now c.args.store.now g.K.Keeper.exact (g.K.Keeper.contents c.value.new.keeper) c.value.new.level (Gives (Truth c.in_ok-holds.holds)) (Truth c.in_ok-holds.holds) refl)
+either-returns-clause-come g t c = either_come c.args.rules.now c.args.store.now g.K.Keeper.exact (place_at c.args.here.now) {E = ℕ} c.args.test.now c.args.yes c.args.no c.in_ok-value.value c.in_ok-holds.holds (Gives (Truth c.in_ok-holds.holds)) (Ok (value.Bool c.in_ok-holds.holds)) _ _ c.args.level.now c.value.new.level c.value.new.level _ _ c.in_ok-holds.ensures (ap (λ o. or_truth c.args.rules.now.classes (place_at c.args.here.now) o c.in_ok-holds.holds) (sym c.in-None.is) ∙ c.chosen.ensures c.args.rules.now.classes (place_at c.args.here.now)) c.value.ensures.gains.right c.in_ok-value.ensures.come (gains_none c.args.rules.now c.args.store.now g.K.Keeper.exact (Gives (Truth c.in_ok-holds.holds)) (g.K.Keeper.contents c.value.new.keeper) c.value.new.self.work c.value.new.self.few c.value.ensures.gains.right c.value.ensures.gains.plain) (come_gives c.args.rules.now c.args.store.now g.K.Keeper.exact (g.K.Keeper.contents c.value.new.keeper) c.value.new.level (Gives (Truth c.in_ok-holds.holds)) (Truth c.in_ok-holds.holds) refl)
 
 pub call-returns-in_err-value-clause-gains : goal.call-returns-in_err-value-clause-gains
 call-returns-in_err-value-clause-gains g t c = call_gains_first c.args.rules.now c.args.store.now g.K.Keeper.exact (place_at c.args.here.now) c.args.receiver.now c.args.attribute c.args.passed.now _ _ _ _ c.value.ensures.gains
@@ -343,3 +343,9 @@ value-returns-in_default-clause-come g t c = IfOk-weaker c.value.result _ _ (λ 
 
 pub each-loop-node-preserved-in-On : goal.each-loop-node-preserved-in-On
 each-loop-node-preserved-in-On g t c = record { place = unbound_at (place_at c.loop-node.inside) (place_at c.args.here.now) c.in-Some.node.now c.push.new.self c.pop.new.self c.loop-node.invariant.place c.in_ok-push.ensures c.pop.ensures.left; goes = each_on c.args.rules.now c.args.store.now g.K.Keeper.exact (place_at c.args.here.now) (over c.args.rules.now.classes c.args.fold (body_view c.args.body.now) (place_at c.args.here.now) c.args.nodes.now) (g.K.Keeper.contents c.args.keeper.now) (g.K.Keeper.contents c.loop-node.keeper) (g.K.Keeper.contents c.value.new.keeper) _ _ _ c.args.level.now c.loop-node.level c.value.new.level c.loop-node.going c.args.body.now c.in-Some.node.now c.in-Some.others.now c.loop-node.rest.now c.in-Some.ensures.cases.0 (place_at (record c.loop-node.inside { bound = c.push.new.self })) (bound_at (place_at c.loop-node.inside) (place_at c.args.here.now) c.in-Some.node.now c.push.new.self c.loop-node.invariant.place c.in_ok-push.ensures) c.loop-node.invariant.goes c.value.ensures.gains (value_view c.in_ok-value.value) c.in_ok-value.ensures.come c.in-On.further (c.in_ok-next.ensures c.args.rules.now.classes (body_view c.args.body.now) (place_at c.args.here.now) c.in-Some.others.now ∙ ap (next_of c.args.rules.now.classes (body_view c.args.body.now) (place_at c.args.here.now) c.in-Some.others.now) c.in-On.is) }
+
+pub passed-returns-then-hands_on-clause-gains : goal.passed-returns-then-hands_on-clause-gains
+passed-returns-then-hands_on-clause-gains g t c = gains_none c.args.rules.now c.args.store.now g.K.Keeper.exact (ev_all c.args.rules.now.classes (bodies_view c.args.passed.now) (place_at c.args.here.now)) (g.K.Keeper.contents c.args.keeper.now) c.args.self.now.work c.args.self.now.few c.requires.right c.requires.plain
+
+pub passed-returns-then-hands_on-clause-come : goal.passed-returns-then-hands_on-clause-come
+passed-returns-then-hands_on-clause-come g t c = IfOk-weaker c.handed_on.result _ _ (λ a h. come_gives c.args.rules.now c.args.store.now g.K.Keeper.exact (g.K.Keeper.contents c.args.keeper.now) c.args.level.now (ev_all c.args.rules.now.classes (bodies_view c.args.passed.now) (place_at c.args.here.now)) (map value_view a) (c.hands_on.ensures c.if-hands_on.true c.args.rules.now.classes ∙ ap (λ (vs : List ValueCode). Gives (map value_view vs)) (sym h))) c.handed_on.ensures
