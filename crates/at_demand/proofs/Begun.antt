@@ -36,7 +36,7 @@ abbrev pub at_node : ℕ → Option ℕ → List ValueCode → Place
 at_node n child vs = record { this = n; bound = []; passed = vs; child = child }
 
 -- one more, and then another one
-pub two_more : (old mid now ls ms : List (Location ℕ)) → now ≡ mid ++ ms → mid ≡ old ++ ls → now ≡ (old ++ ls) ++ ms
+two_more : (old mid now ls ms : List (Location ℕ)) → now ≡ mid ++ ms → mid ≡ old ++ ls → now ≡ (old ++ ls) ++ ms
 two_more old mid now ls ms e f = e ∙ ap (λ z. z ++ ms) f
 
 -- nothing was looked at
@@ -84,15 +84,15 @@ module _ (rules : Rules) (look : Contents ℕ) where
           (refl, ap (λ z. by_equation rules nat_eq (record { this = p; names = vs; child = Some n }) (by_inherited rules nat_eq name vs h p) z) (ap (λ d. inherited_equation rules d part name) (sym class) ∙ sym is))
 
   -- the equation stands there
-  pub found : (name : List ℕ) (vs : List ValueCode) (height h n p part c : ℕ) (b : Body) (there : Place) (old now : List (Location ℕ)) → height ≡ suc h → Some (p, part) ≡ look (Up n) → c ≡ look (Is p) → Some (body_view b) ≡ inherited_equation rules c part name →
-      there ≡ at_node p (Some n) vs → now ≡ (old ++ Up n ∷ []) ++ Is p ∷ [] → HasBegun look old now (by_inherited rules nat_eq name (map value_view vs) height n) (ev rules.classes (body_view b) there)
-  found name vs height h n p part c b there old now high up class is here reads =
-      subst (λ z. HasBegun look old z (by_inherited rules nat_eq name (map value_view vs) height n) (ev rules.classes (body_view b) there)) (sym reads)
+  pub found : (name : List ℕ) (vs : List ValueCode) (height h n p part c : ℕ) (b : Body) (there : Place) (old mid now : List (Location ℕ)) → height ≡ suc h → Some (p, part) ≡ look (Up n) → c ≡ look (Is p) → Some (body_view b) ≡ inherited_equation rules c part name →
+      there ≡ at_node p (Some n) vs → now ≡ mid ++ Is p ∷ [] → mid ≡ old ++ Up n ∷ [] → HasBegun look old now (by_inherited rules nat_eq name (map value_view vs) height n) (ev rules.classes (body_view b) there)
+  found name vs height h n p part c b there old mid now high up class is here reads first =
+      subst (λ z. HasBegun look old z (by_inherited rules nat_eq name (map value_view vs) height n) (ev rules.classes (body_view b) there)) (sym (two_more old mid now (Up n ∷ []) (Is p ∷ []) reads first))
         (subst (λ z. HasBegun look old ((old ++ Up n ∷ []) ++ Is p ∷ []) (by_inherited rules nat_eq name (map value_view vs) height n) (ev rules.classes (body_view b) z)) (sym here)
           (stepped name (map value_view vs) height h n p part c (Some (body_view b)) old high up class is))
 
   -- or above
-  pub climbs : (name : List ℕ) (vs : List (Value ℕ)) (height h n p part c : ℕ) (old now : List (Location ℕ)) → height ≡ suc h → Some (p, part) ≡ look (Up n) → c ≡ look (Is p) → None ≡ inherited_equation rules c part name →
-      now ≡ (old ++ Up n ∷ []) ++ Is p ∷ [] → HasBegun look old now (by_inherited rules nat_eq name vs height n) (by_inherited rules nat_eq name vs h p)
-  climbs name vs height h n p part c old now high up class is reads =
-      subst (λ z. HasBegun look old z (by_inherited rules nat_eq name vs height n) (by_inherited rules nat_eq name vs h p)) (sym reads) (stepped name vs height h n p part c None old high up class is)
+  pub climbs : (name : List ℕ) (vs : List (Value ℕ)) (height h n p part c : ℕ) (old mid now : List (Location ℕ)) → height ≡ suc h → Some (p, part) ≡ look (Up n) → c ≡ look (Is p) → None ≡ inherited_equation rules c part name →
+      now ≡ mid ++ Is p ∷ [] → mid ≡ old ++ Up n ∷ [] → HasBegun look old now (by_inherited rules nat_eq name vs height n) (by_inherited rules nat_eq name vs h p)
+  climbs name vs height h n p part c old mid now high up class is reads first =
+      subst (λ z. HasBegun look old z (by_inherited rules nat_eq name vs height n) (by_inherited rules nat_eq name vs h p)) (sym (two_more old mid now (Up n ∷ []) (Is p ∷ []) reads first)) (stepped name vs height h n p part c None old high up class is)
