@@ -33,6 +33,7 @@ mod value;
 
 pub use arguments::Arguments;
 pub use calling::is_passed;
+pub use comparing::{tells, text_in, token_text};
 pub use folding::come_to;
 pub use inst::Inst;
 pub use laws::{comes, fails, gives, passes};

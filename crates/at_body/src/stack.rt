@@ -6,6 +6,7 @@ ghost use Rattle.std.specs.Option.{MatchOption};
 ghost use Rattle.at_body.specs.Stacked.{below};
 ghost use Rattle.std.specs.List.{slice_get};
 
+use at_store::Node;
 use std::alloc::{AllocError, Global};
 use std::marker::Model;
 
@@ -65,19 +66,21 @@ impl<T: Drop> Stack<T> {
 }
 
 impl<T: Copy> Stack<T> {
-    /// The same values once more. An error where memory is wanting.
-    pub fn copy(&self) -> Result<Self, AllocError>
-        ensures { IfOk result (λ s. s ≡ self.now) }
-    {
-        Ok(Stack {
-            items: self.items.clone()?,
-        })
-    }
-
     /// The value at a position from the top.
     pub fn get(&self, position: usize) -> Option<T>
         ensures { result ≡ slice_get self.now position }
     {
         self.items.iter().rev().nth(position).copied()
+    }
+}
+
+impl Stack<Node> {
+    /// The same nodes once more. An error where memory is wanting.
+    pub fn copy(&self, alloc: Global) -> Result<Self, AllocError>
+        ensures { IfOk result (λ s. s ≡ self.now) }
+    {
+        let mut items = Vec::new(alloc);
+        items.extend_from_slice(self.items.as_slice())?;
+        Ok(Stack { items })
     }
 }

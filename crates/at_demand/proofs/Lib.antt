@@ -33,4 +33,5 @@ mod InnerPuts
 pub mod Directly
 pub mod Begun
 pub mod InParts
+pub mod Compared
 pub mod Chained

@@ -6,6 +6,7 @@ ghost use Rattle.at_model.specs.Meaning.{HasValue, Right};
 ghost use Rattle.at_model.specs.Rules.{is_lazy};
 ghost use Rattle.at_store.specs.Shown.{IsIdle, contents};
 ghost use Rattle.at_rules.specs.Bodies.{bodies_view, body_view};
+ghost use Rattle.at_body.specs.Comparing.{IsComparison};
 ghost use Rattle.at_body.specs.Rest.{ev, ev_all, over};
 ghost use Rattle.at_body.specs.Values.{value_view};
 ghost use Rattle.at_cache.specs.Kept.{AreKept, HasPut, KeepsAll};
@@ -15,6 +16,7 @@ ghost use Rattle.at_demand.specs.Place.{place_at};
 ghost use Rattle.at_demand.specs.Sparing.{AreSpare, Counts, HasWorthy};
 
 use crate::applying::{node_of, truth_in, with_one, with_two};
+use crate::comparing::compare;
 use crate::folding::{Next, chosen, settle};
 use crate::here::{Here, begin};
 use crate::stop::Stop;
@@ -316,9 +318,9 @@ impl Direct {
             Body::Compare(o, a, b) => self.two(keeper, rules, store, level, here, Binary::Compare(*o), a, b, left),
             Body::Join(a, b) => self.two(keeper, rules, store, level, here, Binary::Join, a, b, left),
             Body::JoinInt(a, b) => self.two(keeper, rules, store, level, here, Binary::JoinInt, a, b, left),
-            Body::Same(a, b) => self.two(keeper, rules, store, level, here, Binary::Same, a, b, left),
-            Body::Differ(a, b) => self.two(keeper, rules, store, level, here, Binary::Differ, a, b, left),
-            Body::Equals(a, b) => self.two(keeper, rules, store, level, here, Binary::Equals, a, b, left),
+            Body::Same(a, b) => self.compared(keeper, rules, store, level, here, Binary::Same, a, b, left),
+            Body::Differ(a, b) => self.compared(keeper, rules, store, level, here, Binary::Differ, a, b, left),
+            Body::Equals(a, b) => self.compared(keeper, rules, store, level, here, Binary::Equals, a, b, left),
             Body::Element(a, part, b) => self.two(keeper, rules, store, level, here, Binary::Element(*part), a, b, left),
             Body::And(a, b) => self.either(keeper, rules, store, level, here, a, Some(b), None, left),
             Body::Or(a, b) => self.either(keeper, rules, store, level, here, a, None, Some(b), left),
@@ -383,6 +385,36 @@ impl Direct {
         let first = self.value(keeper, rules, store, level, here, left, above)?;
         let second = self.value(keeper, rules, store, level, here, right, above)?;
         with_two(store, &mut level.reads, binary, first, &second)
+    }
+
+    // The comparison of two values. A token of a node at hand is compared where it stands with an argument or a literal.
+    #[cycle(direct)]
+    fn compared<K: Keeper>(
+        &mut self,
+        keeper: &mut K,
+        rules: &Rules,
+        store: &Store,
+        level: &mut Level,
+        here: &Here,
+        comparison: Binary,
+        left: &Body,
+        right: &Body,
+        above: usize,
+    ) -> Result<Value, Stop>
+        requires comparison { IsComparison comparison }
+        requires idle { IsIdle store.now }
+        requires right { Right (contents store.now) (meaning rules.now) (kept_values (K.contents keeper.old)) }
+        requires plain { ArePlain rules.now (K.contents keeper.old) }
+        ensures come { IfOk result (λ v. HasCome rules.now (contents store.now) (K.contents keeper.new) level.old level.new
+            (two_of rules.now.classes (place_at here.now) comparison left.now right.now) (value_view v)) }
+        ensures gains { HasGained rules.now store.now K.exact (two_of rules.now.classes (place_at here.now) comparison left.now right.now)
+            (K.contents keeper.old) (K.contents keeper.new) self.old.work self.new.work }
+    {
+        let at_once = compare(here, store, &mut level.reads, &comparison, left, right)?;
+        match at_once {
+            Some(value) => Ok(value),
+            None => self.two(keeper, rules, store, level, here, comparison, left, right, above),
+        }
     }
 
     // The value of the expression that a test chooses, or what the test is where there is none.
@@ -528,7 +560,7 @@ impl Direct {
         ensures gains { HasGained rules.now store.now K.exact (over rules.now.classes fold (body_view body.now) (place_at here.now) nodes.now)
             (K.contents keeper.old) (K.contents keeper.new) self.old.work self.new.work }
     {
-        let mut inside = here.copy()?;
+        let mut inside = here.copy(self.alloc)?;
         let mut going = fold;
         let mut rest = nodes;
         while let Some((node, others)) = rest.split_first() {

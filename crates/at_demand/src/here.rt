@@ -56,13 +56,13 @@ impl Here {
     }
 
     // The same once more.
-    pub fn copy(&self) -> Result<Here, AllocError>
+    pub fn copy(&self, alloc: Global) -> Result<Here, AllocError>
         ensures { IfOk result (λ h. place_at h ≡ place_at self.now) }
     {
         Ok(Here {
             this: self.this,
             child: self.child,
-            bound: self.bound.copy()?,
+            bound: self.bound.copy(alloc)?,
             arguments: self.arguments.share()?,
         })
     }
@@ -203,7 +203,7 @@ fn climb<'a>(
 }
 
 // The argument at a position.
-fn at(arguments: &[Value], position: usize) -> Option<&Value>
+pub fn at(arguments: &[Value], position: usize) -> Option<&Value>
     ensures { option_copied result ≡ slice_get arguments.now position }
 {
     arguments.iter().nth(position)

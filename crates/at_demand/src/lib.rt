@@ -20,6 +20,7 @@
 mod answer;
 mod applying;
 mod chain;
+mod comparing;
 mod demand;
 mod direct;
 mod evaluation;

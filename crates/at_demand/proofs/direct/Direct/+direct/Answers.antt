@@ -2,7 +2,7 @@ use Rattle.std.proofs.Common.{◌≡◌, ◌∙◌, ◌++◌, ◌∷◌, ℕ, Li
 use Rattle.std.proofs.lemmas.List.{nil_from_length}
 use Rattle.std.proofs.lemmas.Result.{IfOk-weaker}
 use Rattle.at_model.specs.Bodies as model
-use Rattle.at_model.specs.Run.{Gives, Truth, Value}
+use Rattle.at_model.specs.Run.{Gives, Location, Truth, Value}
 use Rattle.at_model.specs.Rules.{is_lazy}
 use Rattle.at_store.specs.Shown.{contents}
 use Rattle.at_rules.specs.Bodies.{bodies_view, body_view, operator_view, order_view}
@@ -12,8 +12,9 @@ use Rattle.at_body.specs.Values.{value_view}
 use Rattle.at_body.specs.declared.value.Value.{Value as ValueCode}
 use Rattle.at_body.specs.declared.value.Value.TheVariants as value
 use Rattle.at_body.proofs.Entering.{call_view}
-use Rattle.at_demand.specs.Inner.{Gains, HasCome, HasRecalled, demand, next_of, or_truth}
+use Rattle.at_demand.specs.Inner.{Gains, HasCome, HasRecalled, demand, next_of, or_truth, two_of}
 use Rattle.at_demand.specs.Known.{meaning}
+use Rattle.at_demand.specs.Looking.{MayHaveLooked}
 use Rattle.at_demand.specs.declared.direct.Level.{Level}
 use Rattle.at_demand.specs.Place.{place_at}
 use Rattle.at_demand.proofs.Directly.{come_as, come_begun, come_gives, come_looked, evaluated, gains_as, gains_begun, gains_both, gains_evaluated, gains_none, gains_still, inner_come}
@@ -270,22 +271,22 @@ pub value-returns-in-JoinInt-clause-come : goal.value-returns-in-JoinInt-clause-
 value-returns-in-JoinInt-clause-come g t c = come_as c.args.rules.now c.args.store.now g.K.Keeper.exact c.two-in-JoinInt.result (g.K.Keeper.contents c.two-in-JoinInt.new.keeper) c.args.level.now c.two-in-JoinInt.new.level (place_at c.args.here.now) c.args.body.now (model.JoinInt (body_view c.deref-in-JoinInt.result.now) (body_view c.deref-in-JoinInt-2.result.now)) (rw (c.in-JoinInt.is, ← c.deref-in-JoinInt.ensures, ← c.deref-in-JoinInt-2.ensures) refl) c.two-in-JoinInt.ensures.come
 
 pub value-returns-in-Same-clause-gains : goal.value-returns-in-Same-clause-gains
-value-returns-in-Same-clause-gains g t c = gains_as c.args.rules.now c.args.store.now g.K.Keeper.exact _ _ _ _ (place_at c.args.here.now) c.args.body.now (model.Same (body_view c.deref-in-Same.result.now) (body_view c.deref-in-Same-2.result.now)) (rw (c.in-Same.is, ← c.deref-in-Same.ensures, ← c.deref-in-Same-2.ensures) refl) c.two-in-Same.ensures.gains
+value-returns-in-Same-clause-gains g t c = gains_as c.args.rules.now c.args.store.now g.K.Keeper.exact _ _ _ _ (place_at c.args.here.now) c.args.body.now (model.Same (body_view c.deref-in-Same.result.now) (body_view c.deref-in-Same-2.result.now)) (rw (c.in-Same.is, ← c.deref-in-Same.ensures, ← c.deref-in-Same-2.ensures) refl) c.compared.ensures.gains
 
 pub value-returns-in-Same-clause-come : goal.value-returns-in-Same-clause-come
-value-returns-in-Same-clause-come g t c = come_as c.args.rules.now c.args.store.now g.K.Keeper.exact c.two-in-Same.result (g.K.Keeper.contents c.two-in-Same.new.keeper) c.args.level.now c.two-in-Same.new.level (place_at c.args.here.now) c.args.body.now (model.Same (body_view c.deref-in-Same.result.now) (body_view c.deref-in-Same-2.result.now)) (rw (c.in-Same.is, ← c.deref-in-Same.ensures, ← c.deref-in-Same-2.ensures) refl) c.two-in-Same.ensures.come
+value-returns-in-Same-clause-come g t c = come_as c.args.rules.now c.args.store.now g.K.Keeper.exact c.compared.result (g.K.Keeper.contents c.compared.new.keeper) c.args.level.now c.compared.new.level (place_at c.args.here.now) c.args.body.now (model.Same (body_view c.deref-in-Same.result.now) (body_view c.deref-in-Same-2.result.now)) (rw (c.in-Same.is, ← c.deref-in-Same.ensures, ← c.deref-in-Same-2.ensures) refl) c.compared.ensures.come
 
 pub value-returns-in-Differ-clause-gains : goal.value-returns-in-Differ-clause-gains
-value-returns-in-Differ-clause-gains g t c = gains_as c.args.rules.now c.args.store.now g.K.Keeper.exact _ _ _ _ (place_at c.args.here.now) c.args.body.now (model.Differ (body_view c.deref-in-Differ.result.now) (body_view c.deref-in-Differ-2.result.now)) (rw (c.in-Differ.is, ← c.deref-in-Differ.ensures, ← c.deref-in-Differ-2.ensures) refl) c.two-in-Differ.ensures.gains
+value-returns-in-Differ-clause-gains g t c = gains_as c.args.rules.now c.args.store.now g.K.Keeper.exact _ _ _ _ (place_at c.args.here.now) c.args.body.now (model.Differ (body_view c.deref-in-Differ.result.now) (body_view c.deref-in-Differ-2.result.now)) (rw (c.in-Differ.is, ← c.deref-in-Differ.ensures, ← c.deref-in-Differ-2.ensures) refl) c.compared-in-Differ.ensures.gains
 
 pub value-returns-in-Differ-clause-come : goal.value-returns-in-Differ-clause-come
-value-returns-in-Differ-clause-come g t c = come_as c.args.rules.now c.args.store.now g.K.Keeper.exact c.two-in-Differ.result (g.K.Keeper.contents c.two-in-Differ.new.keeper) c.args.level.now c.two-in-Differ.new.level (place_at c.args.here.now) c.args.body.now (model.Differ (body_view c.deref-in-Differ.result.now) (body_view c.deref-in-Differ-2.result.now)) (rw (c.in-Differ.is, ← c.deref-in-Differ.ensures, ← c.deref-in-Differ-2.ensures) refl) c.two-in-Differ.ensures.come
+value-returns-in-Differ-clause-come g t c = come_as c.args.rules.now c.args.store.now g.K.Keeper.exact c.compared-in-Differ.result (g.K.Keeper.contents c.compared-in-Differ.new.keeper) c.args.level.now c.compared-in-Differ.new.level (place_at c.args.here.now) c.args.body.now (model.Differ (body_view c.deref-in-Differ.result.now) (body_view c.deref-in-Differ-2.result.now)) (rw (c.in-Differ.is, ← c.deref-in-Differ.ensures, ← c.deref-in-Differ-2.ensures) refl) c.compared-in-Differ.ensures.come
 
 pub value-returns-in-Equals-clause-gains : goal.value-returns-in-Equals-clause-gains
-value-returns-in-Equals-clause-gains g t c = gains_as c.args.rules.now c.args.store.now g.K.Keeper.exact _ _ _ _ (place_at c.args.here.now) c.args.body.now (model.Equals (body_view c.deref-in-Equals.result.now) (body_view c.deref-in-Equals-2.result.now)) (rw (c.in-Equals.is, ← c.deref-in-Equals.ensures, ← c.deref-in-Equals-2.ensures) refl) c.two-in-Equals.ensures.gains
+value-returns-in-Equals-clause-gains g t c = gains_as c.args.rules.now c.args.store.now g.K.Keeper.exact _ _ _ _ (place_at c.args.here.now) c.args.body.now (model.Equals (body_view c.deref-in-Equals.result.now) (body_view c.deref-in-Equals-2.result.now)) (rw (c.in-Equals.is, ← c.deref-in-Equals.ensures, ← c.deref-in-Equals-2.ensures) refl) c.compared-in-Equals.ensures.gains
 
 pub value-returns-in-Equals-clause-come : goal.value-returns-in-Equals-clause-come
-value-returns-in-Equals-clause-come g t c = come_as c.args.rules.now c.args.store.now g.K.Keeper.exact c.two-in-Equals.result (g.K.Keeper.contents c.two-in-Equals.new.keeper) c.args.level.now c.two-in-Equals.new.level (place_at c.args.here.now) c.args.body.now (model.Equals (body_view c.deref-in-Equals.result.now) (body_view c.deref-in-Equals-2.result.now)) (rw (c.in-Equals.is, ← c.deref-in-Equals.ensures, ← c.deref-in-Equals-2.ensures) refl) c.two-in-Equals.ensures.come
+value-returns-in-Equals-clause-come g t c = come_as c.args.rules.now c.args.store.now g.K.Keeper.exact c.compared-in-Equals.result (g.K.Keeper.contents c.compared-in-Equals.new.keeper) c.args.level.now c.compared-in-Equals.new.level (place_at c.args.here.now) c.args.body.now (model.Equals (body_view c.deref-in-Equals.result.now) (body_view c.deref-in-Equals-2.result.now)) (rw (c.in-Equals.is, ← c.deref-in-Equals.ensures, ← c.deref-in-Equals-2.ensures) refl) c.compared-in-Equals.ensures.come
 
 pub value-returns-in-Element-clause-gains : goal.value-returns-in-Element-clause-gains
 value-returns-in-Element-clause-gains g t c = gains_as c.args.rules.now c.args.store.now g.K.Keeper.exact _ _ _ _ (place_at c.args.here.now) c.args.body.now (model.Element (body_view c.deref-in-Element.result.now) c.in-Element.part (body_view c.deref-in-Element-2.result.now)) (rw (c.in-Element.is, ← c.deref-in-Element.ensures, ← c.deref-in-Element-2.ensures) refl) c.two-in-Element.ensures.gains
@@ -349,3 +350,18 @@ passed-returns-then-hands_on-clause-gains g t c = gains_none c.args.rules.now c.
 
 pub passed-returns-then-hands_on-clause-come : goal.passed-returns-then-hands_on-clause-come
 passed-returns-then-hands_on-clause-come g t c = IfOk-weaker c.handed_on.result _ _ (λ a h. come_gives c.args.rules.now c.args.store.now g.K.Keeper.exact (g.K.Keeper.contents c.args.keeper.now) c.args.level.now (ev_all c.args.rules.now.classes (bodies_view c.args.passed.now) (place_at c.args.here.now)) (map value_view a) (c.hands_on.ensures c.if-hands_on.true c.args.rules.now.classes ∙ ap (λ (vs : List ValueCode). Gives (map value_view vs)) (sym h))) c.handed_on.ensures
+
+pub compared-returns-in_err-at_once-clause-gains : goal.compared-returns-in_err-at_once-clause-gains
+compared-returns-in_err-at_once-clause-gains g t c = gains_none c.args.rules.now c.args.store.now g.K.Keeper.exact (two_of c.args.rules.now.classes (place_at c.args.here.now) c.args.comparison c.args.left.now c.args.right.now) (g.K.Keeper.contents c.args.keeper.now) c.args.self.now.work c.args.self.now.few c.requires.right c.requires.plain
+
+pub compared-returns-in-Some-clause-gains : goal.compared-returns-in-Some-clause-gains
+compared-returns-in-Some-clause-gains g t c = gains_none c.args.rules.now c.args.store.now g.K.Keeper.exact (two_of c.args.rules.now.classes (place_at c.args.here.now) c.args.comparison c.args.left.now c.args.right.now) (g.K.Keeper.contents c.args.keeper.now) c.args.self.now.work c.args.self.now.few c.requires.right c.requires.plain
+
+pub compared-returns-in-Some-clause-come : goal.compared-returns-in-Some-clause-come
+compared-returns-in-Some-clause-come g t c = come_looked c.args.rules.now c.args.store.now g.K.Keeper.exact (g.K.Keeper.contents c.args.keeper.now) c.args.level.now (record { reads = c.compare.new.reads; uses = c.args.level.now.uses }) (two_of c.args.rules.now.classes (place_at c.args.here.now) c.args.comparison c.args.left.now c.args.right.now) (value_view c.in-Some.value) refl (subst (λ o. MayHaveLooked (contents c.args.store.now) c.args.level.now.reads c.compare.new.reads (two_of c.args.rules.now.classes (place_at c.args.here.now) c.args.comparison c.args.left.now c.args.right.now) o) c.in-Some.is (c.in_ok-at_once.ensures c.args.rules.now.classes))
+
+pub compared-returns-in-None-clause-gains : goal.compared-returns-in-None-clause-gains
+compared-returns-in-None-clause-gains g t c = c.two.ensures.gains
+
+pub compared-returns-in-None-clause-come : goal.compared-returns-in-None-clause-come
+compared-returns-in-None-clause-come g t c = subst (λ (ls : List (Location ℕ)). IfOk c.two.result (λ v. HasCome c.args.rules.now (contents c.args.store.now) (g.K.Keeper.contents c.two.new.keeper) (record { reads = ls; uses = c.args.level.now.uses }) c.two.new.level (two_of c.args.rules.now.classes (place_at c.args.here.now) c.args.comparison c.args.left.now c.args.right.now) (value_view v))) (subst (λ o. MayHaveLooked (contents c.args.store.now) c.args.level.now.reads c.compare.new.reads (two_of c.args.rules.now.classes (place_at c.args.here.now) c.args.comparison c.args.left.now c.args.right.now) o) c.in-None.is (c.in_ok-at_once.ensures c.args.rules.now.classes)) c.two.ensures.come

@@ -55,3 +55,6 @@ invariant-each-loop-node g l = record {
 
 abbrev pub decreases-each-loop-node : goal.decreases-each-loop-node
 decreases-each-loop-node g l = length l.rest
+
+abbrev pub decreases-compared : goal.decreases-compared
+decreases-compared g l = 8 * l.above + 2
