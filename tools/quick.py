@@ -22,7 +22,10 @@ from typing import Callable, List, Sequence, Tuple
 from tools import quick_program
 from tools.sources import ROOT
 
-LANES = 2
+# Many of the tests wait for others, so more go on at once than there are processors.
+LANES = 3
+# Fewer kills of the hub than the gate tries.
+FEW_KILLS = (("ATTRD_HUB_POINTS", "45"),)
 COUNTED = re.compile(r"^(\d+) passed, (\d+) failed$", re.M)
 # The same, as unittest tells it.
 RAN = re.compile(r"^Ran (\d+) tests? in ", re.M)
@@ -97,7 +100,7 @@ def clients() -> List[str]:
 
 def of_the_program(program: Path, pages: Sequence[str]) -> List[Part]:
     """The parts that run a program, the longest first."""
-    tests = [Part(f"client {it}", python("clients/run_tests.py", "--skip-missing", str(program), it)) for it in clients()]
+    tests = [Part(f"client {it}", python("clients/run_tests.py", "--skip-missing", str(program), it), FEW_KILLS) for it in clients()]
     examples = Part("examples of pages", python("tools/examples.py", "--program", str(program), *pages))
     return [*tests, examples, Part("the program", python("tools/program.py", str(program)))]
 

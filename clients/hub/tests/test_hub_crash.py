@@ -21,7 +21,7 @@ import attrd_hub.main
 import attrd_hub.service
 
 # How many points a run tries, spread over all bytes: with more, as 1,200, it takes minutes.
-POINTS = int(os.environ.get("ATTRD_HUB_POINTS", "150"))
+POINTS = int(os.environ.get("ATTRD_HUB_POINTS", "300"))
 WHO = ("hub", "program", "both")
 # A term is written anew behind so many edits.
 RENEWED = 7
