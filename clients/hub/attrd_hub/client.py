@@ -5,11 +5,11 @@ import hmac
 import socket
 import time
 from functools import partial
-from typing import TYPE_CHECKING, List, Optional
+from typing import TYPE_CHECKING, Dict, Optional
 
-from .hub import SHARED, NoSession
-from .lines import (EDITS, LINE_BYTES, REFUSED_LIMIT, REFUSED_SYNTAX, TOLD, Places, first_lines, plain_session, split_line,
-                    without_condition)
+from .hub import SHARED, NoSession, Route
+from .lines import (EDITS, LINE_BYTES, QUESTIONS, REFUSED_LIMIT, REFUSED_SYNTAX, TOLD, Places, first_lines, plain_session,
+                    split_line, without_condition)
 from .loop import GONE, READ, WRITE
 from .member import Member
 
@@ -17,6 +17,8 @@ if TYPE_CHECKING:
     from .service import Service
 
 CHUNK = 1 << 15
+# Most of what is there to be read is shorter: room for more is made only where it isn't, since that takes its time.
+FIRST_CHUNK = 1 << 12
 # So many lines of a client may have no reply; fewer where a reply can be as long as the tree.
 MANY, FEW = 1_024, 4
 # So many bytes a client may leave unread before its next lines wait.
@@ -27,6 +29,8 @@ WAITING = 1 << 15
 SHORT = 256
 # So many sessions a client may have to itself: for marks and for questions in turns.
 OWN_SESSIONS = 100
+# Of so many sessions it is known at once where their questions go.
+ROUTES = 16
 
 
 class Client:
@@ -40,38 +44,64 @@ class Client:
         self.unread: bytearray = bytearray()
         self.is_dirty = self.is_ready = self.is_ended = False
         self._lines = self._rest = b""
+        # Of own sessions that have asked plain questions.
+        self._routes: Dict[bytes, Route] = {}
         self._is_last = self._is_gone = False
         self._heard = time.monotonic()
         self._events = READ
         service.loop.watch(stream.fileno(), READ, self._on_event)
 
     def _on_event(self, events: int) -> None:
+        if events == READ:
+            self._read()
+            return
         if events & WRITE:
             self.flush()
         if events & GONE:
             self._lose()
         elif events & READ:
             self._read()
-        if self._is_last or len(self._lines) >= WAITING:
-            self._watch()
 
     def _read(self) -> None:
         if self.is_ended or self._is_last:
             return
         try:
-            data = self.stream.recv(CHUNK)
+            data = self.stream.recv(FIRST_CHUNK)
         except BlockingIOError:
             return
         except OSError:
             self.end()
             return
+        if self._goes_at_once(data):
+            return
         if data:
-            self._heard = time.monotonic()
-            self._take(data)
+            self._heard = self.service.loop.now
+            self._take(data + self._read_on() if len(data) == FIRST_CHUNK else data)
         else:
             self._is_last = True
             self._take(b"\n" if self._rest else b"")
             self._end_if_done()
+        if self._is_last or len(self._lines) >= WAITING:
+            self._watch()
+
+    def _read_on(self) -> bytes:
+        """More of what is there. How the stream ends, the next reading tells."""
+        try:
+            return self.stream.recv(CHUNK)
+        except OSError:
+            return b""
+
+    def _goes_at_once(self, data: bytes) -> bool:
+        """Hands on what came, where it is one plain question, and nothing of this client waits. Whether it was."""
+        own, _, command = data.partition(b" ")
+        route = self._routes.get(own)
+        if route is None or data.find(b"\n") != len(data) - 1 or not command.startswith(QUESTIONS):
+            return False
+        if self._lines or self._rest or self.unread or self.member.unanswered >= FEW or not self.service.has_room():
+            return False
+        self.service.counts.lines += 1
+        self.service.hub.send_question(route, data)
+        return True
 
     def _lose(self) -> None:
         """The other side is gone: of what it has sent, `supply` reads the rest, and hands on what changes something."""
@@ -154,15 +184,18 @@ class Client:
 
     def _hand_on_block(self, own: bytes, lines: bytes, count: int) -> None:
         session = b"%d" % self.member.sessions.get(int(own), SHARED)
-        if session != own:
+        if own not in self._routes:
+            if len(self._routes) >= ROUTES:
+                self._routes.clear()
+            self._routes[own] = Route(self.member, own, session, self._write)
+        if session == own:
+            self.member.send_block(lines, count, self._write)
+        else:
             lines = (b"\n" + lines).replace(b"\n%b " % own, b"\n%b " % session)[1:]
-        self.member.send_block(lines, count, partial(self._tell_block, own, session))
+            self.member.send_block(lines, count, partial(self._tell_block, own, session))
 
-    def _tell_block(self, own: bytes, session: bytes, replies: List[bytes]) -> None:
-        told = b"\n".join(replies) + b"\n"
-        if session != own:
-            told = (b"\n" + told).replace(b"\n%b " % session, b"\n%b " % own)[1:]
-        self._write(told)
+    def _tell_block(self, own: bytes, session: bytes, replies: bytes) -> None:
+        self._write((b"\n" + replies).replace(b"\n%b " % session, b"\n%b " % own)[1:])
 
     def _hand_on_line(self, line: bytes) -> None:
         found = split_line(line)
@@ -189,6 +222,7 @@ class Client:
         if word in (b"mark", b"post") and own not in self.member.sessions:
             if len(self.member.sessions) >= OWN_SESSIONS:
                 raise NoSession("the client has as many sessions as it may have")
+            self._routes.clear()
             return self.member.session(own)
         return self.member.sessions.get(own, SHARED)
 
@@ -229,21 +263,23 @@ class Client:
         self.is_dirty = False
         if self.is_ended:
             return
+        unread = self.unread
         try:
-            while self.unread:
-                del self.unread[:self.stream.send(self.unread)]
+            while unread:
+                del unread[:self.stream.send(unread)]
         except BlockingIOError:
             pass
         except OSError:
             self._lose_reader()
         if self._lines or self._is_last or self._is_gone:
             self._make_ready()
-        if self.unread or self._events & WRITE:
+        if unread or self._events & WRITE:
             self._watch()
 
     def _lose_reader(self) -> None:
         """Nobody reads the replies any more."""
         self.unread.clear()
+        self._routes.clear()
         self._is_gone = True
 
     def _watch(self) -> None:

@@ -23,8 +23,8 @@ _WAIT = re.compile(rb"(?:at [0-9]+ )?wait ")
 
 # What a client is told of a line: the reply, without its session.
 Sink = Callable[[bytes], None]
-# What a client is told of a block of lines: whole replies, with the server's session.
-BlockSink = Callable[[List[bytes]], None]
+# What a client is told of a block of lines: whole replies as bytes, each with the server's session and its newline.
+BlockSink = Callable[[bytes], None]
 # What a watcher is told of an edit, a mark or an `unmark` that was accepted: the client (None for the hub itself; of whichever class
 # the hub's clients are), the session by the server's number, the command without its condition, the version then.
 Watcher = Callable[[Any, int, bytes, int], None]
@@ -41,6 +41,20 @@ class _Sent:
 
     def __init__(self, member: Optional[Member], session: int, command: bytes, sink: Sink) -> None:
         self.member, self.session, self.command, self.sink = member, session, command, sink
+
+
+class Route:
+    """Where single lines of a client's session go that ask and change nothing.
+
+    `own` is the session's number for the client, `session` that for the server. One route stands for any number of lines under
+    way, so that a line makes no object of its own.
+    """
+
+    __slots__ = ("member", "own", "session", "sink", "is_same")
+
+    def __init__(self, member: Member, own: bytes, session: bytes, sink: BlockSink) -> None:
+        self.member, self.own, self.session, self.sink = member, own, session, sink
+        self.is_same = own == session
 
 
 class _Block:
@@ -61,7 +75,7 @@ class Hub:
 
     `base` is added to each version of the server, as clients see it: so a server that begins anew at 0 goes on where the last one
     ended. `in_flight` counts the lines without a reply, `answered` those that have one. `on_members` is called when a client comes
-    or leaves, `on_lines` when there are lines for the server where there were none.
+    or leaves, `on_lines` when there are lines for the server where there were none: `out` has them.
     """
 
     def __init__(self, base: int = 0) -> None:
@@ -71,14 +85,14 @@ class Hub:
         self.members: Set[Member] = set()
         self.watchers: List[Watcher] = []
         self.on_members: Callable[[], None] = lambda: None
-        self.on_lines: Callable[[], None] = lambda: None
+        self.on_lines: Optional[Callable[[], None]] = None
         self._free = [it for it in range(SESSIONS) if it != SHARED]
-        self._sent: Deque[Union[_Sent, _Block]] = deque()
+        self._sent: Deque[Union[Route, _Block, _Sent]] = deque()
         self._questions: Dict[bytes, Tuple[Member, int]] = {}
         self._open: Counter[int] = Counter()
         self._lingering: Set[int] = set()
         self._waited: Optional[_Sent] = None
-        self._out: List[bytes] = []
+        self.out: List[bytes] = []
         self._rest = b""
 
     def add(self, member: Member) -> None:
@@ -117,39 +131,75 @@ class Hub:
         self._write(lines, count)
         self._sent.append(_Block(member, sink, count))
 
+    def send_question(self, route: Route, line: bytes) -> None:
+        """Sends one line of the route; its sink gets the whole reply with the client's session. Raises ServerLost."""
+        if self.lost is not None:
+            raise self.lost
+        self.in_flight += 1
+        if self.on_lines is not None and not self.out:
+            self.on_lines()
+        self.out.append(line if route.is_same else route.session + line[len(route.own):])
+        self._sent.append(route)
+        route.member.unanswered += 1
+
     def _write(self, lines: bytes, count: int) -> None:
         self.in_flight += count
-        if not self._out:
+        if self.on_lines is not None and not self.out:
             self.on_lines()
-        self._out.append(lines)
+        self.out.append(lines)
 
     def lines(self) -> bytes:
         """The lines for the server since the last time."""
-        lines, self._out = b"".join(self._out), []
+        lines, self.out = b"".join(self.out), []
         return lines
 
     def feed(self, data: bytes) -> None:
         """Bytes of the server. Raises ProtocolFault where there is a reply and no line for it."""
-        lines = (self._rest + data if self._rest else data).split(b"\n")
-        self._rest = lines.pop()
-        at, end = 0, len(lines)
+        if self._rest:
+            data = self._rest + data
+            self._rest = b""
+        first = self._sent[0] if self._sent and not self._questions else None
+        if isinstance(first, Route) and data.find(b"\n") == len(data) - 1:
+            self._settle_question(first, data)
+            return
+        end = data.rfind(b"\n") + 1
+        self._rest = data[end:]
+        if isinstance(first, _Block) and 0 < data.count(b"\n") <= first.left:
+            # All of it answers the one block: it goes on as it is.
+            self._settle_block(first, data[:end], data.count(b"\n"))
+        else:
+            self._feed_lines(data[:end].split(b"\n"))
+
+    def _feed_lines(self, lines: List[bytes]) -> None:
+        """Whole replies; behind the last newline there is nothing."""
+        at, end = 0, len(lines) - 1
         while at < end:
-            first = self._sent[0] if self._sent else None
-            if isinstance(first, _Block) and not self._questions:
-                taken = lines[at:at + first.left]
+            first = self._sent[0] if self._sent and not self._questions else None
+            if isinstance(first, Route):
+                self._settle_question(first, lines[at] + b"\n")
+                at += 1
+            elif isinstance(first, _Block):
+                taken = lines[at:min(at + first.left, end)]
                 at += len(taken)
-                self._settle_block(first, taken)
+                self._settle_block(first, b"\n".join(taken) + b"\n", len(taken))
             else:
                 self._answer(lines[at])
                 at += 1
 
-    def _settle_block(self, block: _Block, lines: List[bytes]) -> None:
-        block.left -= len(lines)
+    def _settle_question(self, route: Route, reply: bytes) -> None:
+        self._sent.popleft()
+        self.in_flight -= 1
+        self.answered += 1
+        route.sink(reply if route.is_same else route.own + reply[len(route.session):])
+        route.member.answer(1)
+
+    def _settle_block(self, block: _Block, replies: bytes, count: int) -> None:
+        block.left -= count
         if not block.left:
             self._sent.popleft()
-        self._count(len(lines))
-        block.sink(lines)
-        block.member.answer(len(lines))
+        self._count(count)
+        block.sink(replies)
+        block.member.answer(count)
 
     def _count(self, lines: int) -> None:
         self.in_flight -= lines
@@ -168,8 +218,10 @@ class Hub:
         if not self._sent:
             raise ProtocolFault(f"{line[:100]!r} answers no line")
         first = self._sent[0]
-        if isinstance(first, _Block):
-            self._settle_block(first, [line])
+        if isinstance(first, Route):
+            self._settle_question(first, line + b"\n")
+        elif isinstance(first, _Block):
+            self._settle_block(first, line + b"\n", 1)
         else:
             self._sent.popleft()
             self._count(1)

@@ -77,13 +77,14 @@ class Journal:
     """Writes the edits. `sync` says when they are made safe against a crash of the machine: with each edit, each second, or never.
 
     `version` is that of the last edit, `edits` and `bytes` count what stands in the journals since the last whole term.
+    `pending` are the edits that `commit` is to write.
     """
 
     def __init__(self, folder: Path, sync: str) -> None:
         """Takes the folder for itself, until `close`. Raises JournalFault."""
         self.folder, self.sync = folder, sync
         self.version = self.edits = self.bytes = 0
-        self._pending: List[bytes] = []
+        self.pending: List[bytes] = []
         self._file = -1
         self._base = 0
         self._is_synced = True
@@ -178,15 +179,15 @@ class Journal:
         if version != self.version + 1:
             raise JournalFault(f"{self.folder}: an edit made the version {version}, and {self.version + 1} is next")
         self.version = version
-        self._pending.append(record(version, command))
+        self.pending.append(record(version, command))
 
     def commit(self) -> None:
         """Writes the edits so far: before a client is told that they are accepted. Raises JournalFault."""
-        if not self._pending:
+        if not self.pending:
             return
-        data = b"".join(self._pending)
-        self.edits += len(self._pending)
-        self._pending.clear()
+        data = b"".join(self.pending)
+        self.edits += len(self.pending)
+        self.pending.clear()
         try:
             write_all(self._file, data)
             self.bytes += len(data)

@@ -13,7 +13,8 @@ REFUSED_LIMIT = b"refused 12 limit"
 _LINE = re.compile(rb"(0|[1-9][0-9]{0,2})(?: (.*))?\Z", re.S)
 _CONDITION = re.compile(rb"at (0|[1-9][0-9]{0,19}) ")
 _QUESTION = re.compile(rb"(0|[1-9][0-9]{0,2}) (?:ask|show|where) ")
-_QUESTIONS = (b"ask ", b"show ", b"where ")
+# With these words a command begins that asks and changes nothing.
+QUESTIONS = (b"ask ", b"show ", b"where ")
 # No tree has this version: `at` it is refused as stale.
 _NEVER = 2 ** 64 - 1
 
@@ -52,7 +53,7 @@ def plain_session(lines: bytes, count: int) -> Optional[bytes]:
         return None
     framed = b"\n" + lines
     head = b"\n" + session + b" "
-    return session if sum(framed.count(head + it) for it in _QUESTIONS) == count else None
+    return session if sum(framed.count(head + it) for it in QUESTIONS) == count else None
 
 
 def first_lines(lines: bytes, most: int) -> bytes:

@@ -4,7 +4,7 @@ from __future__ import annotations
 from typing import TYPE_CHECKING, Callable, Dict, Set
 
 if TYPE_CHECKING:
-    from .hub import Hub, Sink
+    from .hub import BlockSink, Hub, Sink
 
 
 class Member:
@@ -40,7 +40,7 @@ class Member:
         self.hub.send(self, taken, command, sink)
         self.unanswered += 1
 
-    def send_block(self, lines: bytes, count: int, sink: Callable[[list[bytes]], None]) -> None:
+    def send_block(self, lines: bytes, count: int, sink: "BlockSink") -> None:
         """Sends so many lines, each of which asks and changes nothing; `sink` gets their replies. Raises ServerLost."""
         self.hub.send_block(self, lines, count, sink)
         self.unanswered += count

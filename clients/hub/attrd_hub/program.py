@@ -12,6 +12,8 @@ from attrd.server import cannot_start, start_fault
 from .lines import LINE_BYTES
 
 CHUNK = 1 << 16
+# Most of what is there to be read is shorter: room for more is made only where it isn't, since that takes its time.
+FIRST_CHUNK = 1 << 12
 ENDING_SECONDS = 10.0
 # So many lines are sent before their replies are read: these have room in a pipe.
 BATCH = 256
@@ -78,29 +80,32 @@ class Program:
 
     def read(self) -> Optional[bytes]:
         """The bytes that are there; None where there are none yet, and b"" at the end."""
+        data = b""
         try:
-            return os.read(self.output, CHUNK)
+            data = os.read(self.output, FIRST_CHUNK)
+            return data + os.read(self.output, CHUNK) if len(data) == FIRST_CHUNK else data
         except BlockingIOError:
-            return None
+            return data or None
         except OSError:
-            return b""
+            return data
 
     def send(self, data: bytes) -> None:
         """Hands lines on, as far as the program takes them; the rest is `unsent`, and goes with the next call."""
-        if self.unsent:
-            self.unsent += data
+        unsent = self.unsent
+        if unsent:
+            unsent += data
         try:
-            taken = os.write(self.input, self.unsent or data)
+            taken = os.write(self.input, unsent or data)
         except BlockingIOError:
             taken = 0
         except OSError:
             # It has ended, which its output tells.
-            self.unsent.clear()
+            unsent.clear()
             return
-        if self.unsent:
-            del self.unsent[:taken]
-        else:
-            self.unsent += data[taken:]
+        if unsent:
+            del unsent[:taken]
+        elif taken < len(data):
+            unsent += data[taken:]
 
     def fault(self) -> AttrdError:
         """Why it ended before it answered."""

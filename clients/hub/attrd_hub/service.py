@@ -80,7 +80,7 @@ class Service:
         """Starts the program with the tree as it was. Raises AttrdError."""
         files, commands = list(self.settings.files), []
         self._started = time.monotonic()
-        self.hub = Hub()
+        self.hub, self.pace = Hub(), Pace()
         if self.journal is not None:
             state = self.journal.open(Path(files[1]))
             files[1], commands = str(state.term), state.commands
@@ -111,43 +111,47 @@ class Service:
     def _serve(self) -> int:
         tick = time.monotonic() + TICK_SECONDS
         while not self._is_stopping:
-            now = time.monotonic()
-            self.loop.turn(0.0 if self._can_hand_on() else max(0.0, tick - now))
+            self.loop.turn(0.0 if self.ready and self.has_room() else TICK_SECONDS, self.hub.in_flight > 0)
             self._hand_on()
             if self._has_ended and not self._go_on():
                 return 0 if self._is_stopping else 3
-            if time.monotonic() >= tick:
+            if self.loop.now >= tick:
                 self._tick()
                 tick = time.monotonic() + TICK_SECONDS
         self._last_lines()
         return 0
 
-    def _can_hand_on(self) -> bool:
-        return bool(self.ready) and self.hub.in_flight < self.pace.most and len(self.program.unsent) < UNSENT
+    def has_room(self) -> bool:
+        """Whether more lines of clients may go to the program now."""
+        return self.hub.in_flight < self.pace.most and len(self.program.unsent) < UNSENT and not self._is_stopping
 
     def _hand_on(self) -> None:
-        """Sends what the turn has brought: lines to the program, edits to the journal, and then replies to clients.
+        """Sends what the turn has brought: lines to the program, edits to the journal, and then replies to clients."""
+        if self.ready:
+            self._supply()
+        if self.hub.out:
+            self.program.send(self.hub.lines())
+            if self.loop.now >= self.pace.next:
+                self.pace.begin(self.hub.answered + self.hub.in_flight, self.loop.now)
+            if self.program.unsent:
+                self._await_room()
+        if self.journal is not None and self.journal.pending:
+            self.journal.commit()
+        if self.dirty:
+            dirty, self.dirty = self.dirty, []
+            for client in dirty:
+                client.flush()
 
-        Few clients have a share each: then those that have come meanwhile are heard."""
+    def _supply(self) -> None:
+        """Has clients hand on lines. Few of them have a share each: then those that have come meanwhile are heard."""
         share = self.pace.share(len(self.ready))
         for _ in range(min(len(self.ready), CLIENTS_IN_A_TURN)):
-            if not self._can_hand_on():
+            if not self.ready or not self.has_room():
                 break
             client = self.ready.popleft()
             client.is_ready = client.supply(share)
             if client.is_ready:
                 self.ready.append(client)
-        lines = self.hub.lines()
-        if lines:
-            self.program.send(lines)
-            self.pace.sent(self.hub.answered, self.hub.in_flight)
-            if self.program.unsent:
-                self._await_room()
-        if self.journal is not None:
-            self.journal.commit()
-        dirty, self.dirty = self.dirty, []
-        for client in dirty:
-            client.flush()
 
     def _await_room(self) -> None:
         self.loop.change(self.program.input, WRITE if self.program.unsent else 0)
@@ -169,7 +173,8 @@ class Service:
         except ProtocolFault as fault:
             log(Level.ERROR, str(fault))
             self._has_ended = True
-        self.pace.answered(self.hub.answered)
+        if self.hub.answered >= self.pace.until:
+            self.pace.end(self.loop.now)
 
     def accepted(self, places: Places) -> None:
         """An edit was accepted: it goes into the journal before its client is told."""

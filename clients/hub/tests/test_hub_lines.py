@@ -4,7 +4,8 @@ from __future__ import annotations
 import unittest
 
 import hub_support  # noqa: F401
-from attrd_hub.hub import Hub, NoSession, pass_over
+from attrd import ServerLost
+from attrd_hub.hub import Hub, NoSession, Route, pass_over
 from attrd_hub.lines import Places, condition_moved, first_lines, plain_session, split_line
 from attrd_hub.member import Member
 from attrd_hub.program import edit_lines
@@ -74,13 +75,41 @@ class Sessions(unittest.TestCase):
     def test_replies_in_pieces(self) -> None:
         hub, told = Hub(base=5), []
         member = Member(hub, lambda: None, lambda session, form: told.append((session, form)))
-        member.send_block(b"0 where u\n0 show /\n", 2, told.extend)
-        member.send(3, b"at 7 drop /A", told.append)
-        self.assertEqual(hub.lines(), b"0 where u\n0 show /\n1 at 2 drop /A\n")
-        for at in range(0, 48, 3):
-            hub.feed(b"0 refused 3 mark\n0 = A()\n1 refused 2 stale 4\n"[at:at + 3])
-        self.assertEqual(told, [b"0 refused 3 mark", b"0 = A()", b"refused 2 stale 9"])
-        self.assertEqual((hub.in_flight, hub.answered, member.unanswered), (0, 3, 0))
+        replies = b"0 refused 3 mark\n0 = A()\n71 = B()\n1 refused 2 stale 4\n"
+        for length in (1, 2, 3, 5, 17, 18, 25, 33, len(replies)):
+            member.send_block(b"0 where u\n0 show /\n", 2, told.append)
+            hub.send_question(Route(member, b"5", b"71", told.append), b"5 show /B\n")
+            member.send(3, b"at 7 drop /A", told.append)
+            self.assertEqual(hub.lines(), b"0 where u\n0 show /\n71 show /B\n1 at 2 drop /A\n")
+            self.assertEqual((hub.in_flight, member.unanswered), (4, 4))
+            for at in range(0, len(replies), length):
+                hub.feed(replies[at:at + length])
+            self.assertEqual(b"".join(told), b"0 refused 3 mark\n0 = A()\n5 = B()\nrefused 2 stale 9", length)
+            self.assertEqual((hub.in_flight, member.unanswered), (0, 0))
+            told.clear()
+        self.assertEqual(hub.answered, 36)
+
+    def test_plain_questions_while_a_posted_one_is_open(self) -> None:
+        hub, told = Hub(), []
+        member = Member(hub, lambda: None, lambda session, form: told.append(form))
+        route = Route(member, b"0", b"0", told.append)
+        member.send(7, b"post / a()", told.append)
+        hub.send_question(route, b"0 show /\n")
+        hub.send_question(route, b"0 show /B\n")
+        hub.feed(b"1 open 1\n0 = A()\n1 done 1 0 = 3\n0 = B()\n")
+        self.assertEqual(told, [b"open 1", b"0 = A()\n", b"done 1 0 = 3", b"0 = B()\n"])
+        self.assertEqual((hub.in_flight, member.unanswered), (0, 0))
+
+    def test_a_server_that_ends_with_plain_questions_under_way(self) -> None:
+        hub = Hub()
+        member = Member(hub, lambda: None, lambda session, form: None)
+        route = Route(member, b"0", b"0", pass_over)
+        hub.send_question(route, b"0 show /\n")
+        hub.send_question(route, b"0 show /\n")
+        hub.lose()
+        self.assertEqual(member.unanswered, 0)
+        with self.assertRaises(ServerLost):
+            hub.send_question(route, b"0 show /\n")
 
 
 if __name__ == "__main__":

@@ -44,6 +44,25 @@ class Sessions(unittest.TestCase):
         two.send("3 where u", "3 show /")
         self.assertEqual([two.reply() for _ in range(2)], ["3 = /Block/Stmt:0", f"3 {TERM}"])
 
+    def test_single_lines(self) -> None:
+        client = self.client()
+        shown = '= Decl("x",Num(1))'
+        self.assertEqual([client.ask(it) for it in ("3 where u", "3 where u", "12 show /Block/Stmt:0", "12 ask / nix()")],
+                         ["3 refused 3 mark"] * 2 + [f"12 {shown}", "12 refused 13 attribute"])
+        self.assertRegex(client.ask("3 mark u /Block"), " ok ")
+        self.assertEqual([client.ask(it) for it in ("3 where u", "3 where u", "12 where u")], ["3 = /Block"] * 2 + ["12 refused 3 mark"])
+        # Lines that come one by one, and are too many or no plain question, wait for their turn: the order stays.
+        lines = [("12 show /Block/Stmt:0\n", f"12 {shown}"), ("3 where u\n", "3 = /Block"), ("3 version\n", "3 ok 0"),
+                 ("3 wher", ""), ("e u\n", "3 = /Block"), ("03 where u\n", "? refused 1 syntax"), ("3 at 0 where u\n", "3 = /Block"),
+                 ("3 where  u\n", "3 refused 1 syntax"), ("3 whereu\n", "3 refused 1 syntax")]
+        for number in range(40):
+            self.assertEqual(client.ask(f"{number} show /Block/Stmt:0"), f"{number} {shown}")
+            for line, _ in lines:
+                client.stream.sendall(line.encode())
+            for _, reply in lines:
+                if reply:
+                    self.assertEqual(client.reply(), reply)
+
     def test_marks_are_taken_back(self) -> None:
         first = self.client()
         for session in range(100):
