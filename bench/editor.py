@@ -118,20 +118,24 @@ def errors_in(editor: "Neovim") -> int:
 
 
 def changes(editor: "Neovim", standing: int) -> Dict[str, float]:
-    """From a change to its diagnostics, beside so many errors: an error that comes, and one that goes."""
+    """From a change to its diagnostics, beside so many errors: an error that comes, and one that goes.
+
+    By the clock the median is told, of the processor time of the server and the program behind it the least."""
     line, column = place_in(editor.lines())
-    come: List[float] = []
-    gone: List[float] = []
+    keys = {"a key that brings an error": (column, "q", standing + 1)}
+    keys["a key that takes it away"] = (column + 1, "", standing)
+    clock: Dict[str, List[float]] = {it: [] for it in keys}
+    processor: Dict[str, List[float]] = {it: [] for it in keys}
     for _ in range(RUNS):
-        spent, count = editor.lua(CHANGE, line, column, column, "q")
-        assert count == standing + 1, count
-        come.append(spent)
-        spent, count = editor.lua(CHANGE, line, column, column + 1, "")
-        assert count == standing, count
-        gone.append(spent)
+        for key, (end, text, wanted) in keys.items():
+            before = spent_by_both(editor)
+            spent, count = editor.lua(CHANGE, line, column, end, text)
+            assert count == wanted, count
+            clock[key].append(spent)
+            processor[key].append(spent_by_both(editor) - before)
     beside_errors = f", beside {standing} errors" if standing else ""
-    come_and_gone = statistics.median(come), statistics.median(gone)
-    return {f"a key that brings an error{beside_errors}": come_and_gone[0], f"a key that takes it away{beside_errors}": come_and_gone[1]}
+    found = {f"{key}{beside_errors}": statistics.median(clock[key]) for key in keys}
+    return {**found, **{f"{key}{beside_errors}, processor time": min(processor[key]) for key in keys}}
 
 
 def requests(editor: "Neovim") -> Dict[str, float]:
@@ -148,17 +152,27 @@ def requests(editor: "Neovim") -> Dict[str, float]:
     return {it: statistics.median([editor.lua(REQUEST, method, *place, more) for _ in range(RUNS)]) for it, (method, more) in kinds.items()}
 
 
+def processor_time(process: int) -> int:
+    """The processor time of a process, in nanoseconds; 0 where it isn't known."""
+    try:
+        return int(Path(f"/proc/{process}/schedstat").read_text().split()[0])
+    except (OSError, ValueError):
+        return 0
+
+
 def spent_by_program(editor: "Neovim") -> float:
     """The processor time of the program behind the language server of an editor, in seconds; 0 before it has begun."""
     from lsp_support import children
 
-    times = [0]
-    for program in [it for server in children(editor.process.pid) for it in children(server)]:
-        try:
-            times.append(int(Path(f"/proc/{program}/schedstat").read_text().split()[0]))
-        except (OSError, ValueError):
-            continue
-    return max(times) / 1e9
+    return max([0, *(processor_time(it) for server in children(editor.process.pid) for it in children(server))]) / 1e9
+
+
+def spent_by_both(editor: "Neovim") -> float:
+    """The processor time of the language server of an editor and of the program behind it, in milliseconds."""
+    from lsp_support import children
+
+    servers = children(editor.process.pid)
+    return sum(processor_time(it) for server in servers for it in (server, *children(server))) / 1e6
 
 
 def beside_a_check(nodes: int, program: str) -> Tuple[Sequence[float], Sequence[float], int]:
@@ -211,7 +225,8 @@ def main(words: Sequence[str]) -> None:
     if shutil.which("nvim") is None:
         sys.exit("there is no nvim: the package neovim is missing (tools/editors.sh installs it)")
     found = {nodes: in_neovim(nodes) for nodes in sizes}
-    table("In Neovim, by the clock", *(f"{it:,} nodes" for it in sizes), "The largest against the smallest")
+    heads = [f"{it:,} nodes" for it in sizes]
+    table("In Neovim, by the clock where nothing else is said", *heads, "The largest against the smallest")
     for what in found[sizes[0]]:
         times = [found[it][what] for it in sizes]
         row(what, *map(ms, times), ratio(times[-1], times[0]))

@@ -8,10 +8,11 @@ from __future__ import annotations
 import time
 from dataclasses import dataclass
 from functools import lru_cache
-from typing import Callable, Dict, Generic, List, Optional, TypeVar
+from typing import Callable, Dict, Generic, List, Optional, Sequence, Tuple, TypeVar
 
 import attrd
 from attrd import commands
+from attrd.authoring import Source, Specification
 from attrd.replies import Circular, Code, Done, Fault, Memory, Opened, RefusedReply, Value
 
 from .inquiry import Answer, Inquiry, Question
@@ -50,8 +51,10 @@ class Desk:
 
     Where the aspects don't declare what the language says, `checks` is None, and `why` the reason."""
 
-    def __init__(self, server: attrd.Server, grammar: attrd.Grammar, tree: attrd.Node, posts: bool) -> None:
-        self.server, self.grammar, self.tree, self.posts = server, grammar, tree, posts
+    def __init__(self, server: attrd.Server, files: Sequence[Source], tree: attrd.Node, posts: bool) -> None:
+        """`files` are the grammar and the aspects of the program. Raises GrammarFault."""
+        self.server, self.files, self.tree, self.posts = server, tuple(files), tree, posts
+        self.grammar = attrd.Grammar.read(files[0].text)
         self.checks: Optional[attrd.Diagnostics] = None
         self.why = ""
         self.session = server.session(SESSION)
@@ -61,6 +64,11 @@ class Desk:
     def version(self) -> int:
         """The version of the tree."""
         return self.server.version or 0
+
+    @property
+    def specification(self) -> Specification:
+        """What the files declare."""
+        return specified(self.files)
 
     def show(self, tree: attrd.Node) -> None:
         """Makes this the program's tree, by few edits. Raises AttrdError; which tree the program has isn't known then."""
@@ -111,6 +119,12 @@ class Desk:
     def close(self) -> None:
         """Ends the program."""
         self.server.close()
+
+
+@lru_cache(maxsize=2)
+def specified(files: Tuple[Source, ...]) -> Specification:
+    """What these files declare, the grammar and the aspects."""
+    return Specification(files[0], files[1:])
 
 
 @lru_cache(maxsize=1 << 14)

@@ -7,7 +7,7 @@ from __future__ import annotations
 from dataclasses import dataclass
 from typing import Generator, List, Optional, Tuple, TypeVar, Union
 
-from attrd.replies import Circular, Fault, Memory, RefusedReply, Value, read_value
+from attrd.replies import AskValue, Circular, Fault, Memory, RefusedReply, Value, read_value
 
 T = TypeVar("T")
 Answer = Union[Value, Fault, Circular, RefusedReply, Memory]
@@ -15,11 +15,11 @@ Answer = Union[Value, Fault, Circular, RefusedReply, Memory]
 
 @dataclass(frozen=True)
 class Question:
-    """The value of an attribute of the node of that path, with these texts as its arguments."""
+    """The value of an attribute of the node of that path, with these arguments: texts, paths of nodes, and null."""
 
     path: str
     attribute: str
-    arguments: Tuple[str, ...] = ()
+    arguments: Tuple[AskValue, ...] = ()
 
 
 Inquiry = Generator[List[Question], List[Answer], T]

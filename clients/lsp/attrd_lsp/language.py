@@ -65,6 +65,8 @@ class Language:
     """Attributes with a name as their argument, which tell what it would mean there, by classes: names are completed by them."""
     hover: Mapping[str, str] = field(default_factory=dict)
     """The attribute whose value is shown of a node, by classes. Without one the declaration is shown that the name means."""
+    why: Mapping[str, str] = field(default_factory=dict)
+    """The attribute of which is told below what is shown why it has its value, by classes."""
     kinds: Mapping[str, int] = field(default_factory=dict)
     """The classes of declarations, each with the protocol's number for its kind of symbol. `Class.Component` is what stands there."""
     details: Mapping[str, str] = field(default_factory=dict)

@@ -7,6 +7,7 @@ from typing import Dict, List, Optional, Tuple, Union
 from urllib.parse import unquote, urlsplit
 
 import attrd
+from attrd import authoring
 from attrd.explain import SENTENCES
 
 from .desk import Desk, Program
@@ -66,7 +67,8 @@ class LanguageFiles:
         except attrd.StartFault as fault:
             fault.file = self.named(fault.file)
             raise
-        desk = Desk(server, attrd.Grammar.read(self.text(self.language.grammar)), tree, "--slice" in options)
+        texts = [authoring.Source(it.name, self.text(it)) for it in self.language.files]
+        desk = Desk(server, texts, tree, "--slice" in options)
         desk.checks, desk.why = checks, why
         return desk
 

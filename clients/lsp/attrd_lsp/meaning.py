@@ -66,20 +66,26 @@ def find_references(source: Source, file: str, offset: int) -> Inquiry[Optional[
     return declaration, [it for it, told in zip(uses, answers) if meant(told) == declaration.path]
 
 
+def hovered(source: Source, file: str, offset: int) -> Optional[Spot]:
+    """The innermost phrase at that offset; of a declaration only its name stands for it."""
+    spot = source.at(file, offset)
+    if spot is None or (source.symbol_kind(spot) is not None and not spot.name.holds(offset)):
+        return None
+    return spot
+
+
 def find_hover(source: Source, file: str, offset: int) -> Inquiry[Optional[Hover]]:
     """What is told of the phrase at that offset: a declaration, or what an attribute answers. Raises NoAnswer."""
-    spot = source.at(file, offset)
+    spot = hovered(source, file, offset)
     if spot is None:
-        return None
-    is_declaration = source.symbol_kind(spot) is not None
-    if is_declaration and not spot.name.holds(offset):
         return None
     span = spot.span if spot.phrase.name is None else spot.name
     attribute = source.of_class(source.language.hover, spot.phrase.kind)
     if attribute is not None:
         (answer,) = yield [Question(spot.path, attribute)]
         return Hover(hover_text(source, spot, attribute, answer), span)
-    path = (yield from meant_by(source, spot)) if is_declaration or source.meanings(spot) else None
+    is_named = source.symbol_kind(spot) is not None or source.meanings(spot)
+    path = (yield from meant_by(source, spot)) if is_named else None
     return None if path is None else Hover(title_of(source, path), span)
 
 

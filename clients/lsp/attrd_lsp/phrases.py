@@ -8,7 +8,6 @@ is a node of the class `Let` that stands at the characters 0 to 8; its name stan
 names of their components, in the order of the grammar: a phrase, a sequence of phrases, None, or a token (str, int or bool)."""
 from __future__ import annotations
 
-from dataclasses import dataclass
 from typing import Dict, List, NamedTuple, Optional, Sequence, Tuple, Union
 
 import attrd
@@ -21,8 +20,7 @@ TreeCell = Union[Node, Tuple[Node, ...], None, str, int, bool]
 Cell = Union["Phrase", Sequence["Phrase"], None, str, int, bool]
 
 
-@dataclass(frozen=True)
-class Phrase:
+class Phrase(NamedTuple):
     """A node of the tree and where it stands in the text: the whole of it, and its name where it has one."""
 
     tree: Node
@@ -62,21 +60,20 @@ class Parsed(NamedTuple):
 def phrase(kind: str, span: Span, name: Optional[Span] = None, /, **cells: Cell) -> Phrase:
     """A node with its place, and that of its name. Raises TermFault where a cell is nothing that a cell may be."""
     children: List[Tuple[str, Phrase]] = []
+    trees: List[TreeCell] = []
+    texts: List[str] = []
     for part, cell in cells.items():
         if isinstance(cell, Phrase):
             children.append((part, cell))
+            trees.append(cell.tree)
         elif isinstance(cell, (tuple, list)):
-            children.extend((f"{part}:{index}", it) for index, it in enumerate(cell))
-    tree = Node(kind, *map(tree_of, cells.values()))
-    identifier = "" if name is None else next((it for it in cells.values() if isinstance(it, str)), "")
-    return Phrase(tree, span, identifier, name, tuple(children), tuple(cells))
-
-
-def tree_of(cell: Cell) -> TreeCell:
-    """The cell without places."""
-    if isinstance(cell, Phrase):
-        return cell.tree
-    return tuple(it.tree for it in cell) if isinstance(cell, (tuple, list)) else cell  # type: ignore[return-value]
+            children.extend([(f"{part}:{index}", it) for index, it in enumerate(cell)])
+            trees.append(tuple([it.tree for it in cell]))
+        else:
+            trees.append(cell)  # type: ignore[arg-type]
+            texts += [cell] if isinstance(cell, str) else []
+    identifier = texts[0] if texts and name is not None else ""
+    return Phrase(Node(kind, *trees), span, identifier, name, tuple(children), tuple(cells))
 
 
 def misplaced(top: Phrase, length: int) -> Optional[str]:

@@ -8,13 +8,15 @@ import traceback
 from dataclasses import dataclass, field
 from functools import cached_property
 from pathlib import Path
-from typing import Dict, List, Optional, Tuple
+from typing import Dict, List, Optional, Tuple, TypeVar
 
 import attrd
 
 from .language import Language
 from .phrases import Fault, Parsed, Phrase, misfit, misplaced
 from .positions import Span, carried
+
+T = TypeVar("T")
 
 
 @dataclass(frozen=True)
@@ -114,13 +116,14 @@ def failed(fault: Exception) -> str:
 
 @dataclass(frozen=True)
 class Reading:
-    """The parts of a file: where the text of each begins, that text, and what the tree has of it; and all faults.
+    """The parts of a file: where the text of each begins, that text, what was read of it and its tree; and all faults.
 
     `pieces` are the texts that were read, also those of which the tree has nothing."""
 
     starts: List[int] = field(default_factory=list)
     texts: List[str] = field(default_factory=list)
     taken: List[Piece] = field(default_factory=list)
+    trees: List[attrd.Node] = field(default_factory=list)
     faults: Tuple[Fault, ...] = ()
     trouble: Optional[str] = None
     pieces: Dict[str, Piece] = field(default_factory=dict)
@@ -145,30 +148,49 @@ def read_file(text: str, old: Reading, reader: Reader, holds: bool = True) -> Re
         front = reader.front(text[: starts[0]] if starts else text)
     except Exception as fault:  # noqa: BLE001  the language is anybody's
         return unread(old, failed(fault))
-    texts = shared([text[start:end] for start, end in zip(starts, [*starts[1:], len(text)])], old.texts)
-    pieces = {it: old.pieces.get(it) or reader.piece(it) for it in texts}
+    cut = [text[start:end] for start, end in zip(starts, [*starts[1:], len(text)])]
+    ends = alike_ends(cut, old.texts)
+    between = cut[ends[0] : len(cut) - ends[1]]
+    new = {it: old.pieces.get(it) or reader.piece(it) for it in between}
+    texts = spliced(old.texts, ends, between)
+    if old.is_good and not front and all(it.is_good and it.phrase is not None for it in new.values()):
+        fresh = [new[it] for it in between]
+        pieces = replaced(old.pieces, old.texts[ends[0] : len(old.texts) - ends[1]], new)
+        trees = spliced(old.trees, ends, trees_of(fresh))
+        return Reading(starts, texts, spliced(old.taken, ends, fresh), trees, (), None, pieces)
+    pieces = {it: new.get(it) or old.pieces.get(it) or reader.piece(it) for it in texts}
     read = [pieces[it] for it in texts]
-    bad = [it for it in read if not it.is_good or it.phrase is None]
-    if not bad and not front:
-        return Reading(starts, texts, read, (), None, pieces)
-    trouble = next((it.trouble for it in bad if it.trouble is not None), None)
+    trouble = next((it.trouble for it in read if it.trouble is not None), None)
     faults = front + [Fault(it.text, it.span.moved(start)) for start, piece in zip(starts, read) for it in piece.faults]
     last = last_good(read, old) if holds else {}
     taken = [it if it.is_good else last.get(number, it) for number, it in enumerate(read)]
     numbers = [number for number, it in enumerate(taken) if it.phrase is not None]
     chosen = [starts[it] for it in numbers], [texts[it] for it in numbers], [taken[it] for it in numbers]
-    return Reading(*chosen, tuple(faults), trouble, pieces)
+    return Reading(*chosen, trees_of(chosen[2]), tuple(faults), trouble, pieces)
 
 
 def unread(old: Reading, trouble: str) -> Reading:
     """The file as it was, where its parts can't be told."""
-    return Reading(old.starts, old.texts, old.taken, (), trouble, old.pieces)
+    return Reading(old.starts, old.texts, old.taken, old.trees, (), trouble, old.pieces)
 
 
-def shared(texts: List[str], old: List[str]) -> List[str]:
-    """The same texts; those at the front and at the back that were there before are the old ones, whose hashes are known."""
-    front, back = alike_ends(texts, old)
-    return [*old[:front], *texts[front : len(texts) - back], *old[len(old) - back :]]
+def trees_of(pieces: List[Piece]) -> List[attrd.Node]:
+    """The trees of those that have one."""
+    return [it.phrase.tree for it in pieces if it.phrase is not None]
+
+
+def spliced(old: List[T], ends: Tuple[int, int], between: List[T]) -> List[T]:
+    """The old list with these elements between so many of its front and so many of its end."""
+    return [*old[: ends[0]], *between, *old[len(old) - ends[1] :]]
+
+
+def replaced(pieces: Dict[str, Piece], gone: List[str], new: Dict[str, Piece]) -> Dict[str, Piece]:
+    """The pieces without those of the texts that are gone, and with new ones."""
+    found = dict(pieces)
+    for it in gone:
+        found.pop(it, None)
+    found.update(new)
+    return found
 
 
 def last_good(read: List[Piece], old: Reading) -> Dict[int, Piece]:

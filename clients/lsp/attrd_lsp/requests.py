@@ -12,12 +12,13 @@ from .editor import Editor
 from .fixing import Fix, find_fixes
 from .inquiry import Inquiry
 from .language_files import SUFFIXES
-from .meaning import Hover, find_definition, find_hover, find_references, word_at
+from .meaning import Hover, find_definition, find_references, word_at
 from .outline import folds_of, location_of, matching_symbols, symbols_of
 from .params import part, position_in, uri_in
 from .positions import Span
 from .project import Project, Request
 from .protocol import Json, Symbol, range_of
+from .reasons import Words, find_hover_with_reasons
 from .renaming import Places, Wish, find_renaming
 from .rpc import INVALID_PARAMS, REQUEST_FAILED, Failure
 from .source import Spot
@@ -71,7 +72,8 @@ class Requests:
                 return None
             return {"contents": {"kind": "plaintext", "value": hover.text}, "range": range_of(project.texts[file], hover.span)}
 
-        self.ask(project, number, lambda _: find_hover(project.source, file, offset), result)
+        words = Words(project.source, project.texts, file)
+        self.ask(project, number, lambda desk: find_hover_with_reasons(desk, words, offset), result)
 
     def definition(self, number: Any, params: Any) -> None:
         """Where the declaration stands that the name at a place means."""

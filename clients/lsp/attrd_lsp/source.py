@@ -65,7 +65,7 @@ class Source:
     @cached_property
     def tree(self) -> Node:
         """The tree of all files. Without any part it is the smallest that fits. Raises TermFault where none does."""
-        trees = [piece.phrase.tree for it in self.files.values() for piece in it.taken if piece.phrase is not None]
+        trees = [tree for it in self.files.values() for tree in it.trees]
         listed = self.language.listed
         if listed is not None:
             return Node(listed.root, (*listed.before, *trees))

@@ -114,12 +114,15 @@ class OnSmallFile(unittest.TestCase):
         self.editor.until("return vim.fn.execute('messages'):find(\"'x' in line 7 would mean something else\", 1, true) ~= nil")
         self.assertEqual("\n".join(self.editor.lines()) + "\n", SMALL)
 
-    def test_the_kind_of_a_name_is_shown(self) -> None:
+    def test_the_kind_of_a_name_is_shown_and_why(self) -> None:
         self.editor.keys("3G0fn")
         self.editor.keys("K")
         shown = "for _, it in ipairs(vim.api.nvim_list_wins()) do if vim.api.nvim_win_get_config(it).relative ~= '' then"
         lines = f"{shown} return vim.api.nvim_buf_get_lines(vim.api.nvim_win_get_buf(it), 0, -1, true) end end"
-        self.assertEqual(self.editor.until(lines), ["near: boolean"])
+        told = [it.strip() for it in self.editor.until(lines)]
+        wanted = ["3:5 near: there is no Declared", "3:5 near: Init is there", "3:12 x < 10: kind() = boolean"]
+        self.assertEqual((told[0], told[2:5]), ("near: boolean", wanted))
+        self.assertTrue(told[1].startswith("types.jrag:4: Decl.kind() = hasDeclared() ? "), told)
 
     def test_the_uses_of_a_name_are_listed(self) -> None:
         self.editor.keys("2G0fx")

@@ -17,7 +17,8 @@ FLOATING = (
     "return vim.api.nvim_buf_get_lines(vim.api.nvim_win_get_buf(it), 0, -1, true) end end"
 )
 TOLD = f"{DIAGNOSTICS.replace('return', 'local told =', 1)} return vim.deep_equal(told, ...)"
-# What Emacs does: it waits for the error, corrects it, goes to a declaration and changes its name; each step writes what came of it.
+# What Emacs does: it waits for the error, corrects it, asks what a value is and why, goes to a declaration and changes its
+# name; each step writes what came of it.
 IN_EMACS = """
 (defun wait-for (what test)
   (let ((end (+ (float-time) 120)))
@@ -40,6 +41,12 @@ IN_EMACS = """
 (insert "th")
 (eglot--signal-textDocument/didChange)
 (wait-for "no error" (lambda () (null (told))))
+(goto-char (point-min))
+(search-forward "are")
+(let ((shown nil))
+  (eglot-hover-eldoc-function (lambda (text &rest _) (setq shown text)))
+  (wait-for "hover" (lambda () shown))
+  (princ (format "%s\\n" shown)))
 (goto-char (point-min))
 (search-forward "= wid")
 (call-interactively 'xref-find-definitions)
@@ -117,7 +124,8 @@ class Followed(unittest.TestCase):
         editor.until("return #vim.diagnostic.get(0) == 0")
         editor.keys("2G0fa")
         editor.keys("K")
-        self.assertEqual(editor.until(FLOATING), ["area: 7"])
+        shown = [it.strip() for it in editor.until(FLOATING)]
+        self.assertEqual(shown, [it.strip() for it in block("text", 1).splitlines()])
         editor.keys("<Esc>2G0f=w")
         editor.keys("gd")
         editor.until("return vim.api.nvim_win_get_cursor(0)[1] == 1")
@@ -139,7 +147,9 @@ class Followed(unittest.TestCase):
         self.assertEqual(told.returncode, 0, told.stderr)
         self.assertIn("2 ", lines[0])
         self.assertIn("nothing is named widht", lines[0])
-        self.assertEqual(lines[1:], ["1 4", "let wide = 3;", "let area = wide + (wide + 1);", "show area;"])
+        hover = block("text", 1).splitlines()
+        changed = ["let wide = 3;", "let area = wide + (wide + 1);", "show area;"]
+        self.assertEqual(lines[1:], [*hover, "1 4", *changed])
 
 
 class Sample(unittest.TestCase):

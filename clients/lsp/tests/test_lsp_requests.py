@@ -139,6 +139,29 @@ class Checks(OnTheTutorialsProgram):
         self.assertEqual(document.ask("rename", "Circle", 0, newName="Point"), {"code": FAILED, "message": message})
         self.assertEqual(len(document.ask("rename", "x", 0, newName="z")["changes"][document.uri]), 3)
 
+    def renamed(self, document, word, number, name):
+        """Changes a name, as an editor does."""
+        edits = document.ask("rename", word, number, newName=name)["changes"][document.uri]
+        lines = document.text.split("\n")
+        for it in sorted(edits, key=lambda it: it["range"]["start"]["character"], reverse=True):
+            start, end = (it["range"][at] for at in ("start", "end"))
+            line = lines[start["line"]]
+            lines[start["line"]] = line[: start["character"]] + it["newText"] + line[end["character"] :]
+        document.change(document.text, "\n".join(lines))
+        return len(edits)
+
+    def test_a_rename_can_be_taken_back(self):
+        document = self.opened(SMALL)
+        self.assertEqual(self.renamed(document, "x", 0, "z"), 3)
+        self.assertEqual((document.told(), self.renamed(document, "z", 2, "x")), ([], 3))
+        self.assertEqual((document.told(), document.text), ([], SMALL))
+
+    def test_one_of_two_of_one_name_can_be_renamed(self):
+        document = self.opened("class A { int x; int x; { y = x; } }")
+        self.assertEqual(document.settled(), ["1:22 another declaration here is named x"])
+        self.assertEqual((self.renamed(document, "x", 1, "z"), document.told()), (1, []))
+        self.assertEqual(document.text, "class A { int x; int z; { y = x; } }")
+
     def test_a_rename_is_refused_for_new_errors_alone(self):
         document = self.opened(SMALL.replace("show end", "show q"))
         self.assertEqual(len(document.ask("rename", "x", 0, newName="z")["changes"][document.uri]), 3)

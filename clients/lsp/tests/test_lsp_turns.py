@@ -88,7 +88,7 @@ class InTurns(unittest.TestCase):
         client = self.client(3000, 0.0005)
         document = Editing(client, SMALL)
         self.until("post / faultCount")
-        self.assertEqual(client.ask("textDocument/hover", document.at("near"))["contents"]["value"], "near: boolean")
+        self.assertIn("near: boolean\n", client.ask("textDocument/hover", document.at("near"))["contents"]["value"])
         self.assertEqual(client.notes, [])
         self.assertEqual(document.settled(), [])
 

@@ -8,7 +8,9 @@ from . import commands
 from .connection import Pending
 from .declarations import Attribute, attributes_of
 from .document import Document
+from .edits import Edit
 from .errors import AspectFault, ProtocolFault
+from .following import followed
 from .grammar import ClassOf, Grammar, Part, Shape
 from .paths import Path, Step
 from .replies import Answer, Circular, Fault, Value
@@ -53,6 +55,12 @@ class Diagnostic:
     has_value: bool = True
 
 
+# What was asked of a node: checks, each with its line.
+Own = List[Tuple[Check, Pending]]
+# The faults of nodes that were asked.
+Known = Dict[Path, List[Diagnostic]]
+
+
 class Diagnostics:
     """The checks over a grammar. `aspect` is the file that counts; it has to be among the aspects of the server."""
 
@@ -93,25 +101,60 @@ class Diagnostics:
     def find(self, document: Document, before: Iterable[Diagnostic] = ()) -> List[Diagnostic]:
         """All faults of the tree that the document knows, in the order of the tree.
 
-        It goes down, a level after the other, where the count of a node isn't 0, or where it has none: a fault or a circle below
-        takes the counts above it away. Where what was found makes up the count of a node, nothing else is asked below it; so it
-        takes fewer questions with `before`, the faults that were found last: their places are looked at first. Raises Refused with
-        Code.STALE where another session has edited the tree, and what `Session.ask` raises.
+        With `before`, the faults that were found last, their nodes are asked first, also where the last edits have left
+        them: where they have all that the root counts, nothing else is asked. Else it goes down, a level after the
+        other, where the count of a node isn't 0, or where it has none: a fault or a circle below takes the counts above
+        it away. It looks first where faults were or an edit was. A node's own attributes are asked only where its count
+        isn't made up below. Raises Refused with Code.STALE where another session has edited the tree, and what
+        `Session.ask` raises.
         """
-        likely = _steps_to(it.path for it in before)
-        found: List[Diagnostic] = []
-        level = [self._asked(document, Path(), document.tree)]
-        while level:
-            wrong = [it for it in level if it.number != 0]
-            for it in wrong:
-                it.own = [(check, self._ask(document, it.path, check.name)) for check in self._of_class[it.node.name]]
-                self._ask_below(document, it, likely.get(it.path, set()), True)
-            for it in wrong:
-                if not it.is_accounted:
-                    self._ask_below(document, it, likely.get(it.path, set()), False)
-                found.extend(it.told)
-            level = [below for it in wrong for below in it.below]
+        root = self._asked(document, Path(), document.tree)
+        lines = self._standing(document, before)
+        known = {path: _all_told(path, own) for path, own in lines.items()}
+        if root.number != sum(map(len, known.values())):
+            near = [*(path for path, told in known.items() if told), *(it.path for it in document.edits)]
+            known = self._search(document, root, known, _steps_to(near))
+        found = [fault for told in known.values() for fault in told]
         return sorted(found, key=lambda it: _place(self.grammar, document.tree, it.path))
+
+    def _standing(self, document: Document, before: Iterable[Diagnostic]) -> Dict[Path, Own]:
+        """What is asked of the nodes that had faults, where they were and where the last edits left them."""
+        were = dict.fromkeys(it.path for it in before)
+        are = (_followed(it, document.edits) for it in were)
+        nodes = {it: self.grammar.node_at(document.tree, it) for it in (*were, *are) if it is not None}
+        return {path: self._own(document, path, node) for path, node in nodes.items() if node is not None}
+
+    def _search(self, document: Document, root: "_Counted", known: Known, likely: Dict[Path, Set[Step]]) -> Known:
+        """The faults by their nodes: `known` are those of nodes that were asked; `likely` tells where to look first.
+
+        Where the known ones at a node and below it are as many as it counts, nothing is asked there."""
+        standing = _by_ancestors(known)
+        found: Known = {}
+        level: List[_Counted] = [root]
+        due: List[_Counted] = []
+        while level or due:
+            wrong: List[_Counted] = []
+            for it in level:
+                there = {path: known[path] for path in standing.get(it.path, ())}
+                if it.number == sum(map(len, there.values())):
+                    found.update(there)
+                else:
+                    wrong.append(it)
+            lines = {it.path: self._own(document, it.path, it.node) for it in due if it.path not in known}
+            for it in wrong:
+                self._ask_below(document, it, likely.get(it.path, set()), True)
+            known = {**known, **{path: _all_told(path, own) for path, own in lines.items()}}
+            found.update((it.path, known[it.path]) for it in due)
+            for it in wrong:
+                if not it.is_made_up(known):
+                    self._ask_below(document, it, likely.get(it.path, set()), False)
+            due = [it for it in wrong if it.path in known or not it.is_made_up(known)]
+            level = [below for it in wrong for below in it.below]
+        return found
+
+    def _own(self, document: Document, path: Path, node: Node) -> Own:
+        """What is asked of a node itself."""
+        return [(check, self._ask(document, path, check.name)) for check in self._of_class[node.name]]
 
     def _ask(self, document: Document, path: Path, attribute: str) -> Pending:
         return document.session.send(commands.ask(path, attribute), at=document.version)
@@ -120,20 +163,20 @@ class Diagnostics:
         return _Counted(path, node, self._ask(document, path, self.count))
 
     def _ask_below(self, document: Document, it: "_Counted", likely: Set[Step], is_likely: bool) -> None:
-        """Asks the counts of those nodes below to which the likely steps lead, or else of all others."""
-        if likely or not is_likely:
-            below = [(step, node) for step, node in self.grammar.children(it.node) if (step in likely) is is_likely]
+        """Asks the counts of the nodes below to which likely steps lead, all without such steps; or of the others."""
+        if likely or is_likely:
+            children = self.grammar.children(it.node)
+            below = [(step, node) for step, node in children if not likely or (step in likely) is is_likely]
             it.below += [self._asked(document, it.path.child(*step), node) for step, node in below]
 
 
 @dataclass
 class _Counted:
-    """A node whose count was asked; and where it isn't 0, what was asked of the node itself, and of nodes below."""
+    """A node whose count was asked; and where it isn't 0, nodes below whose counts were asked."""
 
     path: Path
     node: Node
     line: Pending
-    own: List[Tuple[Check, Pending]] = field(default_factory=list)
     below: List["_Counted"] = field(default_factory=list)
 
     @property
@@ -142,15 +185,32 @@ class _Counted:
         answer = _answer(self.line)
         return int(answer.text) if isinstance(answer, Value) else None
 
-    @property
-    def told(self) -> List[Diagnostic]:
-        """The faults of the node itself."""
-        return [fault for check, line in self.own for fault in _told(self.path, check, _answer(line))]
+    def is_made_up(self, known: Known) -> bool:
+        """Whether the faults of the node that are known and those counted below are all that there are."""
+        own = len(known.get(self.path, ()))
+        return self.number is not None and self.number == own + sum(it.number or 0 for it in self.below)
 
-    @property
-    def is_accounted(self) -> bool:
-        """Whether those and the faults below that are known are all that there are."""
-        return self.number is not None and self.number == len(self.told) + sum(it.number or 0 for it in self.below)
+
+def _all_told(path: Path, own: Own) -> List[Diagnostic]:
+    """The faults of a node itself, by what was asked of it."""
+    return [fault for check, line in own for fault in _told(path, check, _answer(line))]
+
+
+def _followed(path: Path, edits: Iterable[Edit]) -> Optional[Path]:
+    """Where a node is behind these edits; None where it is gone."""
+    at: Optional[Path] = path
+    for it in edits:
+        at = None if at is None else followed(at, it)
+    return at
+
+
+def _by_ancestors(known: Known) -> Dict[Path, List[Path]]:
+    """For each node with a fault at it or below it the nodes of these faults."""
+    found: Dict[Path, List[Path]] = {}
+    for path, told in known.items():
+        for at in range(len(path.steps) + 1 if told else 0):
+            found.setdefault(Path(path.steps[:at]), []).append(path)
+    return found
 
 
 def _steps_to(paths: Iterable[Path]) -> Dict[Path, Set[Step]]:

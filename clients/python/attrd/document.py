@@ -40,6 +40,8 @@ class Document:
         self.session, self.grammar = session, grammar
         self.costs, self._learns = costs or Costs(), costs is None
         self.tree, self.version = self._known() or self._read()
+        self.edits: Tuple[Edit, ...] = ()
+        """The edits of the last update, as far as they were accepted."""
         self._places: Dict[str, Path] = {}
         self._marks: Dict[str, Mark] = {}
 
@@ -91,6 +93,7 @@ class Document:
 
     def _follow(self, edits: Sequence[Edit]) -> None:
         """Has the marks where these edits leave them."""
+        self.edits = tuple(edits)
         for edit in edits:
             places = {name: followed(path, edit) for name, path in self._places.items()}
             self._places = {name: path for name, path in places.items() if path is not None}
@@ -148,6 +151,7 @@ class Document:
     def refresh(self) -> None:
         """Takes the server's tree as it is now, whoever has edited it, and asks where the marks are. Raises as the constructor."""
         self.tree, self.version = self._read()
+        self.edits = ()
         self._places = {name: mark.where() for name, mark in self._marks.items() if mark.is_there()}
 
     def verify(self) -> None:

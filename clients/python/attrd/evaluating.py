@@ -21,6 +21,16 @@ class Call(NamedTuple):
     end: int
 
 
+class Look(NamedTuple):
+    """Something of the tree that the expression looked at: by `get`, `has` or `getNum` what a component of the node
+    has, and by `List` to how many elements of it a fold came."""
+
+    path: Path
+    front: str
+    part: str
+    value: AskValue
+
+
 class Stopped(Exception):
     """The expression has no value, for the reason that is told."""
 
@@ -29,10 +39,31 @@ Evaluating = Generator[Call, AskValue, AskValue]
 
 
 class Evaluation:
-    """Evaluation for one node. A generator yields each attribute that is asked, and wants its value."""
+    """Evaluation for one node. A generator yields each attribute that is asked, and wants its value.
 
-    def __init__(self, grammar: Grammar, tree: Node, this: Path, bound: Mapping[str, AskValue]) -> None:
-        self.grammar, self.tree, self.this, self.bound = grammar, tree, this, dict(bound)
+    `looks` are the components that it came to look at, but for those within folds. Where `most` is given, it stops
+    behind so many looks, those within folds among them."""
+
+    def __init__(
+        self, grammar: Grammar, tree: Node, this: Path, bound: Mapping[str, AskValue], most: Optional[int] = None
+    ) -> None:
+        self.grammar, self.tree, self.this, self.bound, self.most = grammar, tree, this, dict(bound), most
+        self.looks: List[Look] = []
+        self._count, self._folds = 0, 0
+
+    def _looked(self, look: Look) -> AskValue:
+        self._spend()
+        self._note(look)
+        return look.value
+
+    def _note(self, look: Look) -> None:
+        if not self._folds and look not in self.looks:
+            self.looks.append(look)
+
+    def _spend(self) -> None:
+        self._count += 1
+        if self.most is not None and self._count > self.most:
+            raise Stopped(f"it looks at more than {self.most} places")
 
     def value(self, it: Expression) -> Evaluating:
         """The value of an expression. Raises Stopped where it has none."""
@@ -103,17 +134,17 @@ class Evaluation:
     def _cell(self, path: Path, front: str, part: str, arguments: List[AskValue]) -> AskValue:
         cell = self.grammar.cell(self._node(path), part)
         if front == "has":
-            return cell is not None
+            return self._looked(Look(path, front, part, cell is not None))
         if isinstance(cell, tuple):
             if front == "getNum":
-                return len(cell)
+                return self._looked(Look(path, front, part, len(cell)))
             index = _number(arguments[0])
             if not 0 <= index < len(cell):
                 raise Stopped(f"{path} has no element {part}:{index}")
-            return path.child(part, index)
+            return self._looked(Look(path, front, part, path.child(part, index)))
         if cell is None:
             raise Stopped(f"{path} has no {part}")
-        return path.child(part) if isinstance(cell, Node) else cell
+        return self._looked(Look(path, front, part, path.child(part) if isinstance(cell, Node) else cell))
 
     def _fold(self, it: Expression) -> Evaluating:
         among, body = it.parts
@@ -124,15 +155,21 @@ class Evaluation:
             raise Stopped("a fold goes over a list of null")
         part = among.word.text[len("get"):-len("List")]
         cell = self.grammar.cell(self._node(above), part)
-        name, total = body.bound[-1].name.text, 0
-        for index in range(len(cell) if isinstance(cell, tuple) else 0):
-            self.bound[name] = above.child(part, index)
-            value = yield from self.value(body)
-            if it.word.text == "sum":
-                total = _wrapped(total + _number(value))
-            elif value:
-                return True if it.word.text == "exists" else self.bound[name]
-        return {"sum": total, "exists": False}.get(it.word.text)
+        name, count = body.bound[-1].name.text, len(cell) if isinstance(cell, tuple) else 0
+        values: List[AskValue] = []
+        self._folds += 1
+        try:
+            while len(values) < count and (it.word.text == "sum" or not (values and values[-1])):
+                self._spend()
+                self.bound[name] = above.child(part, len(values))
+                values.append((yield from self.value(body)))
+        finally:
+            self._folds -= 1
+            self._note(Look(above, "List", part, len(values)))
+        if it.word.text == "sum":
+            return _wrapped(sum(map(_number, values)))
+        is_found = bool(values and values[-1])
+        return is_found if it.word.text == "exists" else self.bound[name] if is_found else None
 
 
 def _accessor(grammar: Grammar, of: str, name: str) -> Optional[Tuple[str, str]]:

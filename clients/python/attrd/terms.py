@@ -7,6 +7,8 @@ from typing import Any, Iterator, List, Optional, Tuple, Union
 from .errors import AttrdError, SyntaxFault, TermFault, text_of
 from .lexical import GREATEST_INT, LEAST_INT, TREE_DEPTH, is_name, quoted, quoted_bytes, read_quoted, utf8_bytes
 
+# The elements of a longer list are looked at together, which is faster.
+FEW = 16
 Token = Union[str, int, bool]
 Cell = Union["Node", Tuple["Node", ...], None, str, int, bool]
 
@@ -29,16 +31,25 @@ class Node:
     _hash: int
 
     def __init__(self, name: str, *cells: Any) -> None:
-        size, depth, length, taken = 1, 0, utf8_bytes(text_of("the name of a class", name)) + 2 + max(0, len(cells) - 1), []
+        size, depth, length = 1, 0, utf8_bytes(text_of("the name of a class", name)) + 2 + max(0, len(cells) - 1)
+        taken: List[Any] = []
+        hashed: List[Any] = []
         for cell in cells:
             if isinstance(cell, (list, tuple)):
                 cell = _elements(cell)
             taken.append(cell)
+            hashed.append(cell)
             kind = type(cell)
             if kind is Node:
                 size, depth, length = size + cell.size, max(depth, cell.depth), length + cell.length
             elif kind is tuple:
                 length += 2 + max(0, len(cell) - 1)
+                if len(cell) > FEW:
+                    size += sum([it.size for it in cell])
+                    depth = max(depth, max([it.depth for it in cell]))
+                    length += sum([it.length for it in cell])
+                    hashed[-1] = tuple([it._hash for it in cell])
+                    continue
                 for element in cell:
                     size, depth, length = size + element.size, max(depth, element.depth), length + element.length
             else:
@@ -49,7 +60,7 @@ class Node:
         put(self, "size", size)
         put(self, "depth", depth + 1)
         put(self, "length", length)
-        put(self, "_hash", hash((name, self.cells)))
+        put(self, "_hash", hash((name, *hashed)))
 
     def __setattr__(self, name: str, value: object) -> None:
         raise AttrdError("a node can't be changed: make another one")
@@ -93,10 +104,13 @@ class Node:
 
 
 def _elements(cell: Any) -> Tuple[Node, ...]:
-    for index, element in enumerate(cell):
+    for index, element in enumerate(() if _NODES.issuperset(map(type, cell)) else cell):
         if type(element) is not Node:
             raise TermFault("/", f"element {index} of a list is a Node, and not {type(element).__name__}")
     return tuple(cell)
+
+
+_NODES = frozenset([Node])
 
 
 def _token_bytes(cell: Any) -> int:

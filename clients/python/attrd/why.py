@@ -12,7 +12,7 @@ from . import commands
 from .authoring.aspect_tree import Declaration, Expression
 from .authoring.specification import Placed, Specification
 from .errors import AttrdError
-from .evaluating import Evaluation, Stopped
+from .evaluating import Evaluation, Look, Stopped
 from .instances import read_call
 from .paths import Path
 from .replies import Answer, AskValue, Value
@@ -24,6 +24,13 @@ Asking = Generator["Instance", Answer, "Reason"]
 
 # So many steps are written out.
 SHOWN = 100
+
+
+class Bounds(NamedTuple):
+    """How far an equation is followed: how many attributes are asked, and at how many places of the tree is looked."""
+
+    asked: Optional[int] = None
+    looks: Optional[int] = None
 
 
 class NoReason(AttrdError):
@@ -61,8 +68,9 @@ class Reason:
 
     `equation` is the text of the equation's expression, `head` what it is for (`Block.getStmt().level`), `place` where it stands
     (`names.jrag:7`); `at` is the node for which it was evaluated: for an inherited attribute the one above that has the equation.
-    `bound` are its parameters and index with their values. `steps` are the attributes that it asked, in order. `stopped` tells where
-    evaluation here met a fault, or is empty.
+    `bound` are its parameters and index with their values. `steps` are the attributes that it asked, in order, and
+    `looks` the components of nodes that it looked at. `stopped` tells where evaluation here met a fault or a bound, or
+    is empty.
     """
 
     instance: Instance
@@ -74,6 +82,7 @@ class Reason:
     bound: Mapping[str, AskValue]
     steps: Tuple[Step, ...]
     stopped: str = ""
+    looks: Tuple[Look, ...] = ()
 
     def __str__(self) -> str:
         lines = [f"{self.instance} {self.answer}", f"  {self.place}: {self.head} = {' '.join(self.equation.split())}"]
@@ -98,10 +107,10 @@ class Why:
     def __init__(self, specification: Specification, tree: Node) -> None:
         self.specification, self.tree = specification, tree
 
-    def reason(self, instance: Instance) -> Asking:
+    def reason(self, instance: Instance, bounds: Bounds = Bounds()) -> Asking:
         """Why an instance has its value. Yields instances, and wants their answers; the first one is the instance itself.
 
-        Raises NoReason.
+        Behind the bounds the reason has what is known by then, and `stopped` tells that. Raises NoReason.
         """
         answer = yield instance
         placed, at, index = self._equation(instance)
@@ -110,19 +119,22 @@ class Why:
         bound: Dict[str, AskValue] = {known.name.text: value for known, value in zip(it.parameters, instance.arguments)}
         if it.index is not None and index is not None:
             bound[it.index.text] = index
-        evaluation = Evaluation(self.specification.grammar, self.tree, at, bound)
+        evaluation = Evaluation(self.specification.grammar, self.tree, at, bound, bounds.looks)
         stopped = ""
         steps: List[Step] = []
         try:
-            yield from self._steps(evaluation, it.body, placed, steps)
+            yield from self._steps(evaluation, it.body, self.specification.text(placed.file), steps, bounds.asked)
         except Stopped as fault:
             stopped = str(fault)
         text = self.specification.text(placed.file)
         place = f"{placed.file}:{text.count(chr(10), 0, it.start) + 1}"
-        return Reason(instance, answer, _head(it), text[it.body.start:it.body.end], place, at, bound, tuple(steps), stopped)
+        equation, looks = text[it.body.start:it.body.end], tuple(evaluation.looks)
+        return Reason(instance, answer, _head(it), equation, place, at, bound, tuple(steps), stopped, looks)
 
-    def _steps(self, evaluation: Evaluation, body: Expression, placed: Placed, steps: List[Step]) -> Generator[Instance, Answer, None]:
-        text = self.specification.text(placed.file)
+    @staticmethod
+    def _steps(
+        evaluation: Evaluation, body: Expression, text: str, steps: List[Step], most: Optional[int]
+    ) -> Generator[Instance, Answer, None]:
         running = evaluation.value(body)
         given: Optional[AskValue] = None
         try:
@@ -130,6 +142,8 @@ class Why:
             while True:
                 instance = Instance(asked.path, asked.attribute, asked.arguments)
                 known = next((it.answer for it in steps if it.instance == instance), None)
+                if known is None and len(steps) == most:
+                    raise Stopped(f"it asks more than {most} attributes")
                 answer = known if known is not None else (yield instance)
                 if known is None:
                     steps.append(Step(" ".join(text[asked.start:asked.end].split()), instance, answer))

@@ -1,5 +1,6 @@
 """Diagnostics: all faults of a tree, also where a circle takes a count away."""
 import unittest
+from random import Random
 
 import attrd
 from attrd import Check, Diagnostics, Document, Grammar, diagnostics
@@ -10,6 +11,8 @@ ASPECTS = ("kinds.jrag", "names.jrag", "types.jrag", "errors.jrag")
 
 
 class Tutorial(unittest.TestCase):
+    STATEMENTS = ('Show(Name("x"))', 'Show(Name("nix"))', 'Decl("a",-,Name("a"))', 'Block([Show(Name("end"))])')
+
     def setUp(self):
         files = page_files("TUTORIAL.md")
         self.grammar = Grammar.read(files["small.ast"])
@@ -60,8 +63,8 @@ class Tutorial(unittest.TestCase):
         self.change('Show(Name("end"))', 'Show(Name("nix")),Show(Num(1)),Show(Num(2)),Show(Num(3))')
         before = self.diagnostics.find(self.document)
         all_lines, told = self.asked([])
-        self.assertEqual((told, self.asked(before)), (["no declaration of nix"], (9, told)))
-        self.assertLess(9, all_lines)
+        self.assertEqual((told, self.asked(before)), (["no declaration of nix"], (2, told)))
+        self.assertLess(2, all_lines)
 
     def test_faults_that_are_known_hide_no_other(self):
         self.change('Show(Name("end"))', 'Show(Name("nix"))')
@@ -72,6 +75,47 @@ class Tutorial(unittest.TestCase):
         self.assertEqual(self.asked(before)[1], self.asked([])[1])
         self.change('Decl("a",-,Name("a"))', 'Show(Num(1))')
         self.assertEqual(self.asked(before)[1], ["no declaration of far"])
+
+    def test_a_fault_that_comes_is_looked_for_where_the_edit_was(self):
+        classes = ",".join(f'ClassDecl("C{it}",-,[],Block([Show(Name("nix"))]))' for it in range(50))
+        self.change('Basic("boolean")', f'Basic("boolean"),{classes}')
+        before = self.diagnostics.find(self.document)
+        self.change('Show(Name("end"))', 'Show(Name("other"))')
+        lines, told = self.asked(before)
+        self.assertEqual((told[-1], len(told)), ("no declaration of other", 51))
+        self.assertLess(lines, 52 + 52 + 12)
+
+    def test_faults_that_an_edit_moved_are_looked_for_where_they_are(self):
+        self.change('Show(Name("end"))', 'Show(Name("nix"))')
+        before = self.diagnostics.find(self.document)
+        self.change('Decl("end",', 'Show(Num(1)),Decl("end",')
+        self.assertEqual(self.asked(before), (2, ["no declaration of nix"]))
+
+    def by_asking_all(self):
+        """The faults that all nodes tell, each asked for its own."""
+        asked = [(it.place, self.document.session.ask(it.place, "error")) for it in self.document.view.all()
+                 if any(self.grammar.is_below(it.name, above) for above in ("Kind", "Stmt", "Expr"))]
+        texts = [it.value if isinstance(it, attrd.Value) else f"error has no value: {it}" for _, it in asked]
+        return [(str(path), text) for (path, _), text in zip(asked, texts) if text]
+
+    def test_edits_by_chance(self):
+        random, counts, before = Random(5), set(), []
+        for _ in range(80):
+            kinds = list(self.document.tree.cells[0])
+            at = random.randrange(2, len(kinds))
+            name, above, fields, block = kinds[at].cells
+            statements = list(block.cells[0])
+            place = random.randrange(len(statements) + 1)
+            new = attrd.read_term(random.choice(self.STATEMENTS))
+            statements[place:place + random.randrange(3)] = [new] * random.randrange(2)
+            above = random.choice([above, None, attrd.Node("KindUse", random.choice(["Point", "Pint"]))])
+            changed = attrd.Node("ClassDecl", name, above, fields, attrd.Node("Block", statements))
+            kinds[at:at + 1] = [changed] * random.choice([1, 1, 1, 2])
+            self.document.update(attrd.Node("Program", kinds[:7]))
+            before = self.diagnostics.find(self.document, before)
+            self.assertEqual([(str(it.path), it.message) for it in before], self.by_asking_all())
+            counts.add(len(before))
+        self.assertGreater(len(counts), 6)
 
     def test_another_session_was_faster(self):
         self.document.session.connection.session().drop("/Kind:3")

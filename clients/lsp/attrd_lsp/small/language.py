@@ -48,6 +48,7 @@ def in_folder(folder: Path) -> Language:
         meaning={"Name": ("decl",), "Dot": ("decl",), "KindUse": ("kind",)},
         lookup={"Name": ("lookup",), "Block": ("local", "lookup"), "KindUse": ("lookupKind",)},
         hover={"Decl": "kind", "Expr": "kind", "KindUse": "kind"},
+        why={"Decl": "kind", "Expr": "kind"},
         kinds={"ClassDecl": Symbol.CLASS, "Decl": Symbol.VARIABLE, "ClassDecl.Field": Symbol.FIELD},
         details={"ClassDecl": "Super", "Decl": "Declared"},
         words=sorted(KEYWORDS),
