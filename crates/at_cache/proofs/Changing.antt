@@ -10,6 +10,7 @@ use Rattle.at_cache.specs.declared.edge.Edge.{Edge}
 use Rattle.at_cache.specs.declared.entry.Entry.{Entry}
 use Rattle.at_cache.specs.declared.mark.Mark.{Mark}
 use Rattle.at_cache.specs.Flushing.{doomed}
+use Rattle.at_cache.specs.Marking.{HasMark}
 use Rattle.at_cache.specs.Edges.{edges_in}
 use Rattle.at_cache.specs.Info.{Info, Memory, info, is_going, next_of}
 use Rattle.at_cache.specs.Placed.{IsPlaced, at}
@@ -87,6 +88,22 @@ users_there es slots slot p us was h = by (slice_get es p) h ∙ ap users_in (sy
     by : (o : Option (Instance ℕ × Entry)) → option_map (λ (e : Instance ℕ × Entry). (edges_in e.1.users)) o ≡ Some us → us ≡ users_in o
     by None h = absurd (none-some us h)
     by (Some e) h = sym (same_Some (edges_in e.1.users) us h)
+
+pub mark_there : (es : List (Instance ℕ × Entry)) (slots : ℕ → Option ℕ) (slot p : ℕ) (mark : Mark) → slots slot ≡ Some p → option_map (λ (e : Instance ℕ × Entry). e.1.mark) (slice_get es p) ≡ Some mark → HasMark (option_map info (at es slots slot)) mark
+mark_there es slots slot p mark was h = subst (λ o. HasMark (option_map info o) mark) (sym (at_some es slots slot p was)) (by (slice_get es p) h)
+  where
+    by : (o : Option (Instance ℕ × Entry)) → option_map (λ (e : Instance ℕ × Entry). e.1.mark) o ≡ Some mark → HasMark (option_map info o) mark
+    by None h = absurd (none-some mark h)
+    by (Some e) h = let same : e.1.mark ≡ mark = same_Some e.1.mark mark h in (info e, refl, ap is_going same, ap next_of same)
+
+-- nothing is written to a free slot
+pub unwritten : (f : Info → Info) (slot : ℕ) (m : Memory) → m slot ≡ None → (k : ℕ) → m k ≡ (if nat_eq k slot then option_map f (m k) else m k)
+unwritten f slot m none k = elim (cases_eq k slot) [
+  | inl same ↦
+      let free : m k ≡ None = ap m same ∙ none in
+      sym (ap (λ b. if b then option_map f (m k) else m k) (eq-eqb k slot same) ∙ ap (option_map f) free ∙ sym free)
+  | inr differs ↦ sym (ap (λ b. if b then option_map f (m k) else m k) (ne_eqb k slot differs))
+]
 
 pub free_slot : (es : List (Instance ℕ × Entry)) (slots : ℕ → Option ℕ) (slot : ℕ) → slots slot ≡ None → option_map info (at es slots slot) ≡ None
 free_slot es slots slot none = ap (option_map info) (at_none es slots slot none)

@@ -17,6 +17,7 @@ use Rattle.at_cache.specs.Recorded.{AreOf, IsIndexed, covers, kept_in}
 use Rattle.at_cache.proofs.Index.{kept_at}
 use Rattle.at_cache.proofs.Entered.{covers_one, entered, kept_mid, puts_one, stale_indexed}
 use Rattle.at_cache.proofs.Shown.{covers_nothing, covers_there, puts_kept, same_kept, slot_there}
+use Rattle.at_cache.proofs.Taking.{none_in}
 use Rattle.at_cache.proofs.Testing.{indexed_by, tested}
 
 -- edges of an entry that doesn't come
@@ -35,9 +36,9 @@ module _ (old mid : Table) {lists : Location ℕ → List Edge} {puts : ℕ} {x 
     put_done slot e (Ok v) at_slot is enters none listed used are of =
         let f : Info = fresh_entry inst value links puts in
         let here = enters.here ∙ ap Some is in
-        let one = puts_one later (indexed_by i) stamp r u f at_slot refl refl refl refl enters.free here enters.others listed used are in
-        let stands = covers_one later (indexed_by i) stamp r u f at_slot refl refl refl refl enters.free here enters.others listed used are in (
-          tested (entered later (indexed_by i) stamp r u f at_slot refl refl refl refl enters.free here enters.others listed used are),
+        let one = puts_one later (indexed_by i) stamp r u f at_slot refl refl refl (λ y c. absurd (none_in y c)) refl enters.free here enters.others listed used are in
+        let stands = covers_one later (indexed_by i) stamp r u f at_slot refl refl refl (λ y c. absurd (none_in y c)) refl enters.free here enters.others listed used are in (
+          tested (entered later (indexed_by i) stamp r u f at_slot refl refl refl (λ y c. absurd (none_in y c)) refl enters.free here enters.others listed used are),
           puts_kept lists later old new puts (puts + 1) slot _ one reads uses (λ l. stands l ∙ ap (λ b. list_any (same_location l) reads || b) (of lists puts l)),
           tt,
         )

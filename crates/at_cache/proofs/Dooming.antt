@@ -88,7 +88,7 @@ module _ {old m : Memory} {start todo : List Edge} {x : Edge} {first : Option �
       same = λ s f found. elim (cases_eq s x.slot) [
         | inl at_x ↦ let new : doomed first e ≡ f = is_new f (ap later (sym at_x) ∙ found) in
             let (o, was, alike) = w.same x.slot e there in
-            (o, ap old at_x ∙ was, subst (IsSame o) new (record { instance = alike.instance; value = alike.value; links = alike.links; stamp = alike.stamp; users = alike.users }))
+            (o, ap old at_x ∙ was, subst (IsSame o) new (record { instance = alike.instance; value = alike.value; links = alike.links; stamp = alike.stamp; since = alike.since; users = alike.users }))
         | inr differs ↦ w.same s f (sym (others s differs) ∙ found)
       ];
       reason = λ s f found going. elim (cases_eq s x.slot) [

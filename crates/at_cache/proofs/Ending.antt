@@ -74,7 +74,7 @@ module _ (lists : Location ℕ → List Edge) where
 
 module _ {lists : Location ℕ → List Edge} {puts : ℕ} {old : Memory} (indexed : Index lists puts old) where
   -- links lead to earlier entries, so that one doesn't have to look further than those
-  pub far_enough : (far s : ℕ) (e : Info) → old s ≡ Some e → e.stamp < far → (l : Location ℕ) → covers lists old (suc far) s l ≡ covers lists old far s l
+  pub far_enough : (far s : ℕ) (e : Info) → old s ≡ Some e → e.since < far → (l : Location ℕ) → covers lists old (suc far) s l ≡ covers lists old far s l
   far_enough zero s e there h l = absurd (omega arith)
   far_enough (suc far) s e there h l =
       opened lists old (suc far) s e there l
@@ -82,7 +82,7 @@ module _ {lists : Location ℕ → List Edge} {puts : ℕ} {old : Memory} (index
       ∙ sym (opened lists old far s e there l)
 
   covers_more : (s : ℕ) (e : Info) → old s ≡ Some e → (l : Location ℕ) → covers lists old (suc puts) s l ≡ true → covers lists old puts s l ≡ true
-  covers_more s e there l h = sym (far_enough puts s e there (indexed.known s e there) l) ∙ h
+  covers_more s e there l h = sym (far_enough puts s e there (indexed.ordered s e there) l) ∙ h
 
   module _ (says : Location ℕ → Bool → Type 0) {start : List Edge} (begins : Begins says lists start) where
     -- what is reached stands for a location with the answer `true`
@@ -158,6 +158,7 @@ module _ {lists : Location ℕ → List Edge} {puts : ℕ} {old : Memory} (index
       indexed_after = record {
         idle = quiet_false;
         known = λ s e there. let (o, was, alike) = w.same s e there in subst (λ n. n < puts) (sym alike.stamp) (indexed.known s o was);
+        ordered = λ s e there. let (o, was, alike) = w.same s e there in subst (λ n. n < puts) (sym alike.since) (indexed.ordered s o was);
         used = λ s e there p c.
             let (o, was, alike) = w.same s e there in
             let (f, found) = link_there s e there p c in
@@ -166,7 +167,7 @@ module _ {lists : Location ℕ → List Edge} {puts : ℕ} {old : Memory} (index
             let same : h ≡ g = same_Some h g (sym had ∙ was_found) in (
               f,
               found,
-              let a : g.stamp < o.stamp = subst (λ (n : Info). n.stamp < o.stamp) same before in let b = alike.stamp in let d = alike_found.stamp in omega arith,
+              let a : g.since < o.since = subst (λ (n : Info). n.since < o.since) same before in let b = alike.since in let d = alike_found.since in omega arith,
               subst (λ n. Contains f.users (record { slot = s; stamp = n })) (sym alike.stamp) (subst (λ v. Contains v (edge_to s o)) (sym alike_found.users) (subst (λ (n : Info). Contains n.users (edge_to s o)) same edge)),
             );
         uses = λ p f found x c e there same.

@@ -49,17 +49,18 @@ module _ {lists : Location ℕ → List Edge} {puts : ℕ} {m mid : Memory} {x :
   stale_indexed = record {
     idle = λ k f found. let (e, there, is) = back k f found in ap (λ (n : Info). n.going) is ∙ i.idle k e there;
     known = λ k f found. let (e, there, is) = back k f found in let known = i.known k e there in let a = ap (λ (n : Info). n.stamp) is in omega arith;
+    ordered = λ k f found. let (e, there, is) = back k f found in let ordered = i.ordered k e there in let a = ap (λ (n : Info). n.since) is in omega arith;
     used = λ k f found p c.
         let (e, there, is) = back k f found in
         let (g, was, before, edge) = i.used k e there p (subst (λ ls. Contains ls p) (ap (λ (n : Info). n.links) is) c) in
         let (h, had, alike) = u.there p g was in
-        let a = ap (λ (n : Info). n.stamp) is in
-        let b = ap (λ (n : Info). n.stamp) alike in
+        let a = ap (λ (n : Info). n.since) is in
+        let b = ap (λ (n : Info). n.since) alike in
         let listed : Contains (users_at mid p) (edge_to k e) = u.users.keeps p (edge_to k e) (subst (λ es. Contains es (edge_to k e)) (sym (users_of m p g was)) edge) e there refl in (
           h,
           had,
           omega arith,
-          subst (λ n. Contains h.users (record { slot = k; stamp = n })) (sym a) (subst (λ es. Contains es (edge_to k e)) (users_of mid p h had) listed),
+          subst (λ n. Contains h.users (record { slot = k; stamp = n })) (sym (ap (λ (n : Info). n.stamp) is)) (subst (λ es. Contains es (edge_to k e)) (users_of mid p h had) listed),
         );
     uses = λ p g had y c f found same.
         let (e, there, is) = back y.slot f found in
@@ -104,10 +105,11 @@ module _ {lists : Location ℕ → List Edge} {puts : ℕ} {m mid : Memory} {x :
       by : (o : Option Info) → m s ≡ o → kept_at later mid (puts + 1) s ≡ kept_at lists m puts s
       by None none = none_kept later mid (puts + 1) s (u.free s none) ∙ sym (none_kept lists m puts s none)
       by (Some e) there = let (f, found, is) = u.there s e there in
-          same_kept lists later m mid (puts + 1) puts s e f there found (ap (λ (n : Info). n.instance) is) (ap (λ (n : Info). n.value) is) (λ l. covers_mid (puts + 1) s e there l ∙ ap (λ n. covers lists m n s l) next ∙ far_enough i puts s e there (i.known s e there) l)
+          same_kept lists later m mid (puts + 1) puts s e f there found (ap (λ (n : Info). n.instance) is) (ap (λ (n : Info). n.value) is) (λ l. covers_mid (puts + 1) s e there l ∙ ap (λ n. covers lists m n s l) next ∙ far_enough i puts s e there (i.ordered s e there) l)
 
   -- the entry itself
-  module _ {slot : ℕ} {new : Memory} (e : Info) (at_slot : x.slot ≡ slot) (its_stamp : e.stamp ≡ puts) (its_links : e.links ≡ uses) (its_users : e.users ≡ []) (idle : e.going ≡ false) (free : mid slot ≡ None) (here : new slot ≡ Some e) (others : (k : ℕ) → (k ≡ slot → ⊥) → new k ≡ mid k)
+  module _ {slot : ℕ} {new : Memory} (e : Info) (at_slot : x.slot ≡ slot) (its_stamp : e.stamp ≡ puts) (its_since : e.since ≡ puts) (its_links : e.links ≡ uses)
+      (stale : (y : Edge) → Contains e.users y → (y.stamp < puts) × ((f : Info) → mid y.slot ≡ Some f → f.stamp ≡ y.stamp → ⊥)) (idle : e.going ≡ false) (free : mid slot ≡ None) (here : new slot ≡ Some e) (others : (k : ℕ) → (k ≡ slot → ⊥) → new k ≡ mid k)
       (listed : AreListed x reads later) (used : AreListed x uses (users_at mid)) (are : AreTaken m uses) where
     j : Index later (puts + 1) mid
     j = stale_indexed
@@ -127,28 +129,34 @@ module _ {lists : Location ℕ → List Edge} {puts : ℕ} {m mid : Memory} {x :
     edge_is : (k : ℕ) (f : Info) → k ≡ slot → e ≡ f → x ≡ edge_to k f
     edge_is k f same is n = record { slot = (at_slot ∙ sym same) n; stamp = (stamp ∙ sym its_stamp ∙ ap (λ (i : Info). i.stamp) is) n }
 
-    link : (p : ℕ) → Contains uses p → (f : Info) × (mid p ≡ Some f) × (f.stamp < puts) × Contains f.users x
+    link : (p : ℕ) → Contains uses p → (f : Info) × (mid p ≡ Some f) × (f.since < puts) × Contains f.users x
     link p c =
         let (f, found) = from_kept mid p (still_kept u p (are p c)) in
         let (g, had, is) = back p f found in
-        let known = i.known p g had in
-        let a = ap (λ (n : Info). n.stamp) is in
+        let ordered = i.ordered p g had in
+        let a = ap (λ (n : Info). n.since) is in
         (f, found, omega arith, subst (λ es. Contains es x) (users_of mid p f found) (used p c))
 
     pub entered : Index later (puts + 1) new
     entered = record {
       idle = λ k f found. elim (cases_eq k slot) [ inl same ↦ ap (λ (n : Info). n.going) (sym (is_e k f found same)) ∙ idle | inr differs ↦ j.idle k f (was k f found differs) ];
       known = λ k f found. elim (cases_eq k slot) [ inl same ↦ let a = ap (λ (n : Info). n.stamp) (is_e k f found same) in omega arith | inr differs ↦ j.known k f (was k f found differs) ];
+      ordered = λ k f found. elim (cases_eq k slot) [ inl same ↦ let a = ap (λ (n : Info). n.since) (is_e k f found same) in omega arith | inr differs ↦ j.ordered k f (was k f found differs) ];
       used = λ k f found p c. elim (cases_eq k slot) [
         | inl same ↦
             let is = is_e k f found same in
             let (g, had, before, edge) = link p (subst (λ ls. Contains ls p) (sym (ap (λ (n : Info). n.links) is) ∙ its_links) c) in
-            let a = ap (λ (n : Info). n.stamp) is in
+            let a = ap (λ (n : Info). n.since) is in
             (g, stays p g had, omega arith, subst (Contains g.users) (edge_is k f same is) edge)
         | inr differs ↦ let (g, had, before, edge) = j.used k f (was k f found differs) p c in (g, stays p g had, before, edge)
       ];
       uses = λ p g had y c f found same_stamp. elim (cases_eq p slot) [
-        | inl same ↦ absurd (none_in y (subst (λ es. Contains es y) (sym (ap (λ (n : Info). n.users) (is_e p g had same)) ∙ its_users) c))
+        | inl same ↦
+            let (past, never) = stale y (subst (λ es. Contains es y) (sym (ap (λ (n : Info). n.users) (is_e p g had same))) c) in
+            elim (cases_eq y.slot slot) [
+              | inl at ↦ let a = ap (λ (n : Info). n.stamp) (is_e y.slot f found at) in absurd (omega arith)
+              | inr differs ↦ absurd (never f (was y.slot f found differs) same_stamp)
+            ]
         | inr p_differs ↦
             let had_mid = was p g had p_differs in
             let (h, was_there, alike) = back p g had_mid in
@@ -162,7 +170,7 @@ module _ {lists : Location ℕ → List Edge} {puts : ℕ} {m mid : Memory} {x :
       ];
       past_readers = j.past_readers;
       past_users = λ p g had y c. elim (cases_eq p slot) [
-        | inl same ↦ absurd (none_in y (subst (λ es. Contains es y) (sym (ap (λ (n : Info). n.users) (is_e p g had same)) ∙ its_users) c))
+        | inl same ↦ let (past, never) = stale y (subst (λ es. Contains es y) (sym (ap (λ (n : Info). n.users) (is_e p g had same))) c) in omega arith
         | inr differs ↦ j.past_users p g (was p g had differs) y c
       ];
     }

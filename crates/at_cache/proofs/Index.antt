@@ -10,7 +10,8 @@ use Rattle.at_cache.specs.Recorded.{covers, edge_to}
 pub record Index (lists : Location ℕ → List Edge) (puts : ℕ) (m : Memory) : Type 0 where
   pub idle : (s : ℕ) (e : Info) → m s ≡ Some e → e.going ≡ false
   pub known : (s : ℕ) (e : Info) → m s ≡ Some e → e.stamp < puts
-  pub used : (s : ℕ) (e : Info) → m s ≡ Some e → (p : ℕ) → Contains e.links p → (f : Info) × (m p ≡ Some f) × (f.stamp < e.stamp) × Contains f.users (edge_to s e)
+  pub ordered : (s : ℕ) (e : Info) → m s ≡ Some e → e.since < puts
+  pub used : (s : ℕ) (e : Info) → m s ≡ Some e → (p : ℕ) → Contains e.links p → (f : Info) × (m p ≡ Some f) × (f.since < e.since) × Contains f.users (edge_to s e)
   pub uses : (p : ℕ) (f : Info) → m p ≡ Some f → (x : Edge) → Contains f.users x → (e : Info) → m x.slot ≡ Some e → e.stamp ≡ x.stamp → Contains e.links p
   pub past_readers : (l : Location ℕ) (x : Edge) → Contains (lists l) x → x.stamp < puts
   pub past_users : (p : ℕ) (f : Info) → m p ≡ Some f → (x : Edge) → Contains f.users x → x.stamp < puts

@@ -17,6 +17,7 @@ pub mod Gained
 pub mod Ending
 pub mod Entered
 pub mod Testing
+pub mod Showing
 pub mod Shown
 pub mod Done
 pub mod Naming
@@ -26,3 +27,4 @@ pub mod RowEdges
 pub mod RowLists
 pub mod NoRows
 pub mod Came
+mod of_cut

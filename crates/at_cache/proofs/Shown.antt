@@ -1,5 +1,6 @@
 -- What is kept of instances is what is kept in slots.
 use Rattle.std.proofs.Common.{◌≡◌, inl, inr, ℕ, zero, suc, List, [], ◌∷◌, Bool, true, false, cond, Option, None, Some, option_map, IsSome, is_some, if◌then◌else◌, slice_get, refl, sym, ap, ◌∙◌, arith, true≢false}
+use Rattle.std.specs.List.{list_any}
 use Rattle.std.specs.Map.{lookup}
 use Rattle.std.specs.Option.{option_and_then}
 use Rattle.std.proofs.lemmas.Bool.{cases_eq}
@@ -12,13 +13,14 @@ use Rattle.at_body.specs.Values.{value_view}
 use Rattle.at_cache.specs.declared.edge.Edge.{Edge}
 use Rattle.at_cache.specs.declared.entry.Entry.{Entry}
 use Rattle.at_cache.specs.declared.table.Table.{Table}
-use Rattle.at_cache.specs.Info.{info, memory_of}
-use Rattle.at_cache.specs.Kept.{Kept, KeepsAll, LeavesUntouched, LosesTouched, Puts, covered, covers_at, value_at}
+use Rattle.at_cache.specs.Info.{Info, info, memory_of}
+use Rattle.at_cache.specs.Kept.{Kept, KeepsAll, LeavesUntouched, LosesTouched, Puts, covered, covers_at, same_location, value_at}
 use Rattle.at_cache.specs.Recorded.{covers, kept_in}
 use Rattle.at_cache.proofs.Index.{LeavesSlots, LosesSlots, PutsSlot, Standing, kept_at, standing}
 use Rattle.at_cache.proofs.Moving.{at_none, at_some, table_by}
+use Rattle.at_cache.proofs.Showing.{AreShown, leaves_of, loses_of, puts_of, same_of}
 
-entry_at : (test : Instance ℕ → Bool) (es : List (Instance ℕ × Entry)) (e : Entry) → lookup test es ≡ Some e → (p : ℕ) × (j : Instance ℕ) × (slice_get es p ≡ Some (j, e)) × (test j ≡ true)
+pub entry_at : (test : Instance ℕ → Bool) (es : List (Instance ℕ × Entry)) (e : Entry) → lookup test es ≡ Some e → (p : ℕ) × (j : Instance ℕ) × (slice_get es p ≡ Some (j, e)) × (test j ≡ true)
 entry_at test [] e h = absurd (none-some e h)
 entry_at test (x ∷ xs) e h = by (test x.0) refl h (entry_at test xs e)
   where
@@ -27,7 +29,7 @@ entry_at test (x ∷ xs) e h = by (test x.0) refl h (entry_at test xs e)
     by true t is rest = (zero, x.0, ap (λ (v : Entry). Some (x.0, v)) (same_Some x.1 e is), t)
     by false t is rest = let (p, j, there, passes) = rest is in (suc p, j, there, passes)
 
-first_at : (test : Instance ℕ → Bool) (es : List (Instance ℕ × Entry)) (p : ℕ) (e : Instance ℕ × Entry) → slice_get es p ≡ Some e → test e.0 ≡ true
+pub first_at : (test : Instance ℕ → Bool) (es : List (Instance ℕ × Entry)) (p : ℕ) (e : Instance ℕ × Entry) → slice_get es p ≡ Some e → test e.0 ≡ true
     → ((q : ℕ) (f : Instance ℕ × Entry) → slice_get es q ≡ Some f → test f.0 ≡ true → q ≡ p) → lookup test es ≡ Some e.1
 first_at test [] p e h t only = absurd (none-some e h)
 first_at test (x ∷ xs) zero e h t only = ap (λ b. cond b (Some x.1) (lookup test xs)) (ap (λ (y : Instance ℕ × Entry). test y.0) (same_Some x e h) ∙ t) ∙ ap (λ (y : Instance ℕ × Entry). Some y.1) (same_Some x e h)
@@ -40,6 +42,24 @@ first_at test (x ∷ xs) (suc p) e h t only = by (test x.0) refl (first_at test 
 -- where the entry of an instance is
 pub slot_taken : (t : Table) (p : ℕ) (e : Instance ℕ × Entry) → slice_get t.entries.entries p ≡ Some e → memory_of t e.1.slot ≡ Some (info e)
 slot_taken t p e there = ap (option_map info) (at_some t.entries.entries (get t.places) e.1.slot p (t.placed.to p e there) ∙ there)
+
+-- the entry of an instance, by its slot
+pub found_by : (t : Table) (i : Instance ℕ) (e : Entry) → lookup (same_instance i) t.entries.entries ≡ Some e → (j : Instance ℕ) × (memory_of t e.slot ≡ Some (info (j, e))) × (same_instance i j ≡ true)
+found_by t i e found = let (p, j, there, same) = entry_at (same_instance i) t.entries.entries e found in (j, slot_taken t p (j, e) there, same)
+
+-- and what is in a slot, by its instance
+pub held_by : (t : Table) (i : Instance ℕ) (s : ℕ) (f : Info) → memory_of t s ≡ Some f → same_instance i f.instance ≡ true
+    → (e : Entry) × (j : Instance ℕ) × (lookup (same_instance i) t.entries.entries ≡ Some e) × (e.slot ≡ s) × (info (j, e) ≡ f)
+held_by t i s f h same = by (get t.places s) refl
+  where
+    by : (o : Option ℕ) → get t.places s ≡ o → (e : Entry) × (j : Instance ℕ) × (lookup (same_instance i) t.entries.entries ≡ Some e) × (e.slot ≡ s) × (info (j, e) ≡ f)
+    by None none = absurd (none-some f (sym (ap (option_map info) (at_none t.entries.entries (get t.places) s none)) ∙ h))
+    by (Some p) is =
+        let (e, there, of_slot) = (table_by t.placed).from s p is in
+        let is_f : info e ≡ f = same_Some (info e) f (sym (ap (option_map info) (at_some t.entries.entries (get t.places) s p is ∙ there)) ∙ h) in
+        let passes : same_instance i e.0 ≡ true = ap (λ (y : Info). same_instance i y.instance) is_f ∙ same in
+        let found : lookup (same_instance i) t.entries.entries ≡ Some e.1 = first_at (same_instance i) t.entries.entries p e there passes (λ q g at_q its. t.placed.apart q p g e at_q there (sym (instances_equiv.congr i g.0 e.0 its) ∙ passes)) in
+        (e.1, e.0, found, of_slot, is_f)
 
 abbrev pub shape : (Location ℕ → List Edge) → Table → ℕ → Entry → Kept
 shape lists t puts e = record { value = option_map value_view e.value; covers = covers lists (memory_of t) puts e.slot }
@@ -77,58 +97,24 @@ module _ (lists : Location ℕ → List Edge) (t : Table) (puts : ℕ) where
           ap (option_map (shape lists t puts)) found
           ∙ ap Some (ap (λ s. let k : Kept = record { value = option_map value_view e.1.value; covers = covers lists (memory_of t) puts s } in k) of_slot ∙ ap (λ (y : Standing). y.kept) x_is)
 
+pub shown_table : (lists : Location ℕ → List Edge) (t : Table) (puts : ℕ) → AreShown (kept_in lists t puts) (kept_at lists (memory_of t) puts)
+shown_table lists t puts = record { shows = shows lists t puts; finds = finds lists t puts }
+
 -- what is the same in each slot is the same of each instance
 pub same_kept : (lists later : Location ℕ → List Edge) (old new : Table) (p q : ℕ) → ((s : ℕ) → kept_at later (memory_of new) q s ≡ kept_at lists (memory_of old) p s) → KeepsAll (kept_in lists old p) (kept_in later new q)
-same_kept lists later old new p q same i = by (kept_in lists old p i) refl (kept_in later new q i) refl
-  where
-    by : (o : Option Kept) → kept_in lists old p i ≡ o → (n : Option Kept) → kept_in later new q i ≡ n → kept_in later new q i ≡ kept_in lists old p i
-    by (Some k) was n is = let (s, x, at_s, kept, alike) = shows lists old p i k was in finds later new q i s x (same s ∙ at_s) alike ∙ ap Some kept ∙ sym was
-    by None was None is = is ∙ sym was
-    by None was (Some k) is = let (s, x, at_s, kept, alike) = shows later new q i k is in absurd (none-some x.kept (sym was ∙ finds lists old p i s x (sym (same s) ∙ at_s) alike))
+same_kept lists later old new p q same = same_of (shown_table lists old p) (shown_table later new q) same
 
 module _ (says : Location ℕ → Bool → Type 0) (lists : Location ℕ → List Edge) (old new : Table) (puts : ℕ) where
   pub leaves_kept : LeavesSlots says (kept_at lists (memory_of old) puts) (kept_at lists (memory_of new) puts) → LeavesUntouched says (kept_in lists old puts) (kept_in lists new puts)
-  leaves_kept leaves i k h =
-      let (s, x, at_s, kept, alike) = shows lists new puts i k h in
-      let (was, untouched) = leaves s x at_s in
-      (finds lists old puts i s x was alike ∙ ap Some kept, λ l is. untouched l (ap (λ (k : Kept). k.covers l) kept ∙ is))
+  leaves_kept leaves = leaves_of (shown_table lists old puts) (shown_table lists new puts) says leaves
 
   pub loses_kept : LosesSlots says (kept_at lists (memory_of old) puts) (kept_at lists (memory_of new) puts) → LosesTouched says (kept_in lists old puts) (kept_in lists new puts)
-  loses_kept loses i k h =
-      let (s, x, at_s, kept, alike) = shows lists old puts i k h in
-      elim (loses s x at_s) [
-        | inl stays ↦ inl (finds lists new puts i s x stays alike ∙ ap Some kept)
-        | inr (l, is, said) ↦ inr (l, ap (λ (k : Kept). k.covers l) (sym kept) ∙ is, said)
-      ]
+  loses_kept loses = loses_of (shown_table lists old puts) (shown_table lists new puts) says loses
 
 -- one entry more
 module _ (lists later : Location ℕ → List Edge) (old new : Table) (p q slot : ℕ) (x : Standing) (one : PutsSlot (kept_at lists (memory_of old) p) slot x (kept_at later (memory_of new) q)) where
-  pub adds_one : (j : Instance ℕ) → kept_in later new q j ≡ (if same_instance x.instance j then Some x.kept else kept_in lists old p j)
-  adds_one j = by (same_instance x.instance j) refl (kept_in lists old p j) refl (kept_in later new q j) refl
-    where
-      turned : same_instance j x.instance ≡ same_instance x.instance j
-      turned = instances_equiv.symm j x.instance
-
-      not_at : (s : ℕ) (y : Standing) → kept_at lists (memory_of old) p s ≡ Some y → s ≡ slot → ⊥
-      not_at s y h same = one.free y (ap (kept_at lists (memory_of old) p) (sym same) ∙ h)
-
-      by : (b : Bool) → same_instance x.instance j ≡ b → (o : Option Kept) → kept_in lists old p j ≡ o → (n : Option Kept) → kept_in later new q j ≡ n → kept_in later new q j ≡ (if b then Some x.kept else kept_in lists old p j)
-      by true t o was n is = finds later new q j slot x one.here (turned ∙ t)
-      by false t (Some k) was n is =
-          let (s, y, at_s, kept, alike) = shows lists old p j k was in
-          finds later new q j s y (one.others s (not_at s y at_s) ∙ at_s) alike ∙ ap Some kept ∙ sym was
-      by false t None was None is = is ∙ sym was
-      by false t None was (Some k) is =
-          let (s, y, at_s, kept, alike) = shows later new q j k is in
-          elim (cases_eq s slot) [
-            | inl same ↦
-                let y_is : x ≡ y = same_Some x y (sym one.here ∙ ap (kept_at later (memory_of new) q) (sym same) ∙ at_s) in
-                absurd (true≢false (sym alike ∙ ap (λ (z : Standing). same_instance j z.instance) (sym y_is) ∙ turned ∙ t))
-            | inr differs ↦ absurd (none-some y.kept (sym was ∙ finds lists old p j s y (sym (one.others s differs) ∙ at_s) alike))
-          ]
-
   pub puts_kept : (reads : List (Location ℕ)) (uses : List (Instance ℕ)) → ((l : Location ℕ) → x.kept.covers l ≡ covered (kept_in lists old p) reads uses l) → Puts true (kept_in lists old p) x.instance x.kept.value reads uses (kept_in later new q)
-  puts_kept reads uses is = record { entry = x.kept; value = refl; covers = λ l h. is l ∙ h; only = λ t l h. sym (is l) ∙ h; adds = adds_one }
+  puts_kept reads uses is = puts_of (shown_table lists old p) (shown_table later new q) slot x one (λ l. list_any (same_location l) reads) uses is
 
 -- what the entry of an instance stands for
 module _ (lists : Location ℕ → List Edge) (t : Table) (puts : ℕ) (i : Instance ℕ) where

@@ -16,7 +16,7 @@ pub none_in : {X : Type 0} (x : X) → Contains [] x → ⊥
 none_in x c = let within = c.1 in omega arith
 
 pub itself : (e : Info) → IsSame e e
-itself e = record { instance = refl; value = refl; links = refl; stamp = refl; users = refl }
+itself e = record { instance = refl; value = refl; links = refl; stamp = refl; since = refl; users = refl }
 
 -- nothing is done yet
 pub begun : (m : Memory) → IsIdle m → Work m [] [] None m

@@ -1,9 +1,10 @@
 -- What is told of the entry in a slot.
-use Rattle.std.proofs.Common.{◌≡◌, ℕ, Bool, false, ◌&&◌, not, nat_eq, Option, None, Some, option_map, ap}
-use Rattle.at_model.specs.Run.{Instance}
+use Rattle.std.proofs.Common.{◌≡◌, ℕ, Bool, false, ◌&&◌, not, nat_eq, Option, None, Some, option_map, ap, sym}
+use Rattle.at_model.specs.Run.{Instance, Value}
+use Rattle.at_body.specs.Values.{value_view}
 use Rattle.at_cache.specs.declared.edge.Edge.{Edge}
 use Rattle.at_cache.specs.declared.entry.Entry.{Entry}
-use Rattle.at_cache.specs.Info.{info, is_going}
+use Rattle.at_cache.specs.Info.{Info, info, is_going}
 use Rattle.at_cache.specs.Flushing.{is_fresh}
 
 module _ (x : Edge) where
@@ -21,3 +22,7 @@ module _ (x : Edge) where
 
   pub fresh_none : (o : Option (Instance ℕ × Entry)) → None ≡ o → false ≡ is_fresh x (option_map info o)
   fresh_none o h = ap (λ (o : Option (Instance ℕ × Entry)). is_fresh x (option_map info o)) h
+
+-- the entry has that value
+pub value_told : (o : Option (Instance ℕ × Entry)) (e : Instance ℕ × Entry) (v : Option (Value ℕ)) → Some e ≡ o → option_map value_view e.1.value ≡ v → (x : Info) × (option_map info o ≡ Some x) × (x.value ≡ v)
+value_told o e v h is = (info e, ap (option_map info) (sym h), is)

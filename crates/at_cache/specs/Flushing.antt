@@ -35,6 +35,7 @@ pub record IsSame (old new : Info) : Type 0 where
   pub value : new.value ≡ old.value
   pub links : new.links ≡ old.links
   pub stamp : new.stamp ≡ old.stamp
+  pub since : new.since ≡ old.since
   pub users : new.users ≡ old.users
 
 -- what the edge tells of is going, or isn't there any more

@@ -24,13 +24,14 @@ next_of mark.Stays = None
 next_of mark.Last = None
 next_of (mark.Before s) = Some s
 
--- an entry: its instance, its value, if that is kept, the slots of those that it used, the number of its `put`, the edges to
--- those that used it, whether it goes, and which one goes next
+-- an entry: its instance, its value, if that is kept, the slots of those that it used, the number of its `put`, the number that it
+-- came to be kept with, the edges to those that used it, whether it goes, and which one goes next
 pub record Info : Type 0 where
   pub instance : Instance ℕ
   pub value : Option (Value ℕ)
   pub links : List ℕ
   pub stamp : ℕ
+  pub since : ℕ
   pub users : List Edge
   pub going : Bool
   pub next : Option ℕ
@@ -41,6 +42,7 @@ info e = record {
   value = option_map value_view e.1.value;
   links = e.1.links.items;
   stamp = e.1.stamp;
+  since = e.1.stamp;
   users = edges_in e.1.users;
   going = is_going e.1.mark;
   next = next_of e.1.mark;

@@ -54,9 +54,13 @@ abbrev pub covers_at : Option Kept → Location ℕ → Bool
 covers_at None l = false
 covers_at (Some k) l = k.covers l
 
--- whether the location is among the reads, or one that an entry of the uses stands for
+-- whether the location is one of these, or one that an entry of the uses stands for
+abbrev pub covered_by : Entries → (Location ℕ → Bool) → List (Instance ℕ) → Location ℕ → Bool
+covered_by entries reads uses l = reads l || list_any (λ u. covers_at (entries u) l) uses
+
+-- the same of a list of locations
 abbrev pub covered : Entries → List (Location ℕ) → List (Instance ℕ) → Location ℕ → Bool
-covered entries reads uses l = list_any (same_location l) reads || list_any (λ u. covers_at (entries u) l) uses
+covered entries reads uses l = covered_by entries (λ m. list_any (same_location m) reads) uses l
 
 -- `new` has what `old` has
 abbrev pub KeepsAll : (old new : Entries) → Type 0
@@ -64,13 +68,18 @@ KeepsAll old new = (i : Instance ℕ) → new i ≡ old i
 
 -- `new` has one entry more: i with the value, or without one, standing for the reads and all that the uses stand for, and, where the keeper
 -- is exact, for no other location
-pub record Puts (exact : Bool) (old : Entries) (i : Instance ℕ) (v : Option (Value ℕ)) (reads : List (Location ℕ)) (uses : List (Instance ℕ))
+pub record PutsBy (exact : Bool) (old : Entries) (i : Instance ℕ) (v : Option (Value ℕ)) (reads : Location ℕ → Bool) (uses : List (Instance ℕ))
     (new : Entries) : Type 0 where
   pub entry : Kept
   pub value : entry.value ≡ v
-  pub covers : (l : Location ℕ) → covered old reads uses l ≡ true → entry.covers l ≡ true
-  pub only : exact ≡ true → (l : Location ℕ) → entry.covers l ≡ true → covered old reads uses l ≡ true
+  pub covers : (l : Location ℕ) → covered_by old reads uses l ≡ true → entry.covers l ≡ true
+  pub only : exact ≡ true → (l : Location ℕ) → entry.covers l ≡ true → covered_by old reads uses l ≡ true
   pub adds : (j : Instance ℕ) → new j ≡ (if same_instance i j then Some entry else old j)
+
+-- the same with a list of reads
+abbrev pub Puts : (exact : Bool) (old : Entries) → Instance ℕ → Option (Value ℕ) → (reads : List (Location ℕ)) (uses : List (Instance ℕ))
+    → (new : Entries) → Type 0
+Puts exact old i v reads uses new = PutsBy exact old i v (λ l. list_any (same_location l) reads) uses new
 
 -- the entry is there so; or a keeper that isn't exact has left all as it was
 abbrev pub HasPut : (exact : Bool) (old : Entries) → Instance ℕ → Option (Value ℕ) → (reads : List (Location ℕ)) (uses : List (Instance ℕ))

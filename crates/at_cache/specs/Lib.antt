@@ -13,4 +13,11 @@ pub mod Asking
 pub mod Keeping
 pub mod Stored
 pub mod Bound
+pub mod Blocking
 pub mod Attributes
+pub mod Traced
+pub mod Standings
+pub mod Marking
+pub mod Settling
+pub mod Renewing
+pub mod Theirs

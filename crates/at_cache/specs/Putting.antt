@@ -55,6 +55,7 @@ fresh_entry instance value links stamp = record {
   value = value;
   links = links;
   stamp = stamp;
+  since = stamp;
   users = [];
   going = false;
   next = None;

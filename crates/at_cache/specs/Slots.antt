@@ -1,7 +1,10 @@
 -- What a write does to one entry of a map.
-use Rattle.std.specs.Prelude.{◌≡◌, ◌++◌, ◌∷◌, [], ℕ, List, Some, slice_get, slice_set}
+use Rattle.std.specs.Prelude.{◌≡◌, ◌++◌, ◌∷◌, [], ℕ, List, Option, Some, slice_get, slice_set}
 use Rattle.indexmap.specs.Layout.{set_value_at}
+use Rattle.smallvec.specs.SmallVec.{SmallVec}
+use Rattle.at_model.specs.Run as run
 use Rattle.at_model.specs.Run.{Instance}
+use Rattle.at_body.specs.declared.value.Value.{Value}
 use Rattle.at_cache.specs.declared.edge.Edge.{Edge}
 use Rattle.at_cache.specs.declared.edge.Edges.{Edges}
 use Rattle.at_cache.specs.declared.entry.Entry.{Entry}
@@ -9,7 +12,7 @@ use Rattle.at_cache.specs.declared.facet.Facet.{Facet}
 use Rattle.at_cache.specs.declared.facet.Readers.{Readers}
 use Rattle.at_cache.specs.declared.mark.Mark.{Mark}
 use Rattle.at_cache.specs.Edges.{edges_in}
-use Rattle.at_cache.specs.Info.{Memory}
+use Rattle.at_cache.specs.Info.{Info, Memory}
 use Rattle.at_cache.specs.Putting.{Lists}
 
 abbrev pub with_mark : Mark → Entry → Entry
@@ -17,6 +20,13 @@ with_mark mark e = record e { mark = mark }
 
 abbrev pub with_list : Edges → Entry → Entry
 with_list users e = record e { users = users }
+
+abbrev pub with_entry : Option Value → SmallVec ℕ → ℕ → Entry → Entry
+with_entry value links stamp e = record e { value = value; links = links; stamp = stamp }
+
+-- an entry that is put anew
+abbrev pub renewed : Option (run.Value ℕ) → (links : List ℕ) → (stamp : ℕ) → Info → Info
+renewed value links stamp e = record e { value = value; links = links; stamp = stamp; since = stamp }
 
 -- the entry at the place is changed so
 abbrev pub HasWritten : (Entry → Entry) → ℕ → (old new : List (Instance ℕ × Entry)) → Type 0

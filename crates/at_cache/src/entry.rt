@@ -1,5 +1,7 @@
 //! Entries.
 
+ghost use Rattle.std.specs.Prelude.{◌≡◌};
+
 use crate::edge::{Edges, Slot};
 use crate::mark::Mark;
 use at_body::Value;
@@ -31,5 +33,22 @@ impl Drop for Entry {
             users: _,
             mark: _,
         } = self;
+    }
+}
+
+impl Entry {
+    /// Its slot, and what it was put with.
+    pub fn into_put(self) -> (Slot, Option<Value>, Links, u64)
+        ensures { result ≡ (self.slot, self.value, self.links, self.stamp) }
+    {
+        let Entry {
+            value,
+            links,
+            slot,
+            stamp,
+            users: _,
+            mark: _,
+        } = self;
+        (slot, value, links, stamp)
     }
 }

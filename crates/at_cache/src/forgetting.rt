@@ -13,16 +13,17 @@ ghost use Rattle.at_cache.specs.Kept.{Answers, LeavesUntouched, LosesTouched};
 
 use crate::edge::{Edge, Edges, Slot};
 use crate::facet::{Facet, Facets, Readers};
+use crate::marked::Marked;
 use crate::row::Row;
 use crate::scope::Scope;
 use crate::table::Table;
 use at_store::{Loc, Node};
 
 // The entry that the edge tells of, if it is there, goes too: the first one that goes from now on.
-fn doom(entries: &mut Table, first: Option<Slot>, edge: &Edge) -> Option<Slot>
-    ensures written { (k : ℕ) → memory_of entries.new k ≡ dooms edge.now first (memory_of entries.old) k }
-    ensures first { result ≡ first_after edge.now first (memory_of entries.old) }
-    ensures len { table_len entries.new ≡ table_len entries.old }
+fn doom<W: Marked>(entries: &mut W, first: Option<Slot>, edge: &Edge) -> Option<Slot>
+    ensures written { (k : ℕ) → W.memory entries.new k ≡ dooms edge.now first (W.memory entries.old) k }
+    ensures first { result ≡ first_after edge.now first (W.memory entries.old) }
+    ensures aside { W.aside entries.new ≡ W.aside entries.old }
 {
     if entries.is_fresh(edge) {
         entries.set_going(edge.slot, first);
@@ -33,10 +34,10 @@ fn doom(entries: &mut Table, first: Option<Slot>, edge: &Edge) -> Option<Slot>
 }
 
 // So do those that all edges of the row tell of.
-fn doom_row(entries: &mut Table, first: Option<Slot>, row: &Row) -> Option<Slot>
-    ensures works { (old : Memory) (start left : List Edge) → Work old start (edges_of row.now ++ left) first (memory_of entries.old)
-        → Work old start left result (memory_of entries.new) }
-    ensures len { table_len entries.new ≡ table_len entries.old }
+fn doom_row<W: Marked>(entries: &mut W, first: Option<Slot>, row: &Row) -> Option<Slot>
+    ensures works { (old : Memory) (start left : List Edge) → Work old start (edges_of row.now ++ left) first (W.memory entries.old)
+        → Work old start left result (W.memory entries.new) }
+    ensures aside { W.aside entries.new ≡ W.aside entries.old }
 {
     let mut first = first;
     let mut rest = *row;
@@ -48,10 +49,10 @@ fn doom_row(entries: &mut Table, first: Option<Slot>, row: &Row) -> Option<Slot>
 }
 
 // So do those that the edges of all these rows tell of.
-fn doom_all(entries: &mut Table, first: Option<Slot>, rows: &[Row]) -> Option<Slot>
-    ensures works { (old : Memory) (start : List Edge) → Work old start (edges_along rows.now) first (memory_of entries.old)
-        → Work old start [] result (memory_of entries.new) }
-    ensures len { table_len entries.new ≡ table_len entries.old }
+fn doom_all<W: Marked>(entries: &mut W, first: Option<Slot>, rows: &[Row]) -> Option<Slot>
+    ensures works { (old : Memory) (start : List Edge) → Work old start (edges_along rows.now) first (W.memory entries.old)
+        → Work old start [] result (W.memory entries.new) }
+    ensures aside { W.aside entries.new ≡ W.aside entries.old }
 {
     let mut first = first;
     for row in rows {
@@ -60,11 +61,11 @@ fn doom_all(entries: &mut Table, first: Option<Slot>, rows: &[Row]) -> Option<Sl
     first
 }
 
-// So do those that the edges of this list tell of.
-fn doom_listed(entries: &mut Table, first: Option<Slot>, edges: &Edges) -> Option<Slot>
-    ensures works { (old : Memory) (start : List Edge) → Work old start (edges_in edges.now) first (memory_of entries.old)
-        → Work old start [] result (memory_of entries.new) }
-    ensures len { table_len entries.new ≡ table_len entries.old }
+/// So do those that the edges of this list tell of.
+pub fn doom_listed<W: Marked>(entries: &mut W, first: Option<Slot>, edges: &Edges) -> Option<Slot>
+    ensures works { (old : Memory) (start : List Edge) → Work old start (edges_in edges.now) first (W.memory entries.old)
+        → Work old start [] result (W.memory entries.new) }
+    ensures aside { W.aside entries.new ≡ W.aside entries.old }
 {
     match edges {
         Edges::Empty => first,
@@ -88,8 +89,8 @@ fn is_touched<F: Fn(Loc) -> bool>(node: Node, facet: Facet, scope: Scope, touche
 }
 
 /// What reads a touched location in the scope of the node goes: the first one that goes.
-pub fn begin_at<F: Fn(Loc) -> bool>(
-    entries: &mut Table,
+pub fn begin_at<W: Marked, F: Fn(Loc) -> bool>(
+    entries: &mut W,
     first: Option<Slot>,
     node: Node,
     readers: &[Readers],
@@ -97,8 +98,9 @@ pub fn begin_at<F: Fn(Loc) -> bool>(
     touched: &F,
 ) -> Option<Slot>
     requires { F.IsAlwaysCallable touched.now }
-    ensures { GoesOn (Answers (F.post touched.now)) (looks_at scope) (edges_among node readers.now) first
-        (memory_of entries.old) result (memory_of entries.new) }
+    ensures goes_on { GoesOn (Answers (F.post touched.now)) (looks_at scope) (edges_among node readers.now) first
+        (W.memory entries.old) result (W.memory entries.new) }
+    ensures aside { W.aside entries.new ≡ W.aside entries.old }
 {
     let mut first = first;
     for reader in readers {
@@ -110,11 +112,16 @@ pub fn begin_at<F: Fn(Loc) -> bool>(
 }
 
 // What reads a touched location goes: the first one that goes.
-fn begin<F: Fn(Loc) -> bool>(entries: &mut Table, readers: &[Facets], touched: &F) -> Option<Slot>
+pub fn begin<W: Marked, F: Fn(Loc) -> bool>(
+    entries: &mut W,
+    readers: &[Facets],
+    touched: &F,
+) -> Option<Slot>
     requires callable { F.IsAlwaysCallable touched.now }
     requires short { length readers.now ≤ 2 ^ 32 }
-    ensures { IsIdle (memory_of entries.old) → (start : List Edge) × Work (memory_of entries.old) start [] result (memory_of entries.new)
+    ensures works { IsIdle (W.memory entries.old) → (start : List Edge) × Work (W.memory entries.old) start [] result (W.memory entries.new)
         × Begins (Answers (F.post touched.now)) (edges_at readers.now) start }
+    ensures aside { W.aside entries.new ≡ W.aside entries.old }
 {
     let mut first = None;
     for number in 0..readers.len() {

@@ -6,10 +6,10 @@ ghost use Rattle.at_store.specs.Located.{loc_view};
 ghost use Rattle.at_cache.specs.Info.{memory_of, table_len};
 ghost use Rattle.at_cache.specs.Stored.{reads_held};
 ghost use Rattle.at_cache.specs.Bound.{ForgetsOver, kept_by};
-ghost use Rattle.at_cache.specs.Kept.{Answers, AreKept, AreNamed, HasPut, KeepsAll, LeavesUntouched};
+ghost use Rattle.at_cache.specs.Kept.{Answers, AreKept, AreNamed, HasPut, KeepsAll, LeavesUntouched, value_at};
 
 use crate::keep_recorded::KeepRecorded;
-use crate::keeper::{Keeper, Put};
+use crate::keeper::{Keeper, Order, Put};
 use at_body::{Inst, Value};
 use at_store::{Loc, Places};
 use std::alloc::{AllocError, Global};
@@ -67,6 +67,10 @@ impl Keeper for KeepAtMost {
 
     ghost exact = { false };
 
+    ghost memories = { λ k. record { traced = λ _. None; last = λ i. value_at (kept_by k i) } };
+
+    ghost kept_last = { λ k i v kept. kept };
+
     fn get(&self, inst: &Inst) -> Option<&Value> {
         self.keeper.get(inst)
     }
@@ -81,6 +85,7 @@ impl Keeper for KeepAtMost {
         value: Option<Value>,
         reads: &[Loc],
         uses: &[Inst],
+        order: Order,
     ) -> Result<Put, AllocError>
         requires absent { kept_by self.old inst ≡ None }
         requires present { AreKept (kept_by self.old) uses.now }
@@ -88,7 +93,19 @@ impl Keeper for KeepAtMost {
         ensures err { OnErr result (KeepsAll (kept_by self.old) (kept_by self.new)) }
         ensures bound { self.new.most ≡ self.old.most }
     {
-        self.keeper.put(inst, value, reads, uses)
+        self.keeper.put(inst, value, reads, uses, order)
+    }
+
+    fn settle(&mut self, _inst: &Inst, work: u64) -> u64 {
+        work
+    }
+
+    fn blocker(&self, _inst: &Inst) -> Option<&Inst> {
+        None
+    }
+
+    fn is_tracing(&self) -> bool {
+        false
     }
 
     fn flush<F: Fn(Loc) -> bool>(&mut self, touched: &F)

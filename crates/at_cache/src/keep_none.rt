@@ -1,8 +1,9 @@
 //! The keeper that keeps nothing.
 
 ghost use Rattle.std.specs.Prelude.{None, false};
+ghost use Rattle.at_cache.specs.Kept.{value_at};
 
-use crate::keeper::{Keeper, Put};
+use crate::keeper::{Keeper, Order, Put};
 use at_body::{Inst, Value};
 use at_store::{Loc, Places};
 use std::alloc::{AllocError, Global};
@@ -23,6 +24,10 @@ impl Keeper for KeepNone {
 
     ghost exact = { false };
 
+    ghost memories = { λ k. record { traced = λ _. None; last = λ i. value_at (None) } };
+
+    ghost kept_last = { λ k i v kept. kept };
+
     fn get(&self, _inst: &Inst) -> Option<&Value> {
         None
     }
@@ -37,8 +42,21 @@ impl Keeper for KeepNone {
         _value: Option<Value>,
         _reads: &[Loc],
         _uses: &[Inst],
+        _order: Order,
     ) -> Result<Put, AllocError> {
         Ok(Put::Left)
+    }
+
+    fn settle(&mut self, _inst: &Inst, work: u64) -> u64 {
+        work
+    }
+
+    fn blocker(&self, _inst: &Inst) -> Option<&Inst> {
+        None
+    }
+
+    fn is_tracing(&self) -> bool {
+        false
     }
 
     fn flush<F: Fn(Loc) -> bool>(&mut self, _touched: &F) {}

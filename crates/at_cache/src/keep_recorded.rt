@@ -3,14 +3,14 @@
 ghost use Rattle.std.specs.Prelude.{◌≡◌, ◌≤◌, ◌-◌, ◌^◌, length, min, None, true};
 ghost use Rattle.at_cache.specs.Asking.{AreNoted};
 ghost use Rattle.at_cache.specs.Info.{memory_of, table_len};
-ghost use Rattle.at_cache.specs.Kept.{KeepsAll};
+ghost use Rattle.at_cache.specs.Kept.{KeepsAll, value_at};
 ghost use Rattle.at_cache.specs.Readers.{edges_at};
 ghost use Rattle.at_cache.specs.Recorded.{IsIndexed, kept_in};
 ghost use Rattle.at_cache.specs.Stored.{reads_held};
 
 use crate::facet::Facets;
 use crate::forgetting::take_out;
-use crate::keeper::{Keeper, Put};
+use crate::keeper::{Keeper, Order, Put};
 use crate::places::take_out_at;
 use crate::putting::enter_with;
 use crate::stored::reads_held;
@@ -89,6 +89,10 @@ impl Keeper for KeepRecorded {
 
     ghost exact = { true };
 
+    ghost memories = { λ k. record { traced = λ _. None; last = λ i. value_at (kept_in (edges_at k.readers.items) k.entries k.puts i) } };
+
+    ghost kept_last = { λ k i v kept. kept };
+
     fn get(&self, inst: &Inst) -> Option<&Value> {
         let entry = self.entries.get(inst)?;
         entry.value.as_ref()
@@ -104,6 +108,7 @@ impl Keeper for KeepRecorded {
         value: Option<Value>,
         reads: &[Loc],
         uses: &[Inst],
+        _order: Order,
     ) -> Result<Put, AllocError> {
         let stamp = self.puts;
         if stamp == u64::MAX {
@@ -121,6 +126,18 @@ impl Keeper for KeepRecorded {
             reads,
             uses,
         )
+    }
+
+    fn settle(&mut self, _inst: &Inst, work: u64) -> u64 {
+        work
+    }
+
+    fn blocker(&self, _inst: &Inst) -> Option<&Inst> {
+        None
+    }
+
+    fn is_tracing(&self) -> bool {
+        false
     }
 
     fn flush<F: Fn(Loc) -> bool>(&mut self, touched: &F) {

@@ -1,10 +1,10 @@
 //! The keeper that forgets all at an edit.
 
 ghost use Rattle.std.specs.Prelude.{None, false};
-ghost use Rattle.at_cache.specs.Kept.{KeepsAll};
+ghost use Rattle.at_cache.specs.Kept.{KeepsAll, value_at};
 ghost use Rattle.at_cache.specs.UntilEdit.{values_kept};
 
-use crate::keeper::{Keeper, Put};
+use crate::keeper::{Keeper, Order, Put};
 use at_body::{Inst, Value};
 use at_store::{Loc, Places};
 use indexmap::IndexMap;
@@ -32,6 +32,10 @@ impl Keeper for KeepUntilEdit {
 
     ghost exact = { false };
 
+    ghost memories = { λ k. record { traced = λ _. None; last = λ i. value_at (values_kept k.values.entries i) } };
+
+    ghost kept_last = { λ k i v kept. kept };
+
     fn get(&self, inst: &Inst) -> Option<&Value> {
         self.values.get(inst)
     }
@@ -46,12 +50,25 @@ impl Keeper for KeepUntilEdit {
         value: Option<Value>,
         _reads: &[Loc],
         _uses: &[Inst],
+        _order: Order,
     ) -> Result<Put, AllocError> {
         let Some(value) = value else {
             return Ok(Put::Left);
         };
         self.values.insert(inst, value)?;
         Ok(Put::Kept)
+    }
+
+    fn settle(&mut self, _inst: &Inst, work: u64) -> u64 {
+        work
+    }
+
+    fn blocker(&self, _inst: &Inst) -> Option<&Inst> {
+        None
+    }
+
+    fn is_tracing(&self) -> bool {
+        false
     }
 
     fn flush<F: Fn(Loc) -> bool>(&mut self, _touched: &F) {

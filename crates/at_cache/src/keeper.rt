@@ -1,11 +1,12 @@
 //! What every keeper does.
 
-ghost use Rattle.std.specs.Prelude.{◌≡◌, ℕ, Option, None, Bool, IsTrue, IfOk, OnErr, is_some, map};
+ghost use Rattle.std.specs.Prelude.{◌≡◌, ◌+◌, ◌-◌, ◌^◌, ℕ, Option, None, Some, Bool, IsTrue, IfOk, IfSome, OnErr, is_some, map, min};
 ghost use Rattle.std.specs.Option.{option_map};
-ghost use Rattle.at_model.specs.Run.{Instance};
+ghost use Rattle.at_model.specs.Run.{Instance, Value};
 ghost use Rattle.at_body.specs.Values.{value_view};
 ghost use Rattle.at_store.specs.Located.{loc_view};
 ghost use Rattle.at_cache.specs.Kept.{AreNamed, Kept, KeepsAll, HasPut, AreKept, Answers, LeavesUntouched, LosesTouched, value_at};
+ghost use Rattle.at_cache.specs.Traced.{FlushesTraces, IsNext, Memories, PutsTrace, Settled, StayTraced};
 
 use at_body::{Inst, Value};
 use at_store::{Loc, Places};
@@ -20,6 +21,15 @@ pub enum Put {
     Left,
 }
 
+/// How the instances stand that an entry used.
+#[derive(Clone, Copy, PartialEq, Eq, Debug)]
+pub enum Order {
+    /// As its evaluation took them, one behind the other: it can be kept again once they are.
+    AsTaken,
+    /// In any order.
+    Any,
+}
+
 /// Keeps values of instances, each with the locations that it stands for. An entry may be without a value: then it only stands for
 /// what its instance rests on, for the entries that use it.
 pub trait Keeper: Drop {
@@ -28,6 +38,12 @@ pub trait Keeper: Drop {
 
     /// Whether `put` adds at each Ok just the locations that it is told, and `flush` leaves each entry that isn't touched.
     ghost exact: { Bool };
+
+    /// What it remembers beside them; most keepers trace nothing.
+    ghost memories: { Self → Memories };
+
+    /// The value that is kept is the last one.
+    ghost kept_last: { (k : Self) (i : Instance ℕ) (v : Value ℕ) → value_at (contents k i) ≡ Some v → (memories k).last i ≡ Some v };
 
     /// The kept value of the instance.
     fn get(&self, inst: &Inst) -> Option<&Value>
@@ -38,29 +54,48 @@ pub trait Keeper: Drop {
         ensures { result ≡ is_some (contents self.now inst.now) };
 
     /// Makes the entry of an instance that has none, with its value where that is kept, for the locations in `reads` and those of the
-    /// entries of `uses`; or leaves all as it is. An error where memory is wanting: all is then as it was.
+    /// entries of `uses`; or leaves all as it is. An error where memory is wanting: what is kept is then as it was.
     fn put(
         &mut self,
         inst: Inst,
         value: Option<Value>,
         reads: &[Loc],
         uses: &[Inst],
+        order: Order,
     ) -> Result<Put, AllocError>
         requires absent { contents self.old inst ≡ None }
         requires present { AreKept (contents self.old) uses.now }
         ensures puts { IfOk result (HasPut exact (contents self.old) inst (option_map value_view value) (map loc_view reads.now) uses.now (contents self.new)) }
-        ensures err { OnErr result (KeepsAll (contents self.old) (contents self.new)) };
+        ensures err { OnErr result (KeepsAll (contents self.old) (contents self.new)) }
+        ensures traces { PutsTrace inst (option_map value_view value) (map loc_view reads.now) uses.now order (memories self.old) (memories self.new) };
+
+    /// Keeps again what can be kept with no evaluation, of the instance, what it used, and so on, and counts it: how much work was done
+    /// then, where so much was done before. It stays at the greatest number.
+    fn settle(&mut self, inst: &Inst, work: u64) -> u64
+        ensures settled { (n : ℕ) × Settled exact (memories self.old) inst.now n (contents self.old) (contents self.new)
+            × (result ≡ min (work + n) (2 ^ 64 - 1)) }
+        ensures stay { StayTraced (memories self.old) (memories self.new) };
+
+    /// The first one that stands in the way of keeping the instance again, of what it used and so on: it isn't kept, and can't be with no
+    /// evaluation. None where that is the instance itself, or where nothing stands in its way.
+    fn blocker(&self, inst: &Inst) -> Option<&Inst>
+        ensures { IfSome result (λ b. IsNext (memories self.now) (contents self.now) inst.now b.now) };
+
+    /// Whether it traces what it is told in order. Nothing rests on it.
+    fn is_tracing(&self) -> bool;
 
     /// Forgets each entry that stands for a touched location.
     fn flush<F: Fn(Loc) -> bool>(&mut self, touched: &F)
         requires { F.IsAlwaysCallable touched.now }
         ensures leaves { LeavesUntouched (Answers (F.post touched.now)) (contents self.old) (contents self.new) }
-        ensures loses { IsTrue exact → LosesTouched (Answers (F.post touched.now)) (contents self.old) (contents self.new) };
+        ensures loses { IsTrue exact → LosesTouched (Answers (F.post touched.now)) (contents self.old) (contents self.new) }
+        ensures traces { FlushesTraces (Answers (F.post touched.now)) (memories self.old) (memories self.new) };
 
     /// Forgets each entry that stands for a touched location. The places name all that is touched.
     fn flush_at<F: Fn(Loc) -> bool>(&mut self, places: &Places<'_>, touched: &F)
         requires callable { F.IsAlwaysCallable touched.now }
         requires named { AreNamed places.now (F.post touched.now) }
         ensures leaves { LeavesUntouched (Answers (F.post touched.now)) (contents self.old) (contents self.new) }
-        ensures loses { IsTrue exact → LosesTouched (Answers (F.post touched.now)) (contents self.old) (contents self.new) };
+        ensures loses { IsTrue exact → LosesTouched (Answers (F.post touched.now)) (contents self.old) (contents self.new) }
+        ensures traces { FlushesTraces (Answers (F.post touched.now)) (memories self.old) (memories self.new) };
 }

@@ -1,6 +1,6 @@
 //! What stands for a touched location is taken out, where places name all that is touched.
 
-ghost use Rattle.std.specs.Prelude.{ℕ, None};
+ghost use Rattle.std.specs.Prelude.{◌≡◌, ℕ, None};
 ghost use Rattle.std.specs.List.{list_any};
 ghost use Rattle.at_model.specs.Touches.{node_of};
 ghost use Rattle.at_store.specs.Places.{is_index_among, is_node, named, names_around};
@@ -13,13 +13,14 @@ ghost use Rattle.at_cache.specs.Recorded.{IsIndexed, kept_in};
 use crate::edge::Slot;
 use crate::facet::Facets;
 use crate::forgetting::{begin_at, forget_all};
+use crate::marked::Marked;
 use crate::scope::Scope;
 use crate::table::Table;
 use at_store::{Changing, Loc, Node, Places};
 
 // What reads a touched location in the scope of the node goes: the first one that goes.
-fn begin_node<F: Fn(Loc) -> bool>(
-    entries: &mut Table,
+fn begin_node<W: Marked, F: Fn(Loc) -> bool>(
+    entries: &mut W,
     first: Option<Slot>,
     readers: &[Facets],
     node: Node,
@@ -27,7 +28,9 @@ fn begin_node<F: Fn(Loc) -> bool>(
     touched: &F,
 ) -> Option<Slot>
     requires { F.IsAlwaysCallable touched.now }
-    ensures { GoesOn (Answers (F.post touched.now)) (sees scope node) (edges_at readers.now) first (memory_of entries.old) result (memory_of entries.new) }
+    ensures goes_on { GoesOn (Answers (F.post touched.now)) (sees scope node) (edges_at readers.now) first
+        (W.memory entries.old) result (W.memory entries.new) }
+    ensures aside { W.aside entries.new ≡ W.aside entries.old }
 {
     match readers.get(node.index()) {
         Some(list) => begin_at(entries, first, node, list.as_slice(), scope, touched),
@@ -36,8 +39,8 @@ fn begin_node<F: Fn(Loc) -> bool>(
 }
 
 // So does what reads one in that scope of any of the nodes.
-fn begin_nodes<F: Fn(Loc) -> bool>(
-    entries: &mut Table,
+fn begin_nodes<W: Marked, F: Fn(Loc) -> bool>(
+    entries: &mut W,
     first: Option<Slot>,
     readers: &[Facets],
     nodes: &[Node],
@@ -45,8 +48,9 @@ fn begin_nodes<F: Fn(Loc) -> bool>(
     touched: &F,
 ) -> Option<Slot>
     requires { F.IsAlwaysCallable touched.now }
-    ensures { GoesOn (Answers (F.post touched.now)) (λ l. list_any (λ n. sees scope n l) nodes.now) (edges_at readers.now) first
-        (memory_of entries.old) result (memory_of entries.new) }
+    ensures goes_on { GoesOn (Answers (F.post touched.now)) (λ l. list_any (λ n. sees scope n l) nodes.now) (edges_at readers.now) first
+        (W.memory entries.old) result (W.memory entries.new) }
+    ensures aside { W.aside entries.new ≡ W.aside entries.old }
 {
     let mut first = first;
     for node in nodes {
@@ -57,8 +61,8 @@ fn begin_nodes<F: Fn(Loc) -> bool>(
 
 // What reads the touched index of one of the children goes. Of those and the nodes whose index was ever read the fewer are
 // looked at.
-fn begin_children<F: Fn(Loc) -> bool>(
-    entries: &mut Table,
+fn begin_children<W: Marked, F: Fn(Loc) -> bool>(
+    entries: &mut W,
     first: Option<Slot>,
     readers: &[Facets],
     index_read: &[Node],
@@ -68,7 +72,8 @@ fn begin_children<F: Fn(Loc) -> bool>(
     requires callable { F.IsAlwaysCallable touched.now }
     requires noted { AreNoted (edges_at readers.now) index_read.now }
     ensures goes_on { GoesOn (Answers (F.post touched.now)) (is_index_among children.now) (edges_at readers.now) first
-        (memory_of entries.old) result (memory_of entries.new) }
+        (W.memory entries.old) result (W.memory entries.new) }
+    ensures aside { W.aside entries.new ≡ W.aside entries.old }
 {
     let fewer = if index_read.len() < children.len() {
         index_read
@@ -79,8 +84,8 @@ fn begin_children<F: Fn(Loc) -> bool>(
 }
 
 // What reads a touched location of the node goes, or the touched index of one of its children there.
-fn begin_around<F: Fn(Loc) -> bool>(
-    entries: &mut Table,
+fn begin_around<W: Marked, F: Fn(Loc) -> bool>(
+    entries: &mut W,
     first: Option<Slot>,
     readers: &[Facets],
     index_read: &[Node],
@@ -90,7 +95,8 @@ fn begin_around<F: Fn(Loc) -> bool>(
     requires callable { F.IsAlwaysCallable touched.now }
     requires noted { AreNoted (edges_at readers.now) index_read.now }
     ensures goes_on { GoesOn (Answers (F.post touched.now)) (names_around changing.now) (edges_at readers.now) first
-        (memory_of entries.old) result (memory_of entries.new) }
+        (W.memory entries.old) result (W.memory entries.new) }
+    ensures aside { W.aside entries.new ≡ W.aside entries.old }
 {
     match changing {
         Some(changing) => {
@@ -102,16 +108,17 @@ fn begin_around<F: Fn(Loc) -> bool>(
 }
 
 // What reads a touched location of the node goes, if there is one.
-fn begin_moved<F: Fn(Loc) -> bool>(
-    entries: &mut Table,
+fn begin_moved<W: Marked, F: Fn(Loc) -> bool>(
+    entries: &mut W,
     first: Option<Slot>,
     readers: &[Facets],
     moved: Option<Node>,
     touched: &F,
 ) -> Option<Slot>
     requires { F.IsAlwaysCallable touched.now }
-    ensures { GoesOn (Answers (F.post touched.now)) (λ l. is_node moved (node_of l)) (edges_at readers.now) first
-        (memory_of entries.old) result (memory_of entries.new) }
+    ensures goes_on { GoesOn (Answers (F.post touched.now)) (λ l. is_node moved (node_of l)) (edges_at readers.now) first
+        (W.memory entries.old) result (W.memory entries.new) }
+    ensures aside { W.aside entries.new ≡ W.aside entries.old }
 {
     match moved {
         Some(node) => begin_node(entries, first, readers, node, Scope::All, touched),
@@ -119,9 +126,9 @@ fn begin_moved<F: Fn(Loc) -> bool>(
     }
 }
 
-// What reads a touched location that the places name goes: the first one that goes.
-fn begin_named<F: Fn(Loc) -> bool>(
-    entries: &mut Table,
+/// What reads a touched location that the places name goes: the first one that goes.
+pub fn begin_named<W: Marked, F: Fn(Loc) -> bool>(
+    entries: &mut W,
     readers: &[Facets],
     index_read: &[Node],
     places: &Places<'_>,
@@ -130,7 +137,8 @@ fn begin_named<F: Fn(Loc) -> bool>(
     requires callable { F.IsAlwaysCallable touched.now }
     requires noted { AreNoted (edges_at readers.now) index_read.now }
     ensures goes_on { GoesOn (Answers (F.post touched.now)) (named places.now) (edges_at readers.now) None
-        (memory_of entries.old) result (memory_of entries.new) }
+        (W.memory entries.old) result (W.memory entries.new) }
+    ensures aside { W.aside entries.new ≡ W.aside entries.old }
 {
     let left = begin_nodes(entries, None, readers, places.leaving, Scope::All, touched);
     let moved = begin_moved(entries, left, readers, places.moved, touched);

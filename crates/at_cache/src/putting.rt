@@ -12,6 +12,7 @@ ghost use Rattle.at_cache.specs.Kept.{HasPut, KeepsAll};
 ghost use Rattle.at_cache.specs.Putting.{AreTaken, fresh_entry};
 ghost use Rattle.at_cache.specs.Readers.{edges_at};
 ghost use Rattle.at_cache.specs.Recorded.{AreOf, IsIndexed, kept_in};
+ghost use Rattle.at_cache.specs.Theirs.{AreTheirs};
 
 use crate::edge::{Edge, Edges};
 use crate::entry::{Entry, Links};
@@ -24,10 +25,11 @@ use at_body::{Inst, Value};
 use at_store::{Loc, Node};
 use std::alloc::{AllocError, Global};
 
-// The slots of these instances.
-fn slots_of(alloc: Global, entries: &Table, uses: &[Inst]) -> Result<Links, AllocError>
+/// The slots of these instances.
+pub fn slots_of(alloc: Global, entries: &Table, uses: &[Inst]) -> Result<Links, AllocError>
     ensures taken { IfOk result (λ slots. AreTaken (memory_of entries.now) slots.items) }
     ensures covers { IfOk result (λ slots. AreOf entries.now uses.now slots.items) }
+    ensures theirs { IfOk result (λ slots. AreTheirs entries.now uses.now slots.items) }
 {
     let mut slots = Links::new(alloc);
     for used in uses {
@@ -38,8 +40,8 @@ fn slots_of(alloc: Global, entries: &Table, uses: &[Inst]) -> Result<Links, Allo
     Ok(slots)
 }
 
-// An entry that is to come, which that edge tells of.
-fn fresh(value: Option<Value>, links: Links, edge: Edge) -> Entry
+/// An entry that is to come, which that edge tells of.
+pub fn fresh(value: Option<Value>, links: Links, edge: Edge) -> Entry
     ensures entry { (i : Instance ℕ) → info (i, result) ≡ fresh_entry i (option_map value_view value) links.items edge.stamp }
     ensures slot { result.slot ≡ edge.slot }
 {

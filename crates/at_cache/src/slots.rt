@@ -1,25 +1,27 @@
 //! What is done to entries by their slots.
 
-ghost use Rattle.std.specs.Prelude.{◌≡◌, ◌<◌, ◌+◌, ◌&&◌, ◌++◌, ◌∷◌, [], not, ℕ, Option, None, Some, IsSome, option_copied, option_map, nat_eq, if◌then◌else◌, slice_get, OnSome, OnErr, OnOk, IfNone, IfOk, IfSome, MatchBool, is_some, ◌≢◌};
+ghost use Rattle.std.specs.Prelude.{◌≡◌, ◌<◌, ◌+◌, ◌&&◌, ◌++◌, ◌∷◌, [], not, ℕ, Option, None, Some, IsSome, option_copied, option_map, nat_eq, if◌then◌else◌, slice_get, OnSome, OnErr, OnOk, IfNone, IfOk, IfSome, IsTrue, MatchBool, is_some, ◌≢◌};
 ghost use Rattle.std.specs.Map.{lookup};
 ghost use Rattle.at_model.specs.Run.{Instance};
 ghost use Rattle.at_body.specs.Same.{same_instance};
+ghost use Rattle.at_body.specs.Values.{value_view};
 ghost use Rattle.slab.specs.Slab.{get};
 ghost use Rattle.indexmap.specs.IndexMap.{IsUnique, index_map_len};
 ghost use Rattle.at_cache.specs.Edges.{edges_in};
-ghost use Rattle.at_cache.specs.Info.{info, is_going, memory_of, table_len};
+ghost use Rattle.at_cache.specs.Info.{Info, info, is_going, memory_of, table_len};
 ghost use Rattle.at_cache.specs.Placed.{IsMoved, IsPlaced, at};
-ghost use Rattle.at_cache.specs.Flushing.{doomed, is_fresh};
+ghost use Rattle.at_cache.specs.Marking.{HasMark, aside_table, unmarked};
 ghost use Rattle.at_cache.specs.Putting.{Enters, is_current, reused, users_at};
-ghost use Rattle.at_cache.specs.Slots.{HasWritten, with_list, with_mark};
+ghost use Rattle.at_cache.specs.Slots.{HasWritten, renewed, with_entry, with_list, with_mark};
 
 use crate::attributes::{has_come, note_attribute};
 use crate::edge::{Edge, Edges, Slot};
-use crate::entry::Entry;
+use crate::entry::{Entry, Links};
 use crate::facet::small;
 use crate::mark::Mark;
+use crate::marked::Marked;
 use crate::table::Table;
-use at_body::Inst;
+use at_body::{Inst, Value};
 use indexmap::IndexMap;
 use slab::Slab;
 use std::alloc::AllocError;
@@ -32,6 +34,16 @@ fn write_mark(entries: &mut IndexMap<Inst, Entry>, place: usize, mark: Mark)
 {
     let (_, entry) = entries.pair_mut(place);
     entry.mark = mark;
+}
+
+// The mark of the entry at that place, which has this one then.
+fn exchange_mark(entries: &mut IndexMap<Inst, Entry>, place: usize, mark: Mark) -> Mark
+    requires { place < index_map_len entries.old }
+    ensures written { HasWritten (with_mark mark) place entries.old.entries entries.new.entries }
+    ensures was { option_map (λ e. e.1.mark) (slice_get entries.old.entries place) ≡ Some result }
+{
+    let (_, entry) = entries.pair_mut(place);
+    mem::replace(&mut entry.mark, mark)
 }
 
 // The users of the entry at that place, which has these then.
@@ -56,21 +68,11 @@ impl Table {
     }
 
     /// The entry in the slot.
-    fn pair(&self, slot: Slot) -> Option<(&Inst, &Entry)>
+    pub fn pair(&self, slot: Slot) -> Option<(&Inst, &Entry)>
         ensures { option_map (λ e. (e.0.now, e.1.now)) result ≡ at self.now.entries.entries (get self.now.places) slot }
     {
         let place = self.places.get(slot as usize)?;
         self.entries.get_index(*place)
-    }
-
-    /// Whether the entry that the edge tells of is there, and isn't going yet.
-    pub fn is_fresh(&self, edge: &Edge) -> bool
-        ensures { result ≡ is_fresh edge.now (memory_of self.now edge.now.slot) }
-    {
-        match self.pair(edge.slot) {
-            Some((_, entry)) => entry.is_fresh(edge),
-            None => false,
-        }
     }
 
     /// Whether the edge tells of an entry that is there.
@@ -83,14 +85,16 @@ impl Table {
         }
     }
 
-    /// The entry in the slot goes, before these.
-    pub fn set_going(&mut self, slot: Slot, first: Option<Slot>)
-        requires there { IsSome (memory_of self.old slot) }
-        ensures written { (k : ℕ) → memory_of self.new k ≡ (if nat_eq k slot then option_map (doomed first) (memory_of self.old k) else memory_of self.old k) }
+    /// The mark of the entry in the slot, which stays then.
+    pub fn unmark(&mut self, slot: Slot) -> Option<Mark>
+        ensures was { IfSome result (λ mark. HasMark (memory_of self.old slot) mark) }
+        ensures none { IfNone result ((memory_of self.old slot ≡ None) × ((k : ℕ) → memory_of self.new k ≡ memory_of self.old k)) }
+        ensures written { (k : ℕ) → memory_of self.new k ≡ (if nat_eq k slot then option_map unmarked (memory_of self.old k) else memory_of self.old k) }
         ensures len { table_len self.new ≡ table_len self.old }
     {
-        if let Some(place) = self.places.get(slot as usize) {
-            write_mark(&mut self.entries, *place, Mark::before(first));
+        match self.places.get(slot as usize) {
+            Some(place) => Some(exchange_mark(&mut self.entries, *place, Mark::Stays)),
+            None => None,
         }
     }
 
@@ -109,9 +113,32 @@ impl Table {
         }
     }
 
+    /// The entry in the slot is put anew, and has the edges to those that used it before.
+    pub fn renew(&mut self, slot: Slot, value: Option<Value>, links: Links, stamp: u64)
+        requires there { IsSome (memory_of self.old slot) }
+        ensures written { (k : ℕ) → memory_of self.new k ≡ (if nat_eq k slot
+            then option_map (renewed (option_map value_view value) links.items stamp) (memory_of self.old k) else memory_of self.old k) }
+        ensures len { table_len self.new ≡ table_len self.old }
+    {
+        if let Some(place) = self.places.get(slot as usize) {
+            write_entry(&mut self.entries, *place, value, links, stamp);
+        }
+    }
+
+    /// Whether the entry in the slot has that value, or none where it is none.
+    pub fn has_value(&self, slot: Slot, value: &Option<Value>) -> bool
+        ensures { IsTrue result → (e : Info) × (memory_of self.now slot ≡ Some e) × (e.value ≡ option_map value_view value.now) }
+    {
+        match self.pair(slot) {
+            Some((_, entry)) => are_same(&entry.value, value),
+            None => false,
+        }
+    }
+
     /// The slot that the next entry gets; want of memory where there are too many for one more.
     pub fn next(&self) -> Result<Slot, AllocError>
-        ensures { IfOk result (λ slot. slot ≡ self.now.places.vacant_key) }
+        ensures key { IfOk result (λ slot. slot ≡ self.now.places.vacant_key) }
+        ensures free { IfOk result (λ slot. memory_of self.now slot ≡ None) }
     {
         small(self.places.vacant_key())
     }
@@ -151,6 +178,62 @@ impl Table {
         }
         places.try_remove(slot);
         Err(AllocError)
+    }
+}
+
+impl Marked for Table {
+    ghost memory = { memory_of };
+
+    ghost aside = { aside_table };
+
+    fn is_fresh(&self, edge: &Edge) -> bool {
+        match self.pair(edge.slot) {
+            Some((_, entry)) => entry.is_fresh(edge),
+            None => false,
+        }
+    }
+
+    fn set_going(&mut self, slot: Slot, first: Option<Slot>) {
+        if let Some(place) = self.places.get(slot as usize) {
+            write_mark(&mut self.entries, *place, Mark::before(first));
+        }
+    }
+}
+
+// The entry at that place has these then.
+fn write_entry(
+    entries: &mut IndexMap<Inst, Entry>,
+    place: usize,
+    value: Option<Value>,
+    links: Links,
+    stamp: u64,
+)
+    requires { place < index_map_len entries.old }
+    ensures { HasWritten (with_entry value links stamp) place entries.old.entries entries.new.entries }
+{
+    let (_, entry) = entries.pair_mut(place);
+    entry.value = value;
+    entry.links = links;
+    entry.stamp = stamp;
+}
+
+// Whether the value is that one.
+fn is_value(old: &Option<Value>, new: &Value) -> bool
+    ensures { IsTrue result → option_map value_view old.now ≡ Some (value_view new.now) }
+{
+    match old {
+        Some(old) => *old == *new,
+        None => false,
+    }
+}
+
+// Whether both are the same value, or none.
+fn are_same(old: &Option<Value>, new: &Option<Value>) -> bool
+    ensures { IsTrue result → option_map value_view old.now ≡ option_map value_view new.now }
+{
+    match new {
+        Some(new) => is_value(old, new),
+        None => old.is_none(),
     }
 }
 

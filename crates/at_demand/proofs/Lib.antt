@@ -31,3 +31,4 @@ mod Fitting
 mod Putting
 pub mod Chained
 mod of_nesting
+pub mod of_traces

@@ -1,5 +1,5 @@
 -- Instances that are evaluated within the one that asks, in one go: what they are told, and what comes to what is kept.
-use Rattle.std.specs.Prelude.{◌≡◌, ◌⊎◌, ⊤, ℕ, Bool, not, List, ◌++◌, Option, Some, None, IsSome, IsTrue}
+use Rattle.std.specs.Prelude.{◌≡◌, ◌⊎◌, ⊤, ℕ, Bool, true, false, not, List, ◌++◌, Option, Some, None, IsSome, IsTrue, Contains}
 use Rattle.std.specs.Map.{lookup}
 use Rattle.std.specs.Option.{option_map}
 use Rattle.at_model.specs.Run.{Value, Instance, Location, Contents, Known}
@@ -28,12 +28,14 @@ remembered found i = option_map value_view (lookup (same_instance i) found)
 abbrev pub known_by : Entries → List (Instance ℕ × ValueCode) → Known ℕ
 known_by entries found i = elim (kept_values entries i) [ Some v ↦ Some v | None ↦ remembered found i ]
 
--- What is kept and what is remembered holds, and all of it has entries; one without a value is of an attribute that isn't lazy.
+-- What is kept and what is remembered holds, and all of it has entries; one without a value is of an attribute that isn't lazy, and so
+-- is what is remembered.
 pub record AreKnown (rules : Rules) (look : Contents ℕ) (entries : Entries) (found : List (Instance ℕ × ValueCode)) : Type 0 where
   pub right : Right look (meaning rules) (kept_values entries)
   pub plain : ArePlain rules entries
   pub finds : Right look (meaning rules) (remembered found)
   pub stands : (i : Instance ℕ) (v : Value ℕ) → remembered found i ≡ Some v → IsSome (entries i)
+  pub inner : (i : Instance ℕ) (v : Value ℕ) → remembered found i ≡ Some v → is_lazy rules i.attribute ≡ false
 
 -- what is remembered stays so
 abbrev pub StayRemembered : (old new : List (Instance ℕ × ValueCode)) → Type 0
@@ -71,6 +73,10 @@ pub record Gains (rules : Rules) (s : Shown) (exact : Bool) (i : Instance ℕ) (
   pub stays : IsThere s i → AreRight rules s old → AreRight rules s new
   pub spare : IsTrue exact → AreSpare rules (contents s) old → AreSpare rules (contents s) new
   pub counts : IsTrue exact → Counts old new work later
+
+-- each of the instances is of a lazy attribute
+abbrev pub AreLazy : Rules → List (Instance ℕ) → Type 0
+AreLazy rules us = (u : Instance ℕ) → Contains us u → is_lazy rules u.attribute ≡ true
 
 -- there is none, or it is one of these
 abbrev pub IsOneOf : (a b : Option (Value ℕ)) → Option ValueCode → Type 0

@@ -18,3 +18,4 @@ pub mod KeptTrials
 pub mod Answered
 pub mod Keeping
 pub mod Inner
+pub mod Traces

@@ -21,8 +21,11 @@ ghost use Rattle.at_demand.specs.UnderWay.{HasStepped, IsOrderlyIn};
 ghost use Rattle.at_demand.specs.Typing.{AreTypedWaiting, IsTypedIn};
 ghost use Rattle.at_model.specs.Rules.{is_lazy};
 ghost use Rattle.at_demand.specs.Sparing.{AreSpare, Counts, HasWorthy};
-ghost use Rattle.at_demand.specs.Inner.{Gains};
+ghost use Rattle.at_demand.specs.Inner.{AreKnown, Gains};
 ghost use Rattle.at_demand.specs.Stacked.{IsStackedIn};
+ghost use Rattle.at_demand.specs.Right.{IsThere};
+ghost use Rattle.at_demand.specs.Traces.{AreJustified, AreOfTree, StayJustified};
+ghost use Rattle.at_cache.specs.Traced.{FlushesTraces, StayTraced};
 
 mod shared;
 mod turning;
@@ -32,7 +35,7 @@ use crate::direct::{Direct, Stop};
 use crate::evaluation::{Advance, Evaluation, Find};
 use crate::sharing::Sharing;
 use at_body::{Inst, Step, Value};
-use at_cache::{Keeper, Put};
+use at_cache::{Keeper, Order, Put};
 use at_rules::Rules;
 use at_store::{Loc, Places, Store};
 use indexmap::IndexMap;
@@ -77,8 +80,11 @@ impl<K: Keeper> Demand<K> {
         requires typed { IsWellTyped rules.now (class_shown store.now) AnyText inst.now }
         requires right { Right (contents store.now) (meaning rules.now) (kept_values (K.contents self.old.keeper)) }
         requires plain { ArePlain rules.now (K.contents self.old.keeper) }
-        ensures { HasAnswered rules.now store.now K.exact (K.contents self.old.keeper) (K.contents self.new.keeper)
+        requires justified { AreJustified rules.now (contents store.now) (K.memories self.old.keeper) }
+        ensures answered { HasAnswered rules.now store.now K.exact (K.contents self.old.keeper) (K.contents self.new.keeper)
             self.old.work self.new.work inst.now result }
+        ensures justified { AreJustified rules.now (contents store.now) (K.memories self.new.keeper) }
+        ensures there { IsThere store.now inst.now → AreOfTree store.now (K.memories self.old.keeper) → AreOfTree store.now (K.memories self.new.keeper) }
     {
         if let Some(value) = self.keeper.get(inst) {
             return Ok(Answer::Value(value.copy()?));
@@ -100,8 +106,10 @@ impl<K: Keeper> Demand<K> {
         requires typed { IsWellTyped rules.now (class_shown store.now) AnyText inst.now }
         requires right { Right (contents store.now) (meaning rules.now) (kept_values (K.contents self.old.keeper)) }
         requires plain { ArePlain rules.now (K.contents self.old.keeper) }
-        ensures { HasAnswered rules.now store.now K.exact (K.contents self.old.keeper) (K.contents self.new.keeper)
+        requires justified { AreJustified rules.now (contents store.now) (K.memories self.old.keeper) }
+        ensures answered { HasAnswered rules.now store.now K.exact (K.contents self.old.keeper) (K.contents self.new.keeper)
             self.old.work self.new.work inst.now result }
+        ensures traces { StayJustified rules.now store.now inst.now (K.memories self.old.keeper) (K.memories self.new.keeper) }
     {
         let at_once = self.answer_at_once(rules, store, inst)?;
         match at_once {
@@ -121,12 +129,13 @@ impl<K: Keeper> Demand<K> {
         requires formed { AreWellFormed rules.now }
         requires sound { IsTreeSound rules.now.classes (tree store.now) }
         requires typed { IsWellTyped rules.now (class_shown store.now) AnyText inst.now }
-        requires right { Right (contents store.now) (meaning rules.now) (kept_values (K.contents self.old.keeper)) }
-        requires plain { ArePlain rules.now (K.contents self.old.keeper) }
+        requires known { AreKnown rules.now (contents store.now) (K.contents self.old.keeper) [] }
+        requires justified { AreJustified rules.now (contents store.now) (K.memories self.old.keeper) }
         ensures value { IfOk result (λ o. IfSome o (λ v. HasValue (contents store.now) (meaning rules.now) inst.now (value_view v))) }
         ensures all { IsTrue K.exact → AreSpare rules.now (contents store.now) (K.contents self.old.keeper)
             → IfOk result (λ o. IfSome o (λ v. HasWorthy rules.now (contents store.now) inst.now (K.contents self.new.keeper))) }
         ensures gains { Gains rules.now store.now K.exact inst.now (K.contents self.old.keeper) (K.contents self.new.keeper) [] [] self.old.work self.new.work }
+        ensures traces { StayJustified rules.now store.now inst.now (K.memories self.old.keeper) (K.memories self.new.keeper) }
     {
         let mut direct = Direct::new(self.alloc, self.work);
         let told = direct.answer(&mut self.keeper, rules, store, inst);
@@ -151,8 +160,9 @@ impl<K: Keeper> Demand<K> {
         requires typed { IsWellTyped rules.now (class_shown store.now) AnyText inst.now }
         requires right { Right (contents store.now) (meaning rules.now) (kept_values (K.contents self.old.keeper)) }
         requires plain { ArePlain rules.now (K.contents self.old.keeper) }
-        ensures { HasAnswered rules.now store.now K.exact (K.contents self.old.keeper) (K.contents self.new.keeper)
+        ensures answered { HasAnswered rules.now store.now K.exact (K.contents self.old.keeper) (K.contents self.new.keeper)
             self.old.work self.new.work inst.now result }
+        ensures traces { StayTraced (K.memories self.old.keeper) (K.memories self.new.keeper) }
     {
         if let Some(value) = self.keeper.get(inst) {
             return Ok(Answer::Value(value.copy()?));
@@ -170,8 +180,9 @@ impl<K: Keeper> Demand<K> {
         requires right { Right (contents store.now) (meaning rules.now) (kept_values (K.contents self.old.keeper)) }
         requires plain { ArePlain rules.now (K.contents self.old.keeper) }
         requires unkept { kept_values (K.contents self.old.keeper) inst.now ≡ None }
-        ensures { HasAnswered rules.now store.now K.exact (K.contents self.old.keeper) (K.contents self.new.keeper)
+        ensures answered { HasAnswered rules.now store.now K.exact (K.contents self.old.keeper) (K.contents self.new.keeper)
             self.old.work self.new.work inst.now result }
+        ensures traces { StayTraced (K.memories self.old.keeper) (K.memories self.new.keeper) }
     {
         self.sharing.clear();
         let begun = Evaluation::new(self.alloc, rules, store, inst.copy(self.alloc)?)?;
@@ -193,6 +204,7 @@ impl<K: Keeper> Demand<K> {
         requires { F.IsAlwaysCallable touched.now }
         ensures leaves { LeavesUntouched (Says (F.post touched.now)) (K.contents self.old.keeper) (K.contents self.new.keeper) }
         ensures loses { IsTrue K.exact → LosesTouched (Says (F.post touched.now)) (K.contents self.old.keeper) (K.contents self.new.keeper) }
+        ensures traces { FlushesTraces (Says (F.post touched.now)) (K.memories self.old.keeper) (K.memories self.new.keeper) }
         ensures work { self.new.work ≡ self.old.work }
     {
         self.keeper.flush(touched);
@@ -204,6 +216,7 @@ impl<K: Keeper> Demand<K> {
         requires named { AreNamed places.now (F.post touched.now) }
         ensures leaves { LeavesUntouched (Says (F.post touched.now)) (K.contents self.old.keeper) (K.contents self.new.keeper) }
         ensures loses { IsTrue K.exact → LosesTouched (Says (F.post touched.now)) (K.contents self.old.keeper) (K.contents self.new.keeper) }
+        ensures traces { FlushesTraces (Says (F.post touched.now)) (K.memories self.old.keeper) (K.memories self.new.keeper) }
         ensures work { self.new.work ≡ self.old.work }
     {
         self.keeper.flush_at(places, touched);
@@ -234,8 +247,9 @@ impl<K: Keeper> Demand<K> {
         requires orderly { IsOrderlyIn (K.contents self.old.keeper) evaluation.old }
         requires stacked { IsStackedIn evaluation.old }
         requires plain { ArePlain rules.now (K.contents self.old.keeper) }
-        ensures { HasAdvanced rules.now store.now K.exact (K.contents self.old.keeper) (K.contents self.new.keeper)
+        ensures advanced { HasAdvanced rules.now store.now K.exact (K.contents self.old.keeper) (K.contents self.new.keeper)
             self.old.work self.new.work evaluation.old step evaluation.new result }
+        ensures traces { StayTraced (K.memories self.old.keeper) (K.memories self.new.keeper) }
     {
         let step = evaluation.frame.go_on(
             self.alloc,
@@ -295,8 +309,9 @@ impl<K: Keeper> Demand<K> {
         requires orderly { IsOrderlyIn (K.contents self.old.keeper) evaluation.old }
         requires stacked { IsStackedIn evaluation.old }
         requires plain { ArePlain rules.now (K.contents self.old.keeper) }
-        ensures { HasAdvanced rules.now store.now K.exact (K.contents self.old.keeper) (K.contents self.new.keeper)
+        ensures advanced { HasAdvanced rules.now store.now K.exact (K.contents self.old.keeper) (K.contents self.new.keeper)
             self.old.work self.new.work evaluation.old (step_code.Value value) evaluation.new result }
+        ensures traces { StayTraced (K.memories self.old.keeper) (K.memories self.new.keeper) }
     {
         if rules.is_lazy(evaluation.inst.attribute()) {
             return self.settle_lazy(rules, store, evaluation, value);
@@ -323,8 +338,9 @@ impl<K: Keeper> Demand<K> {
         requires orderly { IsOrderlyIn (K.contents self.old.keeper) evaluation.old }
         requires stacked { IsStackedIn evaluation.old }
         requires plain { ArePlain rules.now (K.contents self.old.keeper) }
-        ensures { HasAdvanced rules.now store.now K.exact (K.contents self.old.keeper) (K.contents self.new.keeper)
+        ensures advanced { HasAdvanced rules.now store.now K.exact (K.contents self.old.keeper) (K.contents self.new.keeper)
             self.old.work self.new.work evaluation.old (step_code.Value value) evaluation.new result }
+        ensures traces { StayTraced (K.memories self.old.keeper) (K.memories self.new.keeper) }
     {
         let find = evaluation.frame.take_find(self.alloc, value);
         let put = self.keep_lazy(rules, &evaluation.found, &evaluation.inst, &find)?;
@@ -350,8 +366,9 @@ impl<K: Keeper> Demand<K> {
         requires kept { AreValued (K.contents self.old.keeper) find.now.demanded.kept.items }
         requires found { FoundKept (K.contents self.old.keeper) found.now.entries }
         requires plain { ArePlain rules.now (K.contents self.old.keeper) }
-        ensures { KeepsWhereLazy rules.now K.exact (K.contents self.old.keeper) (K.contents self.new.keeper) self.old.work self.new.work
+        ensures keeps { KeepsWhereLazy rules.now K.exact (K.contents self.old.keeper) (K.contents self.new.keeper) self.old.work self.new.work
             found.now.entries inst.now find.now result }
+        ensures traces { StayTraced (K.memories self.old.keeper) (K.memories self.new.keeper) }
     {
         if !rules.is_lazy(inst.attribute()) {
             return Ok(Put::Left);
@@ -373,8 +390,9 @@ impl<K: Keeper> Demand<K> {
         requires kept { AreValued (K.contents self.old.keeper) find.now.demanded.kept.items }
         requires found { FoundKept (K.contents self.old.keeper) found.now.entries }
         requires plain { ArePlain rules.now (K.contents self.old.keeper) }
-        ensures { KeepsWhereLazy rules.now K.exact (K.contents self.old.keeper) (K.contents self.new.keeper) self.old.work self.new.work
+        ensures keeps { KeepsWhereLazy rules.now K.exact (K.contents self.old.keeper) (K.contents self.new.keeper) self.old.work self.new.work
             found.now.entries inst.now find.now result }
+        ensures traces { StayTraced (K.memories self.old.keeper) (K.memories self.new.keeper) }
     {
         // Where no other find stands below it, it rests on its own reads and what it took of what is kept.
         if find.demanded.finds.is_empty() {
@@ -402,6 +420,7 @@ impl<K: Keeper> Demand<K> {
             (K.contents self.new.keeper)) }
         ensures err { OnErr result (Shares rules.now K.exact found.now.entries (K.contents self.old.keeper) (K.contents self.new.keeper)) }
         ensures counts { IsTrue K.exact → Counts (K.contents self.old.keeper) (K.contents self.new.keeper) self.old.work self.new.work }
+        ensures traces { StayTraced (K.memories self.old.keeper) (K.memories self.new.keeper) }
     {
         let sources = self.gather(rules, found, find)?;
         let put = self.put(
@@ -428,10 +447,15 @@ impl<K: Keeper> Demand<K> {
             uses.now (K.contents self.new.keeper)) }
         ensures err { OnErr result (KeepsAll (K.contents self.old.keeper) (K.contents self.new.keeper)) }
         ensures counts { IsTrue K.exact → Counts (K.contents self.old.keeper) (K.contents self.new.keeper) self.old.work self.new.work }
+        ensures traces { StayTraced (K.memories self.old.keeper) (K.memories self.new.keeper) }
     {
-        let put = self
-            .keeper
-            .put(inst.copy(self.alloc)?, Some(value.copy()?), reads, uses)?;
+        let put = self.keeper.put(
+            inst.copy(self.alloc)?,
+            Some(value.copy()?),
+            reads,
+            uses,
+            Order::Any,
+        )?;
         self.work = self.work.saturating_add(1);
         Ok(put)
     }

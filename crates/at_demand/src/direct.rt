@@ -1,10 +1,11 @@
 //! Evaluation in one go: an instance is evaluated with all that it demands, by recursion, which comes to its value or gives up. What
-//! isn't lazy is evaluated in the one that asks, and each lazy one is kept at its end.
+//! isn't lazy is evaluated in the one that asks, and each lazy one is kept at its end; before it is evaluated it is kept again, if the
+//! keeper can do that without.
 
-ghost use Rattle.std.specs.Prelude.{◌≡◌, ◌<◌, ◌^◌, [], IfOk, IsSome, OnErr, OnOk, IsTrue, None, Some, false, true};
+ghost use Rattle.std.specs.Prelude.{◌≡◌, ◌<◌, ◌^◌, [], IfOk, IfSome, IsSome, OnErr, OnOk, IsTrue, None, Some, false, true};
 ghost use Rattle.std.specs.Option.{option_map};
 ghost use Rattle.at_model.specs.Instances.{AnyText};
-ghost use Rattle.at_model.specs.Meaning.{HasValue};
+ghost use Rattle.at_model.specs.Meaning.{HasValue, Leads};
 ghost use Rattle.at_model.specs.Rules.{is_lazy};
 ghost use Rattle.at_model.specs.TypedRuns.{IsWellTyped};
 ghost use Rattle.at_model.specs.WellFormed.{AreWellFormed, IsTreeSound};
@@ -14,12 +15,15 @@ ghost use Rattle.at_body.specs.Values.{value_view};
 ghost use Rattle.at_body.specs.Same.{same_instance};
 ghost use Rattle.indexmap.specs.IndexMap.{insert_entry};
 ghost use Rattle.at_cache.specs.Kept.{AreKept, HasPut, KeepsAll};
+ghost use Rattle.at_cache.specs.Traced.{PutsTrace};
+ghost use Rattle.at_cache.specs.declared.keeper.Order.TheVariants as order_code;
 ghost use Rattle.at_demand.specs.Known.{kept_values, meaning};
-ghost use Rattle.at_demand.specs.Inner.{AreKnown, Gains, HasRecalled, HasTold, IsEvaluated, IsOneOf, known_by, remembered};
+ghost use Rattle.at_demand.specs.Inner.{AreKnown, AreLazy, Gains, HasRecalled, HasTold, IsEvaluated, IsOneOf, known_by, remembered};
 ghost use Rattle.at_demand.specs.Sparing.{AreSpare, Counts, HasWorthy};
+ghost use Rattle.at_demand.specs.Traces.{AreJustified, StayJustified};
 
 use at_body::{Inst, Step, Trial, Value};
-use at_cache::{Keeper, Put};
+use at_cache::{Keeper, Order, Put};
 use at_rules::{AttrId, Rules};
 use at_store::{Loc, Store};
 use indexmap::IndexMap;
@@ -31,6 +35,12 @@ const DEPTH: usize = 400;
 // An instance that isn't lazy is evaluated again at each demand where that looks at no more locations than that, and goes over no more elements.
 // The value of another one is remembered, and what it rests on stands once.
 const FEW: usize = 16;
+
+// The same where the keeper traces: no trace is made of what takes a remembered value, so it would be evaluated anew after each edit.
+const FEW_TRACED: usize = 64;
+
+// How many instances are evaluated at most, one behind the other, so that one which used them may be kept again.
+const IN_THE_WAY: usize = 16;
 
 // Why an evaluation in one go comes to no value: memory is wanting, or it gives up.
 #[derive(Clone, Copy)]
@@ -117,11 +127,13 @@ impl<'a> Direct<'a> {
         requires sound { IsTreeSound rules.now.classes (tree store.now) }
         requires typed { IsWellTyped rules.now (class_shown store.now) AnyText inst.now }
         requires known { AreKnown rules.now (contents store.now) (K.contents keeper.old) self.old.found.entries }
+        requires justified { AreJustified rules.now (contents store.now) (K.memories keeper.old) }
         ensures value { IfOk result (λ v. HasValue (contents store.now) (meaning rules.now) inst.now (value_view v)) }
         ensures all { IsTrue K.exact → AreSpare rules.now (contents store.now) (K.contents keeper.old)
             → IfOk result (λ v. HasWorthy rules.now (contents store.now) inst.now (K.contents keeper.new)) }
         ensures gains { Gains rules.now store.now K.exact inst.now (K.contents keeper.old) (K.contents keeper.new) self.old.found.entries
             self.new.found.entries self.old.work self.new.work }
+        ensures traces { StayJustified rules.now store.now inst.now (K.memories keeper.old) (K.memories keeper.new) }
     {
         let mut asks = self.level();
         let needed = inst.copy(self.alloc)?;
@@ -142,7 +154,7 @@ impl<'a> Direct<'a> {
         }
     }
 
-    // The value of an instance that an evaluation demands, which is known, or is evaluated at once.
+    // The value of an instance that an evaluation demands: it is known, or can be verified, or is evaluated at once.
     #[cycle(direct)]
     fn told<K: Keeper>(
         &mut self,
@@ -158,16 +170,132 @@ impl<'a> Direct<'a> {
         requires sound { IsTreeSound rules.now.classes (tree store.now) }
         requires typed { IsWellTyped rules.now (class_shown store.now) AnyText needed }
         requires known { AreKnown rules.now (contents store.now) (K.contents keeper.old) self.old.found.entries }
+        requires justified { AreJustified rules.now (contents store.now) (K.memories keeper.old) }
         ensures told { IfOk result (λ v. HasTold rules.now (contents store.now) (known_by (K.contents keeper.new) self.new.found.entries)
             level.old level.new needed (value_view v)) }
         ensures gains { Gains rules.now store.now K.exact needed (K.contents keeper.old) (K.contents keeper.new) self.old.found.entries
             self.new.found.entries self.old.work self.new.work }
+        ensures traces { StayJustified rules.now store.now needed (K.memories keeper.old) (K.memories keeper.new) }
     {
         let recalled = self.recall(keeper, rules, store, level, &needed)?;
-        match recalled {
+        if let Some(value) = recalled {
+            return Ok(value);
+        }
+        let verified = self.verify(keeper, rules, store, level, &needed, above)?;
+        match verified {
             Some(value) => Ok(value),
             None => self.within(keeper, rules, store, level, needed, above),
         }
+    }
+
+    // The value of an instance that isn't known, where it is lazy and can be kept again; it is taken then. What stands in the way is
+    // evaluated first, one behind the other, as long as these are few.
+    #[cycle(direct)]
+    fn verify<K: Keeper>(
+        &mut self,
+        keeper: &mut K,
+        rules: &'a Rules,
+        store: &'a Store,
+        level: &mut Level<'a>,
+        needed: &Inst,
+        above: usize,
+    ) -> Result<Option<Value>, Stop>
+        requires idle { IsIdle store.now }
+        requires formed { AreWellFormed rules.now }
+        requires sound { IsTreeSound rules.now.classes (tree store.now) }
+        requires typed { IsWellTyped rules.now (class_shown store.now) AnyText needed.now }
+        requires known { AreKnown rules.now (contents store.now) (K.contents keeper.old) self.old.found.entries }
+        requires justified { AreJustified rules.now (contents store.now) (K.memories keeper.old) }
+        ensures recalled { IfOk result (HasRecalled rules.now (contents store.now) (known_by (K.contents keeper.new) self.new.found.entries)
+            level.old level.new needed.now) }
+        ensures gains { Gains rules.now store.now K.exact needed.now (K.contents keeper.old) (K.contents keeper.new) self.old.found.entries
+            self.new.found.entries self.old.work self.new.work }
+        ensures traces { StayJustified rules.now store.now needed.now (K.memories keeper.old) (K.memories keeper.new) }
+    {
+        if !rules.is_lazy(needed.attribute()) {
+            return Ok(None);
+        }
+        for _ in 0..IN_THE_WAY {
+            let again = self.keep_again(keeper, rules, store, level, needed)?;
+            if let Some(value) = again {
+                return Ok(Some(value));
+            }
+            let Some(other) = self.in_the_way(keeper, rules, store, needed)? else {
+                return Ok(None);
+            };
+            let mut aside = self.level();
+            self.within(keeper, rules, store, &mut aside, other, above)?;
+            self.spare.push(aside)?;
+        }
+        Ok(None)
+    }
+
+    // What stands in the way of keeping the instance again; it leads to that.
+    fn in_the_way<K: Keeper>(
+        &self,
+        keeper: &K,
+        _rules: &Rules,
+        _store: &Store,
+        needed: &Inst,
+    ) -> Result<Option<Inst>, AllocError>
+        requires idle { IsIdle _store.now }
+        requires formed { AreWellFormed _rules.now }
+        requires sound { IsTreeSound _rules.now.classes (tree _store.now) }
+        requires typed { IsWellTyped _rules.now (class_shown _store.now) AnyText needed.now }
+        requires known { AreKnown _rules.now (contents _store.now) (K.contents keeper.now) self.now.found.entries }
+        requires justified { AreJustified _rules.now (contents _store.now) (K.memories keeper.now) }
+        ensures led { IfOk result (λ o. IfSome o (Leads (contents _store.now) (meaning _rules.now) needed.now)) }
+        ensures typed { IfOk result (λ o. IfSome o (IsWellTyped _rules.now (class_shown _store.now) AnyText)) }
+    {
+        match keeper.blocker(needed) {
+            Some(other) => Ok(Some(other.copy(self.alloc)?)),
+            None => Ok(None),
+        }
+    }
+
+    // The value of an instance that isn't known, where it can be kept again with no evaluation; it is taken then.
+    fn keep_again<K: Keeper>(
+        &mut self,
+        keeper: &mut K,
+        rules: &Rules,
+        store: &Store,
+        level: &mut Level<'a>,
+        needed: &Inst,
+    ) -> Result<Option<Value>, AllocError>
+        requires idle { IsIdle store.now }
+        requires known { AreKnown rules.now (contents store.now) (K.contents keeper.old) self.old.found.entries }
+        requires justified { AreJustified rules.now (contents store.now) (K.memories keeper.old) }
+        ensures recalled { IfOk result (HasRecalled rules.now (contents store.now) (known_by (K.contents keeper.new) self.new.found.entries)
+            level.old level.new needed.now) }
+        ensures gains { Gains rules.now store.now K.exact needed.now (K.contents keeper.old) (K.contents keeper.new) self.old.found.entries
+            self.new.found.entries self.old.work self.new.work }
+        ensures traces { StayJustified rules.now store.now needed.now (K.memories keeper.old) (K.memories keeper.new) }
+    {
+        if !self.have_settled(keeper, rules, store, needed) {
+            return Ok(None);
+        }
+        self.recall(keeper, rules, store, level, needed)
+    }
+
+    // Whether anything was kept again for the instance, which is counted.
+    fn have_settled<K: Keeper>(
+        &mut self,
+        keeper: &mut K,
+        rules: &Rules,
+        store: &Store,
+        needed: &Inst,
+    ) -> bool
+        requires idle { IsIdle store.now }
+        requires known { AreKnown rules.now (contents store.now) (K.contents keeper.old) self.old.found.entries }
+        requires justified { AreJustified rules.now (contents store.now) (K.memories keeper.old) }
+        ensures gains { Gains rules.now store.now K.exact needed.now (K.contents keeper.old) (K.contents keeper.new) self.old.found.entries
+            self.new.found.entries self.old.work self.new.work }
+        ensures traces { StayJustified rules.now store.now needed.now (K.memories keeper.old) (K.memories keeper.new) }
+    {
+        let before = self.work;
+        let later = keeper.settle(needed, before);
+        self.work = later;
+        before < later
     }
 
     // The known value of an instance, which is taken then.
@@ -232,10 +360,12 @@ impl<'a> Direct<'a> {
         requires sound { IsTreeSound rules.now.classes (tree store.now) }
         requires typed { IsWellTyped rules.now (class_shown store.now) AnyText needed }
         requires known { AreKnown rules.now (contents store.now) (K.contents keeper.old) self.old.found.entries }
+        requires justified { AreJustified rules.now (contents store.now) (K.memories keeper.old) }
         ensures told { IfOk result (λ v. HasTold rules.now (contents store.now) (known_by (K.contents keeper.new) self.new.found.entries)
             level.old level.new needed (value_view v)) }
         ensures gains { Gains rules.now store.now K.exact needed (K.contents keeper.old) (K.contents keeper.new) self.old.found.entries
             self.new.found.entries self.old.work self.new.work }
+        ensures traces { StayJustified rules.now store.now needed (K.memories keeper.old) (K.memories keeper.new) }
     {
         if above == 0 {
             return Err(Stop::GivesUp);
@@ -263,10 +393,12 @@ impl<'a> Direct<'a> {
         requires sound { IsTreeSound rules.now.classes (tree store.now) }
         requires typed { IsWellTyped rules.now (class_shown store.now) AnyText inst.now }
         requires known { AreKnown rules.now (contents store.now) (K.contents keeper.old) self.old.found.entries }
+        requires justified { AreJustified rules.now (contents store.now) (K.memories keeper.old) }
         ensures come { IfOk result (λ v. IsEvaluated rules.now (contents store.now) (known_by (K.contents keeper.new) self.new.found.entries)
             inst.now (value_view v) level.new.trial.reads level.new.uses.items) }
         ensures gains { Gains rules.now store.now K.exact inst.now (K.contents keeper.old) (K.contents keeper.new) self.old.found.entries
             self.new.found.entries self.old.work self.new.work }
+        ensures traces { StayJustified rules.now store.now inst.now (K.memories keeper.old) (K.memories keeper.new) }
     {
         level.uses.clear();
         let mut step = level.trial.restart(self.alloc, rules, store, inst)?;
@@ -296,17 +428,19 @@ impl<'a> Direct<'a> {
     ) -> Result<(), Stop>
         requires idle { IsIdle store.now }
         requires known { AreKnown rules.now (contents store.now) (K.contents keeper.old) self.old.found.entries }
+        requires justified { AreJustified rules.now (contents store.now) (K.memories keeper.old) }
         requires come { IsEvaluated rules.now (contents store.now) (known_by (K.contents keeper.old) self.old.found.entries) needed
             (value_view value.now) below.old.trial.reads below.old.uses.items }
         ensures told { OnOk result (HasTold rules.now (contents store.now) (known_by (K.contents keeper.new) self.new.found.entries) level.old
             level.new needed (value_view value.now)) }
         ensures gains { Gains rules.now store.now K.exact needed (K.contents keeper.old) (K.contents keeper.new) self.old.found.entries
             self.new.found.entries self.old.work self.new.work }
+        ensures traces { StayJustified rules.now store.now needed (K.memories keeper.old) (K.memories keeper.new) }
     {
         if rules.is_lazy(needed.attribute()) {
             return self.keep(keeper, rules, store, level, below, needed, value);
         }
-        if !is_small(store, below.trial.reads().as_slice()) {
+        if !is_small(store, below.trial.reads().as_slice(), few_of(keeper)) {
             return self.remember(keeper, rules, store, level, below, needed, value);
         }
         level.trial.note(below.trial.reads())?;
@@ -325,19 +459,23 @@ impl<'a> Direct<'a> {
         needed: Inst,
         value: &Value,
     ) -> Result<(), Stop>
+        requires idle { IsIdle store.now }
         requires lazy { is_lazy rules.now needed.attribute ≡ true }
         requires known { AreKnown rules.now (contents store.now) (K.contents keeper.old) self.old.found.entries }
+        requires justified { AreJustified rules.now (contents store.now) (K.memories keeper.old) }
         requires come { IsEvaluated rules.now (contents store.now) (known_by (K.contents keeper.old) self.old.found.entries) needed
             (value_view value.now) below.now.trial.reads below.now.uses.items }
         ensures told { OnOk result (HasTold rules.now (contents store.now) (known_by (K.contents keeper.new) self.new.found.entries) level.old
             level.new needed (value_view value.now)) }
         ensures gains { Gains rules.now store.now K.exact needed (K.contents keeper.old) (K.contents keeper.new) self.old.found.entries
             self.new.found.entries self.old.work self.new.work }
+        ensures traces { StayJustified rules.now store.now needed (K.memories keeper.old) (K.memories keeper.new) }
     {
         if keeper.stands(&needed) {
             return Err(Stop::GivesUp);
         }
-        let put = self.put(keeper, &needed, value, below)?;
+        let order = order_of(rules, below.uses.as_slice());
+        let put = self.put(keeper, &needed, value, below, order)?;
         match put {
             Put::Kept => {
                 level.uses.push(needed)?;
@@ -354,6 +492,7 @@ impl<'a> Direct<'a> {
         inst: &Inst,
         value: &Value,
         level: &Level<'a>,
+        order: Order,
     ) -> Result<Put, AllocError>
         requires absent { K.contents keeper.old inst.now ≡ None }
         requires present { AreKept (K.contents keeper.old) level.now.uses.items }
@@ -362,10 +501,18 @@ impl<'a> Direct<'a> {
         ensures err { OnErr result (KeepsAll (K.contents keeper.old) (K.contents keeper.new)) }
         ensures counts { IsTrue K.exact → Counts (K.contents keeper.old) (K.contents keeper.new) self.old.work self.new.work }
         ensures found { self.new.found.entries ≡ self.old.found.entries }
+        ensures traces { PutsTrace inst.now (Some (value_view value.now)) level.now.trial.reads level.now.uses.items order
+            (K.memories keeper.old) (K.memories keeper.new) }
     {
         let reads = level.trial.reads().as_slice();
         let uses = level.uses.as_slice();
-        let put = keeper.put(inst.copy(self.alloc)?, Some(value.copy()?), reads, uses)?;
+        let put = keeper.put(
+            inst.copy(self.alloc)?,
+            Some(value.copy()?),
+            reads,
+            uses,
+            order,
+        )?;
         self.work = self.work.saturating_add(1);
         Ok(put)
     }
@@ -381,14 +528,17 @@ impl<'a> Direct<'a> {
         needed: Inst,
         value: &Value,
     ) -> Result<(), Stop>
+        requires idle { IsIdle store.now }
         requires lazy { is_lazy rules.now needed.attribute ≡ false }
         requires known { AreKnown rules.now (contents store.now) (K.contents keeper.old) self.old.found.entries }
+        requires justified { AreJustified rules.now (contents store.now) (K.memories keeper.old) }
         requires come { IsEvaluated rules.now (contents store.now) (known_by (K.contents keeper.old) self.old.found.entries) needed
             (value_view value.now) below.now.trial.reads below.now.uses.items }
         ensures told { OnOk result (HasTold rules.now (contents store.now) (known_by (K.contents keeper.new) self.new.found.entries) level.old
             level.new needed (value_view value.now)) }
         ensures gains { Gains rules.now store.now K.exact needed (K.contents keeper.old) (K.contents keeper.new) self.old.found.entries
             self.new.found.entries self.old.work self.new.work }
+        ensures traces { StayJustified rules.now store.now needed (K.memories keeper.old) (K.memories keeper.new) }
     {
         self.stand(keeper, rules, store, &needed, value, below)?;
         self.see(needed.attribute())?;
@@ -407,21 +557,24 @@ impl<'a> Direct<'a> {
         value: &Value,
         below: &Level<'a>,
     ) -> Result<(), Stop>
+        requires idle { IsIdle store.now }
         requires lazy { is_lazy rules.now needed.now.attribute ≡ false }
         requires known { AreKnown rules.now (contents store.now) (K.contents keeper.old) self.old.found.entries }
+        requires justified { AreJustified rules.now (contents store.now) (K.memories keeper.old) }
         requires come { IsEvaluated rules.now (contents store.now) (known_by (K.contents keeper.old) self.old.found.entries) needed.now
             (value_view value.now) below.now.trial.reads below.now.uses.items }
         ensures stands { OnOk result (IsSome (K.contents keeper.new needed.now)) }
         ensures found { self.new.found.entries ≡ self.old.found.entries }
         ensures gains { Gains rules.now store.now K.exact needed.now (K.contents keeper.old) (K.contents keeper.new) self.old.found.entries
             self.new.found.entries self.old.work self.new.work }
+        ensures traces { StayJustified rules.now store.now needed.now (K.memories keeper.old) (K.memories keeper.new) }
     {
         if keeper.stands(needed) {
             return Ok(());
         }
         let reads = below.trial.reads().as_slice();
         let uses = below.uses.as_slice();
-        let put = keeper.put(needed.copy(self.alloc)?, None, reads, uses)?;
+        let put = keeper.put(needed.copy(self.alloc)?, None, reads, uses, Order::Any)?;
         match put {
             Put::Kept => Ok(()),
             Put::Left => Err(Stop::GivesUp),
@@ -444,11 +597,28 @@ impl<'a> Direct<'a> {
     }
 }
 
+// How the uses of an evaluation stand: as they were taken, where all are lazy. The value of another one is known for one question alone.
+fn order_of(rules: &Rules, uses: &[Inst]) -> Order
+    ensures { result ≡ order_code.AsTaken → AreLazy rules.now uses.now }
+{
+    for inst in uses {
+        if !rules.is_lazy(inst.attribute()) {
+            return Order::Any;
+        }
+    }
+    Order::AsTaken
+}
+
+// How many locations, and elements, a small evaluation looks at.
+fn few_of<K: Keeper>(keeper: &K) -> usize {
+    if keeper.is_tracing() { FEW_TRACED } else { FEW }
+}
+
 // Whether an evaluation that looked at these locations, in all, was a small one: a fold goes over the elements of a component that it looked at.
-fn is_small(store: &Store, reads: &[Loc]) -> bool
+fn is_small(store: &Store, reads: &[Loc], few: usize) -> bool
     requires idle { IsIdle store.now }
 {
-    if FEW < reads.len() {
+    if few < reads.len() {
         return false;
     }
     let mut elements = 0_usize;
@@ -457,7 +627,7 @@ fn is_small(store: &Store, reads: &[Loc]) -> bool
             elements = elements.saturating_add(store.children(*node, *part).len());
         }
     }
-    elements <= FEW
+    elements <= few
 }
 
 // A value once more, where there is one.

@@ -17,6 +17,8 @@ ghost use Rattle.at_demand.specs.Spared.{LeavesJust};
 ghost use Rattle.at_demand.specs.Sparing.{AddsWorthy, AreSpare, Counts, HasWorthy};
 ghost use Rattle.at_demand.specs.Called.{KeptBy, Keeps};
 ghost use Rattle.at_demand.specs.Touched.{Touches};
+ghost use Rattle.at_demand.specs.Traces.{AreJustified, AreOfTree, IsRemembered};
+ghost use Rattle.at_cache.specs.Traced.{FlushesTraces, Memories, StayTraced};
 
 /// Over an edit that is done, what is kept stays right where it stands for no location that the edit touches.
 pub fn what_is_kept_stays_right()
@@ -56,4 +58,18 @@ pub fn an_edit_leaves_what_it_does_not_touch()
         → edited rules.classes (tree old) e ≡ Ok t → IsCommitted old e new
         → (before later : Entries) → AreRight rules old before → LeavesJust rules old e before later
         → (state : State) → state.tree ≡ tree old → (work : ℕ) → Keeps rules state (Edits e t) (KeptBy old before) (KeptBy new later) work work }
+{}
+
+/// Over an edit that is done, what can be kept again is right still, where nothing that was looked at for it is touched.
+pub fn what_can_be_kept_again_stays_right()
+    ensures { (rules : Rules) (old new : Shown) (e : Edit) (t : Tree) → IsIdle old → conforms rules.classes (tree old) 0 ≡ true
+        → edited rules.classes (tree old) e ≡ Ok t → IsCommitted old e new
+        → (before later : Memories) → IsRemembered rules old before → FlushesTraces (Touches old e) before later → IsRemembered rules new later }
+{}
+
+/// So it is on the same tree, where each trace was there, over the same last values.
+pub fn what_stays_traced_is_right()
+    ensures justified { (rules : Rules) (s : Shown) (before later : Memories) → StayTraced before later → AreJustified rules (contents s) before
+        → AreJustified rules (contents s) later }
+    ensures there { (s : Shown) (before later : Memories) → StayTraced before later → AreOfTree s before → AreOfTree s later }
 {}

@@ -5,7 +5,8 @@
 //! `Covering` how the locations of an entry come together, `Only` that nothing else does, `Keeping` what becomes of a
 //! find that is to be kept, and which entries without a value come before; `Sparing` what an exact keeper has and how
 //! much comes, `Advancing` what a step comes to and `Answered` a question, `Touched` and `Spared` what an edit leaves,
-//! `Called` the same by paths. `Inner` is what instances are told that are evaluated in one go, and what comes of it. Of questions in turns, `Turns` shows one in the words of `at_model`, `Attempts` is what
+//! `Called` the same by paths. `Inner` is what instances are told that are evaluated in one go, and what comes of it, and `Traces` when what can be
+//! kept again with no evaluation is right. Of questions in turns, `Turns` shows one in the words of `at_model`, `Attempts` is what
 //! one try comes to, `ChainSteps` what that does to the chain, `KeptTrials` the trials that stay while turns follow
 //! each other.
 //!
@@ -34,7 +35,8 @@ pub use answer::Answer;
 pub use demand::Demand;
 pub use laws::{
     a_question_adds_what_is_worth_keeping, an_edit_leaves_what_it_does_not_touch,
-    what_is_kept_spare_is_well_kept, what_is_kept_stays_right, what_is_kept_stays_spare,
+    what_can_be_kept_again_stays_right, what_is_kept_spare_is_well_kept, what_is_kept_stays_right,
+    what_is_kept_stays_spare, what_stays_traced_is_right,
 };
 pub use question::Question;
 pub use turning_laws::{a_question_has_few_turns, a_question_stands_while_more_is_kept};

@@ -3,6 +3,7 @@ use Rattle.std.proofs.Common.{◌≡◌, ◌∙◌, ℕ, ◌+◌, ◌*◌, ◌�
 use Rattle.std.specs.Prelude.{Vec, is_err}
 use Rattle.std.specs.Global.{Global}
 use Rattle.at_cache.specs.Kept.{Entries}
+use Rattle.at_cache.specs.Traced.{Memories}
 use Rattle.at_engine.specs.Ends.{Remembers, SendsOn}
 use Rattle.at_engine.specs.Engines.{state_of, IsSound}
 use Rattle.at_engine.specs.Going.{Goes}
@@ -24,10 +25,11 @@ sent_all : {T E : Type 0} (r : Result T E) (waited waits : Bool) → OnOk r (wai
 sent_all (Ok x) waited waits sent = λ none. sent
 sent_all (Err e) waited waits sent = tt
 
-module _ {K W : Type 0} (exact : Bool) (entries : K → Entries) (failure : W → Option Bool) (waiting : W → Bool) where
+module _ {K W : Type 0} (exact : Bool) (entries : K → Entries) (memories : K → Memories)
+    (failure : W → Option Bool) (waiting : W → Bool) where
   -- nothing was written, and the engine is as it was
-  pub goes_nowhere : {T : Type 0} (e : Engine K) (desk next : Desk) (w : W) (lines : ℕ) (x : T) → IsSound entries e → next.lines ≡ desk.lines → next.memory ≡ desk.memory
-      → Goes exact entries failure waiting e e desk next w w lines (Ok x)
+  pub goes_nowhere : {T : Type 0} (e : Engine K) (desk next : Desk) (w : W) (lines : ℕ) (x : T) → IsSound entries memories e → next.lines ≡ desk.lines → next.memory ≡ desk.memory
+      → Goes exact entries memories failure waiting e e desk next w w lines (Ok x)
   goes_nowhere e desk next w lines x sound same_lines same_memory = record {
     failed = no_call (failure w);
     sent = λ none. none;
@@ -40,8 +42,8 @@ module _ {K W : Type 0} (exact : Bool) (entries : K → Entries) (failure : W �
 
   -- the engine was called, and what that told was written, or could not be
   pub goes_wrote : {T U D : Type 0} {IsDone : T → Type 0} {a : T} (old new : Engine K) (desk next : Desk) (w x : W) (lines : ℕ) (out later : Vec ℕ Global) (result : Result U RunFault)
-      → Calls {E = D} exact entries old new out later IsDone (Ok a) → Remembers (failure w) (failure x) (is_err result) → OnOk result (waiting x ≡ false)
-      → countable next (state_of new) ≤ countable desk (state_of old) + 3 * lines → Goes exact entries failure waiting old new desk next w x lines result
+      → Calls {E = D} exact entries memories old new out later IsDone (Ok a) → Remembers (failure w) (failure x) (is_err result) → OnOk result (waiting x ≡ false)
+      → countable next (state_of new) ≤ countable desk (state_of old) + 3 * lines → Goes exact entries memories failure waiting old new desk next w x lines result
   goes_wrote old new desk next w x lines out later result call failed sent grows = record {
     failed = failed;
     sent = sent_all result (waiting w) (waiting x) sent;
@@ -54,7 +56,7 @@ module _ {K W : Type 0} (exact : Bool) (entries : K → Entries) (failure : W �
 
   -- the same, told by another answer
   pub goes_alike : {T U : Type 0} (old new : Engine K) (desk next : Desk) (w x : W) (lines : ℕ) (r : Result T RunFault) (result : Result U RunFault) → is_err r ≡ is_err result
-      → Goes exact entries failure waiting old new desk next w x lines r → Goes exact entries failure waiting old new desk next w x lines result
+      → Goes exact entries memories failure waiting old new desk next w x lines r → Goes exact entries memories failure waiting old new desk next w x lines result
   goes_alike old new desk next w x lines r result same h = record {
     failed = subst (Remembers (failure w) (failure x)) same h.failed;
     sent = sends_alike r result (waiting w) (waiting x) same h.sent;
@@ -66,8 +68,8 @@ module _ {K W : Type 0} (exact : Bool) (entries : K → Entries) (failure : W �
   }
 
   -- one call after another; between them the desk was changed, but for its counts
-  pub goes_on : {T U : Type 0} (old mid new : Engine K) (desk next same last : Desk) (w x y : W) (m n lines : ℕ) (u : T) (result : Result U RunFault) → Goes exact entries failure waiting old mid desk next w x m (Ok u)
-      → same.lines ≡ next.lines → same.memory ≡ next.memory → m + n ≤ lines → Goes exact entries failure waiting mid new same last x y n result → Goes exact entries failure waiting old new desk last w y lines result
+  pub goes_on : {T U : Type 0} (old mid new : Engine K) (desk next same last : Desk) (w x y : W) (m n lines : ℕ) (u : T) (result : Result U RunFault) → Goes exact entries memories failure waiting old mid desk next w x m (Ok u)
+      → same.lines ≡ next.lines → same.memory ≡ next.memory → m + n ≤ lines → Goes exact entries memories failure waiting mid new same last x y n result → Goes exact entries memories failure waiting old new desk last w y lines result
   goes_on old mid new desk next same last w x y m n lines u result first same_lines same_memory few second = record {
     failed = then_calls (failure w) (failure x) (failure y) (is_err result) first.failed second.failed;
     sent = sends_later result (waiting w) (waiting x) (waiting y) first.sent second.sent;
@@ -79,6 +81,6 @@ module _ {K W : Type 0} (exact : Bool) (entries : K → Entries) (failure : W �
   }
 
   -- no more lines were counted than so many more
-  pub goes_more : {T : Type 0} (old new : Engine K) (desk next : Desk) (w x : W) (m n : ℕ) (result : Result T RunFault) → m ≤ n → Goes exact entries failure waiting old new desk next w x m result
-      → Goes exact entries failure waiting old new desk next w x n result
+  pub goes_more : {T : Type 0} (old new : Engine K) (desk next : Desk) (w x : W) (m n : ℕ) (result : Result T RunFault) → m ≤ n → Goes exact entries memories failure waiting old new desk next w x m result
+      → Goes exact entries memories failure waiting old new desk next w x n result
   goes_more old new desk next w x m n result few h = record { failed = h.failed; sent = h.sent; spare = h.spare; rules = h.rules; slice = h.slice; grows = omega (arith, few, h.grows); sound = h.sound }

@@ -6,3 +6,4 @@ pub mod Gained
 pub mod KeepingLemmas
 pub mod KeepingBytes
 pub mod Fulfilling
+pub mod Tracing

@@ -12,6 +12,7 @@ use Rattle.at_model.specs.Names.{IsName}
 use Rattle.at_protocol.specs.ReplyView.{code_view}
 use Rattle.at_store.specs.Shown.{Shown, path}
 use Rattle.at_cache.specs.Kept.{Entries}
+use Rattle.at_cache.specs.Traced.{Memories}
 use Rattle.at_body.specs.Typed.{class_shown}
 use Rattle.at_demand.specs.Right.{IsThere}
 use Rattle.at_engine.specs.Engines.{rules_of, state_of, IsHeld, IsSound}
@@ -34,23 +35,27 @@ IsAskedBy rules s v (asked.Instance i) = IsInstanceOf rules s v i
 IsAskedBy rules s v (asked.Refused r) = v ≡ Refuses (code_view r)
 
 -- places can be looked up by these marks: the engine is held, and the node of each mark is there
-pub record CanLookUp {K : Type 0} (entries : K → Entries) (e : Engine K) (marks : List Mark) : Type 0 where
-  pub sound : IsHeld entries e
+pub record CanLookUp {K : Type 0} (entries : K → Entries) (memories : K → Memories)
+    (e : Engine K) (marks : List Mark) : Type 0 where
+  pub sound : IsHeld entries memories e
   pub there : AreThere (path e.store) marks
 
 -- the instance can be evaluated: the engine is sound, and its tree has the instance, well typed
-pub record CanEvaluate {K : Type 0} (entries : K → Entries) (e : Engine K) (i : Instance ℕ) : Type 0 where
-  pub sound : IsSound entries e
+pub record CanEvaluate {K : Type 0} (entries : K → Entries) (memories : K → Memories)
+    (e : Engine K) (i : Instance ℕ) : Type 0 where
+  pub sound : IsSound entries memories e
   pub there : IsThere e.store i
   pub well_typed : IsWellTyped (rules_of e) (class_shown e.store) AnyText i
 
 -- an attribute can be asked for: the engine is sound, and the attribute can have that name
-pub record CanAsk {K : Type 0} (entries : K → Entries) (e : Engine K) (attribute : List ℕ) : Type 0 where
-  pub sound : IsSound entries e
+pub record CanAsk {K : Type 0} (entries : K → Entries) (memories : K → Memories)
+    (e : Engine K) (attribute : List ℕ) : Type 0 where
+  pub sound : IsSound entries memories e
   pub named : IsName attribute
 
 -- it can be asked for of the node, which a place of the session names
-pub record CanAskOf {K : Type 0} (entries : K → Entries) (e : Engine K) (session node : ℕ) (attribute : List ℕ) : Type 0 where
-  pub asks : CanAsk entries e attribute
+pub record CanAskOf {K : Type 0} (entries : K → Entries) (memories : K → Memories)
+    (e : Engine K) (session node : ℕ) (attribute : List ℕ) : Type 0 where
+  pub asks : CanAsk entries memories e attribute
   pub place : Place
   pub number : IsNumberOf e.store (node_named (rules_of e).classes (state_of e) session place) (Some node)

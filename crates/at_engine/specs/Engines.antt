@@ -1,10 +1,11 @@
 -- What an engine serves.
-use Rattle.std.specs.Prelude.{ℕ, List}
+use Rattle.std.specs.Prelude.{ℕ, List, None}
 use Rattle.at_model.specs.Rules.{Rules}
 use Rattle.at_model.specs.Enduring.{AreTokens}
 use Rattle.at_model.specs.Machine.{State}
 use Rattle.at_model.specs.WellFormed.{AreWellFormed}
-use Rattle.at_cache.specs.Kept.{Entries}
+use Rattle.at_cache.specs.Kept.{Entries, KeepsAll}
+use Rattle.at_cache.specs.Traced.{Memories, TracesNothing}
 use Rattle.at_engine.specs.Holding.{state_in, IsSoundWith}
 use Rattle.at_engine.specs.Lasting.{IsKnown}
 use Rattle.at_engine.specs.declared.engine.Engine.{Engine}
@@ -28,9 +29,15 @@ state_by e marks = state_in e.store e.version marks e.posts
 abbrev pub state_of : {K : Type 0} → Engine K → State
 state_of e = state_by e (marks_of e)
 
--- no edit waits, the tree, the marks and the open questions are sound, and what the keeper keeps is right
-abbrev pub IsHeld : {K : Type 0} → (contents : K → Entries) → Engine K → Type 0
-IsHeld contents e = IsSoundWith e.rules e.store (marks_of e) e.posts (contents e.demand.keeper)
+-- the keeper keeps nothing yet, and can keep nothing again
+abbrev pub KeepsNothing : {K : Type 0} → (contents : K → Entries) (memories : K → Memories) → K → Type 0
+KeepsNothing contents memories k = KeepsAll (λ _. None) (contents k) × TracesNothing (memories k)
+
+-- no edit waits, the tree, the marks and the open questions are sound, and what the keeper keeps, and can keep again, is
+-- right
+abbrev pub IsHeld : {K : Type 0} → (contents : K → Entries) (memories : K → Memories) → Engine K → Type 0
+IsHeld contents memories e =
+    IsSoundWith e.rules e.store (marks_of e) e.posts (contents e.demand.keeper) (memories e.demand.keeper)
 
 -- The rules are well formed, and each token of the tree can be written, so that evaluations keep to the kinds.
 pub record IsTyped (rules : Rules) (s : State) : Type 0 where
@@ -42,7 +49,7 @@ abbrev pub Knows : {K : Type 0} → Engine K → Type 0
 Knows e = IsKnown e.rules.classes e.store e.last
 
 -- the engine can serve lines
-pub record IsSound {K : Type 0} (contents : K → Entries) (e : Engine K) : Type 0 where
-  pub held : IsHeld contents e
+pub record IsSound {K : Type 0} (contents : K → Entries) (memories : K → Memories) (e : Engine K) : Type 0 where
+  pub held : IsHeld contents memories e
   pub typed : IsTyped (rules_of e) (state_of e)
   pub known : Knows e

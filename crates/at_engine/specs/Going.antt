@@ -3,6 +3,7 @@ use Rattle.std.specs.Prelude.{◌≡◌, ℕ, ◌+◌, ◌*◌, ◌^◌, ◌<◌
 use Rattle.at_model.specs.Lines.{is_filled}
 use Rattle.at_model.specs.Machine.{State}
 use Rattle.at_cache.specs.Kept.{Entries}
+use Rattle.at_cache.specs.Traced.{Memories}
 use Rattle.at_engine.specs.Ends.{Remembers, SendsOn}
 use Rattle.at_engine.specs.Engines.{rules_of, slice_of, state_of, IsSound}
 use Rattle.at_engine.specs.Keeping.{IsSpare, KeepsLine}
@@ -15,24 +16,28 @@ use Rattle.at_engine.specs.declared.stream.desk.Desk.{Desk}
 use Rattle.at_engine.specs.declared.stream.desk.RunFault.{RunFault}
 
 -- the engine is sound, and so many lines more can be counted
-pub record CanServe {K : Type 0} (entries : K → Entries) (e : Engine K) (desk : Desk) (lines : ℕ) : Type 0 where
-  pub sound : IsSound entries e
+pub record CanServe {K : Type 0} (entries : K → Entries) (memories : K → Memories)
+    (e : Engine K) (desk : Desk) (lines : ℕ) : Type 0 where
+  pub sound : IsSound entries memories e
   pub few : countable desk (state_of e) + 3 * lines < 2 ^ 128
 
 -- and the line that was read isn't empty
-pub record CanServeLine {K : Type 0} (entries : K → Entries) (e : Engine K) (desk : Desk) : Type 0 where
-  pub ready : CanServe entries e desk 1
+pub record CanServeLine {K : Type 0} (entries : K → Entries) (memories : K → Memories)
+    (e : Engine K) (desk : Desk) : Type 0 where
+  pub ready : CanServe entries memories e desk 1
   pub line : 0 < vec_len desk.line
 
 -- turns can be given: the engine is sound, and there are some to give
-pub record CanGive {K : Type 0} (entries : K → Entries) (e : Engine K) (desk : Desk) (limit : ℕ) : Type 0 where
-  pub ready : CanServe entries e desk 0
+pub record CanGive {K : Type 0} (entries : K → Entries) (memories : K → Memories)
+    (e : Engine K) (desk : Desk) (limit : ℕ) : Type 0 where
+  pub ready : CanServe entries memories e desk 0
   pub some : 0 < limit
 
 -- It is known of the writer whether a call failed, and where none did, all that was written is sent on. The engine is sound, its
 -- rules and how many turns follow each line are as they were, what was kept spare is so still, and no more than so many lines
 -- were counted.
-pub record Goes {K W T : Type 0} (exact : Bool) (entries : K → Entries) (failure : W → Option Bool) (waiting : W → Bool) (old new : Engine K) (desk next : Desk)
+pub record Goes {K W T : Type 0} (exact : Bool) (entries : K → Entries) (memories : K → Memories)
+    (failure : W → Option Bool) (waiting : W → Bool) (old new : Engine K) (desk next : Desk)
     (writer later : W) (lines : ℕ) (result : Result T RunFault) : Type 0 where
   pub failed : Remembers (failure writer) (failure later) (is_err result)
   pub sent : SendsOn result (waiting writer) (waiting later)
@@ -40,41 +45,45 @@ pub record Goes {K W T : Type 0} (exact : Bool) (entries : K → Entries) (failu
   pub rules : rules_of new ≡ rules_of old
   pub slice : slice_of new ≡ slice_of old
   pub grows : countable next (state_of new) ≤ countable desk (state_of old) + 3 * lines
-  pub sound : IsSound entries new
+  pub sound : IsSound entries memories new
 
 -- turns were given so; where no question is open, the engine is as it was
-pub record Works {K W T : Type 0} (exact : Bool) (entries : K → Entries) (contents : W → Option (List ℕ)) (failure : W → Option Bool) (waiting : W → Bool)
+pub record Works {K W T : Type 0} (exact : Bool) (entries : K → Entries) (memories : K → Memories)
+    (contents : W → Option (List ℕ)) (failure : W → Option Bool) (waiting : W → Bool)
     (old new : Engine K) (desk next : Desk) (writer later : W) (Done : State → State → Desk → Desk → Option (List ℕ) → Option (List ℕ) → Type 0)
     (result : Result T RunFault) : Type 0 where
   pub done : Done (state_of old) (state_of new) desk next (contents writer) (contents later)
   pub none : (state_of old).posted ≡ [] → new ≡ old
   pub line : next.line.items ≡ desk.line.items
-  pub goes : Goes exact entries failure waiting old new desk next writer later 0 result
+  pub goes : Goes exact entries memories failure waiting old new desk next writer later 0 result
 
 -- the line that was read was served, and turns were given behind it
-pub record ServesLine {K W : Type 0} (exact : Bool) (entries : K → Entries) (contents : W → Option (List ℕ)) (failure : W → Option Bool) (waiting : W → Bool)
+pub record ServesLine {K W : Type 0} (exact : Bool) (entries : K → Entries) (memories : K → Memories)
+    (contents : W → Option (List ℕ)) (failure : W → Option Bool) (waiting : W → Bool)
     (old new : Engine K) (desk next : Desk) (writer later : W) (result : Result (Unit {0}) RunFault) : Type 0 where
   pub served : ServedOrHalts result (rules_of old) (slice_of old) (state_of old) desk.line.items (state_of new) desk next (contents writer) (contents later)
   pub keeps : IsTrue exact → IsSpare entries old → OnOk result ((state_of old).posted ≡ [] → NonePosts (desk.line.items ∷ []) → next.memory ≡ desk.memory
       → KeepsLine entries desk.line.items old new)
   pub line : next.line.items ≡ desk.line.items
-  pub goes : Goes exact entries failure waiting old new desk next writer later 1 result
+  pub goes : Goes exact entries memories failure waiting old new desk next writer later 1 result
 
 -- the bytes were taken, no more than so many lines
-pub record TakesBytes {K W : Type 0} (exact : Bool) (entries : K → Entries) (contents : W → Option (List ℕ)) (failure : W → Option Bool) (waiting : W → Bool)
+pub record TakesBytes {K W : Type 0} (exact : Bool) (entries : K → Entries) (memories : K → Memories)
+    (contents : W → Option (List ℕ)) (failure : W → Option Bool) (waiting : W → Bool)
     (bytes : List ℕ) (lines : ℕ) (old new : Engine K) (desk next : Desk) (writer later : W) (result : Result (Unit {0}) RunFault) : Type 0 where
   pub taken : (front : List ℕ) → IsOpen front → desk.line.items ≡ kept front
       → TakesOrStops result (rules_of old) (slice_of old) (state_of old) front bytes (state_of new) desk next (contents writer) (contents later)
   pub keeps : IsTrue exact → IsSpare entries old → (front : List ℕ) → IsOpen front → desk.line.items ≡ kept front
       → OnOk result (KeepsBytes entries front bytes old new desk next)
-  pub goes : Goes exact entries failure waiting old new desk next writer later lines result
+  pub goes : Goes exact entries memories failure waiting old new desk next writer later lines result
 
 -- the last line, which no newline ends, was served, and turns were given until no question is open
-pub record FinishesAll {K W : Type 0} (exact : Bool) (entries : K → Entries) (contents : W → Option (List ℕ)) (failure : W → Option Bool) (waiting : W → Bool)
+pub record FinishesAll {K W : Type 0} (exact : Bool) (entries : K → Entries) (memories : K → Memories)
+    (contents : W → Option (List ℕ)) (failure : W → Option Bool) (waiting : W → Bool)
     (old new : Engine K) (desk next : Desk) (writer later : W) (result : Result (Unit {0}) RunFault) : Type 0 where
   pub finished : (front : List ℕ) → desk.line.items ≡ kept front
       → Finishes result (rules_of old) (slice_of old) (state_of old) front (state_of new) desk next (contents writer) (contents later)
   pub keeps : IsTrue exact → IsSpare entries old → (front : List ℕ) → desk.line.items ≡ kept front
       → OnOk result ((state_of old).posted ≡ [] → NonePosts (filter is_filled (front ∷ [])) → next.memory ≡ desk.memory
       → KeepsAll entries (filter is_filled (front ∷ [])) old new)
-  pub goes : Goes exact entries failure waiting old new desk next writer later 1 result
+  pub goes : Goes exact entries memories failure waiting old new desk next writer later 1 result

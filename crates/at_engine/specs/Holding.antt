@@ -13,7 +13,9 @@ use Rattle.at_model.specs.Rules.{Rules}
 use Rattle.at_model.specs.Machine.{State, Verdict, Asks, Posted as PostedOf, line_of, verdict}
 use Rattle.at_store.specs.Shown.{IsIdle, Shown, tree, path}
 use Rattle.at_cache.specs.Kept.{Entries}
+use Rattle.at_cache.specs.Traced.{Memories}
 use Rattle.at_demand.specs.Right.{AreRight}
+use Rattle.at_demand.specs.Traces.{IsRemembered}
 use Rattle.at_demand.specs.Turns.{IsStanding, under_way}
 use Rattle.at_demand.specs.declared.question.Question.{Question}
 use Rattle.at_engine.specs.Marks.{Mark, marks_view, AreThere}
@@ -54,12 +56,14 @@ pub record IsPostedOn (rules : Rules) (s : Shown) (entries : Entries) (p : Poste
   pub begun : HasBegun rules s entries p p.question
 
 -- No edit waits. The classes are sound, the tree conforms to the start class, the node of each mark is there, and what is
--- kept is right. The open questions stand on the tree, and their numbers increase.
-pub record IsSoundWith (rules : Rules) (s : Shown) (marks : List Mark) (posts : Posts) (entries : Entries) : Type 0 where
+-- kept is right, and so is what can be kept again. The open questions stand on the tree, and their numbers increase.
+pub record IsSoundWith (rules : Rules) (s : Shown) (marks : List Mark) (posts : Posts)
+    (entries : Entries) (m : Memories) : Type 0 where
   pub idle : IsIdle s
   pub sound : AreSound rules.classes
   pub conforming : conforms rules.classes (tree s) 0 ≡ true
   pub marked : AreThere (path s) marks
   pub right : AreRight rules s entries
+  pub remembered : IsRemembered rules s m
   pub posted : AllByRecursion (IsPostedOn rules s entries) posts.items.items
   pub numbered : AreNumbered 0 (map (posted_view (path s)) posts.items.items) posts.count

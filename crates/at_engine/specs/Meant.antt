@@ -7,6 +7,7 @@ use Rattle.at_model.specs.Rules.{Rules}
 use Rattle.at_protocol.specs.declared.reply.Form.{Form}
 use Rattle.at_protocol.specs.declared.reply.Form.TheVariants as form
 use Rattle.at_cache.specs.Kept.{Entries}
+use Rattle.at_cache.specs.Traced.{Memories}
 use Rattle.at_store.specs.Refusing.{edit_at, node_of, target_of}
 use Rattle.at_store.specs.Shown.{Shown, path}
 use Rattle.at_store.specs.declared.edit.Edit.{Edit}
@@ -57,7 +58,8 @@ Means rules s marks session c (Err (obstacle.Refused r)) = Reports rules s marks
 Means rules s marks session c (Err obstacle.Memory) = ⊤
 
 -- the engine is held, and the nodes of the edit are there
-pub record CanEdit {K : Type 0} (entries : K → Entries) (e : Engine K) (edit : Edit) : Type 0 where
-  pub sound : IsHeld entries e
+pub record CanEdit {K : Type 0} (entries : K → Entries) (memories : K → Memories)
+    (e : Engine K) (edit : Edit) : Type 0 where
+  pub sound : IsHeld entries memories e
   pub there : is_some (path e.store (node_of edit)) ≡ true
   pub target : is_some (path e.store (target_of edit)) ≡ true

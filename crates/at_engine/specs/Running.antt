@@ -6,6 +6,7 @@ use Rattle.at_model.specs.Rules.{Rules}
 use Rattle.at_model.specs.Replies.{Reply, reply_text}
 use Rattle.at_model.specs.Machine.{State, Given, Runs, Outputs, text_of}
 use Rattle.at_cache.specs.Kept.{Entries}
+use Rattle.at_cache.specs.Traced.{Memories}
 use Rattle.at_engine.specs.Engines.{rules_of, slice_of, state_of, IsSound}
 use Rattle.at_engine.specs.Keeping.{IsSpare, work_of}
 use Rattle.at_engine.specs.KeepingRuns.{KeepsRun}
@@ -143,7 +144,8 @@ SendsAll result waited waits = write_fails result ≡ false → waited ≡ false
 
 -- What a run of at most so many reads promises, by what is known of the reader and of the writer: what it has done, which of its
 -- calls failed, and what is kept.
-pub record RunsFor {K R W : Type 0} (exact : Bool) (entries : K → Entries) (remaining : R → Option (List ℕ)) (misread ending : R → Option Bool)
+pub record RunsFor {K R W : Type 0} (exact : Bool) (entries : K → Entries) (memories : K → Memories)
+    (remaining : R → Option (List ℕ)) (misread ending : R → Option Bool)
     (count : R → Option ℕ) (contents : W → Option (List ℕ)) (failure : W → Option Bool) (waiting : W → Bool) (most_reads : ℕ)
     (old new : Engine K) (reader left : R) (writer later : W) (result : Result Report RunFault) : Type 0 where
   pub ran : Ran most_reads result (rules_of old) (slice_of old) (state_of old) (state_of new) (remaining reader) (remaining left)
@@ -157,4 +159,4 @@ pub record RunsFor {K R W : Type 0} (exact : Bool) (entries : K → Entries) (re
   pub spare : IsTrue exact → IsSpare entries old → IsSpare entries new
   pub rules : rules_of new ≡ rules_of old
   pub slice : slice_of new ≡ slice_of old
-  pub sound : IsSound entries new
+  pub sound : IsSound entries memories new

@@ -5,6 +5,7 @@ use Rattle.at_model.specs.Rules.{Rules}
 use Rattle.at_model.specs.Machine.{State, Given, Serves, text_of}
 use Rattle.at_model.specs.Replies.{Reply, reply_text}
 use Rattle.at_cache.specs.Kept.{Entries}
+use Rattle.at_cache.specs.Traced.{Memories}
 use Rattle.at_engine.specs.Engines.{rules_of, slice_of, state_of, IsSound}
 use Rattle.at_engine.specs.Keeping.{IsSpare, KeepsServed, KeepsStep}
 use Rattle.at_engine.specs.declared.engine.Engine.{Engine}
@@ -40,7 +41,8 @@ Settles rules old new before after (Some wants) = (turns : ℕ) × (reply : Repl
 
 -- A call that appends to `out` has done that; or room for 64 bytes was refused, and nothing has changed. The engine is sound, its
 -- rules and how many turns follow each line are as they were, and what was kept spare is so still.
-pub record Calls {K T E : Type 0} (exact : Bool) (entries : K → Entries) (old new : Engine K) (out next : Vec ℕ Global)
+pub record Calls {K T E : Type 0} (exact : Bool) (entries : K → Entries) (memories : K → Memories)
+    (old new : Engine K) (out next : Vec ℕ Global)
     (Done : T → Type 0) (result : Result T E) : Type 0 where
   pub done : IfOk result Done
   pub same : OnErr result (new ≡ old)
@@ -50,7 +52,7 @@ pub record Calls {K T E : Type 0} (exact : Bool) (entries : K → Entries) (old 
   pub spare : IsTrue exact → IsSpare entries old → IsSpare entries new
   pub rules : rules_of new ≡ rules_of old
   pub slice : slice_of new ≡ slice_of old
-  pub sound : IsSound entries new
+  pub sound : IsSound entries memories new
 
 -- a line was taken, and where what is kept was spare, just what the line leaves and adds is kept
 pub record TakesLine {K : Type 0} (exact : Bool) (entries : K → Entries) (line : List ℕ) (old new : Engine K) (before after : List ℕ) : Type 0 where

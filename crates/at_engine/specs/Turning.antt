@@ -16,6 +16,7 @@ use Rattle.at_protocol.specs.ReplyView.{code_view}
 use Rattle.at_protocol.specs.declared.reply.Form.{Form}
 use Rattle.at_store.specs.Shown.{Shown, contents, path, tree, IsIdle}
 use Rattle.at_cache.specs.Kept.{Entries}
+use Rattle.at_cache.specs.Traced.{Memories, StayTraced}
 use Rattle.at_demand.specs.Known.{answer_view, kept_values, meaning, ArePlain}
 use Rattle.at_demand.specs.Right.{AreRight, IsThere}
 use Rattle.at_demand.specs.Sparing.{AddsWorthy, AreSpare, MayAddLazy}
@@ -129,41 +130,47 @@ pub record IsAwaited (rules : Rules) (s : State) (session : ℕ) (c : Command) (
   pub waits : obeyed rules s session c ≡ Waits question.number
 
 -- the engine is held, and a question stands at the position
-pub record IsHeldAt {K : Type 0} (entries : K → Entries) (e : Engine K) (position : ℕ) : Type 0 where
-  pub sound : IsHeld entries e
+pub record IsHeldAt {K : Type 0} (entries : K → Entries) (memories : K → Memories)
+    (e : Engine K) (position : ℕ) : Type 0 where
+  pub sound : IsHeld entries memories e
   pub within : position < length e.posts.items.items
 
 -- that question can be given turns
-pub record CanTurn {K : Type 0} (entries : K → Entries) (e : Engine K) (position : ℕ) : Type 0 where
-  pub sound : IsHeld entries e
+pub record CanTurn {K : Type 0} (entries : K → Entries) (memories : K → Memories)
+    (e : Engine K) (position : ℕ) : Type 0 where
+  pub sound : IsHeld entries memories e
   pub typed : IsTyped (rules_of e) (state_of e)
   pub within : position < length e.posts.items.items
 
 -- and there are some to give
-pub record CanGoOn {K : Type 0} (entries : K → Entries) (e : Engine K) (position limit : ℕ) : Type 0 where
-  pub ready : CanTurn entries e position
+pub record CanGoOn {K : Type 0} (entries : K → Entries) (memories : K → Memories)
+    (e : Engine K) (position limit : ℕ) : Type 0 where
+  pub ready : CanTurn entries memories e position
   pub some : 0 < limit
 
 -- turns can be given to whichever question is the first
-pub record CanSpend {K : Type 0} (entries : K → Entries) (e : Engine K) (limit : ℕ) : Type 0 where
-  pub sound : IsSound entries e
+pub record CanSpend {K : Type 0} (entries : K → Entries) (memories : K → Memories)
+    (e : Engine K) (limit : ℕ) : Type 0 where
+  pub sound : IsSound entries memories e
   pub some : 0 < limit
 
 -- That was done with the question at the position: nothing but questions and what is kept has changed, the engine is held, and
 -- what was kept spare is so still.
-pub record Attends {K : Type 0} (exact : Bool) (entries : K → Entries) (old new : Engine K) (position : ℕ) (Done : Posted → Type 0) : Type 0 where
+pub record Attends {K : Type 0} (exact : Bool) (entries : K → Entries) (memories : K → Memories)
+    (old new : Engine K) (position : ℕ) (Done : Posted → Type 0) : Type 0 where
   pub done : (p : Posted) → StandsAt old.posts.items.items position p → Done p
   pub rest : new ≡ record old { demand = new.demand; posts = new.posts }
   pub spare : IsTrue exact → IsSpare entries old → IsSpare entries new
-  pub sound : IsHeld entries new
+  pub sound : IsHeld entries memories new
 
 -- The question at the position was taken off, and that was told of it.
-pub record TakesOff {K : Type 0} (exact : Bool) (entries : K → Entries) (old new : Engine K) (position : ℕ) (IsTold : Posted → Type 0) : Type 0 where
+pub record TakesOff {K : Type 0} (exact : Bool) (entries : K → Entries) (memories : K → Memories)
+    (old new : Engine K) (position : ℕ) (IsTold : Posted → Type 0) : Type 0 where
   pub told : (p : Posted) → StandsAt old.posts.items.items position p → IsTold p
   pub items : new.posts.items.items ≡ remove old.posts.items.items position
   pub rest : new ≡ record old { posts = record new.posts { count = old.posts.count } }
   pub spare : IsTrue exact → IsSpare entries old → IsSpare entries new
-  pub sound : IsHeld entries new
+  pub sound : IsHeld entries memories new
 
 -- what is done for the question stands on the tree, and its answer can be found
 pub record CanAnswer (rules : Rules) (s : Shown) (entries : Entries) (q : Question) : Type 0 where
@@ -176,9 +183,11 @@ pub record CanAnswer (rules : Rules) (s : Shown) (entries : Entries) (q : Questi
   pub named : IsAskedOf rules s (asked (under_way q))
 
 -- The question was answered, unless memory ran out. Only what is worth keeping for it was added; what is kept is right still, and
--- spare.
-pub record AnswersIt {E : Type 0} (exact : Bool) (rules : Rules) (s : Shown) (q : Question) (old new : Entries) (result : Result AnswerCode E) : Type 0 where
+-- spare; and nothing is traced anew.
+pub record AnswersIt {E : Type 0} (exact : Bool) (rules : Rules) (s : Shown) (q : Question) (old new : Entries)
+    (before later : Memories) (result : Result AnswerCode E) : Type 0 where
   pub answers : IfOk result (λ a. HasAnswer (contents s) (meaning rules) (asked (under_way q)) (answer_view a))
   pub worthy : AddsWorthy rules (contents s) (asked (under_way q)) old new
   pub stays : IsThere s (asked (under_way q)) → AreRight rules s old → AreRight rules s new
   pub spare : IsTrue exact → AreSpare rules (contents s) old → IsSparingTurns rules (contents s) old q → AreSpare rules (contents s) new
+  pub traces : StayTraced before later

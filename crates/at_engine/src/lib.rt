@@ -13,8 +13,9 @@
 //! `stream.rt` serves all, between an `Input` and an `Output`.
 //!
 //! **What it keeps true:** `IsSound`: no edit waits, the tree conforms, the nodes of marks are there, what is kept
-//! is right, open questions stand on the tree, rules are well formed, tokens can be written, and the place of the
-//! last question, where it is remembered, is there. `new` gives it, and each line and turn keeps it.
+//! is right, and so is what can be kept again, open questions stand on the tree, rules are well formed, tokens can be
+//! written, and the place of the last question, where it is remembered, is there. `new` gives it over a keeper that keeps
+//! nothing yet (`KeepsNothing`), and each line and turn keeps it.
 #![tactic(auto)]
 
 mod engine;

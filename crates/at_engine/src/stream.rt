@@ -50,8 +50,8 @@ fn serve<K: Keeper, W: Output>(
     desk: &mut Desk,
     writer: &mut W,
 ) -> Result<(), RunFault>
-    requires { CanServeLine K.contents engine.old desk.old }
-    ensures { ServesLine K.exact K.contents W.contents W.failed W.waits engine.old engine.new desk.old desk.new writer.old writer.new result }
+    requires { CanServeLine K.contents K.memories engine.old desk.old }
+    ensures { ServesLine K.exact K.contents K.memories W.contents W.failed W.waits engine.old engine.new desk.old desk.new writer.old writer.new result }
 {
     desk.reply.clear();
     match engine.serve(desk.line.as_slice(), &mut desk.reply) {
@@ -71,8 +71,8 @@ fn give_turns<K: Keeper, W: Output>(
     desk: &mut Desk,
     writer: &mut W,
 ) -> Result<(), RunFault>
-    requires { CanServe K.contents engine.old desk.old 0 }
-    ensures { Works K.exact K.contents W.contents W.failed W.waits engine.old engine.new desk.old desk.new writer.old writer.new
+    requires { CanServe K.contents K.memories engine.old desk.old 0 }
+    ensures { Works K.exact K.contents K.memories W.contents W.failed W.waits engine.old engine.new desk.old desk.new writer.old writer.new
         (GivesTurns result (rules_of engine.old) (slice_of engine.old)) result }
 {
     if engine.is_settled() {
@@ -93,8 +93,8 @@ fn give_some<K: Keeper, W: Output>(
     writer: &mut W,
     limit: u64,
 ) -> Result<u64, RunFault>
-    requires { CanGive K.contents engine.old desk.old limit }
-    ensures { Works K.exact K.contents W.contents W.failed W.waits engine.old engine.new desk.old desk.new writer.old writer.new
+    requires { CanGive K.contents K.memories engine.old desk.old limit }
+    ensures { Works K.exact K.contents K.memories W.contents W.failed W.waits engine.old engine.new desk.old desk.new writer.old writer.new
         (LeavesTurns result (rules_of engine.old) limit) result }
 {
     desk.reply.clear();
@@ -117,8 +117,8 @@ fn drain<K: Keeper, W: Output>(
     desk: &mut Desk,
     writer: &mut W,
 ) -> Result<(), RunFault>
-    requires { CanServe K.contents engine.old desk.old 0 }
-    ensures { Works K.exact K.contents W.contents W.failed W.waits engine.old engine.new desk.old desk.new writer.old writer.new
+    requires { CanServe K.contents K.memories engine.old desk.old 0 }
+    ensures { Works K.exact K.contents K.memories W.contents W.failed W.waits engine.old engine.new desk.old desk.new writer.old writer.new
         (Drains result (rules_of engine.old)) result }
 {
     let mut is_open = true;
@@ -134,8 +134,8 @@ fn settle_one<K: Keeper, W: Output>(
     desk: &mut Desk,
     writer: &mut W,
 ) -> Result<bool, RunFault>
-    requires { CanServe K.contents engine.old desk.old 0 }
-    ensures { Works K.exact K.contents W.contents W.failed W.waits engine.old engine.new desk.old desk.new writer.old writer.new
+    requires { CanServe K.contents K.memories engine.old desk.old 0 }
+    ensures { Works K.exact K.contents K.memories W.contents W.failed W.waits engine.old engine.new desk.old desk.new writer.old writer.new
         (SettlesOne result (rules_of engine.old)) result }
 {
     desk.reply.clear();
@@ -158,8 +158,9 @@ fn take_newline<K: Keeper, W: Output>(
     desk: &mut Desk,
     writer: &mut W,
 ) -> Result<(), RunFault>
-    requires { CanServe K.contents engine.old desk.old 1 }
-    ensures { TakesBytes K.exact K.contents W.contents W.failed W.waits (10 ∷ []) 1 engine.old engine.new desk.old desk.new writer.old writer.new result }
+    requires { CanServe K.contents K.memories engine.old desk.old 1 }
+    ensures { TakesBytes K.exact K.contents K.memories W.contents W.failed W.waits (10 ∷ []) 1 engine.old engine.new
+        desk.old desk.new writer.old writer.new result }
 {
     if !desk.line.is_empty() {
         serve(engine, desk, writer)?;
@@ -175,8 +176,8 @@ fn take_piece<K: Keeper, W: Output>(
     piece: &[u8],
     writer: &mut W,
 ) -> Result<(), RunFault>
-    requires { CanServe K.contents engine.old desk.old (length piece.now) }
-    ensures { TakesBytes K.exact K.contents W.contents W.failed W.waits piece.now (length piece.now)
+    requires { CanServe K.contents K.memories engine.old desk.old (length piece.now) }
+    ensures { TakesBytes K.exact K.contents K.memories W.contents W.failed W.waits piece.now (length piece.now)
         engine.old engine.new desk.old desk.new writer.old writer.new result }
 {
     let mut rest = piece;
@@ -211,8 +212,8 @@ fn finish<K: Keeper, W: Output>(
     desk: &mut Desk,
     writer: &mut W,
 ) -> Result<(), RunFault>
-    requires { CanServe K.contents engine.old desk.old 1 }
-    ensures { FinishesAll K.exact K.contents W.contents W.failed W.waits engine.old engine.new desk.old desk.new writer.old writer.new result }
+    requires { CanServe K.contents K.memories engine.old desk.old 1 }
+    ensures { FinishesAll K.exact K.contents K.memories W.contents W.failed W.waits engine.old engine.new desk.old desk.new writer.old writer.new result }
 {
     if desk.line.is_empty() {
         return drain(engine, desk, writer);
@@ -235,8 +236,8 @@ pub fn run<K: Keeper, R: Input, W: Output>(
     reader: &mut R,
     writer: &mut W,
 ) -> Result<Report, RunFault>
-    requires sound { IsSound K.contents engine.old }
-    ensures { RunsFor K.exact K.contents R.remaining R.failed R.ended R.reads W.contents W.failed W.waits max_reads
+    requires sound { IsSound K.contents K.memories engine.old }
+    ensures { RunsFor K.exact K.contents K.memories R.remaining R.failed R.ended R.reads W.contents W.failed W.waits max_reads
         engine.old engine.new reader.old reader.new writer.old writer.new result }
 {
     run_for(engine, reader, writer, READS)
@@ -253,8 +254,8 @@ pub fn run_for<K: Keeper, R: Input, W: Output>(
     writer: &mut W,
     limit: u64,
 ) -> Result<Report, RunFault>
-    requires sound { IsSound K.contents engine.old }
-    ensures { RunsFor K.exact K.contents R.remaining R.failed R.ended R.reads W.contents W.failed W.waits limit
+    requires sound { IsSound K.contents K.memories engine.old }
+    ensures { RunsFor K.exact K.contents K.memories R.remaining R.failed R.ended R.reads W.contents W.failed W.waits limit
         engine.old engine.new reader.old reader.new writer.old writer.new result }
 {
     let version = engine.version();

@@ -4,7 +4,7 @@ use crate::keepers::KeepRefused;
 use crate::keepers::chance::Chance;
 use crate::keepers::compared::KeepCompared;
 use at_body::{Arguments, Inst, Value};
-use at_cache::{KeepAtMost, KeepNone, KeepRecorded, KeepUntilEdit, Keeper};
+use at_cache::{KeepAtMost, KeepNone, KeepRecorded, KeepUntilEdit, Keeper, Order};
 use at_rules::AttrId;
 use at_store::{Loc, Node};
 use std::alloc::{AllocError, Global};
@@ -50,7 +50,7 @@ fn put_new<K: Keeper>(
             return Ok(());
         }
     }
-    keeper.put(inst, value, reads, uses)?;
+    keeper.put(inst, value, reads, uses, Order::Any)?;
     Ok(())
 }
 

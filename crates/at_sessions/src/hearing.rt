@@ -1,12 +1,11 @@
 //! What engines write for lines.
 
-ghost use Rattle.std.specs.Prelude.{None, IfOk};
-ghost use Rattle.at_cache.specs.Kept.{KeepsAll};
-ghost use Rattle.at_engine.specs.Engines.{IsSound};
+ghost use Rattle.std.specs.Prelude.{IfOk};
+ghost use Rattle.at_engine.specs.Engines.{IsSound, KeepsNothing};
 ghost use Rattle.at_start.specs.Starts.{IsReady};
 
 use crate::samples::{TREE, copied, files, over};
-use at_cache::{KeepAtMost, KeepNone, KeepRecorded, KeepUntilEdit, Keeper};
+use at_cache::{KeepAtMost, KeepCutOff, KeepNone, KeepRecorded, KeepUntilEdit, Keeper};
 use at_engine::{Engine, Report, run};
 use at_start::{Files, start, start_with};
 use std::alloc::Global;
@@ -25,8 +24,8 @@ pub fn calculator(alloc: Global) -> Result<Engine<KeepRecorded>, Fail>
 
 /// A fresh engine of the files over an empty keeper. It is made of a copy, and the files stay as they are for the next one.
 pub fn started<K: Keeper>(alloc: Global, files: &Files, keeper: K) -> Result<Engine<K>, Fail>
-    requires { KeepsAll (λ _. None) (K.contents keeper) }
-    ensures { IfOk result (IsSound K.contents) }
+    requires { KeepsNothing K.contents K.memories keeper }
+    ensures { IfOk result (IsSound K.contents K.memories) }
 {
     let mut files = copied(alloc, files)?;
     Ok(start_with(alloc, &mut files, keeper)?)
@@ -41,7 +40,7 @@ pub fn heard<K: Keeper>(
     slice: u32,
     lines: &str,
 ) -> Result<(Vec<u8>, Report), Fail>
-    requires { KeepsAll (λ _. None) (K.contents keeper) }
+    requires { KeepsNothing K.contents K.memories keeper }
 {
     let mut engine = started(alloc, files, keeper)?;
     engine.set_slice(slice);
@@ -68,7 +67,7 @@ pub fn recorded(
 /// More entries than a question for a sum leaves, and fewer than those of a session.
 const FEW: usize = 3;
 
-/// The same, where the other keepers lead to the same replies.
+/// The same, where the other keepers lead to the same replies, and the one that keeps again to the same work.
 pub fn played(
     alloc: Global,
     files: &Files,
@@ -92,6 +91,10 @@ pub fn played(
     )? {
         return Err(Fail::new("that few entries are kept is heard"));
     }
+    let (again, cut_off) = heard(alloc, files, KeepCutOff::new(alloc), slice, lines)?;
+    if again.as_slice() != told.as_slice() || cut_off.work != report.work {
+        return Err(Fail::new("what is kept again is heard"));
+    }
     Ok((told, report))
 }
 
@@ -104,7 +107,7 @@ pub fn is_told<K: Keeper>(
     lines: &str,
     told: &[u8],
 ) -> Result<bool, Fail>
-    requires { KeepsAll (λ _. None) (K.contents keeper) }
+    requires { KeepsNothing K.contents K.memories keeper }
 {
     let (out, _) = heard(alloc, files, keeper, slice, lines)?;
     Ok(out.as_slice() == told)

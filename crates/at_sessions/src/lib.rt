@@ -16,11 +16,15 @@ mod hearing;
 #[cfg(test)]
 mod keepers;
 #[cfg(test)]
+mod kept_again;
+#[cfg(test)]
 mod refusals;
 #[cfg(test)]
 mod samples;
 #[cfg(test)]
 mod sessions;
+#[cfg(test)]
+mod settled;
 #[cfg(test)]
 mod stores;
 #[cfg(test)]

@@ -1,15 +1,19 @@
 -- What a run that came to its end has written.
-use Rattle.std.proofs.Common.{◌≡◌, ◌∙◌, ℕ, List, [], ◌++◌, sym, ap, refl, append-nil, subst, Option, Some, None, Result, Ok}
+use Rattle.std.proofs.Common.{◌≡◌, ◌∙◌, ℕ, Bool, List, [], ◌++◌, sym, ap, refl, append-nil, subst, Option, Some, None, Result, Ok}
 use Rattle.std.specs.Io.KnownBytes.{Appends, Consumes, IsAtEnd}
 use Rattle.at_model.specs.Machine.{State, Outputs, text_of}
+use Rattle.at_cache.specs.Kept.{Entries}
+use Rattle.at_cache.specs.Traced.{Memories}
 use Rattle.at_engine.specs.Engines.{rules_of, slice_of, state_of}
-use Rattle.at_engine.specs.Running.{Ran, max_reads}
+use Rattle.at_engine.specs.Keeping.{IsSpare, work_of}
+use Rattle.at_engine.specs.Running.{Ran, RunsFor, max_reads}
 use Rattle.at_engine.specs.declared.engine.Engine.{Engine}
 use Rattle.at_engine.specs.declared.stream.desk.Report.{Report}
 use Rattle.at_engine.specs.declared.stream.desk.RunFault.{RunFault}
 use Rattle.at_start.specs.Starts.{Starts, opening}
-use Rattle.at_start.specs.Whole.{Answers, MeansOutput}
+use Rattle.at_start.specs.Whole.{Answers, MeansOutput, RunsFiles}
 use Rattle.at_start.specs.declared.files.Files.{Files}
+use Rattle.at_start.specs.declared.serving.Answered.{Answered}
 
 -- all known bytes were read
 read_whole : (input bytes : List ℕ) (left : Option (List ℕ)) → Consumes (Some input) left bytes → IsAtEnd left → bytes ≡ input
@@ -54,3 +58,26 @@ answers_by {K} files slice made set new run readable left before after is starts
   starts = subst (λ (e : Engine K). Starts files (rules_of e) (state_of e)) (sym is) starts;
   ran = subst (λ (n : ℕ). Ran max_reads run (rules_of set) n (state_of set) (state_of new) readable left before after) (ap (λ (e : Engine K). slice_of e) is) ran;
 }
+
+-- so all that the run promises holds of it
+pub runs_by : {K R W : Type 0} (exact : Bool) (entries : K → Entries) (memories : K → Memories)
+    (remaining : R → Option (List ℕ)) (misread ending : R → Option Bool) (count : R → Option ℕ) (contents : W → Option (List ℕ))
+    (failure : W → Option Bool) (waiting : W → Bool) (files : Files) (slice : ℕ) (made set new : Engine K) (reader left : R) (writer later : W)
+    (answered : Answered) → set ≡ record made { slice = slice } → Starts files (rules_of made) (state_of made)
+    → IsSpare entries made → work_of made ≡ 0
+    → RunsFor exact entries memories remaining misread ending count contents failure waiting max_reads set new reader left writer
+    later answered.run
+    → answered.work ≡ work_of new
+    → RunsFiles exact entries memories remaining misread ending count contents failure waiting files slice reader left writer
+    later answered
+runs_by {K} exact entries memories remaining misread ending count contents failure waiting files slice made set new reader left
+    writer later answered is starts spare idle runs work = record {
+      made = set;
+      new = new;
+      starts = subst (λ (e : Engine K). Starts files (rules_of e) (state_of e)) (sym is) starts;
+      spare = subst (IsSpare entries) (sym is) spare;
+      idle = ap work_of is ∙ idle;
+      turns = ap slice_of is;
+      runs = runs;
+      work = work;
+    }

@@ -5,7 +5,7 @@ use Rattle.at_model.specs.Trees.{Tree}
 use Rattle.at_model.specs.Rules.{Rules}
 use Rattle.at_model.specs.Machine.{State}
 use Rattle.at_text.specs.declared.place.Place.{Place}
-use Rattle.at_cache.specs.Keeping.{recorded_by}
+use Rattle.at_cache.specs.Keeping.{recorded_by, remembered_by}
 use Rattle.at_cache.specs.declared.keep_recorded.KeepRecorded.{KeepRecorded}
 use Rattle.at_engine.specs.Engines.{IsSound}
 use Rattle.at_engine.specs.declared.engine.Engine.{Engine}
@@ -28,7 +28,7 @@ opening t = record { tree = t; version = 0; marks = []; posts = 0; posted = [] }
 
 -- the engine can serve lines: it is sound, and what it keeps is right
 abbrev pub IsReady : Engine KeepRecorded → Type 0
-IsReady e = IsSound recorded_by e
+IsReady e = IsSound recorded_by remembered_by e
 
 -- the files give these rules, and the engine that they make is in this state
 pub record Starts (files : Files) (rules : Rules) (state : State) : Type 0 where

@@ -5,10 +5,15 @@ use Rattle.at_model.specs.Trees.{Tree}
 use Rattle.at_model.specs.Rules.{Rules}
 use Rattle.at_model.specs.Replies.{Reply}
 use Rattle.at_model.specs.Machine.{State, Outputs, text_of}
-use Rattle.at_engine.specs.Running.{Ran, max_reads}
+use Rattle.at_cache.specs.Kept.{Entries}
+use Rattle.at_engine.specs.Engines.{rules_of, slice_of, state_of}
+use Rattle.at_engine.specs.Keeping.{IsSpare, work_of}
+use Rattle.at_engine.specs.Running.{Ran, RunsFor, max_reads}
+use Rattle.at_engine.specs.declared.engine.Engine.{Engine}
 use Rattle.at_engine.specs.declared.stream.desk.Report.{Report}
 use Rattle.at_engine.specs.declared.stream.desk.RunFault.{RunFault}
 use Rattle.at_start.specs.AspectFiles.{GivesRules}
+use Rattle.at_cache.specs.Traced.{Memories}
 use Rattle.at_start.specs.GrammarFiles.{GivesClasses}
 use Rattle.at_start.specs.TreeFiles.{GivesTree}
 use Rattle.at_start.specs.Starts.{Starts, IsStartFault, aspect_bytes, opening}
@@ -24,6 +29,22 @@ pub record Answers (files : Files) (slice : ℕ) (run : Result Report RunFault) 
   pub new : State
   pub starts : Starts files rules old
   pub ran : Ran max_reads run rules slice old new readable left before after
+
+-- The files make an engine, with so many turns behind each line, and all that a run promises holds of the run of that;
+-- its work at the end is told.
+pub record RunsFiles {K R W : Type 0} (exact : Bool) (entries : K → Entries) (memories : K → Memories)
+    (remaining : R → Option (List ℕ)) (misread ending : R → Option Bool) (count : R → Option ℕ) (contents : W → Option (List ℕ))
+    (failure : W → Option Bool) (waiting : W → Bool) (files : Files) (slice : ℕ) (reader left : R) (writer later : W)
+    (answered : Answered) : Type 0 where
+  pub made : Engine K
+  pub new : Engine K
+  pub starts : Starts files (rules_of made) (state_of made)
+  pub spare : IsSpare entries made
+  pub idle : work_of made ≡ 0
+  pub turns : slice_of made ≡ slice
+  pub runs : RunsFor exact entries memories remaining misread ending count contents failure waiting max_reads made new
+      reader left writer later answered.run
+  pub work : answered.work ≡ work_of new
 
 -- So it is; or the fault is that of the first file that is refused, and nothing was read or written.
 abbrev pub AnswersFiles : Files → (slice : ℕ) → Result Answered StartFault → (readable left before after : Option (List ℕ)) → Type 0

@@ -12,10 +12,9 @@
 //! tree of the files.
 #![tactic(auto)]
 
-ghost use Rattle.std.specs.Prelude.{◌≡◌, None, IfOk, IfErr};
+ghost use Rattle.std.specs.Prelude.{◌≡◌, IfOk, IfErr};
 ghost use Rattle.at_cache.specs.Keeping.{recorded_by};
-ghost use Rattle.at_cache.specs.Kept.{KeepsAll};
-ghost use Rattle.at_engine.specs.Engines.{rules_of, state_of, IsSound};
+ghost use Rattle.at_engine.specs.Engines.{rules_of, slice_of, state_of, IsSound, KeepsNothing};
 ghost use Rattle.at_engine.specs.Keeping.{IsSpare, work_of};
 ghost use Rattle.at_start.specs.Starts.{AreSameButTree, Starts, IsReady, IsStartFault};
 
@@ -42,8 +41,8 @@ pub use serving::{Answered, answer};
 use std::alloc::Global;
 use tree::tree_of;
 
-/// The engine that the files make: they are looked at in the order grammar, aspects, tree. The bytes of the tree are given back
-/// once it is read, before its nodes are numbered; all else of the files stays as it is.
+/// The engine that the files make: they are looked at in the order grammar, aspects, tree. One turn follows each line. The bytes
+/// of the tree are given back once it is read, before its nodes are numbered; all else of the files stays as it is.
 ///
 /// # Errors
 ///
@@ -53,6 +52,7 @@ pub fn start(alloc: Global, files: &mut Files) -> Result<Engine<KeepRecorded>, S
     ensures ready { IfOk result IsReady }
     ensures spare { IfOk result (IsSpare recorded_by) }
     ensures work { IfOk result (λ e. work_of e ≡ 0) }
+    ensures slice { IfOk result (λ e. slice_of e ≡ 1) }
     ensures refused { IfErr result (IsStartFault files.old) }
     ensures rest { AreSameButTree files.old files.new }
 {
@@ -69,11 +69,12 @@ pub fn start_with<K: Keeper>(
     files: &mut Files,
     keeper: K,
 ) -> Result<Engine<K>, StartFault>
-    requires { KeepsAll (λ _. None) (K.contents keeper) }
+    requires { KeepsNothing K.contents K.memories keeper }
     ensures started { IfOk result (λ e. Starts files.old (rules_of e) (state_of e)) }
-    ensures ready { IfOk result (IsSound K.contents) }
+    ensures ready { IfOk result (IsSound K.contents K.memories) }
     ensures spare { IfOk result (IsSpare K.contents) }
     ensures work { IfOk result (λ e. work_of e ≡ 0) }
+    ensures slice { IfOk result (λ e. slice_of e ≡ 1) }
     ensures refused { IfErr result (IsStartFault files.old) }
     ensures rest { AreSameButTree files.old files.new }
 {

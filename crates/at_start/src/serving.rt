@@ -1,9 +1,9 @@
 //! The whole: lines, answered by the engine that files make.
 
-ghost use Rattle.std.specs.Prelude.{None};
-ghost use Rattle.at_cache.specs.Kept.{KeepsAll};
+ghost use Rattle.std.specs.Prelude.{◌≡◌, IfErr, IfOk};
 ghost use Rattle.at_start.specs.Starts.{AreSameButTree};
-ghost use Rattle.at_start.specs.Whole.{AnswersFiles};
+ghost use Rattle.at_start.specs.Whole.{AnswersFiles, RunsFiles};
+ghost use Rattle.at_engine.specs.Engines.{KeepsNothing};
 
 use super::fault::StartFault;
 use super::files::Files;
@@ -35,8 +35,11 @@ pub fn answer<K: Keeper, R: Input, W: Output>(
     reader: &mut R,
     writer: &mut W,
 ) -> Result<Answered, StartFault>
-    requires { KeepsAll (λ _. None) (K.contents keeper) }
+    requires { KeepsNothing K.contents K.memories keeper }
     ensures answers { AnswersFiles files.old slice result (R.remaining reader.old) (R.remaining reader.new) (W.contents writer.old) (W.contents writer.new) }
+    ensures runs { IfOk result (RunsFiles K.exact K.contents K.memories R.remaining R.failed R.ended R.reads W.contents W.failed W.waits files.old slice
+        reader.old reader.new writer.old writer.new) }
+    ensures none { IfErr result (λ _. (reader.new ≡ reader.old) × (writer.new ≡ writer.old)) }
     ensures rest { AreSameButTree files.old files.new }
 {
     let mut engine = start_with(alloc, files, keeper)?;

@@ -31,6 +31,10 @@ only_the_version : takes command_line (codes "--version" ∷ files) ≡ false
 unfolding clap_on_literals
 only_the_version = refl
 
+cut_off : takes command_line (codes "--cut-off" ∷ files) ≡ true
+unfolding clap_on_literals
+cut_off = refl
+
 all_of_it : takes command_line (codes "--socket=a" ∷ codes "--connections" ∷ codes "1000" ∷ codes "--slice=1000000" ∷ codes "--keep"
     ∷ codes "1000000000" ∷ codes "--work" ∷ files) ≡ true
 unfolding clap_on_literals

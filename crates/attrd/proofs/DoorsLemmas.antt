@@ -1,10 +1,11 @@
 -- Connections, one after the other.
-use Rattle.std.proofs.Common.{◌≡◌, ◌∙◌, ℕ, ◌+◌, ◌≤◌, List, Option, Result, Ok, Err, ap, subst, sym, refl, arith}
+use Rattle.std.proofs.Common.{◌≡◌, ◌∙◌, ℕ, ◌+◌, ◌≤◌, Result, Ok, Err, ap, subst, sym, refl, arith}
 use Rattle.at_model.specs.Rules.{Rules}
 use Rattle.at_model.specs.Machine.{State}
 use Rattle.at_engine.specs.declared.stream.desk.RunFault.TheVariants as run
 use Rattle.attrd.specs.Connections.{counted, faults}
 use Rattle.attrd.specs.Doors.{ServesAll, ServesNext, one_more}
+use Rattle.attrd.specs.Seen.{Seen}
 use Rattle.attrd.specs.declared.serving.Served.{Served}
 use Rattle.attrd.specs.declared.serving.ConnectionFault.{ConnectionFault}
 use Rattle.attrd.specs.declared.serving.ConnectionFault.TheVariants.{Socket, Run}
@@ -32,7 +33,11 @@ counted_ends result s t n is e = ap (λ (x : Served). x.ended) is ∙ ends resul
 pub counted_faults : (result : Result (Unit {0}) ConnectionFault) (s t : Served) (n : ℕ) → t ≡ counted result s → faults s ≤ n → faults t ≤ n + 1
 counted_faults result s t n is few = subst (λ (x : Served). faults x ≤ n + 1) (sym is) (let m = more result s in omega (arith, m, few))
 
-pub served_on : (rules others : Rules) (slice turns n : ℕ) (old mid new : State) (coming between later : Option (List (List ℕ))) → others ≡ rules → turns ≡ slice
-    → ServesAll rules slice old coming n mid between → ServesNext others turns mid new between later → ServesAll rules slice old coming (n + 1) new later
-served_on rules others slice turns n old mid new coming between later e f all next =
-    one_more all (subst (λ (k : ℕ). ServesNext rules k mid new between later) f (subst (λ (r : Rules). ServesNext r turns mid new between later) e next))
+pub served_on : (rules others : Rules) (slice turns n : ℕ) (old mid new : State) (door between later : Seen)
+    (before after : Served) (told : Result (Unit {0}) ConnectionFault) → others ≡ rules → turns ≡ slice → after ≡ counted told before
+    → ServesAll rules slice old door n mid between before → ServesNext others turns mid new between later told
+    → ServesAll rules slice old door (n + 1) new later after
+served_on rules others slice turns n old mid new door between later before after told e f is all next =
+    let same = subst (λ (r : Rules). ServesNext r turns mid new between later told) e next in
+    let more = one_more all (subst (λ (k : ℕ). ServesNext rules k mid new between later told) f same) in
+    subst (ServesAll rules slice old door (n + 1) new later) (sym is) more

@@ -105,22 +105,29 @@ pub record IsFit (s : Shape) : Type 0 where
   pub connections : each_of (codes "connections") (λ r. is_range max_connections (parser_of_value r.parser)) s.rules ≡ true
   pub slice : each_of (codes "slice") (λ r. is_range max_slice (parser_of_value r.parser)) s.rules ≡ true
   pub keep : each_of (codes "keep") (λ r. is_range max_keep (parser_of_value r.parser)) s.rules ≡ true
+  pub cut_off : each_of (codes "cut-off") (λ r. is_bool (parser_of_value r.parser)) s.rules ≡ true
   pub work : each_of (codes "work") (λ r. is_bool (parser_of_value r.parser)) s.rules ≡ true
   pub grammar : each_of (codes "GRAMMAR") needs_value s.rules ≡ true
   pub tree : each_of (codes "TREE") needs_value s.rules ≡ true
   pub aspects : each_of (codes "ASPECT") needs_value s.rules ≡ true
 
 fit_before : IsFit command_line.top
-fit_before = record { plain = refl; connections = refl; slice = refl; keep = refl; work = refl; grammar = refl; tree = refl; aspects = refl }
+fit_before = record { plain = refl; connections = refl; slice = refl; keep = refl; cut_off = refl; work = refl; grammar = refl; tree = refl; aspects = refl }
 
 fit_built : IsFit (built command_line).top
-fit_built = record { plain = refl; connections = refl; slice = refl; keep = refl; work = refl; grammar = refl; tree = refl; aspects = refl }
+fit_built = record { plain = refl; connections = refl; slice = refl; keep = refl; cut_off = refl; work = refl; grammar = refl; tree = refl; aspects = refl }
 
 -- a number that is there is spelled within its range
 number_there : (c : Command) (f : Found) (id : Text) (most : ℕ) → ValuesPass c f → groups_of c ≡ [] → (id ≡ [] → ⊥)
     → each_of id (λ r. is_range most (parser_of_value r.parser)) (shape_of c).rules ≡ true → IfSome (one_of id (rows_of f)) (SpellsUpTo most)
 number_there c f id most values none named each = subst (λ (o : Option Text). IfSome o (SpellsUpTo most)) (one_text-rows f id)
     (IfSome_then (one_text f id) (value_of c f id values none named) (λ t v. spells most t (value_reads c id t (is_range most) _ (range_is most) each v)))
+
+-- and a flag as one
+flag_there : (c : Command) (f : Found) (id : Text) → ValuesPass c f → groups_of c ≡ [] → (id ≡ [] → ⊥)
+    → each_of id (λ r. is_bool (parser_of_value r.parser)) (shape_of c).rules ≡ true → IfSome (one_of id (rows_of f)) IsFlag
+flag_there c f id values none named each = subst (λ (o : Option Text). IfSome o IsFlag) (one_text-rows f id)
+    (IfSome_then (one_text f id) (value_of c f id values none named) (λ t v. flags t (value_reads c id t is_bool _ bool_is each v)))
 
 pub whole_rows : (old new : Command) (m : ArgMatches) → app_of old ≡ command_line → IsFit (shape_of new) → BuildsTo old new
     → ((out-Command new).has_globals ≡ false → IsParsed new (found_of m) (has_subcommand m)) → IsWhole (rows_of (found_of m))
@@ -138,8 +145,8 @@ whole_rows old new m same fit builds parses =
       connections = number_there new f (codes "connections") max_connections values none (λ e. cc) fit.connections;
       slice = number_there new f (codes "slice") max_slice values none (λ e. cc) fit.slice;
       keep = number_there new f (codes "keep") max_keep values none (λ e. cc) fit.keep;
-      work = subst (λ (o : Option Text). IfSome o IsFlag) (one_text-rows f (codes "work"))
-          (IfSome_then (one_text f (codes "work")) (value_of new f (codes "work") values none (λ e. cc)) (λ t v. flags t (value_reads new (codes "work") t is_bool _ bool_is fit.work v)));
+      cut_off = flag_there new f (codes "cut-off") values none (λ e. cc) fit.cut_off;
+      work = flag_there new f (codes "work") values none (λ e. cc) fit.work;
       grammar = value_there new f (codes "GRAMMAR") values none (λ e. cc) fit.grammar (there (codes "GRAMMAR") refl);
       tree = value_there new f (codes "TREE") values none (λ e. cc) fit.tree (there (codes "TREE") refl);
       aspects = value_there new f (codes "ASPECT") values none (λ e. cc) fit.aspects (there (codes "ASPECT") refl);

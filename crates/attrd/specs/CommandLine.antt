@@ -45,6 +45,7 @@ listed = option (codes "socket") parser.NonEmptyString
     ∷ option (codes "connections") (parser.Signed (pos 1) (pos 1000))
     ∷ option (codes "slice") (parser.Signed (pos 1) (pos 1000000))
     ∷ option (codes "keep") (parser.Signed (pos 1) (pos 1000000000))
+    ∷ flag (codes "cut-off")
     ∷ flag (codes "work")
     ∷ files (codes "GRAMMAR") 1
     ∷ files (codes "TREE") 1

@@ -5,6 +5,10 @@ use Rattle.attrd.specs.declared.serving.Served.{Served}
 use Rattle.attrd.specs.declared.serving.ConnectionFault.{ConnectionFault}
 use Rattle.attrd.specs.declared.serving.ConnectionFault.TheVariants.{Socket, Run}
 
+-- none ended
+abbrev pub nobody : Served
+nobody = record { ended = 0; read = 0; write = 0; reads = 0; memory = 0; socket = 0 }
+
 -- how many of them ended by a fault
 abbrev pub faults : Served → ℕ
 faults s = s.read + s.write + s.reads + s.memory + s.socket

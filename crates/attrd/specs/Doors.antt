@@ -1,26 +1,37 @@
 -- What is done with the connections that come through a door.
-use Rattle.std.specs.Prelude.{◌≡◌, ℕ, ◌+◌, ⊤, List, [], ◌∷◌, Option, Some, None, Result}
+use Rattle.std.specs.Prelude.{◌≡◌, ℕ, ◌+◌, List, Option, Result, Ok, Err}
 use Rattle.at_model.specs.Rules.{Rules}
 use Rattle.at_model.specs.Machine.{State}
 use Rattle.at_engine.specs.Running.{Ran, max_reads}
 use Rattle.at_engine.specs.declared.stream.desk.Report.{Report}
 use Rattle.at_engine.specs.declared.stream.desk.RunFault.{RunFault}
+use Rattle.attrd.specs.Connections.{counted, nobody}
+use Rattle.attrd.specs.Seen.{Seen, IsRefused, IsServed, Comes}
+use Rattle.attrd.specs.declared.serving.Served.{Served}
+use Rattle.attrd.specs.declared.serving.ConnectionFault.{ConnectionFault}
+use Rattle.attrd.specs.declared.serving.ConnectionFault.TheVariants.{Socket, Run}
 
--- where it is known what those that come will send, the first of them has come, and that can be read from it
-abbrev pub Comes : (before after : Option (List (List ℕ))) → (readable : Option (List ℕ)) → Type 0
-Comes None after readable = ⊤
-Comes (Some []) after readable = ⊥
-Comes (Some (sent ∷ rest)) after readable = (readable ≡ Some sent) × (after ≡ Some rest)
+-- how a connection ended that a run has served
+abbrev pub ending : Result Report RunFault → Result (Unit {0}) ConnectionFault
+ending (Ok report) = Ok tt
+ending (Err fault) = Err (Run fault)
 
--- One has come, and a run has served what can be read from it; or none could be accepted, and nothing was done.
-pub data ServesNext (rules : Rules) (slice : ℕ) (old new : State) (coming later : Option (List (List ℕ))) : Type 0 where
-  by_run : (run : Result Report RunFault) (readable left before after : Option (List ℕ)) → Comes coming later readable
-      → Ran max_reads run rules slice old new readable left before after → ServesNext rules slice old new coming later
-  not_accepted : new ≡ old → later ≡ coming → ServesNext rules slice old new coming later
+-- One has come, a run has served what can be read from it, and what that has written was sent to it; or the door
+-- refused it, and nothing was done. Either is told.
+pub data ServesNext (rules : Rules) (slice : ℕ) (old new : State) (door later : Seen)
+    (told : Result (Unit {0}) ConnectionFault) : Type 0 where
+  by_run : (run : Result Report RunFault) (opened : Seen) (readable left before after : Option (List ℕ))
+      → Comes door opened readable before → Ran max_reads run rules slice old new readable left before after
+      → IsServed opened later after → told ≡ ending run
+      → ServesNext rules slice old new door later told
+  not_accepted : new ≡ old → IsRefused door later → told ≡ Err Socket → ServesNext rules slice old new door later told
 
--- so many were served so, each in the state in which the one before it has left the machine
-pub data ServesAll (rules : Rules) (slice : ℕ) (old : State) (coming : Option (List (List ℕ))) : (connections : ℕ) → State → (later : Option (List (List ℕ)))
-    → Type 0 where
-  none : ServesAll rules slice old coming 0 old coming
-  one_more : {n : ℕ} {mid new : State} {between later : Option (List (List ℕ))} → ServesAll rules slice old coming n mid between
-      → ServesNext rules slice mid new between later → ServesAll rules slice old coming (n + 1) new later
+-- So many were served so, each in the state in which the one before it has left the machine, and it was counted how
+-- they ended.
+pub data ServesAll (rules : Rules) (slice : ℕ) (old : State) (door : Seen) : (connections : ℕ) → State → (later : Seen)
+    → Served → Type 0 where
+  none : ServesAll rules slice old door 0 old door nobody
+  one_more : {n : ℕ} {mid new : State} {between later : Seen} {served : Served}
+      {told : Result (Unit {0}) ConnectionFault}
+      → ServesAll rules slice old door n mid between served → ServesNext rules slice mid new between later told
+      → ServesAll rules slice old door (n + 1) new later (counted told served)

@@ -2,4 +2,5 @@ pub mod Statuses
 pub mod CommandLine
 pub mod Options
 pub mod Connections
+pub mod Seen
 pub mod Doors

@@ -1,6 +1,6 @@
 -- What the words of the command line ask for.
 use Rattle.std.specs.Prelude.{◌≡◌, ◌⊎◌, ◌≤◌, ◌<◌, ℕ, Bool, true, false, List, length, map, Option}
-use Rattle.std.specs.Prelude.{Some, IfSome, codes, is_some, option_map}
+use Rattle.std.specs.Prelude.{◌&&◌, Some, None, IfSome, codes, is_some, option_map}
 use Rattle.std.specs.Option.{option_map_or}
 use Rattle.std.specs.Str.{bytes_eq}
 use Rattle.std.specs.Str.Parse.{IsNumeral, digits_value, without_leading_plus}
@@ -32,6 +32,10 @@ abbrev pub IsUsable : Options → Type 0
 IsUsable o = (0 < length o.aspects.items) × IsUpTo max_connections o.connections × IsUpTo max_slice o.slice
     × IfSome o.keep (IsUpTo max_keep)
 
+-- no bound is asked for where what an edit may have changed is kept
+abbrev pub IsApart : Options → Type 0
+IsApart o = o.cut_off ≡ true → o.keep ≡ None
+
 -- ---- the values of the words
 
 -- the number that a text spells
@@ -46,20 +50,26 @@ number_asked text = option_map_or number text 1
 abbrev pub is_set : Option Text → Bool
 is_set text = option_map_or (λ t. bytes_eq t (codes "true")) text false
 
+-- whether the words that exclude each other are both there
+abbrev pub are_both : List Row → Bool
+are_both rows = is_set (one_of (codes "cut-off") rows) && is_some (one_of (codes "keep") rows)
+
 -- the options are the values of the words, which stand in rows, one for each name
 pub record HasValues (rows : List Row) (o : Options) : Type 0 where
   pub socket : option_map string_bytes o.socket ≡ first_of (codes "socket") rows
   pub connections : o.connections ≡ number_asked (one_of (codes "connections") rows)
   pub slice : o.slice ≡ number_asked (one_of (codes "slice") rows)
   pub keep : o.keep ≡ option_map number (one_of (codes "keep") rows)
+  pub cut_off : o.cut_off ≡ is_set (one_of (codes "cut-off") rows)
   pub work : o.work ≡ is_set (one_of (codes "work") rows)
   pub grammar : Some (string_bytes o.grammar) ≡ first_of (codes "GRAMMAR") rows
   pub tree : Some (string_bytes o.tree) ≡ first_of (codes "TREE") rows
   pub aspects : Some (map string_bytes o.aspects.items) ≡ all_of (codes "ASPECT") rows
 
--- the command line takes the words, and the options are their values
+-- the command line takes the words, none of which excludes another, and the options are their values
 pub record Asks (words : List Text) (o : Options) : Type 0 where
   pub taken : takes command_line words ≡ true
+  pub apart : are_both (matches_of command_line words) ≡ false
   pub values : HasValues (matches_of command_line words) o
 
 -- ---- what is known of the words once they are matched
@@ -81,6 +91,7 @@ pub record IsWhole (rows : List Row) : Type 0 where
   pub connections : IfSome (one_of (codes "connections") rows) (SpellsUpTo max_connections)
   pub slice : IfSome (one_of (codes "slice") rows) (SpellsUpTo max_slice)
   pub keep : IfSome (one_of (codes "keep") rows) (SpellsUpTo max_keep)
+  pub cut_off : IfSome (one_of (codes "cut-off") rows) IsFlag
   pub work : IfSome (one_of (codes "work") rows) IsFlag
   pub grammar : is_some (first_of (codes "GRAMMAR") rows) ≡ true
   pub tree : is_some (first_of (codes "TREE") rows) ≡ true

@@ -1,6 +1,6 @@
 //! Where connections come from.
-ghost use Rattle.std.specs.Prelude.{◌≡◌, ℕ, List, Option, None, IfOk, OnErr};
-ghost use Rattle.attrd.specs.Doors.{Comes};
+ghost use Rattle.std.specs.Prelude.{IfOk, OnErr};
+ghost use Rattle.attrd.specs.Seen.{Comes, IsRefused, IsServed, Seen, unseen};
 
 use at_engine::{Input, Output, Watched};
 use std::io;
@@ -23,8 +23,8 @@ pub trait Door {
     /// Where its replies are written to.
     type Writer: Output + Drop;
 
-    /// What those that come will send, each in its turn, where that is known.
-    ghost coming: { Self → Option (List (List ℕ)) };
+    /// What is known of those that come, of what is written to them, and of how many aren't accepted.
+    ghost seen: { Self → Seen };
 
     /// Both ends of the connection that comes next.
     ///
@@ -32,8 +32,14 @@ pub trait Door {
     ///
     /// Where it can't be accepted.
     fn open(&mut self) -> io::Result<Ends<Self::Reader, Self::Writer>>
-        ensures comes { IfOk result (λ ends. Comes (coming self.old) (coming self.new) (Self.Reader.remaining ends.reader)) }
-        ensures none { OnErr result (coming self.new ≡ coming self.old) };
+        ensures comes { IfOk result (λ ends. Comes (seen self.old) (seen self.new) (Self.Reader.remaining ends.reader)
+            (Self.Writer.contents ends.writer)) }
+        ensures refused { OnErr result (IsRefused (seen self.old) (seen self.new)) };
+
+    /// Notes that the connection that has come last was served. Where nothing is known of a door, nothing is noted; where what is
+    /// written to connections is known, this one's stands with it then.
+    fn note_served(&mut self, ends: &Ends<Self::Reader, Self::Writer>)
+        ensures { IsServed (seen self.old) (seen self.new) (Self.Writer.contents ends.now.writer) };
 }
 
 impl Door for UnixListener {
@@ -41,7 +47,7 @@ impl Door for UnixListener {
 
     type Writer = Watched<UnixStream>;
 
-    ghost coming = { λ _. None };
+    ghost seen = { λ _. unseen };
 
     fn open(&mut self) -> io::Result<Ends<Watched<UnixStream>, Watched<UnixStream>>> {
         let (reader, _) = self.accept()?;
@@ -51,4 +57,6 @@ impl Door for UnixListener {
             writer: Watched::new(writer),
         })
     }
+
+    fn note_served(&mut self, ends: &Ends<Watched<UnixStream>, Watched<UnixStream>>) {}
 }

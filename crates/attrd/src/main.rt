@@ -1,8 +1,8 @@
 //! attrd: an attribute tree server in the JastAdd profile. It reads a grammar, a tree and aspects, and answers
 //! lines of standard input on standard output, or those of the connections of a socket.
 //!
-//! **Its specs:** `CommandLine` is which words are taken, `Options` what they ask for, `Doors` what is done with the
-//! connections that come, `Connections` how they ended, `Statuses` with which status the program ends.
+//! **Its specs:** `CommandLine` is which words are taken, `Options` what they ask for, `Seen` what is known of those who connect,
+//! `Doors` what is done with their connections, `Connections` how these ended, `Statuses` with which status the program ends.
 //!
 //! **Where to begin:** `main`, below; `options/words.rt` reads the words, `socket.rt` has the socket and its file,
 //! `door.rt` where connections come from, `serving.rt` serves them, `failure.rt` has what is printed.
@@ -14,7 +14,7 @@
 ghost use Rattle.std.specs.Prelude.{◌≡◌, None, IfSome, option_map};
 ghost use Rattle.at_cache.specs.Bound.{kept_by};
 ghost use Rattle.at_cache.specs.Kept.{KeepsAll};
-ghost use Rattle.at_engine.specs.Engines.{IsSound};
+ghost use Rattle.at_engine.specs.Engines.{IsSound, KeepsNothing};
 ghost use Rattle.at_start.specs.Starts.{IsFaultOf};
 
 mod door;
@@ -23,7 +23,7 @@ mod options;
 mod serving;
 mod socket;
 
-use at_cache::{KeepAtMost, KeepRecorded, Keeper};
+use at_cache::{KeepAtMost, KeepCutOff, KeepRecorded, Keeper};
 use at_engine::{Engine, Watched};
 use at_start::{Files, MAX_FILE, Source, StartFault, answer, start_with};
 use failure::{Failure, status, tell};
@@ -64,6 +64,10 @@ fn ended(rt: &HostRuntime, served: &Result<(), Failure>, work: Option<u64>) -> E
 fn serve_words(rt: &HostRuntime, work: &mut Option<u64>) -> Result<(), Failure> {
     let options = asked(rt)?;
     let mut files = read_files(rt, &options)?;
+    if options.cut_off {
+        let keeper = KeepCutOff::new(rt.alloc());
+        return serve_over(rt, &options, &mut files, keeper, work);
+    }
     match bounded(rt.alloc(), &options) {
         Some(keeper) => serve_over(rt, &options, &mut files, keeper, work),
         None => serve_over(
@@ -95,7 +99,7 @@ fn serve_over<K: Keeper>(
     keeper: K,
     work: &mut Option<u64>,
 ) -> Result<(), Failure>
-    requires { KeepsAll (λ _. None) (K.contents keeper) }
+    requires { KeepsNothing K.contents K.memories keeper }
 {
     let mut done = None;
     let served = match &options.socket {
@@ -148,7 +152,7 @@ fn serve_standard<K: Keeper>(
     keeper: K,
     work: &mut Option<u64>,
 ) -> Result<(), Failure>
-    requires { KeepsAll (λ _. None) (K.contents keeper) }
+    requires { KeepsNothing K.contents K.memories keeper }
 {
     let mut reader = Watched::new(rt.reader());
     let mut writer = Watched::new(io::writer(rt));
@@ -180,7 +184,7 @@ fn serve_connections<K: Keeper>(
     keeper: K,
     work: &mut Option<u64>,
 ) -> Result<(), Failure>
-    requires { KeepsAll (λ _. None) (K.contents keeper) }
+    requires { KeepsNothing K.contents K.memories keeper }
 {
     let mut engine = match start_with(rt.alloc(), files, keeper) {
         Ok(engine) => engine,
@@ -200,7 +204,7 @@ fn serve_socket<K: Keeper>(
     connections: u16,
     engine: &mut Engine<K>,
 ) -> Result<(), Failure>
-    requires { IsSound K.contents engine.old }
+    requires { IsSound K.contents K.memories engine.old }
 {
     let mut socket = match Socket::bind(rt, path) {
         Ok(socket) => socket,

@@ -19,6 +19,8 @@ pub struct Options {
     pub slice: u32,
     /// How many values an edit may find kept without that all are forgotten; any number where there is none.
     pub keep: Option<u32>,
+    /// Whether what an edit may have changed is kept until it is known that it did.
+    pub cut_off: bool,
     /// Whether the engine's work is told at the end.
     pub work: bool,
     pub grammar: String,

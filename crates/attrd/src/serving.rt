@@ -2,8 +2,8 @@
 ghost use Rattle.std.specs.Prelude.{◌≡◌, ◌≤◌, ◌+◌, ◌<◌, ◌^◌, ◌==◌, IsTrue};
 ghost use Rattle.at_engine.specs.Engines.{rules_of, slice_of, state_of, IsSound};
 ghost use Rattle.at_engine.specs.Keeping.{IsSpare};
-ghost use Rattle.attrd.specs.Connections.{faults, counted};
-ghost use Rattle.attrd.specs.Doors.{ServesAll, ServesNext};
+ghost use Rattle.attrd.specs.Connections.{counted, faults, nobody};
+ghost use Rattle.attrd.specs.Doors.{ServesAll, ServesNext, ending};
 
 use crate::door::Door;
 use at_cache::Keeper;
@@ -63,8 +63,7 @@ impl fmt::Display for Served {
 impl Served {
     /// No connection ended.
     pub fn none() -> Served
-        ensures ended { result.ended ≡ 0 }
-        ensures faults { faults result ≡ 0 }
+        ensures { result ≡ nobody }
     {
         Served {
             ended: 0,
@@ -104,15 +103,15 @@ impl Served {
 /// Serves so many connections that come through the door, one after the other, all with this engine. A connection's fault
 /// ends that connection alone; one that isn't accepted counts, too.
 pub fn serve<K: Keeper, D: Door>(engine: &mut Engine<K>, door: &mut D, n: u16) -> Served
-    requires sound { IsSound K.contents engine.old }
-    ensures serves { ServesAll (rules_of engine.old) (slice_of engine.old) (state_of engine.old) (D.coming door.old) n
-        (state_of engine.new) (D.coming door.new) }
+    requires sound { IsSound K.contents K.memories engine.old }
+    ensures serves { ServesAll (rules_of engine.old) (slice_of engine.old) (state_of engine.old) (D.seen door.old) n
+        (state_of engine.new) (D.seen door.new) result }
     ensures spare { IsTrue K.exact → IsSpare K.contents engine.old → IsSpare K.contents engine.new }
     ensures ended { result.ended ≡ n }
     ensures faults { faults result ≤ n }
     ensures rules { rules_of engine.new ≡ rules_of engine.old }
     ensures slice { slice_of engine.new ≡ slice_of engine.old }
-    ensures sound { IsSound K.contents engine.new }
+    ensures sound { IsSound K.contents K.memories engine.new }
 {
     let mut served = Served::none();
     for turn in 0..n {
@@ -127,23 +126,26 @@ fn serve_next<K: Keeper, D: Door>(
     engine: &mut Engine<K>,
     door: &mut D,
 ) -> Result<(), ConnectionFault>
-    requires sound { IsSound K.contents engine.old }
+    requires sound { IsSound K.contents K.memories engine.old }
     ensures serves { ServesNext (rules_of engine.old) (slice_of engine.old) (state_of engine.old) (state_of engine.new)
-        (D.coming door.old) (D.coming door.new) }
+        (D.seen door.old) (D.seen door.new) result }
     ensures spare { IsTrue K.exact → IsSpare K.contents engine.old → IsSpare K.contents engine.new }
     ensures rules { rules_of engine.new ≡ rules_of engine.old }
     ensures slice { slice_of engine.new ≡ slice_of engine.old }
-    ensures sound { IsSound K.contents engine.new }
+    ensures sound { IsSound K.contents K.memories engine.new }
 {
     let Ok(mut ends) = door.open() else {
         return Err(ConnectionFault::Socket);
     };
     let served = run(engine, &mut ends.reader, &mut ends.writer);
+    door.note_served(&ends);
     ended(served)
 }
 
 /// How a connection ended that a run has served.
-fn ended(served: Result<Report, RunFault>) -> Result<(), ConnectionFault> {
+fn ended(served: Result<Report, RunFault>) -> Result<(), ConnectionFault>
+    ensures { result ≡ ending served }
+{
     match served {
         Ok(_) => Ok(()),
         Err(fault) => Err(ConnectionFault::Run(fault)),

@@ -30,7 +30,7 @@ pub struct Driven {
 ///
 /// Where that room is refused, or room in an output more than once.
 pub fn drive<K: Keeper>(alloc: Global, engine: &mut Engine<K>, lines: &str) -> Result<Driven, Stop>
-    requires { IsSound K.contents engine.old }
+    requires { IsSound K.contents K.memories engine.old }
 {
     let mut driven = Driven {
         lines: String::with_capacity(alloc, ROOM)?,
@@ -52,8 +52,8 @@ fn serve<K: Keeper>(
     line: &str,
     driven: &mut Driven,
 ) -> Result<(), Stop>
-    requires { IsSound K.contents engine.old }
-    ensures { IsSound K.contents engine.new }
+    requires { IsSound K.contents K.memories engine.old }
+    ensures { IsSound K.contents K.memories engine.new }
 {
     let mut out = Vec::new(alloc);
     if !is_served(engine, line, &mut out)? {
@@ -71,8 +71,8 @@ fn is_served<K: Keeper>(
     line: &str,
     out: &mut Vec<u8>,
 ) -> Result<bool, AllocError>
-    requires { IsSound K.contents engine.old }
-    ensures { IsSound K.contents engine.new }
+    requires { IsSound K.contents K.memories engine.old }
+    ensures { IsSound K.contents K.memories engine.new }
 {
     let version = engine.version();
     match engine.line(line.as_bytes(), out) {
@@ -88,8 +88,8 @@ fn is_served_again<K: Keeper>(
     out: &mut Vec<u8>,
     version: u64,
 ) -> Result<bool, AllocError>
-    requires { IsSound K.contents engine.old }
-    ensures { IsSound K.contents engine.new }
+    requires { IsSound K.contents K.memories engine.old }
+    ensures { IsSound K.contents K.memories engine.new }
 {
     if !out.is_empty() || engine.version() != version {
         return Ok(false);
@@ -105,8 +105,8 @@ fn turn<K: Keeper>(
     limit: u32,
     driven: &mut Driven,
 ) -> Result<(), Stop>
-    requires { IsSound K.contents engine.old }
-    ensures { IsSound K.contents engine.new }
+    requires { IsSound K.contents K.memories engine.old }
+    ensures { IsSound K.contents K.memories engine.new }
 {
     'turns: for _ in 0..limit {
         if !turn_once(alloc, engine, driven)? {
@@ -122,8 +122,8 @@ fn turn_once<K: Keeper>(
     engine: &mut Engine<K>,
     driven: &mut Driven,
 ) -> Result<bool, Stop>
-    requires { IsSound K.contents engine.old }
-    ensures { IsSound K.contents engine.new }
+    requires { IsSound K.contents K.memories engine.old }
+    ensures { IsSound K.contents K.memories engine.new }
 {
     let mut out = Vec::new(alloc);
     let is_open = match engine.turn(&mut out) {

@@ -2,14 +2,13 @@
 //! memory is refused in their midst. `tools/starve.py` runs each once for each request, and has that one refused.
 #![tactic(auto)]
 
-ghost use Rattle.std.specs.Prelude.{None};
-ghost use Rattle.at_cache.specs.Kept.{KeepsAll};
+ghost use Rattle.at_engine.specs.Engines.{KeepsNothing};
 
 mod driving;
 mod sample;
 mod telling;
 
-use at_cache::{KeepAtMost, KeepNone, KeepRecorded, KeepUntilEdit, Keeper};
+use at_cache::{KeepAtMost, KeepCutOff, KeepNone, KeepRecorded, KeepUntilEdit, Keeper};
 use driving::{Driven, drive};
 use sample::{EDITS, MOVES, Script, TURNS, Way, engine};
 use std::alloc::Global;
@@ -65,7 +64,8 @@ fn told_of_each(rt: &HostRuntime, script: &Script) -> Result<bool, Stop> {
     let _ = told_of(rt, script, "nothing")?;
     let _ = told_of(rt, script, "until-edit")?;
     let _ = told_of(rt, script, "over-edits")?;
-    told_of(rt, script, "few")
+    let _ = told_of(rt, script, "few")?;
+    told_of(rt, script, "cut-off")
 }
 
 /// Whether there is a session of that name, and the word is a keeper's; its verdict is printed then.
@@ -98,6 +98,7 @@ fn name_of(word: &str) -> Option<&'static str> {
         "until-edit" => Some("kept until an edit"),
         "over-edits" => Some("kept over edits"),
         "few" => Some("few kept over edits"),
+        "cut-off" => Some("kept again over edits"),
         _ => None,
     }
 }
@@ -123,6 +124,12 @@ fn judged_with(alloc: Global, script: &Script, word: &str) -> Result<Verdict, St
             KeepAtMost::new(alloc, FEW),
             KeepAtMost::new(alloc, FEW),
         ),
+        "cut-off" => judged(
+            alloc,
+            script,
+            KeepCutOff::new(alloc),
+            KeepCutOff::new(alloc),
+        ),
         _ => judged(alloc, script, KeepNone::new(alloc), KeepNone::new(alloc)),
     }
 }
@@ -138,8 +145,8 @@ fn text(verdict: Verdict) -> &'static str {
 /// How a session goes with the first keeper. Where a line or a question is answered `memory`, an engine over the second is
 /// asked what the others' replies are; no request is refused any more then.
 fn judged<K: Keeper>(alloc: Global, script: &Script, first: K, second: K) -> Result<Verdict, Stop>
-    requires first { KeepsAll (λ _. None) (K.contents first) }
-    requires second { KeepsAll (λ _. None) (K.contents second) }
+    requires first { KeepsNothing K.contents K.memories first }
+    requires second { KeepsNothing K.contents K.memories second }
 {
     match script.way {
         Way::Run => judged_run(alloc, script, first, second),
@@ -154,8 +161,8 @@ fn judged_run<K: Keeper>(
     first: K,
     second: K,
 ) -> Result<Verdict, Stop>
-    requires first { KeepsAll (λ _. None) (K.contents first) }
-    requires second { KeepsAll (λ _. None) (K.contents second) }
+    requires first { KeepsNothing K.contents K.memories first }
+    requires second { KeepsNothing K.contents K.memories second }
 {
     let whole = session(alloc, first, script.lines)?;
     if whole.memory == 0 && whole.replies.as_slice() == script.replies.as_bytes() {
@@ -174,8 +181,8 @@ fn judged_calls<K: Keeper>(
     first: K,
     second: K,
 ) -> Result<Verdict, Stop>
-    requires first { KeepsAll (λ _. None) (K.contents first) }
-    requires second { KeepsAll (λ _. None) (K.contents second) }
+    requires first { KeepsNothing K.contents K.memories first }
+    requires second { KeepsNothing K.contents K.memories second }
 {
     let mut engine = engine(alloc, first)?;
     let whole = drive(alloc, &mut engine, script.lines)?;
@@ -190,7 +197,7 @@ fn judged_calls<K: Keeper>(
 
 /// Whether an engine over the keeper tells the same to the lines, where it is given no turns between them.
 fn is_told_again<K: Keeper>(alloc: Global, keeper: K, whole: &Driven) -> Result<bool, Stop>
-    requires { KeepsAll (λ _. None) (K.contents keeper) }
+    requires { KeepsNothing K.contents K.memories keeper }
 {
     let mut engine = engine(alloc, keeper)?;
     engine.set_slice(0);
@@ -203,7 +210,7 @@ fn is_told_again<K: Keeper>(alloc: Global, keeper: K, whole: &Driven) -> Result<
 
 /// What a fresh engine over the keeper tells to the lines.
 fn session<K: Keeper>(alloc: Global, keeper: K, lines: &str) -> Result<Told, Stop>
-    requires { KeepsAll (λ _. None) (K.contents keeper) }
+    requires { KeepsNothing K.contents K.memories keeper }
 {
     let mut engine = engine(alloc, keeper)?;
     heard(alloc, &mut engine, lines)
@@ -211,7 +218,7 @@ fn session<K: Keeper>(alloc: Global, keeper: K, lines: &str) -> Result<Told, Sto
 
 /// Whether one of the lines was answered `memory`, and an engine over the keeper tells the same to the others.
 fn is_as_fed<K: Keeper>(alloc: Global, keeper: K, lines: &str, whole: &Told) -> Result<bool, Stop>
-    requires { KeepsAll (λ _. None) (K.contents keeper) }
+    requires { KeepsNothing K.contents K.memories keeper }
 {
     let Ok(replies) = str::from_utf8(&whole.replies) else {
         return Ok(false);

@@ -1,8 +1,7 @@
 //! The calculator sample, sessions over it, and the engine that serves them.
 
-ghost use Rattle.std.specs.Prelude.{None, IfOk};
-ghost use Rattle.at_cache.specs.Kept.{KeepsAll};
-ghost use Rattle.at_engine.specs.Engines.{IsSound};
+ghost use Rattle.std.specs.Prelude.{IfOk};
+ghost use Rattle.at_engine.specs.Engines.{IsSound, KeepsNothing};
 
 use crate::telling::Stop;
 use at_cache::Keeper;
@@ -162,8 +161,8 @@ pub const TURNS: &Script = &Script {
 ///
 /// For want of memory, or where the files are refused.
 pub fn engine<K: Keeper>(alloc: Global, keeper: K) -> Result<Engine<K>, Stop>
-    requires { KeepsAll (λ _. None) (K.contents keeper) }
-    ensures sound { IfOk result (IsSound K.contents) }
+    requires { KeepsNothing K.contents K.memories keeper }
+    ensures sound { IfOk result (IsSound K.contents K.memories) }
 {
     let mut files = files(alloc)?;
     match start_with(alloc, &mut files, keeper) {

@@ -38,7 +38,7 @@ pub struct Told {
 ///
 /// Where room for the replies, or a buffer, is refused, and where the run ends by another fault.
 pub fn heard<K: Keeper>(alloc: Global, engine: &mut Engine<K>, lines: &str) -> Result<Told, Stop>
-    requires { IsSound K.contents engine.old }
+    requires { IsSound K.contents K.memories engine.old }
 {
     let mut reader = lines.as_bytes();
     let mut replies = Vec::with_capacity(alloc, 4_096)?;

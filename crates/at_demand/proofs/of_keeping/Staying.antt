@@ -113,7 +113,7 @@ module _ (rules : Rules) {e : Edit} {t u : Tree} {path later : ℕ → Option No
   joined : (a : ℕ) (n m : Node) (b : ℕ) → Names path a n → Names (carried e) n m → Names later b m → Stays path e a b
   joined a n m b p q r = record { same = over.apart a b m (over.goes a n p ∙ q) r; was = n; goes = m; named = p; carries = q }
 
-  named_later : (a b : ℕ) (s : Stays path e a b) → later b ≡ Some s.goes
+  pub named_later : (a b : ℕ) (s : Stays path e a b) → later b ≡ Some s.goes
   named_later a b s = subst (λ z. later z ≡ Some s.goes) s.same (over.goes a s.was s.named ∙ s.carries)
 
   joined_up : (a : ℕ × ℕ) (n m : Node × ℕ) (b : ℕ × ℕ) → Names path a.0 n.0 × (a.1 ≡ n.1) → Names (carried e) n.0 m.0 × (n.1 ≡ m.1) → Names later b.0 m.0 × (b.1 ≡ m.1) → Stays path e a.0 b.0 × (a.1 ≡ b.1)
@@ -127,7 +127,7 @@ module _ (rules : Rules) {e : Edit} {t u : Tree} {path later : ℕ → Option No
   by_paths m free = edited_alike rules.classes t over.conforming e u over.accepted m free
 
   -- what isn't touched shows the same numbers
-  alike_there : (l : Location ℕ) → Untouched l → AlikeAt (Stays path e) old new l
+  pub alike_there : (l : Location ℕ) → Untouched l → AlikeAt (Stays path e) old new l
   alike_there _ free _ (is {n = a} {m = b} s) =
       over.shown (Is a) (Is s.was) (is s.named) ∙ by_paths (Is s.was) (free (Is s.was) (is s.named)) (Is s.goes) (is s.carries) ∙ sym (over.shown_later (Is b) (Is s.goes) (is (named_later a b s)))
   alike_there _ free _ (tok {n = a} {m = b} part s) =
@@ -142,7 +142,7 @@ module _ (rules : Rules) {e : Edit} {t u : Tree} {path later : ℕ → Option No
   equations_stay : EquationsLike (Stays path e) means means
   equations_stay = evaluation-like rules nat_eq nat_eq (λ a b c d r s. ap (λ z. nat_eq z b) r.same ∙ ap (λ z. nat_eq c z) s.same)
 
-  node_stays : (n : ℕ) (m : Node) → path n ≡ Some m → Untouched (Is n) → Stays path e n n
+  pub node_stays : (n : ℕ) (m : Node) → path n ≡ Some m → Untouched (Is n) → Stays path e n n
   node_stays n m p free =
       let (v, found) = over.there n m p in
       let (x, carries) = goes_on (carried e m) (gone_where_touched rules.classes t u e over.accepted m v found ∙ free (Is m) (is p)) in

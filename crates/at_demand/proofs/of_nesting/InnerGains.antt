@@ -57,6 +57,7 @@ known_none rules look entries right plain = record {
   finds = λ j v e. absurd (none-some v
       e);
   stands = λ j v e. absurd (none-some v e);
+  inner = λ j v e. absurd (none-some v e);
 }
 
 -- an instance leads to what it comes to
@@ -193,6 +194,7 @@ module _ (rules : Rules) (s : Shown) (exact : Bool) where
               finds = known.finds;
               stands = λ j y e. entered_on old new
                   stays j (known.stands j y e);
+              inner = known.inner;
             };
             still = λ j y e. e;
             stays = λ is all. record {
@@ -229,10 +231,11 @@ module _ (rules : Rules) (s : Shown) (exact : Bool) where
   -- a value is remembered
   pub gains_more : (i : Instance ℕ) (old new : Entries) (f g h : Found) (w x : ℕ) (c : ValueCode) →
       Gains rules s exact i old new f g w x → h ≡ insert_entry same_instance g i c →
-      HasValue (contents s) (meaning rules) i (value_view c) → IsSome (new i) → Gains rules s exact i old new f h w x
-  gains_more i old new f g h w x c a put has some = record {
+      HasValue (contents s) (meaning rules) i (value_view c) → IsSome (new i) → is_lazy rules i.attribute ≡ false →
+      Gains rules s exact i old new f h w x
+  gains_more i old new f g h w x c a put has some lazy = record {
     worthy = a.worthy;
-    known = known_more rules (contents s) new g a.known h i c put has some;
+    known = known_more rules (contents s) new g a.known h i c put has some lazy;
     still = λ j v e. still_remembered rules (contents s) new g a.known h i c put has j v (a.still j v e);
     stays = a.stays;
     spare = a.spare;
@@ -242,9 +245,10 @@ module _ (rules : Rules) (s : Shown) (exact : Bool) where
   -- and known then
   pub more_known : (i : Instance ℕ) (old new : Entries) (f g h : Found) (w x : ℕ) (c : ValueCode) →
       Gains rules s exact i old new f g w x → h ≡ insert_entry same_instance g i c →
-      HasValue (contents s) (meaning rules) i (value_view c) → IsSome (new i) → known_by new h i ≡ Some (value_view c)
-  more_known i old new f g h w x c a put has some =
-      found_known rules (contents s) new h (known_more rules (contents s) new g a.known h i c put has some) i
+      HasValue (contents s) (meaning rules) i (value_view c) → IsSome (new i) → is_lazy rules i.attribute ≡ false →
+      known_by new h i ≡ Some (value_view c)
+  more_known i old new f g h w x c a put has some lazy =
+      found_known rules (contents s) new h (known_more rules (contents s) new g a.known h i c put has some lazy) i
       (value_view c) (remembered_is rules (contents s) new g a.known h i c put has)
 
   -- where the same is remembered, and counted

@@ -6,7 +6,7 @@ use Rattle.std.specs.Option.{option_map}
 use Rattle.std.proofs.lemmas.Option.{same_Some}
 use Rattle.indexmap.specs.IndexMap.{insert_entry}
 use Rattle.at_model.specs.Run.{Value, Instance, Contents, Known}
-use Rattle.at_model.specs.Rules.{Rules}
+use Rattle.at_model.specs.Rules.{Rules, is_lazy}
 use Rattle.at_model.specs.Meaning.{Finds, HasValue, Right}
 use Rattle.at_model.proofs.Outcomes.{once}
 use Rattle.at_body.specs.Same.{same_instance}
@@ -150,8 +150,8 @@ module _ (rules : Rules) (look : Contents ℕ) where
       pub remembered_is : remembered more i ≡ Some (value_view x)
       remembered_is = now i ∙ ap (λ (b : Bool). if b then Some (value_view x) else remembered found i) (same_refl i)
 
-      pub known_more : IsSome (entries i) → AreKnown rules look entries more
-      known_more some = record {
+      pub known_more : IsSome (entries i) → is_lazy rules i.attribute ≡ false → AreKnown rules look entries more
+      known_more some lazy = record {
         right = known.right;
         plain = known.plain;
         finds = λ j v e. elim (remembered_now j v e) [
@@ -163,5 +163,9 @@ module _ (rules : Rules) (look : Contents ℕ) where
           | inl was ↦ known.stands j v was
           | inr p ↦ subst (λ (y : Instance
               ℕ). IsSome (entries y)) (sym p.0) some
+        ];
+        inner = λ j v e. elim (remembered_now j v e) [
+          | inl was ↦ known.inner j v was
+          | inr p ↦ subst (λ (y : Instance ℕ). is_lazy rules y.attribute ≡ false) (sym p.0) lazy
         ];
       }

@@ -2,6 +2,7 @@
 
 ghost use Rattle.std.specs.Prelude.{◌≡◌, IfOk, None, false};
 ghost use Rattle.at_model.specs.Rules.{is_lazy};
+ghost use Rattle.at_cache.specs.Traced.{StayTraced};
 ghost use Rattle.at_demand.specs.Known.{AreValued, FoundAs, FoundKept};
 ghost use Rattle.at_demand.specs.Keeping.{HasGathered, Shares};
 
@@ -9,7 +10,7 @@ use super::Demand;
 use crate::evaluation::Find;
 use crate::gathering::Sources;
 use at_body::Inst;
-use at_cache::{Keeper, Put};
+use at_cache::{Keeper, Order, Put};
 use at_rules::Rules;
 use indexmap::IndexMap;
 use std::alloc::AllocError;
@@ -27,6 +28,7 @@ impl<K: Keeper> Demand<K> {
         ensures shares { Shares rules.now K.exact found.now.entries (K.contents self.old.keeper) (K.contents self.new.keeper) }
         ensures work { self.new.work ≡ self.old.work }
         ensures sources { IfOk result (HasGathered (K.contents self.new.keeper) found.now.entries find.now) }
+        ensures traces { StayTraced (K.memories self.old.keeper) (K.memories self.new.keeper) }
     {
         let sources = Sources::of(self.alloc, &self.keeper, found, find, &mut self.sharing)?;
         let due = self.sharing.take_due(self.alloc);
@@ -51,6 +53,7 @@ impl<K: Keeper> Demand<K> {
         requires found { FoundKept (K.contents self.old.keeper) found.now.entries }
         ensures shares { Shares rules.now K.exact found.now.entries (K.contents self.old.keeper) (K.contents self.new.keeper) }
         ensures work { self.new.work ≡ self.old.work }
+        ensures traces { StayTraced (K.memories self.old.keeper) (K.memories self.new.keeper) }
     {
         let mut any = false;
         for position in positions {
@@ -73,6 +76,7 @@ impl<K: Keeper> Demand<K> {
         requires found { FoundKept (K.contents self.old.keeper) found.now.entries }
         ensures shares { Shares rules.now K.exact found.now.entries (K.contents self.old.keeper) (K.contents self.new.keeper) }
         ensures work { self.new.work ≡ self.old.work }
+        ensures traces { StayTraced (K.memories self.old.keeper) (K.memories self.new.keeper) }
     {
         let Some((inst, find)) = found.get_index(position) else {
             return Ok(false);
@@ -101,10 +105,14 @@ impl<K: Keeper> Demand<K> {
         requires at { FoundAs found.now.entries inst.now find.now }
         ensures shares { Shares rules.now K.exact found.now.entries (K.contents self.old.keeper) (K.contents self.new.keeper) }
         ensures work { self.new.work ≡ self.old.work }
+        ensures traces { StayTraced (K.memories self.old.keeper) (K.memories self.new.keeper) }
     {
         let sources = Sources::of(self.alloc, &self.keeper, found, find, &mut self.sharing)?;
         let uses = sources.kept.as_slice();
-        let put = self.keeper.put(inst.copy(self.alloc)?, None, sources.reads.as_slice(), uses)?;
+        let reads = sources.reads.as_slice();
+        let put = self
+            .keeper
+            .put(inst.copy(self.alloc)?, None, reads, uses, Order::Any)?;
         Ok(put == Put::Kept)
     }
 }

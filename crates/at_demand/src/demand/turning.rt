@@ -11,12 +11,14 @@ ghost use Rattle.at_model.specs.WellFormed.{AreWellFormed, IsTreeSound};
 ghost use Rattle.at_store.specs.Shown.{IsIdle, Shown, contents, tree};
 ghost use Rattle.at_body.specs.Typed.{class_shown};
 ghost use Rattle.at_cache.specs.Kept.{Entries};
+ghost use Rattle.at_cache.specs.Traced.{StayTraced};
 ghost use Rattle.at_demand.specs.Known.{meaning, kept_values, known_in, ArePlain, FoundKept};
 ghost use Rattle.at_demand.specs.Covering.{AreWhole};
 ghost use Rattle.at_demand.specs.Turns.{IsStanding, IsSparingTurns, under_way};
 ghost use Rattle.at_demand.specs.Answered.{HasTurned, HasTurnedOften, HasTurnedWith};
 ghost use Rattle.at_demand.specs.Attempts.{HasAttempted, HasComeTo};
 ghost use Rattle.at_demand.specs.KeptTrials.{Fit};
+ghost use Rattle.at_demand.specs.Traces.{StaysTraced};
 
 use super::Demand;
 use crate::answer::Answer;
@@ -56,8 +58,9 @@ impl<K: Keeper> Demand<K> {
         requires right { Right (contents store.now) (meaning rules.now) (kept_values (K.contents self.old.keeper)) }
         requires plain { ArePlain rules.now (K.contents self.old.keeper) }
         requires standing { IsStanding rules.now store.now (K.contents self.old.keeper) question.old }
-        ensures { HasTurned rules.now store.now K.exact (K.contents self.old.keeper) (K.contents self.new.keeper)
+        ensures turned { HasTurned rules.now store.now K.exact (K.contents self.old.keeper) (K.contents self.new.keeper)
             self.old.work self.new.work question.old question.new result }
+        ensures traces { StayTraced (K.memories self.old.keeper) (K.memories self.new.keeper) }
     {
         // Positions among the finds of one question say nothing of another one.
         self.sharing.clear();
@@ -81,8 +84,9 @@ impl<K: Keeper> Demand<K> {
         requires right { Right (contents store.now) (meaning rules.now) (kept_values (K.contents self.old.keeper)) }
         requires plain { ArePlain rules.now (K.contents self.old.keeper) }
         requires standing { IsStanding rules.now store.now (K.contents self.old.keeper) question.old }
-        ensures { HasTurnedOften rules.now store.now K.exact (K.contents self.old.keeper) (K.contents self.new.keeper)
+        ensures turned { HasTurnedOften rules.now store.now K.exact (K.contents self.old.keeper) (K.contents self.new.keeper)
             self.old.work self.new.work limit question.old question.new result }
+        ensures traces { StayTraced (K.memories self.old.keeper) (K.memories self.new.keeper) }
     {
         // As in one turn.
         self.sharing.clear();
@@ -113,8 +117,9 @@ impl<K: Keeper> Demand<K> {
         requires plain { ArePlain rules.now (K.contents self.old.keeper) }
         requires standing { IsStanding rules.now store.now (K.contents self.old.keeper) question.old }
         requires fit { Fit rules.now store.now (K.contents self.old.keeper) question.old trials.old }
-        ensures { HasTurnedWith rules.now store.now K.exact (K.contents self.old.keeper) (K.contents self.new.keeper)
+        ensures turned { HasTurnedWith rules.now store.now K.exact (K.contents self.old.keeper) (K.contents self.new.keeper)
             self.old.work self.new.work question.old question.new trials.new result }
+        ensures traces { StayTraced (K.memories self.old.keeper) (K.memories self.new.keeper) }
     {
         if let Some(value) = self.keeper.get(question.asked()) {
             return Ok(Some(Answer::Value(value.copy()?)));
@@ -201,8 +206,9 @@ impl<K: Keeper> Demand<K> {
         requires unkept { kept_values (K.contents self.old.keeper) inst.now ≡ None }
         requires plain { ArePlain rules.now (K.contents self.old.keeper) }
         requires whole { AreWhole rules.now (contents store.now) found.now.entries }
-        ensures { HasAttempted rules.now store.now K.exact (K.contents self.old.keeper) (K.contents self.new.keeper) self.old.work self.new.work
+        ensures attempted { HasAttempted rules.now store.now K.exact (K.contents self.old.keeper) (K.contents self.new.keeper) self.old.work self.new.work
             found.now.entries inst.now frame.new result }
+        ensures traces { StaysTraced K.memories self.old.keeper self.new.keeper }
     {
         let step = frame.go_on(self.alloc, &self.keeper, found, rules, store, step)?;
         match step {

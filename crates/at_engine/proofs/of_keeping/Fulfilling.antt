@@ -6,6 +6,7 @@ use Rattle.at_protocol.specs.declared.reply.Form.TheVariants as form
 use Rattle.at_protocol.specs.declared.reply.Refusal.{Refusal}
 use Rattle.at_store.specs.Shown.{numbers, tree}
 use Rattle.at_cache.specs.Kept.{Entries}
+use Rattle.at_cache.specs.Traced.{Memories}
 use Rattle.at_engine.specs.Commanding.{Continues, Fulfils}
 use Rattle.at_engine.specs.Engines.{rules_of, state_of, IsHeld}
 use Rattle.at_engine.specs.Following.{Follows}
@@ -17,8 +18,9 @@ use Rattle.at_engine.proofs.Storing.{on_err}
 use Rattle.at_engine.proofs.of_keeping.KeepingLemmas.{IsQuiet, any_obstacle_quiet, failed_spares, quiet_spares, refused_quiet, stays_spare}
 
 -- where all is as it was
-module _ {K : Type 0} (exact : Bool) (entries : K → Entries) (e : Engine K) (held : IsHeld entries e) (v : Verdict) where
-  pub stays_quiet : {E : Type 0} (result : Result Form E) → IfOk result (λ _. IsQuiet v) → IfOk result (λ f. Follows (rules_of e) (state_of e) v f (state_of e)) → Fulfils exact entries e v result e
+module _ {K : Type 0} (exact : Bool) (entries : K → Entries) (memories : K → Memories)
+    (e : Engine K) (held : IsHeld entries memories e) (v : Verdict) where
+  pub stays_quiet : {E : Type 0} (result : Result Form E) → IfOk result (λ _. IsQuiet v) → IfOk result (λ f. Follows (rules_of e) (state_of e) v f (state_of e)) → Fulfils exact entries memories e v result e
   stays_quiet result quiet follows = record {
     obeys = follows;
     err = on_err result _ refl;
@@ -26,26 +28,26 @@ module _ {K : Type 0} (exact : Bool) (entries : K → Entries) (e : Engine K) (h
     stays = record { rules = refl; slice = refl; sound = held; known = λ k. k };
   }
 
-  pub refused_so : {E : Type 0} (r : Refusal) → Follows (rules_of e) (state_of e) v (form.Refused r) (state_of e) → Fulfils {E = E} exact entries e v (Ok (form.Refused r)) e
+  pub refused_so : {E : Type 0} (r : Refusal) → Follows (rules_of e) (state_of e) v (form.Refused r) (state_of e) → Fulfils {E = E} exact entries memories e v (Ok (form.Refused r)) e
   refused_so r follows = stays_quiet (Ok (form.Refused r)) (refused_quiet (rules_of e) (state_of e) (state_of e) v r follows) follows
 
-  pub hindered : {E : Type 0} (o : Obstacle) (result : Result Form E) → IfOk result (IsToldOf o) → IfOk result (λ f. Follows (rules_of e) (state_of e) v f (state_of e)) → Fulfils exact entries e v result e
+  pub hindered : {E : Type 0} (o : Obstacle) (result : Result Form E) → IfOk result (IsToldOf o) → IfOk result (λ f. Follows (rules_of e) (state_of e) v f (state_of e)) → Fulfils exact entries memories e v result e
   hindered o result told follows = stays_quiet result (any_obstacle_quiet (rules_of e) (state_of e) (state_of e) v o result told follows) follows
 
-  pub failed_so : {E : Type 0} (result : Result Form E) (x : E) → result ≡ Err x → Fulfils exact entries e v result e
+  pub failed_so : {E : Type 0} (result : Result Form E) (x : E) → result ≡ Err x → Fulfils exact entries memories e v result e
   failed_so {E} result x is =
-      let all : Fulfils {E = E} exact entries e v (Err x) e = record {
+      let all : Fulfils {E = E} exact entries memories e v (Err x) e = record {
         obeys = tt;
         err = refl;
         spares = λ h spare. failed_spares entries e v spare;
         stays = record { rules = refl; slice = refl; sound = held; known = λ k. k };
       } in
-      subst (λ (r : Result Form E). Fulfils exact entries e v r e) (sym is) all
+      subst (λ (r : Result Form E). Fulfils exact entries memories e v r e) (sym is) all
 
 -- where the store, the rules and what is kept are as they were
-pub quiet_so : {K E : Type 0} (exact : Bool) (entries : K → Entries) (old new : Engine K) (v : Verdict) (result : Result Form E) → numbers new.store ≡ numbers old.store → tree new.store ≡ tree old.store → new.demand ≡ old.demand → Continues entries old new
-    → IfOk result (λ _. IsQuiet v) → IfOk result (λ f. Follows (rules_of old) (state_of old) v f (state_of new)) → OnErr result (state_of new ≡ state_of old) → (IsSpare entries old → IsSpare entries new) → Fulfils exact entries old v result new
-quiet_so exact entries old new v result same_numbers same_tree same_demand stays quiet follows err spare = record {
+pub quiet_so : {K E : Type 0} (exact : Bool) (entries : K → Entries) (memories : K → Memories) (old new : Engine K) (v : Verdict) (result : Result Form E) → numbers new.store ≡ numbers old.store → tree new.store ≡ tree old.store → new.demand ≡ old.demand → Continues entries memories old new
+    → IfOk result (λ _. IsQuiet v) → IfOk result (λ f. Follows (rules_of old) (state_of old) v f (state_of new)) → OnErr result (state_of new ≡ state_of old) → (IsSpare entries old → IsSpare entries new) → Fulfils exact entries memories old v result new
+quiet_so exact entries memories old new v result same_numbers same_tree same_demand stays quiet follows err spare = record {
   obeys = follows;
   err = err;
   spares = λ h was. quiet_spares entries old new same_numbers same_tree stays.rules same_demand result v quiet (spare was);
@@ -53,5 +55,5 @@ quiet_so exact entries old new v result same_numbers same_tree same_demand stays
 }
 
 -- the verdict comes to another one
-pub turned_so : {K E : Type 0} (exact : Bool) (entries : K → Entries) (old new : Engine K) (v w : Verdict) (result : Result Form E) → v ≡ w → Fulfils exact entries old w result new → Fulfils exact entries old v result new
-turned_so exact entries old new v w result same fulfils = subst (λ (y : Verdict). Fulfils exact entries old y result new) (sym same) fulfils
+pub turned_so : {K E : Type 0} (exact : Bool) (entries : K → Entries) (memories : K → Memories) (old new : Engine K) (v w : Verdict) (result : Result Form E) → v ≡ w → Fulfils exact entries memories old w result new → Fulfils exact entries memories old v result new
+turned_so exact entries memories old new v w result same fulfils = subst (λ (y : Verdict). Fulfils exact entries memories old y result new) (sym same) fulfils

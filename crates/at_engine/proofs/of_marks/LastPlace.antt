@@ -9,6 +9,7 @@ use Rattle.at_protocol.specs.Again.{front_text}
 use Rattle.at_protocol.specs.declared.reply.Form.{Form}
 use Rattle.at_store.specs.Shown.{Shown}
 use Rattle.at_cache.specs.Kept.{Entries}
+use Rattle.at_cache.specs.Traced.{Memories}
 use Rattle.at_engine.specs.Commanding.{Fulfils}
 use Rattle.at_engine.specs.Engines.{rules_of, IsSound}
 use Rattle.at_engine.specs.Keeping.{Spares}
@@ -36,19 +37,20 @@ leads classes s marks session node place (Some f) small is_place number parts = 
 }
 
 -- another place is remembered, and nothing else has changed
-module _ {K : Type 0} (entries : K → Entries) (old mid : Engine K) (rest : mid ≡ record old { last = mid.last }) (known : IsKnown (rules_of old).classes old.store mid.last) where
-  pub noted_sound : IsSound entries old → IsSound entries mid
+module _ {K : Type 0} (entries : K → Entries) (memories : K → Memories)
+    (old mid : Engine K) (rest : mid ≡ record old { last = mid.last }) (known : IsKnown (rules_of old).classes old.store mid.last) where
+  pub noted_sound : IsSound entries memories old → IsSound entries memories mid
   noted_sound sound =
-      let same : IsSound entries (record old { last = mid.last }) = record { held = sound.held; typed = sound.typed; known = known } in
-      subst (IsSound entries) (sym rest) same
+      let same : IsSound entries memories (record old { last = mid.last }) = record { held = sound.held; typed = sound.typed; known = known } in
+      subst (IsSound entries memories) (sym rest) same
 
   spared : {E : Type 0} (v : Verdict) (result : Result Form E) (new : Engine K) → Spares entries v result (record old { last = mid.last }) new → Spares entries v result old new
   spared v (Ok f) new h = h
   spared v (Err x) new h = h
 
-  pub noted_so : {E : Type 0} (exact : Bool) (v : Verdict) (result : Result Form E) (new : Engine K) → Fulfils exact entries mid v result new → Fulfils exact entries old v result new
+  pub noted_so : {E : Type 0} (exact : Bool) (v : Verdict) (result : Result Form E) (new : Engine K) → Fulfils exact entries memories mid v result new → Fulfils exact entries memories old v result new
   noted_so {E} exact v result new fulfils =
-      let same : Fulfils {E = E} exact entries (record old { last = mid.last }) v result new = subst (λ (e : Engine K). Fulfils exact entries e v result new) rest fulfils in
+      let same : Fulfils {E = E} exact entries memories (record old { last = mid.last }) v result new = subst (λ (e : Engine K). Fulfils exact entries memories e v result new) rest fulfils in
       record {
         obeys = same.obeys;
         err = same.err;

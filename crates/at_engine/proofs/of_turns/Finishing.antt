@@ -14,13 +14,14 @@ use Rattle.at_protocol.specs.Writable.{IsWritable}
 use Rattle.at_protocol.specs.declared.reply.Form.{Form}
 use Rattle.at_store.specs.Shown.{Shown, contents, path, tree}
 use Rattle.at_cache.specs.Kept.{Entries}
+use Rattle.at_cache.specs.Traced.{Memories}
 use Rattle.at_demand.specs.Known.{kept_values, meaning}
 use Rattle.at_demand.specs.Sparing.{MayAddLazy}
 use Rattle.at_demand.specs.Turns.{under_way}
 use Rattle.at_demand.specs.declared.demand.Demand.{Demand}
 use Rattle.at_demand.specs.declared.question.Question.{Question}
 use Rattle.at_engine.specs.Engines.{marks_of, rules_of, state_of, IsHeld, IsTyped}
-use Rattle.at_engine.specs.Holding.{state_in}
+use Rattle.at_engine.specs.Holding.{state_in, IsSoundWith}
 use Rattle.at_engine.specs.Posted.{came_to, posted_view, turns_given}
 use Rattle.at_engine.specs.Serving.{Settles, Spends}
 use Rattle.at_engine.specs.Telling.{IsAnswerTo, IsClosed, IsSaid}
@@ -70,7 +71,8 @@ writable_all rules s q (Ok f) answer = answer.writable
 writable_all rules s q (Err e) answer = tt
 
 -- a question at some position is open no longer
-module _ {K : Type 0} (kept : K → Entries) (e : Engine K) (sound : IsHeld kept e) (position : ℕ) (p : Posted) (there : StandsAt e.posts.items.items position p) (m : Engine K) (rest : m ≡ record e { demand = m.demand; posts = m.posts })
+module _ {K : Type 0} (kept : K → Entries) (e : Engine K) {memories : Memories}
+    (sound : IsSoundWith (rules_of e) e.store (marks_of e) e.posts (kept e.demand.keeper) memories) (position : ℕ) (p : Posted) (there : StandsAt e.posts.items.items position p) (m : Engine K) (rest : m ≡ record e { demand = m.demand; posts = m.posts })
     (o : Option Question) (opens : Reopens position e.posts m.posts p o) where
   -- it stands there as it has come
   pub stands_open : StandsAt m.posts.items.items position (record p { question = o })
@@ -89,7 +91,8 @@ module _ {K : Type 0} (kept : K → Entries) (e : Engine K) (sound : IsHeld kept
         subst (IsClosed (rules_of e) (state_of e) (posted_view (path e.store) p) (state_of n)) (sym (is ∙ ap (λ (v : ℕ). told_of p v r) (ap (λ (x : Engine K). x.version) rest)))
         (closed (rules_of e) e.store e.version (marks_of e) e.posts position p there sound.numbered r (state_of n) state_gone answer)
 
-module _ {K : Type 0} (kept : K → Entries) (e : Engine K) (sound : IsHeld kept e) (p : Posted) (others : List Posted) (least : e.posts.items.items ≡ p ∷ others) where
+module _ {K : Type 0} (kept : K → Entries) (e : Engine K) {memories : Memories}
+    (sound : IsSoundWith (rules_of e) e.store (marks_of e) e.posts (kept e.demand.keeper) memories) (p : Posted) (others : List Posted) (least : e.posts.items.items ≡ p ∷ others) where
   abbrev view : Posted → PostedOf
   view = posted_view (path e.store)
 

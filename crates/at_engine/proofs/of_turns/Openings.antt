@@ -13,7 +13,9 @@ use Rattle.at_protocol.specs.ReplyView.{IsForm}
 use Rattle.at_protocol.specs.declared.reply.Form.{Form as FormValue}
 use Rattle.at_store.specs.Shown.{Shown, contents, path, tree}
 use Rattle.at_cache.specs.Kept.{Entries}
+use Rattle.at_cache.specs.Traced.{Memories}
 use Rattle.at_demand.specs.Right.{AreRight}
+use Rattle.at_demand.specs.Traces.{IsRemembered}
 use Rattle.at_demand.specs.Sparing.{AreSpare}
 use Rattle.at_demand.specs.declared.question.Question.{Question}
 use Rattle.at_demand.proofs.Standing.{spares_as, stands_grown}
@@ -138,17 +140,27 @@ module _ (rules : Rules) (s : Shown) (entries more : Entries) (grown : (i : Inst
   all_sparing [] h g = tt
   all_sparing (p ∷ ps) h g = (sparing_grown p p.question h.0.begun g.0, all_sparing ps h.1 g.1)
 
-  module _ (ms : List Mark) (old : Posts) (h : IsSoundWith rules s ms old entries) where
-    pub sound_grown : AreRight rules s more → IsSoundWith rules s ms old more
-    sound_grown right = record { idle = h.idle; sound = h.sound; conforming = h.conforming; marked = h.marked; right = right; posted = all_so posted_grown old.items.items h.posted; numbered = h.numbered }
+  module _ (ms : List Mark) (old : Posts) {m : Memories} (h : IsSoundWith rules s ms old entries m) where
+    pub sound_grown : {n : Memories} → AreRight rules s more → IsRemembered rules s n → IsSoundWith rules s ms old more n
+    sound_grown right remembered = record {
+      idle = h.idle;
+      sound = h.sound;
+      conforming = h.conforming;
+      marked = h.marked;
+      right = right;
+      remembered = remembered;
+      posted = all_so posted_grown old.items.items h.posted;
+      numbered = h.numbered;
+    }
 
     pub spare_grown : AreSpare rules (contents s) more → IsSpareWith rules (contents s) entries old.items.items → IsSpareWith rules (contents s) more old.items.items
     spare_grown spare g = record { kept = spare; posted' = all_sparing old.items.items h.posted g.posted' }
 
     -- and one of them has come so far
     module _ (position : ℕ) (p : Posted) (there : StandsAt old.items.items position p) (o : Option Question) (new : Posts) (r : Reopens position old new p o) where
-      pub sound_reopened : AreRight rules s more → HasBegun rules s more p o → IsSoundWith rules s ms new more
-      sound_reopened right begun =
+      pub sound_reopened : {n : Memories} → AreRight rules s more → IsRemembered rules s n → HasBegun rules s more p o
+          → IsSoundWith rules s ms new more n
+      sound_reopened right remembered begun =
           let q : Posted = record p { question = o } in
           let all = all_so posted_grown old.items.items h.posted in
           let was = holds_at (IsPostedOn rules s more) old.items.items position p there all in
@@ -159,6 +171,7 @@ module _ (rules : Rules) (s : Shown) (entries more : Entries) (grown : (i : Inst
             conforming = h.conforming;
             marked = h.marked;
             right = right;
+            remembered = remembered;
             posted = subst (AllByRecursion (IsPostedOn rules s more)) (sym r.items) (holds_put (IsPostedOn rules s more) old.items.items position p there all q is);
             numbered = numbered_reopened rules s 0 ms old position p there h.numbered o new r;
           }
@@ -176,7 +189,7 @@ module _ (rules : Rules) (s : Shown) (entries more : Entries) (grown : (i : Inst
 
 -- one of them is open no longer
 module _ (rules : Rules) (s : Shown) (ms : List Mark) (old new : Posts) (entries : Entries) (position : ℕ) (within : position < length old.items.items) (items : new.items.items ≡ remove old.items.items position) where
-  pub sound_gone : new.count ≡ old.count → IsSoundWith rules s ms old entries → IsSoundWith rules s ms new entries
+  pub sound_gone : {m : Memories} → new.count ≡ old.count → IsSoundWith rules s ms old entries m → IsSoundWith rules s ms new entries m
   sound_gone count h =
       let (p, there) = there_at old.items.items position within in
       record {
@@ -185,6 +198,7 @@ module _ (rules : Rules) (s : Shown) (ms : List Mark) (old new : Posts) (entries
         conforming = h.conforming;
         marked = h.marked;
         right = h.right;
+        remembered = h.remembered;
         posted = subst (AllByRecursion (IsPostedOn rules s entries)) (sym items) (holds_without (IsPostedOn rules s entries) old.items.items position p there h.posted);
         numbered = numbered_gone rules s 0 ms old position p there h.numbered new items count;
       }

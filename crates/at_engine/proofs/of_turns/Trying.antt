@@ -15,6 +15,7 @@ use Rattle.at_protocol.specs.declared.reply.Form.TheVariants as form
 use Rattle.at_protocol.specs.declared.reply.Refusal.{Refusal}
 use Rattle.at_store.specs.Shown.{contents, path, tree}
 use Rattle.at_cache.specs.Kept.{Entries}
+use Rattle.at_cache.specs.Traced.{Memories, StayTraced}
 use Rattle.at_demand.specs.Known.{kept_values, meaning}
 use Rattle.at_demand.specs.Right.{AreRight, IsThere}
 use Rattle.at_demand.specs.Sparing.{AreSpare, MayAddLazy}
@@ -33,8 +34,10 @@ use Rattle.at_engine.proofs.Numbered.{answer_named}
 use Rattle.at_engine.proofs.of_turns.Openings.{sound_grown, sound_reopened, spare_grown, spare_reopened}
 use Rattle.at_engine.proofs.Positions.{get_set, holds_at, set_set}
 use Rattle.at_engine.proofs.of_turns.Wordings.{answers_asked, answers_refused}
+use Rattle.at_engine.proofs.of_keeping.Tracing.{remembered_still}
 
-module _ {K : Type 0} (kept : K → Entries) (e : Engine K) (sound : IsHeld kept e) (position : ℕ) (p : Posted) (there : StandsAt e.posts.items.items position p)
+module _ {K : Type 0} (kept : K → Entries) (e : Engine K) {memories : Memories}
+    (sound : IsSoundWith (rules_of e) e.store (marks_of e) e.posts (kept e.demand.keeper) memories) (position : ℕ) (p : Posted) (there : StandsAt e.posts.items.items position p)
     (t : Posts) (count : t.count ≡ e.posts.count) (items : t.items.items ≡ slice_set e.posts.items.items position (record p { question = None })) where
   abbrev pub bare : Posted
   bare = record p { question = None }
@@ -48,8 +51,8 @@ module _ {K : Type 0} (kept : K → Entries) (e : Engine K) (sound : IsHeld kept
   pub there_still : StandsAt t.items.items position bare
   there_still = subst (λ (l : List Posted). slice_get l position ≡ Some bare) (sym items) (get_set e.posts.items.items position p bare there)
 
-  pub sound_taken : IsSoundWith (rules_of e) e.store (marks_of e) t entries
-  sound_taken = sound_reopened (rules_of e) e.store entries entries (λ i some. refl) (marks_of e) e.posts sound position p there None t taken sound.right tt
+  pub sound_taken : IsSoundWith (rules_of e) e.store (marks_of e) t entries memories
+  sound_taken = sound_reopened (rules_of e) e.store entries entries (λ i some. refl) (marks_of e) e.posts sound position p there None t taken sound.right sound.remembered tt
 
   pub spare_taken : IsSpare kept e → IsSpareWith (rules_of e) (contents e.store) entries t.items.items
   spare_taken spare = spare_reopened (rules_of e) e.store entries entries (λ i some. refl) (marks_of e) e.posts sound position p there None t taken spare.kept tt spare
@@ -120,16 +123,22 @@ module _ {K : Type 0} (kept : K → Entries) (e : Engine K) (sound : IsHeld kept
 
   -- more is kept
   module _ (more : Entries) (grown : (i : Instance ℕ) → IsSome (entries i) → more i ≡ entries i) where
-    pub sound_more : AreRight (rules_of e) e.store more → IsSoundWith (rules_of e) e.store (marks_of e) t more
-    sound_more right = sound_grown (rules_of e) e.store entries more grown (marks_of e) t sound_taken right
+    pub sound_more : {n : Memories} → AreRight (rules_of e) e.store more → StayTraced memories n
+        → IsSoundWith (rules_of e) e.store (marks_of e) t more n
+    sound_more {n} right traces =
+        sound_grown (rules_of e) e.store entries more grown (marks_of e) t sound_taken right
+        (remembered_still (rules_of e) e.store memories n traces sound.remembered)
 
     pub spare_more : AreSpare (rules_of e) (contents e.store) more → IsSpare kept e → IsSpareWith (rules_of e) (contents e.store) more t.items.items
     spare_more all spare = spare_grown (rules_of e) e.store entries more grown (marks_of e) t sound_taken all (spare_taken spare)
 
     -- and the question has come farther
     module _ (q : Question) (k : Posts) (still : k.count ≡ t.count) (put : k.items.items ≡ slice_set t.items.items position (record bare { question = Some q })) where
-      pub sound_put : AreRight (rules_of e) e.store more → IsBegunFor (rules_of e) e.store more bare q → IsSoundWith (rules_of e) e.store (marks_of e) k more
-      sound_put right begun = sound_reopened (rules_of e) e.store entries more grown (marks_of e) t sound_taken position bare there_still (Some q) k (record { count = still; items = put }) right begun
+      pub sound_put : {n : Memories} → AreRight (rules_of e) e.store more → StayTraced memories n
+          → IsBegunFor (rules_of e) e.store more bare q → IsSoundWith (rules_of e) e.store (marks_of e) k more n
+      sound_put {n} right traces begun =
+          sound_reopened (rules_of e) e.store entries more grown (marks_of e) t sound_taken position bare there_still (Some q) k
+          (record { count = still; items = put }) right (remembered_still (rules_of e) e.store memories n traces sound.remembered) begun
 
       pub spare_put : AreSpare (rules_of e) (contents e.store) more → IsSparingTurns (rules_of e) (contents e.store) more q → IsSpare kept e → IsSpareWith (rules_of e) (contents e.store) more k.items.items
       spare_put all sparing spare = spare_reopened (rules_of e) e.store entries more grown (marks_of e) t sound_taken position bare there_still (Some q) k (record { count = still; items = put }) all sparing (spare_taken spare)

@@ -56,8 +56,9 @@ impl<K: Keeper> Engine<K> {
         attribute: &str,
         arguments: &[Argument<'_>],
     ) -> Result<Form, AllocError>
-        requires { CanAsk K.contents self.old attribute.now }
-        ensures { Commands K.exact K.contents self.old session (Ask (place_view place.now) attribute.now (arguments_view arguments.now)) result self.new }
+        requires { CanAsk K.contents K.memories self.old attribute.now }
+        ensures { Commands K.exact K.contents K.memories self.old session
+            (Ask (place_view place.now) attribute.now (arguments_view arguments.now)) result self.new }
     {
         match self.view().node_named(session, place) {
             Some(node) => self.ask_of(session, node, attribute, arguments),
@@ -74,9 +75,9 @@ impl<K: Keeper> Engine<K> {
         attribute: &str,
         arguments: &[Argument<'_>],
     ) -> Result<Form, AllocError>
-        requires { CanAskOf K.contents self.old session node attribute.now }
+        requires { CanAskOf K.contents K.memories self.old session node attribute.now }
         ensures { (place : PlaceOf) → IsNumberOf self.old.store (node_named (rules_of self.old).classes (state_of self.old) session place) (Some node)
-            → Commands K.exact K.contents self.old session (Ask place attribute.now (arguments_view arguments.now)) result self.new }
+            → Commands K.exact K.contents K.memories self.old session (Ask place attribute.now (arguments_view arguments.now)) result self.new }
     {
         match self.view().asked_of(session, node, attribute, arguments)? {
             Asked::Instance(inst) => self.answer(&inst),
@@ -86,9 +87,9 @@ impl<K: Keeper> Engine<K> {
 
     /// The answer to the question for an instance.
     fn answer(&mut self, inst: &Inst) -> Result<Form, AllocError>
-        requires { CanEvaluate K.contents self.old inst.now }
+        requires { CanEvaluate K.contents K.memories self.old inst.now }
         ensures { (q : Instance NodeOf) → InstanceLike (Names (path_shown self.old.store)) inst.now q
-            → Fulfils K.exact K.contents self.old (Asks q) result self.new }
+            → Fulfils K.exact K.contents K.memories self.old (Asks q) result self.new }
     {
         let answer = self.demand.answer(&self.rules, &self.store, inst)?;
         self.told(answer)
@@ -103,7 +104,7 @@ impl<K: Keeper> Engine<K> {
         attribute: &str,
         arguments: &[Argument<'_>],
     ) -> Result<Asked, AllocError>
-        requires { CanLookUp K.contents self.now (M.marks marks.now) }
+        requires { CanLookUp K.contents K.memories self.now (M.marks marks.now) }
         ensures { IsName attribute.now → IfOk result (IsAskedBy (rules_of self.now) self.now.store
             (obeyed (rules_of self.now) (state_by self.now (M.marks marks.now)) session
             (Ask (place_view place.now) attribute.now (arguments_view arguments.now)))) }

@@ -57,7 +57,7 @@ impl<K: Keeper> Engine<K> {
 
     /// What a session is told of an answer.
     pub(super) fn told(&self, answer: Answer) -> Result<Form, AllocError>
-        requires sound { IsHeld K.contents self.now }
+        requires sound { IsHeld K.contents K.memories self.now }
         ensures { (a : AnswerOf NodeOf) → AnswerLike (Names (path_shown self.now.store)) (answer_view answer) a
             → IfOk result (IsToldAs (rules_of self.now) (state_of self.now).tree a) }
     {

@@ -35,7 +35,8 @@ fn answer_to<K: Keeper>(
     mut question: Question,
 ) -> Result<Answer, AllocError>
     requires { CanAnswer rules.now store.now (K.contents demand.old.keeper) question }
-    ensures { AnswersIt K.exact rules.now store.now question (K.contents demand.old.keeper) (K.contents demand.new.keeper) result }
+    ensures { AnswersIt K.exact rules.now store.now question (K.contents demand.old.keeper) (K.contents demand.new.keeper)
+        (K.memories demand.old.keeper) (K.memories demand.new.keeper) result }
 {
     loop {
         let (_, answer) = demand.turns(rules, store, &mut question, u64::MAX)?;
@@ -66,8 +67,9 @@ impl<K: Keeper> Engine<K> {
     ///
     /// Where room for 64 bytes is refused, and then nothing has changed. Every other want of memory is an answer.
     pub fn turn(&mut self, out: &mut Vec<u8>) -> Result<bool, AllocError>
-        requires sound { IsSound K.contents self.old }
-        ensures { Calls K.exact K.contents self.old self.new out.old out.new (HasTurned K.contents self.old self.new out.old.items out.new.items) result }
+        requires sound { IsSound K.contents K.memories self.old }
+        ensures { Calls K.exact K.contents K.memories self.old self.new out.old out.new
+            (HasTurned K.contents self.old self.new out.old.items out.new.items) result }
     {
         out.reserve(REPLY_ROOM)?;
         if self.posts.is_empty() {
@@ -96,8 +98,8 @@ impl<K: Keeper> Engine<K> {
     /// Gives up to so many turns to the open question with the least number, and appends the line with its answer, where it
     /// has one.
     pub(crate) fn give(&mut self, limit: u64, out: &mut Vec<u8>) -> Result<Spent, AllocError>
-        requires { CanSpend K.contents self.old limit }
-        ensures { Calls K.exact K.contents self.old self.new out.old out.new (HasGiven limit self.old self.new out.old.items out.new.items) result }
+        requires { CanSpend K.contents K.memories self.old limit }
+        ensures { Calls K.exact K.contents K.memories self.old self.new out.old out.new (HasGiven limit self.old self.new out.old.items out.new.items) result }
     {
         out.reserve(REPLY_ROOM)?;
         if self.posts.is_empty() {
@@ -125,8 +127,8 @@ impl<K: Keeper> Engine<K> {
     /// Gives turns to the open question with the least number until it is answered, and appends the line with its answer:
     /// whether that is `memory`; none where no question is open.
     pub(crate) fn settle_first(&mut self, out: &mut Vec<u8>) -> Result<Option<bool>, AllocError>
-        requires sound { IsSound K.contents self.old }
-        ensures { Calls K.exact K.contents self.old self.new out.old out.new (HasSettledFirst self.old self.new out.old.items out.new.items) result }
+        requires sound { IsSound K.contents K.memories self.old }
+        ensures { Calls K.exact K.contents K.memories self.old self.new out.old out.new (HasSettledFirst self.old self.new out.old.items out.new.items) result }
     {
         out.reserve(REPLY_ROOM)?;
         if self.posts.is_empty() {
@@ -138,8 +140,8 @@ impl<K: Keeper> Engine<K> {
 
     /// What is told of a line that waits for the question at the position, which is given turns until it is answered.
     pub(super) fn wait(&mut self, position: usize) -> Told
-        requires { CanTurn K.contents self.old position }
-        ensures { Attends K.exact K.contents self.old self.new position
+        requires { CanTurn K.contents K.memories self.old position }
+        ensures { Attends K.exact K.contents K.memories self.old self.new position
             (λ p. IsClosed (rules_of self.old) (state_of self.old) (posted_view (path_shown self.old.store) p) (state_of self.new) result) }
     {
         let form = self.settle(position);
@@ -148,10 +150,10 @@ impl<K: Keeper> Engine<K> {
 
     /// Takes the question at the position off, and appends the line with its answer; whether that is `memory`.
     fn tell(&mut self, position: usize, form: Result<Form, AllocError>, out: &mut Vec<u8>) -> bool
-        requires there { IsHeldAt K.contents self.old position }
+        requires there { IsHeldAt K.contents K.memories self.old position }
         requires writable { IfOk form IsWritable }
         requires room { vec_len out.old + 64 ≤ vec_capacity out.old }
-        ensures off { TakesOff K.exact K.contents self.old self.new position
+        ensures off { TakesOff K.exact K.contents K.memories self.old self.new position
             (λ p. IsSaid (told_of p self.old.version form) result out.old.items out.new.items) }
         ensures room { vec_capacity out.old ≤ vec_capacity out.new }
     {
@@ -160,8 +162,8 @@ impl<K: Keeper> Engine<K> {
 
     /// Takes the question at the position off; what is told of it.
     fn close(&mut self, position: usize, form: Result<Form, AllocError>) -> Told
-        requires { IsHeldAt K.contents self.old position }
-        ensures { TakesOff K.exact K.contents self.old self.new position (λ p. result ≡ told_of p self.old.version form) }
+        requires { IsHeldAt K.contents K.memories self.old position }
+        ensures { TakesOff K.exact K.contents K.memories self.old self.new position (λ p. result ≡ told_of p self.old.version form) }
     {
         let posted = self.posts.remove(position);
         let done = Posting {
@@ -177,8 +179,8 @@ impl<K: Keeper> Engine<K> {
 
     /// One turn of the question at the position: its answer, where it has one.
     fn try_once(&mut self, position: usize) -> Result<Option<Form>, AllocError>
-        requires { CanTurn K.contents self.old position }
-        ensures { Attends K.exact K.contents self.old self.new position (λ p. Tried K.contents self.old self.new position p result) }
+        requires { CanTurn K.contents K.memories self.old position }
+        ensures { Attends K.exact K.contents K.memories self.old self.new position (λ p. Tried K.contents self.old self.new position p result) }
     {
         let begun = self.posts.take(position);
         let mut question = match self.begin(position, begun)? {
@@ -196,8 +198,8 @@ impl<K: Keeper> Engine<K> {
 
     /// So many turns of the question at the position, or fewer where it is answered: how many they were, and its answer.
     fn go_on(&mut self, position: usize, limit: u64) -> Result<(u64, Option<Form>), AllocError>
-        requires { CanGoOn K.contents self.old position limit }
-        ensures { Attends K.exact K.contents self.old self.new position (λ p. HasGone self.old self.new position limit p result) }
+        requires { CanGoOn K.contents K.memories self.old position limit }
+        ensures { Attends K.exact K.contents K.memories self.old self.new position (λ p. HasGone self.old self.new position limit p result) }
     {
         let begun = self.posts.take(position);
         let mut question = match self.begin(position, begun)? {
@@ -218,8 +220,8 @@ impl<K: Keeper> Engine<K> {
 
     /// Turns of the question at the position until it is answered: its answer.
     fn settle(&mut self, position: usize) -> Result<Form, AllocError>
-        requires { CanTurn K.contents self.old position }
-        ensures { Attends K.exact K.contents self.old self.new position (λ p. HasSettled self.old self.new position p result) }
+        requires { CanTurn K.contents K.memories self.old position }
+        ensures { Attends K.exact K.contents K.memories self.old self.new position (λ p. HasSettled self.old self.new position p result) }
     {
         let begun = self.posts.take(position);
         let question = match self.begin(position, begun)? {
@@ -232,7 +234,7 @@ impl<K: Keeper> Engine<K> {
 
     /// What was done for the question at the position; where nothing was, its words are looked at.
     fn begin(&self, position: usize, begun: Option<Question>) -> Result<Begun, AllocError>
-        requires { IsHeldAt K.contents self.now position }
+        requires { IsHeldAt K.contents K.memories self.now position }
         ensures begins { (p : Posted) → StandsAt self.now.posts.items.items position p
             → HasBegun (rules_of self.now) self.now.store (K.contents self.now.demand.keeper) p begun
             → IfOk result (Begins (rules_of self.now) self.now.store (K.contents self.now.demand.keeper) p begun) }
@@ -247,7 +249,7 @@ impl<K: Keeper> Engine<K> {
 
     /// A question for the words at the position, or why they are refused.
     fn begin_anew(&self, position: usize) -> Result<Begun, AllocError>
-        requires { IsHeldAt K.contents self.now position }
+        requires { IsHeldAt K.contents K.memories self.now position }
         ensures begins { (p : Posted) → StandsAt self.now.posts.items.items position p
             → IfOk result (Begins (rules_of self.now) self.now.store (K.contents self.now.demand.keeper) p None) }
         ensures sparing { IfOk result (BeginsSparing (rules_of self.now) (contents self.now.store) (K.contents self.now.demand.keeper)) }

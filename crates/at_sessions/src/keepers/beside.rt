@@ -1,8 +1,7 @@
 //! An engine that is given turns, beside one that is asked: each answer is what the other one is told at that moment.
 
-ghost use Rattle.std.specs.Prelude.{◌≡◌, None};
-ghost use Rattle.at_cache.specs.Kept.{KeepsAll};
-ghost use Rattle.at_engine.specs.Engines.{IsSound};
+ghost use Rattle.std.specs.Prelude.{◌≡◌};
+ghost use Rattle.at_engine.specs.Engines.{IsSound, KeepsNothing};
 
 use crate::hearing::started;
 use at_cache::Keeper;
@@ -35,8 +34,8 @@ pub fn answers<K: Keeper, L: Keeper>(
     slice: u32,
     lines: &str,
 ) -> Result<Told, Fail>
-    requires keeper { KeepsAll (λ _. None) (K.contents keeper) }
-    requires other { KeepsAll (λ _. None) (L.contents other) }
+    requires keeper { KeepsNothing K.contents K.memories keeper }
+    requires other { KeepsNothing L.contents L.memories other }
 {
     let mut beside = Beside {
         alloc,
@@ -55,8 +54,8 @@ pub fn answers<K: Keeper, L: Keeper>(
 
 /// The reply to a line, without its end; empty where there is none.
 fn reply<K: Keeper>(alloc: Global, engine: &mut Engine<K>, line: &str) -> Result<String, Fail>
-    requires { IsSound K.contents engine.old }
-    ensures { IsSound K.contents engine.new }
+    requires { IsSound K.contents K.memories engine.old }
+    ensures { IsSound K.contents K.memories engine.new }
 {
     let mut out = Vec::new(alloc);
     engine.line(line.as_bytes(), &mut out)?;
@@ -65,8 +64,8 @@ fn reply<K: Keeper>(alloc: Global, engine: &mut Engine<K>, line: &str) -> Result
 
 /// What a turn tells, in the same way; none where no question is open.
 fn turn<K: Keeper>(alloc: Global, engine: &mut Engine<K>) -> Result<Option<String>, Fail>
-    requires { IsSound K.contents engine.old }
-    ensures { IsSound K.contents engine.new }
+    requires { IsSound K.contents K.memories engine.old }
+    ensures { IsSound K.contents K.memories engine.new }
 {
     let mut out = Vec::new(alloc);
     if !engine.turn(&mut out)? {
@@ -98,8 +97,8 @@ impl<K: Keeper, L: Keeper> Beside<K, L> {
 
     /// Serves the lines, and gives so many turns behind each; and then turns until no question is open.
     fn serve(&mut self, slice: u32, lines: &str) -> Result<(), Fail>
-        requires first { IsSound K.contents self.old.engine }
-        requires second { IsSound L.contents self.old.other }
+        requires first { IsSound K.contents K.memories self.old.engine }
+        requires second { IsSound L.contents L.memories self.old.other }
     {
         for line in lines.lines() {
             self.serve_line(line, slice)?;
@@ -109,10 +108,10 @@ impl<K: Keeper, L: Keeper> Beside<K, L> {
 
     /// Serves a line, and gives the turns behind it, unless it is empty.
     fn serve_line(&mut self, line: &str, slice: u32) -> Result<(), Fail>
-        requires first { IsSound K.contents self.old.engine }
-        requires second { IsSound L.contents self.old.other }
-        ensures first { IsSound K.contents self.new.engine }
-        ensures second { IsSound L.contents self.new.other }
+        requires first { IsSound K.contents K.memories self.old.engine }
+        requires second { IsSound L.contents L.memories self.old.other }
+        ensures first { IsSound K.contents K.memories self.new.engine }
+        ensures second { IsSound L.contents L.memories self.new.other }
     {
         let told = reply(self.alloc, &mut self.engine, line)?;
         if told.is_empty() {
@@ -124,10 +123,10 @@ impl<K: Keeper, L: Keeper> Beside<K, L> {
 
     /// Gives so many turns, or fewer where no question is open.
     fn give(&mut self, limit: u32) -> Result<(), Fail>
-        requires first { IsSound K.contents self.old.engine }
-        requires second { IsSound L.contents self.old.other }
-        ensures first { IsSound K.contents self.new.engine }
-        ensures second { IsSound L.contents self.new.other }
+        requires first { IsSound K.contents K.memories self.old.engine }
+        requires second { IsSound L.contents L.memories self.old.other }
+        ensures first { IsSound K.contents K.memories self.new.engine }
+        ensures second { IsSound L.contents L.memories self.new.other }
     {
         'turns: for _ in 0..limit {
             let Some(told) = turn(self.alloc, &mut self.engine)? else {
@@ -143,9 +142,9 @@ impl<K: Keeper, L: Keeper> Beside<K, L> {
     /// Notes what was posted, looks at what was answered, and else gives the line to the other engine, too, which has to
     /// tell the same.
     fn follow(&mut self, line: &str, told: &str) -> Result<(), Fail>
-        requires second { IsSound L.contents self.old.other }
+        requires second { IsSound L.contents L.memories self.old.other }
         ensures first { self.new.engine ≡ self.old.engine }
-        ensures second { IsSound L.contents self.new.other }
+        ensures second { IsSound L.contents L.memories self.new.other }
     {
         writeln!(self.told, "{told}")?;
         if let Some((session, _)) = told.split_once(" open ") {
@@ -169,9 +168,9 @@ impl<K: Keeper, L: Keeper> Beside<K, L> {
 
     /// Notes the question that the line posted, and its marks.
     fn note(&mut self, session: &str, line: &str) -> Result<(), Fail>
-        requires second { IsSound L.contents self.old.other }
+        requires second { IsSound L.contents L.memories self.old.other }
         ensures first { self.new.engine ≡ self.old.engine }
-        ensures second { IsSound L.contents self.new.other }
+        ensures second { IsSound L.contents L.memories self.new.other }
     {
         let own = FIRST_SESSION.saturating_add(self.asks.len());
         for mark in MARKS {
@@ -186,9 +185,9 @@ impl<K: Keeper, L: Keeper> Beside<K, L> {
 
     /// Whether the answer, a number, a version and what is told, is right at this moment.
     fn look_at(&mut self, answer: &str) -> Result<(), Fail>
-        requires second { IsSound L.contents self.old.other }
+        requires second { IsSound L.contents L.memories self.old.other }
         ensures first { self.new.engine ≡ self.old.engine }
-        ensures second { IsSound L.contents self.new.other }
+        ensures second { IsSound L.contents L.memories self.new.other }
     {
         let Some((number, _)) = answer.split_once(' ') else {
             return Err(Fail::new("no number"));
@@ -219,8 +218,8 @@ fn copy_mark<L: Keeper>(
     own: usize,
     mark: &str,
 ) -> Result<(), Fail>
-    requires { IsSound L.contents engine.old }
-    ensures { IsSound L.contents engine.new }
+    requires { IsSound L.contents L.memories engine.old }
+    ensures { IsSound L.contents L.memories engine.new }
 {
     let mut line = String::new(alloc);
     write!(line, "{session} where {mark}")?;
@@ -239,8 +238,8 @@ fn give_mark<L: Keeper>(
     mark: &str,
     path: &str,
 ) -> Result<(), Fail>
-    requires { IsSound L.contents engine.old }
-    ensures { IsSound L.contents engine.new }
+    requires { IsSound L.contents L.memories engine.old }
+    ensures { IsSound L.contents L.memories engine.new }
 {
     let mut line = String::new(alloc);
     write!(line, "{own} mark {mark} {path}")?;

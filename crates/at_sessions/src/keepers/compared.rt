@@ -2,12 +2,12 @@
 
 ghost use Rattle.std.specs.Prelude.{◌≡◌, None};
 ghost use Rattle.at_cache.specs.Kept.{KeepsAll};
-ghost use Rattle.at_cache.specs.Keeping.{recorded_by};
+ghost use Rattle.at_cache.specs.Keeping.{recorded_by, remembered_by};
 
 use super::flat::{Covering, Flat};
 use super::listed::List;
 use at_body::{Inst, Value};
-use at_cache::{KeepRecorded, Keeper, Put};
+use at_cache::{KeepRecorded, Keeper, Order, Put};
 use at_store::{Loc, Places};
 use std::alloc::{AllocError, Global};
 
@@ -131,6 +131,10 @@ impl Keeper for KeepCompared {
 
     ghost exact = { true };
 
+    ghost memories = { λ k. remembered_by k.keeper };
+
+    ghost kept_last = { λ k i v kept. kept };
+
     fn get(&self, inst: &Inst) -> Option<&Value> {
         self.keeper.get(inst)
     }
@@ -145,15 +149,28 @@ impl Keeper for KeepCompared {
         value: Option<Value>,
         reads: &[Loc],
         uses: &[Inst],
+        order: Order,
     ) -> Result<Put, AllocError> {
         if self.differs || self.gone > self.most_gone {
             return Err(AllocError);
         }
         let noted = inst.copy(self.alloc)?;
         let told = copied(&value)?;
-        let put = self.keeper.put(inst, value, reads, uses)?;
+        let put = self.keeper.put(inst, value, reads, uses, order)?;
         self.note(noted, told, reads, uses);
         Ok(put)
+    }
+
+    fn settle(&mut self, inst: &Inst, work: u64) -> u64 {
+        self.keeper.settle(inst, work)
+    }
+
+    fn blocker(&self, inst: &Inst) -> Option<&Inst> {
+        self.keeper.blocker(inst)
+    }
+
+    fn is_tracing(&self) -> bool {
+        self.keeper.is_tracing()
     }
 
     fn flush<F: Fn(Loc) -> bool>(&mut self, touched: &F) {

@@ -5,8 +5,8 @@ ghost use Rattle.clap.specs.Walk.{texts};
 ghost use Rattle.clap.specs.Words.{all_of, app_of, first_of, kind_of, matches_of, one_of, rule_of, takes};
 ghost use Rattle.clap.specs.declared.error.ErrorKind.TheVariants.{OutOfMemory};
 ghost use Rattle.attrd.specs.CommandLine.{command_line, rule, with_words};
-ghost use Rattle.attrd.specs.Options.{Asks, HasValues, IsFlag, IsUsable, IsWhole, SpellsUpTo};
-ghost use Rattle.attrd.specs.Options.{is_set, max_connections, max_keep, max_slice, number, number_asked, rows_found};
+ghost use Rattle.attrd.specs.Options.{Asks, HasValues, IsApart, IsFlag, IsUsable, IsWhole, SpellsUpTo};
+ghost use Rattle.attrd.specs.Options.{are_both, is_set, max_connections, max_keep, max_slice, number, number_asked, rows_found};
 ghost use Rattle.attrd.specs.declared.options.WordsFault.TheVariants.{Memory};
 
 use super::{Options, WordsFault};
@@ -31,7 +31,7 @@ const MAX_SLICE: u32 = 1_000_000;
 const MAX_KEEP: u32 = 1_000_000_000;
 
 /// The program's version, which the file `VERSION` holds, too.
-const VERSION: &str = "0.24";
+const VERSION: &str = "0.25";
 
 /// What stands below the words in the help: a session, and the commands.
 const HELP: &str = "A session:
@@ -106,6 +106,14 @@ const WORDS: &[Word] = &[
         help: "Forgets all kept values at an edit that finds more than N: 1 to 1000000000 [default: no bound]",
     },
     Word {
+        name: "cut-off",
+        is_option: true,
+        most: 0,
+        value: "",
+        parser: ValueParser::Bool,
+        help: "Keeps what an edit may have changed until it is known that it did",
+    },
+    Word {
         name: "work",
         is_option: true,
         most: 0,
@@ -139,20 +147,28 @@ const WORDS: &[Word] = &[
     },
 ];
 
-/// What the words after the program's name ask for. Nothing that the command line takes is refused.
+/// What the words after the program's name ask for. Nothing that the command line takes is refused, but `--cut-off` beside
+/// `--keep`.
 ///
 /// # Errors
 ///
-/// `Words` where they aren't words of the command line, or ask for help or the version; `Memory` for want of memory.
+/// `Words` where they aren't words of the command line, where two of them exclude each other, or where they ask for help or the
+/// version; `Memory` for want of memory.
 pub fn options<'a>(alloc: Global, words: &'a [&'a str]) -> Result<Options, WordsFault>
     ensures usable { IfOk result IsUsable }
+    ensures apart { IfOk result IsApart }
     ensures asked { IfOk result (Asks (texts words.entry.now)) }
-    ensures refused { IfErr result (λ e. takes command_line (texts words.entry.now) ≡ true → e ≡ Memory) }
+    ensures refused { IfErr result (λ e. takes command_line (texts words.entry.now) ≡ true
+        → are_both (matches_of command_line (texts words.entry.now)) ≡ false → e ≡ Memory) }
 {
-    match matched(alloc, words) {
-        Ok(matches) => Ok(options_of(alloc, &matches)?),
-        Err(error) => Err(fault_of(alloc, &error)),
+    let matches = match matched(alloc, words) {
+        Ok(matches) => matches,
+        Err(error) => return Err(fault_of(alloc, &error)),
+    };
+    if are_both(&matches) {
+        return Err(clash(alloc));
     }
+    Ok(options_of(alloc, &matches)?)
 }
 
 /// The words as they are matched. Each file that is needed is among them, so what follows looks for none in vain.
@@ -218,6 +234,7 @@ fn options_of(alloc: Global, matches: &ArgMatches<'_>) -> Result<Options, AllocE
         connections: connections_of(matches),
         slice: slice_of(matches),
         keep: keep_of(matches),
+        cut_off: has_flag(matches, "cut-off"),
         work: has_flag(matches, "work"),
         grammar: file_of(alloc, matches, "GRAMMAR")?,
         tree: file_of(alloc, matches, "TREE")?,
@@ -292,6 +309,25 @@ fn copies(alloc: Global, texts: &[&str]) -> Result<Vec<String>, AllocError>
         copied.push(String::from_str(alloc, text)?)?;
     }
     Ok(copied)
+}
+
+/// Whether the words that exclude each other are both there.
+fn are_both(matches: &ArgMatches<'_>) -> bool
+    requires { IsWhole (rows_found matches.now) }
+    ensures { result ≡ are_both (rows_found matches.now) }
+{
+    has_flag(matches, "cut-off") && keep_of(matches).is_some()
+}
+
+/// What is told of words that exclude each other.
+const CLASH: &str = "error: --cut-off can't be used with --keep";
+
+/// The fault of words that exclude each other.
+fn clash(alloc: Global) -> WordsFault {
+    match String::from_str(alloc, CLASH) {
+        Ok(text) => WordsFault::Words { text },
+        Err(_) => WordsFault::Memory,
+    }
 }
 
 /// The fault of the words that were refused.

@@ -8,19 +8,19 @@ use Rattle.at_cache.proofs.forgetting.take_out.Goals as goal
 pub returns-clause-indexed : goal.returns-clause-indexed
 returns-clause-indexed g c puts t =
     let i = indexed_by t in
-    let (start, work, begins) = c.begin-first.ensures i.idle in
+    let (start, work, begins) = c.begin-first.ensures.works i.idle in
     tested (indexed_after i (Answers (goal.F-post g c.args.touched.now)) begins (c.forget_all.ensures.works _ start work))
 
 pub returns-clause-leaves : goal.returns-clause-leaves
 returns-clause-leaves g c puts t =
     let i = indexed_by t in
     let says = Answers (goal.F-post g c.args.touched.now) in
-    let (start, work, begins) = c.begin-first.ensures i.idle in
+    let (start, work, begins) = c.begin-first.ensures.works i.idle in
     leaves_kept says (edges_at c.args.readers.now) c.args.entries.now c.forget_all.new.entries puts (leaves i says begins (c.forget_all.ensures.works _ start work))
 
 pub returns-clause-loses : goal.returns-clause-loses
 returns-clause-loses g c puts t =
     let i = indexed_by t in
     let says = Answers (goal.F-post g c.args.touched.now) in
-    let (start, work, begins) = c.begin-first.ensures i.idle in
+    let (start, work, begins) = c.begin-first.ensures.works i.idle in
     loses_kept says (edges_at c.args.readers.now) c.args.entries.now c.forget_all.new.entries puts (loses i says begins (c.forget_all.ensures.works _ start work))

@@ -56,7 +56,7 @@ returns-in_err-enter-clause-err c i =
     search rules
 
 pub enter-requires : goal.enter-requires
-enter-requires c = record { absent = c.add_users.ensures.absent c.args.inst c.requires.absent; slot = c.fresh.ensures.slot ∙ c.in_ok-slot.ensures ∙ sym c.add_users.ensures.key }
+enter-requires c = record { absent = c.add_users.ensures.absent c.args.inst c.requires.absent; slot = c.fresh.ensures.slot ∙ c.in_ok-slot.ensures.key ∙ sym c.add_users.ensures.key }
 
 pub add_users-requires : goal.add_users-requires
 add_users-requires c = record { there = subst (AreTaken (memory_of c.args.entries.now)) (sym c.as_slice.ensures) c.in_ok-links.ensures.taken }

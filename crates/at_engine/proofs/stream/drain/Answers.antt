@@ -16,7 +16,7 @@ loop-is_open-init g c =
       closed = λ h. absurd (true≢false h);
       none = λ h. refl;
       line = refl;
-      goes = goes_nowhere g.K.Keeper.exact g.K.Keeper.contents g.W.Output.failed g.W.Output.waits e c.args.desk.now _ _ 0 tt c.requires.sound refl refl;
+      goes = goes_nowhere g.K.Keeper.exact g.K.Keeper.contents g.K.Keeper.memories g.W.Output.failed g.W.Output.waits e c.args.desk.now _ _ 0 tt c.requires.sound refl refl;
     }
 
 pub loop-is_open-preserved : goal.loop-is_open-preserved
@@ -33,8 +33,8 @@ loop-is_open-preserved g c =
       closed = closed_then found (rules_of mid) (state_of mid) (state_of new) c.loop-is_open.desk c.settle_one.new.desk (contents c.loop-is_open.writer) (contents c.settle_one.new.writer) one.done;
       none = λ h. one.none (ap (λ (e : Engine g.row.K.Denot). (state_of e).posted) (inv.none h) ∙ h) ∙ inv.none h;
       line = one.line ∙ inv.line;
-      goes = goes_on g.K.Keeper.exact g.K.Keeper.contents g.W.Output.failed g.W.Output.waits _ _ _ _ _ _ _ _ _ _ 0 0 0 tt (Ok tt) inv.goes refl refl (omega arith)
-          (goes_alike g.K.Keeper.exact g.K.Keeper.contents g.W.Output.failed g.W.Output.waits _ _ _ _ _ _ 0 (Ok found) (Ok tt) refl one.goes);
+      goes = goes_on g.K.Keeper.exact g.K.Keeper.contents g.K.Keeper.memories g.W.Output.failed g.W.Output.waits _ _ _ _ _ _ _ _ _ _ 0 0 0 tt (Ok tt) inv.goes refl refl (omega arith)
+          (goes_alike g.K.Keeper.exact g.K.Keeper.contents g.K.Keeper.memories g.W.Output.failed g.W.Output.waits _ _ _ _ _ _ 0 (Ok found) (Ok tt) refl one.goes);
     }
 
 pub loop-is_open-smaller : goal.loop-is_open-smaller
@@ -66,6 +66,6 @@ returns-in_err-is_open g c =
       done = rw (p.1, p.2) (s.0, _, stops_later rules inv.given.0 s.1 _ _ _ _ _ _ _ _ inv.given.1 (ruled_in_part rules (rules_of c.loop-is_open.engine) s.1 _ _ _ _ inv.goes.rules s.2));
       none = λ h. one.none (ap (λ (e : Engine g.row.K.Denot). (state_of e).posted) (inv.none h) ∙ h) ∙ inv.none h;
       line = one.line ∙ inv.line;
-      goes = goes_on g.K.Keeper.exact g.K.Keeper.contents g.W.Output.failed g.W.Output.waits _ _ _ _ _ _ _ _ _ _ 0 0 0 tt c.from_residual.result inv.goes refl refl (omega arith)
-          (goes_alike g.K.Keeper.exact g.K.Keeper.contents g.W.Output.failed g.W.Output.waits _ _ _ _ _ _ 0 _ c.from_residual.result (ap is_err (sym p.1)) one.goes);
+      goes = goes_on g.K.Keeper.exact g.K.Keeper.contents g.K.Keeper.memories g.W.Output.failed g.W.Output.waits _ _ _ _ _ _ _ _ _ _ 0 0 0 tt c.from_residual.result inv.goes refl refl (omega arith)
+          (goes_alike g.K.Keeper.exact g.K.Keeper.contents g.K.Keeper.memories g.W.Output.failed g.W.Output.waits _ _ _ _ _ _ 0 _ c.from_residual.result (ap is_err (sym p.1)) one.goes);
     }

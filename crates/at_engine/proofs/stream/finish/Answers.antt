@@ -21,7 +21,7 @@ returns-in_err-serve g c = record {
   keeps = λ exact spare front e. let p = err_from_is_err_and c.from_residual.result c.from_residual.ensures.1 in rw p.1 tt;
   goes =
       let p = err_from_is_err_and c.from_residual.result c.from_residual.ensures.1 in
-      goes_alike g.K.Keeper.exact g.K.Keeper.contents g.W.Output.failed g.W.Output.waits _ _ _ _ _ _ 1 _ c.from_residual.result (ap is_err (sym p.1)) c.in_err-serve.ensures.goes;
+      goes_alike g.K.Keeper.exact g.K.Keeper.contents g.K.Keeper.memories g.W.Output.failed g.W.Output.waits _ _ _ _ _ _ 1 _ c.from_residual.result (ap is_err (sym p.1)) c.in_err-serve.ensures.goes;
 }
 
 pub returns : goal.returns
@@ -39,7 +39,7 @@ returns g c = record {
       let long : 0 < length (kept front) = omega (arith, some, c.args.desk.now.line.ok.0, ap length e) in
       kept_at_end g.K.Keeper.contents c.drain-2.result c.args.engine.now mid c.drain-2.new.engine (rules_of mid) (slice_of c.args.engine.now) front c.args.desk.now.line.items c.args.desk.now c.serve.new.desk c.drain-2.new.desk _ _ _
       (filled_as_kept front long) e (c.in_ok-serve.ensures.keeps exact spare) c.in_ok-serve.ensures.served c.drain-2.ensures.done c.drain-2.ensures.none;
-  goes = goes_on g.K.Keeper.exact g.K.Keeper.contents g.W.Output.failed g.W.Output.waits _ _ _ _ _ _ _ _ _ _ 1 0 1 tt c.drain-2.result c.in_ok-serve.ensures.goes refl refl (omega arith) c.drain-2.ensures.goes;
+  goes = goes_on g.K.Keeper.exact g.K.Keeper.contents g.K.Keeper.memories g.W.Output.failed g.W.Output.waits _ _ _ _ _ _ _ _ _ _ 1 0 1 tt c.drain-2.result c.in_ok-serve.ensures.goes refl refl (omega arith) c.drain-2.ensures.goes;
 }
 
 pub returns-then-is_empty : goal.returns-then-is_empty
@@ -52,5 +52,5 @@ returns-then-is_empty g c = record {
       let none : vec_len c.args.desk.now.line ≡ 0 = grind (arith, nat_tests) in
       let short : length (kept front) ≤ 0 = omega (arith, none, c.args.desk.now.line.ok.0, ap length e) in
       rw (empty_as_kept front short) (kept_at_once g.K.Keeper.contents c.drain.result c.args.engine.now c.drain.new.engine c.args.desk.now c.drain.new.desk c.drain.ensures.none);
-  goes = goes_more g.K.Keeper.exact g.K.Keeper.contents g.W.Output.failed g.W.Output.waits _ _ _ _ _ _ 0 1 c.drain.result (omega arith) c.drain.ensures.goes;
+  goes = goes_more g.K.Keeper.exact g.K.Keeper.contents g.K.Keeper.memories g.W.Output.failed g.W.Output.waits _ _ _ _ _ _ 0 1 c.drain.result (omega arith) c.drain.ensures.goes;
 }

@@ -26,7 +26,7 @@ returns-in_err-write_whole-in-Some g c =
       done = rw (p.1, p.2) (w.0, stops_at_one rules c.in-Ok.spent.turns c.args.limit _ _ _ _ a.said w.1 w.2 a.within a.given (sym text ∙ w.3) w.4);
       none = call.done.none;
       line = c.count_answer.ensures.rest.1;
-      goes = goes_wrote g.K.Keeper.exact g.K.Keeper.contents g.W.Output.failed g.W.Output.waits _ _ c.args.desk.now _ _ _ 0 _ _ c.from_residual.result call (rw p.1 c.in_err-write_whole-in-Some.ensures.failed) (rw p.1 tt)
+      goes = goes_wrote g.K.Keeper.exact g.K.Keeper.contents g.K.Keeper.memories g.W.Output.failed g.W.Output.waits _ _ c.args.desk.now _ _ _ 0 _ _ c.from_residual.result call (rw p.1 c.in_err-write_whole-in-Some.ensures.failed) (rw p.1 tt)
           (omega (arith, c.count_answer.ensures.rest.0, memory, counts_one rules c.in-Ok.spent.turns _ _ a.said a.given));
     }
 
@@ -46,7 +46,7 @@ returns-in_ok-write_whole-in-Some g c =
       done = (fewer, as_many_given _ turns _ _ _ _ _ _ _ same (gave_one rules turns _ _ c.args.desk.now c.count_answer.new.self _ _ a.said a.given c.count_answer.ensures.rest.0 memory written));
       none = call.done.none;
       line = c.count_answer.ensures.rest.1;
-      goes = goes_wrote g.K.Keeper.exact g.K.Keeper.contents g.W.Output.failed g.W.Output.waits _ _ c.args.desk.now _ _ _ 0 _ _ _ call c.in_ok-write_whole-in-Some.ensures.failed c.in_ok-write_whole-in-Some.ensures.sent
+      goes = goes_wrote g.K.Keeper.exact g.K.Keeper.contents g.K.Keeper.memories g.W.Output.failed g.W.Output.waits _ _ c.args.desk.now _ _ _ 0 _ _ _ call c.in_ok-write_whole-in-Some.ensures.failed c.in_ok-write_whole-in-Some.ensures.sent
           (omega (arith, c.count_answer.ensures.rest.0, memory, counts_one rules turns _ _ a.said a.given));
     }
 

@@ -25,7 +25,7 @@ invariant-loop-turn g l =
       spare : IsTrue g.K.Keeper.exact → IsSpare g.K.Keeper.contents l.fn.engine → IsSpare g.K.Keeper.contents l.engine;
       rules : rules_of l.engine ≡ rules_of l.fn.engine;
       slice : slice_of l.engine ≡ slice_of l.fn.engine;
-      sound : IsSound g.K.Keeper.contents l.engine;
+      sound : IsSound g.K.Keeper.contents g.K.Keeper.memories l.engine;
       few : countable l.desk (state_of l.engine) ≤ l.turn * 24576 + length (state_of l.fn.engine).posted;
       open_few : length (state_of l.fn.engine).posted < 2 ^ 63;
     }

@@ -35,7 +35,7 @@ returns-in_err-write_whole-in-Ok g c =
       served = rw (p.1, p.2) (w.0, halts_in_line (rules_of old) (slice_of old) _ _ c.args.desk.now.line.items (c.in-Ok.wants, s.0) _ _ w.1 w.2 serves (sym text ∙ w.3) w.4);
       keeps = λ exact spare. rw p.1 tt;
       line = c.count_answer.ensures.rest.1 ∙ c.count_line.ensures.rest.1;
-      goes = goes_wrote g.K.Keeper.exact g.K.Keeper.contents g.W.Output.failed g.W.Output.waits _ _ c.args.desk.now _ _ _ 1 _ _ c.from_residual.result call (rw p.1 c.in_err-write_whole-in-Ok.ensures.failed) (rw p.1 tt)
+      goes = goes_wrote g.K.Keeper.exact g.K.Keeper.contents g.K.Keeper.memories g.W.Output.failed g.W.Output.waits _ _ c.args.desk.now _ _ _ 1 _ _ c.from_residual.result call (rw p.1 c.in_err-write_whole-in-Ok.ensures.failed) (rw p.1 tt)
           (omega (arith, counts_served (rules_of old) (state_of old) (state_of c.serve.new.self) c.args.desk.now.line.items (c.in-Ok.wants, s.0) c.args.desk.now c.count_answer.new.self serves (c.count_answer.ensures.rest.0 ∙ c.count_line.ensures.lines) (c.count_answer.ensures.memory ∙ ap (λ n. n + (if c.in-Ok.wants then 1 else 0)) c.count_line.ensures.rest.0)));
     }
 
@@ -59,7 +59,7 @@ returns g c =
           kept_behind c.give_turns.result g.K.Keeper.contents old mid c.give_turns.new.engine (rules_of mid) (slice_of mid) c.args.desk.now.line.items (c.in-Ok.wants, s.0) c.args.desk.now _ c.give_turns.new.desk _ _
           turns.done turns.none serves keeps (c.count_answer.ensures.memory ∙ ap (λ n. n + (if c.in-Ok.wants then 1 else 0)) c.count_line.ensures.rest.0);
       line = turns.line ∙ c.count_answer.ensures.rest.1 ∙ c.count_line.ensures.rest.1;
-      goes = goes_on g.K.Keeper.exact g.K.Keeper.contents g.W.Output.failed g.W.Output.waits _ _ _ _ _ _ _ _ _ _ 1 0 1 (tt {0}) c.give_turns.result
-          (goes_wrote g.K.Keeper.exact g.K.Keeper.contents g.W.Output.failed g.W.Output.waits _ _ c.args.desk.now c.count_answer.new.self _ _ 1 _ _ (Ok (tt {0})) call c.in_ok-write_whole-in-Ok.ensures.failed c.in_ok-write_whole-in-Ok.ensures.sent (omega (arith, counted)))
+      goes = goes_on g.K.Keeper.exact g.K.Keeper.contents g.K.Keeper.memories g.W.Output.failed g.W.Output.waits _ _ _ _ _ _ _ _ _ _ 1 0 1 (tt {0}) c.give_turns.result
+          (goes_wrote g.K.Keeper.exact g.K.Keeper.contents g.K.Keeper.memories g.W.Output.failed g.W.Output.waits _ _ c.args.desk.now c.count_answer.new.self _ _ 1 _ _ (Ok (tt {0})) call c.in_ok-write_whole-in-Ok.ensures.failed c.in_ok-write_whole-in-Ok.ensures.sent (omega (arith, counted)))
           refl refl (omega arith) turns.goes;
     }

@@ -22,7 +22,7 @@ returns-in_err-write_whole-in-Some g c =
       done = rw (p.1, p.2) (w.0, s.0, stops_at_one rules s.0 s.0 _ _ _ _ (c.in-Some.wants, s.1) w.1 w.2 (omega arith) s.2 (sym text ∙ w.3) w.4);
       none = call.done.none;
       line = c.count_answer.ensures.rest.1;
-      goes = goes_wrote g.K.Keeper.exact g.K.Keeper.contents g.W.Output.failed g.W.Output.waits _ _ c.args.desk.now _ _ _ 0 _ _ c.from_residual.result call (rw p.1 c.in_err-write_whole-in-Some.ensures.failed) (rw p.1 tt)
+      goes = goes_wrote g.K.Keeper.exact g.K.Keeper.contents g.K.Keeper.memories g.W.Output.failed g.W.Output.waits _ _ c.args.desk.now _ _ _ 0 _ _ c.from_residual.result call (rw p.1 c.in_err-write_whole-in-Some.ensures.failed) (rw p.1 tt)
           (omega (arith, c.count_answer.ensures.rest.0, c.count_answer.ensures.memory, counts_one rules s.0 _ _ (c.in-Some.wants, s.1) s.2));
     }
 
@@ -45,7 +45,7 @@ returns-in_ok-write_whole-in-Some g c =
       };
       none = call.done.none;
       line = c.count_answer.ensures.rest.1;
-      goes = goes_wrote g.K.Keeper.exact g.K.Keeper.contents g.W.Output.failed g.W.Output.waits _ _ c.args.desk.now _ _ _ 0 _ _ _ call c.in_ok-write_whole-in-Some.ensures.failed c.in_ok-write_whole-in-Some.ensures.sent
+      goes = goes_wrote g.K.Keeper.exact g.K.Keeper.contents g.K.Keeper.memories g.W.Output.failed g.W.Output.waits _ _ c.args.desk.now _ _ _ 0 _ _ _ call c.in_ok-write_whole-in-Some.ensures.failed c.in_ok-write_whole-in-Some.ensures.sent
           (omega (arith, c.count_answer.ensures.rest.0, c.count_answer.ensures.memory, counts_one rules s.0 _ _ (c.in-Some.wants, s.1) s.2));
     }
 

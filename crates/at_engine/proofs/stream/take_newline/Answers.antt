@@ -21,7 +21,7 @@ returns-in_err-serve g c = record {
   keeps = λ exact spare front o e. let p = err_from_is_err_and c.from_residual.result c.from_residual.ensures.1 in rw p.1 tt;
   goes =
       let p = err_from_is_err_and c.from_residual.result c.from_residual.ensures.1 in
-      goes_alike g.K.Keeper.exact g.K.Keeper.contents g.W.Output.failed g.W.Output.waits _ _ _ _ _ _ 1 _ c.from_residual.result (ap is_err (sym p.1)) c.in_err-serve.ensures.goes;
+      goes_alike g.K.Keeper.exact g.K.Keeper.contents g.K.Keeper.memories g.W.Output.failed g.W.Output.waits _ _ _ _ _ _ 1 _ c.from_residual.result (ap is_err (sym p.1)) c.in_err-serve.ensures.goes;
 }
 
 pub returns-in_ok-serve : goal.returns-in_ok-serve
@@ -53,5 +53,5 @@ returns-else-not-is_empty g c = record {
       let short : length (kept front) ≤ 0 = omega (arith, none, c.args.desk.now.line.ok.0, ap length e) in
       let line : c.args.desk.now.line.items ≡ [] = e ∙ ap kept (empty_as_kept front short) ∙ kept-nil in
       rw (empty_as_kept front short) (keeps_empty g.K.Keeper.contents c.args.engine.now c.args.desk.now _ line);
-  goes = goes_nowhere g.K.Keeper.exact g.K.Keeper.contents g.W.Output.failed g.W.Output.waits c.args.engine.now c.args.desk.now _ _ 1 tt c.requires.sound refl refl;
+  goes = goes_nowhere g.K.Keeper.exact g.K.Keeper.contents g.K.Keeper.memories g.W.Output.failed g.W.Output.waits c.args.engine.now c.args.desk.now _ _ 1 tt c.requires.sound refl refl;
 }

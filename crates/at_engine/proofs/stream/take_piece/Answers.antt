@@ -16,7 +16,7 @@ cut piece done line behind rest is at =
 
 pub loop-line-init : goal.loop-line-init
 loop-line-init g c =
-    ([], record { split = refl; taken = λ front o e. took_nothing _ _ _ front c.args.desk.now _ o e; keeps = λ exact spare front o e. keeps_none g.K.Keeper.contents c.args.engine.now front c.args.desk.now o e; goes = goes_nowhere g.K.Keeper.exact g.K.Keeper.contents g.W.Output.failed g.W.Output.waits c.args.engine.now c.args.desk.now _ _ 0 tt c.requires.sound refl refl })
+    ([], record { split = refl; taken = λ front o e. took_nothing _ _ _ front c.args.desk.now _ o e; keeps = λ exact spare front o e. keeps_none g.K.Keeper.contents c.args.engine.now front c.args.desk.now o e; goes = goes_nowhere g.K.Keeper.exact g.K.Keeper.contents g.K.Keeper.memories g.W.Output.failed g.W.Output.waits c.args.engine.now c.args.desk.now _ _ 0 tt c.requires.sound refl refl })
 
 pub take_newline-requires : goal.take_newline-requires
 take_newline-requires g c =
@@ -50,8 +50,8 @@ returns-in_err-take_newline g c = record {
       let (done, inv) = c.loop-line.invariant in
       let line = c.in-Some.line.now in
       let few : length done + 1 ≤ length c.args.piece.now = omega (arith, ap length inv.split, length-append done c.loop-line.rest.now, ap length c.in-Some.ensures.1, length-append line (10 ∷ c.in-Some.behind.now)) in
-      goes_on g.K.Keeper.exact g.K.Keeper.contents g.W.Output.failed g.W.Output.waits _ _ _ _ _ _ _ _ _ _ (length done) 1 (length c.args.piece.now) tt c.from_residual.result inv.goes c.keep.ensures.lines c.keep.ensures.memory few
-      (goes_alike g.K.Keeper.exact g.K.Keeper.contents g.W.Output.failed g.W.Output.waits _ _ _ _ _ _ 1 _ c.from_residual.result (ap is_err (sym p.1)) c.in_err-take_newline.ensures.goes);
+      goes_on g.K.Keeper.exact g.K.Keeper.contents g.K.Keeper.memories g.W.Output.failed g.W.Output.waits _ _ _ _ _ _ _ _ _ _ (length done) 1 (length c.args.piece.now) tt c.from_residual.result inv.goes c.keep.ensures.lines c.keep.ensures.memory few
+      (goes_alike g.K.Keeper.exact g.K.Keeper.contents g.K.Keeper.memories g.W.Output.failed g.W.Output.waits _ _ _ _ _ _ 1 _ c.from_residual.result (ap is_err (sym p.1)) c.in_err-take_newline.ensures.goes);
 }
 
 pub loop-line-smaller : goal.loop-line-smaller
@@ -83,7 +83,7 @@ loop-line-preserved g c =
             let p = keeps_on g.K.Keeper.contents c.args.engine.now c.loop-line.engine front done line c.args.desk.now c.loop-line.desk c.keep.new.self inv.goes.rules (omega (arith, s.counts.memory)) open' c.keep.ensures.line c.keep.ensures.memory (inv.keeps exact spare front o e) in
             let q = c.in_ok-take_newline.ensures.keeps exact (inv.goes.spare exact spare) p.rest p.open' p.line in
             keeps_more g.K.Keeper.contents c.args.engine.now c.loop-line.engine c.take_newline.new.engine front (done ++ line) (10 ∷ []) c.args.desk.now c.keep.new.self c.take_newline.new.desk inv.goes.rules (omega (arith, t.counts.memory)) (omega (arith, u.counts.memory)) p q;
-        goes = goes_on g.K.Keeper.exact g.K.Keeper.contents g.W.Output.failed g.W.Output.waits _ _ _ _ _ _ _ _ _ _ (length done) 1 (length ((done ++ line) ++ 10 ∷ [])) tt (Ok tt) inv.goes c.keep.ensures.lines c.keep.ensures.memory
+        goes = goes_on g.K.Keeper.exact g.K.Keeper.contents g.K.Keeper.memories g.W.Output.failed g.W.Output.waits _ _ _ _ _ _ _ _ _ _ (length done) 1 (length ((done ++ line) ++ 10 ∷ [])) tt (Ok tt) inv.goes c.keep.ensures.lines c.keep.ensures.memory
             (omega (arith, length-append (done ++ line) (10 ∷ []), length-append done line)) c.in_ok-take_newline.ensures.goes;
       },
     )
@@ -105,6 +105,6 @@ returns g c = record {
   goes =
       let (done, inv) = c.loop-line.invariant in
       let few : length done + 0 ≤ length c.args.piece.now = omega (arith, ap length inv.split, length-append done c.loop-line.rest.now) in
-      goes_on g.K.Keeper.exact g.K.Keeper.contents g.W.Output.failed g.W.Output.waits _ _ _ _ _ _ _ _ _ _ (length done) 0 (length c.args.piece.now) tt (Ok tt) inv.goes refl refl few
-      (goes_nowhere g.K.Keeper.exact g.K.Keeper.contents g.W.Output.failed g.W.Output.waits c.loop-line.engine c.loop-line.desk c.keep-2.new.self c.loop-line.writer 0 tt inv.goes.sound c.keep-2.ensures.lines c.keep-2.ensures.memory);
+      goes_on g.K.Keeper.exact g.K.Keeper.contents g.K.Keeper.memories g.W.Output.failed g.W.Output.waits _ _ _ _ _ _ _ _ _ _ (length done) 0 (length c.args.piece.now) tt (Ok tt) inv.goes refl refl few
+      (goes_nowhere g.K.Keeper.exact g.K.Keeper.contents g.K.Keeper.memories g.W.Output.failed g.W.Output.waits c.loop-line.engine c.loop-line.desk c.keep-2.new.self c.loop-line.writer 0 tt inv.goes.sound c.keep-2.ensures.lines c.keep-2.ensures.memory);
 }

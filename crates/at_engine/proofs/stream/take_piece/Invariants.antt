@@ -18,7 +18,7 @@ invariant-loop-line g l =
           → Takes (rules_of l.fn.engine) (slice_of l.fn.engine) (state_of l.fn.engine) front done (state_of l.engine) l.fn.desk l.desk (contents l.fn.writer) (contents l.writer);
       keeps : IsTrue g.K.Keeper.exact → IsSpare g.K.Keeper.contents l.fn.engine → (front : List ℕ) → IsOpen front → l.fn.desk.line.items ≡ kept front
           → KeepsBytes g.K.Keeper.contents front done l.fn.engine l.engine l.fn.desk l.desk;
-      goes : Goes {T = Unit {0}} g.K.Keeper.exact g.K.Keeper.contents g.W.Output.failed g.W.Output.waits l.fn.engine l.engine l.fn.desk l.desk l.fn.writer l.writer (length done) (Ok tt);
+      goes : Goes {T = Unit {0}} g.K.Keeper.exact g.K.Keeper.contents g.K.Keeper.memories g.W.Output.failed g.W.Output.waits l.fn.engine l.engine l.fn.desk l.desk l.fn.writer l.writer (length done) (Ok tt);
     }
 
 abbrev pub decreases-loop-line : goal.decreases-loop-line

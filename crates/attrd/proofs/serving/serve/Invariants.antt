@@ -9,11 +9,11 @@ use Rattle.attrd.proofs.serving.serve.Given as goal
 -- as many connections ended as turns were taken
 abbrev pub invariant-loop-turn : goal.invariant-loop-turn
 invariant-loop-turn g l = record {
-  serves : ServesAll (rules_of l.fn.engine) (slice_of l.fn.engine) (state_of l.fn.engine) (g.D.Door.coming l.fn.door) l.turn (state_of l.engine) (g.D.Door.coming l.door);
+  serves : ServesAll (rules_of l.fn.engine) (slice_of l.fn.engine) (state_of l.fn.engine) (g.D.Door.seen l.fn.door) l.turn (state_of l.engine) (g.D.Door.seen l.door) l.served;
   spare : IsTrue g.K.Keeper.exact → IsSpare g.K.Keeper.contents l.fn.engine → IsSpare g.K.Keeper.contents l.engine;
   ended : l.served.ended ≡ l.turn;
   faults : faults l.served ≤ l.turn;
   rules : rules_of l.engine ≡ rules_of l.fn.engine;
   slice : slice_of l.engine ≡ slice_of l.fn.engine;
-  sound : IsSound g.K.Keeper.contents l.engine;
+  sound : IsSound g.K.Keeper.contents g.K.Keeper.memories l.engine;
 }

@@ -3,7 +3,8 @@ use Rattle.attrd.specs.Doors.{by_run, not_accepted}
 use Rattle.attrd.proofs.serving.serve_next.Goals as goal
 
 pub returns-clause-serves : goal.returns-clause-serves
-returns-clause-serves g c = by_run c.run-served.result _ _ _ _ c.in-Ok.ensures.comes c.run-served.ensures.ran
+returns-clause-serves g c =
+    by_run c.run-served.result _ _ _ _ _ c.in-Ok.ensures.comes c.run-served.ensures.ran c.note_served.ensures c.ended.ensures
 
 pub returns-in_default-clause-serves : goal.returns-in_default-clause-serves
-returns-in_default-clause-serves g c = not_accepted refl c.in_default.ensures.none
+returns-in_default-clause-serves g c = not_accepted refl c.in_default.ensures.refused refl

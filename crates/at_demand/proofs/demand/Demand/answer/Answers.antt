@@ -4,8 +4,12 @@ use Rattle.at_demand.proofs.of_nesting.InnerAnswered.{answered_kept}
 use Rattle.at_demand.proofs.demand.Demand.answer.Goals as goal
 
 pub returns-in-Some : goal.returns-in-Some
-returns-in-Some g c =
-    answered_kept c.args.rules.now c.args.store.now g.K.Keeper.exact c.args.inst.now (g.K.Keeper.contents
-    c.args.self.now.keeper) c.args.self.now.work c.in_ok-copy.field-0 c.args.self.now.few c.requires.right
-    c.requires.plain
-    (sym c.in-Some.ensures ∙ ap (λ (v : Value ℕ). Some v) (sym c.in_ok-copy.ensures))
+returns-in-Some g c = record {
+  answered =
+      answered_kept c.args.rules.now c.args.store.now g.K.Keeper.exact c.args.inst.now (g.K.Keeper.contents
+      c.args.self.now.keeper) c.args.self.now.work c.in_ok-copy.field-0 c.args.self.now.few c.requires.right
+      c.requires.plain
+      (sym c.in-Some.ensures ∙ ap (λ (v : Value ℕ). Some v) (sym c.in_ok-copy.ensures));
+  justified = c.requires.justified;
+  there = λ there all. all;
+}

@@ -7,24 +7,34 @@ use Rattle.at_body.specs.declared.value.Value.{Value as ValueCode}
 use Rattle.at_demand.specs.Known.{meaning}
 use Rattle.at_demand.specs.Sparing.{HasWorthy}
 use Rattle.at_demand.proofs.of_nesting.InnerAnswered.{answered_after, answered_by}
+use Rattle.at_demand.proofs.of_traces.Putting.{traced_on, traced_then}
 use Rattle.at_demand.proofs.demand.Demand.answer_anew.Goals as goal
 
 pub returns-in-Some : goal.returns-in-Some
-returns-in-Some g c =
-    let rules = c.args.rules.now in
-    let s = c.args.store.now in
-    let new = g.K.Keeper.contents c.answer_at_once.new.self.keeper in
-    answered_by rules s g.K.Keeper.exact c.args.inst.now _ (g.K.Keeper.contents c.args.self.now.keeper) new
-    c.args.self.now.work c.answer_at_once.new.self.work c.answer_at_once.ensures.gains
-    (subst (λ (o : Option ValueCode). IfSome o (λ v. HasValue (contents s) (meaning rules) c.args.inst.now (value_view
-    v))) c.in-Some.is c.in_ok-at_once.ensures.value)
-    (λ k spare. subst (λ (o : Option ValueCode). IfSome o (λ v. HasWorthy rules (contents s) c.args.inst.now new))
-    c.in-Some.is (c.in_ok-at_once.ensures.all k spare))
+returns-in-Some g c = record {
+  answered =
+      let rules = c.args.rules.now in
+      let s = c.args.store.now in
+      let new = g.K.Keeper.contents c.answer_at_once.new.self.keeper in
+      answered_by rules s g.K.Keeper.exact c.args.inst.now _ (g.K.Keeper.contents c.args.self.now.keeper) new
+      c.args.self.now.work c.answer_at_once.new.self.work c.answer_at_once.ensures.gains
+      (subst (λ (o : Option ValueCode). IfSome o (λ v. HasValue (contents s) (meaning rules) c.args.inst.now (value_view
+      v))) c.in-Some.is c.in_ok-at_once.ensures.value)
+      (λ k spare. subst (λ (o : Option ValueCode). IfSome o (λ v. HasWorthy rules (contents s) c.args.inst.now new))
+      c.in-Some.is (c.in_ok-at_once.ensures.all k spare));
+  traces = c.answer_at_once.ensures.traces;
+}
 
 pub returns-in-None : goal.returns-in-None
-returns-in-None g c =
-    answered_after c.args.rules.now c.args.store.now g.K.Keeper.exact c.args.inst.now c.answer_by_chain.result
-    (g.K.Keeper.contents c.args.self.now.keeper) (g.K.Keeper.contents c.answer_at_once.new.self.keeper)
-    (g.K.Keeper.contents c.answer_by_chain.new.self.keeper)
-    c.args.self.now.work c.answer_at_once.new.self.work c.answer_by_chain.new.self.work c.answer_at_once.ensures.gains
-    c.answer_by_chain.ensures
+returns-in-None g c = record {
+  answered =
+      answered_after c.args.rules.now c.args.store.now g.K.Keeper.exact c.args.inst.now c.answer_by_chain.result
+      (g.K.Keeper.contents c.args.self.now.keeper) (g.K.Keeper.contents c.answer_at_once.new.self.keeper)
+      (g.K.Keeper.contents c.answer_by_chain.new.self.keeper)
+      c.args.self.now.work c.answer_at_once.new.self.work c.answer_by_chain.new.self.work c.answer_at_once.ensures.gains
+      c.answer_by_chain.ensures.answered;
+  traces = traced_then c.args.rules.now c.args.store.now c.args.inst.now (g.K.Keeper.memories c.args.self.now.keeper) (g.K.Keeper.memories c.answer_at_once.new.self.keeper)
+      (g.K.Keeper.memories c.answer_by_chain.new.self.keeper) c.answer_at_once.ensures.traces (traced_on c.args.rules.now c.args.store.now c.args.inst.now
+      (g.K.Keeper.memories c.answer_at_once.new.self.keeper) (g.K.Keeper.memories c.answer_by_chain.new.self.keeper) c.answer_by_chain.ensures.traces
+      c.answer_at_once.ensures.traces.justified);
+}

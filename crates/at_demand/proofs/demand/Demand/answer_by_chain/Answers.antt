@@ -1,14 +1,18 @@
 use Rattle.std.proofs.Common.{ℕ, Some, sym, ap, ◌∙◌}
 use Rattle.at_model.specs.Run.{Value}
 use Rattle.at_demand.proofs.of_nesting.InnerAnswered.{answered_kept}
+use Rattle.at_demand.proofs.of_traces.Justified.{stay_same}
 use Rattle.at_demand.proofs.demand.Demand.answer_by_chain.Goals as goal
 
 pub returns-in-Some : goal.returns-in-Some
-returns-in-Some g c =
-    answered_kept c.args.rules.now c.args.store.now g.K.Keeper.exact c.args.inst.now (g.K.Keeper.contents
-    c.args.self.now.keeper) c.args.self.now.work c.in_ok-copy.field-0 c.args.self.now.few c.requires.right
-    c.requires.plain
-    (sym c.in-Some.ensures ∙ ap (λ (v : Value ℕ). Some v) (sym c.in_ok-copy.ensures))
+returns-in-Some g c = record {
+  answered =
+      answered_kept c.args.rules.now c.args.store.now g.K.Keeper.exact c.args.inst.now (g.K.Keeper.contents
+      c.args.self.now.keeper) c.args.self.now.work c.in_ok-copy.field-0 c.args.self.now.few c.requires.right
+      c.requires.plain
+      (sym c.in-Some.ensures ∙ ap (λ (v : Value ℕ). Some v) (sym c.in_ok-copy.ensures));
+  traces = stay_same (g.K.Keeper.memories c.args.self.now.keeper);
+}
 
 pub evaluate-requires-clause-unkept : goal.evaluate-requires-clause-unkept
 evaluate-requires-clause-unkept g c = sym c.in_default.ensures

@@ -1,5 +1,6 @@
 use Rattle.std.proofs.Common.{◌-◌, ◌^◌}
 use Rattle.at_store.specs.Shown.{contents}
+use Rattle.at_cache.specs.Traced.{StayTraced}
 use Rattle.at_demand.specs.Known.{ArePlain}
 use Rattle.at_demand.specs.UnderWay.{IsOrderlyIn, IsTrueIn}
 use Rattle.at_body.specs.Typed.{class_shown}
@@ -23,6 +24,7 @@ invariant-loop-evaluation g l = record {
   worthy : AddsWorthy l.rules (contents l.store) l.inst (g.K.Keeper.contents l.initial.self.keeper) (g.K.Keeper.contents l.self.keeper);
   sparing : IsTrue g.K.Keeper.exact → AreSpare l.rules (contents l.store) (g.K.Keeper.contents l.initial.self.keeper) → IsSparing l.rules (contents l.store) (g.K.Keeper.contents l.self.keeper) l.evaluation;
   counts : IsTrue g.K.Keeper.exact → Counts (g.K.Keeper.contents l.initial.self.keeper) (g.K.Keeper.contents l.self.keeper) l.initial.self.work l.self.work;
+  traces : StayTraced (g.K.Keeper.memories l.initial.self.keeper) (g.K.Keeper.memories l.self.keeper);
 }
 
 abbrev pub decreases-loop-evaluation : goal.decreases-loop-evaluation

@@ -2,6 +2,7 @@ use Rattle.std.proofs.Common.{refl}
 use Rattle.std.proofs.lemmas.Result.{err_from_is_err_and}
 use Rattle.at_demand.proofs.Entered.{entered_on, valued_on}
 use Rattle.at_demand.proofs.Entering.{founds_on, shares_none}
+use Rattle.at_demand.proofs.of_traces.Justified.{stay_same}
 use Rattle.at_demand.proofs.demand.Demand.gather.Goals as goal
 
 pub share_all-requires : goal.share_all-requires
@@ -11,7 +12,7 @@ pub returns-in_err-sources : goal.returns-in_err-sources
 returns-in_err-sources g c =
     let is = (err_from_is_err_and c.from_residual.result c.from_residual.ensures.1).1 in
     let old = g.K.Keeper.contents c.args.self.now.keeper in
-    record { shares = shares_none c.args.rules.now g.K.Keeper.exact c.args.found.now.entries old old (λ i. refl); work = refl; sources = rw is tt }
+    record { shares = shares_none c.args.rules.now g.K.Keeper.exact c.args.found.now.entries old old (λ i. refl); work = refl; sources = rw is tt; traces = stay_same (g.K.Keeper.memories c.args.self.now.keeper) }
 
 pub returns-then-is_empty : goal.returns-then-is_empty
 returns-then-is_empty g c =
@@ -21,12 +22,13 @@ returns-then-is_empty g c =
       shares = shares_none c.args.rules.now g.K.Keeper.exact c.args.found.now.entries old old (λ i. refl);
       work = refl;
       sources = record { gathered = e.gathered; from = e.only; kept = e.kept c.requires.found c.requires.kept };
+      traces = stay_same (g.K.Keeper.memories c.args.self.now.keeper);
     }
 
 pub returns-in_err-any : goal.returns-in_err-any
 returns-in_err-any g c =
     let is = (err_from_is_err_and c.from_residual-in_err-any.result c.from_residual-in_err-any.ensures.1).1 in
-    record { shares = c.share_all.ensures.shares; work = c.share_all.ensures.work; sources = rw is tt }
+    record { shares = c.share_all.ensures.shares; work = c.share_all.ensures.work; sources = rw is tt; traces = c.share_all.ensures.traces }
 
 pub returns-then-not-any : goal.returns-then-not-any
 returns-then-not-any g c =
@@ -38,12 +40,13 @@ returns-then-not-any g c =
       shares = shares;
       work = c.share_all.ensures.work;
       sources = record { gathered = e.gathered; from = e.only; kept = λ u h. entered_on old new shares.stays u (e.kept c.requires.found c.requires.kept u h) };
+      traces = c.share_all.ensures.traces;
     }
 
 pub returns-in_err-shared : goal.returns-in_err-shared
 returns-in_err-shared g c =
     let is = (err_from_is_err_and c.from_residual-in_err-shared.result c.from_residual-in_err-shared.ensures.1).1 in
-    record { shares = c.share_all.ensures.shares; work = c.share_all.ensures.work; sources = rw is tt }
+    record { shares = c.share_all.ensures.shares; work = c.share_all.ensures.work; sources = rw is tt; traces = c.share_all.ensures.traces }
 
 pub returns : goal.returns
 returns g c =
@@ -55,4 +58,5 @@ returns g c =
       shares = shares;
       work = c.share_all.ensures.work;
       sources = record { gathered = e.gathered; from = e.only; kept = e.kept (founds_on old new shares.stays c.args.found.now.entries c.requires.found) (valued_on old new shares.stays c.args.find.now.demanded.kept.items c.requires.kept) };
+      traces = c.share_all.ensures.traces;
     }

@@ -16,133 +16,152 @@ use Rattle.at_demand.specs.Attempts.{HasFound}
 use Rattle.at_demand.proofs.Gaining.{settled_still, worthy_none}
 use Rattle.at_demand.proofs.Counting.{counts_none}
 use Rattle.at_demand.proofs.Attempted.{has_found, has_failed, has_needed, right_added, right_stays, worthy_added, spare_added, settled_added}
+use Rattle.at_demand.proofs.of_traces.Justified.{stay_same}
 use Rattle.at_demand.proofs.demand.Demand.go_on.Goals as goal
 
 none_kept : (entries : Entries) → AreValued entries []
 none_kept entries u (n, less, at) = absurd (omega (arith, less))
 
 pub returns-in_err-step : goal.returns-in_err-step
-returns-in_err-step g c =
-    let is = (err_from_is_err_and c.from_residual.result c.from_residual.ensures.1).1 in
-    let entries = g.K.Keeper.contents c.args.self.now.keeper in
-    record { tried = rw is tt; right = c.requires.kept_right; stays = λ there finds right. right; plain = c.requires.plain; lazy = λ j. inl refl; worthy = worthy_none c.args.rules.now (contents c.args.store.now) c.args.inst.now entries; spare = λ exact spare lean settled. spare; settles = λ exact spare settled. rw is tt; counts = λ exact. counts_none entries c.args.self.now.work c.args.self.now.few; keeps = rw is tt; waits = rw is tt }
+returns-in_err-step g c = record {
+  attempted =
+      let is = (err_from_is_err_and c.from_residual.result c.from_residual.ensures.1).1 in
+      let entries = g.K.Keeper.contents c.args.self.now.keeper in
+      record { tried = rw is tt; right = c.requires.kept_right; stays = λ there finds right. right; plain = c.requires.plain; lazy = λ j. inl refl; worthy = worthy_none c.args.rules.now (contents c.args.store.now) c.args.inst.now entries; spare = λ exact spare lean settled. spare; settles = λ exact spare settled. rw is tt; counts = λ exact. counts_none entries c.args.self.now.work c.args.self.now.few; keeps = rw is tt; waits = rw is tt };
+  traces = stay_same (g.K.Keeper.memories c.args.self.now.keeper);
+}
 
 pub keep-requires-clause-kept : goal.keep-requires-clause-kept
 keep-requires-clause-kept g c = subst (λ (d : Demanded). AreValued (g.K.Keeper.contents c.args.self.now.keeper) d.kept.items) (sym c.take_find-find.ensures.demanded) c.in_ok-step.ensures.kept
 
 pub returns-in_err-put-in-Value : goal.returns-in_err-put-in-Value
-returns-in_err-put-in-Value g c =
-    let is = (err_from_is_err_and c.from_residual-in_err-put-in-Value.result c.from_residual-in_err-put-in-Value.ensures.1).1 in
-    let rules = c.args.rules.now in
-    let look = contents c.args.store.now in
-    let found = c.args.found.now.entries in
-    let inst = c.args.inst.now in
-    let old = g.K.Keeper.contents c.args.self.now.keeper in
-    let new = g.K.Keeper.contents c.keep.new.self.keeper in
-    let frame = c.go_on.new.self in
-    let d = c.take_find-find.result in
-    let e = c.take_find-find.ensures in
-    let stepped = subst (λ (s : Step). HasStepped rules look inst frame.trial s) c.in-Value.is (c.in_ok-step.ensures.stepped inst c.requires.standing.stepped) in
-    let passed = subst (λ (s : Step). HasPassedTo rules look found inst frame s) c.in-Value.is (c.in_ok-step.ensures.passed inst c.requires.standing.passed) in
-    let takes = c.in_ok-step.ensures.only inst c.requires.standing.stepped c.requires.standing.takes in
-    let has : HasFound rules look old found inst d = has_found rules look old found inst frame c.in-Value.value d stepped passed takes c.in_ok-step.ensures.kept e.value e.reads e.demanded in
-    let adds = c.keep.ensures.adds in
-    record {
-      tried = rw is tt;
-      right = right_added rules old new inst (value_view d.value) adds look has.value c.requires.kept_right;
-      stays = right_stays rules old new inst (value_view d.value) adds c.args.store.now found c.keep.ensures.gains c.keep.ensures.plain has.value (c.keep.ensures.covers look c.requires.whole has.whole);
-      plain = c.keep.ensures.plain;
-      lazy = c.keep.ensures.gains.lazy;
-      worthy = worthy_added rules look old new inst (value_view d.value) found c.keep.ensures.gains has.value;
-      spare = λ exact spare lean settled. spare_added rules look old new found inst d c.keep.ensures.gains c.requires.whole has settled spare (c.keep.ensures.only look exact lean has.lean spare.only);
-      settles = λ exact spare settled. rw is tt;
-      counts = c.keep.ensures.counts;
-      keeps = rw is tt;
-      waits = rw is tt;
-    }
+returns-in_err-put-in-Value g c = record {
+  attempted =
+      let is = (err_from_is_err_and c.from_residual-in_err-put-in-Value.result c.from_residual-in_err-put-in-Value.ensures.1).1 in
+      let rules = c.args.rules.now in
+      let look = contents c.args.store.now in
+      let found = c.args.found.now.entries in
+      let inst = c.args.inst.now in
+      let old = g.K.Keeper.contents c.args.self.now.keeper in
+      let new = g.K.Keeper.contents c.keep.new.self.keeper in
+      let frame = c.go_on.new.self in
+      let d = c.take_find-find.result in
+      let e = c.take_find-find.ensures in
+      let stepped = subst (λ (s : Step). HasStepped rules look inst frame.trial s) c.in-Value.is (c.in_ok-step.ensures.stepped inst c.requires.standing.stepped) in
+      let passed = subst (λ (s : Step). HasPassedTo rules look found inst frame s) c.in-Value.is (c.in_ok-step.ensures.passed inst c.requires.standing.passed) in
+      let takes = c.in_ok-step.ensures.only inst c.requires.standing.stepped c.requires.standing.takes in
+      let has : HasFound rules look old found inst d = has_found rules look old found inst frame c.in-Value.value d stepped passed takes c.in_ok-step.ensures.kept e.value e.reads e.demanded in
+      let adds = c.keep.ensures.keeps.adds in
+      record {
+        tried = rw is tt;
+        right = right_added rules old new inst (value_view d.value) adds look has.value c.requires.kept_right;
+        stays = right_stays rules old new inst (value_view d.value) adds c.args.store.now found c.keep.ensures.keeps.gains c.keep.ensures.keeps.plain has.value (c.keep.ensures.keeps.covers look c.requires.whole has.whole);
+        plain = c.keep.ensures.keeps.plain;
+        lazy = c.keep.ensures.keeps.gains.lazy;
+        worthy = worthy_added rules look old new inst (value_view d.value) found c.keep.ensures.keeps.gains has.value;
+        spare = λ exact spare lean settled. spare_added rules look old new found inst d c.keep.ensures.keeps.gains c.requires.whole has settled spare (c.keep.ensures.keeps.only look exact lean has.lean spare.only);
+        settles = λ exact spare settled. rw is tt;
+        counts = c.keep.ensures.keeps.counts;
+        keeps = rw is tt;
+        waits = rw is tt;
+      };
+  traces = c.keep.ensures.traces;
+}
 
 pub returns-in-Kept : goal.returns-in-Kept
-returns-in-Kept g c =
-    let rules = c.args.rules.now in
-    let look = contents c.args.store.now in
-    let found = c.args.found.now.entries in
-    let inst = c.args.inst.now in
-    let old = g.K.Keeper.contents c.args.self.now.keeper in
-    let new = g.K.Keeper.contents c.keep.new.self.keeper in
-    let frame = c.go_on.new.self in
-    let d = c.take_find-find.result in
-    let e = c.take_find-find.ensures in
-    let stepped = subst (λ (s : Step). HasStepped rules look inst frame.trial s) c.in-Value.is (c.in_ok-step.ensures.stepped inst c.requires.standing.stepped) in
-    let passed = subst (λ (s : Step). HasPassedTo rules look found inst frame s) c.in-Value.is (c.in_ok-step.ensures.passed inst c.requires.standing.passed) in
-    let takes = c.in_ok-step.ensures.only inst c.requires.standing.stepped c.requires.standing.takes in
-    let has : HasFound rules look old found inst d = has_found rules look old found inst frame c.in-Value.value d stepped passed takes c.in_ok-step.ensures.kept e.value e.reads e.demanded in
-    let adds = c.keep.ensures.adds in
-    let kept = subst (λ (r : Put). SaysKept new inst d r) c.in-Kept.is c.in_ok-put-in-Value.ensures.says in
-    record {
-      tried = (d, sym c.into_value.ensures, has);
-      right = right_added rules old new inst (value_view d.value) adds look has.value c.requires.kept_right;
-      stays = right_stays rules old new inst (value_view d.value) adds c.args.store.now found c.keep.ensures.gains c.keep.ensures.plain has.value (c.keep.ensures.covers look c.requires.whole has.whole);
-      plain = c.keep.ensures.plain;
-      lazy = c.keep.ensures.gains.lazy;
-      worthy = worthy_added rules look old new inst (value_view d.value) found c.keep.ensures.gains has.value;
-      spare = λ exact spare lean settled. spare_added rules look old new found inst d c.keep.ensures.gains c.requires.whole has settled spare (c.keep.ensures.only look exact lean has.lean spare.only);
-      settles = λ exact spare settled. settled_still rules look old new inst found c.keep.ensures.gains found settled;
-      counts = c.keep.ensures.counts;
-      keeps = kept ∙ ap (λ (v : ValueCode). Some (value_view v)) (sym c.into_value.ensures);
-      waits = tt;
-    }
+returns-in-Kept g c = record {
+  attempted =
+      let rules = c.args.rules.now in
+      let look = contents c.args.store.now in
+      let found = c.args.found.now.entries in
+      let inst = c.args.inst.now in
+      let old = g.K.Keeper.contents c.args.self.now.keeper in
+      let new = g.K.Keeper.contents c.keep.new.self.keeper in
+      let frame = c.go_on.new.self in
+      let d = c.take_find-find.result in
+      let e = c.take_find-find.ensures in
+      let stepped = subst (λ (s : Step). HasStepped rules look inst frame.trial s) c.in-Value.is (c.in_ok-step.ensures.stepped inst c.requires.standing.stepped) in
+      let passed = subst (λ (s : Step). HasPassedTo rules look found inst frame s) c.in-Value.is (c.in_ok-step.ensures.passed inst c.requires.standing.passed) in
+      let takes = c.in_ok-step.ensures.only inst c.requires.standing.stepped c.requires.standing.takes in
+      let has : HasFound rules look old found inst d = has_found rules look old found inst frame c.in-Value.value d stepped passed takes c.in_ok-step.ensures.kept e.value e.reads e.demanded in
+      let adds = c.keep.ensures.keeps.adds in
+      let kept = subst (λ (r : Put). SaysKept new inst d r) c.in-Kept.is c.in_ok-put-in-Value.ensures.keeps.says in
+      record {
+        tried = (d, sym c.into_value.ensures, has);
+        right = right_added rules old new inst (value_view d.value) adds look has.value c.requires.kept_right;
+        stays = right_stays rules old new inst (value_view d.value) adds c.args.store.now found c.keep.ensures.keeps.gains c.keep.ensures.keeps.plain has.value (c.keep.ensures.keeps.covers look c.requires.whole has.whole);
+        plain = c.keep.ensures.keeps.plain;
+        lazy = c.keep.ensures.keeps.gains.lazy;
+        worthy = worthy_added rules look old new inst (value_view d.value) found c.keep.ensures.keeps.gains has.value;
+        spare = λ exact spare lean settled. spare_added rules look old new found inst d c.keep.ensures.keeps.gains c.requires.whole has settled spare (c.keep.ensures.keeps.only look exact lean has.lean spare.only);
+        settles = λ exact spare settled. settled_still rules look old new inst found c.keep.ensures.keeps.gains found settled;
+        counts = c.keep.ensures.keeps.counts;
+        keeps = kept ∙ ap (λ (v : ValueCode). Some (value_view v)) (sym c.into_value.ensures);
+        waits = tt;
+      };
+  traces = c.keep.ensures.traces;
+}
 
 pub returns-in-Left : goal.returns-in-Left
-returns-in-Left g c =
-    let rules = c.args.rules.now in
-    let look = contents c.args.store.now in
-    let found = c.args.found.now.entries in
-    let inst = c.args.inst.now in
-    let old = g.K.Keeper.contents c.args.self.now.keeper in
-    let new = g.K.Keeper.contents c.keep.new.self.keeper in
-    let frame = c.go_on.new.self in
-    let d = c.take_find-find.result in
-    let e = c.take_find-find.ensures in
-    let stepped = subst (λ (s : Step). HasStepped rules look inst frame.trial s) c.in-Value.is (c.in_ok-step.ensures.stepped inst c.requires.standing.stepped) in
-    let passed = subst (λ (s : Step). HasPassedTo rules look found inst frame s) c.in-Value.is (c.in_ok-step.ensures.passed inst c.requires.standing.passed) in
-    let takes = c.in_ok-step.ensures.only inst c.requires.standing.stepped c.requires.standing.takes in
-    let has : HasFound rules look old found inst d = has_found rules look old found inst frame c.in-Value.value d stepped passed takes c.in_ok-step.ensures.kept e.value e.reads e.demanded in
-    let adds = c.keep.ensures.adds in
-    record {
-      tried = has;
-      right = right_added rules old new inst (value_view d.value) adds look has.value c.requires.kept_right;
-      stays = right_stays rules old new inst (value_view d.value) adds c.args.store.now found c.keep.ensures.gains c.keep.ensures.plain has.value (c.keep.ensures.covers look c.requires.whole has.whole);
-      plain = c.keep.ensures.plain;
-      lazy = c.keep.ensures.gains.lazy;
-      worthy = worthy_added rules look old new inst (value_view d.value) found c.keep.ensures.gains has.value;
-      spare = λ exact spare lean settled. spare_added rules look old new found inst d c.keep.ensures.gains c.requires.whole has settled spare (c.keep.ensures.only look exact lean has.lean spare.only);
-      settles = λ exact spare settled. settled_added rules look old new found inst d c.keep.ensures.gains c.requires.whole has settled spare (c.in_ok-put-in-Value.ensures.keeps exact);
-      counts = c.keep.ensures.counts;
-      keeps = tt;
-      waits = tt;
-    }
+returns-in-Left g c = record {
+  attempted =
+      let rules = c.args.rules.now in
+      let look = contents c.args.store.now in
+      let found = c.args.found.now.entries in
+      let inst = c.args.inst.now in
+      let old = g.K.Keeper.contents c.args.self.now.keeper in
+      let new = g.K.Keeper.contents c.keep.new.self.keeper in
+      let frame = c.go_on.new.self in
+      let d = c.take_find-find.result in
+      let e = c.take_find-find.ensures in
+      let stepped = subst (λ (s : Step). HasStepped rules look inst frame.trial s) c.in-Value.is (c.in_ok-step.ensures.stepped inst c.requires.standing.stepped) in
+      let passed = subst (λ (s : Step). HasPassedTo rules look found inst frame s) c.in-Value.is (c.in_ok-step.ensures.passed inst c.requires.standing.passed) in
+      let takes = c.in_ok-step.ensures.only inst c.requires.standing.stepped c.requires.standing.takes in
+      let has : HasFound rules look old found inst d = has_found rules look old found inst frame c.in-Value.value d stepped passed takes c.in_ok-step.ensures.kept e.value e.reads e.demanded in
+      let adds = c.keep.ensures.keeps.adds in
+      record {
+        tried = has;
+        right = right_added rules old new inst (value_view d.value) adds look has.value c.requires.kept_right;
+        stays = right_stays rules old new inst (value_view d.value) adds c.args.store.now found c.keep.ensures.keeps.gains c.keep.ensures.keeps.plain has.value (c.keep.ensures.keeps.covers look c.requires.whole has.whole);
+        plain = c.keep.ensures.keeps.plain;
+        lazy = c.keep.ensures.keeps.gains.lazy;
+        worthy = worthy_added rules look old new inst (value_view d.value) found c.keep.ensures.keeps.gains has.value;
+        spare = λ exact spare lean settled. spare_added rules look old new found inst d c.keep.ensures.keeps.gains c.requires.whole has settled spare (c.keep.ensures.keeps.only look exact lean has.lean spare.only);
+        settles = λ exact spare settled. settled_added rules look old new found inst d c.keep.ensures.keeps.gains c.requires.whole has settled spare (c.in_ok-put-in-Value.ensures.keeps.keeps exact);
+        counts = c.keep.ensures.keeps.counts;
+        keeps = tt;
+        waits = tt;
+      };
+  traces = c.keep.ensures.traces;
+}
 
 pub returns-in-Fault : goal.returns-in-Fault
-returns-in-Fault g c =
-    let rules = c.args.rules.now in
-    let look = contents c.args.store.now in
-    let found = c.args.found.now.entries in
-    let inst = c.args.inst.now in
-    let entries = g.K.Keeper.contents c.args.self.now.keeper in
-    let stepped = subst (λ (s : Step). HasStepped rules look inst c.go_on.new.self.trial s) c.in-Fault.is (c.in_ok-step.ensures.stepped inst c.requires.standing.stepped) in
-    record { tried = has_failed rules look entries found inst c.go_on.new.self.trial c.in-Fault.kind stepped; right = c.requires.kept_right; stays = λ there finds right. right; plain = c.requires.plain; lazy = λ j. inl refl; worthy = worthy_none rules look inst entries; spare = λ exact spare lean settled. spare; settles = λ exact spare settled. settled; counts = λ exact. counts_none entries c.args.self.now.work c.args.self.now.few; keeps = tt; waits = tt }
+returns-in-Fault g c = record {
+  attempted =
+      let rules = c.args.rules.now in
+      let look = contents c.args.store.now in
+      let found = c.args.found.now.entries in
+      let inst = c.args.inst.now in
+      let entries = g.K.Keeper.contents c.args.self.now.keeper in
+      let stepped = subst (λ (s : Step). HasStepped rules look inst c.go_on.new.self.trial s) c.in-Fault.is (c.in_ok-step.ensures.stepped inst c.requires.standing.stepped) in
+      record { tried = has_failed rules look entries found inst c.go_on.new.self.trial c.in-Fault.kind stepped; right = c.requires.kept_right; stays = λ there finds right. right; plain = c.requires.plain; lazy = λ j. inl refl; worthy = worthy_none rules look inst entries; spare = λ exact spare lean settled. spare; settles = λ exact spare settled. settled; counts = λ exact. counts_none entries c.args.self.now.work c.args.self.now.few; keeps = tt; waits = tt };
+  traces = stay_same (g.K.Keeper.memories c.args.self.now.keeper);
+}
 
 pub returns-in-Need : goal.returns-in-Need
-returns-in-Need g c =
-    let rules = c.args.rules.now in
-    let look = contents c.args.store.now in
-    let found = c.args.found.now.entries in
-    let inst = c.args.inst.now in
-    let entries = g.K.Keeper.contents c.args.self.now.keeper in
-    let trial = c.go_on.new.self.trial in
-    let stepped = subst (λ (s : Step). HasStepped rules look inst trial s) c.in-Need.is (c.in_ok-step.ensures.stepped inst c.requires.standing.stepped) in
-    let unknown = subst (λ (s : Step). IsOpen (known_in entries found) s) c.in-Need.is c.in_ok-step.ensures.unknown in
-    let typed = subst (λ (s : Step). IsTypedStep rules (class_shown c.args.store.now) s trial) c.in-Need.is c.in_ok-step.ensures.typed in
-    let passed = subst (λ (s : Step). HasPassedTo rules look found inst c.go_on.new.self s) c.in-Need.is (c.in_ok-step.ensures.passed inst c.requires.standing.passed) in
-    let takes = c.in_ok-step.ensures.only inst c.requires.standing.stepped c.requires.standing.takes in
-    record { tried = has_needed rules look entries found inst (class_shown c.args.store.now) trial c.in-Need.needed stepped unknown typed; right = c.requires.kept_right; stays = λ there finds right. right; plain = c.requires.plain; lazy = λ j. inl refl; worthy = worthy_none rules look inst entries; spare = λ exact spare lean settled. spare; settles = λ exact spare settled. settled; counts = λ exact. counts_none entries c.args.self.now.work c.args.self.now.few; keeps = tt; waits = record { stepped = stepped; passed = passed; takes = takes; typed = typed; kept = c.in_ok-step.ensures.kept } }
+returns-in-Need g c = record {
+  attempted =
+      let rules = c.args.rules.now in
+      let look = contents c.args.store.now in
+      let found = c.args.found.now.entries in
+      let inst = c.args.inst.now in
+      let entries = g.K.Keeper.contents c.args.self.now.keeper in
+      let trial = c.go_on.new.self.trial in
+      let stepped = subst (λ (s : Step). HasStepped rules look inst trial s) c.in-Need.is (c.in_ok-step.ensures.stepped inst c.requires.standing.stepped) in
+      let unknown = subst (λ (s : Step). IsOpen (known_in entries found) s) c.in-Need.is c.in_ok-step.ensures.unknown in
+      let typed = subst (λ (s : Step). IsTypedStep rules (class_shown c.args.store.now) s trial) c.in-Need.is c.in_ok-step.ensures.typed in
+      let passed = subst (λ (s : Step). HasPassedTo rules look found inst c.go_on.new.self s) c.in-Need.is (c.in_ok-step.ensures.passed inst c.requires.standing.passed) in
+      let takes = c.in_ok-step.ensures.only inst c.requires.standing.stepped c.requires.standing.takes in
+      record { tried = has_needed rules look entries found inst (class_shown c.args.store.now) trial c.in-Need.needed stepped unknown typed; right = c.requires.kept_right; stays = λ there finds right. right; plain = c.requires.plain; lazy = λ j. inl refl; worthy = worthy_none rules look inst entries; spare = λ exact spare lean settled. spare; settles = λ exact spare settled. settled; counts = λ exact. counts_none entries c.args.self.now.work c.args.self.now.few; keeps = tt; waits = record { stepped = stepped; passed = passed; takes = takes; typed = typed; kept = c.in_ok-step.ensures.kept } };
+  traces = stay_same (g.K.Keeper.memories c.args.self.now.keeper);
+}

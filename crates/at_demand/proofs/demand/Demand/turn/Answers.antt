@@ -20,21 +20,24 @@ turn_with-requires-clause-fit g c =
     subst (λ (o : Option (Instance ℕ)). FitAt rules s entries q t.frames.items o) (sym c.new-trials.ensures.awaited) (no_trials rules (class_shown s) (contents s) entries q.found.entries (keys_of q.waiting.entries) q.inst t.frames.items c.new-trials.ensures.frames)
 
 pub returns : goal.returns
-returns g c =
-    let rules = c.args.rules.now in
-    let s = c.args.store.now in
-    let old = g.K.Keeper.contents c.args.self.now.keeper in
-    let e = c.turn_with.ensures in
-    record {
-      turned = e.turned;
-      answers = IfOk-weaker c.turn_with.result _ _ (told_right rules s old old (λ i some. refl) c.args.question.now c.requires.standing (under_way c.turn_with.new.question)) e.turned;
-      standing = e.standing;
-      right = e.gains.right;
-      stays = e.gains.stays;
-      plain = e.gains.plain;
-      last = e.gains.last;
-      worthy = e.gains.worthy;
-      sparing = e.sparing;
-      spare = e.gains.spare;
-      counts = e.gains.counts;
-    }
+returns g c = record {
+  turned =
+      let rules = c.args.rules.now in
+      let s = c.args.store.now in
+      let old = g.K.Keeper.contents c.args.self.now.keeper in
+      let e = c.turn_with.ensures.turned in
+      record {
+        turned = e.turned;
+        answers = IfOk-weaker c.turn_with.result _ _ (told_right rules s old old (λ i some. refl) c.args.question.now c.requires.standing (under_way c.turn_with.new.question)) e.turned;
+        standing = e.standing;
+        right = e.gains.right;
+        stays = e.gains.stays;
+        plain = e.gains.plain;
+        last = e.gains.last;
+        worthy = e.gains.worthy;
+        sparing = e.sparing;
+        spare = e.gains.spare;
+        counts = e.gains.counts;
+      };
+  traces = c.turn_with.ensures.traces;
+}

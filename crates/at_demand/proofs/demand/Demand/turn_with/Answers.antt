@@ -11,6 +11,7 @@ use Rattle.at_demand.proofs.Turned.{gained_turn, settled_turn, passed_turn, fail
 use Rattle.at_demand.proofs.Standing.{stands_grown, last_typed, stands_settled, stands_passed, stands_deepened, all_right, spares_settled, spares_passed, spares_deepened}
 use Rattle.at_demand.proofs.of_steps.Turning.{gains_none, gains_tried}
 use Rattle.at_demand.proofs.Fitting.{fit_gained, fit_passed, fit_settled, fit_deepened}
+use Rattle.at_demand.proofs.of_traces.Justified.{stay_same}
 use Rattle.at_demand.proofs.demand.Demand.turn_with.Goals as goal
 
 pub trial_of-requires-clause-typed : goal.trial_of-requires-clause-typed
@@ -23,263 +24,305 @@ pub go_on-requires-clause-standing : goal.go_on-requires-clause-standing
 go_on-requires-clause-standing g c = c.in_ok-begun.ensures.standing
 
 pub returns-in_err-copy : goal.returns-in_err-copy
-returns-in_err-copy g c =
-    let rules = c.args.rules.now in
-    let s = c.args.store.now in
-    let q = c.args.question.now in
-    let st = c.requires.standing in
-    let old = g.K.Keeper.contents c.args.self.now.keeper in
-    let is = (err_from_is_err_and c.from_residual.result c.from_residual.ensures.1).1 in
-    record {
-      turned = rw is tt;
-      standing = rw is tt;
-      fit = rw is tt;
-      sparing = λ exact spare sparing. rw is tt;
-      gains = gains_none rules s g.K.Keeper.exact old c.args.self.now.work c.args.self.now.few q c.requires.right c.requires.plain;
-    }
+returns-in_err-copy g c = record {
+  turned =
+      let rules = c.args.rules.now in
+      let s = c.args.store.now in
+      let q = c.args.question.now in
+      let st = c.requires.standing in
+      let old = g.K.Keeper.contents c.args.self.now.keeper in
+      let is = (err_from_is_err_and c.from_residual.result c.from_residual.ensures.1).1 in
+      record {
+        turned = rw is tt;
+        standing = rw is tt;
+        fit = rw is tt;
+        sparing = λ exact spare sparing. rw is tt;
+        gains = gains_none rules s g.K.Keeper.exact old c.args.self.now.work c.args.self.now.few q c.requires.right c.requires.plain;
+      };
+  traces = stay_same (g.K.Keeper.memories c.args.self.now.keeper);
+}
 
 pub returns-in_err-copy-2 : goal.returns-in_err-copy-2
-returns-in_err-copy-2 g c =
-    let rules = c.args.rules.now in
-    let s = c.args.store.now in
-    let q = c.args.question.now in
-    let st = c.requires.standing in
-    let old = g.K.Keeper.contents c.args.self.now.keeper in
-    let is = (err_from_is_err_and c.from_residual-in_err-copy-2.result c.from_residual-in_err-copy-2.ensures.1).1 in
-    record {
-      turned = rw is tt;
-      standing = rw is tt;
-      fit = rw is tt;
-      sparing = λ exact spare sparing. rw is tt;
-      gains = gains_none rules s g.K.Keeper.exact old c.args.self.now.work c.args.self.now.few q c.requires.right c.requires.plain;
-    }
+returns-in_err-copy-2 g c = record {
+  turned =
+      let rules = c.args.rules.now in
+      let s = c.args.store.now in
+      let q = c.args.question.now in
+      let st = c.requires.standing in
+      let old = g.K.Keeper.contents c.args.self.now.keeper in
+      let is = (err_from_is_err_and c.from_residual-in_err-copy-2.result c.from_residual-in_err-copy-2.ensures.1).1 in
+      record {
+        turned = rw is tt;
+        standing = rw is tt;
+        fit = rw is tt;
+        sparing = λ exact spare sparing. rw is tt;
+        gains = gains_none rules s g.K.Keeper.exact old c.args.self.now.work c.args.self.now.few q c.requires.right c.requires.plain;
+      };
+  traces = stay_same (g.K.Keeper.memories c.args.self.now.keeper);
+}
 
 pub returns-in_err-begun : goal.returns-in_err-begun
-returns-in_err-begun g c =
-    let rules = c.args.rules.now in
-    let s = c.args.store.now in
-    let q = c.args.question.now in
-    let st = c.requires.standing in
-    let old = g.K.Keeper.contents c.args.self.now.keeper in
-    let is = (err_from_is_err_and c.from_residual-in_err-begun.result c.from_residual-in_err-begun.ensures.1).1 in
-    record {
-      turned = rw is tt;
-      standing = rw is tt;
-      fit = rw is tt;
-      sparing = λ exact spare sparing. rw is tt;
-      gains = gains_none rules s g.K.Keeper.exact old c.args.self.now.work c.args.self.now.few q c.requires.right c.requires.plain;
-    }
+returns-in_err-begun g c = record {
+  turned =
+      let rules = c.args.rules.now in
+      let s = c.args.store.now in
+      let q = c.args.question.now in
+      let st = c.requires.standing in
+      let old = g.K.Keeper.contents c.args.self.now.keeper in
+      let is = (err_from_is_err_and c.from_residual-in_err-begun.result c.from_residual-in_err-begun.ensures.1).1 in
+      record {
+        turned = rw is tt;
+        standing = rw is tt;
+        fit = rw is tt;
+        sparing = λ exact spare sparing. rw is tt;
+        gains = gains_none rules s g.K.Keeper.exact old c.args.self.now.work c.args.self.now.few q c.requires.right c.requires.plain;
+      };
+  traces = stay_same (g.K.Keeper.memories c.args.self.now.keeper);
+}
 
 pub returns-in_err-value : goal.returns-in_err-value
-returns-in_err-value g c =
-    let rules = c.args.rules.now in
-    let s = c.args.store.now in
-    let q = c.args.question.now in
-    let st = c.requires.standing in
-    let old = g.K.Keeper.contents c.args.self.now.keeper in
-    let new = g.K.Keeper.contents c.go_on.new.self.keeper in
-    let grown = c.go_on.ensures.worthy.stays in
-    let is = (err_from_is_err_and c.from_residual-in_err-value.result c.from_residual-in_err-value.ensures.1).1 in
-    record {
-      turned = rw is tt;
-      standing = rw is tt;
-      fit = rw is tt;
-      sparing = λ exact spare sparing. rw is tt;
-      gains = gains_tried rules s g.K.Keeper.exact old new c.args.self.now.work c.go_on.new.self.work q c.go_on.new.frame _ c.requires.idle st c.go_on.ensures;
-    }
+returns-in_err-value g c = record {
+  turned =
+      let rules = c.args.rules.now in
+      let s = c.args.store.now in
+      let q = c.args.question.now in
+      let st = c.requires.standing in
+      let old = g.K.Keeper.contents c.args.self.now.keeper in
+      let new = g.K.Keeper.contents c.go_on.new.self.keeper in
+      let grown = c.go_on.ensures.attempted.worthy.stays in
+      let is = (err_from_is_err_and c.from_residual-in_err-value.result c.from_residual-in_err-value.ensures.1).1 in
+      record {
+        turned = rw is tt;
+        standing = rw is tt;
+        fit = rw is tt;
+        sparing = λ exact spare sparing. rw is tt;
+        gains = gains_tried rules s g.K.Keeper.exact old new c.args.self.now.work c.go_on.new.self.work q c.go_on.new.frame _ c.requires.idle st c.go_on.ensures.attempted;
+      };
+  traces = c.go_on.ensures.traces;
+}
 
 pub returns-in_err-copy-in-Kept : goal.returns-in_err-copy-in-Kept
-returns-in_err-copy-in-Kept g c =
-    let rules = c.args.rules.now in
-    let s = c.args.store.now in
-    let q = c.args.question.now in
-    let st = c.requires.standing in
-    let old = g.K.Keeper.contents c.args.self.now.keeper in
-    let new = g.K.Keeper.contents c.go_on.new.self.keeper in
-    let grown = c.go_on.ensures.worthy.stays in
-    let is = (err_from_is_err_and c.from_residual-in_err-copy-in-Kept.result c.from_residual-in_err-copy-in-Kept.ensures.1).1 in
-    record {
-      turned = rw is tt;
-      standing = rw is tt;
-      fit = rw is tt;
-      sparing = λ exact spare sparing. rw is tt;
-      gains = gains_tried rules s g.K.Keeper.exact old new c.args.self.now.work c.go_on.new.self.work q c.go_on.new.frame _ c.requires.idle st c.go_on.ensures;
-    }
+returns-in_err-copy-in-Kept g c = record {
+  turned =
+      let rules = c.args.rules.now in
+      let s = c.args.store.now in
+      let q = c.args.question.now in
+      let st = c.requires.standing in
+      let old = g.K.Keeper.contents c.args.self.now.keeper in
+      let new = g.K.Keeper.contents c.go_on.new.self.keeper in
+      let grown = c.go_on.ensures.attempted.worthy.stays in
+      let is = (err_from_is_err_and c.from_residual-in_err-copy-in-Kept.result c.from_residual-in_err-copy-in-Kept.ensures.1).1 in
+      record {
+        turned = rw is tt;
+        standing = rw is tt;
+        fit = rw is tt;
+        sparing = λ exact spare sparing. rw is tt;
+        gains = gains_tried rules s g.K.Keeper.exact old new c.args.self.now.work c.go_on.new.self.work q c.go_on.new.frame _ c.requires.idle st c.go_on.ensures.attempted;
+      };
+  traces = c.go_on.ensures.traces;
+}
 
 pub returns-in_err-copy-in-Found : goal.returns-in_err-copy-in-Found
-returns-in_err-copy-in-Found g c =
-    let rules = c.args.rules.now in
-    let s = c.args.store.now in
-    let q = c.args.question.now in
-    let st = c.requires.standing in
-    let old = g.K.Keeper.contents c.args.self.now.keeper in
-    let new = g.K.Keeper.contents c.go_on.new.self.keeper in
-    let grown = c.go_on.ensures.worthy.stays in
-    let is = (err_from_is_err_and c.from_residual-in_err-copy-in-Found.result c.from_residual-in_err-copy-in-Found.ensures.1).1 in
-    record {
-      turned = rw is tt;
-      standing = rw is tt;
-      fit = rw is tt;
-      sparing = λ exact spare sparing. rw is tt;
-      gains = gains_tried rules s g.K.Keeper.exact old new c.args.self.now.work c.go_on.new.self.work q c.go_on.new.frame _ c.requires.idle st c.go_on.ensures;
-    }
+returns-in_err-copy-in-Found g c = record {
+  turned =
+      let rules = c.args.rules.now in
+      let s = c.args.store.now in
+      let q = c.args.question.now in
+      let st = c.requires.standing in
+      let old = g.K.Keeper.contents c.args.self.now.keeper in
+      let new = g.K.Keeper.contents c.go_on.new.self.keeper in
+      let grown = c.go_on.ensures.attempted.worthy.stays in
+      let is = (err_from_is_err_and c.from_residual-in_err-copy-in-Found.result c.from_residual-in_err-copy-in-Found.ensures.1).1 in
+      record {
+        turned = rw is tt;
+        standing = rw is tt;
+        fit = rw is tt;
+        sparing = λ exact spare sparing. rw is tt;
+        gains = gains_tried rules s g.K.Keeper.exact old new c.args.self.now.work c.go_on.new.self.work q c.go_on.new.frame _ c.requires.idle st c.go_on.ensures.attempted;
+      };
+  traces = c.go_on.ensures.traces;
+}
 
 pub returns-in_err-at-in-Fails : goal.returns-in_err-at-in-Fails
-returns-in_err-at-in-Fails g c =
-    let rules = c.args.rules.now in
-    let s = c.args.store.now in
-    let q = c.args.question.now in
-    let st = c.requires.standing in
-    let old = g.K.Keeper.contents c.args.self.now.keeper in
-    let new = g.K.Keeper.contents c.go_on.new.self.keeper in
-    let grown = c.go_on.ensures.worthy.stays in
-    let is = (err_from_is_err_and c.from_residual-in_err-at-in-Fails.result c.from_residual-in_err-at-in-Fails.ensures.1).1 in
-    record {
-      turned = rw is tt;
-      standing = rw is tt;
-      fit = rw is tt;
-      sparing = λ exact spare sparing. rw is tt;
-      gains = gains_tried rules s g.K.Keeper.exact old new c.args.self.now.work c.go_on.new.self.work q c.go_on.new.frame _ c.requires.idle st c.go_on.ensures;
-    }
+returns-in_err-at-in-Fails g c = record {
+  turned =
+      let rules = c.args.rules.now in
+      let s = c.args.store.now in
+      let q = c.args.question.now in
+      let st = c.requires.standing in
+      let old = g.K.Keeper.contents c.args.self.now.keeper in
+      let new = g.K.Keeper.contents c.go_on.new.self.keeper in
+      let grown = c.go_on.ensures.attempted.worthy.stays in
+      let is = (err_from_is_err_and c.from_residual-in_err-at-in-Fails.result c.from_residual-in_err-at-in-Fails.ensures.1).1 in
+      record {
+        turned = rw is tt;
+        standing = rw is tt;
+        fit = rw is tt;
+        sparing = λ exact spare sparing. rw is tt;
+        gains = gains_tried rules s g.K.Keeper.exact old new c.args.self.now.work c.go_on.new.self.work q c.go_on.new.frame _ c.requires.idle st c.go_on.ensures.attempted;
+      };
+  traces = c.go_on.ensures.traces;
+}
 
 pub returns-in_err-push-in-Needs : goal.returns-in_err-push-in-Needs
-returns-in_err-push-in-Needs g c =
-    let rules = c.args.rules.now in
-    let s = c.args.store.now in
-    let q = c.args.question.now in
-    let st = c.requires.standing in
-    let old = g.K.Keeper.contents c.args.self.now.keeper in
-    let new = g.K.Keeper.contents c.go_on.new.self.keeper in
-    let grown = c.go_on.ensures.worthy.stays in
-    let is = (err_from_is_err_and c.from_residual-in_err-push-in-Needs.result c.from_residual-in_err-push-in-Needs.ensures.1).1 in
-    record {
-      turned = rw is tt;
-      standing = rw is tt;
-      fit = rw is tt;
-      sparing = λ exact spare sparing. rw is tt;
-      gains = gains_tried rules s g.K.Keeper.exact old new c.args.self.now.work c.go_on.new.self.work q c.go_on.new.frame _ c.requires.idle st c.go_on.ensures;
-    }
+returns-in_err-push-in-Needs g c = record {
+  turned =
+      let rules = c.args.rules.now in
+      let s = c.args.store.now in
+      let q = c.args.question.now in
+      let st = c.requires.standing in
+      let old = g.K.Keeper.contents c.args.self.now.keeper in
+      let new = g.K.Keeper.contents c.go_on.new.self.keeper in
+      let grown = c.go_on.ensures.attempted.worthy.stays in
+      let is = (err_from_is_err_and c.from_residual-in_err-push-in-Needs.result c.from_residual-in_err-push-in-Needs.ensures.1).1 in
+      record {
+        turned = rw is tt;
+        standing = rw is tt;
+        fit = rw is tt;
+        sparing = λ exact spare sparing. rw is tt;
+        gains = gains_tried rules s g.K.Keeper.exact old new c.args.self.now.work c.go_on.new.self.work q c.go_on.new.frame _ c.requires.idle st c.go_on.ensures.attempted;
+      };
+  traces = c.go_on.ensures.traces;
+}
 
 pub returns-in-Some-get : goal.returns-in-Some-get
-returns-in-Some-get g c =
-    let rules = c.args.rules.now in
-    let s = c.args.store.now in
-    let q = c.args.question.now in
-    let st = c.requires.standing in
-    let old = g.K.Keeper.contents c.args.self.now.keeper in
-    let kept = sym (ap (λ w. Some w) c.in_ok-copy-2.ensures ∙ c.in-Some-get.ensures) in
-    let v = c.in_ok-copy-2.field-0 in
-    let p = c.pass.new.self in
-    record {
-      turned = IfOk-weaker c.pass.result _ _ (passed_turn rules s old old q st p v c.requires.right kept) c.pass.ensures;
-      standing = IfOk-weaker c.pass.result _ _ (λ o r. stands_passed rules s old old (λ i some. refl) q st p v kept o r (passed_turn rules s old old q st p v c.requires.right kept o r)) c.pass.ensures;
-      fit = IfOk-weaker c.pass.result _ _ (fit_passed rules s old old (λ i some. refl) q p st c.forget.new.self v c.forget.ensures.frames c.forget.ensures.awaited) c.pass.ensures;
-      sparing = λ exact spare sparing. IfOk-weaker c.pass.result _ _ (λ o r. spares_passed rules s old old (λ i some. refl) q st p v o r sparing) c.pass.ensures;
-      gains = gains_none rules s g.K.Keeper.exact old c.args.self.now.work c.args.self.now.few q c.requires.right c.requires.plain;
-    }
+returns-in-Some-get g c = record {
+  turned =
+      let rules = c.args.rules.now in
+      let s = c.args.store.now in
+      let q = c.args.question.now in
+      let st = c.requires.standing in
+      let old = g.K.Keeper.contents c.args.self.now.keeper in
+      let kept = sym (ap (λ w. Some w) c.in_ok-copy-2.ensures ∙ c.in-Some-get.ensures) in
+      let v = c.in_ok-copy-2.field-0 in
+      let p = c.pass.new.self in
+      record {
+        turned = IfOk-weaker c.pass.result _ _ (passed_turn rules s old old q st p v c.requires.right kept) c.pass.ensures;
+        standing = IfOk-weaker c.pass.result _ _ (λ o r. stands_passed rules s old old (λ i some. refl) q st p v kept o r (passed_turn rules s old old q st p v c.requires.right kept o r)) c.pass.ensures;
+        fit = IfOk-weaker c.pass.result _ _ (fit_passed rules s old old (λ i some. refl) q p st c.forget.new.self v c.forget.ensures.frames c.forget.ensures.awaited) c.pass.ensures;
+        sparing = λ exact spare sparing. IfOk-weaker c.pass.result _ _ (λ o r. spares_passed rules s old old (λ i some. refl) q st p v o r sparing) c.pass.ensures;
+        gains = gains_none rules s g.K.Keeper.exact old c.args.self.now.work c.args.self.now.few q c.requires.right c.requires.plain;
+      };
+  traces = stay_same (g.K.Keeper.memories c.args.self.now.keeper);
+}
 
 pub returns-in_ok-copy-in-Kept : goal.returns-in_ok-copy-in-Kept
-returns-in_ok-copy-in-Kept g c =
-    let rules = c.args.rules.now in
-    let s = c.args.store.now in
-    let q = c.args.question.now in
-    let st = c.requires.standing in
-    let old = g.K.Keeper.contents c.args.self.now.keeper in
-    let new = g.K.Keeper.contents c.go_on.new.self.keeper in
-    let grown = c.go_on.ensures.worthy.stays in
-    let p = c.pass-in-Kept.new.self in
-    let v = c.in-Kept.value in
-    let (d, same, has) = subst (λ (t : Attempt). HasTried rules (class_shown s) (contents s) old q.found.entries q.inst t) c.in-Kept.is c.in_ok-value.ensures.tried in
-    let kept = subst (λ (t : Attempt). IsKeptAs new q.inst t) c.in-Kept.is c.in_ok-value.ensures.keeps in
-    let t = c.trial_of.new.trials in
-    let fit = subst (λ (o : Option (Instance ℕ)). FitAt rules s old q t.frames.items o) c.trial_of.ensures.none c.trial_of.ensures.fit in
-    record {
-      turned = IfOk-weaker c.pass-in-Kept.result _ _ (gained_turn rules s old old q st p v d same has) c.pass-in-Kept.ensures;
-      standing = IfOk-weaker c.pass-in-Kept.result _ _ (λ o r. stands_passed rules s old new grown q st p v kept o r (gained_turn rules s old old q st p v d same has o r)) c.pass-in-Kept.ensures;
-      fit = IfOk-weaker c.pass-in-Kept.result _ _ (fit_gained rules s old new grown q c.pass-in-Kept.new.self st (record { frames = t.frames; awaited = Some c.in_ok-copy-in-Kept.field-0 }) c.in_ok-copy-in-Kept.field-0 c.in-Kept.value c.in_ok-copy-in-Kept.ensures refl fit) c.pass-in-Kept.ensures;
-      sparing = λ exact spare sparing. IfOk-weaker c.pass-in-Kept.result _ _ (λ o r. spares_passed rules s old new grown q st c.pass-in-Kept.new.self c.in-Kept.value o r sparing) c.pass-in-Kept.ensures;
-      gains = gains_tried rules s g.K.Keeper.exact old new c.args.self.now.work c.go_on.new.self.work q c.go_on.new.frame _ c.requires.idle st c.go_on.ensures;
-    }
+returns-in_ok-copy-in-Kept g c = record {
+  turned =
+      let rules = c.args.rules.now in
+      let s = c.args.store.now in
+      let q = c.args.question.now in
+      let st = c.requires.standing in
+      let old = g.K.Keeper.contents c.args.self.now.keeper in
+      let new = g.K.Keeper.contents c.go_on.new.self.keeper in
+      let grown = c.go_on.ensures.attempted.worthy.stays in
+      let p = c.pass-in-Kept.new.self in
+      let v = c.in-Kept.value in
+      let (d, same, has) = subst (λ (t : Attempt). HasTried rules (class_shown s) (contents s) old q.found.entries q.inst t) c.in-Kept.is c.in_ok-value.ensures.attempted.tried in
+      let kept = subst (λ (t : Attempt). IsKeptAs new q.inst t) c.in-Kept.is c.in_ok-value.ensures.attempted.keeps in
+      let t = c.trial_of.new.trials in
+      let fit = subst (λ (o : Option (Instance ℕ)). FitAt rules s old q t.frames.items o) c.trial_of.ensures.none c.trial_of.ensures.fit in
+      record {
+        turned = IfOk-weaker c.pass-in-Kept.result _ _ (gained_turn rules s old old q st p v d same has) c.pass-in-Kept.ensures;
+        standing = IfOk-weaker c.pass-in-Kept.result _ _ (λ o r. stands_passed rules s old new grown q st p v kept o r (gained_turn rules s old old q st p v d same has o r)) c.pass-in-Kept.ensures;
+        fit = IfOk-weaker c.pass-in-Kept.result _ _ (fit_gained rules s old new grown q c.pass-in-Kept.new.self st (record { frames = t.frames; awaited = Some c.in_ok-copy-in-Kept.field-0 }) c.in_ok-copy-in-Kept.field-0 c.in-Kept.value c.in_ok-copy-in-Kept.ensures refl fit) c.pass-in-Kept.ensures;
+        sparing = λ exact spare sparing. IfOk-weaker c.pass-in-Kept.result _ _ (λ o r. spares_passed rules s old new grown q st c.pass-in-Kept.new.self c.in-Kept.value o r sparing) c.pass-in-Kept.ensures;
+        gains = gains_tried rules s g.K.Keeper.exact old new c.args.self.now.work c.go_on.new.self.work q c.go_on.new.frame _ c.requires.idle st c.go_on.ensures.attempted;
+      };
+  traces = c.go_on.ensures.traces;
+}
 
 pub returns-in_ok-copy-in-Found : goal.returns-in_ok-copy-in-Found
-returns-in_ok-copy-in-Found g c =
-    let rules = c.args.rules.now in
-    let s = c.args.store.now in
-    let q = c.args.question.now in
-    let st = c.requires.standing in
-    let old = g.K.Keeper.contents c.args.self.now.keeper in
-    let new = g.K.Keeper.contents c.go_on.new.self.keeper in
-    let grown = c.go_on.ensures.worthy.stays in
-    let p = c.settle.new.self in
-    let d = c.in-Found.find in
-    let has = subst (λ (t : Attempt). HasTried rules (class_shown s) (contents s) old q.found.entries q.inst t) c.in-Found.is c.in_ok-value.ensures.tried in
-    let t = c.trial_of.new.trials in
-    let fit = subst (λ (o : Option (Instance ℕ)). FitAt rules s old q t.frames.items o) c.trial_of.ensures.none c.trial_of.ensures.fit in
-    record {
-      turned = IfOk-weaker c.settle.result _ _ (settled_turn rules s old old q st p d has) c.settle.ensures;
-      standing = IfOk-weaker c.settle.result _ _ (λ o r. stands_settled rules s old new grown q st p d has o r (settled_turn rules s old old q st p d has o r)) c.settle.ensures;
-      fit = IfOk-weaker c.settle.result _ _ (fit_settled rules s old new grown q p st (record { frames = t.frames; awaited = Some c.in_ok-copy-in-Found.field-0 }) c.in_ok-copy-in-Found.field-0 d c.in_ok-copy-in-Found.ensures refl fit) c.settle.ensures;
-      sparing = λ exact spare sparing. let settled = subst (λ (t : Attempt). SettlesOn rules new q.found.entries q.inst t) c.in-Found.is (c.in_ok-value.ensures.settles exact spare sparing.settled) in IfOk-weaker c.settle.result _ _ (λ o r. spares_settled rules s old new grown q st p d has o r sparing settled) c.settle.ensures;
-      gains = gains_tried rules s g.K.Keeper.exact old new c.args.self.now.work c.go_on.new.self.work q c.go_on.new.frame _ c.requires.idle st c.go_on.ensures;
-    }
+returns-in_ok-copy-in-Found g c = record {
+  turned =
+      let rules = c.args.rules.now in
+      let s = c.args.store.now in
+      let q = c.args.question.now in
+      let st = c.requires.standing in
+      let old = g.K.Keeper.contents c.args.self.now.keeper in
+      let new = g.K.Keeper.contents c.go_on.new.self.keeper in
+      let grown = c.go_on.ensures.attempted.worthy.stays in
+      let p = c.settle.new.self in
+      let d = c.in-Found.find in
+      let has = subst (λ (t : Attempt). HasTried rules (class_shown s) (contents s) old q.found.entries q.inst t) c.in-Found.is c.in_ok-value.ensures.attempted.tried in
+      let t = c.trial_of.new.trials in
+      let fit = subst (λ (o : Option (Instance ℕ)). FitAt rules s old q t.frames.items o) c.trial_of.ensures.none c.trial_of.ensures.fit in
+      record {
+        turned = IfOk-weaker c.settle.result _ _ (settled_turn rules s old old q st p d has) c.settle.ensures;
+        standing = IfOk-weaker c.settle.result _ _ (λ o r. stands_settled rules s old new grown q st p d has o r (settled_turn rules s old old q st p d has o r)) c.settle.ensures;
+        fit = IfOk-weaker c.settle.result _ _ (fit_settled rules s old new grown q p st (record { frames = t.frames; awaited = Some c.in_ok-copy-in-Found.field-0 }) c.in_ok-copy-in-Found.field-0 d c.in_ok-copy-in-Found.ensures refl fit) c.settle.ensures;
+        sparing = λ exact spare sparing. let settled = subst (λ (t : Attempt). SettlesOn rules new q.found.entries q.inst t) c.in-Found.is (c.in_ok-value.ensures.attempted.settles exact spare sparing.settled) in IfOk-weaker c.settle.result _ _ (λ o r. spares_settled rules s old new grown q st p d has o r sparing settled) c.settle.ensures;
+        gains = gains_tried rules s g.K.Keeper.exact old new c.args.self.now.work c.go_on.new.self.work q c.go_on.new.frame _ c.requires.idle st c.go_on.ensures.attempted;
+      };
+  traces = c.go_on.ensures.traces;
+}
 
 pub returns-in_ok-push-in-Needs : goal.returns-in_ok-push-in-Needs
-returns-in_ok-push-in-Needs g c =
-    let rules = c.args.rules.now in
-    let s = c.args.store.now in
-    let q = c.args.question.now in
-    let st = c.requires.standing in
-    let old = g.K.Keeper.contents c.args.self.now.keeper in
-    let new = g.K.Keeper.contents c.go_on.new.self.keeper in
-    let grown = c.go_on.ensures.worthy.stays in
-    let p = c.deepen.new.self in
-    let j = c.in-Needs.needed in
-    let has = subst (λ (t : Attempt). HasTried rules (class_shown s) (contents s) old q.found.entries q.inst t) c.in-Needs.is c.in_ok-value.ensures.tried in
-    let t = c.trial_of.new.trials in
-    let fit = subst (λ (o : Option (Instance ℕ)). FitAt rules s old q t.frames.items o) c.trial_of.ensures.none c.trial_of.ensures.fit in
-    let u = c.push.new.self in
-    let frame = c.go_on.new.frame in
-    let one = subst (λ (t : Attempt). Awaits rules (class_shown s) (contents s) old q.found.entries q.inst frame t) c.in-Needs.is c.in_ok-value.ensures.waits in
-    record {
-      turned = IfOk-weaker c.deepen.result _ _ (deepened_turn rules s old old q st p j has) c.deepen.ensures;
-      standing = IfOk-weaker c.deepen.result _ _ (λ o r. stands_deepened rules s old new grown q st p j has o r (deepened_turn rules s old old q st p j has o r)) c.deepen.ensures;
-      fit = IfOk-weaker c.deepen.result _ _ (fit_deepened rules s old new grown q p st u t.frames.items frame j (c.push.ensures.awaited ∙ c.trial_of.ensures.none) c.in_ok-push-in-Needs.ensures.frames fit one) c.deepen.ensures;
-      sparing = λ exact spare sparing. IfOk-weaker c.deepen.result _ _ (λ o r. spares_deepened rules s old new grown q st p j o r sparing) c.deepen.ensures;
-      gains = gains_tried rules s g.K.Keeper.exact old new c.args.self.now.work c.go_on.new.self.work q c.go_on.new.frame _ c.requires.idle st c.go_on.ensures;
-    }
+returns-in_ok-push-in-Needs g c = record {
+  turned =
+      let rules = c.args.rules.now in
+      let s = c.args.store.now in
+      let q = c.args.question.now in
+      let st = c.requires.standing in
+      let old = g.K.Keeper.contents c.args.self.now.keeper in
+      let new = g.K.Keeper.contents c.go_on.new.self.keeper in
+      let grown = c.go_on.ensures.attempted.worthy.stays in
+      let p = c.deepen.new.self in
+      let j = c.in-Needs.needed in
+      let has = subst (λ (t : Attempt). HasTried rules (class_shown s) (contents s) old q.found.entries q.inst t) c.in-Needs.is c.in_ok-value.ensures.attempted.tried in
+      let t = c.trial_of.new.trials in
+      let fit = subst (λ (o : Option (Instance ℕ)). FitAt rules s old q t.frames.items o) c.trial_of.ensures.none c.trial_of.ensures.fit in
+      let u = c.push.new.self in
+      let frame = c.go_on.new.frame in
+      let one = subst (λ (t : Attempt). Awaits rules (class_shown s) (contents s) old q.found.entries q.inst frame t) c.in-Needs.is c.in_ok-value.ensures.attempted.waits in
+      record {
+        turned = IfOk-weaker c.deepen.result _ _ (deepened_turn rules s old old q st p j has) c.deepen.ensures;
+        standing = IfOk-weaker c.deepen.result _ _ (λ o r. stands_deepened rules s old new grown q st p j has o r (deepened_turn rules s old old q st p j has o r)) c.deepen.ensures;
+        fit = IfOk-weaker c.deepen.result _ _ (fit_deepened rules s old new grown q p st u t.frames.items frame j (c.push.ensures.awaited ∙ c.trial_of.ensures.none) c.in_ok-push-in-Needs.ensures.frames fit one) c.deepen.ensures;
+        sparing = λ exact spare sparing. IfOk-weaker c.deepen.result _ _ (λ o r. spares_deepened rules s old new grown q st p j o r sparing) c.deepen.ensures;
+        gains = gains_tried rules s g.K.Keeper.exact old new c.args.self.now.work c.go_on.new.self.work q c.go_on.new.frame _ c.requires.idle st c.go_on.ensures.attempted;
+      };
+  traces = c.go_on.ensures.traces;
+}
 
 pub returns-in_ok-at-in-Fails : goal.returns-in_ok-at-in-Fails
-returns-in_ok-at-in-Fails g c =
-    let rules = c.args.rules.now in
-    let s = c.args.store.now in
-    let q = c.args.question.now in
-    let st = c.requires.standing in
-    let old = g.K.Keeper.contents c.args.self.now.keeper in
-    let new = g.K.Keeper.contents c.go_on.new.self.keeper in
-    let grown = c.go_on.ensures.worthy.stays in
-    let has = subst (λ (t : Attempt). HasTried rules (class_shown s) (contents s) old q.found.entries q.inst t) c.in-Fails.is c.in_ok-value.ensures.tried in
-    let turned = failed_turn rules s old old q st c.in-Fails.kind c.in_ok-at-in-Fails.at c.in_ok-at-in-Fails.ensures has in
-    record {
-      turned = turned;
-      standing = stands_grown rules s old new grown q st;
-      fit = tt;
-      sparing = λ exact spare sparing. record { lean = sparing.lean; settled = subst (λ (t : Attempt). SettlesOn rules new q.found.entries q.inst t) c.in-Fails.is (c.in_ok-value.ensures.settles exact spare sparing.settled) };
-      gains = gains_tried rules s g.K.Keeper.exact old new c.args.self.now.work c.go_on.new.self.work q c.go_on.new.frame _ c.requires.idle st c.go_on.ensures;
-    }
+returns-in_ok-at-in-Fails g c = record {
+  turned =
+      let rules = c.args.rules.now in
+      let s = c.args.store.now in
+      let q = c.args.question.now in
+      let st = c.requires.standing in
+      let old = g.K.Keeper.contents c.args.self.now.keeper in
+      let new = g.K.Keeper.contents c.go_on.new.self.keeper in
+      let grown = c.go_on.ensures.attempted.worthy.stays in
+      let has = subst (λ (t : Attempt). HasTried rules (class_shown s) (contents s) old q.found.entries q.inst t) c.in-Fails.is c.in_ok-value.ensures.attempted.tried in
+      let turned = failed_turn rules s old old q st c.in-Fails.kind c.in_ok-at-in-Fails.at c.in_ok-at-in-Fails.ensures has in
+      record {
+        turned = turned;
+        standing = stands_grown rules s old new grown q st;
+        fit = tt;
+        sparing = λ exact spare sparing. record { lean = sparing.lean; settled = subst (λ (t : Attempt). SettlesOn rules new q.found.entries q.inst t) c.in-Fails.is (c.in_ok-value.ensures.attempted.settles exact spare sparing.settled) };
+        gains = gains_tried rules s g.K.Keeper.exact old new c.args.self.now.work c.go_on.new.self.work q c.go_on.new.frame _ c.requires.idle st c.go_on.ensures.attempted;
+      };
+  traces = c.go_on.ensures.traces;
+}
 
 pub returns-in-Some : goal.returns-in-Some
-returns-in-Some g c =
-    let rules = c.args.rules.now in
-    let s = c.args.store.now in
-    let q = c.args.question.now in
-    let st = c.requires.standing in
-    let old = g.K.Keeper.contents c.args.self.now.keeper in
-    let v = c.in_ok-copy.field-0 in
-    let kept = sym (ap (λ w. Some w) c.in_ok-copy.ensures ∙ c.in-Some.ensures ∙ ap (λ (i : Instance ℕ). kept_values old i) c.asked.ensures) in
-    record {
-      turned = kept_turn rules s old old q st v c.requires.right kept;
-      standing = st;
-      fit = tt;
-      sparing = λ exact spare sparing. sparing;
-      gains = gains_none rules s g.K.Keeper.exact old c.args.self.now.work c.args.self.now.few q c.requires.right c.requires.plain;
-    }
+returns-in-Some g c = record {
+  turned =
+      let rules = c.args.rules.now in
+      let s = c.args.store.now in
+      let q = c.args.question.now in
+      let st = c.requires.standing in
+      let old = g.K.Keeper.contents c.args.self.now.keeper in
+      let v = c.in_ok-copy.field-0 in
+      let kept = sym (ap (λ w. Some w) c.in_ok-copy.ensures ∙ c.in-Some.ensures ∙ ap (λ (i : Instance ℕ). kept_values old i) c.asked.ensures) in
+      record {
+        turned = kept_turn rules s old old q st v c.requires.right kept;
+        standing = st;
+        fit = tt;
+        sparing = λ exact spare sparing. sparing;
+        gains = gains_none rules s g.K.Keeper.exact old c.args.self.now.work c.args.self.now.few q c.requires.right c.requires.plain;
+      };
+  traces = stay_same (g.K.Keeper.memories c.args.self.now.keeper);
+}

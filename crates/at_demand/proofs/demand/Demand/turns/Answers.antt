@@ -16,6 +16,7 @@ use Rattle.at_demand.proofs.Counting.{counts_none, counts_more}
 use Rattle.at_demand.proofs.Gaining.{worthy_none}
 use Rattle.at_demand.proofs.Fitting.{no_trials}
 use Rattle.at_demand.proofs.Standing.{asked_same, worthy_both}
+use Rattle.at_demand.proofs.of_traces.Justified.{stay_same, stay_then}
 use Rattle.at_demand.proofs.demand.Demand.turns.Goals as goal
 
 one_up : (P : ℕ → Type 0) (n : ℕ) → P (suc n) → P (n + 1)
@@ -40,6 +41,7 @@ loop-given-init g c =
       plain = c.requires.plain;
       spare = λ exact spare sparing. (spare, sparing);
       counts = λ exact. counts_none entries c.args.self.now.work c.args.self.now.few;
+      traces = stay_same (g.K.Keeper.memories c.args.self.now.keeper);
     }
 
 pub loop-given-preserved : goal.loop-given-preserved
@@ -52,78 +54,88 @@ loop-given-preserved g c =
     let q = c.loop-given.question in
     let p = c.turn_with.new.question in
     let inv = c.loop-given.invariant in
-    let e = c.in_ok-told.ensures in
+    let e = c.in_ok-told.ensures.turned in
     let turned = subst (λ (o : Option AnswerCode). Turned (contents s) (meaning rules) (kept_values old) (under_way q) (under_way p) (option_map answer_view o)) c.in_default.is e.turned in
     record {
       standing = e.standing;
       fit = subst (λ (o : Option AnswerCode). FitAfter rules s new p c.turn_with.new.trials o) c.in_default.is e.fit;
-      right = c.turn_with.ensures.gains.right;
+      right = c.turn_with.ensures.turned.gains.right;
       silent = one_up (λ n. Silent (contents s) (meaning rules) n (under_way c.args.question.now) (under_way p)) c.loop-given.given (one_more (kept_values old) inv.silent turned);
       same = asked_same rules s old q inv.standing (under_way p) None turned ∙ inv.same;
       within = omega (arith, c.loop-given-test.true);
-      worthy = worthy_both rules (contents s) (asked (under_way c.args.question.now)) first old new inv.worthy (subst (λ (i : Instance ℕ). AddsWorthy rules (contents s) i old new) inv.same c.turn_with.ensures.gains.worthy);
-      plain = c.turn_with.ensures.gains.plain;
-      stays = λ there right. c.turn_with.ensures.gains.stays (subst (λ (i : Instance ℕ). IsThere s i) (sym inv.same) there) (inv.stays there right);
-      spare = λ exact spare sparing. let both = inv.spare exact spare sparing in (c.turn_with.ensures.gains.spare exact both.0 both.1, e.sparing exact both.0 both.1);
-      counts = λ exact. counts_more first old new c.args.self.now.work c.loop-given.self.work c.turn_with.new.self.work (inv.counts exact) (c.turn_with.ensures.gains.counts exact);
+      worthy = worthy_both rules (contents s) (asked (under_way c.args.question.now)) first old new inv.worthy (subst (λ (i : Instance ℕ). AddsWorthy rules (contents s) i old new) inv.same c.turn_with.ensures.turned.gains.worthy);
+      plain = c.turn_with.ensures.turned.gains.plain;
+      stays = λ there right. c.turn_with.ensures.turned.gains.stays (subst (λ (i : Instance ℕ). IsThere s i) (sym inv.same) there) (inv.stays there right);
+      spare = λ exact spare sparing. let both = inv.spare exact spare sparing in (c.turn_with.ensures.turned.gains.spare exact both.0 both.1, e.sparing exact both.0 both.1);
+      counts = λ exact. counts_more first old new c.args.self.now.work c.loop-given.self.work c.turn_with.new.self.work (inv.counts exact) (c.turn_with.ensures.turned.gains.counts exact);
+      traces = stay_then (g.K.Keeper.memories c.args.self.now.keeper) (g.K.Keeper.memories c.loop-given.self.keeper) (g.K.Keeper.memories c.turn_with.new.self.keeper) c.loop-given.invariant.traces c.turn_with.ensures.traces;
     }
 
 pub returns-in_err-told : goal.returns-in_err-told
-returns-in_err-told g c =
-    let is = (err_from_is_err_and c.from_residual.result c.from_residual.ensures.1).1 in
-    let rules = c.args.rules.now in
-    let s = c.args.store.now in
-    let first = g.K.Keeper.contents c.args.self.now.keeper in
-    let old = g.K.Keeper.contents c.loop-given.self.keeper in
-    let new = g.K.Keeper.contents c.turn_with.new.self.keeper in
-    let inv = c.loop-given.invariant in
-    record {
-      given = rw is tt;
-      standing = rw is tt;
-      right = c.turn_with.ensures.gains.right;
-      worthy = worthy_both rules (contents s) (asked (under_way c.args.question.now)) first old new inv.worthy (subst (λ (i : Instance ℕ). AddsWorthy rules (contents s) i old new) inv.same c.turn_with.ensures.gains.worthy);
-      plain = c.turn_with.ensures.gains.plain;
-      stays = λ there right. c.turn_with.ensures.gains.stays (subst (λ (i : Instance ℕ). IsThere s i) (sym inv.same) there) (inv.stays there right);
-      spare = λ exact spare sparing. let both = inv.spare exact spare sparing in c.turn_with.ensures.gains.spare exact both.0 both.1;
-      sparing = λ exact spare sparing. rw is tt;
-      counts = λ exact. counts_more first old new c.args.self.now.work c.loop-given.self.work c.turn_with.new.self.work (inv.counts exact) (c.turn_with.ensures.gains.counts exact);
-    }
+returns-in_err-told g c = record {
+  turned =
+      let is = (err_from_is_err_and c.from_residual.result c.from_residual.ensures.1).1 in
+      let rules = c.args.rules.now in
+      let s = c.args.store.now in
+      let first = g.K.Keeper.contents c.args.self.now.keeper in
+      let old = g.K.Keeper.contents c.loop-given.self.keeper in
+      let new = g.K.Keeper.contents c.turn_with.new.self.keeper in
+      let inv = c.loop-given.invariant in
+      record {
+        given = rw is tt;
+        standing = rw is tt;
+        right = c.turn_with.ensures.turned.gains.right;
+        worthy = worthy_both rules (contents s) (asked (under_way c.args.question.now)) first old new inv.worthy (subst (λ (i : Instance ℕ). AddsWorthy rules (contents s) i old new) inv.same c.turn_with.ensures.turned.gains.worthy);
+        plain = c.turn_with.ensures.turned.gains.plain;
+        stays = λ there right. c.turn_with.ensures.turned.gains.stays (subst (λ (i : Instance ℕ). IsThere s i) (sym inv.same) there) (inv.stays there right);
+        spare = λ exact spare sparing. let both = inv.spare exact spare sparing in c.turn_with.ensures.turned.gains.spare exact both.0 both.1;
+        sparing = λ exact spare sparing. rw is tt;
+        counts = λ exact. counts_more first old new c.args.self.now.work c.loop-given.self.work c.turn_with.new.self.work (inv.counts exact) (c.turn_with.ensures.turned.gains.counts exact);
+      };
+  traces = stay_then (g.K.Keeper.memories c.args.self.now.keeper) (g.K.Keeper.memories c.loop-given.self.keeper) (g.K.Keeper.memories c.turn_with.new.self.keeper) c.loop-given.invariant.traces c.turn_with.ensures.traces;
+}
 
 pub returns-in-Some : goal.returns-in-Some
-returns-in-Some g c =
-    let rules = c.args.rules.now in
-    let s = c.args.store.now in
-    let first = g.K.Keeper.contents c.args.self.now.keeper in
-    let old = g.K.Keeper.contents c.loop-given.self.keeper in
-    let new = g.K.Keeper.contents c.turn_with.new.self.keeper in
-    let q = c.loop-given.question in
-    let p = c.turn_with.new.question in
-    let inv = c.loop-given.invariant in
-    let e = c.in_ok-told.ensures in
-    let turned = subst (λ (o : Option AnswerCode). Turned (contents s) (meaning rules) (kept_values old) (under_way q) (under_way p) (option_map answer_view o)) c.in-Some.is e.turned in
-    record {
-      given = (c.loop-given.given, under_way q, kept_values old, refl, omega (arith, c.loop-given-test.true), inv.silent, turned);
-      standing = e.standing;
-      right = c.turn_with.ensures.gains.right;
-      worthy = worthy_both rules (contents s) (asked (under_way c.args.question.now)) first old new inv.worthy (subst (λ (i : Instance ℕ). AddsWorthy rules (contents s) i old new) inv.same c.turn_with.ensures.gains.worthy);
-      plain = c.turn_with.ensures.gains.plain;
-      stays = λ there right. c.turn_with.ensures.gains.stays (subst (λ (i : Instance ℕ). IsThere s i) (sym inv.same) there) (inv.stays there right);
-      spare = λ exact spare sparing. let both = inv.spare exact spare sparing in c.turn_with.ensures.gains.spare exact both.0 both.1;
-      sparing = λ exact spare sparing. let both = inv.spare exact spare sparing in e.sparing exact both.0 both.1;
-      counts = λ exact. counts_more first old new c.args.self.now.work c.loop-given.self.work c.turn_with.new.self.work (inv.counts exact) (c.turn_with.ensures.gains.counts exact);
-    }
+returns-in-Some g c = record {
+  turned =
+      let rules = c.args.rules.now in
+      let s = c.args.store.now in
+      let first = g.K.Keeper.contents c.args.self.now.keeper in
+      let old = g.K.Keeper.contents c.loop-given.self.keeper in
+      let new = g.K.Keeper.contents c.turn_with.new.self.keeper in
+      let q = c.loop-given.question in
+      let p = c.turn_with.new.question in
+      let inv = c.loop-given.invariant in
+      let e = c.in_ok-told.ensures.turned in
+      let turned = subst (λ (o : Option AnswerCode). Turned (contents s) (meaning rules) (kept_values old) (under_way q) (under_way p) (option_map answer_view o)) c.in-Some.is e.turned in
+      record {
+        given = (c.loop-given.given, under_way q, kept_values old, refl, omega (arith, c.loop-given-test.true), inv.silent, turned);
+        standing = e.standing;
+        right = c.turn_with.ensures.turned.gains.right;
+        worthy = worthy_both rules (contents s) (asked (under_way c.args.question.now)) first old new inv.worthy (subst (λ (i : Instance ℕ). AddsWorthy rules (contents s) i old new) inv.same c.turn_with.ensures.turned.gains.worthy);
+        plain = c.turn_with.ensures.turned.gains.plain;
+        stays = λ there right. c.turn_with.ensures.turned.gains.stays (subst (λ (i : Instance ℕ). IsThere s i) (sym inv.same) there) (inv.stays there right);
+        spare = λ exact spare sparing. let both = inv.spare exact spare sparing in c.turn_with.ensures.turned.gains.spare exact both.0 both.1;
+        sparing = λ exact spare sparing. let both = inv.spare exact spare sparing in e.sparing exact both.0 both.1;
+        counts = λ exact. counts_more first old new c.args.self.now.work c.loop-given.self.work c.turn_with.new.self.work (inv.counts exact) (c.turn_with.ensures.turned.gains.counts exact);
+      };
+  traces = stay_then (g.K.Keeper.memories c.args.self.now.keeper) (g.K.Keeper.memories c.loop-given.self.keeper) (g.K.Keeper.memories c.turn_with.new.self.keeper) c.loop-given.invariant.traces c.turn_with.ensures.traces;
+}
 
 pub returns : goal.returns
-returns g c =
-    let inv = c.loop-given.invariant in
-    record {
-      given = (omega (arith, c.loop-given-test.false, inv.within), inv.silent);
-      standing = inv.standing;
-      right = inv.right;
-      worthy = inv.worthy;
-      stays = inv.stays;
-      plain = inv.plain;
-      spare = λ exact spare sparing. (inv.spare exact spare sparing).0;
-      sparing = λ exact spare sparing. (inv.spare exact spare sparing).1;
-      counts = inv.counts;
-    }
+returns g c = record {
+  turned =
+      let inv = c.loop-given.invariant in
+      record {
+        given = (omega (arith, c.loop-given-test.false, inv.within), inv.silent);
+        standing = inv.standing;
+        right = inv.right;
+        worthy = inv.worthy;
+        stays = inv.stays;
+        plain = inv.plain;
+        spare = λ exact spare sparing. (inv.spare exact spare sparing).0;
+        sparing = λ exact spare sparing. (inv.spare exact spare sparing).1;
+        counts = inv.counts;
+      };
+  traces = c.loop-given.invariant.traces;
+}

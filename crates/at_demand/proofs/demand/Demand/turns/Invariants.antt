@@ -3,6 +3,7 @@ use Rattle.std.specs.Prelude.{IsTrue}
 use Rattle.at_model.specs.Meaning.{Right}
 use Rattle.at_store.specs.Shown.{contents}
 use Rattle.at_model.specs.Turning.{asked, Silent}
+use Rattle.at_cache.specs.Traced.{StayTraced}
 use Rattle.at_demand.specs.Known.{meaning, kept_values, ArePlain}
 use Rattle.at_demand.specs.Right.{AreRight, IsThere}
 use Rattle.at_demand.specs.Sparing.{AddsWorthy, AreSpare, Counts}
@@ -24,6 +25,7 @@ invariant-loop-given g l = record {
   spare : IsTrue g.K.Keeper.exact → AreSpare l.rules (contents l.store) (g.K.Keeper.contents l.initial.self.keeper) → IsSparingTurns l.rules (contents l.store) (g.K.Keeper.contents l.initial.self.keeper) l.initial.question →
       AreSpare l.rules (contents l.store) (g.K.Keeper.contents l.self.keeper) × IsSparingTurns l.rules (contents l.store) (g.K.Keeper.contents l.self.keeper) l.question;
   counts : IsTrue g.K.Keeper.exact → Counts (g.K.Keeper.contents l.initial.self.keeper) (g.K.Keeper.contents l.self.keeper) l.initial.self.work l.self.work;
+  traces : StayTraced (g.K.Keeper.memories l.initial.self.keeper) (g.K.Keeper.memories l.self.keeper);
 }
 
 abbrev pub decreases-loop-given : goal.decreases-loop-given

@@ -1,12 +1,14 @@
-use Rattle.std.proofs.Common.{ℕ, Some, inl, refl, sym, subst}
+use Rattle.std.proofs.Common.{ℕ, List, Some, inl, refl, sym, subst}
+use Rattle.at_model.specs.Run.{Instance}
 use Rattle.at_store.specs.Shown.{contents}
 use Rattle.at_body.specs.Values.{value_view}
 use Rattle.at_cache.specs.Kept.{HasPut}
 use Rattle.at_cache.specs.declared.keeper.Put.{Put}
-use Rattle.at_demand.specs.Inner.{Gains, known_by}
+use Rattle.at_demand.specs.Inner.{AreLazy, Gains, known_by}
 use Rattle.at_demand.proofs.Entered.{none_entered}
-use Rattle.at_demand.proofs.of_nesting.InnerGains.{Found, gains_put_so, put_kept, taken, told_kept}
+use Rattle.at_demand.proofs.of_nesting.InnerGains.{Found, gains_put_so, gains_same, put_kept, taken, told_kept}
 use Rattle.at_demand.proofs.of_nesting.Remembered.{kept_now}
+use Rattle.at_demand.proofs.of_traces.Putting.{put_traced, stays_put}
 use Rattle.at_demand.proofs.direct.Direct.keep.Goals as goal
 
 pub put-requires-clause-present : goal.put-requires-clause-present
@@ -60,3 +62,75 @@ returns-in_ok-push-in-Kept-clause-gains g c =
     c.args.below.now.trial.reads c.args.below.now.uses.items c.requires.known c.requires.come
     (Some v) (inl (refl, c.requires.lazy)) absent c.args.self.now.work c.put.new.self.work c.put.ensures.counts
     c.in_ok-put.put c.in_ok-put.ensures.puts)
+
+pub returns-in_err-put-clause-gains : goal.returns-in_err-put-clause-gains
+returns-in_err-put-clause-gains g c =
+    let old = g.K.Keeper.contents c.args.keeper.now in
+    let new = g.K.Keeper.contents c.put.new.keeper in
+    let found = c.args.self.now.found.entries in
+    subst (λ (f : Found). Gains c.args.rules.now c.args.store.now g.K.Keeper.exact c.args.needed old new found f
+    c.args.self.now.work c.put.new.self.work) (sym c.put.ensures.found)
+    (gains_same c.args.rules.now c.args.store.now g.K.Keeper.exact c.args.needed old new found c.args.self.now.work
+    c.put.new.self.work c.in_err-put.ensures.err c.requires.known c.put.ensures.counts)
+
+pub returns-in_err-put-clause-traces : goal.returns-in_err-put-clause-traces
+returns-in_err-put-clause-traces g c =
+    let old = g.K.Keeper.contents c.args.keeper.now in
+    let new = g.K.Keeper.contents c.put.new.keeper in
+    let us = c.args.below.now.uses.items in
+    let absent = none_entered (old c.args.needed) c.stands.result c.stands.ensures c.if-stands.false in
+    put_traced c.args.rules.now c.args.store.now c.requires.idle c.args.needed old new c.args.self.now.found.entries
+    (value_view c.args.value.now) c.args.below.now.trial.reads us c.order_of-order.result (g.K.Keeper.memories
+    c.args.keeper.now) (g.K.Keeper.memories c.put.new.keeper) c.requires.known c.requires.come c.requires.lazy
+    (λ is. subst (λ (xs : List (Instance ℕ)). AreLazy c.args.rules.now xs) c.as_slice.ensures.value
+    (c.order_of-order.ensures is))
+    (λ j some. c.in_err-put.ensures.err j)
+    (g.K.Keeper.kept_last c.put.new.keeper) c.put.ensures.traces c.requires.justified
+
+pub returns-in_err-push-in-Kept-clause-traces : goal.returns-in_err-push-in-Kept-clause-traces
+returns-in_err-push-in-Kept-clause-traces g c =
+    let old = g.K.Keeper.contents c.args.keeper.now in
+    let new = g.K.Keeper.contents c.put.new.keeper in
+    let us = c.args.below.now.uses.items in
+    let absent = none_entered (old c.args.needed) c.stands.result c.stands.ensures c.if-stands.false in
+    put_traced c.args.rules.now c.args.store.now c.requires.idle c.args.needed old new c.args.self.now.found.entries
+    (value_view c.args.value.now) c.args.below.now.trial.reads us c.order_of-order.result (g.K.Keeper.memories
+    c.args.keeper.now) (g.K.Keeper.memories c.put.new.keeper) c.requires.known c.requires.come c.requires.lazy
+    (λ is. subst (λ (xs : List (Instance ℕ)). AreLazy c.args.rules.now xs) c.as_slice.ensures.value
+    (c.order_of-order.ensures is))
+    (stays_put g.K.Keeper.exact old new c.args.needed (Some (value_view c.args.value.now)) c.args.below.now.trial.reads
+    us
+    c.in_ok-put.put absent c.in_ok-put.ensures.puts)
+    (g.K.Keeper.kept_last c.put.new.keeper) c.put.ensures.traces c.requires.justified
+
+pub returns-in_ok-push-in-Kept-clause-traces : goal.returns-in_ok-push-in-Kept-clause-traces
+returns-in_ok-push-in-Kept-clause-traces g c =
+    let old = g.K.Keeper.contents c.args.keeper.now in
+    let new = g.K.Keeper.contents c.put.new.keeper in
+    let us = c.args.below.now.uses.items in
+    let absent = none_entered (old c.args.needed) c.stands.result c.stands.ensures c.if-stands.false in
+    put_traced c.args.rules.now c.args.store.now c.requires.idle c.args.needed old new c.args.self.now.found.entries
+    (value_view c.args.value.now) c.args.below.now.trial.reads us c.order_of-order.result (g.K.Keeper.memories
+    c.args.keeper.now) (g.K.Keeper.memories c.put.new.keeper) c.requires.known c.requires.come c.requires.lazy
+    (λ is. subst (λ (xs : List (Instance ℕ)). AreLazy c.args.rules.now xs) c.as_slice.ensures.value
+    (c.order_of-order.ensures is))
+    (stays_put g.K.Keeper.exact old new c.args.needed (Some (value_view c.args.value.now)) c.args.below.now.trial.reads
+    us
+    c.in_ok-put.put absent c.in_ok-put.ensures.puts)
+    (g.K.Keeper.kept_last c.put.new.keeper) c.put.ensures.traces c.requires.justified
+
+pub returns-in-Left-clause-traces : goal.returns-in-Left-clause-traces
+returns-in-Left-clause-traces g c =
+    let old = g.K.Keeper.contents c.args.keeper.now in
+    let new = g.K.Keeper.contents c.put.new.keeper in
+    let us = c.args.below.now.uses.items in
+    let absent = none_entered (old c.args.needed) c.stands.result c.stands.ensures c.if-stands.false in
+    put_traced c.args.rules.now c.args.store.now c.requires.idle c.args.needed old new c.args.self.now.found.entries
+    (value_view c.args.value.now) c.args.below.now.trial.reads us c.order_of-order.result (g.K.Keeper.memories
+    c.args.keeper.now) (g.K.Keeper.memories c.put.new.keeper) c.requires.known c.requires.come c.requires.lazy
+    (λ is. subst (λ (xs : List (Instance ℕ)). AreLazy c.args.rules.now xs) c.as_slice.ensures.value
+    (c.order_of-order.ensures is))
+    (stays_put g.K.Keeper.exact old new c.args.needed (Some (value_view c.args.value.now)) c.args.below.now.trial.reads
+    us
+    c.in_ok-put.put absent c.in_ok-put.ensures.puts)
+    (g.K.Keeper.kept_last c.put.new.keeper) c.put.ensures.traces c.requires.justified

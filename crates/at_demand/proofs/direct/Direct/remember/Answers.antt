@@ -44,7 +44,7 @@ returns-in_err-push-clause-gains g c =
     (valued rules s exact i old old f (value_view c.args.value.now) c.args.below.now.trial.reads
     c.args.below.now.uses.items c.requires.known c.requires.come) in
     gains_more rules s exact i old new f c.see.new.self.found.entries c.insert.new.found.entries w c.see.new.self.work
-    copied stood put has c.in_ok-stand.ensures.stands
+    copied stood put has c.in_ok-stand.ensures.stands c.requires.lazy
 
 pub returns-clause-told : goal.returns-clause-told
 returns-clause-told g c =
@@ -66,7 +66,7 @@ returns-clause-told g c =
     c.args.below.now.uses.items c.requires.known c.requires.come) in
     let level = c.args.level.now in
     let is = more_known rules s exact i old new f c.see.new.self.found.entries c.insert.new.found.entries w
-    c.see.new.self.work copied stood put has c.in_ok-stand.ensures.stands in
+    c.see.new.self.work copied stood put has c.in_ok-stand.ensures.stands c.requires.lazy in
     told_kept rules (contents s) (known_by new c.insert.new.found.entries) level (record {
       trial = level.trial;
       uses =
@@ -93,4 +93,4 @@ returns-clause-gains g c =
     (valued rules s exact i old old f (value_view c.args.value.now) c.args.below.now.trial.reads
     c.args.below.now.uses.items c.requires.known c.requires.come) in
     gains_more rules s exact i old new f c.see.new.self.found.entries c.insert.new.found.entries w c.see.new.self.work
-    copied stood put has c.in_ok-stand.ensures.stands
+    copied stood put has c.in_ok-stand.ensures.stands c.requires.lazy

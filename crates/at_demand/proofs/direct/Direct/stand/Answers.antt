@@ -1,4 +1,4 @@
-use Rattle.std.proofs.Common.{ℕ, List, Option, Some, None, inr, map, refl, ◌∙◌, subst}
+use Rattle.std.proofs.Common.{ℕ, List, None, inr, map, refl, ◌∙◌, subst}
 use Rattle.std.specs.Prelude.{Contains}
 use Rattle.at_model.specs.Run.{Instance, Location}
 use Rattle.at_store.specs.Located.{loc_view}
@@ -8,6 +8,8 @@ use Rattle.at_cache.specs.declared.keeper.Put.{Put}
 use Rattle.at_demand.proofs.Counting.{counts_same}
 use Rattle.at_demand.proofs.Entered.{none_entered}
 use Rattle.at_demand.proofs.of_nesting.InnerGains.{counts_shared_so, gains_put_so, gains_same, put_there, taken}
+use Rattle.at_demand.proofs.of_traces.Justified.{stay_any}
+use Rattle.at_demand.proofs.of_traces.Putting.{traced_on}
 use Rattle.at_demand.proofs.direct.Direct.stand.Goals as goal
 
 pub put-requires-clause-present : goal.put-requires-clause-present
@@ -61,3 +63,27 @@ returns-in-Kept-clause-gains g c =
     c.args.value.now) below.trial.reads below.uses.items c.requires.known c.requires.come
     None (inr (refl, c.requires.lazy)) absent w w (λ k. counts_shared_so c.args.rules.now c.args.store.now exact old
     new i below.trial.reads below.uses.items w c.args.self.now.few absent c.in_ok-put.put puts) c.in_ok-put.put puts
+
+pub returns-in_err-put-clause-traces : goal.returns-in_err-put-clause-traces
+returns-in_err-put-clause-traces g c =
+    let old = g.K.Keeper.memories c.args.keeper.now in
+    let new = g.K.Keeper.memories c.put.new.self in
+    traced_on c.args.rules.now c.args.store.now c.args.needed.now old new (stay_any _ _ _ _ old new
+    c.put.ensures.traces)
+    c.requires.justified
+
+pub returns-in-Kept-clause-traces : goal.returns-in-Kept-clause-traces
+returns-in-Kept-clause-traces g c =
+    let old = g.K.Keeper.memories c.args.keeper.now in
+    let new = g.K.Keeper.memories c.put.new.self in
+    traced_on c.args.rules.now c.args.store.now c.args.needed.now old new (stay_any _ _ _ _ old new
+    c.put.ensures.traces)
+    c.requires.justified
+
+pub returns-in-Left-clause-traces : goal.returns-in-Left-clause-traces
+returns-in-Left-clause-traces g c =
+    let old = g.K.Keeper.memories c.args.keeper.now in
+    let new = g.K.Keeper.memories c.put.new.self in
+    traced_on c.args.rules.now c.args.store.now c.args.needed.now old new (stay_any _ _ _ _ old new
+    c.put.ensures.traces)
+    c.requires.justified

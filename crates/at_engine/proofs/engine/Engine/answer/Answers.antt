@@ -18,20 +18,21 @@ returns g c q like =
     let held = c.requires.sound.held in
     let k = g.K.Keeper.contents in
     let new = record e { demand = c.answer.new.self } in
-    let a = c.answer.ensures in
-    let (b, alike, answers) = answer_named (rules_of e) e.store held.idle _ q (answer_view c.in_ok-answer.answer) like c.in_ok-answer.ensures.answers in
+    let a = c.answer.ensures.answered in
+    let (b, alike, answers) = answer_named (rules_of e) e.store held.idle _ q (answer_view c.in_ok-answer.answer) like c.in_ok-answer.ensures.answered.answers in
     record {
       obeys = IfOk-weaker c.told.result _ _ (λ f told. asks (rules_of e) (state_of e) (Asks q) q b f refl answers told) (c.told.ensures b alike);
       err = on_err c.told.result _ refl;
       spares = λ exact spare. either_spares k e new (Asks q) c.told.result
           (spare_grown (rules_of e) e.store (k e.demand.keeper) (k new.demand.keeper) a.worthy.stays (marks_of e) e.posts held (a.spare exact spare.kept) spare)
-          (keeps_asked (rules_of e) e.store held.idle c.args.inst.now q like (k e.demand.keeper) (k new.demand.keeper) e.demand.work new.demand.work a.worthy (c.in_ok-answer.ensures.all exact spare.kept) (a.counts exact) (state_of e) refl)
+          (keeps_asked (rules_of e) e.store held.idle c.args.inst.now q like (k e.demand.keeper) (k new.demand.keeper) e.demand.work new.demand.work a.worthy (c.in_ok-answer.ensures.answered.all exact spare.kept) (a.counts exact) (state_of e) refl)
           (grows_asked (rules_of e) e.store held.idle c.args.inst.now q like (k e.demand.keeper) (k new.demand.keeper) e.demand.work new.demand.work a.worthy (a.counts exact));
       stays = record {
         rules = refl;
         slice = refl;
         known = λ k. k;
-        sound = sound_grown (rules_of e) e.store (k e.demand.keeper) (k new.demand.keeper) a.worthy.stays (marks_of e) e.posts held (a.right c.requires.there held.right);
+        sound = sound_grown (rules_of e) e.store (k e.demand.keeper) (k new.demand.keeper) a.worthy.stays (marks_of e) e.posts held (a.right c.requires.there held.right)
+            (record { justified = c.answer.ensures.justified; there = c.answer.ensures.there c.requires.there held.remembered.there });
       };
     }
 
@@ -41,7 +42,7 @@ returns-in_err-answer g c q like =
     let held = c.requires.sound.held in
     let k = g.K.Keeper.contents in
     let new = record e { demand = c.answer.new.self } in
-    let a = c.answer.ensures in
+    let a = c.answer.ensures.answered in
     let p = err_from_is_err_and c.from_residual.result c.from_residual.ensures.1 in
     record {
       obeys = rw p.1 tt;
@@ -54,7 +55,8 @@ returns-in_err-answer g c q like =
         rules = refl;
         slice = refl;
         known = λ k. k;
-        sound = sound_grown (rules_of e) e.store (k e.demand.keeper) (k new.demand.keeper) a.worthy.stays (marks_of e) e.posts held (a.right c.requires.there held.right);
+        sound = sound_grown (rules_of e) e.store (k e.demand.keeper) (k new.demand.keeper) a.worthy.stays (marks_of e) e.posts held (a.right c.requires.there held.right)
+            (record { justified = c.answer.ensures.justified; there = c.answer.ensures.there c.requires.there held.remembered.there });
       };
     }
 
@@ -79,5 +81,11 @@ answer-requires-clause-right g c = c.requires.sound.held.right.values
 pub told-requires : goal.told-requires
 told-requires g c =
     let e = c.args.self.now in
-    let a = c.answer.ensures in
-    record { sound = sound_grown (rules_of e) e.store (g.K.Keeper.contents e.demand.keeper) (g.K.Keeper.contents c.answer.new.self.keeper) a.worthy.stays (marks_of e) e.posts c.requires.sound.held (a.right c.requires.there c.requires.sound.held.right) }
+    let a = c.answer.ensures.answered in
+    record {
+      sound = sound_grown (rules_of e) e.store (g.K.Keeper.contents e.demand.keeper) (g.K.Keeper.contents c.answer.new.self.keeper) a.worthy.stays (marks_of e) e.posts c.requires.sound.held (a.right c.requires.there c.requires.sound.held.right)
+          (record { justified = c.answer.ensures.justified; there = c.answer.ensures.there c.requires.there c.requires.sound.held.remembered.there });
+    }
+
+pub answer-requires-clause-justified : goal.answer-requires-clause-justified
+answer-requires-clause-justified g c = c.requires.sound.held.remembered.justified

@@ -24,7 +24,7 @@ returns-in-None g c =
     let view = c.view.ensures in
     let number = along Numbered view.rules view.store (ap (λ (m : Marks). listed m.items.entries) view.marks) c.in-None.ensures in
     let v = obeyed (rules_of e) (state_of e) c.args.session (Ask place c.args.attribute.now (arguments_view c.args.arguments.now)) in
-    refused_so g.K.Keeper.exact g.K.Keeper.contents e c.requires.sound.held v refusal.Path
+    refused_so g.K.Keeper.exact g.K.Keeper.contents g.K.Keeper.memories e c.requires.sound.held v refusal.Path
     (refuses (rules_of e) (state_of e) v refusal.Path (asked_nowhere (rules_of e) (state_of e) c.args.session place c.args.attribute.now (arguments_view c.args.arguments.now) number))
 
 pub ask_of-requires : goal.ask_of-requires

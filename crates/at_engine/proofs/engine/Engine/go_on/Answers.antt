@@ -113,8 +113,8 @@ told-requires g c =
     let t = c.take-begun.new.self in
     let at = c.take-begun.ensures.1 p there in
     let b = subst (λ (x : Begun). Begins (rules_of e) e.store (k e.demand.keeper) (bare k e c.requires.ready.sound c.args.position p there t at.1.count at.1.items) c.take-begun.result x) c.in-Question.is (c.in_ok-question.ensures.begins (bare k e c.requires.ready.sound c.args.position p there t at.1.count at.1.items) (there_still k e c.requires.ready.sound c.args.position p there t at.1.count at.1.items) (was_begun k e c.requires.ready.sound c.args.position p there t at.1.count at.1.items c.take-begun.result at.0)) in
-    let d = c.turns.ensures in
-    record { sound = sound_more k e c.requires.ready.sound c.args.position p there t at.1.count at.1.items (k c.turns.new.self.keeper) d.worthy.stays (d.stays (there_asked k e c.requires.ready.sound c.args.position p there t at.1.count at.1.items c.take-begun.result at.0 c.in-Question.question b) c.requires.ready.sound.right) }
+    let d = c.turns.ensures.turned in
+    record { sound = sound_more k e c.requires.ready.sound c.args.position p there t at.1.count at.1.items (k c.turns.new.self.keeper) d.worthy.stays (d.stays (there_asked k e c.requires.ready.sound c.args.position p there t at.1.count at.1.items c.take-begun.result at.0 c.in-Question.question b) c.requires.ready.sound.right) c.turns.ensures.traces }
 
 pub returns-in_err-turns : goal.returns-in_err-turns
 returns-in_err-turns g c = record {
@@ -132,7 +132,7 @@ returns-in_err-turns g c = record {
       let (p, there) = there_at e.posts.items.items c.args.position c.requires.ready.within in
       let t = c.take-begun.new.self in
       let at = c.take-begun.ensures.1 p there in
-      let d = c.turns.ensures in
+      let d = c.turns.ensures.turned in
       let was = was_sparing k e c.requires.ready.sound c.args.position p there t at.1.count at.1.items c.take-begun.result at.0 spare in
       let sparing = subst (λ (x : Begun). BeginsSparing (rules_of e) (contents e.store) (k e.demand.keeper) x) c.in-Question.is (c.in_ok-question.ensures.sparing was) in
       spare_more k e c.requires.ready.sound c.args.position p there t at.1.count at.1.items (k c.turns.new.self.keeper) d.worthy.stays (d.spare exact spare.kept sparing) spare;
@@ -143,8 +143,8 @@ returns-in_err-turns g c = record {
       let t = c.take-begun.new.self in
       let at = c.take-begun.ensures.1 p there in
       let b = subst (λ (x : Begun). Begins (rules_of e) e.store (k e.demand.keeper) (bare k e c.requires.ready.sound c.args.position p there t at.1.count at.1.items) c.take-begun.result x) c.in-Question.is (c.in_ok-question.ensures.begins (bare k e c.requires.ready.sound c.args.position p there t at.1.count at.1.items) (there_still k e c.requires.ready.sound c.args.position p there t at.1.count at.1.items) (was_begun k e c.requires.ready.sound c.args.position p there t at.1.count at.1.items c.take-begun.result at.0)) in
-      let d = c.turns.ensures in
-      sound_more k e c.requires.ready.sound c.args.position p there t at.1.count at.1.items (k c.turns.new.self.keeper) d.worthy.stays (d.stays (there_asked k e c.requires.ready.sound c.args.position p there t at.1.count at.1.items c.take-begun.result at.0 c.in-Question.question b) c.requires.ready.sound.right);
+      let d = c.turns.ensures.turned in
+      sound_more k e c.requires.ready.sound c.args.position p there t at.1.count at.1.items (k c.turns.new.self.keeper) d.worthy.stays (d.stays (there_asked k e c.requires.ready.sound c.args.position p there t at.1.count at.1.items c.take-begun.result at.0 c.in-Question.question b) c.requires.ready.sound.right) c.turns.ensures.traces;
 }
 
 pub returns-in_err-told-in-Some : goal.returns-in_err-told-in-Some
@@ -163,7 +163,7 @@ returns-in_err-told-in-Some g c = record {
       let (p, there) = there_at e.posts.items.items c.args.position c.requires.ready.within in
       let t = c.take-begun.new.self in
       let at = c.take-begun.ensures.1 p there in
-      let d = c.turns.ensures in
+      let d = c.turns.ensures.turned in
       let was = was_sparing k e c.requires.ready.sound c.args.position p there t at.1.count at.1.items c.take-begun.result at.0 spare in
       let sparing = subst (λ (x : Begun). BeginsSparing (rules_of e) (contents e.store) (k e.demand.keeper) x) c.in-Question.is (c.in_ok-question.ensures.sparing was) in
       spare_more k e c.requires.ready.sound c.args.position p there t at.1.count at.1.items (k c.turns.new.self.keeper) d.worthy.stays (d.spare exact spare.kept sparing) spare;
@@ -174,8 +174,8 @@ returns-in_err-told-in-Some g c = record {
       let t = c.take-begun.new.self in
       let at = c.take-begun.ensures.1 p there in
       let b = subst (λ (x : Begun). Begins (rules_of e) e.store (k e.demand.keeper) (bare k e c.requires.ready.sound c.args.position p there t at.1.count at.1.items) c.take-begun.result x) c.in-Question.is (c.in_ok-question.ensures.begins (bare k e c.requires.ready.sound c.args.position p there t at.1.count at.1.items) (there_still k e c.requires.ready.sound c.args.position p there t at.1.count at.1.items) (was_begun k e c.requires.ready.sound c.args.position p there t at.1.count at.1.items c.take-begun.result at.0)) in
-      let d = c.turns.ensures in
-      sound_more k e c.requires.ready.sound c.args.position p there t at.1.count at.1.items (k c.turns.new.self.keeper) d.worthy.stays (d.stays (there_asked k e c.requires.ready.sound c.args.position p there t at.1.count at.1.items c.take-begun.result at.0 c.in-Question.question b) c.requires.ready.sound.right);
+      let d = c.turns.ensures.turned in
+      sound_more k e c.requires.ready.sound c.args.position p there t at.1.count at.1.items (k c.turns.new.self.keeper) d.worthy.stays (d.stays (there_asked k e c.requires.ready.sound c.args.position p there t at.1.count at.1.items c.take-begun.result at.0 c.in-Question.question b) c.requires.ready.sound.right) c.turns.ensures.traces;
 }
 
 pub returns-in_ok-told-in-Some : goal.returns-in_ok-told-in-Some
@@ -186,7 +186,7 @@ returns-in_ok-told-in-Some g c = record {
       let t = c.take-begun.new.self in
       let at = c.take-begun.ensures.1 p there in
       let b = subst (λ (x : Begun). Begins (rules_of e) e.store (k e.demand.keeper) (bare k e c.requires.ready.sound c.args.position p there t at.1.count at.1.items) c.take-begun.result x) c.in-Question.is (c.in_ok-question.ensures.begins (bare k e c.requires.ready.sound c.args.position p there t at.1.count at.1.items) (there_still k e c.requires.ready.sound c.args.position p there t at.1.count at.1.items) (was_begun k e c.requires.ready.sound c.args.position p there t at.1.count at.1.items c.take-begun.result at.0)) in
-      let d = c.in_ok-turns.ensures in
+      let d = c.in_ok-turns.ensures.turned in
       let a = answer_view c.in-Some.answer in
       let u = under_way c.turns.new.question in
       let given = subst (λ (o : Option AnswerCode). HasGiven (contents e.store) (meaning (rules_of e)) c.args.limit c.in_ok-turns.turns (under_way c.in-Question.question) (under_way c.turns.new.question) (option_map answer_view o)) c.in-Some.is d.given in
@@ -200,7 +200,7 @@ returns-in_ok-told-in-Some g c = record {
       let (p, there) = there_at e.posts.items.items c.args.position c.requires.ready.within in
       let t = c.take-begun.new.self in
       let at = c.take-begun.ensures.1 p there in
-      let d = c.turns.ensures in
+      let d = c.turns.ensures.turned in
       let was = was_sparing k e c.requires.ready.sound c.args.position p there t at.1.count at.1.items c.take-begun.result at.0 spare in
       let sparing = subst (λ (x : Begun). BeginsSparing (rules_of e) (contents e.store) (k e.demand.keeper) x) c.in-Question.is (c.in_ok-question.ensures.sparing was) in
       spare_more k e c.requires.ready.sound c.args.position p there t at.1.count at.1.items (k c.turns.new.self.keeper) d.worthy.stays (d.spare exact spare.kept sparing) spare;
@@ -211,8 +211,8 @@ returns-in_ok-told-in-Some g c = record {
       let t = c.take-begun.new.self in
       let at = c.take-begun.ensures.1 p there in
       let b = subst (λ (x : Begun). Begins (rules_of e) e.store (k e.demand.keeper) (bare k e c.requires.ready.sound c.args.position p there t at.1.count at.1.items) c.take-begun.result x) c.in-Question.is (c.in_ok-question.ensures.begins (bare k e c.requires.ready.sound c.args.position p there t at.1.count at.1.items) (there_still k e c.requires.ready.sound c.args.position p there t at.1.count at.1.items) (was_begun k e c.requires.ready.sound c.args.position p there t at.1.count at.1.items c.take-begun.result at.0)) in
-      let d = c.turns.ensures in
-      sound_more k e c.requires.ready.sound c.args.position p there t at.1.count at.1.items (k c.turns.new.self.keeper) d.worthy.stays (d.stays (there_asked k e c.requires.ready.sound c.args.position p there t at.1.count at.1.items c.take-begun.result at.0 c.in-Question.question b) c.requires.ready.sound.right);
+      let d = c.turns.ensures.turned in
+      sound_more k e c.requires.ready.sound c.args.position p there t at.1.count at.1.items (k c.turns.new.self.keeper) d.worthy.stays (d.stays (there_asked k e c.requires.ready.sound c.args.position p there t at.1.count at.1.items c.take-begun.result at.0 c.in-Question.question b) c.requires.ready.sound.right) c.turns.ensures.traces;
 }
 
 pub returns-in-None : goal.returns-in-None
@@ -223,11 +223,11 @@ returns-in-None g c = record {
       let t = c.take-begun.new.self in
       let at = c.take-begun.ensures.1 p there in
       let b = subst (λ (x : Begun). Begins (rules_of e) e.store (k e.demand.keeper) (bare k e c.requires.ready.sound c.args.position p there t at.1.count at.1.items) c.take-begun.result x) c.in-Question.is (c.in_ok-question.ensures.begins (bare k e c.requires.ready.sound c.args.position p there t at.1.count at.1.items) (there_still k e c.requires.ready.sound c.args.position p there t at.1.count at.1.items) (was_begun k e c.requires.ready.sound c.args.position p there t at.1.count at.1.items c.take-begun.result at.0)) in
-      let d = c.in_ok-turns.ensures in
+      let d = c.in_ok-turns.ensures.turned in
       let given = subst (λ (o : Option AnswerCode). HasGiven (contents e.store) (meaning (rules_of e)) c.args.limit c.in_ok-turns.turns (under_way c.in-Question.question) (under_way c.turns.new.question) (option_map answer_view o)) c.in-None.is d.given in
       let put = c.keep.ensures.1 (bare k e c.requires.ready.sound c.args.position p there t at.1.count at.1.items) (there_still k e c.requires.ready.sound c.args.position p there t at.1.count at.1.items) in
       gone_silent k e c.requires.ready.sound c.args.position p there t at.1.count at.1.items c.take-begun.result at.0 c.in-Question.question b (record e { posts = c.keep.new.self; demand = c.turns.new.self }) c.args.limit c.in_ok-turns.turns c.turns.new.question
-      (reopened k e c.requires.ready.sound c.args.position p there t at.1.count at.1.items (k c.turns.new.self.keeper) c.turns.ensures.worthy.stays c.turns.new.question c.keep.new.self put.count put.items) given;
+      (reopened k e c.requires.ready.sound c.args.position p there t at.1.count at.1.items (k c.turns.new.self.keeper) c.turns.ensures.turned.worthy.stays c.turns.new.question c.keep.new.self put.count put.items) given;
   rest = refl;
   spare = λ exact spare.
       let e = c.args.self.now in
@@ -235,8 +235,8 @@ returns-in-None g c = record {
       let (p, there) = there_at e.posts.items.items c.args.position c.requires.ready.within in
       let t = c.take-begun.new.self in
       let at = c.take-begun.ensures.1 p there in
-      let d = c.in_ok-turns.ensures in
-      let all = c.turns.ensures in
+      let d = c.in_ok-turns.ensures.turned in
+      let all = c.turns.ensures.turned in
       let put = c.keep.ensures.1 (bare k e c.requires.ready.sound c.args.position p there t at.1.count at.1.items) (there_still k e c.requires.ready.sound c.args.position p there t at.1.count at.1.items) in
       let was = was_sparing k e c.requires.ready.sound c.args.position p there t at.1.count at.1.items c.take-begun.result at.0 spare in
       let sparing = subst (λ (x : Begun). BeginsSparing (rules_of e) (contents e.store) (k e.demand.keeper) x) c.in-Question.is (c.in_ok-question.ensures.sparing was) in
@@ -248,11 +248,11 @@ returns-in-None g c = record {
       let t = c.take-begun.new.self in
       let at = c.take-begun.ensures.1 p there in
       let b = subst (λ (x : Begun). Begins (rules_of e) e.store (k e.demand.keeper) (bare k e c.requires.ready.sound c.args.position p there t at.1.count at.1.items) c.take-begun.result x) c.in-Question.is (c.in_ok-question.ensures.begins (bare k e c.requires.ready.sound c.args.position p there t at.1.count at.1.items) (there_still k e c.requires.ready.sound c.args.position p there t at.1.count at.1.items) (was_begun k e c.requires.ready.sound c.args.position p there t at.1.count at.1.items c.take-begun.result at.0)) in
-      let d = c.in_ok-turns.ensures in
-      let all = c.turns.ensures in
+      let d = c.in_ok-turns.ensures.turned in
+      let all = c.turns.ensures.turned in
       let given = subst (λ (o : Option AnswerCode). HasGiven (contents e.store) (meaning (rules_of e)) c.args.limit c.in_ok-turns.turns (under_way c.in-Question.question) (under_way c.turns.new.question) (option_map answer_view o)) c.in-None.is d.given in
       let put = c.keep.ensures.1 (bare k e c.requires.ready.sound c.args.position p there t at.1.count at.1.items) (there_still k e c.requires.ready.sound c.args.position p there t at.1.count at.1.items) in
       let asks = silent_asked k e c.requires.ready.sound c.args.position p there t at.1.count at.1.items c.take-begun.result at.0 c.in-Question.question b c.in_ok-turns.turns (under_way c.turns.new.question) given.1 in
-      sound_put k e c.requires.ready.sound c.args.position p there t at.1.count at.1.items (k c.turns.new.self.keeper) all.worthy.stays c.turns.new.question c.keep.new.self put.count put.items (all.stays (there_asked k e c.requires.ready.sound c.args.position p there t at.1.count at.1.items c.take-begun.result at.0 c.in-Question.question b) c.requires.ready.sound.right)
+      sound_put k e c.requires.ready.sound c.args.position p there t at.1.count at.1.items (k c.turns.new.self.keeper) all.worthy.stays c.turns.new.question c.keep.new.self put.count put.items (all.stays (there_asked k e c.requires.ready.sound c.args.position p there t at.1.count at.1.items c.take-begun.result at.0 c.in-Question.question b) c.requires.ready.sound.right) c.turns.ensures.traces
       (begun_after k e c.requires.ready.sound c.args.position p there t at.1.count at.1.items c.take-begun.result at.0 c.in-Question.question b (k c.turns.new.self.keeper) c.turns.new.question asks d.standing);
 }

@@ -117,7 +117,7 @@ told-requires g c =
     let at = c.take-begun.ensures.1 p there in
     let b = subst (λ (x : Begun). Begins (rules_of e) e.store (k e.demand.keeper) (bare k e c.requires.sound c.args.position p there t at.1.count at.1.items) c.take-begun.result x) c.in-Question.is (c.in_ok-question.ensures.begins (bare k e c.requires.sound c.args.position p there t at.1.count at.1.items) (there_still k e c.requires.sound c.args.position p there t at.1.count at.1.items) (was_begun k e c.requires.sound c.args.position p there t at.1.count at.1.items c.take-begun.result at.0)) in
     let d = c.answer_to.ensures in
-    record { sound = sound_more k e c.requires.sound c.args.position p there t at.1.count at.1.items (k c.answer_to.new.demand.keeper) d.worthy.stays (d.stays (there_asked k e c.requires.sound c.args.position p there t at.1.count at.1.items c.take-begun.result at.0 c.in-Question.question b) c.requires.sound.right) }
+    record { sound = sound_more k e c.requires.sound c.args.position p there t at.1.count at.1.items (k c.answer_to.new.demand.keeper) d.worthy.stays (d.stays (there_asked k e c.requires.sound c.args.position p there t at.1.count at.1.items c.take-begun.result at.0 c.in-Question.question b) c.requires.sound.right) c.answer_to.ensures.traces }
 
 pub returns-in_err-answer : goal.returns-in_err-answer
 returns-in_err-answer g c = record {
@@ -147,7 +147,7 @@ returns-in_err-answer g c = record {
       let at = c.take-begun.ensures.1 p there in
       let b = subst (λ (x : Begun). Begins (rules_of e) e.store (k e.demand.keeper) (bare k e c.requires.sound c.args.position p there t at.1.count at.1.items) c.take-begun.result x) c.in-Question.is (c.in_ok-question.ensures.begins (bare k e c.requires.sound c.args.position p there t at.1.count at.1.items) (there_still k e c.requires.sound c.args.position p there t at.1.count at.1.items) (was_begun k e c.requires.sound c.args.position p there t at.1.count at.1.items c.take-begun.result at.0)) in
       let d = c.answer_to.ensures in
-      sound_more k e c.requires.sound c.args.position p there t at.1.count at.1.items (k c.answer_to.new.demand.keeper) d.worthy.stays (d.stays (there_asked k e c.requires.sound c.args.position p there t at.1.count at.1.items c.take-begun.result at.0 c.in-Question.question b) c.requires.sound.right);
+      sound_more k e c.requires.sound c.args.position p there t at.1.count at.1.items (k c.answer_to.new.demand.keeper) d.worthy.stays (d.stays (there_asked k e c.requires.sound c.args.position p there t at.1.count at.1.items c.take-begun.result at.0 c.in-Question.question b) c.requires.sound.right) c.answer_to.ensures.traces;
 }
 
 pub returns : goal.returns
@@ -179,5 +179,5 @@ returns g c = record {
       let at = c.take-begun.ensures.1 p there in
       let b = subst (λ (x : Begun). Begins (rules_of e) e.store (k e.demand.keeper) (bare k e c.requires.sound c.args.position p there t at.1.count at.1.items) c.take-begun.result x) c.in-Question.is (c.in_ok-question.ensures.begins (bare k e c.requires.sound c.args.position p there t at.1.count at.1.items) (there_still k e c.requires.sound c.args.position p there t at.1.count at.1.items) (was_begun k e c.requires.sound c.args.position p there t at.1.count at.1.items c.take-begun.result at.0)) in
       let d = c.answer_to.ensures in
-      sound_more k e c.requires.sound c.args.position p there t at.1.count at.1.items (k c.answer_to.new.demand.keeper) d.worthy.stays (d.stays (there_asked k e c.requires.sound c.args.position p there t at.1.count at.1.items c.take-begun.result at.0 c.in-Question.question b) c.requires.sound.right);
+      sound_more k e c.requires.sound c.args.position p there t at.1.count at.1.items (k c.answer_to.new.demand.keeper) d.worthy.stays (d.stays (there_asked k e c.requires.sound c.args.position p there t at.1.count at.1.items c.take-begun.result at.0 c.in-Question.question b) c.requires.sound.right) c.answer_to.ensures.traces;
 }

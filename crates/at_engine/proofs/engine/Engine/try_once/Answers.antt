@@ -118,8 +118,8 @@ told-requires g c =
     let t = c.take-begun.new.self in
     let at = c.take-begun.ensures.1 p there in
     let b = subst (λ (x : Begun). Begins (rules_of e) e.store (k e.demand.keeper) (bare k e c.requires.sound c.args.position p there t at.1.count at.1.items) c.take-begun.result x) c.in-Question.is (c.in_ok-question.ensures.begins (bare k e c.requires.sound c.args.position p there t at.1.count at.1.items) (there_still k e c.requires.sound c.args.position p there t at.1.count at.1.items) (was_begun k e c.requires.sound c.args.position p there t at.1.count at.1.items c.take-begun.result at.0)) in
-    let d = c.turn.ensures in
-    record { sound = sound_more k e c.requires.sound c.args.position p there t at.1.count at.1.items (k c.turn.new.self.keeper) d.worthy.stays (d.stays (there_asked k e c.requires.sound c.args.position p there t at.1.count at.1.items c.take-begun.result at.0 c.in-Question.question b) c.requires.sound.right) }
+    let d = c.turn.ensures.turned in
+    record { sound = sound_more k e c.requires.sound c.args.position p there t at.1.count at.1.items (k c.turn.new.self.keeper) d.worthy.stays (d.stays (there_asked k e c.requires.sound c.args.position p there t at.1.count at.1.items c.take-begun.result at.0 c.in-Question.question b) c.requires.sound.right) c.turn.ensures.traces }
 
 pub returns-in_err-answer : goal.returns-in_err-answer
 returns-in_err-answer g c = record {
@@ -130,7 +130,7 @@ returns-in_err-answer g c = record {
       let at = c.take-begun.ensures.1 p there in
       let b = subst (λ (x : Begun). Begins (rules_of e) e.store (k e.demand.keeper) (bare k e c.requires.sound c.args.position p there t at.1.count at.1.items) c.take-begun.result x) c.in-Question.is (c.in_ok-question.ensures.begins (bare k e c.requires.sound c.args.position p there t at.1.count at.1.items) (there_still k e c.requires.sound c.args.position p there t at.1.count at.1.items) (was_begun k e c.requires.sound c.args.position p there t at.1.count at.1.items c.take-begun.result at.0)) in
       let r = err_from_is_err_and c.from_residual-in_err-answer.result c.from_residual-in_err-answer.ensures.1 in
-      tried_err k e c.requires.sound c.args.position p there t at.1.count at.1.items c.take-begun.result at.0 c.in-Question.question b (record e { posts = t; demand = c.turn.new.self }) c.turn.ensures.last c.from_residual-in_err-answer.result r.0 r.1 refl;
+      tried_err k e c.requires.sound c.args.position p there t at.1.count at.1.items c.take-begun.result at.0 c.in-Question.question b (record e { posts = t; demand = c.turn.new.self }) c.turn.ensures.turned.last c.from_residual-in_err-answer.result r.0 r.1 refl;
   rest = refl;
   spare = λ exact spare.
       let e = c.args.self.now in
@@ -138,7 +138,7 @@ returns-in_err-answer g c = record {
       let (p, there) = there_at e.posts.items.items c.args.position c.requires.within in
       let t = c.take-begun.new.self in
       let at = c.take-begun.ensures.1 p there in
-      let d = c.turn.ensures in
+      let d = c.turn.ensures.turned in
       let was = was_sparing k e c.requires.sound c.args.position p there t at.1.count at.1.items c.take-begun.result at.0 spare in
       let sparing = subst (λ (x : Begun). BeginsSparing (rules_of e) (contents e.store) (k e.demand.keeper) x) c.in-Question.is (c.in_ok-question.ensures.sparing was) in
       spare_more k e c.requires.sound c.args.position p there t at.1.count at.1.items (k c.turn.new.self.keeper) d.worthy.stays (d.spare exact spare.kept sparing) spare;
@@ -149,8 +149,8 @@ returns-in_err-answer g c = record {
       let t = c.take-begun.new.self in
       let at = c.take-begun.ensures.1 p there in
       let b = subst (λ (x : Begun). Begins (rules_of e) e.store (k e.demand.keeper) (bare k e c.requires.sound c.args.position p there t at.1.count at.1.items) c.take-begun.result x) c.in-Question.is (c.in_ok-question.ensures.begins (bare k e c.requires.sound c.args.position p there t at.1.count at.1.items) (there_still k e c.requires.sound c.args.position p there t at.1.count at.1.items) (was_begun k e c.requires.sound c.args.position p there t at.1.count at.1.items c.take-begun.result at.0)) in
-      let d = c.turn.ensures in
-      sound_more k e c.requires.sound c.args.position p there t at.1.count at.1.items (k c.turn.new.self.keeper) d.worthy.stays (d.stays (there_asked k e c.requires.sound c.args.position p there t at.1.count at.1.items c.take-begun.result at.0 c.in-Question.question b) c.requires.sound.right);
+      let d = c.turn.ensures.turned in
+      sound_more k e c.requires.sound c.args.position p there t at.1.count at.1.items (k c.turn.new.self.keeper) d.worthy.stays (d.stays (there_asked k e c.requires.sound c.args.position p there t at.1.count at.1.items c.take-begun.result at.0 c.in-Question.question b) c.requires.sound.right) c.turn.ensures.traces;
 }
 
 pub returns-in_err-told-in-Some : goal.returns-in_err-told-in-Some
@@ -162,7 +162,7 @@ returns-in_err-told-in-Some g c = record {
       let at = c.take-begun.ensures.1 p there in
       let b = subst (λ (x : Begun). Begins (rules_of e) e.store (k e.demand.keeper) (bare k e c.requires.sound c.args.position p there t at.1.count at.1.items) c.take-begun.result x) c.in-Question.is (c.in_ok-question.ensures.begins (bare k e c.requires.sound c.args.position p there t at.1.count at.1.items) (there_still k e c.requires.sound c.args.position p there t at.1.count at.1.items) (was_begun k e c.requires.sound c.args.position p there t at.1.count at.1.items c.take-begun.result at.0)) in
       let r = err_from_is_err_and c.from_residual-in_err-told-in-Some.result c.from_residual-in_err-told-in-Some.ensures.1 in
-      tried_err k e c.requires.sound c.args.position p there t at.1.count at.1.items c.take-begun.result at.0 c.in-Question.question b (record e { posts = t; demand = c.turn.new.self }) c.turn.ensures.last c.from_residual-in_err-told-in-Some.result r.0 r.1 refl;
+      tried_err k e c.requires.sound c.args.position p there t at.1.count at.1.items c.take-begun.result at.0 c.in-Question.question b (record e { posts = t; demand = c.turn.new.self }) c.turn.ensures.turned.last c.from_residual-in_err-told-in-Some.result r.0 r.1 refl;
   rest = refl;
   spare = λ exact spare.
       let e = c.args.self.now in
@@ -170,7 +170,7 @@ returns-in_err-told-in-Some g c = record {
       let (p, there) = there_at e.posts.items.items c.args.position c.requires.within in
       let t = c.take-begun.new.self in
       let at = c.take-begun.ensures.1 p there in
-      let d = c.turn.ensures in
+      let d = c.turn.ensures.turned in
       let was = was_sparing k e c.requires.sound c.args.position p there t at.1.count at.1.items c.take-begun.result at.0 spare in
       let sparing = subst (λ (x : Begun). BeginsSparing (rules_of e) (contents e.store) (k e.demand.keeper) x) c.in-Question.is (c.in_ok-question.ensures.sparing was) in
       spare_more k e c.requires.sound c.args.position p there t at.1.count at.1.items (k c.turn.new.self.keeper) d.worthy.stays (d.spare exact spare.kept sparing) spare;
@@ -181,8 +181,8 @@ returns-in_err-told-in-Some g c = record {
       let t = c.take-begun.new.self in
       let at = c.take-begun.ensures.1 p there in
       let b = subst (λ (x : Begun). Begins (rules_of e) e.store (k e.demand.keeper) (bare k e c.requires.sound c.args.position p there t at.1.count at.1.items) c.take-begun.result x) c.in-Question.is (c.in_ok-question.ensures.begins (bare k e c.requires.sound c.args.position p there t at.1.count at.1.items) (there_still k e c.requires.sound c.args.position p there t at.1.count at.1.items) (was_begun k e c.requires.sound c.args.position p there t at.1.count at.1.items c.take-begun.result at.0)) in
-      let d = c.turn.ensures in
-      sound_more k e c.requires.sound c.args.position p there t at.1.count at.1.items (k c.turn.new.self.keeper) d.worthy.stays (d.stays (there_asked k e c.requires.sound c.args.position p there t at.1.count at.1.items c.take-begun.result at.0 c.in-Question.question b) c.requires.sound.right);
+      let d = c.turn.ensures.turned in
+      sound_more k e c.requires.sound c.args.position p there t at.1.count at.1.items (k c.turn.new.self.keeper) d.worthy.stays (d.stays (there_asked k e c.requires.sound c.args.position p there t at.1.count at.1.items c.take-begun.result at.0 c.in-Question.question b) c.requires.sound.right) c.turn.ensures.traces;
 }
 
 pub returns-in_ok-told-in-Some : goal.returns-in_ok-told-in-Some
@@ -193,13 +193,13 @@ returns-in_ok-told-in-Some g c = record {
       let t = c.take-begun.new.self in
       let at = c.take-begun.ensures.1 p there in
       let b = subst (λ (x : Begun). Begins (rules_of e) e.store (k e.demand.keeper) (bare k e c.requires.sound c.args.position p there t at.1.count at.1.items) c.take-begun.result x) c.in-Question.is (c.in_ok-question.ensures.begins (bare k e c.requires.sound c.args.position p there t at.1.count at.1.items) (there_still k e c.requires.sound c.args.position p there t at.1.count at.1.items) (was_begun k e c.requires.sound c.args.position p there t at.1.count at.1.items c.take-begun.result at.0)) in
-      let d = c.in_ok-answer.ensures in
+      let d = c.in_ok-answer.ensures.turned in
       let a = answer_view c.in-Some.answer in
       let u = under_way c.turn.new.question in
       let turned = subst (λ (o : Option AnswerCode). Turned (contents e.store) (meaning (rules_of e)) (kept_values (k e.demand.keeper)) (under_way c.in-Question.question) u (option_map answer_view o)) c.in-Some.is d.turned in
       let has = subst (λ (o : Option AnswerCode). IfSome o (λ x. Answers (contents e.store) (meaning (rules_of e)) (asked (under_way c.in-Question.question)) (answer_view x))) c.in-Some.is d.answers in
       let told = told_answer k e c.requires.sound c.args.position p there t at.1.count at.1.items c.take-begun.result at.0 c.in-Question.question b a has {E = ℕ} (Ok c.in_ok-told-in-Some.field-0) (λ x like. c.in_ok-told-in-Some.ensures x like) in
-      tried_told k e c.requires.sound c.args.position p there t at.1.count at.1.items c.take-begun.result at.0 c.in-Question.question b (record e { posts = t; demand = c.turn.new.self }) c.turn.ensures.last c.in_ok-told-in-Some.field-0 u a turned refl told;
+      tried_told k e c.requires.sound c.args.position p there t at.1.count at.1.items c.take-begun.result at.0 c.in-Question.question b (record e { posts = t; demand = c.turn.new.self }) c.turn.ensures.turned.last c.in_ok-told-in-Some.field-0 u a turned refl told;
   rest = refl;
   spare = λ exact spare.
       let e = c.args.self.now in
@@ -207,7 +207,7 @@ returns-in_ok-told-in-Some g c = record {
       let (p, there) = there_at e.posts.items.items c.args.position c.requires.within in
       let t = c.take-begun.new.self in
       let at = c.take-begun.ensures.1 p there in
-      let d = c.turn.ensures in
+      let d = c.turn.ensures.turned in
       let was = was_sparing k e c.requires.sound c.args.position p there t at.1.count at.1.items c.take-begun.result at.0 spare in
       let sparing = subst (λ (x : Begun). BeginsSparing (rules_of e) (contents e.store) (k e.demand.keeper) x) c.in-Question.is (c.in_ok-question.ensures.sparing was) in
       spare_more k e c.requires.sound c.args.position p there t at.1.count at.1.items (k c.turn.new.self.keeper) d.worthy.stays (d.spare exact spare.kept sparing) spare;
@@ -218,8 +218,8 @@ returns-in_ok-told-in-Some g c = record {
       let t = c.take-begun.new.self in
       let at = c.take-begun.ensures.1 p there in
       let b = subst (λ (x : Begun). Begins (rules_of e) e.store (k e.demand.keeper) (bare k e c.requires.sound c.args.position p there t at.1.count at.1.items) c.take-begun.result x) c.in-Question.is (c.in_ok-question.ensures.begins (bare k e c.requires.sound c.args.position p there t at.1.count at.1.items) (there_still k e c.requires.sound c.args.position p there t at.1.count at.1.items) (was_begun k e c.requires.sound c.args.position p there t at.1.count at.1.items c.take-begun.result at.0)) in
-      let d = c.turn.ensures in
-      sound_more k e c.requires.sound c.args.position p there t at.1.count at.1.items (k c.turn.new.self.keeper) d.worthy.stays (d.stays (there_asked k e c.requires.sound c.args.position p there t at.1.count at.1.items c.take-begun.result at.0 c.in-Question.question b) c.requires.sound.right);
+      let d = c.turn.ensures.turned in
+      sound_more k e c.requires.sound c.args.position p there t at.1.count at.1.items (k c.turn.new.self.keeper) d.worthy.stays (d.stays (there_asked k e c.requires.sound c.args.position p there t at.1.count at.1.items c.take-begun.result at.0 c.in-Question.question b) c.requires.sound.right) c.turn.ensures.traces;
 }
 
 pub returns-in-None : goal.returns-in-None
@@ -230,11 +230,11 @@ returns-in-None g c = record {
       let t = c.take-begun.new.self in
       let at = c.take-begun.ensures.1 p there in
       let b = subst (λ (x : Begun). Begins (rules_of e) e.store (k e.demand.keeper) (bare k e c.requires.sound c.args.position p there t at.1.count at.1.items) c.take-begun.result x) c.in-Question.is (c.in_ok-question.ensures.begins (bare k e c.requires.sound c.args.position p there t at.1.count at.1.items) (there_still k e c.requires.sound c.args.position p there t at.1.count at.1.items) (was_begun k e c.requires.sound c.args.position p there t at.1.count at.1.items c.take-begun.result at.0)) in
-      let d = c.in_ok-answer.ensures in
+      let d = c.in_ok-answer.ensures.turned in
       let turned = subst (λ (o : Option AnswerCode). Turned (contents e.store) (meaning (rules_of e)) (kept_values (k e.demand.keeper)) (under_way c.in-Question.question) (under_way c.turn.new.question) (option_map answer_view o)) c.in-None.is d.turned in
       let put = c.keep.ensures.1 (bare k e c.requires.sound c.args.position p there t at.1.count at.1.items) (there_still k e c.requires.sound c.args.position p there t at.1.count at.1.items) in
-      tried_silent k e c.requires.sound c.args.position p there t at.1.count at.1.items c.take-begun.result at.0 c.in-Question.question b (record e { posts = c.keep.new.self; demand = c.turn.new.self }) c.turn.ensures.last c.turn.new.question turned
-      (reopened k e c.requires.sound c.args.position p there t at.1.count at.1.items (k c.turn.new.self.keeper) c.turn.ensures.worthy.stays c.turn.new.question c.keep.new.self put.count put.items);
+      tried_silent k e c.requires.sound c.args.position p there t at.1.count at.1.items c.take-begun.result at.0 c.in-Question.question b (record e { posts = c.keep.new.self; demand = c.turn.new.self }) c.turn.ensures.turned.last c.turn.new.question turned
+      (reopened k e c.requires.sound c.args.position p there t at.1.count at.1.items (k c.turn.new.self.keeper) c.turn.ensures.turned.worthy.stays c.turn.new.question c.keep.new.self put.count put.items);
   rest = refl;
   spare = λ exact spare.
       let e = c.args.self.now in
@@ -242,8 +242,8 @@ returns-in-None g c = record {
       let (p, there) = there_at e.posts.items.items c.args.position c.requires.within in
       let t = c.take-begun.new.self in
       let at = c.take-begun.ensures.1 p there in
-      let d = c.in_ok-answer.ensures in
-      let all = c.turn.ensures in
+      let d = c.in_ok-answer.ensures.turned in
+      let all = c.turn.ensures.turned in
       let put = c.keep.ensures.1 (bare k e c.requires.sound c.args.position p there t at.1.count at.1.items) (there_still k e c.requires.sound c.args.position p there t at.1.count at.1.items) in
       let was = was_sparing k e c.requires.sound c.args.position p there t at.1.count at.1.items c.take-begun.result at.0 spare in
       let sparing = subst (λ (x : Begun). BeginsSparing (rules_of e) (contents e.store) (k e.demand.keeper) x) c.in-Question.is (c.in_ok-question.ensures.sparing was) in
@@ -255,10 +255,10 @@ returns-in-None g c = record {
       let t = c.take-begun.new.self in
       let at = c.take-begun.ensures.1 p there in
       let b = subst (λ (x : Begun). Begins (rules_of e) e.store (k e.demand.keeper) (bare k e c.requires.sound c.args.position p there t at.1.count at.1.items) c.take-begun.result x) c.in-Question.is (c.in_ok-question.ensures.begins (bare k e c.requires.sound c.args.position p there t at.1.count at.1.items) (there_still k e c.requires.sound c.args.position p there t at.1.count at.1.items) (was_begun k e c.requires.sound c.args.position p there t at.1.count at.1.items c.take-begun.result at.0)) in
-      let d = c.in_ok-answer.ensures in
-      let all = c.turn.ensures in
+      let d = c.in_ok-answer.ensures.turned in
+      let all = c.turn.ensures.turned in
       let put = c.keep.ensures.1 (bare k e c.requires.sound c.args.position p there t at.1.count at.1.items) (there_still k e c.requires.sound c.args.position p there t at.1.count at.1.items) in
       let asks = asked_same (rules_of e) e.store (k e.demand.keeper) c.in-Question.question b.begun.standing (under_way c.turn.new.question) c.in_ok-answer.field-0 d.turned in
-      sound_put k e c.requires.sound c.args.position p there t at.1.count at.1.items (k c.turn.new.self.keeper) all.worthy.stays c.turn.new.question c.keep.new.self put.count put.items (all.stays (there_asked k e c.requires.sound c.args.position p there t at.1.count at.1.items c.take-begun.result at.0 c.in-Question.question b) c.requires.sound.right)
+      sound_put k e c.requires.sound c.args.position p there t at.1.count at.1.items (k c.turn.new.self.keeper) all.worthy.stays c.turn.new.question c.keep.new.self put.count put.items (all.stays (there_asked k e c.requires.sound c.args.position p there t at.1.count at.1.items c.take-begun.result at.0 c.in-Question.question b) c.requires.sound.right) c.turn.ensures.traces
       (begun_after k e c.requires.sound c.args.position p there t at.1.count at.1.items c.take-begun.result at.0 c.in-Question.question b (k c.turn.new.self.keeper) c.turn.new.question asks d.standing);
 }

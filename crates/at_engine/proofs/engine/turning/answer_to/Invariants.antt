@@ -3,6 +3,7 @@ use Rattle.std.specs.Prelude.{IsTrue}
 use Rattle.at_model.specs.Meaning.{Right}
 use Rattle.at_model.specs.Turning.{asked, turns_of}
 use Rattle.at_store.specs.Shown.{contents}
+use Rattle.at_cache.specs.Traced.{StayTraced}
 use Rattle.at_demand.specs.Known.{kept_values, meaning, ArePlain}
 use Rattle.at_demand.specs.Right.{AreRight, IsThere}
 use Rattle.at_demand.specs.Sparing.{AddsWorthy, AreSpare}
@@ -20,6 +21,7 @@ invariant-loop-question g l = record {
   stays : IsThere l.store (asked (under_way l.initial.question)) → AreRight l.rules l.store (g.K.Keeper.contents l.initial.demand.keeper) → AreRight l.rules l.store (g.K.Keeper.contents l.demand.keeper);
   spare : IsTrue g.K.Keeper.exact → AreSpare l.rules (contents l.store) (g.K.Keeper.contents l.initial.demand.keeper) → IsSparingTurns l.rules (contents l.store) (g.K.Keeper.contents l.initial.demand.keeper) l.initial.question →
       AreSpare l.rules (contents l.store) (g.K.Keeper.contents l.demand.keeper) × IsSparingTurns l.rules (contents l.store) (g.K.Keeper.contents l.demand.keeper) l.question;
+  traces : StayTraced (g.K.Keeper.memories l.initial.demand.keeper) (g.K.Keeper.memories l.demand.keeper);
 }
 
 abbrev pub decreases-loop-question : goal.decreases-loop-question

@@ -1,0 +1,5 @@
+use Rattle.at_cache.specs.Blocking.{LeadsTo}
+use Rattle.at_cache.proofs.blocking.blocking.Given as goal
+
+abbrev pub invariant-loop : goal.invariant-loop
+invariant-loop l = LeadsTo l.entries l.standings l.slot l.last

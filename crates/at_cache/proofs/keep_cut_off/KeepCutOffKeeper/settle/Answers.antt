@@ -1,0 +1,47 @@
+use Rattle.std.proofs.Common.{ap, sym, ◌∙◌}
+use Rattle.std.specs.Option.{option_copied}
+use Rattle.at_cache.specs.Readers.{edges_at}
+use Rattle.at_cache.specs.Settling.{IsWhole}
+use Rattle.at_cache.proofs.of_cut.Goes.{goes_from, settled_from, stay_from}
+use Rattle.at_cache.proofs.of_cut.Untraced.{settles_nothing}
+use Rattle.at_cache.proofs.keep_cut_off.KeepCutOffKeeper.settle.Goals as goal
+
+pub returns-then-not-self-clause-settled : goal.returns-then-not-self-clause-settled
+returns-then-not-self-clause-settled c = settles_nothing _ _ _ _ c.args.work c.ranges.work.fits
+
+pub returns-in_default-clause-settled : goal.returns-in_default-clause-settled
+returns-in_default-clause-settled c = settles_nothing _ _ _ _ c.args.work c.ranges.work.fits
+
+pub invariant_of-self-2 : goal.invariant_of-self-2
+invariant_of-self-2 c =
+    let k = c.args.self.now in
+    let lists = edges_at k.readers.items in
+    let found = sym c.get.ensures.value ∙ ap option_copied c.in-Some.is in
+    let whole : IsWhole lists k.cut.entries k.cut.standings.items (record { puts = k.puts; work = c.args.work })
+    = record { indexed = k.indexed; tied = k.tied; valued = k.valued; few = c.ranges.work.fits } in
+    let goes = goes_from lists k.cut.entries c.args.inst.now _ found _ _ _ _ _ (c.settle_at.ensures lists whole) in
+    record {
+      indexed = goes.whole.indexed;
+      tied = goes.whole.tied;
+      valued = goes.whole.valued;
+      noted = k.noted;
+      short = k.short;
+    }
+
+pub returns-clause-settled : goal.returns-clause-settled
+returns-clause-settled c =
+    let k = c.args.self.now in
+    let lists = edges_at k.readers.items in
+    let found = sym c.get.ensures.value ∙ ap option_copied c.in-Some.is in
+    let whole : IsWhole lists k.cut.entries k.cut.standings.items (record { puts = k.puts; work = c.args.work })
+    = record { indexed = k.indexed; tied = k.tied; valued = k.valued; few = c.ranges.work.fits } in
+    settled_from lists k.cut.entries c.args.inst.now _ found _ _ _ _ _ (c.settle_at.ensures lists whole)
+
+pub returns-clause-stay : goal.returns-clause-stay
+returns-clause-stay c =
+    let k = c.args.self.now in
+    let lists = edges_at k.readers.items in
+    let found = sym c.get.ensures.value ∙ ap option_copied c.in-Some.is in
+    let whole : IsWhole lists k.cut.entries k.cut.standings.items (record { puts = k.puts; work = c.args.work })
+    = record { indexed = k.indexed; tied = k.tied; valued = k.valued; few = c.ranges.work.fits } in
+    stay_from lists k.cut.entries c.args.inst.now _ found _ _ _ _ _ (c.settle_at.ensures lists whole)

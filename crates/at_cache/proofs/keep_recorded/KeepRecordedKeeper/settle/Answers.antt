@@ -1,0 +1,5 @@
+use Rattle.at_cache.proofs.of_cut.Untraced.{settles_nothing}
+use Rattle.at_cache.proofs.keep_recorded.KeepRecordedKeeper.settle.Goals as goal
+
+pub returns-clause-settled : goal.returns-clause-settled
+returns-clause-settled c = settles_nothing _ _ _ _ c.args.work c.ranges.work.fits

@@ -1,0 +1,22 @@
+-- Of entries that stay in memory where they are not kept.
+pub mod Again
+pub mod Behind
+pub mod Comes
+pub mod EnteredHeld
+pub mod Enters
+pub mod Flushed
+pub mod Goes
+pub mod HeldSlots
+pub mod InTheWay
+pub mod Instances
+pub mod LeftHeld
+pub mod Lifting
+pub mod Losing
+pub mod Ordered
+pub mod Passing
+pub mod Renewed
+pub mod Resting
+pub mod Retraced
+pub mod Seeing
+pub mod Tying
+pub mod Untraced

@@ -1,0 +1,194 @@
+-- An entry that is kept from now on, by what its steps have said.
+use Rattle.std.proofs.Common.{◌≡◌, ◌<◌, ◌+◌, ℕ, List, Bool, true, false, length, slice_set, Option, None, Some, IsSome, is_some, option_map, nat_eq, if◌then◌else◌, Contains, refl, sym, ap, ◌∙◌, subst, true≢false}
+use Rattle.std.specs.List.{list_any}
+use Rattle.std.specs.Map.{lookup}
+use Rattle.std.proofs.lemmas.Option.{none-some, same_Some}
+use Rattle.at_model.specs.Run.{Instance, Location, Value}
+use Rattle.at_body.specs.Same.{same_instance}
+use Rattle.at_body.specs.Sameness.{instances_equiv}
+use Rattle.at_body.specs.Values.{value_view}
+use Rattle.at_cache.specs.declared.edge.Edge.{Edge}
+use Rattle.at_cache.specs.declared.entry.Entry.{Entry}
+use Rattle.at_cache.specs.declared.keeper.Order.{Order}
+use Rattle.at_cache.specs.declared.keeper.Order.TheVariants as order
+use Rattle.at_cache.specs.declared.standing.Standing.{Standing}
+use Rattle.at_cache.specs.declared.table.Table.{Table}
+use Rattle.at_cache.specs.Info.{Info, Memory, info, memory_of}
+use Rattle.at_cache.specs.Kept.{AreKept, Puts}
+use Rattle.at_cache.specs.Putting.{AreListed, AreTaken, Reads, Uses, fresh_entry, users_at, with_users}
+use Rattle.at_cache.specs.Recorded.{IsIndexed}
+use Rattle.at_cache.specs.Renewing.{IsSlotFor, PutsIn}
+use Rattle.at_cache.specs.Standings.{AreValued, IsTied, held, instances_in, kept_held, remembered, standing_of}
+use Rattle.at_cache.specs.Theirs.{AreTheirs}
+use Rattle.at_cache.specs.Traced.{PutsTrace}
+use Rattle.at_cache.proofs.of_cut.Enters.{enters_indexed, enters_puts, enters_tied, enters_traces, enters_valued}
+use Rattle.at_cache.proofs.of_cut.Goes.{instance_among}
+use Rattle.at_cache.proofs.of_cut.HeldSlots.{kept_none, off_slot, slot_of}
+use Rattle.at_cache.proofs.of_cut.Renewed.{among_is}
+use Rattle.at_cache.proofs.of_cut.Seeing.{set_is}
+use Rattle.at_cache.proofs.Shown.{held_by}
+
+-- what is in the slot of an instance is its entry
+pub its_entry : (t : Table) (i : Instance ℕ) (x : Entry) → lookup (same_instance i) t.entries.entries ≡ Some x
+    → (e : Info) → memory_of t x.slot ≡ Some e → e.instance ≡ i
+its_entry t i x found e there =
+    let (f, had, is) = slot_of t i x found in
+    ap (λ (n : Info). n.instance) (same_Some e f (sym there ∙ had)) ∙ is
+
+-- the slot of an instance is so also with edges to those that used others
+module _ (t mid : Table) {x : Edge} {links : List ℕ} (i : Instance ℕ) (slot : ℕ)
+    (u : Uses x links (memory_of t) (memory_of mid)) (key : mid.places.vacant_key ≡ t.places.vacant_key) where
+  abbrev Stands : Table → Option Entry → Type 0
+  Stands t o = elim o as (λ _. Type 0) [ None ↦ slot ≡ t.places.vacant_key | Some e ↦ slot ≡ e.slot ]
+
+  was_there : (y : Entry) → lookup (same_instance i) mid.entries.entries ≡ Some y
+      → (z : Entry) × (lookup (same_instance i) t.entries.entries ≡ Some z) × (z.slot ≡ y.slot)
+  was_there y now = by (memory_of t y.slot) refl
+    where
+      by : (o : Option Info) → memory_of t y.slot ≡ o
+          → (z : Entry) × (lookup (same_instance i) t.entries.entries ≡ Some z) × (z.slot ≡ y.slot)
+      by None none =
+          let (f, at_y, its) = slot_of mid i y now in
+          absurd (none-some f (sym (u.free y.slot none) ∙ at_y))
+      by (Some g) had =
+          let (f, at_y, its) = slot_of mid i y now in
+          let (n, is_there, alike) = u.there y.slot g had in
+          let same : f ≡ n = same_Some f n (sym at_y ∙ is_there) in
+          let (z, j, found, of_slot, is) = held_by t i y.slot g had
+          (ap (same_instance i) (ap (λ (n : Info). n.instance) (sym alike)
+          ∙ ap (λ (n : Info). n.instance) (sym same) ∙ its) ∙ instances_equiv.refl i) in
+          (z, found, of_slot)
+
+  stays_there : (z : Entry) → lookup (same_instance i) t.entries.entries ≡ Some z
+      → lookup (same_instance i) mid.entries.entries ≡ None → ⊥
+  stays_there z was none =
+      let (g, had, its) = slot_of t i z was in
+      let (f, now, alike) = u.there z.slot g had in
+      let (y, j, found, of_slot, is) = held_by mid i z.slot f now
+      (ap (same_instance i) (ap (λ (n : Info). n.instance) alike ∙ its) ∙ instances_equiv.refl i) in
+      none-some y (sym none ∙ found)
+
+  pub slot_still : IsSlotFor t i slot → IsSlotFor mid i slot
+  slot_still stands = by (lookup (same_instance i) t.entries.entries) refl stands
+      (lookup (same_instance i) mid.entries.entries) refl
+    where
+      by : (a : Option Entry) → lookup (same_instance i) t.entries.entries ≡ a → Stands t a
+          → (b : Option Entry) → lookup (same_instance i) mid.entries.entries ≡ b → Stands mid b
+      by None was is None now = is ∙ sym key
+      by None was is (Some y) now =
+          let (z, found, of_slot) = was_there y now in
+          absurd (none-some z (sym was ∙ found))
+      by (Some z) was is None now = absurd (stays_there z was now)
+      by (Some z) was is (Some y) now =
+          let (w, found, of_slot) = was_there y now in
+          is ∙ ap (λ (v : Entry). v.slot) (same_Some z w (sym was ∙ found)) ∙ of_slot
+
+-- an entry that is to come, by what it has
+module _ (i : Instance ℕ) (e : Entry) (value : Option (Value ℕ)) (links : List ℕ) (stamp : ℕ)
+    (is : info (i, e) ≡ fresh_entry i value links stamp) where
+  pub made_so : info (i, e) ≡ fresh_entry i (option_map value_view e.value) e.links.items e.stamp
+  made_so =
+      let same : fresh_entry i value links stamp ≡ fresh_entry i (option_map value_view e.value) e.links.items e.stamp
+      = λ n. fresh_entry i (ap (λ (x : Info). x.value) (sym is) n) (ap (λ (x : Info). x.links) (sym is) n)
+      (ap (λ (x : Info). x.stamp) (sym is) n) in
+      is ∙ same
+
+  pub puts_so : (slot : ℕ) (one_st two_st : List Standing) (mid new : Memory) → e.slot ≡ slot
+      → PutsIn e.slot i (option_map value_view e.value) e.links.items e.stamp one_st mid two_st new
+      → PutsIn slot i value links stamp one_st mid two_st new
+  puts_so slot one_st two_st mid new at_slot p =
+      subst (λ s. PutsIn s i value links stamp one_st mid two_st new) at_slot
+      (subst (λ v. PutsIn e.slot i v links stamp one_st mid two_st new) (ap (λ (x : Info). x.value) is)
+      (subst (λ ls. PutsIn e.slot i (option_map value_view e.value) ls stamp one_st mid two_st new)
+      (ap (λ (x : Info). x.links) is)
+      (subst (λ n. PutsIn e.slot i (option_map value_view e.value) e.links.items n one_st mid two_st new)
+      (ap (λ (x : Info). x.stamp) is) p)))
+
+-- what is kept of instances is so in their slots
+module _ (lists : Location ℕ → List Edge) (t : Table) (st : List Standing) (puts : ℕ)
+    (uses : List (Instance ℕ)) (links : List ℕ)
+    (present : AreKept (kept_held lists t st puts) uses) (taken : AreTaken (memory_of t) links)
+    (theirs : AreTheirs t uses links) where
+  pub they_are : instances_in (memory_of t) links ≡ uses
+  they_are = theirs (λ u c. there u (present u c) (lookup (same_instance u) t.entries.entries) refl)
+    where
+      there : (u : Instance ℕ) → IsSome (kept_held lists t st puts u) → (o : Option Entry)
+          → lookup (same_instance u) t.entries.entries ≡ o → IsSome (lookup (same_instance u) t.entries.entries)
+      there u some None none = absurd (true≢false (sym some ∙ ap is_some (kept_none lists t st puts u none)))
+      there u some (Some e) found = ap is_some found
+
+  pub they_hold : (p : ℕ) → list_any (nat_eq p) links ≡ true → (f : Info) × (memory_of t p ≡ Some f)
+      × ((standing_of st p).holds ≡ true)
+  they_hold p h = by (memory_of t p) refl (taken p (among_is links p h))
+    where
+      on : (f : Info) → memory_of t p ≡ Some f → (b : Bool) → (standing_of st p).holds ≡ b
+          → (standing_of st p).holds ≡ true
+      on f there true is = is
+      on f there false is = absurd (true≢false (sym (present f.instance (subst (λ us. Contains us f.instance) they_are
+          (instance_among lists t links p f there h))) ∙ ap is_some (off_slot lists t st puts p f there is)))
+
+      by : (o : Option Info) → memory_of t p ≡ o → IsSome (memory_of t p) → (f : Info) × (memory_of t p ≡ Some f)
+          × ((standing_of st p).holds ≡ true)
+      by None none some = absurd (true≢false (sym some ∙ ap is_some none))
+      by (Some f) there some = (f, there, on f there (standing_of st p).holds refl)
+
+-- All that is owed where an entry has come that is kept.
+pub record HasEntered (lists later : Location ℕ → List Edge) (told tnew : Table) (before after : List Standing)
+    (number : ℕ)
+    (inst : Instance ℕ) (value : Option (Value ℕ)) (reads : List (Location ℕ)) (uses : List (Instance ℕ)) (o : Order)
+    : Type 0 where
+  pub indexed : IsIndexed later (number + 1) (held after (memory_of tnew))
+  pub tied : IsTied later (number + 1) (memory_of tnew)
+  pub valued : AreValued after (memory_of tnew)
+  pub puts : Puts true (kept_held lists told before number) inst value reads uses (kept_held later tnew after
+      (number + 1))
+  pub traces : PutsTrace inst value reads uses o (remembered lists told before) (remembered later tnew after)
+
+module _ (lists later : Location ℕ → List Edge) (told tnew : Table) (mid : Memory)
+    (zero_st one_st two_st ts : List Standing) (puts slot : ℕ)
+    (inst : Instance ℕ) (value : Option (Value ℕ)) (links slots : List ℕ) (reads : List (Location ℕ))
+    (uses : List (Instance ℕ)) (standing : Standing) (o : Order)
+    (indexed : IsIndexed lists puts (held zero_st (memory_of told))) (tied : IsTied lists puts (memory_of told))
+    (valued : AreValued zero_st (memory_of told))
+    (absent : kept_held lists told zero_st puts inst ≡ None)
+    (present : AreKept (kept_held lists told zero_st puts) uses)
+    (named : (e : Info) → memory_of told slot ≡ Some e → e.instance ≡ inst)
+    (taken : AreTaken (memory_of told) links) (theirs : AreTheirs told uses links)
+    (room : (k : ℕ) → standing_of one_st k ≡ standing_of zero_st k)
+    (r : Reads (memory_of told) (record { slot = slot; stamp = puts }) reads lists later)
+    (listed : AreListed (record { slot = slot; stamp = puts }) reads later)
+    (same : slots ≡ links)
+    (u : Uses (record { slot = slot; stamp = puts }) slots (memory_of told) mid)
+    (used : AreListed (record { slot = slot; stamp = puts }) slots (users_at mid))
+    (p : PutsIn slot inst value links puts one_st mid two_st (memory_of tnew))
+    (set : ts ≡ slice_set two_st slot standing) (within : slot < length two_st)
+    (since : standing.since ≡ puts) (holds : standing.holds ≡ true)
+    (ordered : standing.traced ≡ true → o ≡ order.AsTaken)
+    (has : standing.traced ≡ true → is_some value ≡ true) where
+  abbrev edge : Edge
+  edge = record { slot = slot; stamp = puts }
+
+  pub has_entered : HasEntered lists later told tnew zero_st ts puts inst value reads uses o
+  has_entered =
+      let are = they_are lists told zero_st puts uses links present taken theirs in
+      let hold = they_hold lists told zero_st puts uses links present taken theirs in
+      let u1 = subst (λ ls. Uses edge ls (memory_of told) mid) same u in
+      let used1 = subst (λ ls. AreListed edge ls (users_at mid)) same used in
+      let stand : (k : ℕ) → standing_of ts k ≡ (if nat_eq k slot then standing else standing_of two_st k)
+      = λ k. ap (λ xs. standing_of xs k) set ∙ set_is two_st slot standing within k in
+      record {
+        indexed = enters_indexed lists later told tnew mid zero_st one_st two_st ts puts slot inst value links reads
+            standing o indexed tied valued absent named hold room r listed u1 used1 p stand since holds ordered has;
+        tied = enters_tied lists later told tnew mid zero_st one_st two_st ts puts slot inst value links reads
+            standing o indexed tied valued absent named hold room r listed u1 used1 p stand since holds ordered has;
+        valued = enters_valued lists later told tnew mid zero_st one_st two_st ts puts slot inst value links reads
+            standing o indexed tied valued absent named hold room r listed u1 used1 p stand since holds ordered has;
+        puts = subst (λ us. Puts true (kept_held lists told zero_st puts) inst value reads us
+            (kept_held later tnew ts (puts + 1))) are
+            (enters_puts lists later told tnew mid zero_st one_st two_st ts puts slot inst value links reads
+            standing o indexed tied valued absent named hold room r listed u1 used1 p stand since holds ordered has);
+        traces = subst (λ us. PutsTrace inst value reads us o (remembered lists told zero_st)
+            (remembered later tnew ts)) are
+            (enters_traces lists later told tnew mid zero_st one_st two_st ts puts slot inst value links reads
+            standing o indexed tied valued absent named hold room r listed u1 used1 p stand since holds ordered has);
+      }

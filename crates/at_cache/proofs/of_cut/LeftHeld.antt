@@ -1,0 +1,98 @@
+-- What stays where an entry that was to come doesn't.
+use Rattle.std.proofs.Common.{◌≡◌, inl, [], ℕ, ◌+◌, List, Bool, true, false, Option, None, Some, is_some, option_map, if◌then◌else◌, refl, sym, ap, ◌∙◌, subst}
+use Rattle.std.specs.Map.{lookup}
+use Rattle.std.specs.Option.{option_and_then}
+use Rattle.std.proofs.lemmas.Option.{none-some, same_Some}
+use Rattle.at_model.specs.Run.{Instance, Location, Value}
+use Rattle.at_body.specs.Same.{same_instance}
+use Rattle.at_body.specs.Values.{value_view}
+use Rattle.at_cache.specs.declared.cut.Pass.TheVariants as pass
+use Rattle.at_cache.specs.declared.edge.Edge.{Edge}
+use Rattle.at_cache.specs.declared.entry.Entry.{Entry}
+use Rattle.at_cache.specs.declared.keeper.Order.{Order}
+use Rattle.at_cache.specs.declared.standing.Standing.{Standing}
+use Rattle.at_cache.specs.declared.table.Table.{Table}
+use Rattle.at_cache.specs.Info.{Info, Memory, memory_of}
+use Rattle.at_cache.specs.Kept.{Kept, KeepsAll}
+use Rattle.at_cache.specs.Putting.{Reads, Uses, with_users}
+use Rattle.at_cache.specs.Recorded.{IsIndexed, covers}
+use Rattle.at_cache.specs.Standings.{AreValued, IsTied, held, kept_held, remembered, shown, standing_of}
+use Rattle.at_cache.specs.Traced.{PutsTrace}
+use Rattle.at_cache.proofs.of_cut.Lifting.{kept_still, stale_held}
+use Rattle.at_cache.proofs.Listing.{reads_none, uses_none}
+use Rattle.at_cache.proofs.of_cut.Retraced.{stale_traces}
+use Rattle.at_cache.proofs.of_cut.Tying.{tied_still}
+
+-- what memories show by standings that are the same
+module _ (st ts : List Standing) (same : (k : ℕ) → standing_of ts k ≡ standing_of st k) where
+  pub held_alike : (m : Memory) → held st m ≡ held ts m
+  held_alike m n k = option_and_then (shown pass.Values (sym (same k) n)) (m k)
+
+  pub kept_alike : (lists : Location ℕ → List Edge) (t : Table) (puts : ℕ) → KeepsAll (kept_held lists t st puts)
+      (kept_held lists t ts puts)
+  kept_alike lists t puts i n =
+      option_map (λ (e : Entry). let k : Kept = record {
+        value = option_map value_view e.value;
+        covers = covers lists
+            (λ k. option_and_then (shown pass.Values (same k n)) (memory_of t k)) puts e.slot;
+      } in k)
+      (option_and_then (λ (e : Entry). if (same e.slot n).holds then Some e else None) (lookup
+      (same_instance i) t.entries.entries))
+
+-- the same where the slots have the same
+pub uses_alike : {x : Edge} {links : List ℕ} (m mid new : Memory) → ((k : ℕ) → new k ≡ mid k) → Uses x links m mid
+    → Uses x links m new
+uses_alike {x} {links} m mid new same u = subst (Uses x links m) (λ n k. sym (same k) n) u
+
+-- All that is owed where the entry doesn't come.
+pub record Left (lists later : Location ℕ → List Edge) (told tnew : Table) (st ts : List Standing)
+    (puts : ℕ) : Type 0 where
+  pub indexed : IsIndexed later (puts + 1) (held ts (memory_of tnew))
+  pub tied : IsTied later (puts + 1) (memory_of tnew)
+  pub valued : AreValued ts (memory_of tnew)
+  pub err : KeepsAll (kept_held lists told st puts) (kept_held later tnew ts (puts + 1))
+  pub traces : (i : Instance ℕ) (v : Option (Value ℕ)) (reads : List (Location ℕ)) (uses : List (Instance ℕ))
+      (o : Order)
+      → PutsTrace i v reads uses o (remembered lists told st) (remembered later tnew ts)
+
+module _ (lists later : Location ℕ → List Edge) (told tnew : Table)
+    (st ts : List Standing) {puts : ℕ} {x : Edge} {reads : List (Location ℕ)} {links : List ℕ}
+    (i : IsIndexed lists puts (held st (memory_of told))) (t : IsTied lists puts (memory_of told)) (v : AreValued st
+    (memory_of told)) (stamp : x.stamp ≡ puts)
+    (same : (k : ℕ) → standing_of ts k ≡ standing_of st k)
+    (r : Reads (memory_of told) x reads lists later) (u : Uses x links (memory_of told) (memory_of tnew)) where
+  was : (k : ℕ) (f : Info) → memory_of tnew k ≡ Some f → (e : Info) × (memory_of told k ≡ Some e) ×
+      (f ≡ with_users f.users e)
+  was k f found = by (memory_of told k) refl
+    where
+      by : (o : Option Info) → memory_of told k ≡ o → (e : Info) × (memory_of told k ≡ Some e) ×
+          (f ≡ with_users f.users e)
+      by None none = absurd (none-some f (sym (u.free k none) ∙ found))
+      by (Some e) there =
+          let (g, had, is) = u.there k e there in
+          let one : g ≡ f = same_Some g f (sym had ∙ found) in
+          (e, there, subst (λ (n : Info). n ≡ with_users n.users e) one is)
+
+  -- where only edges came
+  pub left : Left lists later told tnew st ts puts
+  left = record {
+    indexed = subst (IsIndexed later (puts + 1)) (held_alike st ts same (memory_of tnew))
+        (stale_held st told tnew lists later puts x reads links i stamp r u);
+    tied = tied_still t stamp r u;
+    valued = λ k f found on.
+        let (e, there, is) = was k f found in
+        ap (λ (n : Info). is_some n.value) is ∙ v k e there (ap (λ (s : Standing). s.traced) (sym (same k)) ∙ on);
+    err = λ j. kept_alike st ts same later tnew (puts + 1) j
+        ∙ kept_still st told tnew lists later puts x reads links i stamp r u j;
+    traces = λ i v reads uses o j trace h. inl (stale_traces lists later told tnew st ts t stamp r u.there was
+        (λ k. ap (λ (s : Standing). s.traced) (same k)) j trace h);
+  }
+
+-- where nothing came
+module _ (lists : Location ℕ → List Edge) (told : Table) (st : List Standing) {puts : ℕ}
+    (i : IsIndexed lists puts (held st (memory_of told))) (t : IsTied lists puts (memory_of told)) (v : AreValued st
+    (memory_of told)) where
+  pub left_alone : (ts : List Standing) → ((k : ℕ) → standing_of ts k ≡ standing_of st k)
+      → Left lists lists told told st ts puts
+  left_alone ts same = left lists lists told told st ts {x = record { slot = 0; stamp = puts }} i t v refl same
+      (reads_none _ _ _) (uses_none _ _)

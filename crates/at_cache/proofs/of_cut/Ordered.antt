@@ -1,0 +1,37 @@
+-- The slots of instances, in order.
+use Rattle.std.proofs.Common.{◌≡◌, [], ◌∷◌, ◌++◌, ◌<◌, ◌+◌, ℕ, List, length, get_or, take, Option, Some, None, IsSome, is_some, Contains, sym, ap, ◌∙◌, subst, true≢false}
+use Rattle.std.specs.Map.{lookup}
+use Rattle.std.proofs.lemmas.List.{take_more}
+use Rattle.std.proofs.lemmas.List.Elements.{Contains-append_left, Contains-append_right}
+use Rattle.at_model.specs.Run.{Instance}
+use Rattle.at_body.specs.Same.{same_instance}
+use Rattle.at_cache.specs.declared.entry.Entry.{Entry}
+use Rattle.at_cache.specs.declared.table.Table.{Table}
+use Rattle.at_cache.specs.Info.{memory_of}
+use Rattle.at_cache.specs.Standings.{instances_in}
+use Rattle.at_cache.specs.Theirs.{AreTheirs}
+use Rattle.at_cache.proofs.Dooming.{head_of}
+use Rattle.at_cache.proofs.of_cut.Goes.{instances_at}
+use Rattle.at_cache.proofs.of_cut.HeldSlots.{slot_of}
+
+module _ (t : Table) (uses : List (Instance ℕ)) (i : ℕ) (u : Instance ℕ) (is : u ≡ get_or uses i u)
+    (less : i < length uses) (slots : List ℕ) (theirs : AreTheirs t (take i uses) slots) where
+  one_more : take i uses ++ u ∷ [] ≡ take (i + 1) uses
+  one_more = ap (λ v. take i uses ++ v ∷ []) is ∙ sym (take_more uses i u less)
+
+  pub theirs_more : (x : Entry) (after : List ℕ) → lookup (same_instance u) t.entries.entries ≡ Some x
+      → after ≡ slots ++ x.slot ∷ [] → AreTheirs t (take (i + 1) uses) after
+  theirs_more x after found pushed all =
+      let (f, there, its) = slot_of t u x found in
+      ap (instances_in (memory_of t)) pushed
+      ∙ instances_at (λ l. []) t slots [] x.slot f there
+      ∙ ap (λ us. us ++ f.instance ∷ []) (theirs (λ v among. all v
+      (subst (λ us. Contains us v) one_more (Contains-append_left (take i uses) (u ∷ []) v among))))
+      ∙ ap (λ v. take i uses ++ v ∷ []) its
+      ∙ one_more
+
+  pub theirs_none : (after : List ℕ) → lookup (same_instance u) t.entries.entries ≡ None → after ≡ slots
+      → AreTheirs t (take (i + 1) uses) after
+  theirs_none after none same all =
+      absurd (true≢false (sym (all u (subst (λ us. Contains us u) one_more
+      (Contains-append_right (take i uses) (u ∷ []) u (head_of u [])))) ∙ ap is_some none))

@@ -1,0 +1,195 @@
+use Rattle.std.proofs.Common.{◌<◌, ◌∙◌, List, true, ap, map, option_map, refl, rules, subst, sym}
+use Rattle.at_body.specs.Values.{value_view}
+use Rattle.at_store.specs.Located.{loc_view}
+use Rattle.at_cache.specs.declared.standing.Standing.{Standing}
+use Rattle.at_cache.specs.Info.{memory_of}
+use Rattle.at_cache.specs.Putting.{AreTaken}
+use Rattle.at_cache.specs.Readers.{edges_at}
+use Rattle.at_cache.specs.Renewing.{IsSlotFor}
+use Rattle.at_cache.specs.Standings.{standing_of}
+use Rattle.at_cache.proofs.of_cut.EnteredHeld.{has_entered, made_so, puts_so, slot_still}
+use Rattle.at_cache.proofs.of_cut.Goes.{has_shown}
+use Rattle.at_cache.proofs.of_cut.LeftHeld.{left, left_alone, uses_alike}
+use Rattle.at_cache.proofs.Listing.{uses_none}
+use Rattle.at_cache.proofs.renewing.enter_held.Goals as goal
+
+pub returns-in_err-links-clause-err : goal.returns-in_err-links-clause-err
+returns-in_err-links-clause-err c = let k = (left_alone (edges_at c.args.readers.now.items) c.args.cut.now.entries
+    c.args.cut.now.standings.items c.requires.indexed c.requires.tied c.requires.valued c.args.cut.now.standings.items
+    (λ k. refl)).err in search rules
+
+pub returns-in_err-slot-clause-err : goal.returns-in_err-slot-clause-err
+returns-in_err-slot-clause-err c = let k = (left_alone (edges_at c.args.readers.now.items) c.args.cut.now.entries
+    c.args.cut.now.standings.items c.requires.indexed c.requires.tied c.requires.valued c.args.cut.now.standings.items
+    (λ k. refl)).err in search rules
+
+pub returns-in_err-make_standing-clause-indexed : goal.returns-in_err-make_standing-clause-indexed
+returns-in_err-make_standing-clause-indexed c = (left_alone (edges_at c.args.readers.now.items) c.args.cut.now.entries
+    c.args.cut.now.standings.items c.requires.indexed c.requires.tied c.requires.valued
+    c.make_standing.new.standings.items c.make_standing.ensures.same).indexed
+
+pub returns-in_err-make_standing-clause-err : goal.returns-in_err-make_standing-clause-err
+returns-in_err-make_standing-clause-err c = let k = (left_alone
+    (edges_at c.args.readers.now.items) c.args.cut.now.entries c.args.cut.now.standings.items c.requires.indexed
+    c.requires.tied c.requires.valued c.make_standing.new.standings.items c.make_standing.ensures.same).err in
+    search rules
+
+pub returns-in_err-make_standing-clause-traces : goal.returns-in_err-make_standing-clause-traces
+returns-in_err-make_standing-clause-traces c = (left_alone (edges_at c.args.readers.now.items) c.args.cut.now.entries
+    c.args.cut.now.standings.items c.requires.indexed c.requires.tied c.requires.valued
+    c.make_standing.new.standings.items c.make_standing.ensures.same).traces c.args.inst
+    (option_map value_view c.args.value) (map loc_view c.args.reads.now) c.args.uses.now c.args.order
+
+pub returns-in_err-add_readers-clause-indexed : goal.returns-in_err-add_readers-clause-indexed
+returns-in_err-add_readers-clause-indexed c = (left (edges_at c.args.readers.now.items)
+    (edges_at c.add_readers.new.readers.items) c.args.cut.now.entries c.args.cut.now.entries
+    c.args.cut.now.standings.items c.make_standing.new.standings.items c.requires.indexed c.requires.tied
+    c.requires.valued refl c.make_standing.ensures.same c.add_readers.ensures.reads (uses_none _ _)).indexed
+
+pub returns-in_err-add_readers-clause-tied : goal.returns-in_err-add_readers-clause-tied
+returns-in_err-add_readers-clause-tied c = (left (edges_at c.args.readers.now.items)
+    (edges_at c.add_readers.new.readers.items) c.args.cut.now.entries c.args.cut.now.entries
+    c.args.cut.now.standings.items c.make_standing.new.standings.items c.requires.indexed c.requires.tied
+    c.requires.valued refl c.make_standing.ensures.same c.add_readers.ensures.reads (uses_none _ _)).tied
+
+pub returns-in_err-add_readers-clause-err : goal.returns-in_err-add_readers-clause-err
+returns-in_err-add_readers-clause-err c = let k = (left (edges_at c.args.readers.now.items)
+    (edges_at c.add_readers.new.readers.items) c.args.cut.now.entries c.args.cut.now.entries
+    c.args.cut.now.standings.items c.make_standing.new.standings.items c.requires.indexed c.requires.tied
+    c.requires.valued refl c.make_standing.ensures.same c.add_readers.ensures.reads (uses_none _ _)).err in search rules
+
+pub returns-in_err-add_readers-clause-traces : goal.returns-in_err-add_readers-clause-traces
+returns-in_err-add_readers-clause-traces c = (left (edges_at c.args.readers.now.items)
+    (edges_at c.add_readers.new.readers.items) c.args.cut.now.entries c.args.cut.now.entries
+    c.args.cut.now.standings.items c.make_standing.new.standings.items c.requires.indexed c.requires.tied
+    c.requires.valued refl c.make_standing.ensures.same c.add_readers.ensures.reads
+    (uses_none _ _)).traces c.args.inst (option_map value_view c.args.value)
+    (map loc_view c.args.reads.now) c.args.uses.now c.args.order
+
+pub returns-in_err-add_users-clause-indexed : goal.returns-in_err-add_users-clause-indexed
+returns-in_err-add_users-clause-indexed c = (left (edges_at c.args.readers.now.items)
+    (edges_at c.add_readers.new.readers.items) c.args.cut.now.entries c.add_users.new.entries
+    c.args.cut.now.standings.items c.make_standing.new.standings.items c.requires.indexed c.requires.tied
+    c.requires.valued refl c.make_standing.ensures.same c.add_readers.ensures.reads c.add_users.ensures.uses).indexed
+
+pub returns-in_err-add_users-clause-tied : goal.returns-in_err-add_users-clause-tied
+returns-in_err-add_users-clause-tied c = (left (edges_at c.args.readers.now.items)
+    (edges_at c.add_readers.new.readers.items) c.args.cut.now.entries c.add_users.new.entries
+    c.args.cut.now.standings.items c.make_standing.new.standings.items c.requires.indexed c.requires.tied
+    c.requires.valued refl c.make_standing.ensures.same c.add_readers.ensures.reads c.add_users.ensures.uses).tied
+
+pub returns-in_err-add_users-clause-valued : goal.returns-in_err-add_users-clause-valued
+returns-in_err-add_users-clause-valued c = (left (edges_at c.args.readers.now.items)
+    (edges_at c.add_readers.new.readers.items) c.args.cut.now.entries c.add_users.new.entries
+    c.args.cut.now.standings.items c.make_standing.new.standings.items c.requires.indexed c.requires.tied
+    c.requires.valued refl c.make_standing.ensures.same c.add_readers.ensures.reads c.add_users.ensures.uses).valued
+
+pub returns-in_err-add_users-clause-err : goal.returns-in_err-add_users-clause-err
+returns-in_err-add_users-clause-err c = let k = (left (edges_at c.args.readers.now.items)
+    (edges_at c.add_readers.new.readers.items) c.args.cut.now.entries c.add_users.new.entries
+    c.args.cut.now.standings.items c.make_standing.new.standings.items c.requires.indexed c.requires.tied
+    c.requires.valued refl c.make_standing.ensures.same c.add_readers.ensures.reads c.add_users.ensures.uses).err in
+    search rules
+
+pub returns-in_err-add_users-clause-traces : goal.returns-in_err-add_users-clause-traces
+returns-in_err-add_users-clause-traces c = (left (edges_at c.args.readers.now.items)
+    (edges_at c.add_readers.new.readers.items) c.args.cut.now.entries c.add_users.new.entries
+    c.args.cut.now.standings.items c.make_standing.new.standings.items c.requires.indexed c.requires.tied
+    c.requires.valued refl c.make_standing.ensures.same c.add_readers.ensures.reads c.add_users.ensures.uses).traces
+    c.args.inst (option_map value_view c.args.value) (map loc_view c.args.reads.now) c.args.uses.now c.args.order
+
+pub returns-in_err-put_in-clause-indexed : goal.returns-in_err-put_in-clause-indexed
+returns-in_err-put_in-clause-indexed c = let kept = rw c.in_err-put_in.was at c.put_in.ensures.err in (left
+    (edges_at c.args.readers.now.items) (edges_at c.add_readers.new.readers.items) c.args.cut.now.entries
+    c.put_in.new.cut.entries c.args.cut.now.standings.items c.put_in.new.cut.standings.items c.requires.indexed
+    c.requires.tied c.requires.valued refl (λ k. ap (λ (ss : List Standing). standing_of ss k) kept.1
+    ∙ c.make_standing.ensures.same k) c.add_readers.ensures.reads (uses_alike (memory_of c.args.cut.now.entries)
+    (memory_of c.add_users.new.entries) (memory_of c.put_in.new.cut.entries) kept.0 c.add_users.ensures.uses)).indexed
+
+pub returns-in_err-put_in-clause-tied : goal.returns-in_err-put_in-clause-tied
+returns-in_err-put_in-clause-tied c = let kept = rw c.in_err-put_in.was at c.put_in.ensures.err in (left
+    (edges_at c.args.readers.now.items) (edges_at c.add_readers.new.readers.items) c.args.cut.now.entries
+    c.put_in.new.cut.entries c.args.cut.now.standings.items c.put_in.new.cut.standings.items c.requires.indexed
+    c.requires.tied c.requires.valued refl (λ k. ap (λ (ss : List Standing). standing_of ss k) kept.1
+    ∙ c.make_standing.ensures.same k) c.add_readers.ensures.reads (uses_alike (memory_of c.args.cut.now.entries)
+    (memory_of c.add_users.new.entries) (memory_of c.put_in.new.cut.entries) kept.0 c.add_users.ensures.uses)).tied
+
+pub returns-in_err-put_in-clause-valued : goal.returns-in_err-put_in-clause-valued
+returns-in_err-put_in-clause-valued c = let kept = rw c.in_err-put_in.was at c.put_in.ensures.err in (left
+    (edges_at c.args.readers.now.items) (edges_at c.add_readers.new.readers.items) c.args.cut.now.entries
+    c.put_in.new.cut.entries c.args.cut.now.standings.items c.put_in.new.cut.standings.items c.requires.indexed
+    c.requires.tied c.requires.valued refl (λ k. ap (λ (ss : List Standing). standing_of ss k) kept.1
+    ∙ c.make_standing.ensures.same k) c.add_readers.ensures.reads (uses_alike (memory_of c.args.cut.now.entries)
+    (memory_of c.add_users.new.entries) (memory_of c.put_in.new.cut.entries) kept.0 c.add_users.ensures.uses)).valued
+
+pub returns-in_err-put_in-clause-err : goal.returns-in_err-put_in-clause-err
+returns-in_err-put_in-clause-err c = let kept = rw c.in_err-put_in.was at c.put_in.ensures.err in let k = (left
+    (edges_at c.args.readers.now.items) (edges_at c.add_readers.new.readers.items) c.args.cut.now.entries
+    c.put_in.new.cut.entries c.args.cut.now.standings.items c.put_in.new.cut.standings.items c.requires.indexed
+    c.requires.tied c.requires.valued refl (λ k. ap (λ (ss : List Standing). standing_of ss k) kept.1
+    ∙ c.make_standing.ensures.same k) c.add_readers.ensures.reads (uses_alike (memory_of c.args.cut.now.entries)
+    (memory_of c.add_users.new.entries) (memory_of c.put_in.new.cut.entries) kept.0 c.add_users.ensures.uses)).err in
+    search rules
+
+pub returns-in_err-put_in-clause-traces : goal.returns-in_err-put_in-clause-traces
+returns-in_err-put_in-clause-traces c = let kept = rw c.in_err-put_in.was at c.put_in.ensures.err in (left
+    (edges_at c.args.readers.now.items) (edges_at c.add_readers.new.readers.items) c.args.cut.now.entries
+    c.put_in.new.cut.entries c.args.cut.now.standings.items c.put_in.new.cut.standings.items c.requires.indexed
+    c.requires.tied c.requires.valued refl (λ k. ap (λ (ss : List Standing). standing_of ss k) kept.1
+    ∙ c.make_standing.ensures.same k) c.add_readers.ensures.reads (uses_alike (memory_of c.args.cut.now.entries)
+    (memory_of c.add_users.new.entries) (memory_of c.put_in.new.cut.entries) kept.0 c.add_users.ensures.uses)).traces
+    c.args.inst (option_map value_view c.args.value) (map loc_view c.args.reads.now) c.args.uses.now c.args.order
+
+pub add_users-requires : goal.add_users-requires
+add_users-requires c = record {
+  there = subst (AreTaken (memory_of c.args.cut.now.entries))
+      (sym c.as_slice.ensures) c.in_ok-links.ensures.taken;
+}
+
+pub put_in-requires-clause-slot : goal.put_in-requires-clause-slot
+put_in-requires-clause-slot c = subst (λ s. IsSlotFor c.add_users.new.entries c.args.inst s) (sym c.fresh.ensures.slot)
+    (slot_still c.args.cut.now.entries c.add_users.new.entries c.args.inst c.in_ok-slot.slot c.add_users.ensures.uses
+    c.add_users.ensures.key c.in_ok-slot.ensures.slot)
+
+pub put_in-requires-clause-made : goal.put_in-requires-clause-made
+put_in-requires-clause-made c = made_so c.args.inst c.fresh.result
+    (option_map value_view c.args.value) c.in_ok-links.links.items c.args.stamp (c.fresh.ensures.entry c.args.inst)
+
+pub set_standing-requires : goal.set_standing-requires
+set_standing-requires c =
+    let put = rw c.in_ok-put_in.was at c.put_in.ensures.puts in
+    subst (λ n. c.in_ok-slot.slot < n) (sym put.room) (rw c.in_ok-make_standing.was at c.make_standing.ensures.there)
+
+pub returns : goal.returns
+returns c =
+    let put = puts_so c.args.inst c.fresh.result (option_map value_view c.args.value) c.in_ok-links.links.items
+    c.args.stamp (c.fresh.ensures.entry c.args.inst) c.in_ok-slot.slot c.make_standing.new.standings.items
+    c.put_in.new.cut.standings.items
+    (memory_of c.add_users.new.entries) (memory_of c.put_in.new.cut.entries) c.fresh.ensures.slot
+    (rw c.in_ok-put_in.was at c.put_in.ensures.puts) in
+    let within = subst (λ n. c.in_ok-slot.slot < n) (sym put.room)
+    (rw c.in_ok-make_standing.was at c.make_standing.ensures.there) in
+    let done = has_entered (edges_at c.args.readers.now.items)
+    (edges_at c.add_readers.new.readers.items) c.args.cut.now.entries c.put_in.new.cut.entries
+    (memory_of c.add_users.new.entries)
+    c.args.cut.now.standings.items c.make_standing.new.standings.items c.put_in.new.cut.standings.items
+    c.set_standing.new.standings.items c.args.stamp c.in_ok-slot.slot c.args.inst
+    (option_map value_view c.args.value)
+    c.in_ok-links.links.items c.as_slice.result.now (map loc_view c.args.reads.now) c.args.uses.now
+    (record { since = c.args.stamp; holds = true; traced = c.is_traced.result }) c.args.order
+    c.requires.indexed c.requires.tied c.requires.valued c.requires.absent c.requires.present c.in_ok-slot.ensures.its
+    c.in_ok-links.ensures.taken c.in_ok-links.ensures.theirs c.make_standing.ensures.same
+    c.add_readers.ensures.reads (rw c.in_ok-add_readers.was at c.add_readers.ensures.listed) c.as_slice.ensures
+    c.add_users.ensures.uses (rw c.in_ok-add_users.was at c.add_users.ensures.listed)
+    put c.set_standing.ensures within refl refl (λ on. (c.is_traced.ensures on).0)
+    (λ on. has_shown value_view c.args.value ∙ (c.is_traced.ensures on).1) in
+    record {
+      indexed = done.indexed;
+      tied = done.tied;
+      valued = done.valued;
+      noted = c.add_readers.ensures.noted;
+      short = c.add_readers.ensures.short;
+      puts = done.puts;
+      err = tt;
+      traces = done.traces;
+    }

@@ -1,0 +1,49 @@
+-- What a put takes away beside.
+use Rattle.std.specs.Prelude.{◌≡◌, ◌⊎◌, ℕ, List, length, true, false, Option, None, Some, Contains}
+use Rattle.std.specs.Map.{lookup}
+use Rattle.at_model.specs.Run.{Instance, Value}
+use Rattle.at_body.specs.Same.{same_instance}
+use Rattle.at_cache.specs.declared.cut.Pass.TheVariants as pass
+use Rattle.at_cache.specs.declared.edge.Edge.{Edge}
+use Rattle.at_cache.specs.declared.standing.Standing.{Standing}
+use Rattle.at_cache.specs.declared.table.Table.{Table}
+use Rattle.at_cache.specs.Info.{Info, Memory}
+use Rattle.at_cache.specs.Putting.{users_at}
+use Rattle.at_cache.specs.Standings.{but_for, standing_of}
+
+-- All stays as it is but that no entry is traced that an edge to those that used the one in the slot tells of.
+pub record LosesUsers (slot : ℕ) (standings : List Standing) (m : Memory) (later : List Standing) (n : Memory) : Type 0 where
+  pub entries : (k : ℕ) → n k ≡ m k
+  pub stand : (k : ℕ) → but_for pass.Traces (standing_of later k) ≡ but_for pass.Traces (standing_of standings k)
+  pub fewer : (k : ℕ) (e : Info) → m k ≡ Some e → (standing_of later k).traced ≡ true → (standing_of standings k).traced ≡ true
+  pub room : length later ≡ length standings
+  pub lost : (x : Edge) → Contains (users_at m slot) x → (e : Info) → m x.slot ≡ Some e → e.stamp ≡ x.stamp → (standing_of later x.slot).traced ≡ false
+
+-- All stays as it is but that no entry is traced that used the one in the slot, if that has another value.
+pub record Compares (slot : ℕ) (value : Option (Value ℕ)) (standings : List Standing) (m : Memory) (later : List Standing) (n : Memory) : Type 0 where
+  pub entries : (k : ℕ) → n k ≡ m k
+  pub stand : (k : ℕ) → but_for pass.Traces (standing_of later k) ≡ but_for pass.Traces (standing_of standings k)
+  pub fewer : (k : ℕ) (e : Info) → m k ≡ Some e → (standing_of later k).traced ≡ true → (standing_of standings k).traced ≡ true
+  pub room : length later ≡ length standings
+  pub changed : (e : Info) → m slot ≡ Some e → (e.value ≡ value)
+      ⊎ ((x : Edge) → Contains e.users x → (f : Info) → m x.slot ≡ Some f → f.stamp ≡ x.stamp → (standing_of later x.slot).traced ≡ false)
+
+-- the slot is that of the instance's entry, or the next one
+abbrev pub IsSlotFor : Table → Instance ℕ → (slot : ℕ) → Type 0
+IsSlotFor t i slot = elim (lookup (same_instance i) t.entries.entries) as (λ _. Type 0) [ None ↦ slot ≡ t.places.vacant_key | Some e ↦ slot ≡ e.slot ]
+
+-- An entry with these comes into the slot, or in place of what is there; with the users of that. The others stay, and what used what
+-- was there isn't traced, if that had another value.
+pub record PutsIn (slot : ℕ) (instance : Instance ℕ) (value : Option (Value ℕ)) (links : List ℕ) (stamp : ℕ)
+    (standings : List Standing) (m : Memory) (later : List Standing) (n : Memory) : Type 0 where
+  pub entry : Info
+  pub here : n slot ≡ Some entry
+  pub put : (entry.value ≡ value) × (entry.links ≡ links) × (entry.stamp ≡ stamp) × (entry.users ≡ users_at m slot) × (entry.going ≡ false)
+  pub fresh : m slot ≡ None → entry.instance ≡ instance
+  pub anew : (e : Info) → m slot ≡ Some e → entry.instance ≡ e.instance
+  pub others : (k : ℕ) → (k ≡ slot → ⊥) → n k ≡ m k
+  pub stand : (k : ℕ) → but_for pass.Traces (standing_of later k) ≡ but_for pass.Traces (standing_of standings k)
+  pub fewer : (k : ℕ) (e : Info) → m k ≡ Some e → (standing_of later k).traced ≡ true → (standing_of standings k).traced ≡ true
+  pub room : length later ≡ length standings
+  pub changed : (e : Info) → m slot ≡ Some e → (e.value ≡ value)
+      ⊎ ((x : Edge) → Contains e.users x → (f : Info) → m x.slot ≡ Some f → f.stamp ≡ x.stamp → (standing_of later x.slot).traced ≡ false)

@@ -1,0 +1,131 @@
+-- What entries that stay in memory show, by how they stand: what is kept, and what can be kept again.
+use Rattle.std.specs.Prelude.{◌≡◌, ◌<◌, ℕ, List, [], ◌∷◌, Bool, true, false, Option, None, Some, is_some, get_or, nat_eq, option_map, if◌then◌else◌}
+use Rattle.std.specs.List.{flat_map, list_any}
+use Rattle.std.specs.Map.{lookup}
+use Rattle.std.specs.Option.{option_and_then}
+use Rattle.at_model.specs.Run.{Instance, Location, Value}
+use Rattle.at_body.specs.Same.{same_instance}
+use Rattle.at_body.specs.Values.{value_view}
+use Rattle.at_cache.specs.declared.cut.Pass.{Pass}
+use Rattle.at_cache.specs.declared.cut.Pass.TheVariants as pass
+use Rattle.at_cache.specs.declared.edge.Edge.{Edge}
+use Rattle.at_cache.specs.declared.entry.Entry.{Entry}
+use Rattle.at_cache.specs.declared.standing.Standing.{Standing}
+use Rattle.at_cache.specs.declared.table.Table.{Table}
+use Rattle.at_cache.specs.Info.{Info, Memory, memory_of}
+use Rattle.at_cache.specs.Kept.{Entries, Kept, value_at}
+use Rattle.at_cache.specs.Recorded.{covers, edge_to, is_listed}
+use Rattle.at_cache.specs.Traced.{Memories, Trace}
+
+-- how what isn't there stands
+abbrev pub nothing : Standing
+nothing = record { since = 0; holds = false; traced = false }
+
+-- how the entry in a slot stands
+abbrev pub standing_of : List Standing → ℕ → Standing
+standing_of standings s = get_or standings s nothing
+
+-- whether a pass sees an entry that stands so
+abbrev pub is_shown : Pass → Standing → Bool
+is_shown pass.Traces s = s.traced
+is_shown pass.Values s = s.holds
+
+-- how an entry stands but for what a pass takes away
+abbrev pub but_for : Pass → Standing → Standing
+but_for pass.Traces s = record s { traced = false }
+but_for pass.Values s = record s { holds = false }
+
+-- what it sees of it: of one that is traced all but those that used it, and of one that is kept, since when it is
+abbrev pub shape : Pass → Standing → Info → Info
+shape pass.Traces s e = record e { users = [] }
+shape pass.Values s e = record e { since = s.since }
+
+abbrev pub shown : Pass → Standing → Info → Option Info
+shown p s e = if is_shown p s then Some (shape p s e) else None
+
+-- what a pass takes away is taken from what is in the slot
+abbrev pub IsTaken : Pass → (slot : ℕ) → (old new : List Standing) → Type 0
+IsTaken p slot old new = (k : ℕ) → standing_of new k ≡ (if nat_eq k slot then but_for p (standing_of old k) else standing_of old k)
+
+-- what it sees of all
+abbrev pub seen : Pass → List Standing → Memory → Memory
+seen p standings m k = option_and_then (shown p (standing_of standings k)) (m k)
+
+-- what is kept
+abbrev pub held : List Standing → Memory → Memory
+held standings m k = seen pass.Values standings m k
+
+-- the entry, where it is kept
+abbrev pub held_of : List Standing → Option Entry → Option Entry
+held_of standings o = option_and_then (λ e. if (standing_of standings e.slot).holds then Some e else None) o
+
+-- what is kept of an instance, with these edges of locations, after so many numbers
+abbrev pub kept_held : (lists : Location ℕ → List Edge) → Table → List Standing → (puts : ℕ) → Entries
+kept_held lists t standings puts i =
+    option_map (λ e. record { value = option_map value_view e.value; covers = covers lists (held standings (memory_of t)) puts e.slot })
+    (held_of standings (lookup (same_instance i) t.entries.entries))
+
+-- the instances of the entries in these slots
+abbrev pub instances_in : Memory → List ℕ → List (Instance ℕ)
+instances_in m slots = flat_map (λ p. elim (m p) [ None ↦ [] | Some e ↦ e.instance ∷ [] ]) slots
+
+-- the trace of an entry with that value
+abbrev pub trace_of : (lists : Location ℕ → List Edge) → Memory → (slot : ℕ) → Info → Value ℕ → Trace
+trace_of lists m s e v = record { value = v; reads = λ l. is_listed (edge_to s e) (lists l); uses = instances_in m e.links }
+
+-- the trace of what is in the slot, where that is traced
+abbrev pub trace_at : (lists : Location ℕ → List Edge) → List Standing → Memory → (slot : ℕ) → Option Trace
+trace_at lists standings m s = option_and_then (λ e. if (standing_of standings s).traced then option_map (trace_of lists m s e) e.value else None) (m s)
+
+-- the value that an entry was put with, where there was one
+abbrev pub last_of : Option Entry → Option (Value ℕ)
+last_of o = option_and_then (λ e. option_map value_view e.value) o
+
+-- what is remembered: the trace of an instance's entry, and its value
+abbrev pub remembered : (lists : Location ℕ → List Edge) → Table → List Standing → Memories
+remembered lists t standings = record {
+  traced = λ i. option_and_then (λ e. trace_at lists standings (memory_of t) e.slot) (lookup (same_instance i) t.entries.entries);
+  last = λ i. last_of (lookup (same_instance i) t.entries.entries);
+}
+
+-- whether an entry is in the slot p, and has an edge to the one in s
+abbrev pub is_tied : Memory → ℕ → Info → ℕ → Bool
+is_tied m s e p = elim (m p) [ None ↦ false | Some f ↦ is_listed (edge_to s e) f.users ]
+
+-- Of all that is in memory, whether it is kept or not: each entry is found from all entries that it used, by an edge of each; an
+-- edge that has the number of the entry in its slot means that the entry used that one; and numbers are earlier ones.
+pub record IsTied (lists : Location ℕ → List Edge) (puts : ℕ) (m : Memory) : Type 0 where
+  pub idle : (s : ℕ) (e : Info) → m s ≡ Some e → e.going ≡ false
+  pub known : (s : ℕ) (e : Info) → m s ≡ Some e → e.stamp < puts
+  pub used : (s : ℕ) (e : Info) → m s ≡ Some e → (p : ℕ) → list_any (nat_eq p) e.links ≡ true → is_tied m s e p ≡ true
+  pub uses : (p : ℕ) (f : Info) → m p ≡ Some f → (x : Edge) → is_listed x f.users ≡ true → (e : Info) → m x.slot ≡ Some e → e.stamp ≡ x.stamp
+      → list_any (nat_eq p) e.links ≡ true
+  pub past_readers : (l : Location ℕ) (x : Edge) → is_listed x (lists l) ≡ true → x.stamp < puts
+  pub past_users : (p : ℕ) (f : Info) → m p ≡ Some f → (x : Edge) → is_listed x f.users ≡ true → x.stamp < puts
+
+-- what is traced has a value
+abbrev pub AreValued : List Standing → Memory → Type 0
+AreValued standings m = (s : ℕ) (e : Info) → m s ≡ Some e → (standing_of standings s).traced ≡ true → is_some e.value ≡ true
+
+-- what is kept of an instance has the value that it was put with last
+pub last_is : (lists : Location ℕ → List Edge) (t : Table) (standings : List Standing) (puts : ℕ) (i : Instance ℕ) (v : Value ℕ)
+    → value_at (kept_held lists t standings puts i) ≡ Some v → (remembered lists t standings).last i ≡ Some v
+last_is lists t standings puts i v h = by (lookup (same_instance i) t.entries.entries) h
+  where
+    by_flag : (e : Entry) (b : Bool)
+        → value_at (option_map (λ (e : Entry). let k : Kept = record {
+          value = option_map value_view e.value;
+          covers = covers lists (held standings (memory_of t)) puts e.slot;
+        } in k) (if b then Some e else None)) ≡ Some v
+        → option_map value_view e.value ≡ Some v
+    by_flag e true h = h
+    by_flag e false h = absurd (cc)
+
+    by : (o : Option Entry)
+        → value_at (option_map (λ (e : Entry). let k : Kept = record {
+          value = option_map value_view e.value;
+          covers = covers lists (held standings (memory_of t)) puts e.slot;
+        } in k) (held_of standings o)) ≡ Some v
+        → last_of o ≡ Some v
+    by None h = absurd (cc)
+    by (Some e) h = by_flag e (standing_of standings e.slot).holds h

@@ -1,0 +1,90 @@
+//! Entries that stay in memory where they aren't kept.
+
+ghost use Rattle.std.specs.Prelude.{◌≡◌, option_copied};
+ghost use Rattle.std.specs.Map.{lookup};
+ghost use Rattle.at_body.specs.Same.{same_instance};
+ghost use Rattle.at_cache.specs.Standings.{but_for, held_of, is_shown, standing_of};
+
+use crate::edge::Slot;
+use crate::entry::Entry;
+use crate::standing::{Standing, standing_at};
+use crate::table::Table;
+use at_body::Inst;
+
+/// Of which entries a flush takes something away, and what.
+#[derive(Clone, Copy)]
+pub enum Pass {
+    /// Of those that are traced the trace, and of none of those that used them.
+    Traces,
+    /// What is kept isn't any more, and so isn't what used it.
+    Values,
+}
+
+/// Entries, how each stands, by its slot, and what a flush takes away.
+pub struct Cut {
+    pub entries: Table,
+    pub standings: Vec<Standing>,
+    pub pass: Pass,
+}
+
+/// One call, where each exit that lets it go would else have a case for each field.
+impl Drop for Cut {
+    fn drop(self) {
+        let Cut {
+            entries: _,
+            standings: _,
+            pass: _,
+        } = self;
+    }
+}
+
+impl Pass {
+    /// Whether it sees what stands so.
+    pub fn sees(self, standing: Standing) -> bool
+        ensures { result ≡ is_shown self standing }
+    {
+        match self {
+            Pass::Traces => standing.traced,
+            Pass::Values => standing.holds,
+        }
+    }
+
+    /// How that stands from which it takes something away.
+    pub fn without(self, standing: Standing) -> Standing
+        ensures { result ≡ but_for self standing }
+    {
+        match self {
+            Pass::Traces => Standing {
+                since: standing.since,
+                holds: standing.holds,
+                traced: false,
+            },
+            Pass::Values => Standing {
+                since: standing.since,
+                holds: false,
+                traced: standing.traced,
+            },
+        }
+    }
+}
+
+impl Cut {
+    /// The entry of the instance, where it is kept.
+    pub fn held(&self, instance: &Inst) -> Option<&Entry>
+        ensures { option_copied result ≡ held_of self.now.standings.items (lookup (same_instance instance.now) self.now.entries.entries.entries) }
+    {
+        let entry = self.entries.get(instance)?;
+        if standing_at(self.standings.as_slice(), entry.slot).holds {
+            Some(entry)
+        } else {
+            None
+        }
+    }
+
+    /// Whether the pass sees what is in the slot, if anything is.
+    pub fn sees(&self, slot: Slot) -> bool
+        ensures { result ≡ is_shown self.now.pass (standing_of self.now.standings.items slot) }
+    {
+        self.pass.sees(standing_at(self.standings.as_slice(), slot))
+    }
+}

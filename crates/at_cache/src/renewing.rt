@@ -1,0 +1,152 @@
+//! An entry comes that stays in memory, or is put anew.
+
+ghost use Rattle.std.specs.Prelude.{◌≡◌, ◌≤◌, ◌+◌, ◌^◌, ℕ, true, None, Some, Contains, IfOk, IsSome, IsTrue, OnErr, OnOk, length, map, option_map};
+ghost use Rattle.at_body.specs.Values.{value_view};
+ghost use Rattle.at_store.specs.Located.{loc_view};
+ghost use Rattle.at_cache.specs.declared.keeper.Order.TheVariants as orders;
+ghost use Rattle.at_cache.specs.Asking.{AreNoted};
+ghost use Rattle.at_cache.specs.Flushing.{IsIdle};
+ghost use Rattle.at_cache.specs.Info.{Info, info, memory_of};
+ghost use Rattle.at_cache.specs.Kept.{AreKept, HasPut, KeepsAll};
+ghost use Rattle.at_cache.specs.Putting.{fresh_entry};
+ghost use Rattle.at_cache.specs.Readers.{edges_at};
+ghost use Rattle.at_cache.specs.Recorded.{IsIndexed};
+ghost use Rattle.at_cache.specs.Renewing.{Compares, IsSlotFor, LosesUsers, PutsIn};
+ghost use Rattle.at_cache.specs.Standings.{AreValued, IsTied, held, kept_held, remembered};
+ghost use Rattle.at_cache.specs.Traced.{PutsTrace};
+
+use crate::cut::{Cut, Pass};
+use crate::cutting::{doom_users, forget_all, take_from};
+use crate::edge::{Edge, Slot};
+use crate::entry::Entry;
+use crate::facet::Facets;
+use crate::keeper::{Order, Put};
+use crate::linking::{add_readers, add_users};
+use crate::putting::{fresh, slots_of};
+use crate::standing::{Standing, make_standing, set_standing};
+use crate::table::Table;
+use at_body::{Inst, Value};
+use at_store::{Loc, Node};
+use std::alloc::{AllocError, Global};
+
+// Whether an entry that is put so can be kept again.
+fn is_traced(value: &Option<Value>, order: Order) -> bool
+    ensures { IsTrue result → (order ≡ orders.AsTaken) × IsSome value.now }
+{
+    match order {
+        Order::AsTaken => value.is_some(),
+        Order::Any => false,
+    }
+}
+
+// The slot of the instance's entry, or that of the next one.
+fn slot_for(entries: &Table, inst: &Inst) -> Result<Slot, AllocError>
+    ensures slot { IfOk result (λ slot. IsSlotFor entries.now inst.now slot) }
+    ensures its { IfOk result (λ slot. (e : Info) → memory_of entries.now slot ≡ Some e → e.instance ≡ inst.now) }
+{
+    match entries.get(inst) {
+        Some(entry) => Ok(entry.slot),
+        None => entries.next(),
+    }
+}
+
+// What used the entry in the slot has no trace any more.
+fn lose_users(cut: &mut Cut, slot: Slot)
+    requires there { IsSome (memory_of cut.old.entries slot) }
+    requires idle { IsIdle (memory_of cut.old.entries) }
+    ensures { LosesUsers slot cut.old.standings.items (memory_of cut.old.entries) cut.new.standings.items (memory_of cut.new.entries) }
+{
+    cut.pass = Pass::Traces;
+    take_from(&mut cut.standings, Pass::Traces, slot);
+    let first = doom_users(cut, slot, None);
+    forget_all(cut, first);
+}
+
+// Where the entry in the slot has another value than this one, what used it has no trace any more.
+fn compare(cut: &mut Cut, slot: Slot, value: &Option<Value>)
+    requires there { IsSome (memory_of cut.old.entries slot) }
+    requires idle { IsIdle (memory_of cut.old.entries) }
+    ensures { Compares slot (option_map value_view value.now) cut.old.standings.items (memory_of cut.old.entries)
+        cut.new.standings.items (memory_of cut.new.entries) }
+{
+    if cut.entries.has_value(slot, value) {
+        return;
+    }
+    lose_users(cut, slot);
+}
+
+// The entry comes in place of that in its slot.
+fn renew(cut: &mut Cut, inst: &Inst, entry: Entry)
+    requires there { IsSome (memory_of cut.old.entries entry.slot) }
+    requires idle { IsIdle (memory_of cut.old.entries) }
+    ensures { PutsIn entry.slot inst.now (option_map value_view entry.value) entry.links.items entry.stamp
+        cut.old.standings.items (memory_of cut.old.entries) cut.new.standings.items (memory_of cut.new.entries) }
+{
+    let (slot, value, links, stamp) = entry.into_put();
+    compare(cut, slot, &value);
+    cut.entries.renew(slot, value, links, stamp);
+}
+
+// The entry comes, or comes in place of one of its instance.
+fn put_in(cut: &mut Cut, inst: Inst, entry: Entry) -> Result<(), AllocError>
+    requires slot { IsSlotFor cut.old.entries inst entry.slot }
+    requires idle { IsIdle (memory_of cut.old.entries) }
+    requires made { info (inst, entry) ≡ fresh_entry inst (option_map value_view entry.value) entry.links.items entry.stamp }
+    ensures puts { OnOk result (PutsIn entry.slot inst (option_map value_view entry.value) entry.links.items entry.stamp
+        cut.old.standings.items (memory_of cut.old.entries) cut.new.standings.items (memory_of cut.new.entries)) }
+    ensures err { OnErr result (((k : ℕ) → memory_of cut.new.entries k ≡ memory_of cut.old.entries k) × (cut.new.standings.items ≡ cut.old.standings.items)) }
+{
+    if cut.entries.get(&inst).is_none() {
+        return cut.entries.enter(inst, entry);
+    }
+    renew(cut, &inst, entry);
+    Ok(())
+}
+
+/// An entry that is kept from now on, of that number, which no entry had.
+pub fn enter_held(
+    alloc: Global,
+    cut: &mut Cut,
+    readers: &mut Vec<Facets>,
+    index_read: &mut Vec<Node>,
+    stamp: u64,
+    inst: Inst,
+    value: Option<Value>,
+    reads: &[Loc],
+    uses: &[Inst],
+    order: Order,
+) -> Result<Put, AllocError>
+    requires absent { kept_held (edges_at readers.old.items) cut.old.entries cut.old.standings.items stamp inst ≡ None }
+    requires present { AreKept (kept_held (edges_at readers.old.items) cut.old.entries cut.old.standings.items stamp) uses.now }
+    requires indexed { IsIndexed (edges_at readers.old.items) stamp (held cut.old.standings.items (memory_of cut.old.entries)) }
+    requires tied { IsTied (edges_at readers.old.items) stamp (memory_of cut.old.entries) }
+    requires valued { AreValued cut.old.standings.items (memory_of cut.old.entries) }
+    ensures indexed { IsIndexed (edges_at readers.new.items) (stamp + 1) (held cut.new.standings.items (memory_of cut.new.entries)) }
+    ensures tied { IsTied (edges_at readers.new.items) (stamp + 1) (memory_of cut.new.entries) }
+    ensures valued { AreValued cut.new.standings.items (memory_of cut.new.entries) }
+    ensures noted { AreNoted (edges_at readers.old.items) index_read.old.items → AreNoted (edges_at readers.new.items) index_read.new.items }
+    ensures short { length readers.old.items ≤ 2 ^ 32 → length readers.new.items ≤ 2 ^ 32 }
+    ensures puts { IfOk result (HasPut true (kept_held (edges_at readers.old.items) cut.old.entries cut.old.standings.items stamp) inst
+        (option_map value_view value) (map loc_view reads.now) uses.now
+        (kept_held (edges_at readers.new.items) cut.new.entries cut.new.standings.items (stamp + 1))) }
+    ensures err { OnErr result (KeepsAll (kept_held (edges_at readers.old.items) cut.old.entries cut.old.standings.items stamp)
+        (kept_held (edges_at readers.new.items) cut.new.entries cut.new.standings.items (stamp + 1))) }
+    ensures traces { PutsTrace inst (option_map value_view value) (map loc_view reads.now) uses.now order
+        (remembered (edges_at readers.old.items) cut.old.entries cut.old.standings.items)
+        (remembered (edges_at readers.new.items) cut.new.entries cut.new.standings.items) }
+{
+    let links = slots_of(alloc, &cut.entries, uses)?;
+    let slot = slot_for(&cut.entries, &inst)?;
+    make_standing(&mut cut.standings, slot)?;
+    let edge = Edge { slot, stamp };
+    add_readers(alloc, &cut.entries, readers, index_read, reads, edge)?;
+    add_users(alloc, &mut cut.entries, links.as_slice(), edge)?;
+    let standing = Standing {
+        since: stamp,
+        holds: true,
+        traced: is_traced(&value, order),
+    };
+    put_in(cut, inst, fresh(value, links, edge))?;
+    set_standing(&mut cut.standings, slot, standing);
+    Ok(Put::Kept)
+}

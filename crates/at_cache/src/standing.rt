@@ -1,0 +1,47 @@
+//! How entries stand that stay in memory also where they aren't kept.
+
+ghost use Rattle.std.specs.Prelude.{◌≡◌, ◌<◌, ℕ, OnOk, length, slice_set};
+ghost use Rattle.at_cache.specs.Standings.{standing_of};
+
+use crate::edge::Slot;
+use std::alloc::AllocError;
+
+/// How an entry stands.
+#[derive(Clone, Copy, Default)]
+pub struct Standing {
+    /// The number of its `put`, or that of when it was kept again.
+    pub since: u64,
+    /// Whether it is kept.
+    pub holds: bool,
+    /// Whether it can be kept again once all that it used is.
+    pub traced: bool,
+}
+
+/// How the entry in the slot stands.
+pub fn standing_at(standings: &[Standing], slot: Slot) -> Standing
+    ensures { result ≡ standing_of standings.now slot }
+{
+    match standings.get(slot as usize) {
+        Some(standing) => *standing,
+        None => Standing::default(),
+    }
+}
+
+/// Room for the standing of the slot.
+pub fn make_standing(standings: &mut Vec<Standing>, slot: Slot) -> Result<(), AllocError>
+    ensures same { (k : ℕ) → standing_of standings.new.items k ≡ standing_of standings.old.items k }
+    ensures there { OnOk result (slot < length standings.new.items) }
+{
+    while standings.len() <= slot as usize {
+        standings.push(Standing::default())?;
+    }
+    Ok(())
+}
+
+/// The entry in the slot stands so.
+pub fn set_standing(standings: &mut Vec<Standing>, slot: Slot, standing: Standing)
+    requires { slot < length standings.old.items }
+    ensures { standings.new.items ≡ slice_set standings.old.items slot standing }
+{
+    standings[slot as usize] = standing;
+}

@@ -1,0 +1,149 @@
+-- What is settled for an instance is worth keeping for it, and stays right, spare and counted.
+use Rattle.std.proofs.Common.{◌≡◌, ℕ, suc, ◌+◌, ◌-◌, ◌^◌, ◌<◌, min, Bool, true, false, List, Some, None, inl, refl, sym, ap, ◌∙◌, subst, arith, if◌then◌else◌, true≢false}
+use Rattle.std.specs.List.{list_any}
+use Rattle.at_model.specs.Run.{Value, Instance, Location}
+use Rattle.at_model.specs.Rules.{Rules}
+use Rattle.at_model.specs.Meaning.{Among, Leads, Right}
+use Rattle.at_store.specs.Shown.{Shown, IsIdle, contents}
+use Rattle.at_body.specs.Same.{same_instance}
+use Rattle.at_cache.specs.Kept.{Entries, Puts, PutsBy, same_location, value_at}
+use Rattle.at_cache.specs.declared.keeper.Put.TheVariants as put
+use Rattle.at_cache.specs.Traced.{AreAllKept, IsNext, Memories, Settled, Trace, below, itself, nothing, one_more}
+use Rattle.at_cache.proofs.Locations.{same_location-is, same_location-itself}
+use Rattle.at_demand.specs.Known.{meaning, kept_values}
+use Rattle.at_demand.specs.Inner.{AreKnown, Gains, IsEvaluated, is_inner, known_by}
+use Rattle.at_demand.specs.Traces.{AreJustified}
+use Rattle.at_demand.proofs.Counting.{counts_put}
+use Rattle.at_demand.proofs.Entered.{there as is_some}
+use Rattle.at_demand.proofs.Gathered.{any_among}
+use Rattle.at_demand.proofs.Leading.{leads_on}
+use Rattle.at_demand.proofs.OnlyLemmas.{any_one}
+use Rattle.at_demand.proofs.Sameness.{same_true}
+use Rattle.at_demand.proofs.of_nesting.InnerGains.{Found, gains_none, gains_put_so, gains_then, gains_up}
+use Rattle.at_demand.proofs.of_nesting.Remembered.{kept_now}
+use Rattle.at_demand.proofs.of_traces.Justified.{contains_of}
+use Rattle.at_demand.proofs.of_traces.SameWay.{AreAlike, evaluates_same, takes_next}
+
+-- a predicate that says just what stands in a list
+same_reads : (reads : Location ℕ → Bool) (ls : List (Location ℕ)) → ((l : Location ℕ) → Among l ls → reads l ≡ true) →
+    ((l : Location ℕ) → reads l ≡ true → Among l ls) → (l : Location ℕ) → reads l ≡ list_any (same_location l) ls
+same_reads reads ls has had l = by (reads l) (list_any (same_location l) ls) refl refl
+  where
+    by : (a b : Bool) → reads l ≡ a → list_any (same_location l) ls ≡ b → reads l ≡ list_any (same_location l) ls
+    by true true e f = e ∙ sym f
+    by false false e f = e ∙ sym f
+    by true false e f = absurd (true≢false (sym (any_among (same_location l) l ls (had l e) (same_location-itself l)) ∙
+        f))
+    by false true e f =
+        let (m, among, is) = any_one (same_location l) ls f in
+        let here = has l (subst (λ x. Among x ls) (sym (same_location-is l m is)) among) in
+        absurd (true≢false (sym here ∙ e))
+
+puts_list : (exact : Bool) (old new : Entries) (i : Instance ℕ) (v : Value ℕ) (reads : Location ℕ → Bool)
+    (ls : List (Location ℕ)) (us : List (Instance ℕ)) → ((l : Location ℕ) → reads l ≡ list_any (same_location l) ls) →
+    PutsBy exact old i (Some v) reads us new → Puts exact old i (Some v) ls us new
+puts_list exact old new i v reads ls us same puts =
+    let is : reads ≡ (λ l. list_any (same_location l) ls) = λ k l. same l k in
+    subst (λ (r : Location ℕ → Bool). PutsBy exact old i (Some v) r us new) is puts
+
+-- of what is kept the value is the last one
+abbrev pub LastKept : Memories → Entries → Type 0
+LastKept m entries = (j : Instance ℕ) (v : Value ℕ) → kept_values entries j ≡ Some v → m.last j ≡ Some v
+
+module _ (m : Memories) where
+  alike_kept : (entries : Entries) (us : List (Instance ℕ)) → LastKept m entries → AreAllKept entries us →
+      AreAlike m.last (kept_values entries) us
+  alike_kept entries us last all u h =
+      let (w, e) = is_some (kept_values entries u) (all u (contains_of us u h)) in e ∙ sym (last u w e)
+
+  -- so it is of one entry more, with the value of its trace
+  last_more : (exact : Bool) (old new : Entries) (i : Instance ℕ) (v : Value ℕ) (reads : Location ℕ → Bool)
+      (us : List (Instance ℕ)) → LastKept m old → m.last i ≡ Some v → PutsBy exact old i (Some v) reads us new →
+      LastKept m new
+  last_more exact old new i v reads us last mine puts j w e = by (same_instance i j) refl
+    where
+      by : (b : Bool) → same_instance i j ≡ b → m.last j ≡ Some w
+      by true at =
+          let here = puts.adds j ∙ ap (λ (b : Bool). if b then Some puts.entry else old j) at in
+          let is : Some v ≡ Some w = sym puts.value ∙ sym (ap value_at here) ∙ e in
+          subst (λ (x : Instance ℕ). m.last x ≡ Some w) (same_true i j at) (mine ∙ is)
+      by false at =
+          let there = puts.adds j ∙ ap (λ (b : Bool). if b then Some puts.entry else old j) at in
+          last j w (sym (ap value_at there) ∙ e)
+
+module _ (rules : Rules) (s : Shown) (idle : IsIdle s) (exact : Bool) (m : Memories)
+    (r : AreJustified rules (contents s) m) where
+  -- the instance leads to all that comes next
+  pub next_led : (entries : Entries) → LastKept m entries → Right (contents s) (meaning rules) (kept_values entries) →
+      (q i : Instance ℕ) → IsNext m entries q i → Leads (contents s) (meaning rules) q i
+  next_led entries last right q i itself = inl refl
+  next_led entries last right q i (below j _ t front back n is e all) =
+      let way = r.justified j t is in
+      leads_on (contents s) (meaning rules) q j i (next_led entries last right q j n)
+      (takes_next (contents s) (meaning rules) m.last (kept_values entries) right (is_inner rules) way.depth j t.value
+      way.looks t.uses front i back way.evaluates e (alike_kept m entries front last all))
+
+  -- a trace whose uses are kept is an evaluation over what is known
+  comes : (entries : Entries) (f : Found) (i : Instance ℕ) (t : Trace) → LastKept m entries →
+      (is : m.traced i ≡ Some t) → AreAllKept entries t.uses →
+      IsEvaluated rules (contents s) (known_by entries f) i t.value (r.justified i t is).looks t.uses
+  comes entries f i t last is all =
+      let way = r.justified i t is in (
+        way.depth,
+        evaluates_same (contents s) (contents s) m.last (known_by entries f) (meaning rules) (is_inner rules)
+            way.depth (meaning rules i) t.value way.looks t.uses way.evaluates (λ l h. refl) alike,
+      )
+    where
+      alike : AreAlike m.last (known_by entries f) t.uses
+      alike u h =
+          let (w, e) = is_some (kept_values entries u) (all u (contains_of t.uses u h)) in
+          kept_now entries f u w e ∙ sym (last u w e)
+
+  -- one entry is settled
+  one_gains : (old new : Entries) (f : Found) (i : Instance ℕ) (t : Trace) (w x : ℕ) →
+      AreKnown rules (contents s) old f → LastKept m old → m.traced i ≡ Some t → old i ≡ None → AreAllKept old t.uses →
+      PutsBy exact old i (Some t.value) t.reads t.uses new → x ≡ min (w + 1) (2 ^ 64 - 1) →
+      Gains rules s exact i old new f f w x
+  one_gains old new f i t w x known last is absent all p counted =
+      let way = r.justified i t is in
+      let puts = puts_list exact old new i t.value t.reads way.looks t.uses
+      (same_reads t.reads way.looks way.reads way.looked) p in
+      gains_put_so rules s exact i old new f t.value way.looks t.uses known (comes old f i t last is all) (Some t.value)
+      (inl (refl, r.lazily i t is)) absent w x
+      (λ k. counts_put old new exact i t.value way.looks t.uses w x k absent put.Kept puts counted) put.Kept puts
+
+  -- and one behind the other
+  pub record HasSettled (q : Instance ℕ) (old new : Entries) (f : Found) (w x : ℕ) : Type 0 where
+    pub gains : Gains rules s exact q old new f f w x
+    pub last : LastKept m new
+
+  settled : (q : Instance ℕ) (n : ℕ) (old new : Entries) (f : Found) (w : ℕ) → Settled exact m q n old new → w < 2 ^ 64
+      →
+      AreKnown rules (contents s) old f → LastKept m old → HasSettled q old new f w (min (w + n) (2 ^ 64 - 1))
+  settled q _ old _ f w (nothing _) few known last =
+      let is : w ≡ min (w + 0) (2 ^ 64 - 1) = omega (arith, few) in
+      record {
+        gains = subst (λ (z : ℕ). Gains rules s exact q old old f f w z) is (gains_none rules s exact q old f w few
+            known);
+        last = last;
+      }
+  settled q _ old new f w (one_more n _ mid _ i t before next is absent all p) few known last =
+      let h = settled q n old mid f w before few known last in
+      let x = min (w + n) (2 ^ 64 - 1) in
+      let y = min (x + 1) (2 ^ 64 - 1) in
+      let sum : y ≡ min (w + suc n) (2 ^ 64 - 1) = omega (arith, few) in
+      let led = next_led mid h.last h.gains.known.right q i next in
+      let one = one_gains mid new f i t x y h.gains.known h.last is absent all p refl in
+      let both = gains_then rules s exact q old mid new f f f w x y h.gains
+      (gains_up rules s exact idle q i mid new f f x y led one) in
+      record {
+        gains = subst (λ (z : ℕ). Gains rules s exact q old new f f w z) sum both;
+        last = last_more m exact mid new i t.value t.reads t.uses h.last (r.value i t is) p;
+      }
+
+  pub settled_gains : (q : Instance ℕ) (n : ℕ) (old new : Entries) (f : Found) (w x : ℕ) → Settled exact m q n old new →
+      w < 2 ^ 64 → x ≡ min (w + n) (2 ^ 64 - 1) → AreKnown rules (contents s) old f → LastKept m old →
+      Gains rules s exact q old new f f w x
+  settled_gains q n old new f w x steps few counted known last =
+      let h = settled q n old new f w steps few known last in
+      subst (λ (z : ℕ). Gains rules s exact q old new f f w z) (sym counted) h.gains

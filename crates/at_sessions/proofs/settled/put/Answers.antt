@@ -1,0 +1,20 @@
+use Rattle.std.proofs.Common.{◌∙◌, Contains, sym, subst, take_all}
+use Rattle.std.specs.Prelude.{IsSome}
+use Rattle.at_cache.proofs.Looked.{holds_next}
+use Rattle.at_cache.proofs.Taking.{none_in}
+use Rattle.at_sessions.proofs.settled.put.Goals as goal
+
+pub loop-used-init : goal.loop-used-init
+loop-used-init g c u h = absurd (none_in u h)
+
+pub loop-used-preserved : goal.loop-used-preserved
+loop-used-preserved g c =
+    holds_next (λ u. IsSome (g.K.Keeper.contents c.args.keeper.now u)) c.as_slice-used-items.result.now
+    c.loop-used.used-index c.used-item.result c.loop-used-test.true c.used-item.is c.loop-used.invariant
+    (sym c.stands-in-loop-used.ensures ∙ c.if-not-stands.false)
+
+pub put-requires-clause-present : goal.put-requires-clause-present
+put-requires-clause-present g c u h =
+    let same = c.as_slice.ensures.value ∙ sym c.as_slice-used-items.ensures.value in
+    let all = take_all c.loop-used.used-index c.as_slice-used-items.result.now c.loop-used-test.false in
+    c.loop-used.invariant u (subst (λ us. Contains us u) (same ∙ sym all) h)

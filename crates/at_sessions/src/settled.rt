@@ -1,0 +1,219 @@
+//! What a keeper keeps again with no evaluation, of instances that are put by themselves.
+
+use at_body::{Arguments, Inst, Value};
+use at_cache::{KeepCutOff, Keeper, Order};
+use at_rules::AttrId;
+use at_store::{Loc, Node};
+use std::alloc::{AllocError, Global};
+use std::test::Fail;
+
+/// The node of that number.
+fn numbered(number: usize) -> Node {
+    Node::of(number).unwrap_or_default()
+}
+
+/// The first attribute of that node.
+fn inst(node: usize) -> Inst {
+    Inst::new(numbered(node), AttrId::new(0), Arguments::none())
+}
+
+/// A location of its own for each node.
+fn own(node: usize) -> Loc {
+    Loc::Tok(numbered(node), 0)
+}
+
+/// The instances of these nodes.
+fn insts(alloc: Global, nodes: &[usize]) -> Result<Vec<Inst>, AllocError> {
+    let mut all = Vec::new(alloc);
+    for node in nodes {
+        all.push(inst(*node))?;
+    }
+    Ok(all)
+}
+
+/// What is done to a keeper.
+enum Act {
+    /// The entry of that node is put with that value, for its own location and these uses, as they were taken.
+    Put(usize, i32, &'static [usize]),
+    /// What rests on that node's location is flushed.
+    Touch(usize),
+    /// That node's instance is settled.
+    Settle(usize),
+}
+
+/// Puts the entry of a node that has none, where all that it uses is there.
+fn put<K: Keeper>(
+    alloc: Global,
+    keeper: &mut K,
+    node: usize,
+    value: i32,
+    uses: &[usize],
+) -> Result<(), AllocError> {
+    let uses = insts(alloc, uses)?;
+    let needed = inst(node);
+    if keeper.stands(&needed) {
+        return Ok(());
+    }
+    for used in uses.as_slice() {
+        if !keeper.stands(used) {
+            return Ok(());
+        }
+    }
+    let value = Some(Value::Int(value));
+    keeper.put(needed, value, &[own(node)], uses.as_slice(), Order::AsTaken)?;
+    Ok(())
+}
+
+/// Does so, and tells how much work was done.
+fn done<K: Keeper>(alloc: Global, keeper: &mut K, act: &Act, work: u64) -> Result<u64, AllocError> {
+    match act {
+        Act::Put(node, value, uses) => {
+            put(alloc, keeper, *node, *value, uses)?;
+            Ok(work)
+        }
+        Act::Touch(node) => {
+            let touched = own(*node);
+            keeper.flush(&|location: Loc| location == touched);
+            Ok(work)
+        }
+        Act::Settle(node) => Ok(keeper.settle(&inst(*node), work)),
+    }
+}
+
+/// Whether that is the instance of that node, where there is one.
+fn is_node(found: Option<&Inst>, node: Option<usize>) -> bool {
+    match (found, node) {
+        (Some(found), Some(node)) => *found == inst(node),
+        (None, None) => true,
+        _ => false,
+    }
+}
+
+/// How much work acts are, of which of the first nodes a value is kept at their end, and which one stands in the way of
+/// the last of these.
+struct Row {
+    acts: &'static [Act],
+    work: u64,
+    kept: &'static [bool],
+    in_the_way: Option<usize>,
+}
+
+const ROWS: &[Row] = &[
+    // What it used has the same value again.
+    Row {
+        acts: &[
+            Act::Put(0, 5, &[]),
+            Act::Put(1, 6, &[0]),
+            Act::Touch(0),
+            Act::Put(0, 5, &[]),
+            Act::Settle(1),
+        ],
+        work: 1,
+        kept: &[true, true],
+        in_the_way: None,
+    },
+    // It has another one.
+    Row {
+        acts: &[
+            Act::Put(0, 5, &[]),
+            Act::Put(1, 6, &[0]),
+            Act::Touch(0),
+            Act::Put(0, 7, &[]),
+            Act::Settle(1),
+        ],
+        work: 0,
+        kept: &[true, false],
+        in_the_way: None,
+    },
+    // What it used isn't kept again.
+    Row {
+        acts: &[
+            Act::Put(0, 5, &[]),
+            Act::Put(1, 6, &[0]),
+            Act::Touch(0),
+            Act::Settle(1),
+        ],
+        work: 0,
+        kept: &[false, false],
+        in_the_way: Some(0),
+    },
+    // All between is settled with it, in a chain and beside one that was never touched.
+    Row {
+        acts: &[
+            Act::Put(0, 5, &[]),
+            Act::Put(1, 6, &[0]),
+            Act::Put(2, 7, &[]),
+            Act::Put(3, 8, &[2, 1]),
+            Act::Touch(0),
+            Act::Put(0, 5, &[]),
+            Act::Settle(3),
+        ],
+        work: 2,
+        kept: &[true, true, true, true],
+        in_the_way: None,
+    },
+    // Its own location was touched.
+    Row {
+        acts: &[
+            Act::Put(0, 5, &[]),
+            Act::Put(1, 6, &[0]),
+            Act::Touch(0),
+            Act::Touch(1),
+            Act::Put(0, 5, &[]),
+            Act::Settle(1),
+        ],
+        work: 0,
+        kept: &[true, false],
+        in_the_way: None,
+    },
+    // Those in front of the first that isn't kept again are.
+    Row {
+        acts: &[
+            Act::Put(0, 5, &[]),
+            Act::Put(1, 6, &[0]),
+            Act::Put(2, 7, &[]),
+            Act::Put(3, 8, &[0]),
+            Act::Put(4, 9, &[1, 2, 3]),
+            Act::Touch(0),
+            Act::Touch(2),
+            Act::Put(0, 5, &[]),
+            Act::Settle(4),
+        ],
+        work: 1,
+        kept: &[true, true, false, false, false],
+        in_the_way: Some(2),
+    },
+    // One that isn't kept again stands in the way two levels above it.
+    Row {
+        acts: &[
+            Act::Put(0, 5, &[]),
+            Act::Put(1, 6, &[0]),
+            Act::Put(2, 7, &[1]),
+            Act::Touch(0),
+            Act::Settle(2),
+        ],
+        work: 0,
+        kept: &[false, false, false],
+        in_the_way: Some(0),
+    },
+];
+
+#[test]
+fn what_can_be_kept_again_is_settled(rt: HostRuntime) -> Result<(), Fail> {
+    let alloc = rt.alloc();
+    for row in ROWS {
+        let mut keeper = KeepCutOff::new(alloc);
+        let mut work: u64 = 0;
+        for one in row.acts {
+            work = done(alloc, &mut keeper, one, work)?;
+        }
+        assert_eq!(rt; work, row.work);
+        for (node, kept) in row.kept.iter().enumerate() {
+            assert_eq!(rt; keeper.get(&inst(node)).is_some(), *kept);
+        }
+        let asked = inst(row.kept.len().saturating_sub(1));
+        let found = is_node(keeper.blocker(&asked), row.in_the_way);
+        assert!(rt; found);
+    }
+    Ok(())
+}
