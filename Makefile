@@ -26,7 +26,7 @@ help:
 	@echo "                     tries the crate's wrong bodies, which the prover has to refuse (1 to 5 minutes, behind make check)"
 	@echo "  make counts        long clauses, contracts and repeats (seconds)"
 	@echo "to test it:"
-	@echo "  make quick         all tests that need no proof, by a program that isn't proved (7 minutes; 4 where the program is taken up)"
+	@echo "  make quick         all tests that need no proof, by a program that isn't proved (under 3 minutes on two quiet cores, 2 where the program is taken up; beside other work 7 and 4)"
 	@echo "  make test          the gate: every proof, wrong bodies, tests, programs, examples (90 minutes; 15 where it passed before)"
 	@echo "  make examples      the examples of the pages alone (half a minute)"
 	@echo "  make program       the tests of the command line, streams and sockets alone (seconds)"
@@ -52,7 +52,7 @@ test: tools python
 	@python3 -B -m unittest discover -s tools/tests -t .
 	@python3 tools/gate.py
 	@python3 tools/starve.py crates/starve/out/starve
-	@python3 tools/program.py crates/attrd/out/attrd
+	@ATTRD_READS=1 python3 tools/program.py crates/attrd/out/attrd
 	@tools/editors.sh nvim chromium || true
 	@python3 clients/run_tests.py crates/attrd/out/attrd
 	@python3 tools/examples.py --program crates/attrd/out/attrd --tries crates/tries/out/tries $(PAGES) docs/TRIES.md

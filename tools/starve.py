@@ -20,17 +20,23 @@ from typing import Dict
 # The words that choose a session.
 SESSIONS = ("edits", "moves", "turns")
 # The words that choose a keeper, and the name that its verdict has.
-KEEPERS = {"nothing": "nothing kept", "until-edit": "kept until an edit", "over-edits": "kept over edits", "few": "few kept over edits"}
+KEEPERS = {"nothing": "nothing kept", "until-edit": "kept until an edit", "over-edits": "kept over edits", "few": "few kept over edits",
+           "cut-off": "kept again over edits"}
 BEFORE, ANSWERED, UNSEEN, NONE = "ended before the first line", "had a line answered `memory`", "made no difference", "none refused"
 MOST_ROUNDS = 100_000
 
 
-def refusing(folder: str) -> Dict[str, str]:
-    """The environment with a library that refuses the request for memory whose number stands in REFUSE; it is built in the folder."""
-    library = Path(folder) / "refuse.so"
+def preloading(folder: str, name: str) -> Dict[str, str]:
+    """The environment that loads the library of that name before the C library's own; it is built in the folder."""
+    library = Path(folder) / f"{name}.so"
     compiler = os.environ.get("CC") or shutil.which("cc") or "clang"
-    subprocess.run([compiler, "-O2", "-shared", "-fPIC", "-o", library, Path(__file__).with_name("refuse.c"), "-ldl"], check=True)
+    subprocess.run([compiler, "-O2", "-shared", "-fPIC", "-o", library, Path(__file__).with_name(f"{name}.c"), "-ldl"], check=True)
     return {"LD_PRELOAD": str(library)}
+
+
+def refusing(folder: str) -> Dict[str, str]:
+    """The environment with a library that refuses the request for memory whose number stands in REFUSE."""
+    return preloading(folder, "refuse")
 
 
 def round_of(program: str, name: str, word: str, environment: Dict[str, str], nth: int) -> str:

@@ -8,11 +8,18 @@ from tools.of_the_program.runs import NOTHING, SECONDS, ProgramTest
 DEPTH = 400
 DEPTHS = (1, DEPTH - 1, DEPTH, DEPTH + 1, DEPTH + 2, 3_000)
 # What reading the deepest tree takes, and a question: less than that.
-STACK = 512 * 1024
+STACK = 1024 * 1024
 
 GRAMMAR = "Names ::= Item*;\nItem ::= <ID>;\n"
 # Each item asks the one before it, and the first one ends.
 ASPECT = "aspect C {{ inh {lazy} int Item.c(); eq Names.getItem(int i).c() = i == 0 ? {first} : getItem(i - 1).c() + 1; }}\n"
+# The first one looks at its name, by an attribute in which a change of the name is lost, but for one name.
+NAMED = """aspect C {
+  inh lazy int Item.c();
+  eq Names.getItem(int i).c() = i == 0 ? getItem(0).d() : getItem(i - 1).c() + 1;
+  syn lazy int Item.d() = getID().equals("n") ? 0 : 1;
+}
+"""
 
 
 def little_stack() -> None:
@@ -23,17 +30,29 @@ def little_stack() -> None:
 class Nesting(ProgramTest):
     """Chains of items, asked at their last one, each twice."""
 
-    def told(self, items: int, lazy: str, first: str) -> bytes:
-        """What is told of the last item of so many, asked twice."""
-        files = {"names.ast": GRAMMAR, "names.jrag": ASPECT.format(lazy=lazy, first=first),
-                 "names.txt": "Names([" + ",".join(['Item("n")'] * items) + "])\n"}
+    def answered(self, items: int, aspect: str, lines: str, *options: str) -> bytes:
+        """What is told of the lines, of so many items."""
+        files = {"names.ast": GRAMMAR, "names.jrag": aspect, "names.txt": "Names([" + ",".join(['Item("n")'] * items) + "])\n"}
         for name, text in files.items():
             (self.folder / name).write_text(text, encoding="utf-8")
-        lines = f"0 ask /Item:{items - 1} c()\n".encode() * 2
-        run = subprocess.run([self.program, "names.ast", "names.txt", "names.jrag"], cwd=self.folder, env=NOTHING, input=lines,
-                             stdout=subprocess.PIPE, stderr=subprocess.PIPE, timeout=SECONDS, preexec_fn=little_stack)
+        run = subprocess.run([self.program, *options, "names.ast", "names.txt", "names.jrag"], cwd=self.folder, env=NOTHING,
+                             input=lines.encode(), stdout=subprocess.PIPE, stderr=subprocess.PIPE, timeout=SECONDS, preexec_fn=little_stack)
         self.assertEqual((run.returncode, run.stderr), (0, b""))
         return run.stdout
+
+    def told(self, items: int, lazy: str, first: str) -> bytes:
+        """What is told of the last item of so many, asked twice."""
+        return self.answered(items, ASPECT.format(lazy=lazy, first=first), f"0 ask /Item:{items - 1} c()\n" * 2)
+
+    def test_verified_instances_nest(self) -> None:
+        """The first name changes what rests on it, and then it doesn't."""
+        for items in DEPTHS:
+            with self.subTest(items=items):
+                ask, wanted = f"0 ask /Item:{items - 1} c()\n", ""
+                lines = ask + "".join(f'0 token /Item:0 ID "{name}"\n{ask}' for name in ("m", "k"))
+                for version, value in enumerate((items - 1, items, items)):
+                    wanted += (f"0 ok {version}\n" if version else "") + f"0 = {value}\n"
+                self.assertEqual(self.answered(items, NAMED, lines, "--cut-off"), wanted.encode())
 
     def test_lazy_instances_nest(self) -> None:
         for items in DEPTHS:

@@ -4,7 +4,7 @@ import socket
 import subprocess
 from pathlib import Path
 
-from tools.of_the_program.runs import FILES, NOTHING, SECONDS, THREE, ProgramTest, all_of, ended, is_listened_on, until
+from tools.of_the_program.runs import FILES, NOTHING, SECONDS, THREE, ProgramTest, Run, all_of, ended, is_listened_on, until
 
 WELL = (0, b"", b"")
 VERSION = [(b"0 version\n", b"0 ok 0\n")]
@@ -62,9 +62,16 @@ class AtTheStart(ProgramTest):
 class AtTheEnd(ProgramTest):
     """A file that took the socket's place meanwhile."""
 
+    def heard(self, run: Run) -> socket.socket:
+        """A stream on which one reply has come: the server has looked which file its socket's is by then."""
+        stream = self.connect(run)
+        stream.sendall(b"0 version\n")
+        self.assertEqual(stream.recv(64), b"0 ok 0\n")
+        return stream
+
     def test_the_end_leaves_the_file_of_another_server(self) -> None:
         old = self.serve(*THREE)
-        stream = self.connect(old)
+        stream = self.heard(old)
         os.remove(self.path)
         new = self.serve(*THREE)
         until(new, Path(self.path).exists)
@@ -76,7 +83,7 @@ class AtTheEnd(ProgramTest):
 
     def test_the_end_leaves_a_file_that_is_no_socket(self) -> None:
         run, path = self.serve(*THREE), Path(self.path)
-        stream = self.connect(run)
+        stream = self.heard(run)
         path.unlink()
         path.write_text("mine")
         self.assertEqual(all_of(stream), b"")

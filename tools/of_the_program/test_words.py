@@ -15,13 +15,17 @@ REFUSED = [
     (["--keep=1000000001", *THREE], ["1000000001 is not in 1..=1000000000"]),
     (["--keep=many", *THREE], ["invalid value 'many' for '--keep <N>'"]),
     (["--keep=1", "--keep=1", *THREE], ["cannot be used multiple times"]),
+    (["--cut-off", "--keep=1", *THREE], ["error: --cut-off can't be used with --keep"]),
+    (["--keep", "1", "--cut-off", *THREE], ["error: --cut-off can't be used with --keep"]),
+    (["--cut-off", "--cut-off", *THREE], ["cannot be used multiple times"]),
+    (["--cut-off=1", *THREE], ["unexpected value '1' for '--cut-off'"]),
     (["sum.ast", "sum.txt"], ["<ASPECT>"]),
     (["--work", "--work", *THREE], ["cannot be used multiple times"]),
     (["--port", *THREE], ["unexpected argument '--port'"]),
     (["--socket=", *THREE], ["a value is required for '--socket <PATH>'"]),
 ]
-HELP = ["--socket <PATH>", "--connections <N>", "--slice <N>", "--keep <N>", "--work", "--version", "<GRAMMAR>", "<TREE>", "<ASPECT>",
-        "$ attrd calc.ast", "ask PLACE", "move PLACE", "version ", "wait NUMBER"]
+HELP = ["--socket <PATH>", "--connections <N>", "--slice <N>", "--keep <N>", "--cut-off", "--work", "--version", "<GRAMMAR>", "<TREE>",
+        "<ASPECT>", "$ attrd calc.ast", "ask PLACE", "move PLACE", "version ", "wait NUMBER"]
 
 # Two values are kept when an edit comes that touches the first one, and then the second is asked for anew.
 KEPT_BY_TURNS = b"0 ask /Left twice()\n0 ask /Right twice()\n0 token /Left Value 5\n0 ask /Right twice()\n"
@@ -55,6 +59,18 @@ class Words(ProgramTest):
         received, end = self.served(["--work", *THREE, "more.jrag"], [(b"0 ask / half()\n", False)])
         self.assertEqual(received, [b"0 = 5\n"])
         self.assertEqual(end, (0, b"", b"work 0\n"))
+
+
+class CutOff(ProgramTest):
+    """What is kept again where nothing that it was found from has another value."""
+
+    def test_replies_and_work_are_the_same(self) -> None:
+        sent = KEPT_BY_TURNS + b"0 token /Left Value 3\n0 ask /Left twice()\n0 ask /Right twice()\n"
+        told = []
+        for options in "", "--cut-off":
+            run = self.begin([*options.split(), "--work", *THREE, "lazy.jrag"])
+            told.append((run.communicate(sent, timeout=SECONDS), run.returncode))
+        self.assertEqual(told[0], told[1])
 
 
 class Bounds(ProgramTest):
