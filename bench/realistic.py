@@ -1,14 +1,16 @@
 #!/usr/bin/env python3
 """A realistic program: how fast all errors are told of a program as people write them, and after each keystroke, beside Java.
 
-    python3 bench/realistic.py [PROGRAM] [--nodes N ..] [--rounds N] [--seed N] [--row NAME] [--instructions] [--hold]
+    python3 bench/realistic.py [PROGRAM] [--nodes N ..] [--rounds N] [--seed N] [--row NAME] [--cut-off]
+        [--instructions] [--hold]
 
 PROGRAM is ./attrd where none is given; the programs have 1,000, 10,000 and 60,000 nodes of the tutorial's language. The Java program has
 the form that JastAdd2 generates, forgets all at each edit, and is warm, in one process; where there is no `javac`, attrd is measured
 alone. All answers of the two are compared. Times are processor times, the least of several rounds by turns; values are those of lazy
 attributes that --work counts; instructions are counted where there is `valgrind`, of keystrokes only with --instructions, which takes
-minutes. --row measures the rows whose names have that in them. What is wanted is told beside what was measured, for the programs of
-the first seed; with --hold the status is 1 where it isn't reached. It takes five minutes.
+minutes. --row measures the rows whose names have that in them; --cut-off gives the program that option. What is wanted is told
+beside what was measured, for the programs of the first seed; with --hold the status is 1 where it isn't reached. It takes five
+minutes.
 """
 from __future__ import annotations
 
@@ -57,6 +59,20 @@ BEFORE: Dict[str, Tuple[float, ...]] = {
     "a class in or out at the top": (45, 42, 51),
     "a class in or out at the end": (43, 45, 53),
 }
+# How many times Java's time a keystroke may take with --cut-off, for these sizes.
+CUT_OFF: Dict[str, Tuple[float, ...]] = {
+    "a number that nothing rests on": (1, 1 / 20, 1 / 60),
+    "a use mistyped and corrected": (1, 1 / 20, 1 / 60),
+    "a statement in or out at the front of a method": (1, 1 / 20, 1 / 60),
+    "a declaration in or out at the front of a method": (1, 1 / 20, 1 / 60),
+    "a declaration renamed": (1, 1 / 7, 1 / 60),
+    "a field renamed": (2, 1 / 3, 1 / 15),
+    "a field in or out": (1, 1 / 7, 1 / 40),
+    "a declaration in or out at the front of the largest scope": (1, 1 / 1.4, 1 / 3.5),
+    "a class renamed": (2, 2.5, 1.5),
+    "a class in or out at the top": (2, 2.5, 4),
+    "a class in or out at the end": (2, 2.5, 4),
+}
 # Its instructions, in millions, with 1,000 and 10,000 nodes.
 COUNTED_BEFORE: Dict[str, Tuple[float, ...]] = {
     "a number that nothing rests on": (0.006, 0.006),
@@ -95,6 +111,7 @@ class Bench:
     def __init__(self, program: str, folder: str, nodes: int, arguments: argparse.Namespace) -> None:
         self.program, self.folder, self.nodes = program, folder, nodes
         self.is_known = arguments.seed == SEED
+        self.options = ["--cut-off"] if arguments.cut_off else []
         grammar = Grammar.load(GRAMMAR)
         tree = written(nodes, arguments.seed)
         self.size, self.file = tree.size, f"program{nodes}.txt"
@@ -108,7 +125,7 @@ class Bench:
     @property
     def words(self) -> List[str]:
         """What stands behind the program on its command line."""
-        return [str(GRAMMAR), self.file, *map(str, ASPECTS)]
+        return [*self.options, str(GRAMMAR), self.file, *map(str, ASPECTS)]
 
     def round(self) -> None:
         """Measures each row once, attrd and Java by turns."""
@@ -203,15 +220,25 @@ def against(counted: Optional[float], before: Optional[float]) -> str:
     return millions(counted) + (f" ({counted / 1e6 / before:.2f} of 0.23's)" if counted and before else "")
 
 
+def wanted_of(bench: Bench, bounds: Bounds, name: str, ratio: Optional[float], before: Optional[float]) -> str:
+    """What a row takes against what is wanted: with --cut-off beside Java, else beside version 0.23."""
+    most = known_of(CUT_OFF, bench, name) if bench.options else None
+    if ratio and most:
+        return bounds.at_most(f"{name}, {bench.size:,} nodes, against Java", ratio, most)
+    if ratio and before:
+        return bounds.at_most(f"{name}, {bench.size:,} nodes, against version 0.23", ratio / before, SHARE)
+    return "-"
+
+
 def tell_rows(benches: List[Bench], bounds: Bounds, is_counted: bool) -> None:
     """Prints what each kind of keystroke takes at each size, with all errors asked behind it."""
     for bench in benches:
-        table(f"A keystroke and all errors, {bench.size:,} nodes", "attrd, us", "Java, us", "attrd / Java", "Version 0.23", "Against it", "Values anew",
+        table(f"A keystroke and all errors, {bench.size:,} nodes", "attrd, us", "Java, us", "attrd / Java", "Version 0.23", "Wanted", "Values anew",
               "Instructions, millions")
         cold = bench.evaluated(ASK)
         for it in bench.rows:
             ratio, before = bench.figures.ratio(it.name), known_of(BEFORE, bench, it.name)
-            told = bounds.at_most(f"{it.name}, {bench.size:,} nodes, against version 0.23", ratio / before, SHARE) if ratio and before else "-"
+            told = wanted_of(bench, bounds, it.name, ratio, before)
             counted = bench.counted(ASK, it.lines, it.edits) if is_counted else None
             row(it.name, microseconds(bench.figures.attrd[it.name]), microseconds(bench.figures.java.get(it.name)), short(ratio), short(before), told,
                 f"{(bench.evaluated(ASK + it.lines) - cold) / it.edits:,.1f}", against(counted, known_of(COUNTED_BEFORE, bench, it.name)))
@@ -225,6 +252,7 @@ def read_arguments() -> argparse.Namespace:
     parser.add_argument("--rounds", type=int, default=ROUNDS)
     parser.add_argument("--seed", type=int, default=SEED)
     parser.add_argument("--row", default="", help=f"a part of a name: {'; '.join(KINDS)}")
+    parser.add_argument("--cut-off", action="store_true")
     parser.add_argument("--instructions", action="store_true")
     parser.add_argument("--hold", action="store_true")
     return parser.parse_args()
