@@ -18,7 +18,7 @@ use Rattle.at_class.specs.declared.way.Way.{Way}
 
 -- chains --------------------------------------------------------------------------------------------------------------
 
-step : (classes : Classes) → AreLed classes → (c : ℕ) → chain_within (length classes) classes (Some c) ≡ c ∷ chain_within (length classes) classes (parent_of classes c)
+pub step : (classes : Classes) → AreLed classes → (c : ℕ) → chain_within (length classes) classes (Some c) ≡ c ∷ chain_within (length classes) classes (parent_of classes c)
 unfolding chain
 step classes led c = led c
 

@@ -17,6 +17,7 @@ use Rattle.at_class.specs.View.{class_view, classes_view, part_view}
 use Rattle.at_class.specs.Ways.{AreLed, all_of}
 use Rattle.at_class.proofs.Chains.{chain_within-none}
 use Rattle.at_class.proofs.Descents.{all_parts, pushed_at}
+use Rattle.at_model.proofs.LedUp.{has_parent}
 
 there : {X : Type 0} (xs : List X) (c : ℕ) → c < length xs → (x : X) × (slice_get xs c ≡ Some x)
 there xs c less = elim (slice_get_cases xs c).1 [
@@ -140,6 +141,21 @@ table-declared names ks es same are led h =
   where
     none : ModelClass
     none = record { name = []; is_abstract = false; parent = None; own = [] }
+
+-- all components of a class by what is kept of its superclass
+pub parts_known : (ks : List Class) (es : List Entry) (c p : ℕ) (e : Entry) → AreLed (classes_view ks)
+    → AreEntries ks es (length es) → parent_of (classes_view ks) c ≡ Some p → slice_get es p ≡ Some e
+    → map part_view e.parts.items ++ own_of (classes_view ks) c ≡ parts (classes_view ks) c
+unfolding chain
+parts_known ks es c p e led are up f =
+    let classes = classes_view ks in
+    let own = own_of classes c in
+    let k = there ks c (subst (λ n. c < n) (length-map ks class_view) (has_parent classes c p up)) in
+    let kept = (are.each p k.0 e (slice_get_within es p e f)).parts in
+    ap (λ (d : Entry). map part_view d.parts.items ++ own) (sym (get_or_from_slice_get es p e e f))
+    ∙ ap (λ ps. ps ++ own) kept
+    ∙ ap (λ o. all_of classes (chain_within (length classes) classes o) ++ own) (sym up)
+    ∙ sym (all_parts classes led c)
 
 -- one entry more ------------------------------------------------------------------------------------------------------
 

@@ -9,6 +9,7 @@ pub mod Acyclic
 pub mod Whole
 pub mod Descents
 pub mod Entries
+pub mod Numbered
 pub mod Places
 pub mod Apart
 pub mod PartsTested

@@ -6,4 +6,5 @@ pub mod Taken
 pub mod Ways
 pub mod Checks
 pub mod Rules
+pub mod Intervals
 pub mod Table

@@ -6,6 +6,8 @@ use Rattle.at_model.specs.Paths.{ArePartsApart}
 use Rattle.at_model.specs.WellFormed.{IsHierarchy}
 use Rattle.at_class.specs.declared.class.Class.{Class}
 use Rattle.at_class.specs.declared.entry.Entry.{Entry}
+use Rattle.at_class.specs.declared.intervals.Interval.{Interval}
+use Rattle.at_class.specs.Intervals.{AreIntervals}
 use Rattle.at_class.specs.View.{part_view, classes_view}
 
 -- how many components are inherited: as many as the superclass has
@@ -35,11 +37,12 @@ pub record AreEntries (ks : List Class) (es : List Entry) (n : ℕ) : Type 0 whe
   pub count : length es ≡ n
   pub each : (c : ℕ) (k : Class) (e : Entry) → c < n → IsEntry (classes_view ks) c (get_or ks c k) (get_or es c e)
 
--- there is a name for each entry, each entry has all components of its class, the start is the first class, and the classes are as
--- a grammar without faults declares them
-pub record IsTable {A : Type 0} (names : List (String A)) (es : List Entry) (start : ℕ) : Type 0 where
+-- there is a name for each entry, each entry has all components of its class, the intervals are those of the classes, the
+-- start is the first class, and the classes are as a grammar without faults declares them
+pub record IsTable {A : Type 0} (names : List (String A)) (es : List Entry) (is : List Interval) (start : ℕ) : Type 0 where
   pub count : length names ≡ length es
   pub parts : (c : ℕ) (e : Entry) → c < length es → map part_view (get_or es c e).parts.items ≡ parts (table_view names es) c
+  pub numbers : AreIntervals (table_view names es) is
   pub first : start ≡ 0
   pub sound : AreSound (table_view names es)
   pub hierarchy : IsHierarchy (table_view names es)

@@ -48,7 +48,8 @@ pub fn whole_parts(
     Ok(parts)
 }
 
-fn append_own(
+/// Puts copies of the components that the class adds behind the others.
+pub fn append_own(
     alloc: Global,
     classes: &[Class],
     class: ClassId,
@@ -56,7 +57,14 @@ fn append_own(
 ) -> Result<(), AllocError>
     ensures { OnOk result (map part_view parts.new.items ≡ map part_view parts.old.items ++ own_of (classes_view classes.now) class) }
 {
-    for part in own_parts(classes, class) {
+    append(alloc, own_parts(classes, class), parts)
+}
+
+/// Puts copies of components behind the others.
+pub fn append(alloc: Global, more: &[Part], parts: &mut Vec<Part>) -> Result<(), AllocError>
+    ensures { OnOk result (map part_view parts.new.items ≡ map part_view parts.old.items ++ map part_view more.now) }
+{
+    for part in more {
         parts.push(part.copied(alloc)?)?;
     }
     Ok(())

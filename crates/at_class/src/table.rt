@@ -2,6 +2,7 @@
 use crate::class::classes_declared;
 use crate::entry::{Entry, entries_of};
 use crate::fault::ClassFault;
+use crate::intervals::{Interval, interval_of, intervals_of};
 use crate::names::class_named;
 use crate::part::{ClassId, Part, position_named};
 use crate::rules::{known_names, refuse_classes};
@@ -15,6 +16,8 @@ pub struct ClassTable {
     names: IndexSet<String>,
     // What is kept of each class, in the order of the names.
     entries: Vec<Entry>,
+    // The numbers of each class and of those below it, which tell at once whether a class is below another one.
+    intervals: Vec<Interval>,
     // The class of whole trees.
     start: ClassId,
 }
@@ -25,6 +28,7 @@ impl Drop for ClassTable {
         let ClassTable {
             names: _,
             entries: _,
+            intervals: _,
             start: _,
         } = self;
     }
@@ -39,7 +43,7 @@ impl Model for ClassTable {
 
     ghost view = { λ t. table_view t.names.keys t.entries.items };
 
-    ghost invariant = { λ t. IsTable t.names.keys t.entries.items t.start };
+    ghost invariant = { λ t. IsTable t.names.keys t.entries.items t.intervals.items t.start };
 }
 
 impl ClassTable {
@@ -121,6 +125,17 @@ impl ClassTable {
     pub fn is_sub(&self, class: ClassId, above: ClassId) -> bool
         ensures { result ≡ is_sub self.now class above }
     {
+        let own = interval_of(&self.intervals, class);
+        if own.is_empty() {
+            return self.climbs_to(class, above);
+        }
+        interval_of(&self.intervals, above).has(own.first)
+    }
+
+    // The same, of a class without a number.
+    fn climbs_to(&self, class: ClassId, above: ClassId) -> bool
+        ensures { result ≡ is_sub self.now class above }
+    {
         let mut next = Some(class);
         for step in 0..self.len() {
             let Some(met) = next else { return false };
@@ -179,9 +194,11 @@ fn table_of(alloc: Global, declarations: &[ClassDecl]) -> Result<ClassTable, Cla
     let classes = classes_declared(alloc, &names, declarations)?;
     refuse_classes(alloc, &classes, declarations)?;
     let entries = entries_of(alloc, &classes)?;
+    let intervals = intervals_of(alloc, &classes)?;
     Ok(ClassTable {
         names,
         entries,
+        intervals,
         start: ClassId::new(0),
     })
 }

@@ -1,5 +1,6 @@
 mod Dispatching
 pub mod FirstNaming
+mod Starting
 mod Guessed
 mod HoldingLemmas
 mod Lookups

@@ -1,3 +1,4 @@
+pub mod Begun
 pub mod Bodies
 pub mod Dispatch
 pub mod FirstNamed

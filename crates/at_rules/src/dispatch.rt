@@ -107,7 +107,8 @@ impl Dispatch {
         Some(*self.rows.get(class.index())?.get(number)?)
     }
 
-    /// A class gets its row behind its superclass: as long as one gets its row there may be another.
+    /// A class gets its row behind its superclass: as long as one gets its row there may be another. The classes are gone over
+    /// forwards and backwards by turns, so that two passes do where all superclasses stand last.
     fn filled<V>(
         alloc: Global,
         classes: &ClassTable,
@@ -120,7 +121,8 @@ impl Dispatch {
         let count = classes.len();
         let mut table = Dispatch::with_rows(alloc, count)?;
         for pass in 0..count {
-            if !table.fill(alloc, classes, keys, width, precedence)? {
+            let backwards = pass % 2 == 1;
+            if !table.fill(alloc, classes, keys, width, precedence, backwards)? {
                 return Ok(table);
             }
         }
@@ -146,14 +148,16 @@ impl Dispatch {
         keys: &IndexMap<(usize, usize), V>,
         width: usize,
         precedence: Precedence,
+        backwards: bool,
     ) -> Result<bool, AllocError>
         requires hierarchy { IsHierarchy classes.now }
         requires right { AreRight (found_up precedence (keys_of keys.now.entries) classes.now) self.old.rows.items }
         ensures { OnOk result (AreRight (found_up precedence (keys_of keys.now.entries) classes.now) self.new.rows.items) }
     {
         let mut grows = false;
-        for position in 0..classes.len() {
-            let class = ClassId::new(position);
+        let count = classes.len();
+        for position in 0..count {
+            let class = class_at(position, count, backwards);
             if self.fill_row(alloc, classes, keys, width, precedence, class)? {
                 grows = true;
             }
@@ -252,6 +256,15 @@ impl Dispatch {
             Some(parent) => self.cell(parent, number),
             None => Some(Cell(0)),
         }
+    }
+}
+
+// The class at the position, counted from the last one backwards. Nothing rests on which it is.
+fn class_at(position: usize, count: usize, backwards: bool) -> ClassId {
+    if backwards {
+        ClassId::new(count.saturating_sub(position).saturating_sub(1))
+    } else {
+        ClassId::new(position)
     }
 }
 

@@ -2,7 +2,7 @@
 //! stands for a node.
 //!
 //! **Its specs:** `RulesView` is what rules are in the words of `at_model`, `Bodies` what a body is; `Upward` which
-//! attribute a class has, `FirstNamed` which is the first of its name, `Names` what the number of a name is;
+//! attribute a class has, `FirstNamed` and `Begun` which is the first of its name, `Names` what the number of a name is;
 //! `Dispatch`, `Holding` and `Tables` what the tables hold that spare climbing; `Marks` gives expressions back from
 //! lists, so that they may be told apart.
 //!

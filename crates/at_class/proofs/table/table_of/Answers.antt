@@ -1,7 +1,11 @@
 use Rattle.std.proofs.Common.{◌∙◌, ap, subst, sym}
+use Rattle.at_model.specs.Declarations.{classes_of}
 use Rattle.at_model.specs.WellFormed.{IsHierarchy}
+use Rattle.at_model.proofs.LedUp.{led}
 use Rattle.at_class.specs.View.{classes_view}
 use Rattle.at_class.specs.Grammar.{declarations_view}
+use Rattle.at_class.specs.Intervals.{AreIntervals}
+use Rattle.at_class.specs.Ways.{AreLed}
 use Rattle.at_class.proofs.Named.{classes-declared}
 use Rattle.at_class.proofs.Order.{no_fault}
 use Rattle.at_class.proofs.Sound.{classes_sound, view_texts}
@@ -23,6 +27,26 @@ refuse_classes-requires-clause-declared c =
     let ks = c.in_ok-classes.classes.items in
     ap classes_view c.deref.ensures.value ∙ classes-declared c.in_ok-names.names.keys c.args.declarations.now (classes_view ks) c.in_ok-names.ensures.known.0 c.in_ok-classes.ensures
 
+pub entries_of-requires : goal.entries_of-requires
+entries_of-requires c =
+    let xs = c.args.declarations.now in
+    let ds = declarations_view xs in
+    let names = c.in_ok-names.ensures.known in
+    let sound = classes_sound ds (longer xs names.1.some) c.requires (view_texts xs) names.1.once in
+    let h = hierarchy ds sound c.in_ok-refuse_classes.ensures.regular.circle in
+    let e = classes-declared c.in_ok-names.names.keys xs (classes_view c.in_ok-classes.classes.items) names.0 c.in_ok-classes.ensures in
+    subst AreLed (sym (ap classes_view c.deref-2.ensures.value ∙ e)) (led (classes_of ds) h sound.some)
+
+pub intervals_of-requires : goal.intervals_of-requires
+intervals_of-requires c =
+    let xs = c.args.declarations.now in
+    let ds = declarations_view xs in
+    let names = c.in_ok-names.ensures.known in
+    let sound = classes_sound ds (longer xs names.1.some) c.requires (view_texts xs) names.1.once in
+    let h = hierarchy ds sound c.in_ok-refuse_classes.ensures.regular.circle in
+    let e = ap classes_view c.deref-3.ensures.value ∙ classes-declared c.in_ok-names.names.keys xs (classes_view c.in_ok-classes.classes.items) names.0 c.in_ok-classes.ensures in
+    (subst IsHierarchy (sym e) h, subst AreLed (sym e) (led (classes_of ds) h sound.some))
+
 pub invariant_of-result : goal.invariant_of-result
 invariant_of-result c =
     let xs = c.args.declarations.now in
@@ -31,7 +55,8 @@ invariant_of-result c =
     let names = c.in_ok-names.ensures.known in
     let e = classes-declared c.in_ok-names.names.keys xs (classes_view ks) names.0 c.in_ok-classes.ensures in
     let sound = classes_sound ds (longer xs names.1.some) c.requires (view_texts xs) names.1.once in
-    is_table c.in_ok-names.names.keys ks c.deref-2.result.now c.in_ok-entries.entries.items c.new.result xs c.new.ensures names.0 e c.deref-2.ensures.value c.in_ok-entries.ensures sound (hierarchy ds sound c.in_ok-refuse_classes.ensures.regular.circle) c.in_ok-refuse_classes.ensures.regular.twice
+    is_table c.in_ok-names.names.keys ks c.deref-2.result.now c.in_ok-entries.entries.items c.in_ok-intervals.intervals.items c.new.result xs c.new.ensures names.0 e c.deref-2.ensures.value c.in_ok-entries.ensures sound (hierarchy ds sound c.in_ok-refuse_classes.ensures.regular.circle) c.in_ok-refuse_classes.ensures.regular.twice
+    (subst (λ lent. AreIntervals (classes_view lent) c.in_ok-intervals.intervals.items) (c.deref-3.ensures.value ∙ sym c.deref-2.ensures.value) c.in_ok-intervals.ensures)
 
 pub returns-clause-faultless : goal.returns-clause-faultless
 returns-clause-faultless c =

@@ -1,46 +1,16 @@
-use Rattle.std.proofs.Common.{◌≡◌, ◌∙◌, ◌-◌, ◌+◌, ap, sym, arith, length, Some}
-use Rattle.std.specs.Prelude.{nat_eq}
-use Rattle.std.specs.List.{list_any}
-use Rattle.at_model.specs.Classes.{chain, chain_within}
-use Rattle.at_class.proofs.Chains.{climbs_on, climbs_there, chain_within-none, chain_within-end}
+use Rattle.std.proofs.Common.{◌≡◌, ◌∙◌, ap, sym, subst, false}
+use Rattle.at_model.specs.Classes.{is_sub}
+use Rattle.at_class.specs.Intervals.{has, interval_at, is_empty}
 use Rattle.at_class.proofs.table.ClassTable.is_sub.Goals as goal
-
-pub loop-step-init : goal.loop-step-init
-unfolding chain
-loop-step-init c =
-    let classes = c.args.self.now in
-    let n : length classes ≡ length classes - 0 = omega arith in
-    ap (λ m. list_any (nat_eq c.args.above) (chain_within m classes (Some c.args.class))) n
-
-pub returns-in_default : goal.returns-in_default
-returns-in_default c =
-    let classes = c.args.self.now in
-    let n = length classes - c.loop-step.step in
-    sym (c.loop-step.invariant
-    ∙ ap (λ o. list_any (nat_eq c.args.above) (chain_within n classes o)) c.in_default.is
-    ∙ ap (list_any (nat_eq c.args.above)) (chain_within-none classes n))
-
-pub returns-then-eq : goal.returns-then-eq
-returns-then-eq c =
-    let classes = c.args.self.now in
-    let n = length classes in
-    let i = c.loop-step.step in
-    sym (c.loop-step.invariant
-    ∙ ap (λ o. list_any (nat_eq c.args.above) (chain_within (n - i) classes o)) c.in-Some.is
-    ∙ climbs_there classes n i c.in-Some.met c.args.above (omega (arith, c.len-step-end.ensures.len)) (sym c.eq.ensures ∙ c.if-eq.true))
-
-pub loop-step-preserved : goal.loop-step-preserved
-loop-step-preserved c =
-    let classes = c.args.self.now in
-    let n = length classes in
-    let i = c.loop-step.step in
-    c.loop-step.invariant
-    ∙ ap (λ o. list_any (nat_eq c.args.above) (chain_within (n - i) classes o)) c.in-Some.is
-    ∙ climbs_on classes n i c.in-Some.met c.args.above (omega (arith, c.len-step-end.ensures.len)) (sym c.eq.ensures ∙ c.if-eq.false)
-    ∙ ap (λ o. list_any (nat_eq c.args.above) (chain_within (n - (i + 1)) classes o)) (sym c.parent-next.ensures.found)
 
 pub returns : goal.returns
 returns c =
-    let classes = c.args.self.now in
-    sym (c.loop-step.invariant
-    ∙ ap (list_any (nat_eq c.args.above)) (chain_within-end classes (length classes) c.loop-step.step c.loop-step.next (omega (arith, c.len-step-end.ensures.len))))
+    let is = c.self.inside.intervals.items in
+    let own : c.interval_of-own.result ≡ interval_at is c.args.class = c.interval_of-own.ensures ∙ ap (λ xs. interval_at xs c.args.class) c.deref.ensures.value in
+    let other : c.interval_of.result ≡ interval_at is c.args.above = c.interval_of.ensures ∙ ap (λ xs. interval_at xs c.args.above) c.deref-2.ensures.value in
+    let some = subst (λ i. is_empty i ≡ false) own (sym c.is_empty.ensures ∙ c.if-is_empty.false) in
+    c.has.ensures
+    ∙ ap (λ i. has i c.interval_of-own.result.first) other
+    ∙ ap (λ i. has (interval_at is c.args.above) i.first) own
+    ∙ sym (c.self.invariant.numbers c.args.class c.args.above some)
+    ∙ ap (λ classes. is_sub classes c.args.class c.args.above) c.self.view_is
