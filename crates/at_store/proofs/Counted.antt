@@ -7,8 +7,8 @@ use Rattle.std.proofs.lemmas.List.Recursion.{is_count_by}
 use Rattle.at_model.specs.Trees.{Tree, Cells, Cell, Trees, Node as branch, no_cells, cell, One, Many, Empty, Filled, Holds, no_trees, tree, class_of, children, from_trees, nodes, cells_nodes, cell_nodes, trees_nodes}
 use Rattle.at_model.specs.Paths.{Node, tree_at}
 use Rattle.slab.specs.Slab.{Slab, get, slab_len}
-use Rattle.at_store.specs.Memory.{Info, Keeps}
-use Rattle.at_store.specs.View.{info_of, memory_of}
+use Rattle.at_store.specs.Memory.{Info, Keeps, place_in, reindexed}
+use Rattle.at_store.specs.View.{info_of, memory_of, stored_of}
 use Rattle.at_store.specs.declared.entry.Entry.{Entry}
 use Rattle.at_store.specs.Numbers.{path_in}
 use Rattle.at_store.proofs.Found.{Has, below, below_cells, got, number_found}
@@ -281,14 +281,14 @@ module _ (memory : ℕ → Option Info) (s : Tree) (h : Keeps memory s None) whe
   pub counted : (n : ℕ) → ((k : ℕ) (i : Info) → memory k ≡ Some i → k < n) → sum_to n (λ k. bit (is_some (memory k))) ≡ nodes s
   counted n within = sum_same n (λ k. bit (is_some (memory k))) (λ k. times k s) (λ k. sym (told_once k)) ∙ tree_sum n s (λ k l. (let (m, (u, is, number)) = tree_stands k s l in within k _ (ap memory (sym number) ∙ (h.stored m u is).is)))
 
-some_info : (o : Option Entry) → is_some (info_of o) ≡ is_some o
-some_info None = refl
-some_info (Some e) = refl
+some_info : (slab : Slab Entry) (k : ℕ) (o : Option Entry) → is_some (reindexed (place_in (stored_of slab)) k (info_of o)) ≡ is_some o
+some_info slab k None = refl
+some_info slab k (Some e) = refl
 
 -- a slab that keeps a tree counts its nodes
 pub slab_counted : (slab : Slab Entry) (s : Tree) → Keeps (memory_of slab) s None → slab_len slab ≡ nodes s
 slab_counted slab s h =
-    sym (slots_counted slab.slots) ∙ sum_same (length slab.slots) (λ k. bit (is_some (slice_index_or slab.slots k None))) (λ k. bit (is_some (memory_of slab k))) (λ k. sym (ap bit (some_info (get slab k)))) ∙
+    sym (slots_counted slab.slots) ∙ sum_same (length slab.slots) (λ k. bit (is_some (slice_index_or slab.slots k None))) (λ k. bit (is_some (memory_of slab k))) (λ k. sym (ap bit (some_info slab k (get slab k)))) ∙
     counted (memory_of slab) s h (length slab.slots) (λ k i e. within k i e)
   where
     within : (k : ℕ) (i : Info) → memory_of slab k ≡ Some i → k < length slab.slots
@@ -296,6 +296,6 @@ slab_counted slab s h =
       where
         by_test : (b : Bool) → nat_le (length slab.slots) k ≡ b → k < length slab.slots
         by_test true f =
-            let past = ap info_of (get_or_past slab.slots k None (leb-true (length slab.slots) k f)) in
+            let past = ap (λ o. reindexed (place_in (stored_of slab)) k (info_of o)) (get_or_past slab.slots k None (leb-true (length slab.slots) k f)) in
             let g : false ≡ true = sym (ap is_some past) ∙ ap is_some e in absurd cc
         by_test false f = let g : k < length slab.slots = grind (arith, nat_tests) in g

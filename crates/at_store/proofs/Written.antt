@@ -10,16 +10,16 @@ use Rattle.at_store.specs.declared.entry.Slot.{Slot}
 use Rattle.at_model.specs.Edits.{changed_at}
 use Rattle.at_store.specs.Memory.{Info, Kept}
 use Rattle.at_store.specs.Planting.{IsAsBefore}
-use Rattle.at_store.specs.View.{info, info_of, kept_view, memory_of, up_view}
+use Rattle.at_store.specs.View.{info, info_of, kept_view, stored_of, up_view}
 
 pub written_same : (s : Slab Entry) (node : ℕ) (a : Entry) (cells : Vec Slot Global) → Some a ≡ get s node → map kept_view cells.items ≡ map kept_view a.cells.items →
-    IsAsBefore (memory_of s) (memory_of (with_value s node (record { class = a.class; up = a.up; index = a.index; leaves = a.leaves; cells = cells })))
+    IsAsBefore (stored_of s) (stored_of (with_value s node (record { class = a.class; up = a.up; number = a.number; leaves = a.leaves; cells = cells })))
 written_same s node a cells there same k =
-    let new : Entry = record { class = a.class; up = a.up; index = a.index; leaves = a.leaves; cells = cells } in
-    let shown : info new ≡ info a = ap (λ cs. let i : Info = record { class = a.class; up = up_view a.up; index = a.index; cells = cs } in i) same in
+    let new : Entry = record { class = a.class; up = a.up; number = a.number; leaves = a.leaves; cells = cells } in
+    let shown : info new ≡ info a = ap (λ cs. let i : Info = record { class = a.class; up = up_view a.up; index = a.number; cells = cs } in i) same in
     let u = Updates-with_value s node new (ap is_some (sym there)) in
     elim (cases_eq k node) [
-      | inl p ↦ ap (memory_of (with_value s node new)) p ∙ ap info_of u.changed ∙ ap Some shown ∙ ap info_of there ∙ ap (memory_of s) (sym p)
+      | inl p ↦ ap (stored_of (with_value s node new)) p ∙ ap info_of u.changed ∙ ap Some shown ∙ ap info_of there ∙ ap (stored_of s) (sym p)
       | inr q ↦ ap info_of (u.others k q)
     ]
 

@@ -21,4 +21,4 @@ pub mod Room
 pub mod Limited
 pub mod Spared
 pub mod Reserved
-pub mod Few
+pub mod Alike

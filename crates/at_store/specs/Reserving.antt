@@ -6,9 +6,9 @@ use Rattle.smallvec.specs.SmallVec.{SmallVec, HasRoomFor}
 use Rattle.at_model.specs.Edits.{Edit}
 use Rattle.at_model.specs.Edits as edit
 use Rattle.at_model.specs.Trees.{Tree}
-use Rattle.at_store.specs.Memory.{Form, IsPlacedIn, Kids, cell_in}
+use Rattle.at_store.specs.Memory.{AreAlike, Form, Info, Kids, cell_in, come_to}
 use Rattle.at_store.specs.Numbers.{number_at}
-use Rattle.at_store.specs.View.{memory_of}
+use Rattle.at_store.specs.View.{stored_of}
 use Rattle.at_store.specs.declared.entry.Entry.{Entry}
 use Rattle.at_store.specs.declared.entry.Slot.{Slot}
 use Rattle.at_store.specs.declared.entry.Slot.TheVariants as slot
@@ -19,7 +19,7 @@ TakesOneMore kids = HasRoomFor kids 1 × length kids.items < 2 ^ 32
 
 -- so it is in the component
 abbrev pub HasSpace : Option Slot → Type 0
-HasSpace (Some (slot.Kids form kids)) = TakesOneMore kids
+HasSpace (Some (slot.Kids form first kids)) = TakesOneMore kids
 HasSpace o = ⊤
 
 abbrev pub slots_of : Option Entry → List Slot
@@ -45,6 +45,6 @@ IsRoomFor slab s e = ⊤
 
 -- where there was room the node came into the list, to that index
 abbrev pub ComesTo : (node part index new : ℕ) → (before later : Slab Entry) → Type 0
-ComesTo node part index new before later = (form : Form) (kids : List ℕ)
-    → cell_in (memory_of before node) part ≡ Some (Kids form kids) → index ≤ length kids → HasRoom before node part
-    → IsPlacedIn node part index new (Kids form (insert kids index new)) (memory_of before) (memory_of later)
+ComesTo node part index new before later = (memory : ℕ → Option Info) (form : Form) (kids : List ℕ) → AreAlike memory (stored_of before)
+    → cell_in (memory node) part ≡ Some (Kids form kids) → index ≤ length kids → HasRoom before node part
+    → AreAlike (come_to node part index new (Kids form (insert kids index new)) memory) (stored_of later)

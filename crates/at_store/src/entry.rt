@@ -2,7 +2,7 @@
 ghost use Rattle.std.specs.Prelude.{◌≡◌, IfOk, Some, false, is_some, map, option_map};
 ghost use Rattle.std.specs.List.{slice_get};
 ghost use Rattle.std.specs.Option.{option_copied};
-ghost use Rattle.at_store.specs.Memory.{cell_in, cells_in, class_in, index_in, kids_in, numbers_in, token_in_cell, up_in};
+ghost use Rattle.at_store.specs.Memory.{IsOnceAmong, StandsOnce, beside, or_first, place_among, cell_in, cells_in, class_in, index_in, kids_in, numbers_in, token_in_cell, up_in};
 ghost use Rattle.at_store.specs.Tokens.{lent_view};
 ghost use Rattle.at_store.specs.View.{kept_view, leaves_in, memory_of, up_view};
 
@@ -25,10 +25,10 @@ pub enum Form {
 /// The children in a component. Up to four take no memory of their own, and no more room in the node than one.
 pub type Children = SmallVec<Node, 4>;
 
-/// What is kept of a component: the children, or the value of a token.
+/// What is kept of a component: the children, with the number of the first of them, or the value of a token.
 #[derive(Drop)]
 pub enum Slot {
-    Kids(Form, Children),
+    Kids(Form, u32, Children),
     Token(TokVal),
 }
 
@@ -47,9 +47,9 @@ pub struct Entry {
     /// Whether the edit that is prepared takes the node away.
     pub leaves: bool,
     pub up: Up,
-    /// The position among the children of that component, kept here so that it is read in constant time: an insert into a
-    /// list and a drop rewrite it in each element behind.
-    pub index: u32,
+    /// As much more than the number of the first child as it stands behind it, modulo 2^32: so its position is found in constant
+    /// time, and an insert into a list or a drop writes the numbers on the shorter side alone.
+    pub number: u32,
     pub cells: Vec<Slot>,
 }
 
@@ -135,13 +135,57 @@ pub(crate) fn up_at(slab: &Slab<Entry>, node: Node) -> Option<(Node, usize)>
     }
 }
 
-/// The position of a node among the children of its parent's component, as it is kept.
-pub(crate) fn index_at(slab: &Slab<Entry>, node: Node) -> u32
-    ensures { result ≡ index_in (memory_of slab.now node) }
+/// The position of a node among the children of its parent's component.
+pub(crate) fn index_at(slab: &Slab<Entry>, node: Node) -> usize
+    ensures { StandsOnce (memory_of slab.now) node → result ≡ index_in (memory_of slab.now node) }
 {
     match slab.get(node.index()) {
-        Some(entry) => entry.index,
+        Some(entry) => index_by(slab, node, entry.up, entry.number),
         None => 0,
+    }
+}
+
+/// The position of a node in the component where it stands, by its number.
+fn index_by(slab: &Slab<Entry>, node: Node, up: Up, number: u32) -> usize
+    ensures { IsOnceAmong node (beside (memory_of slab.now) (up_view up))
+        → result ≡ or_first (place_among node (beside (memory_of slab.now) (up_view up))) }
+{
+    match up {
+        Up::Alone => 0,
+        Up::In(part, parent) => {
+            let likely = number.wrapping_sub(first_number(slab, parent, part as usize));
+            index_among(kids_at(slab, parent, part as usize), node, likely as usize)
+        }
+    }
+}
+
+/// The position of a node among these, which is likely that one; 0 where it isn't there.
+fn index_among(kids: &[Node], node: Node, likely: usize) -> usize
+    ensures { IsOnceAmong node kids.now → result ≡ or_first (place_among node kids.now) }
+{
+    match kids.get(likely) {
+        Some(kid) if *kid == node => likely,
+        _ => searched(kids, node),
+    }
+}
+
+/// The position of a node among these; 0 where it isn't there.
+fn searched(kids: &[Node], node: Node) -> usize
+    ensures { result ≡ or_first (place_among node kids.now) }
+{
+    for (index, kid) in kids.iter().enumerate() {
+        if *kid == node {
+            return index;
+        }
+    }
+    0
+}
+
+/// The number of the first child in a component of a node.
+pub(crate) fn first_number(slab: &Slab<Entry>, node: Node, part: usize) -> u32 {
+    match slot_at(slab, node, part) {
+        Some(Slot::Kids(_, first, _)) => *first,
+        _ => 0,
     }
 }
 
@@ -180,7 +224,7 @@ pub(crate) fn kids_in(slot: &Slot) -> &[Node]
     ensures { result.now ≡ numbers_in (Some (kept_view slot.now)) }
 {
     match slot {
-        Slot::Kids(_, kids) => kids.as_slice(),
+        Slot::Kids(_, _, kids) => kids.as_slice(),
         Slot::Token(_) => &[],
     }
 }
@@ -190,7 +234,7 @@ pub(crate) fn kids_at(slab: &Slab<Entry>, node: Node, part: usize) -> &[Node]
     ensures { result.now ≡ kids_in (memory_of slab.now node) part }
 {
     match slot_at(slab, node, part) {
-        Some(Slot::Kids(_, kids)) => kids.as_slice(),
+        Some(Slot::Kids(_, _, kids)) => kids.as_slice(),
         _ => &[],
     }
 }

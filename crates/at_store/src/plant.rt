@@ -1,12 +1,12 @@
 //! How trees come into the slab and out of it.
-ghost use Rattle.std.specs.Prelude.{◌≡◌, ◌≤◌, IfOk, OnErr, OnOk, [], ◌∷◌, ◌++◌, map};
+ghost use Rattle.std.specs.Prelude.{◌≡◌, ◌≤◌, ℕ, Option, IfOk, OnErr, OnOk, [], ◌∷◌, ◌++◌, map};
 ghost use Rattle.slab.specs.Slab.{slab_len};
 ghost use Rattle.at_model.specs.Edits.{changed_at};
 ghost use Rattle.at_model.specs.Trees.{Many, Tree as Numbered, class_of, to_trees};
 ghost use Rattle.at_tree.specs.TreeView.{cell_view, tree_view};
 ghost use Rattle.at_store.specs.Memory.{IsCellFreed, IsFreed, Kids, with_numbers};
 ghost use Rattle.at_store.specs.Planting.{GainsCell, GainsTree, IsAdded, IsAsBefore, IsPlanted, IsPushed, IsPushedKid, StaysPlanted, holding};
-ghost use Rattle.at_store.specs.View.{MarksNoMore, form_view, kept_view, memory_of};
+ghost use Rattle.at_store.specs.View.{MarksNoMore, form_view, kept_view, stored_of, viewed};
 
 use crate::entry::{Children, Entry, Form, Slot, small, small_index, small_place};
 use crate::node::Node;
@@ -19,7 +19,7 @@ use std::alloc::{AllocError, Global};
 #[cycle(free)]
 pub(crate) fn free(slab: &mut Slab<Entry>, node: Node)
     ensures fewer { slab_len slab.new ≤ slab_len slab.old }
-    ensures freed { IsFreed node (memory_of slab.old) (memory_of slab.new) }
+    ensures freed { (f : ℕ → Option (ℕ × ℕ) → ℕ → ℕ) → IsFreed node (viewed f slab.old) (viewed f slab.new) }
     ensures marks { MarksNoMore slab.old slab.new }
 {
     if let Some(entry) = slab.try_remove(node.index()) {
@@ -32,10 +32,10 @@ pub(crate) fn free(slab: &mut Slab<Entry>, node: Node)
 #[cycle(free)]
 fn free_slot(slab: &mut Slab<Entry>, slot: &Slot)
     ensures fewer { slab_len slab.new ≤ slab_len slab.old }
-    ensures freed { IsCellFreed (kept_view slot.now) (memory_of slab.old) (memory_of slab.new) }
+    ensures freed { (f : ℕ → Option (ℕ × ℕ) → ℕ → ℕ) → IsCellFreed (kept_view slot.now) (viewed f slab.old) (viewed f slab.new) }
     ensures marks { MarksNoMore slab.old slab.new }
 {
-    if let Slot::Kids(_, kids) = slot {
+    if let Slot::Kids(_, _, kids) = slot {
         for kid in kids.as_slice() {
             free(slab, *kid);
         }
@@ -51,8 +51,8 @@ fn add(
     index: usize,
     parts: usize,
 ) -> Result<Node, AllocError>
-    ensures added { IfOk result (λ node. IsAdded node class (up, index) (memory_of slab.old) (memory_of slab.new)) }
-    ensures kept { OnErr result (IsAsBefore (memory_of slab.old) (memory_of slab.new)) }
+    ensures added { IfOk result (λ node. IsAdded node class (up, index) (stored_of slab.old) (stored_of slab.new)) }
+    ensures kept { OnErr result (IsAsBefore (stored_of slab.old) (stored_of slab.new)) }
     ensures marks { MarksNoMore slab.old slab.new }
 {
     let Some(node) = Node::of(slab.vacant_key()) else {
@@ -62,7 +62,7 @@ fn add(
         class: small(class.index())?,
         leaves: false,
         up: small_place(up)?,
-        index: small_index(index)?,
+        number: small_index(index)?,
         cells: Vec::with_capacity(alloc, parts)?,
     };
     slab.insert(entry)?;
@@ -71,8 +71,8 @@ fn add(
 
 /// One more component of a node.
 fn push_slot(slab: &mut Slab<Entry>, node: Node, slot: Slot) -> Result<(), AllocError>
-    ensures pushed { OnOk result (IsPushed node (kept_view slot) (memory_of slab.old) (memory_of slab.new)) }
-    ensures kept { OnErr result (IsAsBefore (memory_of slab.old) (memory_of slab.new)) }
+    ensures pushed { OnOk result (IsPushed node (kept_view slot) (stored_of slab.old) (stored_of slab.new)) }
+    ensures kept { OnErr result (IsAsBefore (stored_of slab.old) (stored_of slab.new)) }
     ensures marks { MarksNoMore slab.old slab.new }
 {
     if let Some(entry) = slab.get_mut(node.index()) {
@@ -85,7 +85,7 @@ fn push_in_slot(slot: &mut Slot, kid: Node) -> Result<(), AllocError>
     ensures pushed { OnOk result (kept_view slot.new ≡ with_numbers (λ ns. ns ++ kid ∷ []) (kept_view slot.old)) }
     ensures kept { OnErr result (kept_view slot.new ≡ kept_view slot.old) }
 {
-    if let Slot::Kids(_, kids) = slot {
+    if let Slot::Kids(_, _, kids) = slot {
         kids.push(kid)?;
     }
     Ok(())
@@ -103,8 +103,8 @@ fn push_in_cells(cells: &mut Vec<Slot>, part: usize, kid: Node) -> Result<(), Al
 
 /// One more child in a component of a node.
 fn push_kid(slab: &mut Slab<Entry>, node: Node, part: usize, kid: Node) -> Result<(), AllocError>
-    ensures pushed { OnOk result (IsPushedKid node part kid (memory_of slab.old) (memory_of slab.new)) }
-    ensures kept { OnErr result (IsAsBefore (memory_of slab.old) (memory_of slab.new)) }
+    ensures pushed { OnOk result (IsPushedKid node part kid (stored_of slab.old) (stored_of slab.new)) }
+    ensures kept { OnErr result (IsAsBefore (stored_of slab.old) (stored_of slab.new)) }
     ensures marks { MarksNoMore slab.old slab.new }
 {
     if let Some(entry) = slab.get_mut(node.index()) {
@@ -121,13 +121,13 @@ fn push_filled(
     form: Form,
     kid: Node,
 ) -> Result<(), AllocError>
-    ensures pushed { OnOk result (IsPushed node (Kids (form_view form) (kid ∷ [])) (memory_of slab.old) (memory_of slab.new)) }
-    ensures kept { OnErr result (IsAsBefore (memory_of slab.old) (memory_of slab.new)) }
+    ensures pushed { OnOk result (IsPushed node (Kids (form_view form) (kid ∷ [])) (stored_of slab.old) (stored_of slab.new)) }
+    ensures kept { OnErr result (IsAsBefore (stored_of slab.old) (stored_of slab.new)) }
     ensures marks { MarksNoMore slab.old slab.new }
 {
     let mut kids = Children::new(alloc);
     kids.push(kid)?;
-    push_slot(slab, node, Slot::Kids(form, kids))
+    push_slot(slab, node, Slot::Kids(form, 0, kids))
 }
 
 /// Plants a tree's nodes under new numbers: the number of its root. What the tree holds of memory is given back node by
@@ -141,8 +141,8 @@ pub(crate) fn plant(
     tree: Tree,
 ) -> Result<Node, AllocError>
     ensures planted { IfOk result (λ node. (w : Numbered) × (class_of w ≡ node)
-        × IsPlanted (memory_of slab.old) (memory_of slab.new) (up, index) (tree_view tree) w) }
-    ensures kept { OnErr result (IsAsBefore (memory_of slab.old) (memory_of slab.new)) }
+        × IsPlanted (stored_of slab.old) (stored_of slab.new) (up, index) (tree_view tree) w) }
+    ensures kept { OnErr result (IsAsBefore (stored_of slab.old) (stored_of slab.new)) }
     ensures marks { MarksNoMore slab.old slab.new }
 {
     let Tree { class, cells } = tree;
@@ -165,14 +165,18 @@ fn plant_cell(
     part: usize,
     cell: Cell,
 ) -> Result<(), AllocError>
-    ensures planted { OnOk result (GainsCell node part (cell_view cell) (memory_of slab.old) (memory_of slab.new)) }
-    ensures stays { OnErr result (StaysPlanted node part (memory_of slab.old) (memory_of slab.new)) }
+    ensures planted { OnOk result (GainsCell node part (cell_view cell) (stored_of slab.old) (stored_of slab.new)) }
+    ensures stays { OnErr result (StaysPlanted node part (stored_of slab.old) (stored_of slab.new)) }
     ensures marks { MarksNoMore slab.old slab.new }
 {
     match cell {
         Cell::One(tree) => plant_child(alloc, slab, node, part, Form::Plain, tree),
         Cell::Many(trees) => plant_list(alloc, slab, node, part, trees),
-        Cell::Empty => push_slot(slab, node, Slot::Kids(Form::Optional, Children::new(alloc))),
+        Cell::Empty => push_slot(
+            slab,
+            node,
+            Slot::Kids(Form::Optional, 0, Children::new(alloc)),
+        ),
         Cell::Filled(tree) => plant_child(alloc, slab, node, part, Form::Optional, tree),
         Cell::Tok(value) => push_slot(slab, node, Slot::Token(value)),
     }
@@ -187,8 +191,8 @@ fn plant_child(
     form: Form,
     tree: Tree,
 ) -> Result<(), AllocError>
-    ensures planted { OnOk result (GainsCell node part (holding (form_view form) (tree_view tree)) (memory_of slab.old) (memory_of slab.new)) }
-    ensures kept { OnErr result (IsAsBefore (memory_of slab.old) (memory_of slab.new)) }
+    ensures planted { OnOk result (GainsCell node part (holding (form_view form) (tree_view tree)) (stored_of slab.old) (stored_of slab.new)) }
+    ensures kept { OnErr result (IsAsBefore (stored_of slab.old) (stored_of slab.new)) }
     ensures marks { MarksNoMore slab.old slab.new }
 {
     let kid = plant(alloc, slab, Some((node, part)), 0, tree)?;
@@ -207,12 +211,12 @@ fn plant_list(
     part: usize,
     trees: Vec<Tree>,
 ) -> Result<(), AllocError>
-    ensures planted { OnOk result (GainsCell node part (Many (to_trees (map tree_view trees.items))) (memory_of slab.old) (memory_of slab.new)) }
-    ensures stays { OnErr result (StaysPlanted node part (memory_of slab.old) (memory_of slab.new)) }
+    ensures planted { OnOk result (GainsCell node part (Many (to_trees (map tree_view trees.items))) (stored_of slab.old) (stored_of slab.new)) }
+    ensures stays { OnErr result (StaysPlanted node part (stored_of slab.old) (stored_of slab.new)) }
     ensures marks { MarksNoMore slab.old slab.new }
 {
     let kids = Children::with_capacity(alloc, trees.len())?;
-    push_slot(slab, node, Slot::Kids(Form::List, kids))?;
+    push_slot(slab, node, Slot::Kids(Form::List, 0, kids))?;
     for (index, tree) in trees.into_iter().enumerate() {
         plant_element(alloc, slab, node, part, index, tree)?;
     }
@@ -228,8 +232,8 @@ fn plant_element(
     index: usize,
     tree: Tree,
 ) -> Result<(), AllocError>
-    ensures planted { OnOk result (GainsTree node part index (tree_view tree) (memory_of slab.old) (memory_of slab.new)) }
-    ensures kept { OnErr result (IsAsBefore (memory_of slab.old) (memory_of slab.new)) }
+    ensures planted { OnOk result (GainsTree node part index (tree_view tree) (stored_of slab.old) (stored_of slab.new)) }
+    ensures kept { OnErr result (IsAsBefore (stored_of slab.old) (stored_of slab.new)) }
     ensures marks { MarksNoMore slab.old slab.new }
 {
     let kid = plant(alloc, slab, Some((node, part)), index, tree)?;

@@ -11,7 +11,7 @@ ghost use Rattle.at_tree.specs.PathView.{step_view, steps_view};
 ghost use Rattle.at_tree.specs.TreeView.{cell_view, tree_view};
 ghost use Rattle.at_store.specs.Grown.{grown_cell, shown_below};
 ghost use Rattle.at_store.specs.Led.{Led};
-ghost use Rattle.at_store.specs.Memory.{Keeps, Kids, class_in, index_in, kids_in};
+ghost use Rattle.at_store.specs.Memory.{Keeps, Kids, StandsOnce, class_in, index_in, kids_in};
 ghost use Rattle.at_store.specs.Numbers.{path_in, relabel};
 ghost use Rattle.at_store.specs.View.{form_view, kept_view, memory_of};
 
@@ -124,7 +124,7 @@ pub(crate) fn steps_to(
     node: Node,
     most: usize,
 ) -> Result<Vec<Step<'static>>, AllocError>
-    requires { (k : ℕ) → index_in (memory_of slab.now k) < 65536 }
+    requires { (k : ℕ) → StandsOnce (memory_of slab.now) k × (index_in (memory_of slab.now k) < 65536) }
     ensures written { IfOk result (λ steps. IsPath (steps_view steps.items)) }
     ensures led { IfOk result (λ steps. (s : Numbered) (n : Place) (p : Path) → Keeps (memory_of slab.now) s None → path_in node s ≡ Some n → length n ≤ most
         → path_of classes.now (relabel (class_in (memory_of slab.now)) s) n ≡ Some p → steps_view steps.items ≡ p) }
@@ -141,7 +141,7 @@ pub(crate) fn steps_to(
     let Some(component) = part_of(classes, class_at(slab, place.0), place.1) else {
         return Ok(steps);
     };
-    steps.push(step_by(alloc, component, index_at(slab, node) as usize)?)?;
+    steps.push(step_by(alloc, component, index_at(slab, node))?)?;
     Ok(steps)
 }
 
@@ -177,7 +177,7 @@ fn cell_at(
 {
     match slot {
         Slot::Token(value) => Ok(Cell::Tok(value.copied(alloc)?)),
-        Slot::Kids(form, kids) => kids_cell(alloc, slab, *form, kids.as_slice(), levels),
+        Slot::Kids(form, _, kids) => kids_cell(alloc, slab, *form, kids.as_slice(), levels),
     }
 }
 

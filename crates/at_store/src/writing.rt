@@ -69,7 +69,14 @@ fn append_slot(
 {
     match slot {
         Slot::Token(value) => append_value(value, out),
-        Slot::Kids(form, kids) => append_kids(slab, classes, *form, kids.as_slice(), levels, out),
+        Slot::Kids(form, _, kids) => append_kids(
+            slab,
+            classes,
+            *form,
+            kids.as_slice(),
+            levels,
+            out,
+        ),
     }
 }
 

@@ -11,9 +11,10 @@ use Rattle.at_model.specs.Edits.{Edit, carried, changed_at, edited, is_within_li
 use Rattle.at_model.specs.Edits as edit
 use Rattle.at_model.proofs.Options.{both, led}
 use Rattle.at_store.specs.Numbers.{IsFresh, number_at, path_in, path_in_new, relabel}
-use Rattle.at_store.specs.Memory.{Form, Info, IsPlacedIn, IsShallow, Keeps, Kept, Kids, List_of, Optional, Stored, Token_of, Waits, cell_in, class_in, kept, kept_of, kids_in, numbers_in, placed, placed_in, raised, renumbered, rewritten, top, with_kept, with_up}
+use Rattle.at_store.specs.Memory.{Form, Info, IsPlacedIn, IsShallow, Keeps, Kept, Kids, List_of, Optional, Stored, Token_of, Waits, cell_in, class_in, kept, kept_of, kids_in, numbers_in, placed, placed_in, raised, renumbered, rewritten, top, with_kept, with_up, AreAlike, come_to, with_index}
 use Rattle.at_store.specs.Reserving.{ComesTo, HasRoom, IsRoomFor}
-use Rattle.at_store.specs.View.{IsUnmarked, MarksNoMore, leaves_in, memory_of}
+use Rattle.at_store.specs.View.{IsUnmarked, MarksNoMore, leaves_in, memory_of, stored_of}
+use Rattle.at_store.proofs.Arranged.{arranged_is, rewritten_alike, settled}
 use Rattle.at_store.specs.Touching.{change_of, gone, removed}
 use Rattle.at_store.specs.declared.entry.Entry.{Entry}
 use Rattle.slab.specs.Slab.{Slab}
@@ -93,19 +94,22 @@ unmarked_as classes old mid new e Does p same none k = same k ∙ p.marks k ∙ 
 
 -- a token has another value
 pub token_committed : (classes : Classes) (old mid new : Shown) (e : Edit) (node part : ℕ) (v : trees.Token) → IsPrepared classes old e (DoesToken node part v) mid →
-    ((k : ℕ) → memory_of new.slab k ≡ rewritten node part (Token_of v) k (memory_of mid.slab k)) → ((k : ℕ) → leaves_in new.slab k ≡ leaves_in mid.slab k) → new.root ≡ mid.root → new.waiting ≡ None → new.leaving ≡ None → IsCommitted old e new
+    ((k : ℕ) → stored_of new.slab k ≡ rewritten node part (Token_of v) k (stored_of mid.slab k)) → ((k : ℕ) → leaves_in new.slab k ≡ leaves_in mid.slab k) → new.root ≡ mid.root → new.waiting ≡ None → new.leaving ≡ None → IsCommitted old e new
 token_committed classes old mid new e node part v p changes marks root waiting leaving =
     let memory = memory_of mid.slab in
-    let later = memory_of new.slab in
+    let later : ℕ → Option Info = λ k. rewritten node part (Token_of v) k (memory k) in
+    let alike : AreAlike later (stored_of new.slab) = λ k. rewritten_alike node part (Token_of v) memory (stored_of mid.slab) (arranged_is (stored_of mid.slab)) k ∙ ap (with_index 0) (sym (changes k)) in
     let s = numbers old in
     let d = p.does in
     let h : Keeps memory s None = subst (λ (x : Edit). Keeps memory s (brought x)) d.is p.keeps in
     let shallow : IsShallow 512 (left_by s (edit.Token d.place part v)) = subst (λ (x : Edit). IsShallow 512 (left_by s x)) d.is (shallow_left classes old mid new e (DoesToken node part v) p) in
-    let kept : Keeps later (left_by s (edit.Token d.place part v)) None = token_set memory later s d.parent h d.place part d.was v d.found d.here (λ k. changes k ∙ ap (λ j. rewritten j part (Token_of v) k (memory k)) (sym d.number)) shallow in
+    let kept : Keeps later (left_by s (edit.Token d.place part v)) None = token_set memory later s d.parent h d.place part d.was v d.found d.here (λ k. ap (λ j. rewritten j part (Token_of v) k (memory k)) (sym d.number)) shallow in
     let keeps : Keeps later (left_by s p.numbered) None = subst (λ (x : Edit). Keeps later (left_by s x) None) (sym d.is) kept in
-    committed classes old mid new e (DoesToken node part v) p keeps
+    let same : (k : ℕ) → memory_of new.slab k ≡ later k = settled (stored_of new.slab) later (left_by s p.numbered) alike keeps in
+    let now : Keeps (memory_of new.slab) (left_by s p.numbered) None = subst (λ (m : ℕ → Option Info). Keeps m (left_by s p.numbered) None) (λ i k. sym (same k) i) keeps in
+    committed classes old mid new e (DoesToken node part v) p now
     (ap (λ (x : Edit). class_of (left_by s x)) d.is ∙ root_stays (λ c. trees.Holds v) part s d.place ∙ root_was classes old mid new e (DoesToken node part v) p ∙ sym root)
-    (classes_stay memory later (λ k. false) (λ k o. rewritten node part (Token_of v) k o) (class_rewritten node part (Token_of v)) changes top (left_by s p.numbered) keeps.stored)
+    (classes_stay memory (memory_of new.slab) (λ k. false) (λ k o. rewritten node part (Token_of v) k o) (class_rewritten node part (Token_of v)) same top (left_by s p.numbered) now.stored)
     waiting leaving (unmarked_as classes old mid new e (DoesToken node part v) p marks (ap (gone s) d.is))
 
 -- a component shows the list that was written there
@@ -144,7 +148,6 @@ pub insert_committed : (classes : Classes) (old mid new : Shown) (e : Edit) (nod
     ComesTo node part index root mid.slab new.slab → ((k : ℕ) → leaves_in new.slab k ≡ leaves_in mid.slab k) → new.root ≡ mid.root → new.waiting ≡ None → new.leaving ≡ None → IsCommitted old e new
 insert_committed classes old mid new e node part index root p comes marks same_root waiting leaving =
     let memory = memory_of mid.slab in
-    let later = memory_of new.slab in
     let s = numbers old in
     let d = p.does in
     let w = d.brings in
@@ -156,7 +159,9 @@ insert_committed classes old mid new e node part index root p comes marks same_r
     let kids_are : kids ≡ insert (map class_of (from_trees d.elements)) index (class_of w) = ap (insert (map class_of (from_trees d.elements)) index) (sym d.root) in
     let bound : index ≤ length (map class_of (from_trees d.elements)) = (let few = d.bound in let long = map_length class_of (from_trees d.elements) in omega (arith, few, long)) in
     let room : HasRoom mid.slab node part = room_there mid.slab s u d.place node part d.found d.number (subst (IsRoomFor mid.slab s) d.is p.room) in
-    let changes : IsPlacedIn node part index root (Kids List_of kids) memory later = comes List_of elements (cell_there memory s u d.place node part (Many d.elements) h.stored d.found d.number d.here) bound room in
+    let later : ℕ → Option Info = come_to node part index root (Kids List_of kids) memory in
+    let alike : AreAlike later (stored_of new.slab) = comes memory List_of elements (arranged_is (stored_of mid.slab)) (cell_there memory s u d.place node part (Many d.elements) h.stored d.found d.number d.here) bound room in
+    let changes : IsPlacedIn node part index root (Kids List_of kids) memory later = λ k. refl in
     let moved : IsPlacedIn (class_of u) part index (class_of w) (Kids List_of kids) memory later = subst (λ (j : ℕ). IsPlacedIn (class_of u) part index j (Kids List_of kids) memory later) (sym d.root) (subst (λ (j : ℕ). IsPlacedIn j part index root (Kids List_of kids) memory later) (sym d.number) changes) in
     let shown : kids_in (placed_in (class_of u) part (class_of w) (Kids List_of kids) memory (class_of u)) part ≡ kids = kids_there memory s u d.place part (class_of w) _ List_of kids h.stored d.found d.here in
     let written : (k : ℕ) → later k ≡ renumbered (drop (suc index) kids) (suc index) k (placed (class_of w) (Some (class_of u, part), index) k (rewritten (class_of u) part (Kids List_of kids) k (memory k))) =
@@ -165,10 +170,12 @@ insert_committed classes old mid new e node part index root p comes marks same_r
     let shallow : IsShallow 512 (left_by s (edit.Insert d.place part index w)) = subst (λ (x : Edit). IsShallow 512 (left_by s x)) d.is (shallow_left classes old mid new e Does p) in
     let done : Keeps later (left_by s (edit.Insert d.place part index w)) None = inserted memory later s w u h d.place part index d.elements d.found d.here d.bound kids kids_are written shallow in
     let keeps : Keeps later (left_by s p.numbered) None = subst (λ (x : Edit). Keeps later (left_by s x) None) (sym d.is) done in
-    committed classes old mid new e Does p keeps
+    let same : (k : ℕ) → memory_of new.slab k ≡ later k = settled (stored_of new.slab) later (left_by s p.numbered) alike keeps in
+    let now : Keeps (memory_of new.slab) (left_by s p.numbered) None = subst (λ (m : ℕ → Option Info). Keeps m (left_by s p.numbered) None) (λ i k. sym (same k) i) keeps in
+    committed classes old mid new e Does p now
     (ap (λ (x : Edit). class_of (left_by s x)) d.is ∙ root_stays (with_one_more w index) part s d.place ∙ root_was classes old mid new e Does p ∙ sym same_root)
-    (classes_stay memory later (λ k. false) (λ k o. renumbered (drop (suc index) kids) (suc index) k (placed (class_of w) (Some (class_of u, part), index) k (rewritten (class_of u) part (Kids List_of kids) k o)))
-    (class_changed (drop (suc index) kids) (suc index) (class_of w) (Some (class_of u, part), index) (class_of u) part (Kids List_of kids)) written top (left_by s p.numbered) keeps.stored)
+    (classes_stay memory (memory_of new.slab) (λ k. false) (λ k o. renumbered (drop (suc index) kids) (suc index) k (placed (class_of w) (Some (class_of u, part), index) k (rewritten (class_of u) part (Kids List_of kids) k o)))
+    (class_changed (drop (suc index) kids) (suc index) (class_of w) (Some (class_of u, part), index) (class_of u) part (Kids List_of kids)) (λ k. same k ∙ written k) top (left_by s p.numbered) now.stored)
     waiting leaving (unmarked_as classes old mid new e Does p marks (ap (gone s) d.is))
 
 -- a child for an empty optional
@@ -176,7 +183,6 @@ pub put_committed : (classes : Classes) (old mid new : Shown) (e : Edit) (node p
     ComesTo node part 0 root mid.slab new.slab → ((k : ℕ) → leaves_in new.slab k ≡ leaves_in mid.slab k) → new.root ≡ mid.root → new.waiting ≡ None → new.leaving ≡ None → IsCommitted old e new
 put_committed classes old mid new e node part root p comes marks same_root waiting leaving =
     let memory = memory_of mid.slab in
-    let later = memory_of new.slab in
     let s = numbers old in
     let d = p.does in
     let w = d.brings in
@@ -187,7 +193,9 @@ put_committed classes old mid new e node part root p comes marks same_root waiti
     let h : Keeps memory s (Some w) = subst (λ (x : Edit). Keeps memory s (brought x)) d.is p.keeps in
     let kids_are : insert [] 0 root ≡ only = ap (λ j. j ∷ []) (sym d.root) in
     let room : HasRoom mid.slab node part = room_there mid.slab s u d.place node part d.found d.number (subst (IsRoomFor mid.slab s) d.is p.room) in
-    let changes : IsPlacedIn node part 0 root (Kids Optional (insert [] 0 root)) memory later = comes Optional [] (cell_there memory s u d.place node part Empty h.stored d.found d.number d.here) (omega arith) room in
+    let later : ℕ → Option Info = come_to node part 0 root (Kids Optional (insert [] 0 root)) memory in
+    let alike : AreAlike later (stored_of new.slab) = comes memory Optional [] (arranged_is (stored_of mid.slab)) (cell_there memory s u d.place node part Empty h.stored d.found d.number d.here) (omega arith) room in
+    let changes : IsPlacedIn node part 0 root (Kids Optional (insert [] 0 root)) memory later = λ k. refl in
     let listed : IsPlacedIn node part 0 root (Kids Optional only) memory later = subst (λ (ns : List ℕ). IsPlacedIn node part 0 root (Kids Optional ns) memory later) kids_are changes in
     let moved : IsPlacedIn (class_of u) part 0 (class_of w) (Kids Optional only) memory later = subst (λ (j : ℕ). IsPlacedIn (class_of u) part 0 j (Kids Optional only) memory later) (sym d.root) (subst (λ (j : ℕ). IsPlacedIn j part 0 root (Kids Optional only) memory later) (sym d.number) listed) in
     let shown : kids_in (placed_in (class_of u) part (class_of w) (Kids Optional only) memory (class_of u)) part ≡ only = kids_there memory s u d.place part (class_of w) _ Optional only h.stored d.found d.here in
@@ -197,10 +205,12 @@ put_committed classes old mid new e node part root p comes marks same_root waiti
     let shallow : IsShallow 512 (left_by s (edit.Put d.place part w)) = subst (λ (x : Edit). IsShallow 512 (left_by s x)) d.is (shallow_left classes old mid new e Does p) in
     let done : Keeps later (left_by s (edit.Put d.place part w)) None = put_in memory later s w u h d.place part d.found d.here written shallow in
     let keeps : Keeps later (left_by s p.numbered) None = subst (λ (x : Edit). Keeps later (left_by s x) None) (sym d.is) done in
-    committed classes old mid new e Does p keeps
+    let same : (k : ℕ) → memory_of new.slab k ≡ later k = settled (stored_of new.slab) later (left_by s p.numbered) alike keeps in
+    let now : Keeps (memory_of new.slab) (left_by s p.numbered) None = subst (λ (m : ℕ → Option Info). Keeps m (left_by s p.numbered) None) (λ i k. sym (same k) i) keeps in
+    committed classes old mid new e Does p now
     (ap (λ (x : Edit). class_of (left_by s x)) d.is ∙ root_stays (λ c. Filled w) part s d.place ∙ root_was classes old mid new e Does p ∙ sym same_root)
-    (classes_stay memory later (λ k. false) (λ k o. placed (class_of w) (place, 0) k (rewritten (class_of u) part (Kids Optional only) k o))
-    (class_changed [] 0 (class_of w) (place, 0) (class_of u) part (Kids Optional only)) written top (left_by s p.numbered) keeps.stored)
+    (classes_stay memory (memory_of new.slab) (λ k. false) (λ k o. placed (class_of w) (place, 0) k (rewritten (class_of u) part (Kids Optional only) k o))
+    (class_changed [] 0 (class_of w) (place, 0) (class_of u) part (Kids Optional only)) (λ k. same k ∙ written k) top (left_by s p.numbered) now.stored)
     waiting leaving (unmarked_as classes old mid new e Does p marks (ap (gone s) d.is))
 
 -- what waited is given up

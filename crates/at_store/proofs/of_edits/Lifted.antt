@@ -15,9 +15,10 @@ use Rattle.at_model.proofs.of_edits.Untouched.{in_cell as kids}
 use Rattle.at_model.proofs.of_edits.Untouching.{removed-behind}
 use Rattle.at_model.proofs.WithinTree.{tree_at-snoc}
 use Rattle.at_store.specs.Numbers.{path_in}
-use Rattle.at_store.specs.Memory.{AreFewIn, Info, IsLifted, IsPlacedIn, IsShallow, Keeps, Kept, Kids, List_of, Place, Stored, cut_in, index_in, kept, kept_of, kids_in, is_waiting, numbers_in, place_at, placed, placed_in, relinked, renumbered, rewritten, taken_out as gap_closed, top, up_in, with_kept, with_kids, with_numbers, with_place}
+use Rattle.at_store.specs.Memory.{AreFewIn, Info, IsLifted, IsPlacedIn, IsShallow, Keeps, Kept, Kids, List_of, Place, Stored, cut_in, index_in, kept, kept_of, kids_in, is_waiting, numbers_in, place_at, placed, placed_in, relinked, renumbered, rewritten, taken_out as gap_closed, top, up_in, with_kept, with_kids, with_numbers, with_place, AreAlike, come_to}
 use Rattle.at_store.specs.Reserving.{ComesTo, HasRoom, IsRoomFor, KeepsRoom}
-use Rattle.at_store.specs.View.{leaves_in, memory_of}
+use Rattle.at_store.specs.View.{leaves_in, memory_of, stored_of}
+use Rattle.at_store.proofs.Arranged.{settled, stands_once}
 use Rattle.at_store.specs.declared.entry.Entry.{Entry}
 use Rattle.slab.specs.Slab.{Slab}
 use Rattle.at_store.specs.Touching.{gone}
@@ -167,11 +168,10 @@ left_of_move s x place target goes part index there outside =
     ap (λ (o : Option Node). elim o as (λ _. Tree) [ None ↦ s | Some q ↦ put_in (taken_out s place) q part index x ]) outside
 
 pub move_committed : (classes : Classes) (old mid new : Shown) (middle : Slab Entry) (e : Edit) (node to part index : ℕ) → IsPrepared classes old e (DoesMove node to part index) mid →
-    IsLifted node (memory_of mid.slab) (memory_of middle) → KeepsRoom mid.slab middle → ComesTo to part index node middle new.slab → ((k : ℕ) → leaves_in new.slab k ≡ leaves_in mid.slab k) →
+    IsLifted node (memory_of mid.slab) (stored_of middle) → KeepsRoom mid.slab middle → ComesTo to part index node middle new.slab → ((k : ℕ) → leaves_in new.slab k ≡ leaves_in mid.slab k) →
     new.root ≡ mid.root → new.waiting ≡ None → new.leaving ≡ None → IsCommitted old e new
 move_committed classes old mid new middle e node to part index p lifts roomy comes marks same_root waiting leaving =
     let memory = memory_of mid.slab in
-    let later = memory_of new.slab in
     let s = numbers old in
     let d = p.does in
     let x = d.moved in
@@ -179,7 +179,6 @@ move_committed classes old mid new middle e node to part index p lifts roomy com
     let c = d.cell in
     let w = d.taker in
     let Does = DoesMove node to part index in
-    let between = memory_of middle in
     let elements : List ℕ = map class_of (from_trees d.elements) in
     let kids_then : List ℕ = insert elements index node in
     let pu : ℕ = class_of u in
@@ -187,11 +186,10 @@ move_committed classes old mid new middle e node to part index p lifts roomy com
     let left : List ℕ = remove (map class_of (children c)) i in
     let c' : Kept = with_numbers (λ ns. left) (kept c) in
     let h : Keeps memory s None = subst (λ (y : Edit). Keeps memory s (brought y)) d.is p.keeps in
-    let lifts' : IsLifted (class_of x) memory between = subst (λ (j : ℕ). IsLifted j memory between) (sym d.number) lifts in
-    let up_is = up_below memory s u x d.place d.above d.way h.stored d.under d.found d.there in
-    let beside : AreFewIn memory (up_in (memory (class_of x))) = subst (AreFewIn memory) (sym up_is) (few_there old p.was_idle memory h d.above u d.found d.way.0) in
+    let between : ℕ → Option Info = λ k. placed (class_of x) top k (gap_closed (up_in (memory (class_of x))) (index_in (memory (class_of x))) memory k) in
+    let lifts' : AreAlike between (stored_of middle) = subst (λ (j : ℕ). IsLifted j memory (stored_of middle)) (sym d.number) lifts (stands_once memory s h.stored h.apart d.place x (class_of x) d.there refl) in
     let first : (k : ℕ) → between k ≡ placed (class_of x) top k (renumbered (drop i left) i k (rewritten pu d.way.0 c' k (memory k))) =
-    λ k. lifts' beside k ∙ ap (placed (class_of x) top k) (gap_written memory s u x h d.place d.above d.way d.under c d.found d.here d.there k) in
+    λ k. ap (placed (class_of x) top k) (gap_written memory s u x h d.place d.above d.way d.under c d.found d.here d.there k) in
     let s1 : Tree = left_by s (Drop d.place) in
     let cut : s1 ≡ with_node (with_cell (without_child i) d.way.0) s d.above = ap (λ (o : Option (Node × Way)). elim o as (λ _. Tree) [ None ↦ s | Some p ↦ with_node (with_cell (without_child p.1.1) p.1.0) s p.0 ]) d.under in
     let low : IsShallow 512 s1 = subst (IsShallow 512) (sym cut)
@@ -201,7 +199,9 @@ move_committed classes old mid new middle e node to part index p lifts roomy com
     let bound : index ≤ length (map class_of (from_trees d.elements)) = (let few = d.bound in let long = map_length class_of (from_trees d.elements) in omega (arith, few, long)) in
     let (v, stands, number) = number_found s to d.target d.stands in
     let room : HasRoom middle to part = roomy to part (room_there mid.slab s v d.target to part stands number (subst (IsRoomFor mid.slab s) d.is p.room)) in
-    let places : IsPlacedIn to part index node (Kids List_of kids_then) between later = comes List_of elements (cell_there between s1 w d.goes to part (Many d.elements) h1.stored d.takes d.taker_number d.list) bound room in
+    let later : ℕ → Option Info = come_to to part index node (Kids List_of kids_then) between in
+    let alike : AreAlike later (stored_of new.slab) = comes between List_of elements lifts' (cell_there between s1 w d.goes to part (Many d.elements) h1.stored d.takes d.taker_number d.list) bound room in
+    let places : IsPlacedIn to part index node (Kids List_of kids_then) between later = λ k. refl in
     let moved : IsPlacedIn (class_of w) part index (class_of x) (Kids List_of kids_then) between later = subst (λ (j : ℕ). IsPlacedIn (class_of w) part index j (Kids List_of kids_then) between later) (sym d.number) (subst (λ (j : ℕ). IsPlacedIn j part index node (Kids List_of kids_then) between later) (sym d.taker_number) places) in
     let shown : kids_in (placed_in (class_of w) part (class_of x) (Kids List_of kids_then) between (class_of w)) part ≡ kids_then = kids_there between s1 w d.goes part (class_of x) _ List_of kids_then h1.stored d.takes d.list in
     let second : (k : ℕ) → later k ≡ renumbered (drop (suc index) kids_then) (suc index) k (placed (class_of x) (Some (class_of w, part), index) k (rewritten (class_of w) part (Kids List_of kids_then) k (between k))) =
@@ -211,11 +211,13 @@ move_committed classes old mid new middle e node to part index p lifts roomy com
     let shallow : IsShallow 512 (left_by s1 (Insert d.goes part index x)) = subst (IsShallow 512) left_is (shallow_left classes old mid new e Does p) in
     let done : Keeps later (left_by s1 (Insert d.goes part index x)) None = inserted between later s1 x w h1 d.goes part index d.elements d.takes d.list d.bound kids_then kids_are second shallow in
     let keeps : Keeps later (left_by s p.numbered) None = subst (λ (z : Tree). Keeps later z None) (sym left_is) done in
-    committed classes old mid new e Does p keeps
+    let same : (k : ℕ) → memory_of new.slab k ≡ later k = settled (stored_of new.slab) later (left_by s p.numbered) alike keeps in
+    let now : Keeps (memory_of new.slab) (left_by s p.numbered) None = subst (λ (m : ℕ → Option Info). Keeps m (left_by s p.numbered) None) (λ i k. sym (same k) i) keeps in
+    committed classes old mid new e Does p now
     (ap class_of left_is ∙ root_stays (with_one_more x index) part s1 d.goes ∙ ap class_of cut ∙ root_stays (without_child i) d.way.0 s d.above ∙ root_was classes old mid new e Does p ∙ sym same_root)
-    (classes_stay memory later (λ k. false)
+    (classes_stay memory (memory_of new.slab) (λ k. false)
     (λ k o. renumbered (drop (suc index) kids_then) (suc index) k (placed (class_of x) (Some (class_of w, part), index) k (rewritten (class_of w) part (Kids List_of kids_then) k (placed (class_of x) top k (renumbered (drop i left) i k (rewritten pu d.way.0 c' k o))))))
     (λ k o. class_changed (drop (suc index) kids_then) (suc index) (class_of x) (Some (class_of w, part), index) (class_of w) part (Kids List_of kids_then) k _ ∙ class_placed (class_of x) top k _ ∙ class_renumbered (drop i left) i k _ ∙ class_rewritten pu d.way.0 c' k o)
-    (λ k. second k ∙ ap (λ o. renumbered (drop (suc index) kids_then) (suc index) k (placed (class_of x) (Some (class_of w, part), index) k (rewritten (class_of w) part (Kids List_of kids_then) k o))) (first k))
-    top (left_by s p.numbered) keeps.stored)
+    (λ k. same k ∙ second k ∙ ap (λ o. renumbered (drop (suc index) kids_then) (suc index) k (placed (class_of x) (Some (class_of w, part), index) k (rewritten (class_of w) part (Kids List_of kids_then) k o))) (first k))
+    top (left_by s p.numbered) now.stored)
     waiting leaving (unmarked_as classes old mid new e Does p marks (ap (gone s) d.is))

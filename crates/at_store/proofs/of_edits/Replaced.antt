@@ -13,8 +13,9 @@ use Rattle.at_model.proofs.Options.{led}
 use Rattle.at_model.proofs.of_edits.Surviving.{parent_is}
 use Rattle.at_model.proofs.of_edits.Untouched.{tree_at-append, in_cell as kids}
 use Rattle.at_store.specs.Numbers.{path_in}
-use Rattle.at_store.specs.Memory.{Info, IsFreed, IsReplaced, IsShallow, Keeps, Kept, Place, index_in, kept, kept_of, place_at, placed, relinked, replaced, rewritten, top, up_in, with_kept, with_kids, with_numbers, with_place}
-use Rattle.at_store.specs.View.{IsUnmarked, MarksNoMore, memory_of}
+use Rattle.at_store.specs.Memory.{Info, IsFreed, IsReplaced, IsShallow, Keeps, Kept, Place, index_in, kept, kept_of, place_at, placed, relinked, replaced, rewritten, top, up_in, with_kept, with_kids, with_numbers, with_place, AreAlike}
+use Rattle.at_store.specs.View.{IsUnmarked, MarksNoMore, memory_of, stored_of}
+use Rattle.at_store.proofs.Arranged.{settled, stands_once}
 use Rattle.at_store.specs.Touching.{gone}
 use Rattle.at_store.specs.Shown.{Shown, numbers}
 use Rattle.at_store.specs.Preparing.{DoesSet, IsCommitted, IsPrepared, brought, stands_in}
@@ -58,12 +59,15 @@ gone_first n part root place f k o q true e = by_tests (nat_eq k n) (nat_eq k ro
 module _ (classes : Classes) (old mid new : Shown) (e : Edit) (node root : ℕ) (p : IsPrepared classes old e (DoesSet node root) mid)
     (same_root : new.root ≡ cond (nat_eq node mid.root) root mid.root) (waiting : new.waiting ≡ None) (leaving : new.leaving ≡ None)
     (fewer : MarksNoMore mid.slab new.slab) (freed : ℕ → Option Info) (free : IsFreed node (memory_of mid.slab) freed)
-    (changes : (k : ℕ) → memory_of new.slab k ≡ replaced (up_in (memory_of mid.slab node)) (index_in (memory_of mid.slab node)) root freed k) where
+    (alike : AreAlike (replaced (up_in (memory_of mid.slab node)) (index_in (memory_of mid.slab node)) root freed) (stored_of new.slab)) where
   abbrev memory : ℕ → Option Info
   memory = memory_of mid.slab
 
   abbrev later : ℕ → Option Info
-  later = memory_of new.slab
+  later = replaced (up_in (memory_of mid.slab node)) (index_in (memory_of mid.slab node)) root freed
+
+  changes : (k : ℕ) → later k ≡ replaced (up_in (memory_of mid.slab node)) (index_in (memory_of mid.slab node)) root freed k
+  changes k = refl
 
   abbrev s : Tree
   s = numbers old
@@ -77,7 +81,7 @@ module _ (classes : Classes) (old mid new : Shown) (e : Edit) (node root : ℕ) 
   abbrev x : Tree
   x = p.does.gone
 
-  unmarked : ((k : ℕ) → is_some (path_in k x) ≡ true → later k ≡ None) → IsUnmarked new.slab
+  unmarked : ((k : ℕ) → is_some (path_in k x) ≡ true → memory_of new.slab k ≡ None) → IsUnmarked new.slab
   unmarked = gone_unmarked mid.slab new.slab x fewer (λ k. p.marks k ∙ ap (λ y. stands_in k (gone s y)) p.does.is ∙ ap (stands_in k) p.does.there)
 
   kept_before : Keeps memory s (Some w)
@@ -124,9 +128,11 @@ module _ (classes : Classes) (old mid new : Shown) (e : Edit) (node root : ℕ) 
     root_committed =
         let left_is : left_by s p.numbered ≡ w = ap (left_by s) p.does.is ∙ left_root in
         let keeps : Keeps later (left_by s p.numbered) None = subst (λ (t : Tree). Keeps later t None) (sym left_is) done_root in
-        committed classes old mid new e (DoesSet node root) p keeps (ap class_of left_is ∙ root_is)
-        (classes_stay memory later (λ k. is_some (path_in k x)) (λ k o. o) (λ k o. refl) written_root top (left_by s p.numbered) keeps.stored)
-        waiting leaving (unmarked (λ k here. written_root k ∙ ap (λ b. cond b None (memory k)) here))
+        let same : (k : ℕ) → memory_of new.slab k ≡ later k = settled (stored_of new.slab) later (left_by s p.numbered) alike keeps in
+        let settles : Keeps (memory_of new.slab) (left_by s p.numbered) None = subst (λ (m : ℕ → Option Info). Keeps m (left_by s p.numbered) None) (λ i k. sym (same k) i) keeps in
+        committed classes old mid new e (DoesSet node root) p settles (ap class_of left_is ∙ root_is)
+        (classes_stay memory (memory_of new.slab) (λ k. is_some (path_in k x)) (λ k o. o) (λ k o. refl) (λ k. same k ∙ written_root k) top (left_by s p.numbered) settles.stored)
+        waiting leaving (unmarked (λ k here. same k ∙ written_root k ∙ ap (λ b. cond b None (memory k)) here))
 
   -- in the place of a node that is no root
   module _ (above : Node) (way : Way) (under : parent_of place ≡ Some (above, way)) where
@@ -180,15 +186,23 @@ module _ (classes : Classes) (old mid new : Shown) (e : Edit) (node root : ℕ) 
     pub below_committed : IsCommitted old e new
     below_committed =
         let keeps : Keeps later (left_by s p.numbered) None = subst (λ (y : Edit). Keeps later (left_by s y) None) (sym p.does.is) done in
-        committed classes old mid new e (DoesSet node root) p keeps
+        let same : (k : ℕ) → memory_of new.slab k ≡ later k = settled (stored_of new.slab) later (left_by s p.numbered) alike keeps in
+        let settles : Keeps (memory_of new.slab) (left_by s p.numbered) None = subst (λ (m : ℕ → Option Info). Keeps m (left_by s p.numbered) None) (λ i k. sym (same k) i) keeps in
+        committed classes old mid new e (DoesSet node root) p settles
         (ap (λ (y : Edit). class_of (left_by s y)) p.does.is ∙ ap class_of (set_in_parent [] w place (above, way) under s) ∙ root_stays (with_child (λ u. w) way.1) way.0 s above ∙ root_remains)
-        (classes_stay memory later (λ k. is_some (path_in k x)) (λ k o. placed (class_of w) spot k (rewritten (class_of u) way.0 now k o)) (λ k o. class_placed (class_of w) spot k (rewritten (class_of u) way.0 now k o) ∙ class_rewritten (class_of u) way.0 now k o) written top (left_by s p.numbered) keeps.stored)
-        waiting leaving (unmarked (λ k here. written k ∙ ap (λ b. cond b None (placed (class_of w) spot k (rewritten (class_of u) way.0 now k (memory k)))) here))
+        (classes_stay memory (memory_of new.slab) (λ k. is_some (path_in k x)) (λ k o. placed (class_of w) spot k (rewritten (class_of u) way.0 now k o)) (λ k o. class_placed (class_of w) spot k (rewritten (class_of u) way.0 now k o) ∙ class_rewritten (class_of u) way.0 now k o) (λ k. same k ∙ written k) top (left_by s p.numbered) settles.stored)
+        waiting leaving (unmarked (λ k here. same k ∙ written k ∙ ap (λ b. cond b None (placed (class_of w) spot k (rewritten (class_of u) way.0 now k (memory k)))) here))
 
 pub set_committed : (classes : Classes) (old mid new : Shown) (e : Edit) (node root : ℕ) → IsPrepared classes old e (DoesSet node root) mid →
-    IsReplaced node root (memory_of mid.slab) (memory_of new.slab) → MarksNoMore mid.slab new.slab → new.root ≡ cond (nat_eq node mid.root) root mid.root → new.waiting ≡ None → new.leaving ≡ None → IsCommitted old e new
-set_committed classes old mid new e node root p (freed, free, changes) fewer same_root waiting leaving = by_parent (parent_of p.does.place) refl
+    IsReplaced node root (memory_of mid.slab) (stored_of new.slab) → MarksNoMore mid.slab new.slab → new.root ≡ cond (nat_eq node mid.root) root mid.root → new.waiting ≡ None → new.leaving ≡ None → IsCommitted old e new
+set_committed classes old mid new e node root p replaces fewer same_root waiting leaving = by_parent (parent_of p.does.place) refl
   where
+    h : Keeps (memory_of mid.slab) (numbers old) (Some p.does.brings)
+    h = subst (λ (y : Edit). Keeps (memory_of mid.slab) (numbers old) (brought y)) p.does.is p.keeps
+
+    after : (freed : ℕ → Option Info) × (IsFreed node (memory_of mid.slab) freed) × AreAlike (replaced (up_in (memory_of mid.slab node)) (index_in (memory_of mid.slab node)) root freed) (stored_of new.slab)
+    after = replaces (stands_once (memory_of mid.slab) (numbers old) h.stored h.apart p.does.place p.does.gone node p.does.there p.does.number)
+
     by_parent : (o : Option (Node × Way)) → parent_of p.does.place ≡ o → IsCommitted old e new
-    by_parent None is = root_committed classes old mid new e node root p same_root waiting leaving fewer freed free changes is
-    by_parent (Some (above, way)) is = below_committed classes old mid new e node root p same_root waiting leaving fewer freed free changes above way is
+    by_parent None is = root_committed classes old mid new e node root p same_root waiting leaving fewer after.0 after.1 after.2 is
+    by_parent (Some (above, way)) is = below_committed classes old mid new e node root p same_root waiting leaving fewer after.0 after.1 after.2 above way is

@@ -9,7 +9,7 @@ use Rattle.slab.proofs.SlabLemmas.{Updates-with_value}
 use Rattle.at_model.specs.Edits.{changed_at}
 use Rattle.at_store.specs.Memory.{Form, Info, Kept, Kids, cell_in, kids_in, numbers_in, relinked, rewritten, with_kept, with_kids, with_numbers}
 use Rattle.at_store.specs.Reserving.{HasRoom, HasSpace, KeepsRoom, slots_of}
-use Rattle.at_store.specs.View.{info_of, kept_view, memory_of, up_view}
+use Rattle.at_store.specs.View.{info_of, kept_view, stored_of, up_view}
 use Rattle.at_store.specs.declared.entry.Entry.{Entry}
 use Rattle.at_store.specs.declared.entry.Slot.{Slot}
 use Rattle.at_store.proofs.of_edits.Taken.{one_changed}
@@ -57,7 +57,7 @@ done (Err e) ok h = absurd cc
 -- an entry whose components are written
 module _ (s : Slab Entry) (node : ℕ) (a : Entry) (cells : Vec Slot Global) (there : Some a ≡ get s node) where
   abbrev pub new_entry : Entry
-  new_entry = record { class = a.class; up = a.up; index = a.index; leaves = a.leaves; cells = cells }
+  new_entry = record { class = a.class; up = a.up; number = a.number; leaves = a.leaves; cells = cells }
 
   abbrev later : Slab Entry
   later = with_value s node new_entry
@@ -77,24 +77,24 @@ module _ (s : Slab Entry) (node : ℕ) (a : Entry) (cells : Vec Slot Global) (th
     | inr e ↦ subst (λ (o : Option Entry). HasSpace (slice_get (slots_of o) p)) (sym (updates.others k e)) h
   ]
 
-  pub kids_were : (p : ℕ) → numbers_in (slice_get (map kept_view a.cells.items) p) ≡ kids_in (memory_of s node) p
+  pub kids_were : (p : ℕ) → numbers_in (slice_get (map kept_view a.cells.items) p) ≡ kids_in (stored_of s node) p
   kids_were p = ap (λ o. kids_in (info_of o) p) there
 
-  pub relinked_later : (g : List ℕ → List ℕ) (part : ℕ) → map kept_view cells.items ≡ changed_at (with_numbers g) (map kept_view a.cells.items) part → (k : ℕ) → memory_of later k ≡ relinked node part g k (memory_of s k)
+  pub relinked_later : (g : List ℕ → List ℕ) (part : ℕ) → map kept_view cells.items ≡ changed_at (with_numbers g) (map kept_view a.cells.items) part → (k : ℕ) → stored_of later k ≡ relinked node part g k (stored_of s k)
   relinked_later g part written k = elim (cases_eq k node) [
-    | inl e ↦ subst (λ (j : ℕ). memory_of later j ≡ relinked node part g j (memory_of s j)) (sym e) at_node
-    | inr e ↦ ap info_of (updates.others k e) ∙ sym (ap (λ b. cond b (with_kids part g (memory_of s k)) (memory_of s k)) (ne_eqb k node e))
+    | inl e ↦ subst (λ (j : ℕ). stored_of later j ≡ relinked node part g j (stored_of s j)) (sym e) at_node
+    | inr e ↦ ap info_of (updates.others k e) ∙ sym (ap (λ b. cond b (with_kids part g (stored_of s k)) (stored_of s k)) (ne_eqb k node e))
   ]
     where
-      at_node : memory_of later node ≡ relinked node part g node (memory_of s node)
-      at_node = ap info_of updates.changed ∙ ap (λ (cs : List Kept). let i : Info = record { class = a.class; up = up_view a.up; index = a.index; cells = cs } in Some i) written ∙
-          ap (λ o. with_kids part g (info_of o)) there ∙ sym (ap (λ b. cond b (with_kids part g (memory_of s node)) (memory_of s node)) (eq-eqb node node refl))
+      at_node : stored_of later node ≡ relinked node part g node (stored_of s node)
+      at_node = ap info_of updates.changed ∙ ap (λ (cs : List Kept). let i : Info = record { class = a.class; up = up_view a.up; index = a.number; cells = cs } in Some i) written ∙
+          ap (λ o. with_kids part g (info_of o)) there ∙ sym (ap (λ b. cond b (with_kids part g (stored_of s node)) (stored_of s node)) (eq-eqb node node refl))
 
 -- where no node is nothing is written
-pub relinked_nowhere : (s : Slab Entry) (node : ℕ) → None ≡ get s node → (g : List ℕ → List ℕ) (part k : ℕ) → memory_of s k ≡ relinked node part g k (memory_of s k)
+pub relinked_nowhere : (s : Slab Entry) (node : ℕ) → None ≡ get s node → (g : List ℕ → List ℕ) (part k : ℕ) → stored_of s k ≡ relinked node part g k (stored_of s k)
 relinked_nowhere s node none g part k = elim (cases_eq k node) [
-  | inl e ↦ subst (λ (j : ℕ). memory_of s j ≡ relinked node part g j (memory_of s j)) (sym e) (subst (λ (o : Option Info). o ≡ cond (nat_eq node node) (with_kids part g o) o) (ap info_of none) (either (nat_eq node node)))
-  | inr e ↦ sym (ap (λ b. cond b (with_kids part g (memory_of s k)) (memory_of s k)) (ne_eqb k node e))
+  | inl e ↦ subst (λ (j : ℕ). stored_of s j ≡ relinked node part g j (stored_of s j)) (sym e) (subst (λ (o : Option Info). o ≡ cond (nat_eq node node) (with_kids part g o) o) (ap info_of none) (either (nat_eq node node)))
+  | inr e ↦ sym (ap (λ b. cond b (with_kids part g (stored_of s k)) (stored_of s k)) (ne_eqb k node e))
 ]
   where
     either : (b : Bool) → None ≡ cond b (with_kids part g None) None

@@ -10,7 +10,8 @@ use Rattle.at_model.specs.Edits as edit
 use Rattle.at_model.specs.Paths.{Node, tree_at}
 use Rattle.at_store.specs.Numbers.{path_in}
 use Rattle.at_store.specs.Memory.{AreFew, AreFewIn, Info, IsFreed, IsShallow, IsTakenAway, Keeps, Kept, Place, place_at, cut_in, index_in, kept, kept_of, kids_in, numbers_in, relinked, renumbered, rewritten, taken_out, top, up_in, with_kept, with_kids, with_index, with_numbers}
-use Rattle.at_store.specs.View.{MarksNoMore, memory_of}
+use Rattle.at_store.specs.View.{MarksNoMore, memory_of, stored_of}
+use Rattle.at_store.proofs.Arranged.{settled, stands_once}
 use Rattle.at_store.specs.Touching.{gone}
 use Rattle.at_store.specs.Shown.{IsIdle, Shown, numbers}
 use Rattle.at_store.specs.Preparing.{DoesDrop, IsCommitted, IsPrepared, brought, stands_in}
@@ -67,10 +68,9 @@ pub few_there : (old : Shown) → IsIdle old → (memory : ℕ → Option Info) 
 few_there old h memory keeps n u is part = let few = few_kept old h memory keeps n u is part in omega (arith, few)
 
 pub drop_committed : (classes : Classes) (old mid new : Shown) (e : Edit) (node : ℕ) → IsPrepared classes old e (DoesDrop node) mid →
-    IsTakenAway node (memory_of mid.slab) (memory_of new.slab) → MarksNoMore mid.slab new.slab → new.root ≡ mid.root → new.waiting ≡ None → new.leaving ≡ None → IsCommitted old e new
-drop_committed classes old mid new e node p (freed, free, changes) fewer same_root waiting leaving =
+    IsTakenAway node (memory_of mid.slab) (stored_of new.slab) → MarksNoMore mid.slab new.slab → new.root ≡ mid.root → new.waiting ≡ None → new.leaving ≡ None → IsCommitted old e new
+drop_committed classes old mid new e node p takes fewer same_root waiting leaving =
     let memory = memory_of mid.slab in
-    let later = memory_of new.slab in
     let s = numbers old in
     let d = p.does in
     let x = d.gone in
@@ -82,6 +82,8 @@ drop_committed classes old mid new e node p (freed, free, changes) fewer same_ro
     let f : List ℕ → List ℕ = λ ns. remove ns i in
     let left : List ℕ = remove (map class_of (children c)) i in
     let h : Keeps memory s None = subst (λ (y : Edit). Keeps memory s (brought y)) d.is p.keeps in
+    let (freed, free, alike) = takes (stands_once memory s h.stored h.apart d.place x node d.there d.number) in
+    let later : ℕ → Option Info = taken_out (up_in (memory node)) (index_in (memory node)) freed in
     let frees : (k : ℕ) → freed k ≡ cond (is_some (path_in k x)) None (memory k) = freed_below memory freed top s d.place x h.stored h.apart d.there (subst (λ (j : ℕ). IsFreed j memory freed) (sym d.number) free) in
     let stands = place_below s u d.place d.above d.way d.under d.found in
     let own = (h.stored d.place x d.there).is in
@@ -100,15 +102,16 @@ drop_committed classes old mid new e node p (freed, free, changes) fewer same_ro
       | inl e ↦ subst (λ (j : ℕ). relinked pu part f j (memory j) ≡ rewritten pu part c' j (memory j)) (sym e) (ap (λ o. cond (nat_eq pu pu) o (memory pu)) at_parent)
       | inr e ↦ ap (λ b. cond b (with_kids part f (memory k)) (memory k)) (ne_eqb k pu e) ∙ sym (ap (λ b. cond b (with_kept part c' (memory k)) (memory k)) (ne_eqb k pu e))
     ] in
-    let few : AreFewIn freed (up_in (memory node)) = subst (AreFewIn freed) (sym up_is) (subst (λ (o : Option Info). AreFew (kids_in o part)) (sym parent) (few_there old p.was_idle memory h d.above u d.found part)) in
     let written : (k : ℕ) → later k ≡ cond (is_some (path_in k x)) None (renumbered (drop i left) i k (rewritten pu part c' k (memory k))) =
-    λ k. changes few k ∙ (λ j. taken_out (up_is j) (index_is j) freed k) ∙ ap (λ ns. renumbered (drop i ns) i k (cut_in pu part i freed k)) cut ∙
+    λ k. (λ j. taken_out (up_is j) (index_is j) freed k) ∙ ap (λ ns. renumbered (drop i ns) i k (cut_in pu part i freed k)) cut ∙
     ap (λ o. renumbered (drop i left) i k (relinked pu part f k o)) (frees k) ∙ by_gone (drop i left) i pu part f k (memory k) _ (is_some (path_in k x)) (same k) in
     let shallow : IsShallow 512 (left_by s (edit.Drop d.place)) = subst (λ (y : Edit). IsShallow 512 (left_by s y)) d.is (shallow_left classes old mid new e (DoesDrop node) p) in
     let done : Keeps later (left_by s (edit.Drop d.place)) None = dropped memory later s u x h d.place d.above d.way d.under c d.found d.here d.there d.loose left refl written shallow in
     let keeps : Keeps later (left_by s p.numbered) None = subst (λ (y : Edit). Keeps later (left_by s y) None) (sym d.is) done in
-    committed classes old mid new e (DoesDrop node) p keeps
+    let same : (k : ℕ) → memory_of new.slab k ≡ later k = settled (stored_of new.slab) later (left_by s p.numbered) alike keeps in
+    let now : Keeps (memory_of new.slab) (left_by s p.numbered) None = subst (λ (m : ℕ → Option Info). Keeps m (left_by s p.numbered) None) (λ i k. sym (same k) i) keeps in
+    committed classes old mid new e (DoesDrop node) p now
     (ap (λ (y : Edit). class_of (left_by s y)) d.is ∙ ap (λ (o : Option (Node × (ℕ × ℕ))). class_of (elim o [ None ↦ s | Some p ↦ with_node (with_cell (without_child p.1.1) p.1.0) s p.0 ])) d.under ∙ root_stays (without_child i) part s d.above ∙ root_was classes old mid new e (DoesDrop node) p ∙ sym same_root)
-    (classes_stay memory later (λ k. is_some (path_in k x)) (λ k o. renumbered (drop i left) i k (rewritten pu part c' k o)) (λ k o. class_renumbered (drop i left) i k (rewritten pu part c' k o) ∙ class_rewritten pu part c' k o) written top (left_by s p.numbered) keeps.stored)
+    (classes_stay memory (memory_of new.slab) (λ k. is_some (path_in k x)) (λ k o. renumbered (drop i left) i k (rewritten pu part c' k o)) (λ k o. class_renumbered (drop i left) i k (rewritten pu part c' k o) ∙ class_rewritten pu part c' k o) (λ k. same k ∙ written k) top (left_by s p.numbered) now.stored)
     waiting leaving
-    (gone_unmarked mid.slab new.slab x fewer (λ k. p.marks k ∙ ap (λ y. stands_in k (gone s y)) d.is ∙ ap (stands_in k) d.there) (λ k here. written k ∙ ap (λ b. cond b None (renumbered (drop i left) i k (rewritten pu part c' k (memory k)))) here))
+    (gone_unmarked mid.slab new.slab x fewer (λ k. p.marks k ∙ ap (λ y. stands_in k (gone s y)) d.is ∙ ap (stands_in k) d.there) (λ k here. same k ∙ written k ∙ ap (λ b. cond b None (renumbered (drop i left) i k (rewritten pu part c' k (memory k)))) here))

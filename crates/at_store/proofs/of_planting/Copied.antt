@@ -1,8 +1,15 @@
 -- The copy of the tree below a number, level by level.
-use Rattle.std.proofs.Common.{◌≡◌, ℕ, zero, suc, ◌-◌, ◌<◌, [], ◌∷◌, List, Option, Some, None, refl, ap, ◌∙◌, arith}
+use Rattle.std.proofs.Common.{◌≡◌, ℕ, zero, suc, ◌+◌, ◌-◌, ◌<◌, [], ◌∷◌, ◌++◌, List, Option, Some, None, length, take, get_or, refl, sym, ap, ◌∙◌, arith, add-one}
+use Rattle.std.proofs.Math.Seq.{take-suc}
+use Rattle.std.proofs.lemmas.List.{map-append}
 use Rattle.std.specs.Prelude.{map}
 use Rattle.std.specs.List.{slice_get}
-use Rattle.at_model.specs.Trees.{Tree, Node as branch, no_cells, cell, Many, Filled, tree, to_cells, to_trees}
+use Rattle.at_model.specs.Trees.{Tree, Cell, Node as branch, no_cells, cell, Many, One, Filled, tree, to_cells, to_trees}
+use Rattle.at_tree.specs.TreeView.{see_tree, see_cell, tree_view, cell_view}
+use Rattle.at_tree.specs.declared.tree.Tree.{Tree as TreeValue}
+use Rattle.at_tree.specs.declared.tree.Cell.TheOpen.{Cell-F}
+use Rattle.at_tree.specs.declared.tree.Cell.TheVariants as value
+use Rattle.at_tree.specs.declared.tree.Cell.TheFolds.{fold-roll-Cell}
 use Rattle.at_store.specs.Numbers.{relabel, relabel_cells, relabel_cell, relabel_trees}
 use Rattle.at_store.specs.Memory.{Info, Kept, Kids, Token_of, Plain, List_of, Optional, cells_in, class_in}
 use Rattle.at_store.specs.Grown.{grown, grown_cell, grown_node, shown_below}
@@ -44,3 +51,19 @@ module _ (memory : ℕ → Option Info) where
 pub filled_first : (deeper : ℕ → Tree) (ks : List ℕ) (k : ℕ) → slice_get ks 0 ≡ Some k → grown_cell deeper (Kids Optional ks) ≡ Filled (deeper k)
 filled_first deeper [] k e = absurd cc
 filled_first deeper (j ∷ ks) k e = let same : j ≡ k = cc in ap (λ x. Filled (deeper x)) same
+
+pub one_first : (deeper : ℕ → Tree) (ks : List ℕ) (k : ℕ) → slice_get ks 0 ≡ Some k → grown_cell deeper (Kids Plain ks) ≡ One (deeper k)
+one_first deeper [] k e = absurd cc
+one_first deeper (j ∷ ks) k e = let same : j ≡ k = cc in ap (λ x. One (deeper x)) same
+
+pub made_one : (u : TreeValue) → cell_view (value.One u) ≡ One (tree_view u)
+made_one u = ap cell_view (sym (value.rolls-One u)) ∙ fold-roll-Cell Cell Tree see_cell see_tree (Cell-F.One u)
+
+-- one tree more
+pub copied_on : (deeper : ℕ → Tree) (old new : List TreeValue) (t : TreeValue) (ks : List ℕ) (i k : ℕ) → i < length ks →
+    k ≡ get_or ks i k → new ≡ old ++ t ∷ [] → map tree_view old ≡ map deeper (take i ks) → tree_view t ≡ deeper k →
+    map tree_view new ≡ map deeper (take (i + 1) ks)
+copied_on deeper old new t ks i k less is grew before same =
+    let e : take (i + 1) ks ≡ take i ks ++ k ∷ [] = rw (add-one, take-suc ks i k less, ← is) refl in
+    ap (map tree_view) grew ∙ map-append tree_view old (t ∷ []) ∙ ap (λ x. x ++ tree_view t ∷ []) before ∙
+    ap (λ x. map deeper (take i ks) ++ x ∷ []) same ∙ sym (map-append deeper (take i ks) (k ∷ [])) ∙ ap (map deeper) (sym e)

@@ -4,12 +4,12 @@ use Rattle.std.proofs.lemmas.Bool.Decides.{nat_tests}
 use Rattle.at_model.specs.Trees.{Tree, class_of, nodes, depth}
 use Rattle.at_model.specs.Edits.{is_within_limits, tokens_short}
 use Rattle.at_store.specs.Numbers.{path_in, relabel}
-use Rattle.at_store.specs.Memory.{Info, top, Keeps, class_in}
+use Rattle.at_store.specs.Memory.{Info, top, Keeps, class_in, place_in, reindexed}
 use Rattle.at_store.specs.Planting.{IsPlanted}
 use Rattle.at_store.specs.Shown.{Shown, IsIdle, numbers, tree}
 use Rattle.slab.specs.Slab.{Slab}
 use Rattle.at_store.specs.declared.entry.Entry.{Entry}
-use Rattle.at_store.specs.View.{IsUnmarked, info_of, marked, memory_of}
+use Rattle.at_store.specs.View.{IsUnmarked, info_of, marked, memory_of, stored_of}
 use Rattle.at_store.specs.Waiting.{IsBrought}
 use Rattle.at_store.proofs.Classes.{shallow_numbers}
 use Rattle.at_store.proofs.of_planting.Planted.{planted_waits}
@@ -76,7 +76,7 @@ none_there zero d = refl
 none_there (suc k) d = refl
 
 pub empty_memory : (s : Slab Entry) → s.slots ≡ [] → (k : ℕ) → memory_of s k ≡ None
-empty_memory s e k = ap (λ xs. info_of (get_or xs k None)) e ∙ ap info_of (none_there k None)
+empty_memory s e k = ap (λ xs. reindexed (place_in (stored_of s)) k (info_of (get_or xs k None))) e ∙ ap (λ o. reindexed (place_in (stored_of s)) k (info_of o)) (none_there k None)
 
 pub empty_unmarked : (s : Slab Entry) → s.slots ≡ [] → IsUnmarked s
 empty_unmarked s e k = ap (λ xs. marked (get_or xs k None)) e ∙ ap marked (none_there k None)

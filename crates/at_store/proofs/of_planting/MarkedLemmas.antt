@@ -8,8 +8,8 @@ use Rattle.at_model.specs.Paths.{Node, cell_at, children_at, tree_at}
 use Rattle.at_model.proofs.of_edits.Moving.{Way}
 use Rattle.at_model.proofs.Options.{led}
 use Rattle.at_store.specs.Numbers.{IsApart, path_in}
-use Rattle.at_store.specs.Memory.{Info, IsShallow, IsSpreadTo, Place, Stored, cells_in, kept, kept_of, kids_in, numbers_in, top}
-use Rattle.at_store.specs.View.{IsUnmarked, MarksNoMore, info_of, leaves_in, marked, memory_of, remarked, with_mark}
+use Rattle.at_store.specs.Memory.{Info, IsShallow, IsSpreadTo, Place, Stored, cells_in, kept, kept_of, kids_in, numbers_in, top, place_in, reindexed}
+use Rattle.at_store.specs.View.{IsUnmarked, MarksNoMore, info_of, leaves_in, marked, memory_of, remarked, with_mark, stored_of}
 use Rattle.at_store.specs.Marking.{AreMarkedBelow}
 use Rattle.at_store.specs.declared.entry.Entry.{Entry}
 use Rattle.at_store.proofs.of_planting.Composed.{child_stored}
@@ -28,7 +28,7 @@ pub root_marked : (before later : Slab Entry) (node : ℕ) (b : Bool) → ((k : 
 root_marked before later node b written place x same stored =
     spread_root b (leaves_in before) (leaves_in later) x (λ k. written k ∙ ap (λ n. remarked n b k (get before k)) (sym same) ∙ by_node k)
   where
-    there : (o : Option Entry) (i : Info) → info_of o ≡ Some i → with_mark b o ≡ b
+    there : (o : Option Entry) (i : Info) → reindexed (place_in (stored_of before)) (class_of x) (info_of o) ≡ Some i → with_mark b o ≡ b
     there None i e = absurd cc
     there (Some e) i is = refl
 
@@ -112,7 +112,7 @@ unmarked_below before later s n x stored apart shallow is all marks k =
 pub gone_unmarked : (before later : Slab Entry) (x : Tree) → MarksNoMore before later → ((k : ℕ) → leaves_in before k ≡ is_some (path_in k x)) → ((k : ℕ) → is_some (path_in k x) ≡ true → memory_of later k ≡ None) → IsUnmarked later
 gone_unmarked before later x fewer marks freed k = by_mark (leaves_in later k) refl
   where
-    none_marked : (o : Option Entry) → info_of o ≡ None → marked o ≡ false
+    none_marked : (o : Option Entry) → reindexed (place_in (stored_of later)) k (info_of o) ≡ None → marked o ≡ false
     none_marked None e = refl
     none_marked (Some entry) e = absurd cc
 

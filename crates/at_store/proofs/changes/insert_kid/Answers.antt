@@ -3,7 +3,7 @@ use Rattle.std.specs.List.{insert}
 use Rattle.slab.specs.Slab.{with_value}
 use Rattle.at_store.specs.Memory.{kids_in, relinked}
 use Rattle.at_store.specs.Reserving.{HasRoom}
-use Rattle.at_store.specs.View.{memory_of}
+use Rattle.at_store.specs.View.{stored_of}
 use Rattle.at_store.proofs.of_edits.Reserved.{kids_were, new_entry, relinked_later, relinked_nowhere, room_was}
 use Rattle.at_store.proofs.changes.insert_kid.Goals as goal
 
@@ -16,13 +16,13 @@ returns-in-Some-clause-written c room within =
     let there = c.in-Some.ensures.value in
     let cells = c.insert_in_cells.new.cells in
     let room' : HasRoom s key part = subst (λ (j : ℕ). HasRoom s j part) (sym c.index.ensures) room in
-    let within' : c.args.index ≤ length (kids_in (memory_of s key) part) = subst (λ (j : ℕ). c.args.index ≤ length (kids_in (memory_of s j) part)) (sym c.index.ensures) within in
-    subst (λ (j : ℕ). (k : ℕ) → memory_of (with_value s key (new_entry s key a cells there)) k ≡ relinked j part (λ ns. insert ns c.args.index c.args.new) k (memory_of s k)) c.index.ensures
+    let within' : c.args.index ≤ length (kids_in (stored_of s key) part) = subst (λ (j : ℕ). c.args.index ≤ length (kids_in (stored_of s j) part)) (sym c.index.ensures) within in
+    subst (λ (j : ℕ). (k : ℕ) → stored_of (with_value s key (new_entry s key a cells there)) k ≡ relinked j part (λ ns. insert ns c.args.index c.args.new) k (stored_of s k)) c.index.ensures
     (relinked_later s key a cells there (λ ns. insert ns c.args.index c.args.new) part
     (c.insert_in_cells.ensures (room_was s key a cells there part room') (subst (λ (ns : List ℕ). c.args.index ≤ length ns) (sym (kids_were s key a cells there part)) within')))
 
 pub returns-in_default-clause-written : goal.returns-in_default-clause-written
 returns-in_default-clause-written c room within =
     let s = c.args.slab.now in
-    subst (λ (j : ℕ). (k : ℕ) → memory_of s k ≡ relinked j c.args.part (λ ns. insert ns c.args.index c.args.new) k (memory_of s k)) c.index.ensures
+    subst (λ (j : ℕ). (k : ℕ) → stored_of s k ≡ relinked j c.args.part (λ ns. insert ns c.args.index c.args.new) k (stored_of s k)) c.index.ensures
     (relinked_nowhere s c.index.result c.in_default.ensures.value (λ ns. insert ns c.args.index c.args.new) c.args.part)

@@ -1,12 +1,13 @@
 use Rattle.std.proofs.Common.{◌≡◌, List, Some, sym, ap, ◌∙◌, subst}
 use Rattle.std.specs.List.{slice_get}
 use Rattle.slab.specs.Slab.{Slab}
-use Rattle.at_store.specs.Memory.{index_in, placed, taken_out, top, up_in}
+use Rattle.at_store.specs.Memory.{AreAlike, index_in, place_in, taken_out, top, up_in, with_index}
 use Rattle.at_store.specs.Reserving.{HasRoom, HasSpace}
-use Rattle.at_store.specs.View.{memory_of}
+use Rattle.at_store.specs.View.{memory_of, stored_of}
 use Rattle.at_store.specs.declared.entry.Entry.{Entry}
 use Rattle.at_store.specs.declared.entry.Slot.{Slot}
-use Rattle.at_store.proofs.of_edits.Few.{few_beside}
+use Rattle.at_store.proofs.Arranged.{reindexed_alike}
+use Rattle.at_store.proofs.of_edits.Alike.{placed_alike}
 use Rattle.at_store.proofs.changes.lift.Goals.{in-Some, in_default}
 use Rattle.at_store.proofs.changes.lift.Goals as goal
 
@@ -19,15 +20,15 @@ returns-clause-room c k part room =
     subst (λ (slots : List Slot). HasSpace (slice_get slots part)) (sym (c.write_alone.ensures.slots k)) mid
 
 pub returns-clause-written : goal.returns-clause-written
-returns-clause-written c few k =
+returns-clause-written c once =
     let old = memory_of c.args.slab.now in
     let node = c.args.node in
     let index = index_in (old node) in
-    let gap : memory_of c.match-up_at.slab k ≡ taken_out (up_in (old node)) index old k = elim c.match-up_at.branch [
+    let gap : AreAlike (taken_out (up_in (old node)) index old) (stored_of c.match-up_at.slab) = elim c.match-up_at.branch [
       | in-Some w ↦ (
           let up : up_in (old node) ≡ Some w.in-Some.place = sym c.up_at.ensures ∙ w.in-Some.is in
-          ap (λ (s : Slab Entry). memory_of s k) w.slab-is ∙ w.close_gap.ensures.written (few_beside old (up_in (old node)) w.in-Some.place up few) k ∙
-          ap (λ j. taken_out (Some w.in-Some.place) j old k) c.index_at-index.ensures ∙ ap (λ o. taken_out o index old k) (sym up))
-      | in_default w ↦ ap (λ (s : Slab Entry). memory_of s k) w.slab-is ∙ ap (λ o. taken_out o index old k) (sym w.in_default.is ∙ c.up_at.ensures)
+          let closed = w.close_gap.ensures.written old (reindexed_alike (place_in (stored_of c.args.slab.now)) (stored_of c.args.slab.now)) in
+          λ k. ap (λ o. with_index 0 (taken_out o index old k)) up ∙ ap (λ j. with_index 0 (taken_out (Some w.in-Some.place) j old k)) (sym (c.index_at-index.ensures once)) ∙ closed k ∙ ap (λ (s : Slab Entry). with_index 0 (stored_of s k)) (sym w.slab-is))
+      | in_default w ↦ (λ k. ap (λ o. with_index 0 (taken_out o index old k)) (sym c.up_at.ensures ∙ w.in_default.is) ∙ reindexed_alike (place_in (stored_of c.args.slab.now)) (stored_of c.args.slab.now) k ∙ ap (λ (s : Slab Entry). with_index 0 (stored_of s k)) (sym w.slab-is))
     ] in
-    c.write_alone.ensures.written k ∙ ap (placed node top k) gap
+    λ k. placed_alike node top (taken_out (up_in (old node)) index old) (stored_of c.match-up_at.slab) gap k ∙ ap (with_index 0) (sym (c.write_alone.ensures.written k))

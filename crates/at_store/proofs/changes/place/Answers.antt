@@ -1,22 +1,12 @@
-use Rattle.std.proofs.Common.{◌≡◌, ◌≤◌, ℕ, Option, Some, drop, length, sym, ap, ◌∙◌, subst}
-use Rattle.std.specs.List.{insert}
-use Rattle.at_store.specs.Memory.{AreFew, Info, Kids, kids_in, numbers_in, raised, renumbered, rewritten}
-use Rattle.at_store.specs.View.{memory_of}
-use Rattle.at_store.proofs.of_edits.Few.{few_placed}
-use Rattle.at_store.proofs.of_edits.Reserved.{list_written}
+use Rattle.std.proofs.Common.{◌≤◌, ℕ, List, length, sym, ap, ◌∙◌, subst}
+use Rattle.at_store.specs.Memory.{kids_in, numbers_in}
+use Rattle.at_store.specs.View.{stored_of}
+use Rattle.at_store.proofs.of_edits.Alike.{come_alike, kids_alike}
 use Rattle.at_store.proofs.changes.place.Goals as goal
 
 pub returns-clause-written : goal.returns-clause-written
-returns-clause-written c form kids here bound room = λ k.
-    let old = memory_of c.args.slab.now in
-    let node = c.args.node in
-    let part = c.args.part in
-    let index = c.args.index in
-    let new = c.args.new in
-    let within : index ≤ length (kids_in (old node) part) = subst (λ ns. index ≤ length ns) (sym (ap numbers_in here)) bound in
-    let write : (j : ℕ) → memory_of c.insert_kid.new.slab j ≡ rewritten node part (Kids form (insert kids index new)) j (old j) =
-    λ j. c.insert_kid.ensures.written room within j ∙ list_written old node part (λ ns. insert ns index new) form kids here j in
-    let middle : (j : ℕ) → memory_of c.write_up.new.slab j ≡ raised new (Some (node, part)) j (rewritten node part (Kids form (insert kids index new)) j (old j)) =
-    λ j. c.write_up.ensures.written j ∙ ap (raised new (Some (node, part)) j) (write j) in
-    let few = subst (λ (o : Option Info). AreFew (kids_in o part)) (sym (middle node)) (few_placed c.args.slab.now node part index new form kids here room) in
-    c.number_kids.ensures.written few k ∙ (λ i. renumbered (drop index (kids_in (middle node i) part)) index k (middle k i))
+returns-clause-written c memory form kids same here bound room =
+    let old = stored_of c.args.slab.now in
+    let within : c.args.index ≤ length (kids_in (old c.args.node) c.args.part) = subst (λ (ns : List ℕ). c.args.index ≤ length ns) (sym (sym (kids_alike memory old same c.args.node c.args.part) ∙ ap numbers_in here)) bound in
+    come_alike c.args.node c.args.part c.args.index c.args.new form kids memory old (stored_of c.insert_kid.new.slab) (stored_of c.write_up.new.slab) (stored_of c.number_inserted.new.slab) same here
+    (c.insert_kid.ensures.written room within) c.write_up.ensures.written c.number_inserted.ensures.alike

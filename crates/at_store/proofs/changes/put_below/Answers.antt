@@ -1,10 +1,7 @@
-use Rattle.std.proofs.Common.{Some, ap, ◌∙◌}
-use Rattle.at_store.specs.Memory.{indexed, placed}
-use Rattle.at_store.proofs.Slots.{raised_indexed}
+use Rattle.at_store.specs.View.{stored_of}
+use Rattle.at_store.proofs.of_edits.Alike.{put_alike}
 use Rattle.at_store.proofs.changes.put_below.Goals as goal
 
 pub returns-clause-written : goal.returns-clause-written
-returns-clause-written c = λ k.
-    c.write_index.ensures.written k ∙ ap (indexed c.args.new c.args.index k) (c.write_up.ensures.written k) ∙
-    raised_indexed c.args.new (Some (c.args.parent, c.args.part)) c.args.index k _ ∙
-    ap (placed c.args.new (Some (c.args.parent, c.args.part), c.args.index) k) (c.set_kid.ensures.written k)
+returns-clause-written c memory same = put_alike c.args.parent c.args.part c.args.index c.args.new _ memory (stored_of c.args.slab.now) (stored_of c.set_kid.new.slab) (stored_of c.write_up.new.slab) (stored_of c.write_number.new.slab) same
+    c.set_kid.ensures.written c.write_up.ensures.written c.write_number.ensures.written

@@ -4,10 +4,11 @@ use Rattle.at_store.specs.Reserving.{HasRoom}
 use Rattle.at_store.proofs.of_planting.Gains.{on_ok}
 use Rattle.at_store.proofs.of_edits.Reserved.{new_entry, no_room_needed, room_taken}
 use Rattle.at_store.proofs.Written.{written_same}
+use Rattle.at_store.proofs.Arranged.{arranged_same}
 use Rattle.at_store.proofs.changes.reserve.Goals as goal
 
 pub returns-in-Some-clause-stays : goal.returns-in-Some-clause-stays
-returns-in-Some-clause-stays c = written_same c.args.slab.now c.index.result c.in-Some.entry.now c.reserve_in_cells.new.cells c.in-Some.ensures.value c.reserve_in_cells.ensures.stays
+returns-in-Some-clause-stays c = arranged_same _ _ (written_same c.args.slab.now c.index.result c.in-Some.entry.now c.reserve_in_cells.new.cells c.in-Some.ensures.value c.reserve_in_cells.ensures.stays)
 
 pub returns-in-Some-clause-room : goal.returns-in-Some-clause-room
 returns-in-Some-clause-room c =

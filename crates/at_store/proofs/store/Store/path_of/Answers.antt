@@ -8,6 +8,7 @@ use Rattle.at_store.specs.Numbers.{relabel}
 use Rattle.at_store.specs.Shown.{numbers, tree}
 use Rattle.at_store.specs.View.{memory_of}
 use Rattle.at_store.proofs.Reading.{shown_there, small_index}
+use Rattle.at_store.proofs.Arranged.{once_kept}
 use Rattle.at_store.proofs.store.Store.path_of.Goals as goal
 
 pub returns-clause-shown : goal.returns-clause-shown
@@ -33,4 +34,4 @@ returns-clause-back c n b found ok =
     ap (node_at classes (tree s)) (c.in_ok-steps.ensures.led (numbers s) n p c.requires.keeps found short written) ∙ read
 
 pub steps_to-requires : goal.steps_to-requires
-steps_to-requires c = small_index c.args.self.now c.requires
+steps_to-requires c = λ k. (once_kept (memory_of c.args.self.now.slab) (numbers c.args.self.now) c.requires.keeps k, small_index c.args.self.now c.requires k)

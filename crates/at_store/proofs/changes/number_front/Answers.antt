@@ -1,0 +1,12 @@
+use Rattle.std.proofs.Common.{◌∙◌, List, ap, sym, subst}
+use Rattle.std.specs.List.{slice_get}
+use Rattle.at_store.specs.Memory.{with_index}
+use Rattle.at_store.specs.Reserving.{HasSpace}
+use Rattle.at_store.specs.declared.entry.Slot.{Slot}
+use Rattle.at_store.proofs.changes.number_front.Goals as goal
+
+pub returns-clause-alike : goal.returns-clause-alike
+returns-clause-alike c = λ k. ap (with_index 0) (sym (c.write_first.ensures.stays k)) ∙ c.number_kids.ensures.alike k
+
+pub returns-clause-room : goal.returns-clause-room
+returns-clause-room c = λ node part h. subst (λ (slots : List Slot). HasSpace (slice_get slots part)) (sym (c.number_kids.ensures.slots node)) (c.write_first.ensures.room node part h)
