@@ -7,46 +7,48 @@ use Rattle.at_cache.specs.declared.facet.Facet.{Facet}
 use Rattle.at_cache.specs.declared.facet.Readers.{Readers}
 use Rattle.at_cache.specs.Edges.{edges_in}
 use Rattle.at_cache.specs.Info.{Memory}
-use Rattle.at_cache.specs.Kept.{same_location}
 use Rattle.at_cache.specs.Putting.{Lists}
-use Rattle.at_cache.specs.Readers.{edges_among, facet_at}
+use Rattle.at_cache.specs.Readers.{edges_among, stands_for}
 use Rattle.at_cache.specs.Slots.{HasAdded}
 use Rattle.at_cache.proofs.Beginning.{among_more}
 use Rattle.at_cache.proofs.Dooming.{head_of}
 use Rattle.at_cache.proofs.Listing.{keeps_itself, listed_one, lists_same}
-use Rattle.at_cache.proofs.Locations.{same_location-is, same_location-itself}
 
 module _ (n : ℕ) (facet : Facet) (x : Edge) (old new : List Readers) where
   -- what the location has more
   more : (r : Readers) → new ≡ old ++ r ∷ [] → r.facet ≡ facet → edges_in r.edges ≡ x ∷ [] → (l : Location ℕ)
-      → edges_among n new l ≡ edges_among n old l ++ cond (same_location l (facet_at n facet)) (x ∷ []) []
+      → edges_among n new l ≡ edges_among n old l ++ cond (stands_for n facet l) (x ∷ []) []
   more r so is alone l =
       ap (λ rs. edges_among n rs l) so ∙ among_more n old r l ∙ ap (λ es. edges_among n old l ++ es)
-      (ap (λ f. cond (same_location l (facet_at n f)) (edges_in r.edges) []) is ∙ ap (λ es. cond (same_location l (facet_at n facet)) es []) alone)
+      (ap (λ f. cond (stands_for n f l) (edges_in r.edges) []) is ∙ ap (λ es. cond (stands_for n facet l) es []) alone)
 
-  lists_if : (m : Memory) (l : Location ℕ) (b : Bool) → same_location l (facet_at n facet) ≡ b → edges_among n new l ≡ edges_among n old l ++ cond b (x ∷ []) [] → Lists m x (edges_among n old l) (edges_among n new l)
+  lists_if : (m : Memory) (l : Location ℕ) (b : Bool) → stands_for n facet l ≡ b
+      → edges_among n new l ≡ edges_among n old l ++ cond b (x ∷ []) []
+      → Lists m x (edges_among n old l) (edges_among n new l)
   lists_if m l true h is = listed_one (keeps_itself m (edges_among n old l)) is
   lists_if m l false h is = lists_same (is ∙ append-nil (edges_among n old l))
 
-  same_if : (l : Location ℕ) (b : Bool) → same_location l (facet_at n facet) ≡ b → (l ≡ facet_at n facet → ⊥)
-      → edges_among n new l ≡ edges_among n old l ++ cond b (x ∷ []) [] → edges_among n new l ≡ edges_among n old l
-  same_if l true h differs is = absurd (differs (same_location-is l (facet_at n facet) h))
-  same_if l false h differs is = is ∙ append-nil (edges_among n old l)
-
   module _ {V E : Type 0} where
     pub added_lists : (m : Memory) (result : Result V E) → OnOk result (HasAdded facet x old new) → OnErr result (new ≡ old) → (l : Location ℕ) → Lists m x (edges_among n old l) (edges_among n new l)
-    added_lists m (Ok v) h e l = let (r, so, is, alone) = h in lists_if m l (same_location l (facet_at n facet)) refl (more r so is alone l)
+    added_lists m (Ok v) h e l =
+        let (r, so, is, alone) = h in
+        lists_if m l (stands_for n facet l) refl (more r so is alone l)
     added_lists m (Err f) h e l = lists_same (ap (λ rs. edges_among n rs l) e)
 
-    pub added_has : (result : Result V E) → OnOk result (HasAdded facet x old new) → OnOk result (Contains (edges_among n new (facet_at n facet)) x)
-    added_has (Ok v) h =
+    pub added_has : (result : Result V E) → OnOk result (HasAdded facet x old new)
+        → OnOk result ((l : Location ℕ) → stands_for n facet l ≡ true → Contains (edges_among n new l) x)
+    added_has (Ok v) h = λ l on.
         let (r, so, is, alone) = h in
-        let l = facet_at n facet in
         subst (λ es. Contains es x)
-        (sym (more r so is alone l ∙ ap (λ b. edges_among n old l ++ cond b (x ∷ []) []) (same_location-itself l)))
+        (sym (more r so is alone l ∙ ap (λ b. edges_among n old l ++ cond b (x ∷ []) []) on))
         (Contains-append_right (edges_among n old l) (x ∷ []) x (head_of x []))
     added_has (Err f) h = tt
 
-    pub added_others : (result : Result V E) → OnOk result (HasAdded facet x old new) → OnErr result (new ≡ old) → (l : Location ℕ) → (l ≡ facet_at n facet → ⊥) → edges_among n new l ≡ edges_among n old l
-    added_others (Ok v) h e l differs = let (r, so, is, alone) = h in same_if l (same_location l (facet_at n facet)) refl differs (more r so is alone l)
-    added_others (Err f) h e l differs = ap (λ rs. edges_among n rs l) e
+    pub added_others : (result : Result V E) → OnOk result (HasAdded facet x old new) → OnErr result (new ≡ old)
+        → (l : Location ℕ)
+        → stands_for n facet l ≡ false → edges_among n new l ≡ edges_among n old l
+    added_others (Ok v) h e l off =
+        let (r, so, is, alone) = h in
+        more r so is alone l ∙ ap (λ b. edges_among n old l ++ cond b (x ∷ []) []) off
+        ∙ append-nil (edges_among n old l)
+    added_others (Err f) h e l off = ap (λ rs. edges_among n rs l) e

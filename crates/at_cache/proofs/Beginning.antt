@@ -5,18 +5,22 @@ use Rattle.std.proofs.lemmas.List.{take_more}
 use Rattle.std.proofs.lemmas.List.Concat.{flat_map-append}
 use Rattle.std.proofs.lemmas.List.Elements.{Contains-append_cases, Contains-append_left, Contains-append_right}
 use Rattle.smallvec.specs.SmallVec.{SmallVec}
-use Rattle.at_model.specs.Run.{Location}
+use Rattle.std.specs.Bool.{MatchBool}
+use Rattle.at_model.specs.Run.{Location, Is}
+use Rattle.at_store.specs.declared.node.Loc.{Loc}
+use Rattle.at_store.specs.declared.node.Loc.TheVariants as loc
+use Rattle.at_store.specs.Located.{loc_view}
 use Rattle.at_cache.specs.declared.edge.Edge.{Edge}
 use Rattle.at_cache.specs.declared.facet.Facet.{Facet}
-use Rattle.at_cache.specs.declared.facet.Facet.TheVariants as facet
 use Rattle.at_cache.specs.declared.facet.Readers.{Readers}
+use Rattle.at_cache.specs.declared.scope.Scope.{Scope}
 use Rattle.at_cache.specs.declared.scope.Scope.TheVariants as scope
 use Rattle.at_cache.specs.Edges.{edges_in}
 use Rattle.at_cache.specs.Asking.{Asked, looks_at}
 use Rattle.at_cache.specs.Flushing.{Begins}
-use Rattle.at_cache.specs.Kept.{node_at, same_location}
-use Rattle.at_cache.specs.Readers.{edges_among, edges_at, facet_at}
-use Rattle.at_cache.proofs.Locations.{same_location-is, same_location-itself}
+use Rattle.at_cache.specs.Kept.{Answers, node_at}
+use Rattle.at_cache.specs.Readers.{edges_among, edges_at, facet_at, has_class, stands_for}
+use Rattle.at_cache.proofs.Locations.{stands_at, stands_cases, stands_for_class, stands_for_own}
 use Rattle.at_cache.proofs.Listed.{edges_are, no_edges, same_list}
 use Rattle.at_cache.proofs.Moving.{take_past, take_within}
 use Rattle.at_cache.proofs.Taking.{none_in}
@@ -45,45 +49,67 @@ module _ {says : Location ℕ → Bool → Type 0} {seen : Location ℕ → Bool
     ];
   }
 
+-- what was answered of the class that a facet has
+pub told_of_class : (post : Loc → Bool → Type 0) (n : ℕ) (f : Facet) (b : Bool) → has_class f ≡ true → post (loc.Is n) b
+    → MatchBool b ((has_class f ≡ true) × Answers post (Is n) true) (has_class f ≡ true → Answers post (Is n) false)
+told_of_class post n f true class p = (class, (loc.Is n, refl, p))
+told_of_class post n f false class p = λ h. (loc.Is n, refl, p)
+
+pub class_touched : (says : Location ℕ → Bool → Type 0) (n : ℕ) (f : Facet) → (has_class f ≡ true) × says (Is n) true
+    → (l : Location ℕ) × (stands_for n f l ≡ true) × says l true
+class_touched says n f (class, said) = (Is n, stands_for_class n f class, said)
+
+-- and then of its own location
+pub told_of_facet : (post : Loc → Bool → Type 0) (n : ℕ) (f : Facet) (s : Scope) (x : Loc) (b : Bool)
+    → loc_view x ≡ facet_at n f → post x b
+    → (has_class f ≡ true → Answers post (Is n) false)
+    → MatchBool b ((l : Location ℕ) × (stands_for n f l ≡ true) × Answers post l true)
+    ((l : Location ℕ) → stands_for n f l ≡ true → looks_at s l ≡ true → Answers post l false)
+told_of_facet post n f s x true is p class = (facet_at n f, stands_for_own n f, (x, is, p))
+told_of_facet post n f s x false is p class = λ l stands seen. elim (stands_cases n f l stands) [
+  | inl own ↦ (x, is ∙ sym own, p)
+  | inr (has, same) ↦ subst (λ k. Answers post k false) (sym same) (class has)
+]
+
 module _ (n : ℕ) where
   -- the edges of one facet
   abbrev pub edges_of : Readers → Location ℕ → List Edge
-  edges_of r l = if same_location l (facet_at n r.facet) then (edges_in r.edges) else []
+  edges_of r l = if stands_for n r.facet l then edges_in r.edges else []
 
   pub among_more : (rs : List Readers) (r : Readers) (l : Location ℕ) → edges_among n (rs ++ r ∷ []) l ≡ edges_among n rs l ++ edges_of r l
   among_more rs r l = flat_map-append (λ r. edges_of r l) rs (r ∷ []) ∙ ap (λ es. edges_among n rs l ++ es) (append-nil (edges_of r l))
 
-  node_of_facet : (f : Facet) → node_at (facet_at n f) ≡ n
-  node_of_facet facet.Is = refl
-  node_of_facet (facet.Tok part) = refl
-  node_of_facet (facet.Slot part) = refl
-  node_of_facet facet.Up = refl
-  node_of_facet facet.Idx = refl
-
   pub among_others : (rs : List Readers) (l : Location ℕ) → (node_at l ≡ n → ⊥) → edges_among n rs l ≡ []
   among_others [] l differs = refl
-  among_others (r ∷ rs) l differs = ap (λ es. es ++ edges_among n rs l) (by (same_location l (facet_at n r.facet)) refl) ∙ among_others rs l differs
+  among_others (r ∷ rs) l differs =
+      ap (λ es. es ++ edges_among n rs l) (by (stands_for n r.facet l) refl) ∙ among_others rs l differs
     where
-      by : (b : Bool) → same_location l (facet_at n r.facet) ≡ b → cond b (edges_in r.edges) [] ≡ []
-      by true h = absurd (differs (ap node_at (same_location-is l (facet_at n r.facet) h) ∙ node_of_facet r.facet))
+      by : (b : Bool) → stands_for n r.facet l ≡ b → cond b (edges_in r.edges) [] ≡ []
+      by true h = absurd (differs (stands_at n r.facet l h))
       by false h = refl
 
   module _ {says : Location ℕ → Bool → Type 0} {seen : Location ℕ → Bool} (r : Readers) where
-    pub asked_touched : says (facet_at n r.facet) true → Asked says seen (edges_of r) (edges_in r.edges)
-    asked_touched said = record {
-      from = λ x c. (facet_at n r.facet, said, subst (λ b. Contains (cond b (edges_in r.edges) []) x) (sym (same_location-itself (facet_at n r.facet))) c);
-      all = λ l s. inr (λ x c. by (same_location l (facet_at n r.facet)) x c);
+    pub asked_touched : (l : Location ℕ) × (stands_for n r.facet l ≡ true) × says l true
+        → Asked says seen (edges_of r) (edges_in r.edges)
+    asked_touched (k, stands, said) = record {
+      from = λ x c. (k, said, subst (λ b. Contains (cond b (edges_in r.edges) []) x) (sym stands) c);
+      all = λ l s. inr (λ x c. by (stands_for n r.facet l) x c);
     }
       where
         by : (b : Bool) (x : Edge) → Contains (cond b (edges_in r.edges) []) x → Contains (edges_in r.edges) x
         by true x c = c
         by false x c = absurd (none_in x c)
 
-    pub asked_untouched : (seen (facet_at n r.facet) ≡ true → says (facet_at n r.facet) false) → Asked says seen (edges_of r) []
-    asked_untouched said = record { from = λ x c. absurd (none_in x c); all = λ l s. by l s (same_location l (facet_at n r.facet)) refl }
+    pub asked_untouched : ((l : Location ℕ) → stands_for n r.facet l ≡ true → seen l ≡ true → says l false)
+        → Asked says seen (edges_of r) []
+    asked_untouched said = record {
+      from = λ x c. absurd (none_in x c);
+      all = λ l s. by l s (stands_for n r.facet l) refl;
+    }
       where
-        by : (l : Location ℕ) → seen l ≡ true → (b : Bool) → same_location l (facet_at n r.facet) ≡ b → says l false ⊎ ((x : Edge) → Contains (cond b (edges_in r.edges) []) x → Contains [] x)
-        by l s true h = let same = same_location-is l (facet_at n r.facet) h in inl (subst (λ k. says k false) (sym same) (said (ap seen (sym same) ∙ s)))
+        by : (l : Location ℕ) → seen l ≡ true → (b : Bool) → stands_for n r.facet l ≡ b
+            → says l false ⊎ ((x : Edge) → Contains (cond b (edges_in r.edges) []) x → Contains [] x)
+        by l s true h = inl (said l h s)
         by l s false h = inr (λ x c. c)
 
 module _ (readers : List (SmallVec Readers)) (n : ℕ) (v : SmallVec Readers) (there : slice_get readers n ≡ Some v) where
@@ -107,10 +133,12 @@ module _ {says : Location ℕ → Bool → Type 0} {seen : Location ℕ → Bool
   on_more : (lists : List Edge) → Asked says seen (edges_among n (take i rs ++ r ∷ [])) lists → Asked says seen (edges_among n (take (i + 1) rs)) lists
   on_more lists b = subst (λ (ss : List Readers). Asked says seen (edges_among n ss) lists) (ap (λ (s : Readers). take i rs ++ s ∷ []) is ∙ sym (take_more rs i r less)) b
 
-  pub asked_next_touched : says (facet_at n r.facet) true → Asked says seen (edges_among n (take (i + 1) rs)) (edges ++ (edges_in r.edges))
+  pub asked_next_touched : (l : Location ℕ) × (stands_for n r.facet l ≡ true) × says l true
+      → Asked says seen (edges_among n (take (i + 1) rs)) (edges ++ (edges_in r.edges))
   asked_next_touched said = on_more (edges ++ (edges_in r.edges)) (asked_both (among_more n (take i rs) r) asked (asked_touched n r said))
 
-  pub asked_next_untouched : (seen (facet_at n r.facet) ≡ true → says (facet_at n r.facet) false) → Asked says seen (edges_among n (take (i + 1) rs)) edges
+  pub asked_next_untouched : ((l : Location ℕ) → stands_for n r.facet l ≡ true → seen l ≡ true → says l false)
+      → Asked says seen (edges_among n (take (i + 1) rs)) edges
   asked_next_untouched said = on_more edges (subst (Asked says seen (edges_among n (take i rs ++ r ∷ []))) (append-nil edges) (asked_both (among_more n (take i rs) r) asked (asked_untouched n r said)))
 
 -- before the first node

@@ -11,14 +11,13 @@ use Rattle.at_cache.specs.declared.facet.Facet.{Facet}
 use Rattle.at_cache.specs.declared.facet.Readers.{Readers}
 use Rattle.at_cache.specs.Edges.{edges_in}
 use Rattle.at_cache.specs.Info.{Memory}
-use Rattle.at_cache.specs.Kept.{node_at, same_location}
+use Rattle.at_cache.specs.Kept.{node_at}
 use Rattle.at_cache.specs.Putting.{Lists}
-use Rattle.at_cache.specs.Readers.{edges_among, edges_at, facet_at}
+use Rattle.at_cache.specs.Readers.{edges_among, edges_at, stands_for}
 use Rattle.at_cache.specs.Slots.{HasChanged, ListsAt, with_edges}
 use Rattle.at_cache.proofs.Beginning.{edges_of}
 use Rattle.at_cache.proofs.Listed.{edges_are, same_list}
 use Rattle.at_cache.proofs.Listing.{lists_same}
-use Rattle.at_cache.proofs.Locations.{same_location-is, same_location-itself}
 
 module _ {X : Type 0} where
   pub get_same : (xs : List X) (k : ℕ) (v w : X) → slice_get xs k ≡ Some w → slice_get (slice_set xs k v) k ≡ Some v
@@ -61,22 +60,28 @@ module _ {m : Memory} {x : Edge} where
   among_set n l [] p r h es lists = absurd (none-some r h)
   among_set n l (y ∷ ys) zero r h es lists =
       subst (λ z. Lists m x (edges_of n z l ++ edges_among n ys l) (edges_of n (with_edges es r) l ++ edges_among n ys l)) (sym (same_Some y r h))
-      (lists_behind (edges_among n ys l) (lists_if (same_location l (facet_at n r.facet)) lists))
+      (lists_behind (edges_among n ys l) (lists_if (stands_for n r.facet l) lists))
   among_set n l (y ∷ ys) (suc p) r h es lists = lists_before (edges_of n y l) (among_set n l ys p r h es lists)
 
-among_same : (n : ℕ) (l : Location ℕ) (rs : List Readers) (p : ℕ) (r : Readers) → slice_get rs p ≡ Some r → (es : Edges) → (l ≡ facet_at n r.facet → ⊥) → edges_among n (slice_set rs p (with_edges es r)) l ≡ edges_among n rs l
-among_same n l [] p r h es differs = refl
-among_same n l (y ∷ ys) zero r h es differs = ap (λ edges. edges ++ edges_among n ys l) (off (same_location l (facet_at n r.facet)) refl ∙ ap (λ z. edges_of n z l) (sym (same_Some y r h)))
-  where
-    off : (b : Bool) → same_location l (facet_at n r.facet) ≡ b → cond b (edges_in es) [] ≡ cond b (edges_in r.edges) []
-    off true h = absurd (differs (same_location-is l (facet_at n r.facet) h))
-    off false h = refl
-among_same n l (y ∷ ys) (suc p) r h es differs = ap (λ edges. edges_of n y l ++ edges) (among_same n l ys p r h es differs)
+among_same : (n : ℕ) (l : Location ℕ) (rs : List Readers) (p : ℕ) (r : Readers) → slice_get rs p ≡ Some r → (es : Edges)
+    → stands_for n r.facet l ≡ false → edges_among n (slice_set rs p (with_edges es r)) l ≡ edges_among n rs l
+among_same n l [] p r h es off = refl
+among_same n l (y ∷ ys) zero r h es off =
+    ap (λ edges. edges ++ edges_among n ys l)
+    (ap (λ b. cond b (edges_in es) []) off ∙ sym (ap (λ b. cond b (edges_in r.edges) []) off)
+    ∙ ap (λ z. edges_of n z l) (sym (same_Some y r h)))
+among_same n l (y ∷ ys) (suc p) r h es off = ap (λ edges. edges_of n y l ++ edges) (among_same n l ys p r h es off)
 
-among_has : (n : ℕ) (rs : List Readers) (p : ℕ) (r : Readers) → slice_get rs p ≡ Some r → (es : Edges) (x : Edge) → Contains (edges_in es) x → Contains (edges_among n (slice_set rs p (with_edges es r)) (facet_at n r.facet)) x
-among_has n [] p r h es x c = absurd (none-some r h)
-among_has n (y ∷ ys) zero r h es x c = Contains-append_left (edges_of n (with_edges es r) (facet_at n r.facet)) (edges_among n ys (facet_at n r.facet)) x (subst (λ b. Contains (cond b (edges_in es) []) x) (sym (same_location-itself (facet_at n r.facet))) c)
-among_has n (y ∷ ys) (suc p) r h es x c = Contains-append_right (edges_of n y (facet_at n r.facet)) (edges_among n (slice_set ys p (with_edges es r)) (facet_at n r.facet)) x (among_has n ys p r h es x c)
+among_has : (n : ℕ) (l : Location ℕ) (rs : List Readers) (p : ℕ) (r : Readers) → slice_get rs p ≡ Some r
+    → stands_for n r.facet l ≡ true → (es : Edges) (x : Edge) → Contains (edges_in es) x
+    → Contains (edges_among n (slice_set rs p (with_edges es r)) l) x
+among_has n l [] p r h stands es x c = absurd (none-some r h)
+among_has n l (y ∷ ys) zero r h stands es x c =
+    Contains-append_left (edges_of n (with_edges es r) l) (edges_among n ys l) x
+    (subst (λ b. Contains (cond b (edges_in es) []) x) (sym stands) c)
+among_has n l (y ∷ ys) (suc p) r h stands es x c =
+    Contains-append_right (edges_of n y l) (edges_among n (slice_set ys p (with_edges es r)) l) x
+    (among_has n l ys p r h stands es x c)
 
 -- what stood at a place has these edges
 pub gained_at : {E V : Type 0} (m : Memory) (x : Edge) (rs : List Readers) (p : ℕ) (r : Readers) (v : Edges) (result : Result V E) → r ≡ get_or rs p r → Lists m x (edges_in r.edges) (edges_in v) → OnOk result (Contains (edges_in v) x)
@@ -101,15 +106,18 @@ module _ (old made new : List Readers) (p : ℕ) (facet : Facet) (v : Edges) (sa
       (subst (λ rs. Lists m x (edges_among n made l) (edges_among n rs l)) (sym (change r at))
       (among_set n l made p r at v (lists r at)))
 
-  pub among_stays : (n : ℕ) (l : Location ℕ) → (l ≡ facet_at n facet → ⊥) → edges_among n new l ≡ edges_among n old l
-  among_stays n l differs =
+  pub among_stays : (n : ℕ) (l : Location ℕ) → stands_for n facet l ≡ false → edges_among n new l ≡ edges_among n old l
+  among_stays n l off =
       let (r, at, is) = there in
-      ap (λ rs. edges_among n rs l) (change r at) ∙ among_same n l made p r at v (λ h. differs (h ∙ ap (facet_at n) is)) ∙ same n l
+      ap (λ rs. edges_among n rs l) (change r at) ∙ among_same n l made p r at v (ap (λ f. stands_for n f l) is ∙ off)
+      ∙ same n l
 
-  pub among_gained : (x : Edge) (n : ℕ) → Contains (edges_in v) x → Contains (edges_among n new (facet_at n facet)) x
-  among_gained x n c =
+  pub among_gained : (x : Edge) (n : ℕ) → Contains (edges_in v) x → (l : Location ℕ) → stands_for n facet l ≡ true
+      → Contains (edges_among n new l) x
+  among_gained x n c l on =
       let (r, at, is) = there in
-      subst (λ f. Contains (edges_among n new (facet_at n f)) x) is (subst (λ rs. Contains (edges_among n rs (facet_at n r.facet)) x) (sym (change r at)) (among_has n made p r at v x c))
+      subst (λ rs. Contains (edges_among n rs l) x) (sym (change r at))
+      (among_has n l made p r at (ap (λ f. stands_for n f l) is ∙ on) v x c)
 
 -- the list of a node is another one
 module _ (old made new : List (SmallVec Readers)) (k : ℕ) (v : SmallVec Readers) {was : SmallVec Readers} (same : (l : Location ℕ) → edges_at made l ≡ edges_at old l) (there : slice_get made k ≡ Some was) (so : new ≡ slice_set made k v) where
@@ -137,8 +145,9 @@ module _ (old made new : List (SmallVec Readers)) (k : ℕ) (v : SmallVec Reader
   pub list_gained : (x : Edge) (l : Location ℕ) → node_at l ≡ k → Contains (edges_among k v.items l) x → Contains (edges_at new l) x
   list_gained x l at_k c = subst (λ es. Contains es x) (sym (after l at_k)) c
 
-  pub list_stays : (f : Location ℕ) → ((l : Location ℕ) → (l ≡ f → ⊥) → edges_among k v.items l ≡ edges_among k was.items l) → (l : Location ℕ) → (l ≡ f → ⊥) → edges_at new l ≡ edges_at old l
-  list_stays f stays l differs = elim (cases_eq (node_at l) k) [
-    | inl at_k ↦ after l at_k ∙ stays l differs ∙ sym (before l at_k)
+  pub list_stays : (l : Location ℕ) → edges_among k v.items l ≡ edges_among k was.items l
+      → edges_at new l ≡ edges_at old l
+  list_stays l stays = elim (cases_eq (node_at l) k) [
+    | inl at_k ↦ after l at_k ∙ stays ∙ sym (before l at_k)
     | inr other ↦ others l other
   ]

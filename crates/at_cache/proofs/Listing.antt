@@ -1,7 +1,7 @@
 -- Lists of edges that lose those that tell of no entry, and gain one.
-use Rattle.std.proofs.Common.{◌≡◌, ◌⊎◌, inl, inr, ℕ, List, [], ◌∷◌, ◌++◌, Bool, true, false, Option, None, Some, cond, nat_eq, Contains, filter, option_map, if◌then◌else◌, refl, sym, ap, ◌∙◌, subst, zero, suc, map, take, ◌+◌, IsSome, is_some, ◌<◌, length, get_or, swap_remove, IsPermutation}
+use Rattle.std.proofs.Common.{◌≡◌, ◌⊎◌, inl, inr, ℕ, List, [], ◌∷◌, ◌++◌, Bool, true, false, Option, None, Some, cond, nat_eq, Contains, filter, option_map, if◌then◌else◌, refl, sym, ap, ◌∙◌, subst, arith, zero, suc, map, take, IsSome, is_some, ◌<◌, length, get_or, swap_remove, IsPermutation}
 use Rattle.std.proofs.lemmas.List.Sorted.{Contains-permutation, IsPermutation-swap_remove, IsPermutation-sym}
-use Rattle.std.proofs.lemmas.List.{get_or_default, take_more, map-append}
+use Rattle.std.proofs.lemmas.List.{get_or_default}
 use Rattle.std.proofs.lemmas.Bool.{cases_eq, eq-eqb, ne_eqb}
 use Rattle.std.proofs.lemmas.List.Elements.{Contains-append_left, Contains-push, Contains-push_cases}
 use Rattle.slab.proofs.SlabLemmas.{Contains-cons, Contains-cons_cases}
@@ -93,6 +93,11 @@ lists_same is = listed_none (kept_all _ _ _ is)
 pub reads_none : {L : Type 0} (m : Memory) (x : Edge) (lists : L → List Edge) → Reads m x [] lists lists
 reads_none {L} m x lists = record { keeps = λ l y c e there same. c; only = λ l y c. inl c }
 
+-- nothing has changed yet
+pub reads_unchanged : {L : Type 0} (m : Memory) (x : Edge) (ls : List L) (lists : L → List Edge)
+    → Reads m x ls lists lists
+reads_unchanged {L} m x ls lists = record { keeps = λ l y c e there same. c; only = λ l y c. inl c }
+
 more_in : {L : Type 0} (ls : List L) (l k : L) → Contains ls k → Contains (ls ++ l ∷ []) k
 more_in {L} ls l k c = Contains-append_left ls (l ∷ []) k c
 
@@ -103,18 +108,6 @@ in_take (suc n) (y ∷ ys) x c = elim (Contains-cons_cases y x (take n ys) c) [ 
 
 pub reads_all : {L : Type 0} {m : Memory} {x : Edge} {old new : L → List Edge} (n : ℕ) (ls : List L) → Reads m x (take n ls) old new → Reads m x ls old new
 reads_all {L} {m} {x} {old} {new} n ls r = record { keeps = r.keeps; only = λ k y c. elim (r.only k y c) [ inl d ↦ inl d | inr (is, d) ↦ inr (is, in_take n ls k d) ] }
-
--- the first ones, and one more
-pub map_more : {X Y : Type 0} (f : X → Y) (xs : List X) (i : ℕ) (x : X) → x ≡ get_or xs i x → i < length xs → map f (take (i + 1) xs) ≡ map f (take i xs) ++ f x ∷ []
-map_more f xs i x is less = ap (map f) (take_more xs i x less) ∙ map-append f (take i xs) (get_or xs i x ∷ []) ∙ ap (λ y. map f (take i xs) ++ f y ∷ []) (sym is)
-
-map_in : {X Y : Type 0} (f : X → Y) (n : ℕ) (xs : List X) (y : Y) → Contains (map f (take n xs)) y → Contains (map f xs) y
-map_in f zero xs y c = absurd (none_in y c)
-map_in f (suc n) [] y c = c
-map_in f (suc n) (x ∷ xs) y c = elim (Contains-cons_cases (f x) y (map f (take n xs)) c) [ inl same ↦ subst (λ z. Contains (z ∷ map f xs) y) (sym same) (head_of y (map f xs)) | inr d ↦ Contains-cons (f x) y (map f xs) (map_in f n xs y d) ]
-
-pub reads_within : {X L : Type 0} (f : X → L) {m : Memory} {x : Edge} {old new : L → List Edge} (n : ℕ) (ls : List X) → Reads m x (map f (take n ls)) old new → Reads m x (map f ls) old new
-reads_within f {m} {x} {old} {new} n ls r = record { keeps = r.keeps; only = λ k y c. elim (r.only k y c) [ inl d ↦ inl d | inr (is, d) ↦ inr (is, map_in f n ls k d) ] }
 
 module _ {L : Type 0} (cases : (k l : L) → (k ≡ l) ⊎ (k ≡ l → ⊥)) {m : Memory} {x : Edge} where
   -- one location more
@@ -133,6 +126,42 @@ module _ {L : Type 0} (cases : (k l : L) → (k ≡ l) ⊎ (k ≡ l → ⊥)) {m
       before : (k : L) (y : Edge) → Contains (old k) y ⊎ ((y ≡ x) × Contains ls k) → Contains (old k) y ⊎ ((y ≡ x) × Contains (ls ++ l ∷ []) k)
       before k y (inl c) = inl c
       before k y (inr (is, c)) = inr (is, more_in ls l k c)
+
+-- a step on a way through all locations
+module _ {L : Type 0} {x : Edge} {mid new : L → List Edge} (ls : List L) (come : L → Bool)
+    (others : (l : L) → come l ≡ false → new l ≡ mid l) where
+  -- those that come are some of them
+  pub reads_on : {m : Memory} {old : L → List Edge} → Reads m x ls old mid → ((l : L) → Lists m x (mid l) (new l))
+      → ((l : L) → come l ≡ true → Contains ls l) → Reads m x ls old new
+  reads_on {m} {old} r lists from = record {
+    keeps = λ l y c e there same. (lists l).keeps y (r.keeps l y c e there same) e there same;
+    only = λ l y c. by l y c (come l) refl;
+  }
+    where
+      by : (l : L) (y : Edge) → Contains (new l) y → (b : Bool) → come l ≡ b
+          → Contains (old l) y ⊎ ((y ≡ x) × Contains ls l)
+      by l y c true is = elim ((lists l).only y c) [ inl d ↦ r.only l y d | inr alike ↦ inr (alike, from l is) ]
+      by l y c false is = r.only l y (subst (λ es. Contains es y) (others l is) c)
+
+  -- and it stands at all of them but those that are left
+  pub listed_on : (rest left : List L) → ((l : L) → Contains ls l → Contains rest l ⊎ Contains (mid l) x)
+      → ((l : L) → come l ≡ true → Contains (new l) x)
+      → ((l : L) → Contains rest l → (come l ≡ true) ⊎ Contains left l) → (l : L) → Contains ls l
+      → Contains left l ⊎ Contains (new l) x
+  listed_on rest left before has all l c = elim (before l c) [
+    | inl d ↦ elim (all l d) [ inl is ↦ inr (has l is) | inr e ↦ inl e ]
+    | inr d ↦ by (come l) refl d
+  ]
+    where
+      by : (b : Bool) → come l ≡ b → Contains (mid l) x → Contains left l ⊎ Contains (new l) x
+      by true is d = inr (has l is)
+      by false is d = inr (subst (λ es. Contains es x) (sym (others l is)) d)
+
+-- none is left
+pub all_listed : {A L : Type 0} (f : A → L) (x : Edge) (lists : L → List Edge) (ls rest : List A) → length rest ≡ 0
+    → ((l : L) → Contains (map f ls) l → Contains (map f rest) l ⊎ Contains (lists l) x) → AreListed x (map f ls) lists
+all_listed f x lists ls [] none listed l c = elim (listed l c) [ inl d ↦ absurd (none_in l d) | inr d ↦ d ]
+all_listed f x lists ls (y ∷ ys) none listed l c = absurd (omega (arith, none))
 
 pub listed_more : {L : Type 0} (cases : (k l : L) → (k ≡ l) ⊎ (k ≡ l → ⊥)) {x : Edge} {mid new : L → List Edge} (ls : List L) (l : L) → AreListed x ls mid → Contains (new l) x → ((k : L) → (k ≡ l → ⊥) → new k ≡ mid k) → AreListed x (ls ++ l ∷ []) new
 listed_more {L} cases {x} {mid} {new} ls l a has others k c = elim (cases k l) [

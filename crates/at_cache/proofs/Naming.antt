@@ -1,6 +1,5 @@
 -- A flush begins at the nodes that places name.
 use Rattle.std.proofs.Common.{◌≡◌, ◌⊎◌, inl, inr, ℕ, ◌+◌, ◌<◌, List, [], ◌∷◌, ◌++◌, ◌||◌, Bool, true, false, true≢false, Option, None, Some, Contains, take, slice_get, get_or, length, nat_eq, nat_lt, refl, sym, ap, ◌∙◌, subst, append-nil, append_assoc, eqb-true}
-use Rattle.std.specs.Bool.{MatchBool}
 use Rattle.std.specs.List.{list_any}
 use Rattle.std.proofs.lemmas.Bool.{cases_eq, eq-eqb, ltb-false, ltb-true}
 use Rattle.std.proofs.lemmas.Option.{slice_get_past}
@@ -44,11 +43,6 @@ any_push p node (n ∷ ns) h = by (p n) h (any_push p node ns)
     by : (b : Bool) → (b || list_any p (ns ++ node ∷ [])) ≡ true → (list_any p (ns ++ node ∷ []) ≡ true → (list_any p ns || p node) ≡ true) → ((b || list_any p ns) || p node) ≡ true
     by true e on = refl
     by false e on = on e
-
--- what the closure answered
-pub told : (post : Loc → Bool → Type 0) {l : Location ℕ} (looked : Type 0) (x : Loc) (b : Bool) → loc_view x ≡ l → post x b → MatchBool b (Answers post l true) (looked → Answers post l false)
-told post looked x true is p = (x, is, p)
-told post looked x false is p = λ h. (x, is, p)
 
 module _ {says : Location ℕ → Bool → Type 0} {lists : Location ℕ → List Edge} where
   -- nothing is seen of which there is an edge

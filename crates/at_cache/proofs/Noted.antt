@@ -22,7 +22,7 @@ use Rattle.at_cache.proofs.Beginning.{edges_of}
 use Rattle.at_cache.proofs.Dooming.{head_of}
 use Rattle.at_cache.proofs.Listed.{edges_are}
 use Rattle.at_cache.proofs.Ending.{any_of, either, has, on_left, on_right}
-use Rattle.at_cache.proofs.Locations.{cases_location, same_location-itself}
+use Rattle.at_cache.proofs.Locations.{stands_for_own}
 use Rattle.at_cache.proofs.Taking.{none_in}
 
 pub first_edge : (es : List Edge) → nat_eq (length es) 0 ≡ false → (x : Edge) × Contains es x
@@ -35,12 +35,17 @@ index_at (facet.Tok part) h n = absurd (true≢false (sym h))
 index_at (facet.Slot part) h n = absurd (true≢false (sym h))
 index_at facet.Up h n = absurd (true≢false (sym h))
 index_at facet.Idx h n = refl
+index_at (facet.ClassAndTok part) h n = absurd (true≢false (sym h))
+index_at (facet.ClassAndSlot part) h n = absurd (true≢false (sym h))
+index_at facet.ClassAndUp h n = absurd (true≢false (sym h))
 
 -- an edge of one facet is one of the location
 pub among_has : (n : ℕ) (rs : List Readers) (r : Readers) (x : Edge) → Contains rs r → Contains (edges_in r.edges) x → Contains (edges_among n rs (facet_at n r.facet)) x
 among_has n [] r x c d = absurd (none_in r c)
 among_has n (s ∷ rs) r x c d = elim (Contains-cons_cases s r rs c) [
-  | inl same ↦ Contains-append_left (edges_of n s l) (edges_among n rs l) x (subst (λ (t : Readers). Contains (edges_of n t l) x) (sym same) (subst (λ b. Contains (cond b (edges_in r.edges) []) x) (sym (same_location-itself l)) d))
+  | inl same ↦ Contains-append_left (edges_of n s l) (edges_among n rs l) x
+      (subst (λ (t : Readers). Contains (edges_of n t l) x) (sym same)
+      (subst (λ b. Contains (cond b (edges_in r.edges) []) x) (sym (stands_for_own n r.facet)) d))
   | inr rest ↦ Contains-append_right (edges_of n s l) (edges_among n rs l) x (among_has n rs r x rest d)
 ]
   where
@@ -64,13 +69,15 @@ node_noted old new node is = any_of (nat_eq node) new node (subst (λ ns. Contai
 pub noted_there : (lists : Location ℕ → List Edge) (nodes : List ℕ) (node : ℕ) → (x : Edge) × Contains (lists (Idx node)) x → AreNoted lists nodes → list_any (nat_eq node) nodes ≡ true
 noted_there lists nodes node (x, c) noted = noted node x (has (lists (Idx node)) x c)
 
--- a location comes that is noted, if it is an index
-pub noted_on : (lists new : Location ℕ → List Edge) (nodes : List ℕ) (l : Location ℕ) → AreNoted lists nodes → ((n : ℕ) → l ≡ Idx n → list_any (nat_eq n) nodes ≡ true)
-    → ((k : Location ℕ) → (k ≡ l → ⊥) → new k ≡ lists k) → AreNoted new nodes
-noted_on lists new nodes l noted its others n x h = elim (cases_location (Idx n) l) [
-  | inl same ↦ its n (sym same)
-  | inr differs ↦ noted n x (subst (λ es. is_listed x es ≡ true) (others (Idx n) differs) h)
-]
+-- locations come of which each index is noted
+pub noted_on : (lists new : Location ℕ → List Edge) (nodes : List ℕ) (come : Location ℕ → Bool) → AreNoted lists nodes
+    → ((n : ℕ) → come (Idx n) ≡ true → list_any (nat_eq n) nodes ≡ true)
+    → ((l : Location ℕ) → come l ≡ false → new l ≡ lists l) → AreNoted new nodes
+noted_on lists new nodes come noted its others n x h = by (come (Idx n)) refl
+  where
+    by : (b : Bool) → come (Idx n) ≡ b → list_any (nat_eq n) nodes ≡ true
+    by true is = its n is
+    by false is = noted n x (subst (λ es. is_listed x es ≡ true) (others (Idx n) is) h)
 
 -- an edge of the index of the node, where it stands among all
 pub edge_there : (readers : List (SmallVec Readers)) (node : ℕ) (v : SmallVec Readers) → slice_get readers node ≡ Some v → (x : Edge) × Contains (edges_among node v.items (Idx node)) x → (x : Edge) × Contains (edges_at readers (Idx node)) x

@@ -17,8 +17,8 @@ pub struct Edge {
     pub stamp: u64,
 }
 
-/// Edges in several rows, or in a long one; one row stands in the block of the list itself.
-pub type Many = SmallVec<Row, 1>;
+/// Edges in several rows, or in a long one; two rows stand in the block of the list itself.
+pub type Many = SmallVec<Row, 2>;
 
 /// Edges, in sixteen bytes.
 pub enum Edges {

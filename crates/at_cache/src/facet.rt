@@ -1,17 +1,18 @@
 //! What is looked at of nodes, and by which entries.
 
-ghost use Rattle.std.specs.Prelude.{◌≡◌, ℕ, IfOk};
+ghost use Rattle.std.specs.Prelude.{◌≡◌, ℕ, IfOk, IfSome, true, false};
 ghost use Rattle.at_store.specs.Located.{loc_view};
 ghost use Rattle.at_cache.specs.Asking.{is_index};
 ghost use Rattle.at_cache.specs.Kept.{node_at};
-ghost use Rattle.at_cache.specs.Readers.{facet_at};
+ghost use Rattle.at_cache.specs.Readers.{facet_at, has_class};
 
 use crate::edge::Edges;
 use at_store::{Loc, Node};
 use smallvec::SmallVec;
 use std::alloc::AllocError;
 
-/// What one can look at of a node: a location without its node, in eight bytes.
+/// What one can look at of a node: a location without its node, in eight bytes; or two, where one is the node's class. Of most nodes that is
+/// looked at with what is looked at next, so one edge tells of both.
 #[derive(Clone, Copy, PartialEq, Eq)]
 pub enum Facet {
     Is,
@@ -19,6 +20,9 @@ pub enum Facet {
     Slot(u32),
     Up,
     Idx,
+    ClassAndTok(u32),
+    ClassAndSlot(u32),
+    ClassAndUp,
 }
 
 impl Default for Facet {
@@ -50,7 +54,7 @@ pub fn small(number: usize) -> Result<u32, AllocError>
 impl Facet {
     /// The location without its node; want of memory where its part is too great a number for a facet.
     pub fn of(location: Loc) -> Result<Facet, AllocError>
-        ensures { IfOk result (λ facet. facet_at (node_at (loc_view location)) facet ≡ loc_view location) }
+        ensures { IfOk result (λ facet. (has_class facet ≡ false) × (facet_at (node_at (loc_view location)) facet ≡ loc_view location)) }
     {
         match location {
             Loc::Is(_) => Ok(Facet::Is),
@@ -61,7 +65,40 @@ impl Facet {
         }
     }
 
-    /// The location of that node.
+    /// The one facet of the node's class and of the location, where there is one; want of memory where its part is too great a number for
+    /// a facet.
+    pub fn of_both(node: Node, location: Loc) -> Result<Option<Facet>, AllocError>
+        ensures { IfOk result (λ both. IfSome both (λ facet. (has_class facet ≡ true) × (facet_at node facet ≡ loc_view location))) }
+    {
+        if location.node() != node {
+            return Ok(None);
+        }
+        match location {
+            Loc::Is(_) => Ok(None),
+            Loc::Tok(_, part) => Ok(Some(Facet::ClassAndTok(small(part)?))),
+            Loc::Slot(_, part) => Ok(Some(Facet::ClassAndSlot(small(part)?))),
+            Loc::Up(_) => Ok(Some(Facet::ClassAndUp)),
+            Loc::Idx(_) => Ok(None),
+        }
+    }
+
+    /// Whether it stands for the node's class beside its own location.
+    pub fn has_class(self) -> bool
+        ensures { result ≡ has_class self }
+    {
+        match self {
+            Facet::Is => false,
+            Facet::Tok(_) => false,
+            Facet::Slot(_) => false,
+            Facet::Up => false,
+            Facet::Idx => false,
+            Facet::ClassAndTok(_) => true,
+            Facet::ClassAndSlot(_) => true,
+            Facet::ClassAndUp => true,
+        }
+    }
+
+    /// Its own location, of that node.
     pub fn at(self, node: Node) -> Loc
         ensures { loc_view result ≡ facet_at node self }
     {
@@ -71,6 +108,9 @@ impl Facet {
             Facet::Slot(part) => Loc::Slot(node, part as usize),
             Facet::Up => Loc::Up(node),
             Facet::Idx => Loc::Idx(node),
+            Facet::ClassAndTok(part) => Loc::Tok(node, part as usize),
+            Facet::ClassAndSlot(part) => Loc::Slot(node, part as usize),
+            Facet::ClassAndUp => Loc::Up(node),
         }
     }
 
@@ -84,6 +124,9 @@ impl Facet {
             Facet::Slot(_) => false,
             Facet::Up => false,
             Facet::Idx => true,
+            Facet::ClassAndTok(_) => false,
+            Facet::ClassAndSlot(_) => false,
+            Facet::ClassAndUp => false,
         }
     }
 }

@@ -1,8 +1,8 @@
 //! One edge more of what an entry rests on.
 
-ghost use Rattle.std.specs.Prelude.{◌≡◌, ◌≢◌, ◌<◌, ◌≤◌, ◌^◌, ◌∷◌, ◌++◌, [], ℕ, List, Option, None, Some, IsSome, Contains, IfOk, IfSome, MatchBool, OnErr, OnOk, length, map, slice_get, slice_set};
+ghost use Rattle.std.specs.Prelude.{◌≡◌, ◌⊎◌, ◌<◌, ◌≤◌, ◌^◌, ◌∷◌, ◌++◌, [], ℕ, List, Option, None, Some, IsSome, Contains, IfOk, IfSome, IsTrue, MatchBool, OnErr, OnOk, length, map, slice_get, slice_set, true, false};
 ghost use Rattle.std.specs.Map.{lookup};
-ghost use Rattle.at_model.specs.Run.{Instance, Location};
+ghost use Rattle.at_model.specs.Run.{Instance, Is, Location};
 ghost use Rattle.at_body.specs.Same.{same_instance};
 ghost use Rattle.at_store.specs.Located.{loc_view};
 ghost use Rattle.at_cache.specs.declared.edge.Edge.{Edge};
@@ -12,8 +12,9 @@ ghost use Rattle.at_cache.specs.Asking.{AreNoted};
 ghost use Rattle.at_cache.specs.Edges.{edges_in};
 ghost use Rattle.at_cache.specs.Rows.{edges_along, edges_of};
 ghost use Rattle.at_cache.specs.Info.{memory_of};
+ghost use Rattle.at_cache.specs.Kept.{node_at};
 ghost use Rattle.at_cache.specs.Putting.{AreListed, AreTaken, Keeps, Lists, Reads, Uses, reused, users_at};
-ghost use Rattle.at_cache.specs.Readers.{edges_among, edges_at, facet_at};
+ghost use Rattle.at_cache.specs.Readers.{IsFirst, edges_among, edges_at, stands_for};
 ghost use Rattle.at_cache.specs.Slots.{HasAdded, HasChanged, ListsAt, with_edges};
 
 use crate::edge::{Edge, Edges, Many, Slot};
@@ -235,8 +236,8 @@ fn add_among(
     edge: Edge,
 ) -> Result<(), AllocError>
     ensures lists { (n : ℕ) (l : Location ℕ) → Lists (memory_of entries.now) edge (edges_among n readers.old.items l) (edges_among n readers.new.items l) }
-    ensures has { (n : ℕ) → OnOk result (Contains (edges_among n readers.new.items (facet_at n facet)) edge) }
-    ensures others { (n : ℕ) (l : Location ℕ) → l ≢ facet_at n facet → edges_among n readers.new.items l ≡ edges_among n readers.old.items l }
+    ensures has { (n : ℕ) → OnOk result ((l : Location ℕ) → stands_for n facet l ≡ true → Contains (edges_among n readers.new.items l) edge) }
+    ensures others { (n : ℕ) (l : Location ℕ) → stands_for n facet l ≡ false → edges_among n readers.new.items l ≡ edges_among n readers.old.items l }
 {
     match position_of(readers.as_slice(), facet) {
         Some(place) => add_at(alloc, entries, readers, place, edge),
@@ -257,21 +258,20 @@ fn make_list(alloc: Global, readers: &mut Vec<Facets>, node: Node) -> Result<(),
     Ok(())
 }
 
-// One more edge of a location.
+// One more edge of a facet of the node.
 fn add_reader(
     alloc: Global,
     entries: &Table,
     readers: &mut Vec<Facets>,
-    location: Loc,
+    node: Node,
+    facet: Facet,
     edge: Edge,
 ) -> Result<(), AllocError>
     ensures lists { (l : Location ℕ) → Lists (memory_of entries.now) edge (edges_at readers.old.items l) (edges_at readers.new.items l) }
-    ensures has { OnOk result (Contains (edges_at readers.new.items (loc_view location)) edge) }
-    ensures others { (l : Location ℕ) → l ≢ loc_view location → edges_at readers.new.items l ≡ edges_at readers.old.items l }
+    ensures has { OnOk result ((l : Location ℕ) → stands_for node facet l ≡ true → Contains (edges_at readers.new.items l) edge) }
+    ensures others { (l : Location ℕ) → stands_for node facet l ≡ false → edges_at readers.new.items l ≡ edges_at readers.old.items l }
     ensures short { length readers.old.items ≤ 2 ^ 32 → length readers.new.items ≤ 2 ^ 32 }
 {
-    let facet = Facet::of(location)?;
-    let node = location.node();
     make_list(alloc, readers, node)?;
     let list = &mut readers[node.index()];
     add_among(alloc, entries, list, facet, edge)
@@ -295,6 +295,57 @@ fn add_user(alloc: Global, entries: &mut Table, slot: Slot, edge: Edge) -> Resul
     result
 }
 
+// Whether the location is the class of the node.
+fn is_class(location: Loc, node: Node) -> bool
+    ensures { IsTrue result → loc_view location ≡ Is node }
+{
+    match location {
+        Loc::Is(other) => other == node,
+        _ => false,
+    }
+}
+
+// What is left of these locations behind those at the front that are the class of the node.
+fn behind_class(node: Node, locations: &[Loc]) -> &[Loc]
+    ensures all { (l : Location ℕ) → Contains (map loc_view locations.now) l → (l ≡ Is node) ⊎ Contains (map loc_view result.now) l }
+    ensures rest { (l : Location ℕ) → Contains (map loc_view result.now) l → Contains (map loc_view locations.now) l }
+    ensures fewer { length result.now ≤ length locations.now }
+{
+    let mut rest = locations;
+    while let Some((next, left)) = rest.split_first() {
+        if !is_class(*next, node) {
+            return rest;
+        }
+        rest = left;
+    }
+    rest
+}
+
+// The facet of the node's class or, where they have one, of it and the first of these locations that isn't the class once more; with what
+// is left of them.
+fn facet_of_class(node: Node, rest: &[Loc]) -> Result<(Facet, &[Loc]), AllocError>
+    ensures { IfOk result (λ r. IsFirst (Is node ∷ map loc_view rest.now) node r.0 (map loc_view r.1.now)) }
+{
+    let rest = behind_class(node, rest);
+    let Some((next, left)) = rest.split_first() else {
+        return Ok((Facet::Is, rest));
+    };
+    match Facet::of_both(node, *next)? {
+        Some(facet) => Ok((facet, left)),
+        None => Ok((Facet::Is, rest)),
+    }
+}
+
+// The facet of the location or, where they have one, of it and the first of the others; with what is left of these.
+fn first_facet(location: Loc, others: &[Loc]) -> Result<(Facet, &[Loc]), AllocError>
+    ensures { IfOk result (λ r. IsFirst (loc_view location ∷ map loc_view others.now) (node_at (loc_view location)) r.0 (map loc_view r.1.now)) }
+{
+    match location {
+        Loc::Is(node) => facet_of_class(node, others),
+        _ => Ok((Facet::of(location)?, others)),
+    }
+}
+
 /// One more edge of each of these locations. The nodes whose index is among them are noted.
 pub fn add_readers(
     alloc: Global,
@@ -309,9 +360,12 @@ pub fn add_readers(
     ensures noted { AreNoted (edges_at readers.old.items) index_read.old.items → AreNoted (edges_at readers.new.items) index_read.new.items }
     ensures short { length readers.old.items ≤ 2 ^ 32 → length readers.new.items ≤ 2 ^ 32 }
 {
-    for location in locations {
+    let mut rest = locations;
+    while let Some((location, others)) = rest.split_first() {
         note(readers.as_slice(), index_read, *location)?;
-        add_reader(alloc, entries, readers, *location, edge)?;
+        let (facet, left) = first_facet(*location, others)?;
+        add_reader(alloc, entries, readers, location.node(), facet, edge)?;
+        rest = left;
     }
     Ok(())
 }

@@ -1,17 +1,17 @@
 //! How many locations the entries read.
 
-ghost use Rattle.std.specs.Prelude.{◌≡◌, ◌-◌, ◌^◌, min};
+ghost use Rattle.std.specs.Prelude.{◌≡◌, ◌*◌, ◌-◌, ◌^◌, min};
 ghost use Rattle.at_cache.specs.Edges.{edges_in};
 ghost use Rattle.at_cache.specs.Rows.{edges_along, edges_of};
 ghost use Rattle.at_cache.specs.Info.{memory_of};
-ghost use Rattle.at_cache.specs.Stored.{current_of, held_of, reads_held};
+ghost use Rattle.at_cache.specs.Stored.{current_of, held_of, reads_held, width};
 
 use crate::edge::Edges;
 use crate::facet::{Facets, Readers};
 use crate::row::Row;
 use crate::table::Table;
 
-/// How many direct reads the entries have, each location as often as it was put; or the greatest `usize` if they are more.
+/// How many direct reads the entries have, each location as often as there is an edge for it; or the greatest `usize` if they are more.
 pub fn reads_held(entries: &Table, readers: &[Facets]) -> usize
     ensures { result ≡ min (reads_held (memory_of entries.now) readers.now) (2 ^ 64 - 1) }
 {
@@ -28,7 +28,18 @@ fn held_of(entries: &Table, facets: &[Readers]) -> usize
 {
     let mut count: usize = 0;
     for facet in facets {
-        count = count.saturating_add(current_in(entries, &facet.edges));
+        count = count.saturating_add(held_at(entries, facet));
+    }
+    count
+}
+
+// How many are of this facet: each of its edges tells of one location, or of two.
+fn held_at(entries: &Table, reader: &Readers) -> usize
+    ensures { result ≡ min (width reader.now.facet * current_of (memory_of entries.now) (edges_in reader.now.edges)) (2 ^ 64 - 1) }
+{
+    let count = current_in(entries, &reader.edges);
+    if reader.facet.has_class() {
+        return count.saturating_add(count);
     }
     count
 }

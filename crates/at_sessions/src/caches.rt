@@ -121,6 +121,38 @@ fn what_uses_an_entry_goes_with_it(rt: HostRuntime) -> Result<(), Fail> {
     Ok(())
 }
 
+/// Whether an entry that reads these locations stays where that one is touched.
+fn stays(alloc: Global, reads: &[Loc], touched: Loc) -> Result<bool, AllocError> {
+    let mut keeper = KeepRecorded::new(alloc);
+    put_new(&mut keeper, inst(0), Some(Value::Int(7)), reads, &[])?;
+    keeper.flush(&|location: Loc| location == touched);
+    Ok(has(&keeper, 0))
+}
+
+#[test]
+fn a_class_and_what_is_read_next_are_two_locations(rt: HostRuntime) -> Result<(), Fail> {
+    let alloc = rt.alloc();
+    let node = numbered(0);
+    let class = Loc::Is(node);
+    for next in [
+        Loc::Tok(node, 0),
+        Loc::Slot(node, 0),
+        Loc::Up(node),
+        Loc::Idx(node),
+    ] {
+        let reads = [class, class, next, Loc::Tok(node, 2)];
+        assert!(rt; !stays(alloc, &reads, class)?);
+        assert!(rt; !stays(alloc, &reads, next)?);
+        assert!(rt; !stays(alloc, &reads, Loc::Tok(node, 2))?);
+        assert!(rt; stays(alloc, &reads, Loc::Tok(node, 1))?);
+        assert!(rt; stays(alloc, &reads, Loc::Is(numbered(1)))?);
+        let mut keeper = KeepRecorded::new(alloc);
+        put_new(&mut keeper, inst(0), Some(Value::Int(7)), &reads, &[])?;
+        assert_eq!(rt; keeper.stored(), 3);
+    }
+    Ok(())
+}
+
 #[test]
 fn links_follow_their_entries(rt: HostRuntime) -> Result<(), Fail> {
     let alloc = rt.alloc();
