@@ -4,8 +4,9 @@ import subprocess
 
 from tools.of_the_program.runs import NOTHING, SECONDS, ProgramTest
 
-# How deep instances nest at most where they are evaluated in one go, and depths on both sides of it.
-DEPTH = 400
+# Expressions nest 800 deep at most where they are evaluated in one go. Of each item there are three, and five more at the last one that fits:
+# so depths on both sides of that.
+DEPTH = (800 - 5) // 3 + 1
 DEPTHS = (1, DEPTH - 1, DEPTH, DEPTH + 1, DEPTH + 2, 3_000)
 # What reading the deepest tree takes, and a question: less than that.
 STACK = 1024 * 1024

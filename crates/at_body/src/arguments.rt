@@ -61,7 +61,7 @@ impl Arguments {
     }
 
     /// The same values once more, which takes no memory but a count. An error where that is at its end.
-    pub(crate) fn share(&self) -> Result<Self, AllocError>
+    pub fn share(&self) -> Result<Self, AllocError>
         ensures { IfOk result (λ a. a ≡ self.now) }
     {
         match &self.shared {

@@ -128,7 +128,7 @@ impl<'a> Trial<'a> {
 }
 
 /// Whether the expression is the name of the argument at an index, behind the names of so many elements of folds.
-fn is_passed(body: &Body, bound: usize, index: usize) -> bool
+pub fn is_passed(body: &Body, bound: usize, index: usize) -> bool
     ensures { IsTrue result → body_view body.now ≡ Name (bound + index) }
 {
     match body {

@@ -212,7 +212,7 @@ fn lent_at_hand(store: &Store, node: Node, part: usize) -> Option<Lent<'_>>
 }
 
 /// The text of a token; none where it is no text.
-fn token_text(store: &Store, node: Node, part: usize) -> Option<&str>
+pub fn token_text(store: &Store, node: Node, part: usize) -> Option<&str>
     requires idle_store { IsIdle store.now }
     ensures { IfSome result (λ text. IsToken (contents store.now) node part text.now) }
 {
@@ -223,7 +223,7 @@ fn token_text(store: &Store, node: Node, part: usize) -> Option<&str>
 }
 
 /// The text that a value is; none where it is no text.
-fn text_in(value: &Value) -> Option<&str>
+pub fn text_in(value: &Value) -> Option<&str>
     ensures { IfSome result (λ text. ReadsAs (value_view value.now) text.now) }
 {
     match value {
@@ -251,7 +251,7 @@ fn note(reads: &mut Reads, looked: Looked) -> Result<(), AllocError>
 }
 
 /// What a comparison of two texts tells, by whether they are the same.
-fn tells(comparison: &Binary, same: bool) -> bool
+pub fn tells(comparison: &Binary, same: bool) -> bool
     requires { IsComparison comparison.now }
     ensures { (v w : List ℕ) → same ≡ bytes_eq v w → with_two comparison.now (Text v) (Text w) ≡ Gives (Truth result) }
 {

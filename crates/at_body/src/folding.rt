@@ -109,7 +109,7 @@ impl<'a> Trial<'a> {
 }
 
 /// What a fold comes to at the end.
-fn come_to(fold: &Fold) -> Value
+pub fn come_to(fold: &Fold) -> Value
     ensures { (classes : Classes) (e : Expr) (p : Place) → over classes fold.now e p [] ≡ Gives (value_view result) }
 {
     match fold {

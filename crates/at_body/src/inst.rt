@@ -82,7 +82,7 @@ impl Inst {
     }
 
     /// The arguments once more, shared with the instance. An error where memory is wanting.
-    pub(crate) fn shared_arguments(&self) -> Result<Arguments, AllocError>
+    pub fn shared_arguments(&self) -> Result<Arguments, AllocError>
         ensures { IfOk result (λ vs. map value_view vs ≡ self.now.arguments) }
     {
         self.arguments.share()

@@ -32,9 +32,15 @@ mod using;
 mod value;
 
 pub use arguments::Arguments;
+pub use calling::is_passed;
+pub use comparing::{tells, text_in, token_text};
+pub use folding::come_to;
 pub use inst::Inst;
 pub use laws::{comes, fails, gives, passes};
 pub use reads::Reads;
+pub use stack::Stack;
+pub use starting::look_at;
+pub use todo::{Binary, Fold, Unary};
 pub use trial::{Step, Trial};
 pub use trying::{Known, Tried, try_body};
 pub use typing_laws::{

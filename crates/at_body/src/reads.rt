@@ -1,6 +1,6 @@
 //! The locations looked at.
 
-ghost use Rattle.std.specs.Prelude.{◌≡◌, ℕ, List, [], ◌∷◌, ◌++◌, OnOk, OnErr, map, length};
+ghost use Rattle.std.specs.Prelude.{◌≡◌, ◌≤◌, ℕ, List, [], ◌∷◌, ◌++◌, IfOk, OnOk, OnErr, drop, map, length, take};
 ghost use Rattle.at_model.specs.Run.{Location};
 ghost use Rattle.at_store.specs.Located.{loc_view};
 
@@ -38,7 +38,7 @@ impl Reads {
     }
 
     /// Takes all out; their memory stays.
-    pub(crate) fn clear(&mut self)
+    pub fn clear(&mut self)
         ensures { self.new ≡ [] }
     {
         self.items.clear();
@@ -60,6 +60,16 @@ impl Reads {
     {
         self.items.extend_from_slice(others.as_slice())?;
         Ok(())
+    }
+
+    /// Those behind the first so many, taken out. An error where memory is wanting; then they are as they were.
+    pub fn split_off(&mut self, count: usize) -> Result<Self, AllocError>
+        requires { count ≤ length self.old }
+        ensures front { OnOk result (self.new ≡ take count self.old) }
+        ensures tail { IfOk result (λ reads. reads ≡ drop count self.old) }
+    {
+        let items = self.items.split_off(count)?;
+        Ok(Reads { items })
     }
 
     /// All of them.

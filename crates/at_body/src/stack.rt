@@ -1,6 +1,6 @@
 //! A stack.
 
-ghost use Rattle.std.specs.Prelude.{◌≡◌, List, [], ◌∷◌, OnOk, length};
+ghost use Rattle.std.specs.Prelude.{◌≡◌, List, [], ◌∷◌, IfOk, OnOk, length};
 ghost use Rattle.std.specs.Prelude.{reverse};
 ghost use Rattle.std.specs.Option.{MatchOption};
 ghost use Rattle.at_body.specs.Stacked.{below};
@@ -65,6 +65,15 @@ impl<T: Drop> Stack<T> {
 }
 
 impl<T: Copy> Stack<T> {
+    /// The same values once more. An error where memory is wanting.
+    pub fn copy(&self) -> Result<Self, AllocError>
+        ensures { IfOk result (λ s. s ≡ self.now) }
+    {
+        let mut items = Vec::new(*self.items.allocator());
+        items.extend_from_slice(self.items.as_slice())?;
+        Ok(Stack { items })
+    }
+
     /// The value at a position from the top.
     pub fn get(&self, position: usize) -> Option<T>
         ensures { result ≡ slice_get self.now position }

@@ -173,7 +173,7 @@ impl<'a> Trial<'a> {
 }
 
 /// Looks at the classes of the nodes among the arguments.
-fn look_at(arguments: &[Value], reads: &mut Reads) -> Result<(), AllocError>
+pub fn look_at(arguments: &[Value], reads: &mut Reads) -> Result<(), AllocError>
     ensures { OnOk result (reads.new ≡ reads.old ++ argument_classes (map value_view arguments.now)) }
 {
     let mut rest = arguments;

@@ -1,6 +1,6 @@
 //! An evaluation that can be put aside where it demands an instance.
 
-ghost use Rattle.std.specs.Prelude.{◌≡◌, ◌<◌, ◌≤◌, ◌+◌, ◌-◌, ◌++◌, ◌∷◌, [], ℕ, List, length, IfOk, IfSome, IsSome, OnOk, map, option_copied, slice_get};
+ghost use Rattle.std.specs.Prelude.{◌≡◌, ◌<◌, ◌≤◌, ◌+◌, ◌-◌, ◌++◌, ◌∷◌, [], ℕ, List, length, IfOk, IfSome, IsSome, map, option_copied, slice_get};
 ghost use Rattle.at_model.specs.Classes.{Classes};
 ghost use Rattle.at_model.specs.Follow.{follow};
 ghost use Rattle.at_model.specs.Run.{Contents, Gives, Location, Ref};
@@ -113,13 +113,6 @@ impl<'a> Trial<'a> {
         ensures { map loc_view result.items ≡ self.old.reads }
     {
         mem::replace(&mut self.reads, Reads::new(alloc)).into_vec()
-    }
-
-    /// Notes these locations, too: what was looked at for a value that it is told. An error where memory is wanting.
-    pub fn note(&mut self, reads: &Reads) -> Result<(), AllocError>
-        ensures { OnOk result (self.new ≡ record self.old { reads = self.old.reads ++ reads.now }) }
-    {
-        self.reads.extend(reads)
     }
 
     /// Puts a list there, in whose memory it notes what it looks at once it begins anew. What is in it counts for nothing.

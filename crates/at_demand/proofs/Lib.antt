@@ -31,4 +31,5 @@ mod Fitting
 mod Putting
 pub mod Chained
 mod of_nesting
+mod of_parts
 pub mod of_traces

@@ -62,10 +62,3 @@ module _ (rules : Rules) (at : ClassAt ℕ) where
 pub told_value : (rules : Rules) → AreWellFormed rules → (s : Shown) → IsIdle s → IsTreeSound rules.classes (tree s) → (t : Trial) (j : Instance ℕ) (v : Value ℕ) →
     trial.WaitsFor rules (trial.class_shown s) t j → HasValue (contents s) (meaning rules) j v → trial.Takes rules (trial.class_shown s) t v
 told_value rules formed s idle sound t j v waits has = told rules (trial.class_shown s) t j v waits (known_typed rules formed s idle sound j v waits.instance has)
-
--- so it may where more was looked at for it
-pub told_again : (rules : Rules) → AreWellFormed rules → (s : Shown) → IsIdle s → IsTreeSound rules.classes (tree s) → (t u : Trial) (j : Instance ℕ) (v : Value ℕ) (ls : List (Location ℕ)) →
-    trial.WaitsFor rules (trial.class_shown s) t j → HasValue (contents s) (meaning rules) j v → u ≡ record t { reads = t.reads ++ ls } → trial.Takes rules (trial.class_shown s) u v
-told_again rules formed s idle sound t u j v ls waits has e =
-    let w : trial.WaitsFor rules (trial.class_shown s) (record t { reads = t.reads ++ ls }) j = record { kinds = waits.kinds; instance = waits.instance; stands = record { place = waits.stands.place; todo = waits.stands.todo } } in
-    told_value rules formed s idle sound u j v (subst (λ (x : Trial). trial.WaitsFor rules (trial.class_shown s) x j) (sym e) w) has

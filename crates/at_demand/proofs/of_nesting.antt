@@ -1,5 +1,5 @@
-pub mod Going
 pub mod Remembered
 pub mod InnerPuts
 pub mod InnerGains
 pub mod InnerAnswered
+pub mod Asked

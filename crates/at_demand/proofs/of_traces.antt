@@ -6,4 +6,3 @@ pub mod OfTree
 pub mod Lazily
 pub mod Putting
 pub mod Untouched
-pub mod LedTyped

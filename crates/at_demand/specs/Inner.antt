@@ -55,7 +55,7 @@ pub record HasTold (rules : Rules) (look : Contents ℕ) (known : Known ℕ) (ol
   pub looks : List (Location ℕ)
   pub takes : List (Instance ℕ)
   pub given : IsGiven rules look known j v looks takes
-  pub trial : new.trial ≡ record old.trial { reads = old.trial.reads ++ looks }
+  pub reads : new.reads ≡ old.reads ++ looks
   pub uses : new.uses.items ≡ old.uses.items ++ takes
 
 -- the known value is told, or nothing has changed

@@ -18,4 +18,5 @@ pub mod KeptTrials
 pub mod Answered
 pub mod Keeping
 pub mod Inner
+pub mod InParts
 pub mod Traces

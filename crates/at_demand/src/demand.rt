@@ -1,6 +1,6 @@
 //! Questions for the values of instances.
 
-ghost use Rattle.std.specs.Prelude.{◌≡◌, ◌<◌, ◌^◌, [], map, IfOk, IfSome, OnErr, IsTrue, None, Some, true};
+ghost use Rattle.std.specs.Prelude.{◌≡◌, ◌<◌, ◌^◌, [], is_some, map, IfOk, IfSome, OnErr, IsTrue, None, Some, true};
 ghost use Rattle.std.specs.Map.{lookup};
 ghost use Rattle.at_model.specs.Instances.{AnyText};
 ghost use Rattle.at_model.specs.Meaning.{HasValue, Right};
@@ -12,7 +12,7 @@ ghost use Rattle.at_store.specs.Shown.{IsIdle, contents, tree};
 ghost use Rattle.at_body.specs.Same.{same_instance};
 ghost use Rattle.at_body.specs.Typed.{class_shown};
 ghost use Rattle.at_body.specs.Values.{value_view};
-ghost use Rattle.at_cache.specs.Kept.{AreKept, AreNamed, HasPut, KeepsAll, Answers as Says, LeavesUntouched, LosesTouched};
+ghost use Rattle.at_cache.specs.Kept.{AreKept, AreNamed, HasPut, KeepsAll, Answers as Says, LeavesUntouched, LosesTouched, value_at};
 ghost use Rattle.at_demand.specs.Known.{meaning, kept_values, known_in, ArePlain, AreValued, FoundKept};
 ghost use Rattle.at_demand.specs.Keeping.{HasPlaced, KeepsWhereLazy, Shares};
 ghost use Rattle.at_demand.specs.Advancing.{HasAdvanced};
@@ -31,9 +31,10 @@ mod shared;
 mod turning;
 
 use crate::answer::Answer;
-use crate::direct::{Direct, Stop};
+use crate::direct::Direct;
 use crate::evaluation::{Advance, Evaluation, Find};
 use crate::sharing::Sharing;
+use at_apply::Stop;
 use at_body::{Inst, Step, Value};
 use at_cache::{Keeper, Order, Put};
 use at_rules::Rules;
@@ -92,6 +93,13 @@ impl<K: Keeper> Demand<K> {
         self.answer_anew(rules, store, inst)
     }
 
+    /// Whether the value of the instance is kept: then it is answered without that anything is evaluated.
+    pub fn is_kept(&self, inst: &Inst) -> bool
+        ensures { result ≡ is_some (value_at (K.contents self.now.keeper inst.now)) }
+    {
+        self.keeper.get(inst).is_some()
+    }
+
     // The answer for an instance that isn't kept: in one go or, where that gives up, by a chain of evaluations that wait.
     #[inline(never)]
     fn answer_anew(
@@ -126,9 +134,6 @@ impl<K: Keeper> Demand<K> {
         inst: &Inst,
     ) -> Result<Option<Value>, AllocError>
         requires idle { IsIdle store.now }
-        requires formed { AreWellFormed rules.now }
-        requires sound { IsTreeSound rules.now.classes (tree store.now) }
-        requires typed { IsWellTyped rules.now (class_shown store.now) AnyText inst.now }
         requires known { AreKnown rules.now (contents store.now) (K.contents self.old.keeper) [] }
         requires justified { AreJustified rules.now (contents store.now) (K.memories self.old.keeper) }
         ensures value { IfOk result (λ o. IfSome o (λ v. HasValue (contents store.now) (meaning rules.now) inst.now (value_view v))) }

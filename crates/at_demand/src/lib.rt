@@ -5,8 +5,8 @@
 //! `Covering` how the locations of an entry come together, `Only` that nothing else does, `Keeping` what becomes of a
 //! find that is to be kept, and which entries without a value come before; `Sparing` what an exact keeper has and how
 //! much comes, `Advancing` what a step comes to and `Answered` a question, `Touched` and `Spared` what an edit leaves,
-//! `Called` the same by paths. `Inner` is what instances are told that are evaluated in one go, and what comes of it, and `Traces` when what can be
-//! kept again with no evaluation is right. Of questions in turns, `Turns` shows one in the words of `at_model`, `Attempts` is what
+//! `Called` the same by paths. `Inner` is what instances are told that are evaluated in one go, and what comes of it, `InParts` the same of an
+//! expression, part by part, and `Traces` when what can be kept again with no evaluation is right. Of questions in turns, `Turns` shows one in the words of `at_model`, `Attempts` is what
 //! one try comes to, `ChainSteps` what that does to the chain, `KeptTrials` the trials that stay while turns follow
 //! each other.
 //!

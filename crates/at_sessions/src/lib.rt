@@ -6,6 +6,8 @@
 #![tactic(auto)]
 
 #[cfg(test)]
+mod applying;
+#[cfg(test)]
 mod caches;
 #[cfg(test)]
 mod cutting;

@@ -25,7 +25,7 @@ enum End {
     GivenUp,
 }
 
-fn classes(alloc: Global) -> Result<ClassTable, Fail> {
+pub fn classes(alloc: Global) -> Result<ClassTable, Fail> {
     let Ok(text) = from_utf8(GRAMMAR) else {
         return Err(Fail::new("no text"));
     };
@@ -42,7 +42,7 @@ fn classes(alloc: Global) -> Result<ClassTable, Fail> {
 }
 
 /// The store of the calculator's tree.
-fn loaded(alloc: Global, classes: &ClassTable) -> Result<Store, Fail>
+pub fn loaded(alloc: Global, classes: &ClassTable) -> Result<Store, Fail>
     ensures idle { IfOk result (λ s. IsIdle s) }
     ensures conforming { IfOk result (λ s. conforms classes.now (tree_shown s) 0 ≡ true) }
 {

@@ -300,24 +300,24 @@ module _ (rules : Rules) (s : Shown) (exact : Bool) where
 
 -- what a level is told of what is known, and of an inner one
 module _ (rules : Rules) (look : Contents ℕ) (known : Known ℕ) (old new : Level) (j : Instance ℕ) (v : Value ℕ) where
-  pub told_kept : known j ≡ Some v → new.trial ≡ old.trial → new.uses.items ≡ old.uses.items ++ j ∷ [] →
+  pub told_kept : known j ≡ Some v → new.reads ≡ old.reads → new.uses.items ≡ old.uses.items ++ j ∷ [] →
       HasTold rules look known old new j v
-  told_kept e trial uses = record {
+  told_kept e reads uses = record {
     looks = [];
     takes = j ∷ [];
     given = (0, (e, refl, refl));
-    trial = trial ∙ ap (λ (z : List (Location ℕ)). record old.trial { reads = z }) (sym (append-nil old.trial.reads));
+    reads = reads ∙ sym (append-nil old.reads);
     uses = uses;
   }
 
   pub told_inner : (ls : List (Location ℕ)) (us : List (Instance ℕ)) → is_lazy rules j.attribute ≡ false →
-      IsEvaluated rules look known j v ls us → new.trial ≡ record old.trial { reads = old.trial.reads ++ ls } →
+      IsEvaluated rules look known j v ls us → new.reads ≡ old.reads ++ ls →
       new.uses.items ≡ old.uses.items ++ us → HasTold rules look known old new j v
-  told_inner ls us lazy come trial uses = record {
+  told_inner ls us lazy come reads uses = record {
     looks = ls;
     takes = us;
     given = (suc come.0, inr (ap not lazy, come.1));
-    trial = trial;
+    reads = reads;
     uses = uses;
   }
 

@@ -1,248 +1,35 @@
-use Rattle.std.proofs.Common.{ℕ, List, [], ◌++◌, Option, refl, sym, ap, ◌∙◌, subst}
+use Rattle.std.proofs.Common.{◌≡◌, ℕ, List, Some, true, false, drop, take, length, Option, refl, sym, ap, ◌+◌, ◌∙◌, subst, arith, ◌++◌, Ok, None, IfOk, map}
 use Rattle.std.specs.Option.{IfSome}
+use Rattle.std.proofs.lemmas.Result.{IfOk-weaker}
 use Rattle.at_model.specs.Meaning.{Leads}
-use Rattle.at_model.specs.Run.{Instance}
+use Rattle.at_model.specs.Rules.{is_lazy}
+use Rattle.at_model.specs.Run.{Instance, Location, Gives, Truth}
 use Rattle.at_store.specs.Shown.{contents}
-use Rattle.at_body.specs.Typed.{IsTypedStep, class_shown}
 use Rattle.at_body.specs.Values.{value_view}
-use Rattle.at_body.specs.declared.trial.Step.{Step}
-use Rattle.at_body.proofs.TypedShown.{shown_typed}
-use Rattle.at_demand.specs.declared.direct.Level.{Level}
 use Rattle.at_body.specs.declared.value.Value.{Value as ValueCode}
-use Rattle.at_demand.specs.Inner.{Gains, HasRecalled, known_by}
+use Rattle.at_demand.specs.declared.direct.Level.{Level}
+use Rattle.at_demand.specs.Inner.{AreKnown, Gains, HasRecalled, HasTold, IsEvaluated, known_by}
+use Rattle.at_demand.specs.InParts.{HasCome, Held, held, values_in}
 use Rattle.at_demand.specs.Known.{meaning}
-use Rattle.at_demand.proofs.of_nesting.Going.{begun_going, going_needs, going_on, going_whole}
-use Rattle.at_demand.proofs.of_nesting.InnerGains.{Found, gains_none, gains_then, gains_up, leads_next, told_holds}
-use Rattle.at_demand.proofs.of_nesting.Remembered.{known_on, right_by}
+use Rattle.at_demand.proofs.SparingOn.{told_lazy}
+use Rattle.at_demand.proofs.of_nesting.Asked.{evaluated_behind, evaluated_in, inner_told, reads_before, reads_longer, told_alike, uses_before, uses_longer, gains_evaluated, traced_evaluated}
+use Rattle.at_demand.proofs.of_nesting.InnerGains.{Found, gains_from, gains_none, gains_then, gains_up}
 use Rattle.at_demand.proofs.of_traces.Putting.{traced_same, traced_then, traced_up}
-use Rattle.at_demand.proofs.TypingLemmas.{told_again}
+use Rattle.std.proofs.lemmas.List.{nil_from_length}
+use Rattle.at_rules.specs.Bodies.{bodies_view, body_view}
+use Rattle.at_rules.specs.declared.body.Body.{items_hidden-the_row-Body-0}
+use Rattle.at_body.specs.Rest.{ev, ev_all, over}
+use Rattle.at_body.proofs.Entering.{call_view}
+use Rattle.at_apply.specs.Looking.{MayHaveLooked}
+use Rattle.at_apply.specs.Parts.{next_of, or_truth, two_of}
+use Rattle.at_apply.specs.Place.{place_at}
+use Rattle.at_demand.specs.Traces.{StayJustified}
+use Rattle.at_demand.proofs.of_parts.Directly.{come_begun, come_gives, come_looked, gains_begun, nothing_gained}
+use Rattle.at_demand.proofs.of_parts.ByForm.{call_come, call_gains, call_gains_first, call_gains_second, come_as, either_come, either_gains, either_gains_test, fold_come, fold_gains, fold_gains_first, gains_as, one_come, one_gains, two_come, two_gains, two_gains_first}
+use Rattle.at_demand.proofs.of_parts.Looping.{bound_at, each_all, each_ends, each_gains, each_on, gains_so_far, passed_all, passed_gains, passed_on, starts, unbound_at}
 use Rattle.at_demand.proofs.direct.Direct.+direct.Goals as goal
-
-pub evaluate-loop-step-init : goal.evaluate-loop-step-init
-evaluate-loop-step-init g n c =
-    let entries = g.K.Keeper.contents c.args.keeper.now in
-    let found = c.args.self.now.found.entries in
-    record {
-      traces = traced_same c.args.rules.now c.args.store.now c.args.inst.now (g.K.Keeper.memories c.args.keeper.now)
-          c.requires.justified;
-      gains = gains_none c.args.rules.now c.args.store.now g.K.Keeper.exact c.args.inst.now entries found
-          c.args.self.now.work c.args.self.now.few c.requires.known;
-      goes = begun_going c.args.rules.now (contents c.args.store.now) (known_by entries found) c.args.inst.now (record
-          { trial = c.restart.new.self; uses = c.clear.new.self }) c.in_ok-step.step c.in_ok-step.ensures.found
-          c.clear.ensures.items;
-      typed = c.in_ok-step.ensures.typed;
-    }
-
-pub evaluate-returns-in-Value-clause-come : goal.evaluate-returns-in-Value-clause-come
-evaluate-returns-in-Value-clause-come g n c =
-    let l = c.loop-step in
-    going_whole c.args.rules.now (contents c.args.store.now) (known_by (g.K.Keeper.contents l.keeper)
-    l.self.found.entries) c.args.inst.now l.level l.step c.in-Value.value c.in-Value.is l.invariant.goes
-
-pub evaluate-returns-in_err-value-in-Need-clause-gains : goal.evaluate-returns-in_err-value-in-Need-clause-gains
-evaluate-returns-in_err-value-in-Need-clause-gains g n c =
-    let rules = c.args.rules.now in
-    let s = c.args.store.now in
-    let l = c.loop-step in
-    let exact = g.K.Keeper.exact in
-    let mid = g.K.Keeper.contents l.keeper in
-    let new = g.K.Keeper.contents c.told.new.keeper in
-    let found = l.self.found.entries in
-    let needs = leads_next rules (contents s) c.args.inst.now c.in-Need.needed
-    (going_needs rules (contents s) (known_by mid found) c.args.inst.now l.level l.step c.in-Need.needed (right_by
-    rules (contents s) mid found l.invariant.gains.known) c.in-Need.is l.invariant.goes) in
-    gains_then rules s exact c.args.inst.now (g.K.Keeper.contents c.args.keeper.now) mid new
-    c.args.self.now.found.entries found c.told.new.self.found.entries c.args.self.now.work l.self.work
-    c.told.new.self.work
-    l.invariant.gains (gains_up rules s exact c.requires.idle c.args.inst.now c.in-Need.needed mid new found
-    c.told.new.self.found.entries l.self.work c.told.new.self.work needs c.told.ensures.gains)
-
-pub evaluate-resume-requires-clause-over : goal.evaluate-resume-requires-clause-over
-evaluate-resume-requires-clause-over g n c = shown_typed c.args.rules.now c.args.store.now c.requires.idle
-    c.requires.formed c.requires.sound
-
-pub evaluate-resume-requires-clause-takes : goal.evaluate-resume-requires-clause-takes
-evaluate-resume-requires-clause-takes g n c =
-    let rules = c.args.rules.now in
-    let s = c.args.store.now in
-    let l = c.loop-step in
-    let new = g.K.Keeper.contents c.told.new.keeper in
-    let v = value_view c.in_ok-value-in-Need.value in
-    let waits = subst (λ (x : Step). IsTypedStep rules (class_shown s) x l.level.trial) c.in-Need.is l.invariant.typed
-    in
-    let told = c.in_ok-value-in-Need.ensures.told in
-    let has = told_holds rules s g.K.Keeper.exact new c.told.new.self.found.entries c.in-Need.needed v told.looks
-    told.takes c.told.ensures.gains.known told.given in
-    told_again rules c.requires.formed s c.requires.idle c.requires.sound l.level.trial c.told.new.level.trial
-    c.in-Need.needed v told.looks waits has told.trial
-
-pub evaluate-returns-in_err-step-in-Need-clause-gains : goal.evaluate-returns-in_err-step-in-Need-clause-gains
-evaluate-returns-in_err-step-in-Need-clause-gains g n c =
-    let rules = c.args.rules.now in
-    let s = c.args.store.now in
-    let l = c.loop-step in
-    let exact = g.K.Keeper.exact in
-    let mid = g.K.Keeper.contents l.keeper in
-    let new = g.K.Keeper.contents c.told.new.keeper in
-    let found = l.self.found.entries in
-    let needs = leads_next rules (contents s) c.args.inst.now c.in-Need.needed
-    (going_needs rules (contents s) (known_by mid found) c.args.inst.now l.level l.step c.in-Need.needed (right_by
-    rules (contents s) mid found l.invariant.gains.known) c.in-Need.is l.invariant.goes) in
-    gains_then rules s exact c.args.inst.now (g.K.Keeper.contents c.args.keeper.now) mid new
-    c.args.self.now.found.entries found c.told.new.self.found.entries c.args.self.now.work l.self.work
-    c.told.new.self.work
-    l.invariant.gains (gains_up rules s exact c.requires.idle c.args.inst.now c.in-Need.needed mid new found
-    c.told.new.self.found.entries l.self.work c.told.new.self.work needs c.told.ensures.gains)
-
-pub evaluate-loop-step-preserved : goal.evaluate-loop-step-preserved
-evaluate-loop-step-preserved g n c =
-    let rules = c.args.rules.now in
-    let s = c.args.store.now in
-    let l = c.loop-step in
-    let exact = g.K.Keeper.exact in
-    let mid = g.K.Keeper.contents l.keeper in
-    let new = g.K.Keeper.contents c.told.new.keeper in
-    let found = l.self.found.entries in
-    let needs = leads_next rules (contents s) c.args.inst.now c.in-Need.needed
-    (going_needs rules (contents s) (known_by mid found) c.args.inst.now l.level l.step c.in-Need.needed (right_by
-    rules (contents s) mid found l.invariant.gains.known) c.in-Need.is l.invariant.goes) in
-    let more = c.told.new.self.found.entries in
-    let next : Level = record { trial = c.resume.new.self; uses = c.told.new.level.uses } in
-    record {
-      traces = traced_then rules s c.args.inst.now (g.K.Keeper.memories c.args.keeper.now) (g.K.Keeper.memories l.keeper)
-          (g.K.Keeper.memories c.told.new.keeper) l.invariant.traces (traced_up rules s c.requires.idle c.args.inst.now
-          c.in-Need.needed (g.K.Keeper.memories l.keeper) (g.K.Keeper.memories c.told.new.keeper) needs
-          c.told.ensures.traces);
-      gains = gains_then rules s exact c.args.inst.now (g.K.Keeper.contents c.args.keeper.now) mid new
-          c.args.self.now.found.entries found c.told.new.self.found.entries c.args.self.now.work l.self.work
-          c.told.new.self.work
-          l.invariant.gains (gains_up rules s exact c.requires.idle c.args.inst.now c.in-Need.needed mid new found
-          c.told.new.self.found.entries l.self.work c.told.new.self.work needs c.told.ensures.gains);
-      goes = going_on rules (contents s) (known_by mid found) (known_by new more) c.args.inst.now c.in-Need.needed
-          l.level c.told.new.level next l.step c.in_ok-step-in-Need.step (value_view c.in_ok-value-in-Need.value)
-          (right_by rules (contents s) mid found l.invariant.gains.known) (right_by rules (contents s) new more
-          c.told.ensures.gains.known)
-          (known_on rules (contents s) mid found l.invariant.gains.known new more c.told.ensures.gains.known
-          c.told.ensures.gains.worthy.stays c.told.ensures.gains.still)
-          c.in-Need.is l.invariant.goes c.in_ok-value-in-Need.ensures.told refl c.in_ok-step-in-Need.ensures.found;
-      typed = c.in_ok-step-in-Need.ensures.typed;
-    }
-
-pub within-returns-in_err-value-clause-gains : goal.within-returns-in_err-value-clause-gains
-within-returns-in_err-value-clause-gains g n c =
-    subst (λ (f : Found). Gains c.args.rules.now c.args.store.now g.K.Keeper.exact c.args.needed (g.K.Keeper.contents
-    c.args.keeper.now) (g.K.Keeper.contents c.evaluate.new.keeper) f c.evaluate.new.self.found.entries
-    c.args.self.now.work c.evaluate.new.self.work) c.level-below.ensures.found
-    (subst (λ (w : ℕ). Gains c.args.rules.now c.args.store.now g.K.Keeper.exact c.args.needed (g.K.Keeper.contents
-    c.args.keeper.now) (g.K.Keeper.contents c.evaluate.new.keeper) c.level-below.new.self.found.entries
-    c.evaluate.new.self.found.entries w c.evaluate.new.self.work) c.level-below.ensures.work
-    c.evaluate.ensures.gains)
-
-pub within-returns-in_err-settle-clause-gains : goal.within-returns-in_err-settle-clause-gains
-within-returns-in_err-settle-clause-gains g n c =
-    gains_then c.args.rules.now c.args.store.now g.K.Keeper.exact c.args.needed (g.K.Keeper.contents c.args.keeper.now)
-    (g.K.Keeper.contents c.evaluate.new.keeper) (g.K.Keeper.contents c.settle.new.keeper)
-    c.args.self.now.found.entries c.evaluate.new.self.found.entries c.settle.new.self.found.entries
-    c.args.self.now.work c.evaluate.new.self.work c.settle.new.self.work
-    (subst (λ (f : Found). Gains c.args.rules.now c.args.store.now g.K.Keeper.exact c.args.needed (g.K.Keeper.contents
-    c.args.keeper.now) (g.K.Keeper.contents c.evaluate.new.keeper) f c.evaluate.new.self.found.entries
-    c.args.self.now.work c.evaluate.new.self.work) c.level-below.ensures.found
-    (subst (λ (w : ℕ). Gains c.args.rules.now c.args.store.now g.K.Keeper.exact c.args.needed (g.K.Keeper.contents
-    c.args.keeper.now) (g.K.Keeper.contents c.evaluate.new.keeper) c.level-below.new.self.found.entries
-    c.evaluate.new.self.found.entries w c.evaluate.new.self.work) c.level-below.ensures.work
-    c.evaluate.ensures.gains))
-    c.settle.ensures.gains
-
-pub within-returns-in_err-push-clause-gains : goal.within-returns-in_err-push-clause-gains
-within-returns-in_err-push-clause-gains g n c =
-    gains_then c.args.rules.now c.args.store.now g.K.Keeper.exact c.args.needed (g.K.Keeper.contents c.args.keeper.now)
-    (g.K.Keeper.contents c.evaluate.new.keeper) (g.K.Keeper.contents c.settle.new.keeper)
-    c.args.self.now.found.entries c.evaluate.new.self.found.entries c.settle.new.self.found.entries
-    c.args.self.now.work c.evaluate.new.self.work c.settle.new.self.work
-    (subst (λ (f : Found). Gains c.args.rules.now c.args.store.now g.K.Keeper.exact c.args.needed (g.K.Keeper.contents
-    c.args.keeper.now) (g.K.Keeper.contents c.evaluate.new.keeper) f c.evaluate.new.self.found.entries
-    c.args.self.now.work c.evaluate.new.self.work) c.level-below.ensures.found
-    (subst (λ (w : ℕ). Gains c.args.rules.now c.args.store.now g.K.Keeper.exact c.args.needed (g.K.Keeper.contents
-    c.args.keeper.now) (g.K.Keeper.contents c.evaluate.new.keeper) c.level-below.new.self.found.entries
-    c.evaluate.new.self.found.entries w c.evaluate.new.self.work) c.level-below.ensures.work
-    c.evaluate.ensures.gains))
-    c.settle.ensures.gains
-
-pub within-returns-clause-gains : goal.within-returns-clause-gains
-within-returns-clause-gains g n c =
-    gains_then c.args.rules.now c.args.store.now g.K.Keeper.exact c.args.needed (g.K.Keeper.contents c.args.keeper.now)
-    (g.K.Keeper.contents c.evaluate.new.keeper) (g.K.Keeper.contents c.settle.new.keeper)
-    c.args.self.now.found.entries c.evaluate.new.self.found.entries c.settle.new.self.found.entries
-    c.args.self.now.work c.evaluate.new.self.work c.settle.new.self.work
-    (subst (λ (f : Found). Gains c.args.rules.now c.args.store.now g.K.Keeper.exact c.args.needed (g.K.Keeper.contents
-    c.args.keeper.now) (g.K.Keeper.contents c.evaluate.new.keeper) f c.evaluate.new.self.found.entries
-    c.args.self.now.work c.evaluate.new.self.work) c.level-below.ensures.found
-    (subst (λ (w : ℕ). Gains c.args.rules.now c.args.store.now g.K.Keeper.exact c.args.needed (g.K.Keeper.contents
-    c.args.keeper.now) (g.K.Keeper.contents c.evaluate.new.keeper) c.level-below.new.self.found.entries
-    c.evaluate.new.self.found.entries w c.evaluate.new.self.work) c.level-below.ensures.work
-    c.evaluate.ensures.gains))
-    c.settle.ensures.gains
-
-pub evaluate-returns-in_err-value-in-Need-clause-traces : goal.evaluate-returns-in_err-value-in-Need-clause-traces
-evaluate-returns-in_err-value-in-Need-clause-traces g n c =
-    let rules = c.args.rules.now in
-    let s = c.args.store.now in
-    let l = c.loop-step in
-    let mid = g.K.Keeper.contents l.keeper in
-    let found = l.self.found.entries in
-    let needs = leads_next rules (contents s) c.args.inst.now c.in-Need.needed
-    (going_needs rules (contents s) (known_by mid found) c.args.inst.now l.level l.step c.in-Need.needed (right_by
-    rules (contents s) mid found l.invariant.gains.known) c.in-Need.is l.invariant.goes) in
-    traced_then rules s c.args.inst.now (g.K.Keeper.memories c.args.keeper.now) (g.K.Keeper.memories l.keeper)
-    (g.K.Keeper.memories c.told.new.keeper) l.invariant.traces (traced_up rules s c.requires.idle c.args.inst.now
-    c.in-Need.needed (g.K.Keeper.memories l.keeper) (g.K.Keeper.memories c.told.new.keeper) needs c.told.ensures.traces)
-
-pub evaluate-returns-in_err-step-in-Need-clause-traces : goal.evaluate-returns-in_err-step-in-Need-clause-traces
-evaluate-returns-in_err-step-in-Need-clause-traces g n c =
-    let rules = c.args.rules.now in
-    let s = c.args.store.now in
-    let l = c.loop-step in
-    let mid = g.K.Keeper.contents l.keeper in
-    let found = l.self.found.entries in
-    let needs = leads_next rules (contents s) c.args.inst.now c.in-Need.needed
-    (going_needs rules (contents s) (known_by mid found) c.args.inst.now l.level l.step c.in-Need.needed (right_by
-    rules (contents s) mid found l.invariant.gains.known) c.in-Need.is l.invariant.goes) in
-    traced_then rules s c.args.inst.now (g.K.Keeper.memories c.args.keeper.now) (g.K.Keeper.memories l.keeper)
-    (g.K.Keeper.memories c.told.new.keeper) l.invariant.traces (traced_up rules s c.requires.idle c.args.inst.now
-    c.in-Need.needed (g.K.Keeper.memories l.keeper) (g.K.Keeper.memories c.told.new.keeper) needs c.told.ensures.traces)
-
-pub within-returns-in_err-settle-clause-traces : goal.within-returns-in_err-settle-clause-traces
-within-returns-in_err-settle-clause-traces g n c =
-    traced_then c.args.rules.now c.args.store.now c.args.needed (g.K.Keeper.memories c.args.keeper.now)
-    (g.K.Keeper.memories c.evaluate.new.keeper) (g.K.Keeper.memories c.settle.new.keeper) c.evaluate.ensures.traces
-    c.settle.ensures.traces
-
-pub within-returns-in_err-push-clause-traces : goal.within-returns-in_err-push-clause-traces
-within-returns-in_err-push-clause-traces g n c =
-    traced_then c.args.rules.now c.args.store.now c.args.needed (g.K.Keeper.memories c.args.keeper.now)
-    (g.K.Keeper.memories c.evaluate.new.keeper) (g.K.Keeper.memories c.settle.new.keeper) c.evaluate.ensures.traces
-    c.settle.ensures.traces
-
-pub within-returns-clause-traces : goal.within-returns-clause-traces
-within-returns-clause-traces g n c =
-    traced_then c.args.rules.now c.args.store.now c.args.needed (g.K.Keeper.memories c.args.keeper.now)
-    (g.K.Keeper.memories c.evaluate.new.keeper) (g.K.Keeper.memories c.settle.new.keeper) c.evaluate.ensures.traces
-    c.settle.ensures.traces
-
--- told, where it can't be verified
-pub told-returns-in-None-clause-gains : goal.told-returns-in-None-clause-gains
-told-returns-in-None-clause-gains g n c =
-    gains_then c.args.rules.now c.args.store.now g.K.Keeper.exact c.args.needed (g.K.Keeper.contents c.args.keeper.now)
-    (g.K.Keeper.contents c.verify.new.keeper) (g.K.Keeper.contents c.within.new.keeper)
-    c.args.self.now.found.entries c.verify.new.self.found.entries c.within.new.self.found.entries
-    c.args.self.now.work c.verify.new.self.work c.within.new.self.work c.verify.ensures.gains
-    c.within.ensures.gains
-
-pub told-returns-in-None-clause-traces : goal.told-returns-in-None-clause-traces
-told-returns-in-None-clause-traces g n c =
-    traced_then c.args.rules.now c.args.store.now c.args.needed (g.K.Keeper.memories c.args.keeper.now)
-    (g.K.Keeper.memories c.verify.new.keeper) (g.K.Keeper.memories c.within.new.keeper)
-    c.verify.ensures.traces c.within.ensures.traces
+use Rattle.at_model.specs.Bodies as model
+use Rattle.at_body.specs.declared.value.Value.TheVariants as value
 
 pub verify-loop-init : goal.verify-loop-init
 verify-loop-init g n c = record {
@@ -311,107 +98,878 @@ verify-returns-in_default-2-clause-traces g n c =
     (g.K.Keeper.memories c.loop.keeper) (g.K.Keeper.memories c.keep_again.new.keeper) c.loop.invariant.traces
     c.keep_again.ensures.traces
 
-pub verify-returns-in_err-within-clause-gains : goal.verify-returns-in_err-within-clause-gains
-verify-returns-in_err-within-clause-gains g n c =
+pub verify-returns-in_err-afresh-clause-gains : goal.verify-returns-in_err-afresh-clause-gains
+verify-returns-in_err-afresh-clause-gains g n c =
     gains_then c.args.rules.now c.args.store.now g.K.Keeper.exact c.args.needed.now (g.K.Keeper.contents
-    c.args.keeper.now) (g.K.Keeper.contents c.keep_again.new.keeper) (g.K.Keeper.contents c.within.new.keeper)
-    c.args.self.now.found.entries c.keep_again.new.self.found.entries c.within.new.self.found.entries
-    c.args.self.now.work c.keep_again.new.self.work c.within.new.self.work
+    c.args.keeper.now) (g.K.Keeper.contents c.keep_again.new.keeper) (g.K.Keeper.contents c.afresh.new.keeper)
+    c.args.self.now.found.entries c.keep_again.new.self.found.entries c.afresh.new.self.found.entries
+    c.args.self.now.work c.keep_again.new.self.work c.afresh.new.self.work
     (gains_then c.args.rules.now c.args.store.now g.K.Keeper.exact c.args.needed.now (g.K.Keeper.contents
     c.args.keeper.now) (g.K.Keeper.contents c.loop.keeper) (g.K.Keeper.contents c.keep_again.new.keeper)
     c.args.self.now.found.entries c.loop.self.found.entries c.keep_again.new.self.found.entries
     c.args.self.now.work c.loop.self.work c.keep_again.new.self.work c.loop.invariant.gains c.keep_again.ensures.gains)
     (gains_up c.args.rules.now c.args.store.now g.K.Keeper.exact c.requires.idle c.args.needed.now c.in-Some-2.other
-    (g.K.Keeper.contents c.keep_again.new.keeper) (g.K.Keeper.contents c.within.new.keeper)
-    c.keep_again.new.self.found.entries c.within.new.self.found.entries c.keep_again.new.self.work
-    c.within.new.self.work (subst (λ (o : Option (Instance ℕ)). IfSome o (Leads (contents c.args.store.now)
+    (g.K.Keeper.contents c.keep_again.new.keeper) (g.K.Keeper.contents c.afresh.new.keeper)
+    c.keep_again.new.self.found.entries c.afresh.new.self.found.entries c.keep_again.new.self.work
+    c.afresh.new.self.work (subst (λ (o : Option (Instance ℕ)). IfSome o (Leads (contents c.args.store.now)
     (meaning c.args.rules.now) c.args.needed.now)) c.in-Some-2.is c.in_ok-other.ensures.led)
     (subst (λ (f : Found). Gains c.args.rules.now c.args.store.now g.K.Keeper.exact c.in-Some-2.other
-    (g.K.Keeper.contents c.keep_again.new.keeper) (g.K.Keeper.contents c.within.new.keeper) f
-    c.within.new.self.found.entries c.keep_again.new.self.work c.within.new.self.work) c.level-aside.ensures.found
+    (g.K.Keeper.contents c.keep_again.new.keeper) (g.K.Keeper.contents c.afresh.new.keeper) f
+    c.afresh.new.self.found.entries c.keep_again.new.self.work c.afresh.new.self.work) c.level-aside.ensures.found
     (subst (λ (w : ℕ). Gains c.args.rules.now c.args.store.now g.K.Keeper.exact c.in-Some-2.other
-    (g.K.Keeper.contents c.keep_again.new.keeper) (g.K.Keeper.contents c.within.new.keeper)
-    c.level-aside.new.self.found.entries c.within.new.self.found.entries w c.within.new.self.work)
-    c.level-aside.ensures.work c.within.ensures.gains)))
+    (g.K.Keeper.contents c.keep_again.new.keeper) (g.K.Keeper.contents c.afresh.new.keeper)
+    c.level-aside.new.self.found.entries c.afresh.new.self.found.entries w c.afresh.new.self.work)
+    c.level-aside.ensures.work c.afresh.ensures.gains)))
 
-pub verify-returns-in_err-within-clause-traces : goal.verify-returns-in_err-within-clause-traces
-verify-returns-in_err-within-clause-traces g n c =
+pub verify-returns-in_err-afresh-clause-traces : goal.verify-returns-in_err-afresh-clause-traces
+verify-returns-in_err-afresh-clause-traces g n c =
     traced_then c.args.rules.now c.args.store.now c.args.needed.now (g.K.Keeper.memories c.args.keeper.now)
-    (g.K.Keeper.memories c.keep_again.new.keeper) (g.K.Keeper.memories c.within.new.keeper)
+    (g.K.Keeper.memories c.keep_again.new.keeper) (g.K.Keeper.memories c.afresh.new.keeper)
     (traced_then c.args.rules.now c.args.store.now c.args.needed.now (g.K.Keeper.memories c.args.keeper.now)
     (g.K.Keeper.memories c.loop.keeper) (g.K.Keeper.memories c.keep_again.new.keeper) c.loop.invariant.traces
     c.keep_again.ensures.traces)
     (traced_up c.args.rules.now c.args.store.now c.requires.idle c.args.needed.now c.in-Some-2.other
-    (g.K.Keeper.memories c.keep_again.new.keeper) (g.K.Keeper.memories c.within.new.keeper) (subst (λ (o : Option (Instance ℕ)). IfSome o (Leads (contents c.args.store.now)
-    (meaning c.args.rules.now) c.args.needed.now)) c.in-Some-2.is c.in_ok-other.ensures.led) c.within.ensures.traces)
+    (g.K.Keeper.memories c.keep_again.new.keeper) (g.K.Keeper.memories c.afresh.new.keeper) (subst (λ (o : Option (Instance ℕ)). IfSome o (Leads (contents c.args.store.now)
+    (meaning c.args.rules.now) c.args.needed.now)) c.in-Some-2.is c.in_ok-other.ensures.led) c.afresh.ensures.traces)
 
 pub verify-returns-in_err-push-clause-gains : goal.verify-returns-in_err-push-clause-gains
 verify-returns-in_err-push-clause-gains g n c =
     gains_then c.args.rules.now c.args.store.now g.K.Keeper.exact c.args.needed.now (g.K.Keeper.contents
-    c.args.keeper.now) (g.K.Keeper.contents c.keep_again.new.keeper) (g.K.Keeper.contents c.within.new.keeper)
-    c.args.self.now.found.entries c.keep_again.new.self.found.entries c.within.new.self.found.entries
-    c.args.self.now.work c.keep_again.new.self.work c.within.new.self.work
+    c.args.keeper.now) (g.K.Keeper.contents c.keep_again.new.keeper) (g.K.Keeper.contents c.afresh.new.keeper)
+    c.args.self.now.found.entries c.keep_again.new.self.found.entries c.afresh.new.self.found.entries
+    c.args.self.now.work c.keep_again.new.self.work c.afresh.new.self.work
     (gains_then c.args.rules.now c.args.store.now g.K.Keeper.exact c.args.needed.now (g.K.Keeper.contents
     c.args.keeper.now) (g.K.Keeper.contents c.loop.keeper) (g.K.Keeper.contents c.keep_again.new.keeper)
     c.args.self.now.found.entries c.loop.self.found.entries c.keep_again.new.self.found.entries
     c.args.self.now.work c.loop.self.work c.keep_again.new.self.work c.loop.invariant.gains c.keep_again.ensures.gains)
     (gains_up c.args.rules.now c.args.store.now g.K.Keeper.exact c.requires.idle c.args.needed.now c.in-Some-2.other
-    (g.K.Keeper.contents c.keep_again.new.keeper) (g.K.Keeper.contents c.within.new.keeper)
-    c.keep_again.new.self.found.entries c.within.new.self.found.entries c.keep_again.new.self.work
-    c.within.new.self.work (subst (λ (o : Option (Instance ℕ)). IfSome o (Leads (contents c.args.store.now)
+    (g.K.Keeper.contents c.keep_again.new.keeper) (g.K.Keeper.contents c.afresh.new.keeper)
+    c.keep_again.new.self.found.entries c.afresh.new.self.found.entries c.keep_again.new.self.work
+    c.afresh.new.self.work (subst (λ (o : Option (Instance ℕ)). IfSome o (Leads (contents c.args.store.now)
     (meaning c.args.rules.now) c.args.needed.now)) c.in-Some-2.is c.in_ok-other.ensures.led)
     (subst (λ (f : Found). Gains c.args.rules.now c.args.store.now g.K.Keeper.exact c.in-Some-2.other
-    (g.K.Keeper.contents c.keep_again.new.keeper) (g.K.Keeper.contents c.within.new.keeper) f
-    c.within.new.self.found.entries c.keep_again.new.self.work c.within.new.self.work) c.level-aside.ensures.found
+    (g.K.Keeper.contents c.keep_again.new.keeper) (g.K.Keeper.contents c.afresh.new.keeper) f
+    c.afresh.new.self.found.entries c.keep_again.new.self.work c.afresh.new.self.work) c.level-aside.ensures.found
     (subst (λ (w : ℕ). Gains c.args.rules.now c.args.store.now g.K.Keeper.exact c.in-Some-2.other
-    (g.K.Keeper.contents c.keep_again.new.keeper) (g.K.Keeper.contents c.within.new.keeper)
-    c.level-aside.new.self.found.entries c.within.new.self.found.entries w c.within.new.self.work)
-    c.level-aside.ensures.work c.within.ensures.gains)))
+    (g.K.Keeper.contents c.keep_again.new.keeper) (g.K.Keeper.contents c.afresh.new.keeper)
+    c.level-aside.new.self.found.entries c.afresh.new.self.found.entries w c.afresh.new.self.work)
+    c.level-aside.ensures.work c.afresh.ensures.gains)))
 
 pub verify-returns-in_err-push-clause-traces : goal.verify-returns-in_err-push-clause-traces
 verify-returns-in_err-push-clause-traces g n c =
     traced_then c.args.rules.now c.args.store.now c.args.needed.now (g.K.Keeper.memories c.args.keeper.now)
-    (g.K.Keeper.memories c.keep_again.new.keeper) (g.K.Keeper.memories c.within.new.keeper)
+    (g.K.Keeper.memories c.keep_again.new.keeper) (g.K.Keeper.memories c.afresh.new.keeper)
     (traced_then c.args.rules.now c.args.store.now c.args.needed.now (g.K.Keeper.memories c.args.keeper.now)
     (g.K.Keeper.memories c.loop.keeper) (g.K.Keeper.memories c.keep_again.new.keeper) c.loop.invariant.traces
     c.keep_again.ensures.traces)
     (traced_up c.args.rules.now c.args.store.now c.requires.idle c.args.needed.now c.in-Some-2.other
-    (g.K.Keeper.memories c.keep_again.new.keeper) (g.K.Keeper.memories c.within.new.keeper) (subst (λ (o : Option (Instance ℕ)). IfSome o (Leads (contents c.args.store.now)
-    (meaning c.args.rules.now) c.args.needed.now)) c.in-Some-2.is c.in_ok-other.ensures.led) c.within.ensures.traces)
+    (g.K.Keeper.memories c.keep_again.new.keeper) (g.K.Keeper.memories c.afresh.new.keeper) (subst (λ (o : Option (Instance ℕ)). IfSome o (Leads (contents c.args.store.now)
+    (meaning c.args.rules.now) c.args.needed.now)) c.in-Some-2.is c.in_ok-other.ensures.led) c.afresh.ensures.traces)
 
 pub verify-loop-preserved : goal.verify-loop-preserved
 verify-loop-preserved g n c = record {
   gains =
       gains_then c.args.rules.now c.args.store.now g.K.Keeper.exact c.args.needed.now (g.K.Keeper.contents
-      c.args.keeper.now) (g.K.Keeper.contents c.keep_again.new.keeper) (g.K.Keeper.contents c.within.new.keeper)
-      c.args.self.now.found.entries c.keep_again.new.self.found.entries c.within.new.self.found.entries
-      c.args.self.now.work c.keep_again.new.self.work c.within.new.self.work
+      c.args.keeper.now) (g.K.Keeper.contents c.keep_again.new.keeper) (g.K.Keeper.contents c.afresh.new.keeper)
+      c.args.self.now.found.entries c.keep_again.new.self.found.entries c.afresh.new.self.found.entries
+      c.args.self.now.work c.keep_again.new.self.work c.afresh.new.self.work
       (gains_then c.args.rules.now c.args.store.now g.K.Keeper.exact c.args.needed.now (g.K.Keeper.contents
       c.args.keeper.now) (g.K.Keeper.contents c.loop.keeper) (g.K.Keeper.contents c.keep_again.new.keeper)
       c.args.self.now.found.entries c.loop.self.found.entries c.keep_again.new.self.found.entries
       c.args.self.now.work c.loop.self.work c.keep_again.new.self.work c.loop.invariant.gains c.keep_again.ensures.gains)
       (gains_up c.args.rules.now c.args.store.now g.K.Keeper.exact c.requires.idle c.args.needed.now c.in-Some-2.other
-      (g.K.Keeper.contents c.keep_again.new.keeper) (g.K.Keeper.contents c.within.new.keeper)
-      c.keep_again.new.self.found.entries c.within.new.self.found.entries c.keep_again.new.self.work
-      c.within.new.self.work (subst (λ (o : Option (Instance ℕ)). IfSome o (Leads (contents c.args.store.now)
+      (g.K.Keeper.contents c.keep_again.new.keeper) (g.K.Keeper.contents c.afresh.new.keeper)
+      c.keep_again.new.self.found.entries c.afresh.new.self.found.entries c.keep_again.new.self.work
+      c.afresh.new.self.work (subst (λ (o : Option (Instance ℕ)). IfSome o (Leads (contents c.args.store.now)
       (meaning c.args.rules.now) c.args.needed.now)) c.in-Some-2.is c.in_ok-other.ensures.led)
       (subst (λ (f : Found). Gains c.args.rules.now c.args.store.now g.K.Keeper.exact c.in-Some-2.other
-      (g.K.Keeper.contents c.keep_again.new.keeper) (g.K.Keeper.contents c.within.new.keeper) f
-      c.within.new.self.found.entries c.keep_again.new.self.work c.within.new.self.work) c.level-aside.ensures.found
+      (g.K.Keeper.contents c.keep_again.new.keeper) (g.K.Keeper.contents c.afresh.new.keeper) f
+      c.afresh.new.self.found.entries c.keep_again.new.self.work c.afresh.new.self.work) c.level-aside.ensures.found
       (subst (λ (w : ℕ). Gains c.args.rules.now c.args.store.now g.K.Keeper.exact c.in-Some-2.other
-      (g.K.Keeper.contents c.keep_again.new.keeper) (g.K.Keeper.contents c.within.new.keeper)
-      c.level-aside.new.self.found.entries c.within.new.self.found.entries w c.within.new.self.work)
-      c.level-aside.ensures.work c.within.ensures.gains)));
+      (g.K.Keeper.contents c.keep_again.new.keeper) (g.K.Keeper.contents c.afresh.new.keeper)
+      c.level-aside.new.self.found.entries c.afresh.new.self.found.entries w c.afresh.new.self.work)
+      c.level-aside.ensures.work c.afresh.ensures.gains)));
   traces =
       traced_then c.args.rules.now c.args.store.now c.args.needed.now (g.K.Keeper.memories c.args.keeper.now)
-      (g.K.Keeper.memories c.keep_again.new.keeper) (g.K.Keeper.memories c.within.new.keeper)
+      (g.K.Keeper.memories c.keep_again.new.keeper) (g.K.Keeper.memories c.afresh.new.keeper)
       (traced_then c.args.rules.now c.args.store.now c.args.needed.now (g.K.Keeper.memories c.args.keeper.now)
       (g.K.Keeper.memories c.loop.keeper) (g.K.Keeper.memories c.keep_again.new.keeper) c.loop.invariant.traces
       c.keep_again.ensures.traces)
       (traced_up c.args.rules.now c.args.store.now c.requires.idle c.args.needed.now c.in-Some-2.other
-      (g.K.Keeper.memories c.keep_again.new.keeper) (g.K.Keeper.memories c.within.new.keeper) (subst (λ (o : Option (Instance ℕ)). IfSome o (Leads (contents c.args.store.now)
-      (meaning c.args.rules.now) c.args.needed.now)) c.in-Some-2.is c.in_ok-other.ensures.led) c.within.ensures.traces);
+      (g.K.Keeper.memories c.keep_again.new.keeper) (g.K.Keeper.memories c.afresh.new.keeper) (subst (λ (o : Option (Instance ℕ)). IfSome o (Leads (contents c.args.store.now)
+      (meaning c.args.rules.now) c.args.needed.now)) c.in-Some-2.is c.in_ok-other.ensures.led) c.afresh.ensures.traces);
   level = subst (λ (o : Option ValueCode). HasRecalled c.args.rules.now (contents c.args.store.now) (known_by
       (g.K.Keeper.contents c.keep_again.new.keeper) c.keep_again.new.self.found.entries) c.loop.level
       c.keep_again.new.level c.args.needed.now o) c.in_default.is c.in_ok-again.ensures.recalled ∙ c.loop.invariant.level;
 }
+
+-- lazily, where it can't be verified
+pub lazily-returns-in-None : goal.lazily-returns-in-None
+lazily-returns-in-None g n c =
+    let rules = c.args.rules.now in
+    let s = c.args.store.now in
+    let i = c.args.needed in
+    let e0 = g.K.Keeper.contents c.args.keeper.now in
+    let e1 = g.K.Keeper.contents c.verify.new.keeper in
+    let e2 = g.K.Keeper.contents c.afresh.new.keeper in
+    let d0 = c.args.self.now in
+    let d1 = c.verify.new.self in
+    let d2 = c.afresh.new.self in
+    let same : c.verify.new.level ≡ c.args.level.now = subst (λ (o : Option ValueCode). HasRecalled rules (contents s)
+    (known_by e1 d1.found.entries) c.args.level.now c.verify.new.level i o) c.in-None.is
+    c.in_ok-verified.ensures.recalled in
+    record {
+      told = IfOk-weaker c.afresh.result _ _ (λ v h. subst (λ (l : Level). HasTold rules (contents s) (known_by e2
+          d2.found.entries) l c.afresh.new.level i (value_view v)) same h) c.afresh.ensures.told;
+      gains = gains_then rules s g.K.Keeper.exact i e0 e1 e2 d0.found.entries d1.found.entries d2.found.entries d0.work
+          d1.work d2.work c.verify.ensures.gains c.afresh.ensures.gains;
+      traces = traced_then rules s i (g.K.Keeper.memories c.args.keeper.now) (g.K.Keeper.memories c.verify.new.keeper)
+          (g.K.Keeper.memories c.afresh.new.keeper) c.verify.ensures.traces c.afresh.ensures.traces;
+    }
+
+-- afresh
+pub afresh-returns-in_err-value-clause-gains : goal.afresh-returns-in_err-value-clause-gains
+afresh-returns-in_err-value-clause-gains g n c =
+    gains_from c.args.rules.now c.args.store.now g.K.Keeper.exact c.args.needed c.args.needed (g.K.Keeper.contents
+    c.args.keeper.now) (g.K.Keeper.contents c.evaluate.new.keeper) c.args.self.now.found.entries
+    c.level-below.new.self.found.entries c.evaluate.new.self.found.entries c.args.self.now.work
+    c.level-below.new.self.work c.evaluate.new.self.work refl c.level-below.ensures.found c.level-below.ensures.work
+    c.evaluate.ensures.gains
+
+pub afresh-keep-requires-clause-come : goal.afresh-keep-requires-clause-come
+afresh-keep-requires-clause-come g n c =
+    let d = c.evaluate.new.self in
+    let h : Held = record {
+      entries = g.K.Keeper.contents c.evaluate.new.keeper;
+      memories = g.K.Keeper.memories c.evaluate.new.keeper;
+      found = d.found.entries;
+      work = d.work;
+    } in
+    evaluated_in c.args.rules.now c.args.store.now g.K.Keeper.exact h c.level-below.result c.evaluate.new.level
+    c.args.needed (value_view c.in_ok-value.value) c.in_ok-value.ensures.come c.level-below.ensures.reads
+    c.level-below.ensures.uses
+
+pub afresh-returns-in_err-keep-clause-gains : goal.afresh-returns-in_err-keep-clause-gains
+afresh-returns-in_err-keep-clause-gains g n c =
+    let rules = c.args.rules.now in
+    let s = c.args.store.now in
+    let i = c.args.needed in
+    let e0 = g.K.Keeper.contents c.args.keeper.now in
+    let e1 = g.K.Keeper.contents c.evaluate.new.keeper in
+    let e2 = g.K.Keeper.contents c.keep.new.keeper in
+    let d0 = c.args.self.now in
+    let d = c.level-below.new.self in
+    let d1 = c.evaluate.new.self in
+    let d2 = c.keep.new.self in
+    gains_then rules s g.K.Keeper.exact i e0 e1 e2 d0.found.entries d1.found.entries d2.found.entries d0.work
+    d1.work d2.work
+    (gains_from rules s g.K.Keeper.exact i i e0 e1 d0.found.entries d.found.entries d1.found.entries d0.work
+    d.work d1.work refl c.level-below.ensures.found c.level-below.ensures.work c.evaluate.ensures.gains)
+    c.keep.ensures.gains
+
+pub afresh-returns-in_err-keep-clause-traces : goal.afresh-returns-in_err-keep-clause-traces
+afresh-returns-in_err-keep-clause-traces g n c =
+    let rules = c.args.rules.now in
+    let s = c.args.store.now in
+    let i = c.args.needed in
+    traced_then rules s i (g.K.Keeper.memories c.args.keeper.now) (g.K.Keeper.memories
+    c.evaluate.new.keeper) (g.K.Keeper.memories c.keep.new.keeper) c.evaluate.ensures.traces
+    c.keep.ensures.traces
+
+pub afresh-returns-in_err-push-clause-gains : goal.afresh-returns-in_err-push-clause-gains
+afresh-returns-in_err-push-clause-gains g n c =
+    let rules = c.args.rules.now in
+    let s = c.args.store.now in
+    let i = c.args.needed in
+    let e0 = g.K.Keeper.contents c.args.keeper.now in
+    let e1 = g.K.Keeper.contents c.evaluate.new.keeper in
+    let e2 = g.K.Keeper.contents c.keep.new.keeper in
+    let d0 = c.args.self.now in
+    let d = c.level-below.new.self in
+    let d1 = c.evaluate.new.self in
+    let d2 = c.keep.new.self in
+    gains_then rules s g.K.Keeper.exact i e0 e1 e2 d0.found.entries d1.found.entries d2.found.entries d0.work
+    d1.work d2.work
+    (gains_from rules s g.K.Keeper.exact i i e0 e1 d0.found.entries d.found.entries d1.found.entries d0.work
+    d.work d1.work refl c.level-below.ensures.found c.level-below.ensures.work c.evaluate.ensures.gains)
+    c.keep.ensures.gains
+
+pub afresh-returns-in_err-push-clause-traces : goal.afresh-returns-in_err-push-clause-traces
+afresh-returns-in_err-push-clause-traces g n c =
+    let rules = c.args.rules.now in
+    let s = c.args.store.now in
+    let i = c.args.needed in
+    traced_then rules s i (g.K.Keeper.memories c.args.keeper.now) (g.K.Keeper.memories
+    c.evaluate.new.keeper) (g.K.Keeper.memories c.keep.new.keeper) c.evaluate.ensures.traces
+    c.keep.ensures.traces
+
+pub afresh-returns : goal.afresh-returns
+afresh-returns g n c =
+    let rules = c.args.rules.now in
+    let s = c.args.store.now in
+    let i = c.args.needed in
+    let e0 = g.K.Keeper.contents c.args.keeper.now in
+    let e1 = g.K.Keeper.contents c.evaluate.new.keeper in
+    let e2 = g.K.Keeper.contents c.keep.new.keeper in
+    let d0 = c.args.self.now in
+    let d = c.level-below.new.self in
+    let d1 = c.evaluate.new.self in
+    let d2 = c.keep.new.self in
+    record {
+      told = c.in_ok-keep.ensures.told;
+      gains = gains_then rules s g.K.Keeper.exact i e0 e1 e2 d0.found.entries d1.found.entries d2.found.entries d0.work
+          d1.work d2.work
+          (gains_from rules s g.K.Keeper.exact i i e0 e1 d0.found.entries d.found.entries d1.found.entries d0.work
+          d.work d1.work refl c.level-below.ensures.found c.level-below.ensures.work c.evaluate.ensures.gains)
+          c.keep.ensures.gains;
+      traces = traced_then rules s i (g.K.Keeper.memories c.args.keeper.now) (g.K.Keeper.memories
+          c.evaluate.new.keeper) (g.K.Keeper.memories c.keep.new.keeper) c.evaluate.ensures.traces
+          c.keep.ensures.traces;
+    }
+
+-- inner
+pub inner-returns-then-is_small-clause-told : goal.inner-returns-then-is_small-clause-told
+inner-returns-then-is_small-clause-told g n c =
+    let d = c.evaluate.new.self in
+    let h : Held = record {
+      entries = g.K.Keeper.contents c.evaluate.new.keeper;
+      memories = g.K.Keeper.memories c.evaluate.new.keeper;
+      found = d.found.entries;
+      work = d.work;
+    } in
+    inner_told c.args.rules.now c.args.store.now g.K.Keeper.exact h c.args.level.now c.evaluate.new.level c.args.needed
+    (value_view c.in_ok-value.value) c.in_ok-value.ensures.come c.requires.lazy
+
+pub inner-split_off-requires-clause-reads : goal.inner-split_off-requires-clause-reads
+inner-split_off-requires-clause-reads g n c =
+    let d = c.evaluate.new.self in
+    let h : Held = record {
+      entries = g.K.Keeper.contents c.evaluate.new.keeper;
+      memories = g.K.Keeper.memories c.evaluate.new.keeper;
+      found = d.found.entries;
+      work = d.work;
+    } in
+    let longer = reads_longer c.args.rules.now c.args.store.now g.K.Keeper.exact h c.args.level.now c.evaluate.new.level
+    c.args.needed (value_view c.in_ok-value.value) c.in_ok-value.ensures.come in
+    omega (arith, c.len-reads.ensures, longer)
+
+pub inner-split_off-requires-clause-uses : goal.inner-split_off-requires-clause-uses
+inner-split_off-requires-clause-uses g n c =
+    let d = c.evaluate.new.self in
+    let h : Held = record {
+      entries = g.K.Keeper.contents c.evaluate.new.keeper;
+      memories = g.K.Keeper.memories c.evaluate.new.keeper;
+      found = d.found.entries;
+      work = d.work;
+    } in
+    let longer = uses_longer c.args.rules.now c.args.store.now g.K.Keeper.exact h c.args.level.now c.evaluate.new.level
+    c.args.needed (value_view c.in_ok-value.value) c.in_ok-value.ensures.come in
+    omega (arith, c.len-uses.ensures, longer)
+
+pub inner-remember-requires-clause-come : goal.inner-remember-requires-clause-come
+inner-remember-requires-clause-come g n c =
+    let rules = c.args.rules.now in
+    let s = c.args.store.now in
+    let i = c.args.needed in
+    let v = value_view c.in_ok-value.value in
+    let d = c.evaluate.new.self in
+    let known = known_by (g.K.Keeper.contents c.evaluate.new.keeper) d.found.entries in
+    let h : Held = record {
+      entries = g.K.Keeper.contents c.evaluate.new.keeper;
+      memories = g.K.Keeper.memories c.evaluate.new.keeper;
+      found = d.found.entries;
+      work = d.work;
+    } in
+    let rest = evaluated_behind rules s g.K.Keeper.exact h c.args.level.now c.evaluate.new.level i v
+    c.in_ok-value.ensures.come in
+    let below = c.in_ok-below.below in
+    let long : List (Location ℕ) = c.evaluate.new.level.reads in
+    let many : List (Instance ℕ) = c.evaluate.new.level.uses.items in
+    let reads : drop (length c.args.level.now.reads) long ≡ below.reads = ap (λ k. drop k long) (sym
+    c.len-reads.ensures) ∙ sym c.in_ok-below.ensures.tail.0 in
+    let count : c.len-uses.result ≡ length c.args.level.now.uses.items = omega (
+      arith,
+      c.len-uses.ensures,
+      c.args.level.now.uses.ok.0,
+    ) in
+    let uses : drop (length c.args.level.now.uses.items) many ≡ below.uses.items = ap (λ k. drop k many) (sym
+    count) ∙ sym c.in_ok-below.ensures.tail.1 in
+    subst (λ (xs : List (Location ℕ)). IsEvaluated rules (contents s) known i v xs below.uses.items) reads
+    (subst (λ (xs : List (Instance ℕ)). IsEvaluated rules (contents s) known i v (drop (length c.args.level.now.reads)
+    long) xs) uses rest)
+
+pub inner-returns-in_err-remember-clause-gains : goal.inner-returns-in_err-remember-clause-gains
+inner-returns-in_err-remember-clause-gains g n c =
+    let rules = c.args.rules.now in
+    let s = c.args.store.now in
+    let i = c.args.needed in
+    let e0 = g.K.Keeper.contents c.args.keeper.now in
+    let e1 = g.K.Keeper.contents c.evaluate.new.keeper in
+    let e2 = g.K.Keeper.contents c.remember.new.keeper in
+    let d0 = c.args.self.now in
+    let d1 = c.evaluate.new.self in
+    let d2 = c.remember.new.self in
+    gains_then rules s g.K.Keeper.exact i e0 e1 e2 d0.found.entries d1.found.entries d2.found.entries d0.work
+    d1.work d2.work c.evaluate.ensures.gains c.remember.ensures.gains
+
+pub inner-returns-in_err-remember-clause-traces : goal.inner-returns-in_err-remember-clause-traces
+inner-returns-in_err-remember-clause-traces g n c =
+    let rules = c.args.rules.now in
+    let s = c.args.store.now in
+    let i = c.args.needed in
+    traced_then rules s i (g.K.Keeper.memories c.args.keeper.now) (g.K.Keeper.memories
+    c.evaluate.new.keeper) (g.K.Keeper.memories c.remember.new.keeper) c.evaluate.ensures.traces
+    c.remember.ensures.traces
+
+pub inner-returns : goal.inner-returns
+inner-returns g n c =
+    let rules = c.args.rules.now in
+    let s = c.args.store.now in
+    let i = c.args.needed in
+    let e0 = g.K.Keeper.contents c.args.keeper.now in
+    let e1 = g.K.Keeper.contents c.evaluate.new.keeper in
+    let e2 = g.K.Keeper.contents c.remember.new.keeper in
+    let d0 = c.args.self.now in
+    let d1 = c.evaluate.new.self in
+    let d2 = c.remember.new.self in
+    let v = value_view c.in_ok-value.value in
+    let old = c.args.level.now in
+    let first : Held = record {
+      entries = e1;
+      memories = g.K.Keeper.memories c.evaluate.new.keeper;
+      found = d1.found.entries;
+      work = d1.work;
+    } in
+    let last : Held = record {
+      entries = e2;
+      memories = g.K.Keeper.memories c.remember.new.keeper;
+      found = d2.found.entries;
+      work = d2.work;
+    } in
+    let come = c.in_ok-value.ensures.come in
+    let long : List (Location ℕ) = c.evaluate.new.level.reads in
+    let many : List (Instance ℕ) = c.evaluate.new.level.uses.items in
+    let reads : c.split_off.new.self.reads ≡ old.reads = c.in_ok-below.ensures.front.0 ∙ ap (λ k. take k long)
+    c.len-reads.ensures ∙ reads_before rules s g.K.Keeper.exact first old c.evaluate.new.level i v come in
+    let count : c.len-uses.result ≡ length old.uses.items = omega (arith, c.len-uses.ensures, old.uses.ok.0) in
+    let uses : c.split_off.new.self.uses.items ≡ old.uses.items = c.in_ok-below.ensures.front.1 ∙ ap (λ k. take k many)
+    count ∙ uses_before rules s g.K.Keeper.exact first old c.evaluate.new.level i v come in
+    record {
+      told = told_alike rules s last old c.split_off.new.self c.remember.new.level i v reads uses
+          c.in_ok-remember.ensures.told;
+      gains = gains_then rules s g.K.Keeper.exact i e0 e1 e2 d0.found.entries d1.found.entries d2.found.entries d0.work
+          d1.work d2.work c.evaluate.ensures.gains c.remember.ensures.gains;
+      traces = traced_then rules s i (g.K.Keeper.memories c.args.keeper.now) (g.K.Keeper.memories
+          c.evaluate.new.keeper) (g.K.Keeper.memories c.remember.new.keeper) c.evaluate.ensures.traces
+          c.remember.ensures.traces;
+    }
+
+pub evaluate-returns-in_err-begun-clause-gains : goal.evaluate-returns-in_err-begun-clause-gains
+evaluate-returns-in_err-begun-clause-gains g n c =
+    gains_evaluated c.args.rules.now c.args.store.now g.K.Keeper.exact c.requires.idle c.args.inst.now (held
+    (g.K.Keeper.contents c.args.keeper.now) (g.K.Keeper.memories c.args.keeper.now) c.args.self.now.found.entries
+    c.args.self.now.work) (held (g.K.Keeper.contents c.args.keeper.now) (g.K.Keeper.memories c.args.keeper.now)
+    c.args.self.now.found.entries c.args.self.now.work) (nothing_gained c.args.rules.now c.args.store.now
+    g.K.Keeper.exact (meaning c.args.rules.now c.args.inst.now) (held (g.K.Keeper.contents c.args.keeper.now)
+    (g.K.Keeper.memories c.args.keeper.now) c.args.self.now.found.entries c.args.self.now.work) c.args.self.now.few
+    (record { known = c.requires.known; justified = c.requires.justified }))
+
+pub evaluate-returns-in_err-begun-clause-traces : goal.evaluate-returns-in_err-begun-clause-traces
+evaluate-returns-in_err-begun-clause-traces g n c =
+    traced_evaluated c.args.rules.now c.args.store.now g.K.Keeper.exact c.requires.idle c.args.inst.now (held
+    (g.K.Keeper.contents c.args.keeper.now) (g.K.Keeper.memories c.args.keeper.now) c.args.self.now.found.entries
+    c.args.self.now.work) (held (g.K.Keeper.contents c.args.keeper.now) (g.K.Keeper.memories c.args.keeper.now)
+    c.args.self.now.found.entries c.args.self.now.work) (nothing_gained c.args.rules.now c.args.store.now
+    g.K.Keeper.exact (meaning c.args.rules.now c.args.inst.now) (held (g.K.Keeper.contents c.args.keeper.now)
+    (g.K.Keeper.memories c.args.keeper.now) c.args.self.now.found.entries c.args.self.now.work) c.args.self.now.few
+    (record { known = c.requires.known; justified = c.requires.justified }))
+
+pub evaluate-returns-clause-come : goal.evaluate-returns-clause-come
+evaluate-returns-clause-come g n c =
+    IfOk-weaker c.value.result _ _ (λ v h. come_begun c.args.rules.now c.args.store.now (held (g.K.Keeper.contents
+    c.value.new.keeper) (g.K.Keeper.memories c.value.new.keeper) c.value.new.self.found.entries c.value.new.self.work)
+    c.args.level.now (record { reads = c.begin.new.reads; uses = c.args.level.now.uses }) c.value.new.level (meaning
+    c.args.rules.now c.args.inst.now) (ev c.args.rules.now.classes (body_view c.in_ok-begun.begun.1.now) (place_at
+    c.in_ok-begun.begun.0)) (value_view v) refl c.in_ok-begun.ensures h) c.value.ensures.come
+
+pub evaluate-returns-clause-gains : goal.evaluate-returns-clause-gains
+evaluate-returns-clause-gains g n c =
+    gains_evaluated c.args.rules.now c.args.store.now g.K.Keeper.exact c.requires.idle c.args.inst.now (held
+    (g.K.Keeper.contents c.args.keeper.now) (g.K.Keeper.memories c.args.keeper.now) c.args.self.now.found.entries
+    c.args.self.now.work) (held (g.K.Keeper.contents c.value.new.keeper) (g.K.Keeper.memories c.value.new.keeper)
+    c.value.new.self.found.entries c.value.new.self.work) (gains_begun c.args.rules.now c.args.store.now
+    g.K.Keeper.exact (held (g.K.Keeper.contents c.args.keeper.now) (g.K.Keeper.memories c.args.keeper.now)
+    c.args.self.now.found.entries c.args.self.now.work) (held (g.K.Keeper.contents c.value.new.keeper)
+    (g.K.Keeper.memories c.value.new.keeper) c.value.new.self.found.entries c.value.new.self.work)
+    c.args.level.now.reads c.begin.new.reads (meaning c.args.rules.now c.args.inst.now) (ev c.args.rules.now.classes
+    (body_view c.in_ok-begun.begun.1.now) (place_at c.in_ok-begun.begun.0)) c.in_ok-begun.ensures
+    c.value.ensures.gains)
+
+pub evaluate-returns-clause-traces : goal.evaluate-returns-clause-traces
+evaluate-returns-clause-traces g n c =
+    traced_evaluated c.args.rules.now c.args.store.now g.K.Keeper.exact c.requires.idle c.args.inst.now (held
+    (g.K.Keeper.contents c.args.keeper.now) (g.K.Keeper.memories c.args.keeper.now) c.args.self.now.found.entries
+    c.args.self.now.work) (held (g.K.Keeper.contents c.value.new.keeper) (g.K.Keeper.memories c.value.new.keeper)
+    c.value.new.self.found.entries c.value.new.self.work) (gains_begun c.args.rules.now c.args.store.now
+    g.K.Keeper.exact (held (g.K.Keeper.contents c.args.keeper.now) (g.K.Keeper.memories c.args.keeper.now)
+    c.args.self.now.found.entries c.args.self.now.work) (held (g.K.Keeper.contents c.value.new.keeper)
+    (g.K.Keeper.memories c.value.new.keeper) c.value.new.self.found.entries c.value.new.self.work)
+    c.args.level.now.reads c.begin.new.reads (meaning c.args.rules.now c.args.inst.now) (ev c.args.rules.now.classes
+    (body_view c.in_ok-begun.begun.1.now) (place_at c.in_ok-begun.begun.0)) c.in_ok-begun.ensures
+    c.value.ensures.gains)
+
+pub one-returns-in_err-value-clause-gains : goal.one-returns-in_err-value-clause-gains
+one-returns-in_err-value-clause-gains g n c =
+    one_gains c.args.rules.now c.args.store.now g.K.Keeper.exact (place_at c.args.here.now) c.args.unary
+    c.args.operand.now _ _ c.value.ensures.gains
+
+pub one-returns-clause-gains : goal.one-returns-clause-gains
+one-returns-clause-gains g n c =
+    one_gains c.args.rules.now c.args.store.now g.K.Keeper.exact (place_at c.args.here.now) c.args.unary
+    c.args.operand.now _ _ c.value.ensures.gains
+
+pub one-returns-clause-come : goal.one-returns-clause-come
+one-returns-clause-come g n c =
+    one_come c.args.rules.now c.args.store.now g.K.Keeper.exact (place_at c.args.here.now) c.args.unary
+    c.args.operand.now c.in_ok-value.value c.with_one.result _ _ _ _ _ refl c.value.ensures.gains
+    c.in_ok-value.ensures.come c.with_one.ensures
+
+pub two-returns-in_err-first-clause-gains : goal.two-returns-in_err-first-clause-gains
+two-returns-in_err-first-clause-gains g n c =
+    two_gains_first c.args.rules.now c.args.store.now g.K.Keeper.exact (place_at c.args.here.now) c.args.binary
+    c.args.left.now c.args.right.now _ _ c.value.ensures.gains
+
+pub two-returns-in_err-second-clause-gains : goal.two-returns-in_err-second-clause-gains
+two-returns-in_err-second-clause-gains g n c =
+    two_gains c.args.rules.now c.args.store.now g.K.Keeper.exact (place_at c.args.here.now) c.args.binary
+    c.args.left.now c.args.right.now c.in_ok-first.first _ _ _ _ _ c.value.ensures.gains c.in_ok-first.ensures.come
+    c.value-2.ensures.gains
+
+pub two-returns-clause-gains : goal.two-returns-clause-gains
+two-returns-clause-gains g n c =
+    two_gains c.args.rules.now c.args.store.now g.K.Keeper.exact (place_at c.args.here.now) c.args.binary
+    c.args.left.now c.args.right.now c.in_ok-first.first _ _ _ _ _ c.value.ensures.gains c.in_ok-first.ensures.come
+    c.value-2.ensures.gains
+
+pub two-returns-clause-come : goal.two-returns-clause-come
+two-returns-clause-come g n c =
+    two_come c.args.rules.now c.args.store.now g.K.Keeper.exact (place_at c.args.here.now) c.args.binary
+    c.args.left.now c.args.right.now c.in_ok-first.first c.in_ok-second.second c.with_two.result _ _ _ _ _ _ _ refl
+    c.value.ensures.gains c.in_ok-first.ensures.come c.value-2.ensures.gains c.in_ok-second.ensures.come
+    c.with_two.ensures
+
+pub compared-returns-in_err-at_once-clause-gains : goal.compared-returns-in_err-at_once-clause-gains
+compared-returns-in_err-at_once-clause-gains g n c =
+    nothing_gained c.args.rules.now c.args.store.now g.K.Keeper.exact (two_of c.args.rules.now.classes (place_at
+    c.args.here.now) c.args.comparison c.args.left.now c.args.right.now) _ c.args.self.now.few c.requires.held
+
+pub compared-returns-in-Some-clause-gains : goal.compared-returns-in-Some-clause-gains
+compared-returns-in-Some-clause-gains g n c =
+    nothing_gained c.args.rules.now c.args.store.now g.K.Keeper.exact (two_of c.args.rules.now.classes (place_at
+    c.args.here.now) c.args.comparison c.args.left.now c.args.right.now) _ c.args.self.now.few c.requires.held
+
+pub compared-returns-in-Some-clause-come : goal.compared-returns-in-Some-clause-come
+compared-returns-in-Some-clause-come g n c =
+    come_looked c.args.rules.now c.args.store.now _ c.args.level.now (record {
+      reads = c.compare.new.reads;
+      uses =
+          c.args.level.now.uses;
+    }) (two_of c.args.rules.now.classes (place_at c.args.here.now) c.args.comparison
+    c.args.left.now c.args.right.now) (value_view c.in-Some.value) refl (subst (λ o. MayHaveLooked (contents
+    c.args.store.now) c.args.level.now.reads c.compare.new.reads (two_of c.args.rules.now.classes (place_at
+    c.args.here.now) c.args.comparison c.args.left.now c.args.right.now) o) c.in-Some.is (c.in_ok-at_once.ensures
+    c.args.rules.now.classes))
+
+pub compared-returns-in-None-clause-gains : goal.compared-returns-in-None-clause-gains
+compared-returns-in-None-clause-gains g n c = c.two.ensures.gains
+
+pub compared-returns-in-None-clause-come : goal.compared-returns-in-None-clause-come
+compared-returns-in-None-clause-come g n c =
+    subst (λ (ls : List (Location ℕ)). IfOk c.two.result (λ v. HasCome c.args.rules.now (contents c.args.store.now)
+    (held (g.K.Keeper.contents c.two.new.keeper) (g.K.Keeper.memories c.two.new.keeper) c.two.new.self.found.entries
+    c.two.new.self.work) (record { reads = ls; uses = c.args.level.now.uses }) c.two.new.level (two_of
+    c.args.rules.now.classes (place_at c.args.here.now) c.args.comparison c.args.left.now c.args.right.now) (value_view
+    v))) (subst (λ o. MayHaveLooked (contents c.args.store.now) c.args.level.now.reads c.compare.new.reads (two_of
+    c.args.rules.now.classes (place_at c.args.here.now) c.args.comparison c.args.left.now c.args.right.now) o)
+    c.in-None.is (c.in_ok-at_once.ensures c.args.rules.now.classes)) c.two.ensures.come
+
+pub either-returns-in_err-value-clause-gains : goal.either-returns-in_err-value-clause-gains
+either-returns-in_err-value-clause-gains g n c =
+    either_gains_test c.args.rules.now c.args.store.now g.K.Keeper.exact (place_at c.args.here.now) c.args.test.now
+    c.args.yes c.args.no _ _ c.value.ensures.gains
+
+pub either-returns-in_err-holds-clause-gains : goal.either-returns-in_err-holds-clause-gains
+either-returns-in_err-holds-clause-gains g n c =
+    either_gains_test c.args.rules.now c.args.store.now g.K.Keeper.exact (place_at c.args.here.now) c.args.test.now
+    c.args.yes c.args.no _ _ c.value.ensures.gains
+
+pub either-returns-in-Some-clause-gains : goal.either-returns-in-Some-clause-gains
+either-returns-in-Some-clause-gains g n c =
+    either_gains c.args.rules.now c.args.store.now g.K.Keeper.exact (place_at c.args.here.now) c.args.test.now
+    c.args.yes c.args.no c.in_ok-value.value c.in_ok-holds.holds (ev c.args.rules.now.classes (body_view
+    c.in-Some.body.now) (place_at c.args.here.now)) _ _ _ _ _ c.in_ok-holds.ensures (ap (λ o. or_truth
+    c.args.rules.now.classes (place_at c.args.here.now) o c.in_ok-holds.holds) (sym c.in-Some.is) ∙ c.chosen.ensures
+    c.args.rules.now.classes (place_at c.args.here.now)) c.value.ensures.gains c.in_ok-value.ensures.come
+    c.value-in-Some.ensures.gains
+
+pub either-returns-in-Some-clause-come : goal.either-returns-in-Some-clause-come
+either-returns-in-Some-clause-come g n c =
+    either_come c.args.rules.now c.args.store.now g.K.Keeper.exact (place_at c.args.here.now) c.args.test.now
+    c.args.yes c.args.no c.in_ok-value.value c.in_ok-holds.holds (ev c.args.rules.now.classes (body_view
+    c.in-Some.body.now) (place_at c.args.here.now)) _ _ _ _ _ c.in_ok-holds.ensures (ap (λ o. or_truth
+    c.args.rules.now.classes (place_at c.args.here.now) o c.in_ok-holds.holds) (sym c.in-Some.is) ∙ c.chosen.ensures
+    c.args.rules.now.classes (place_at c.args.here.now)) c.value.ensures.gains c.in_ok-value.ensures.come
+    c.value-in-Some.ensures.gains c.value-in-Some.result c.value-in-Some.new.level c.value-in-Some.ensures.come
+
+pub either-returns-clause-gains : goal.either-returns-clause-gains
+either-returns-clause-gains g n c =
+    either_gains c.args.rules.now c.args.store.now g.K.Keeper.exact (place_at c.args.here.now) c.args.test.now
+    c.args.yes c.args.no c.in_ok-value.value c.in_ok-holds.holds (Gives (Truth c.in_ok-holds.holds)) _ _ _ _ _
+    c.in_ok-holds.ensures (ap (λ o. or_truth c.args.rules.now.classes (place_at c.args.here.now) o c.in_ok-holds.holds)
+    (sym c.in-None.is) ∙ c.chosen.ensures c.args.rules.now.classes (place_at c.args.here.now)) c.value.ensures.gains
+    c.in_ok-value.ensures.come (nothing_gained c.args.rules.now c.args.store.now g.K.Keeper.exact (Gives (Truth
+    c.in_ok-holds.holds)) _ c.value.new.self.few c.value.ensures.gains.right)
+
+pub either-returns-clause-come : goal.either-returns-clause-come
+either-returns-clause-come g n c =
+    either_come c.args.rules.now c.args.store.now g.K.Keeper.exact (place_at c.args.here.now) c.args.test.now
+    c.args.yes c.args.no c.in_ok-value.value c.in_ok-holds.holds (Gives (Truth c.in_ok-holds.holds)) _ _ _ _ _
+    c.in_ok-holds.ensures (ap (λ o. or_truth c.args.rules.now.classes (place_at c.args.here.now) o c.in_ok-holds.holds)
+    (sym c.in-None.is) ∙ c.chosen.ensures c.args.rules.now.classes (place_at c.args.here.now)) c.value.ensures.gains
+    c.in_ok-value.ensures.come (nothing_gained c.args.rules.now c.args.store.now g.K.Keeper.exact (Gives (Truth
+    c.in_ok-holds.holds)) _ c.value.new.self.few c.value.ensures.gains.right) {E = ℕ} (Ok (value.Bool
+    c.in_ok-holds.holds)) c.value.new.level (come_gives c.args.rules.now c.args.store.now _ c.value.new.level (Gives
+    (Truth c.in_ok-holds.holds)) (Truth c.in_ok-holds.holds) refl)
+
+pub call-returns-in_err-value-clause-gains : goal.call-returns-in_err-value-clause-gains
+call-returns-in_err-value-clause-gains g n c =
+    call_gains_first c.args.rules.now c.args.store.now g.K.Keeper.exact (place_at c.args.here.now) c.args.receiver.now
+    c.args.attribute c.args.passed.now _ _ c.value.ensures.gains
+
+pub call-returns-in_err-arguments-clause-gains : goal.call-returns-in_err-arguments-clause-gains
+call-returns-in_err-arguments-clause-gains g n c =
+    call_gains_second c.args.rules.now c.args.store.now g.K.Keeper.exact (place_at c.args.here.now) c.args.receiver.now
+    c.args.attribute c.args.passed.now c.in_ok-value.value _ _ (held (g.K.Keeper.contents c.passed.new.keeper)
+    (g.K.Keeper.memories c.passed.new.keeper) c.passed.new.self.found.entries c.passed.new.self.work) _ _
+    c.value.ensures.gains c.in_ok-value.ensures.come c.passed.ensures.gains
+
+pub call-returns-in_err-node-clause-gains : goal.call-returns-in_err-node-clause-gains
+call-returns-in_err-node-clause-gains g n c =
+    call_gains_second c.args.rules.now c.args.store.now g.K.Keeper.exact (place_at c.args.here.now) c.args.receiver.now
+    c.args.attribute c.args.passed.now c.in_ok-value.value _ _ (held (g.K.Keeper.contents c.passed.new.keeper)
+    (g.K.Keeper.memories c.passed.new.keeper) c.passed.new.self.found.entries c.passed.new.self.work) _ _
+    c.value.ensures.gains c.in_ok-value.ensures.come c.passed.ensures.gains
+
+pub call-returns-clause-gains : goal.call-returns-clause-gains
+call-returns-clause-gains g n c =
+    call_gains c.args.rules.now c.args.store.now g.K.Keeper.exact (place_at c.args.here.now) c.args.receiver.now
+    c.args.attribute c.args.passed.now c.in_ok-value.value _ _ (held (g.K.Keeper.contents c.passed.new.keeper)
+    (g.K.Keeper.memories c.passed.new.keeper) c.passed.new.self.found.entries c.passed.new.self.work) _ _
+    c.value.ensures.gains c.in_ok-value.ensures.come c.passed.ensures.gains c.in_ok-node.node
+    c.in_ok-arguments.arguments (held (g.K.Keeper.contents c.told.new.keeper) (g.K.Keeper.memories c.told.new.keeper)
+    c.told.new.self.found.entries c.told.new.self.work) c.passed.new.level c.in_ok-node.ensures
+    c.in_ok-arguments.ensures.come (subst (λ i. Gains c.args.rules.now c.args.store.now g.K.Keeper.exact i
+    (g.K.Keeper.contents c.passed.new.keeper) (g.K.Keeper.contents c.told.new.keeper) c.passed.new.self.found.entries
+    c.told.new.self.found.entries c.passed.new.self.work c.told.new.self.work) c.new.ensures c.told.ensures.gains)
+    (subst (λ i. StayJustified c.args.rules.now c.args.store.now i (g.K.Keeper.memories c.passed.new.keeper)
+    (g.K.Keeper.memories c.told.new.keeper)) c.new.ensures c.told.ensures.traces)
+
+pub call-returns-clause-come : goal.call-returns-clause-come
+call-returns-clause-come g n c =
+    call_come c.args.rules.now c.args.store.now g.K.Keeper.exact (place_at c.args.here.now) c.args.receiver.now
+    c.args.attribute c.args.passed.now c.in_ok-value.value _ _ (held (g.K.Keeper.contents c.passed.new.keeper)
+    (g.K.Keeper.memories c.passed.new.keeper) c.passed.new.self.found.entries c.passed.new.self.work) _ _
+    c.value.ensures.gains c.in_ok-value.ensures.come c.passed.ensures.gains c.in_ok-node.node
+    c.in_ok-arguments.arguments (held (g.K.Keeper.contents c.told.new.keeper) (g.K.Keeper.memories c.told.new.keeper)
+    c.told.new.self.found.entries c.told.new.self.work) c.passed.new.level c.in_ok-node.ensures
+    c.in_ok-arguments.ensures.come (subst (λ i. Gains c.args.rules.now c.args.store.now g.K.Keeper.exact i
+    (g.K.Keeper.contents c.passed.new.keeper) (g.K.Keeper.contents c.told.new.keeper) c.passed.new.self.found.entries
+    c.told.new.self.found.entries c.passed.new.self.work c.told.new.self.work) c.new.ensures c.told.ensures.gains)
+    (subst (λ i. StayJustified c.args.rules.now c.args.store.now i (g.K.Keeper.memories c.passed.new.keeper)
+    (g.K.Keeper.memories c.told.new.keeper)) c.new.ensures c.told.ensures.traces) c.told.result c.told.new.level (subst
+    (λ i. IfOk c.told.result (λ u. HasTold c.args.rules.now (contents c.args.store.now) (values_in (held
+    (g.K.Keeper.contents c.told.new.keeper) (g.K.Keeper.memories c.told.new.keeper) c.told.new.self.found.entries
+    c.told.new.self.work)) c.passed.new.level c.told.new.level i (value_view u))) c.new.ensures c.told.ensures.told)
+
+pub over-returns-in_err-value-clause-gains : goal.over-returns-in_err-value-clause-gains
+over-returns-in_err-value-clause-gains g n c =
+    fold_gains_first c.args.rules.now c.args.store.now g.K.Keeper.exact (place_at c.args.here.now) c.args.fold
+    c.args.of.now c.args.part c.args.body.now _ _ c.value.ensures.gains
+
+pub over-returns-in_err-node-clause-gains : goal.over-returns-in_err-node-clause-gains
+over-returns-in_err-node-clause-gains g n c =
+    fold_gains_first c.args.rules.now c.args.store.now g.K.Keeper.exact (place_at c.args.here.now) c.args.fold
+    c.args.of.now c.args.part c.args.body.now _ _ c.value.ensures.gains
+
+pub over-returns-in_err-push-clause-gains : goal.over-returns-in_err-push-clause-gains
+over-returns-in_err-push-clause-gains g n c =
+    fold_gains_first c.args.rules.now c.args.store.now g.K.Keeper.exact (place_at c.args.here.now) c.args.fold
+    c.args.of.now c.args.part c.args.body.now _ _ c.value.ensures.gains
+
+pub over-returns-clause-gains : goal.over-returns-clause-gains
+over-returns-clause-gains g n c =
+    fold_gains c.args.rules.now c.args.store.now g.K.Keeper.exact (place_at c.args.here.now) c.args.fold c.args.of.now
+    c.args.part c.args.body.now c.in_ok-value.value c.in_ok-node.node c.children.result.now _ _ _ _ _ (record {
+      reads =
+          c.push.new.self;
+      uses = c.value.new.level.uses;
+    }) c.in_ok-node.ensures c.children.ensures.shown
+    c.in_ok-push.ensures.gained c.value.ensures.gains c.in_ok-value.ensures.come c.each.ensures.gains
+
+pub over-returns-clause-come : goal.over-returns-clause-come
+over-returns-clause-come g n c =
+    fold_come c.args.rules.now c.args.store.now g.K.Keeper.exact (place_at c.args.here.now) c.args.fold c.args.of.now
+    c.args.part c.args.body.now c.in_ok-value.value c.in_ok-node.node c.children.result.now _ _ _ _ _ (record {
+      reads =
+          c.push.new.self;
+      uses = c.value.new.level.uses;
+    }) c.in_ok-node.ensures c.children.ensures.shown
+    c.in_ok-push.ensures.gained c.value.ensures.gains c.in_ok-value.ensures.come c.each.ensures.gains c.each.result
+    c.each.new.level refl c.each.ensures.come
+
+pub passed-returns-then-hands_on-clause-gains : goal.passed-returns-then-hands_on-clause-gains
+passed-returns-then-hands_on-clause-gains g n c =
+    nothing_gained c.args.rules.now c.args.store.now g.K.Keeper.exact (ev_all c.args.rules.now.classes (bodies_view
+    c.args.passed.now) (place_at c.args.here.now)) _ c.args.self.now.few c.requires.held
+
+pub passed-returns-then-hands_on-clause-come : goal.passed-returns-then-hands_on-clause-come
+passed-returns-then-hands_on-clause-come g n c =
+    IfOk-weaker c.handed_on.result _ _ (λ a h. come_gives c.args.rules.now c.args.store.now (held (g.K.Keeper.contents
+    c.args.keeper.now) (g.K.Keeper.memories c.args.keeper.now) c.args.self.now.found.entries c.args.self.now.work)
+    c.args.level.now (ev_all c.args.rules.now.classes (bodies_view c.args.passed.now) (place_at c.args.here.now)) (map
+    value_view a) (c.hands_on.ensures c.if-hands_on.true c.args.rules.now.classes ∙ ap (λ (vs : List ValueCode). Gives
+    (map value_view vs)) (sym h))) c.handed_on.ensures
+
+pub passed-loop-argument-init : goal.passed-loop-argument-init
+passed-loop-argument-init g n c =
+    starts c.args.rules.now c.args.store.now g.K.Keeper.exact _ c.args.level.now (ev_all c.args.rules.now.classes
+    (bodies_view c.args.passed.now) (place_at c.args.here.now)) (λ vs. map value_view c.new-values.result.items ++ vs)
+    (λ vs. ap (λ (us : List ValueCode). map value_view us ++ vs) c.new-values.ensures.items) c.requires.held
+
+pub passed-returns-in_err-value-clause-gains : goal.passed-returns-in_err-value-clause-gains
+passed-returns-in_err-value-clause-gains g n c =
+    passed_gains c.args.rules.now c.args.store.now g.K.Keeper.exact (place_at c.args.here.now) (ev_all
+    c.args.rules.now.classes (bodies_view c.args.passed.now) (place_at c.args.here.now)) _ _ _ _ _ c.value.new.level
+    c.in-Some.argument.now c.in-Some.others.now c.loop-argument.rest.now c.in-Some.ensures.cases.0
+    c.loop-argument.values.items c.loop-argument.invariant c.value.ensures.gains
+
+pub passed-returns-in_err-push-clause-gains : goal.passed-returns-in_err-push-clause-gains
+passed-returns-in_err-push-clause-gains g n c =
+    passed_gains c.args.rules.now c.args.store.now g.K.Keeper.exact (place_at c.args.here.now) (ev_all
+    c.args.rules.now.classes (bodies_view c.args.passed.now) (place_at c.args.here.now)) _ _ _ _ _ c.value.new.level
+    c.in-Some.argument.now c.in-Some.others.now c.loop-argument.rest.now c.in-Some.ensures.cases.0
+    c.loop-argument.values.items c.loop-argument.invariant c.value.ensures.gains
+
+pub passed-loop-argument-preserved : goal.passed-loop-argument-preserved
+passed-loop-argument-preserved g n c =
+    passed_on c.args.rules.now c.args.store.now g.K.Keeper.exact (place_at c.args.here.now) (ev_all
+    c.args.rules.now.classes (bodies_view c.args.passed.now) (place_at c.args.here.now)) _ _ _ _ _ c.value.new.level
+    c.in-Some.argument.now c.in-Some.others.now c.loop-argument.rest.now c.in-Some.ensures.cases.0
+    c.loop-argument.values.items c.loop-argument.invariant c.value.ensures.gains c.in_ok-value.value
+    c.push.new.self.items c.in_ok-push.ensures.items c.in_ok-value.ensures.come
+
+pub passed-returns-in_err-arguments-clause-gains : goal.passed-returns-in_err-arguments-clause-gains
+passed-returns-in_err-arguments-clause-gains g n c =
+    gains_so_far c.args.rules.now c.args.store.now g.K.Keeper.exact (ev_all c.args.rules.now.classes (bodies_view
+    c.args.passed.now) (place_at c.args.here.now)) _ _ _ _ _ _ c.loop-argument.self.few c.loop-argument.invariant
+
+pub passed-returns-clause-gains : goal.passed-returns-clause-gains
+passed-returns-clause-gains g n c =
+    gains_so_far c.args.rules.now c.args.store.now g.K.Keeper.exact (ev_all c.args.rules.now.classes (bodies_view
+    c.args.passed.now) (place_at c.args.here.now)) _ _ _ _ _ _ c.loop-argument.self.few c.loop-argument.invariant
+
+pub passed-returns-clause-come : goal.passed-returns-clause-come
+passed-returns-clause-come g n c =
+    subst (λ (vs : List ValueCode). HasCome c.args.rules.now (contents c.args.store.now) (held (g.K.Keeper.contents
+    c.loop-argument.keeper) (g.K.Keeper.memories c.loop-argument.keeper) c.loop-argument.self.found.entries
+    c.loop-argument.self.work) c.args.level.now c.loop-argument.level (ev_all c.args.rules.now.classes (bodies_view
+    c.args.passed.now) (place_at c.args.here.now)) (map value_view vs)) (sym c.in_ok-arguments.ensures) (passed_all
+    c.args.rules.now c.args.store.now g.K.Keeper.exact (place_at c.args.here.now) (ev_all c.args.rules.now.classes
+    (bodies_view c.args.passed.now) (place_at c.args.here.now)) _ _ c.args.level.now c.loop-argument.level
+    c.loop-argument.rest.now (nil_from_length _ c.in_default.ensures.cases) c.loop-argument.values.items
+    c.loop-argument.invariant)
+
+pub each-returns-in_err-inside-clause-gains : goal.each-returns-in_err-inside-clause-gains
+each-returns-in_err-inside-clause-gains g n c =
+    nothing_gained c.args.rules.now c.args.store.now g.K.Keeper.exact (over c.args.rules.now.classes c.args.fold
+    (body_view c.args.body.now) (place_at c.args.here.now) c.args.nodes.now) _ c.args.self.now.few c.requires.held
+
+pub each-loop-node-init : goal.each-loop-node-init
+each-loop-node-init g n c =
+    record {
+      place = c.in_ok-inside.ensures;
+      goes = starts c.args.rules.now c.args.store.now g.K.Keeper.exact _
+          c.args.level.now (over c.args.rules.now.classes c.args.fold (body_view c.args.body.now) (place_at c.args.here.now)
+          c.args.nodes.now) (λ v. v) (λ v. refl) c.requires.held;
+    }
+
+pub each-returns-in_err-push-clause-gains : goal.each-returns-in_err-push-clause-gains
+each-returns-in_err-push-clause-gains g n c =
+    gains_so_far c.args.rules.now c.args.store.now g.K.Keeper.exact (over c.args.rules.now.classes c.args.fold
+    (body_view c.args.body.now) (place_at c.args.here.now) c.args.nodes.now) _ _ _ _ _ _ c.loop-node.self.few
+    c.loop-node.invariant.goes
+
+pub each-returns-in_err-value-clause-gains : goal.each-returns-in_err-value-clause-gains
+each-returns-in_err-value-clause-gains g n c =
+    each_gains c.args.rules.now c.args.store.now g.K.Keeper.exact (place_at c.args.here.now) (over
+    c.args.rules.now.classes c.args.fold (body_view c.args.body.now) (place_at c.args.here.now) c.args.nodes.now) _ _ _
+    _ _ c.value.new.level c.loop-node.going c.args.body.now c.in-Some.node.now c.in-Some.others.now
+    c.loop-node.rest.now c.in-Some.ensures.cases.0 (place_at (record c.loop-node.inside { bound = c.push.new.self }))
+    (bound_at (place_at c.loop-node.inside) (place_at c.args.here.now) c.in-Some.node.now c.push.new.self
+    c.loop-node.invariant.place c.in_ok-push.ensures) c.loop-node.invariant.goes c.value.ensures.gains
+
+pub each-returns-in_err-next-clause-gains : goal.each-returns-in_err-next-clause-gains
+each-returns-in_err-next-clause-gains g n c =
+    each_gains c.args.rules.now c.args.store.now g.K.Keeper.exact (place_at c.args.here.now) (over
+    c.args.rules.now.classes c.args.fold (body_view c.args.body.now) (place_at c.args.here.now) c.args.nodes.now) _ _ _
+    _ _ c.value.new.level c.loop-node.going c.args.body.now c.in-Some.node.now c.in-Some.others.now
+    c.loop-node.rest.now c.in-Some.ensures.cases.0 (place_at (record c.loop-node.inside { bound = c.push.new.self }))
+    (bound_at (place_at c.loop-node.inside) (place_at c.args.here.now) c.in-Some.node.now c.push.new.self
+    c.loop-node.invariant.place c.in_ok-push.ensures) c.loop-node.invariant.goes c.value.ensures.gains
+
+pub each-returns-in-End-clause-gains : goal.each-returns-in-End-clause-gains
+each-returns-in-End-clause-gains g n c =
+    each_gains c.args.rules.now c.args.store.now g.K.Keeper.exact (place_at c.args.here.now) (over
+    c.args.rules.now.classes c.args.fold (body_view c.args.body.now) (place_at c.args.here.now) c.args.nodes.now) _ _ _
+    _ _ c.value.new.level c.loop-node.going c.args.body.now c.in-Some.node.now c.in-Some.others.now
+    c.loop-node.rest.now c.in-Some.ensures.cases.0 (place_at (record c.loop-node.inside { bound = c.push.new.self }))
+    (bound_at (place_at c.loop-node.inside) (place_at c.args.here.now) c.in-Some.node.now c.push.new.self
+    c.loop-node.invariant.place c.in_ok-push.ensures) c.loop-node.invariant.goes c.value.ensures.gains
+
+pub each-returns-in-End-clause-come : goal.each-returns-in-End-clause-come
+each-returns-in-End-clause-come g n c =
+    each_ends c.args.rules.now c.args.store.now g.K.Keeper.exact (place_at c.args.here.now) (over
+    c.args.rules.now.classes c.args.fold (body_view c.args.body.now) (place_at c.args.here.now) c.args.nodes.now) _ _ _
+    _ _ c.value.new.level c.loop-node.going c.args.body.now c.in-Some.node.now c.in-Some.others.now
+    c.loop-node.rest.now c.in-Some.ensures.cases.0 (place_at (record c.loop-node.inside { bound = c.push.new.self }))
+    (bound_at (place_at c.loop-node.inside) (place_at c.args.here.now) c.in-Some.node.now c.push.new.self
+    c.loop-node.invariant.place c.in_ok-push.ensures) c.loop-node.invariant.goes c.value.ensures.gains (value_view
+    c.in_ok-value.value) c.in_ok-value.ensures.come (value_view c.in-End.value) (c.in_ok-next.ensures
+    c.args.rules.now.classes (body_view c.args.body.now) (place_at c.args.here.now) c.in-Some.others.now ∙ ap (next_of
+    c.args.rules.now.classes (body_view c.args.body.now) (place_at c.args.here.now) c.in-Some.others.now) c.in-End.is)
+
+pub each-loop-node-preserved : goal.each-loop-node-preserved
+each-loop-node-preserved g n c =
+    record {
+      place = unbound_at (place_at c.loop-node.inside) (place_at c.args.here.now) c.in-Some.node.now
+          c.push.new.self c.pop.new.self c.loop-node.invariant.place c.in_ok-push.ensures c.pop.ensures.left;
+      goes = each_on
+          c.args.rules.now c.args.store.now g.K.Keeper.exact (place_at c.args.here.now) (over c.args.rules.now.classes
+          c.args.fold (body_view c.args.body.now) (place_at c.args.here.now) c.args.nodes.now) _ _ _ _ _ c.value.new.level
+          c.loop-node.going c.args.body.now c.in-Some.node.now c.in-Some.others.now c.loop-node.rest.now
+          c.in-Some.ensures.cases.0 (place_at (record c.loop-node.inside { bound = c.push.new.self })) (bound_at (place_at
+          c.loop-node.inside) (place_at c.args.here.now) c.in-Some.node.now c.push.new.self c.loop-node.invariant.place
+          c.in_ok-push.ensures) c.loop-node.invariant.goes c.value.ensures.gains (value_view c.in_ok-value.value)
+          c.in_ok-value.ensures.come c.in-On.further (c.in_ok-next.ensures c.args.rules.now.classes (body_view
+          c.args.body.now) (place_at c.args.here.now) c.in-Some.others.now ∙ ap (next_of c.args.rules.now.classes (body_view
+          c.args.body.now) (place_at c.args.here.now) c.in-Some.others.now) c.in-On.is);
+    }
+
+pub each-loop-node-preserved-in-On : goal.each-loop-node-preserved-in-On
+each-loop-node-preserved-in-On g n c =
+    record {
+      place = unbound_at (place_at c.loop-node.inside) (place_at c.args.here.now) c.in-Some.node.now
+          c.push.new.self c.pop.new.self c.loop-node.invariant.place c.in_ok-push.ensures c.pop.ensures.left;
+      goes = each_on
+          c.args.rules.now c.args.store.now g.K.Keeper.exact (place_at c.args.here.now) (over c.args.rules.now.classes
+          c.args.fold (body_view c.args.body.now) (place_at c.args.here.now) c.args.nodes.now) _ _ _ _ _ c.value.new.level
+          c.loop-node.going c.args.body.now c.in-Some.node.now c.in-Some.others.now c.loop-node.rest.now
+          c.in-Some.ensures.cases.0 (place_at (record c.loop-node.inside { bound = c.push.new.self })) (bound_at (place_at
+          c.loop-node.inside) (place_at c.args.here.now) c.in-Some.node.now c.push.new.self c.loop-node.invariant.place
+          c.in_ok-push.ensures) c.loop-node.invariant.goes c.value.ensures.gains (value_view c.in_ok-value.value)
+          c.in_ok-value.ensures.come c.in-On.further (c.in_ok-next.ensures c.args.rules.now.classes (body_view
+          c.args.body.now) (place_at c.args.here.now) c.in-Some.others.now ∙ ap (next_of c.args.rules.now.classes (body_view
+          c.args.body.now) (place_at c.args.here.now) c.in-Some.others.now) c.in-On.is);
+    }
+
+pub each-returns-clause-gains : goal.each-returns-clause-gains
+each-returns-clause-gains g n c =
+    gains_so_far c.args.rules.now c.args.store.now g.K.Keeper.exact (over c.args.rules.now.classes c.args.fold
+    (body_view c.args.body.now) (place_at c.args.here.now) c.args.nodes.now) _ _ _ _ _ _ c.loop-node.self.few
+    c.loop-node.invariant.goes
+
+pub each-returns-clause-come : goal.each-returns-clause-come
+each-returns-clause-come g n c =
+    each_all c.args.rules.now c.args.store.now g.K.Keeper.exact (place_at c.args.here.now) (over
+    c.args.rules.now.classes c.args.fold (body_view c.args.body.now) (place_at c.args.here.now) c.args.nodes.now) _ _
+    c.args.level.now c.loop-node.level c.loop-node.going c.args.body.now c.loop-node.rest.now (nil_from_length _
+    c.in_default.ensures.cases) (value_view c.come_to.result) (c.come_to.ensures c.args.rules.now.classes (body_view
+    c.args.body.now) (place_at c.args.here.now)) c.loop-node.invariant.goes
+
+pub value-returns-then-above-eq0-clause-gains : goal.value-returns-then-above-eq0-clause-gains
+value-returns-then-above-eq0-clause-gains g n c =
+    nothing_gained c.args.rules.now c.args.store.now g.K.Keeper.exact (ev c.args.rules.now.classes (body_view
+    c.args.body.now) (place_at c.args.here.now)) _ c.args.self.now.few c.requires.held
+
+pub value-returns-in-One-clause-gains : goal.value-returns-in-One-clause-gains
+value-returns-in-One-clause-gains g n c =
+    rw (c.form_of.ensures.means c.args.rules.now.classes (place_at c.args.here.now), c.in-One.is)
+    c.one.ensures.gains
+
+pub value-returns-in-One-clause-come : goal.value-returns-in-One-clause-come
+value-returns-in-One-clause-come g n c =
+    rw (c.form_of.ensures.means c.args.rules.now.classes (place_at c.args.here.now), c.in-One.is)
+    c.one.ensures.come
+
+pub value-returns-in-Two-clause-gains : goal.value-returns-in-Two-clause-gains
+value-returns-in-Two-clause-gains g n c =
+    rw (c.form_of.ensures.means c.args.rules.now.classes (place_at c.args.here.now), c.in-Two.is)
+    c.two.ensures.gains
+
+pub value-returns-in-Two-clause-come : goal.value-returns-in-Two-clause-come
+value-returns-in-Two-clause-come g n c =
+    rw (c.form_of.ensures.means c.args.rules.now.classes (place_at c.args.here.now), c.in-Two.is)
+    c.two.ensures.come
+
+pub value-returns-in-Compared-clause-gains : goal.value-returns-in-Compared-clause-gains
+value-returns-in-Compared-clause-gains g n c =
+    rw (c.form_of.ensures.means c.args.rules.now.classes (place_at c.args.here.now), c.in-Compared.is)
+    c.compared.ensures.gains
+
+pub value-returns-in-Compared-clause-come : goal.value-returns-in-Compared-clause-come
+value-returns-in-Compared-clause-come g n c =
+    rw (c.form_of.ensures.means c.args.rules.now.classes (place_at c.args.here.now), c.in-Compared.is)
+    c.compared.ensures.come
+
+pub value-returns-in-Either-clause-gains : goal.value-returns-in-Either-clause-gains
+value-returns-in-Either-clause-gains g n c =
+    rw (c.form_of.ensures.means c.args.rules.now.classes (place_at c.args.here.now), c.in-Either.is)
+    c.either.ensures.gains
+
+pub value-returns-in-Either-clause-come : goal.value-returns-in-Either-clause-come
+value-returns-in-Either-clause-come g n c =
+    rw (c.form_of.ensures.means c.args.rules.now.classes (place_at c.args.here.now), c.in-Either.is)
+    c.either.ensures.come
+
+pub value-returns-in-Call-clause-gains : goal.value-returns-in-Call-clause-gains
+value-returns-in-Call-clause-gains g n c =
+    rw (c.form_of.ensures.means c.args.rules.now.classes (place_at c.args.here.now), c.in-Call.is)
+    c.call.ensures.gains
+
+pub value-returns-in-Call-clause-come : goal.value-returns-in-Call-clause-come
+value-returns-in-Call-clause-come g n c =
+    rw (c.form_of.ensures.means c.args.rules.now.classes (place_at c.args.here.now), c.in-Call.is)
+    c.call.ensures.come
+
+pub value-returns-in-Over-clause-gains : goal.value-returns-in-Over-clause-gains
+value-returns-in-Over-clause-gains g n c =
+    rw (c.form_of.ensures.means c.args.rules.now.classes (place_at c.args.here.now), c.in-Over.is)
+    c.over.ensures.gains
+
+pub value-returns-in-Over-clause-come : goal.value-returns-in-Over-clause-come
+value-returns-in-Over-clause-come g n c =
+    rw (c.form_of.ensures.means c.args.rules.now.classes (place_at c.args.here.now), c.in-Over.is)
+    c.over.ensures.come
+
+pub value-returns-in-Plain-clause-gains : goal.value-returns-in-Plain-clause-gains
+value-returns-in-Plain-clause-gains g n c =
+    nothing_gained c.args.rules.now c.args.store.now g.K.Keeper.exact (ev c.args.rules.now.classes (body_view
+    c.args.body.now) (place_at c.args.here.now)) _ c.args.self.now.few c.requires.held
+
+pub value-returns-in-Plain-clause-come : goal.value-returns-in-Plain-clause-come
+value-returns-in-Plain-clause-come g n c =
+    IfOk-weaker c.value.result _ _ (λ v h. come_looked c.args.rules.now c.args.store.now (held (g.K.Keeper.contents
+    c.args.keeper.now) (g.K.Keeper.memories c.args.keeper.now) c.args.self.now.found.entries c.args.self.now.work)
+    c.args.level.now (record { reads = c.value.new.reads; uses = c.args.level.now.uses }) (ev c.args.rules.now.classes
+    (body_view c.args.body.now) (place_at c.args.here.now)) (value_view v) refl h) (c.value.ensures
+    c.args.rules.now.classes)

@@ -1,37 +1,58 @@
-use Rattle.std.proofs.Common.{◌≡◌, ◌+◌, ◌*◌}
-use Rattle.at_store.specs.Shown.{contents}
-use Rattle.at_body.specs.Rest.{left}
-use Rattle.at_body.specs.Typed.{IsTypedStep, class_shown}
-use Rattle.at_demand.specs.Inner.{Gains, known_by}
+use Rattle.std.proofs.Common.{◌≡◌, ◌+◌, ◌*◌, ◌++◌, length, map}
+use Rattle.at_rules.specs.Bodies.{bodies_view, body_view}
+use Rattle.at_body.specs.Rest.{ev_all, over}
+use Rattle.at_body.specs.Values.{value_view}
+use Rattle.at_apply.specs.Place.{place_at}
+use Rattle.at_demand.specs.Inner.{Gains}
+use Rattle.at_demand.specs.InParts.{held}
 use Rattle.at_demand.specs.Traces.{StayJustified}
-use Rattle.at_demand.proofs.of_nesting.Going.{IsGoing}
+use Rattle.at_demand.proofs.of_parts.Looping.{GoesOn}
 use Rattle.at_demand.proofs.direct.Direct.+direct.Given as goal
 
-abbrev pub decreases-told : goal.decreases-told
-decreases-told g l = 4 * l.above + 2
+abbrev pub decreases-value : goal.decreases-value
+decreases-value g l = 16 * l.above
 
-abbrev pub decreases-verify : goal.decreases-verify
-decreases-verify g l = 4 * l.above + 1
+abbrev pub decreases-one : goal.decreases-one
+decreases-one g l = 16 * l.above + 1
 
-abbrev pub decreases-within : goal.decreases-within
-decreases-within g l = 4 * l.above
+abbrev pub decreases-two : goal.decreases-two
+decreases-two g l = 16 * l.above + 1
+
+abbrev pub decreases-either : goal.decreases-either
+decreases-either g l = 16 * l.above + 1
+
+abbrev pub decreases-passed : goal.decreases-passed
+decreases-passed g l = 16 * l.above + 1
+
+abbrev pub decreases-each : goal.decreases-each
+decreases-each g l = 16 * l.above + 1
+
+abbrev pub decreases-over : goal.decreases-over
+decreases-over g l = 16 * l.above + 2
+
+abbrev pub decreases-compared : goal.decreases-compared
+decreases-compared g l = 16 * l.above + 2
 
 abbrev pub decreases-evaluate : goal.decreases-evaluate
-decreases-evaluate g l = 4 * l.above + 3
+decreases-evaluate g l = 16 * l.above + 4
 
-abbrev pub invariant-evaluate-loop-step : goal.invariant-evaluate-loop-step
-invariant-evaluate-loop-step g l = record {
-  gains : Gains l.rules l.store g.K.Keeper.exact l.inst (g.K.Keeper.contents l.initial.keeper) (g.K.Keeper.contents
-      l.keeper) l.initial.self.found.entries
-      l.self.found.entries l.initial.self.work l.self.work;
-  traces : StayJustified l.rules l.store l.inst (g.K.Keeper.memories l.initial.keeper) (g.K.Keeper.memories l.keeper);
-  goes : IsGoing l.rules (contents l.store) (known_by (g.K.Keeper.contents l.keeper) l.self.found.entries) l.inst
-      l.level l.step;
-  typed : IsTypedStep l.rules (class_shown l.store) l.step l.level.trial;
-}
+abbrev pub decreases-afresh : goal.decreases-afresh
+decreases-afresh g l = 16 * l.above + 5
 
-abbrev pub decreases-evaluate-loop-step : goal.decreases-evaluate-loop-step
-decreases-evaluate-loop-step g l = left l.step l.level.trial
+abbrev pub decreases-verify : goal.decreases-verify
+decreases-verify g l = 16 * l.above + 6
+
+abbrev pub decreases-lazily : goal.decreases-lazily
+decreases-lazily g l = 16 * l.above + 7
+
+abbrev pub decreases-inner : goal.decreases-inner
+decreases-inner g l = 16 * l.above + 7
+
+abbrev pub decreases-told : goal.decreases-told
+decreases-told g l = 16 * l.above + 8
+
+abbrev pub decreases-call : goal.decreases-call
+decreases-call g l = 16 * l.above + 9
 
 abbrev pub invariant-verify-loop : goal.invariant-verify-loop
 invariant-verify-loop g l = record {
@@ -41,3 +62,28 @@ invariant-verify-loop g l = record {
   traces : StayJustified l.rules l.store l.needed (g.K.Keeper.memories l.initial.keeper) (g.K.Keeper.memories l.keeper);
   level : l.level ≡ l.initial.level;
 }
+
+abbrev pub invariant-passed-loop-argument : goal.invariant-passed-loop-argument
+invariant-passed-loop-argument g l = GoesOn l.rules l.store g.K.Keeper.exact
+    (held (g.K.Keeper.contents l.initial.keeper) (g.K.Keeper.memories l.initial.keeper) l.initial.self.found.entries
+    l.initial.self.work)
+    (held (g.K.Keeper.contents l.keeper) (g.K.Keeper.memories l.keeper) l.self.found.entries l.self.work)
+    l.initial.level l.level (ev_all l.rules.classes (bodies_view l.passed) (place_at l.here))
+    (ev_all l.rules.classes (bodies_view l.rest) (place_at l.here)) (λ vs. map value_view l.values.items ++ vs)
+
+abbrev pub decreases-passed-loop-argument : goal.decreases-passed-loop-argument
+decreases-passed-loop-argument g l = length l.rest
+
+abbrev pub invariant-each-loop-node : goal.invariant-each-loop-node
+invariant-each-loop-node g l = record {
+  place : place_at l.inside ≡ place_at l.here;
+  goes : GoesOn l.rules l.store g.K.Keeper.exact
+      (held (g.K.Keeper.contents l.initial.keeper) (g.K.Keeper.memories l.initial.keeper) l.initial.self.found.entries
+      l.initial.self.work)
+      (held (g.K.Keeper.contents l.keeper) (g.K.Keeper.memories l.keeper) l.self.found.entries l.self.work)
+      l.initial.level l.level (over l.rules.classes l.initial.going (body_view l.body) (place_at l.here) l.nodes)
+      (over l.rules.classes l.going (body_view l.body) (place_at l.here) l.rest) (λ v. v);
+}
+
+abbrev pub decreases-each-loop-node : goal.decreases-each-loop-node
+decreases-each-loop-node g l = length l.rest

@@ -15,7 +15,7 @@ pub put-requires-clause-present : goal.put-requires-clause-present
 put-requires-clause-present g c =
     let entries = g.K.Keeper.contents c.args.keeper.now in
     taken c.args.rules.now c.args.store.now g.K.Keeper.exact c.args.needed entries entries
-    c.args.self.now.found.entries (value_view c.args.value.now) c.args.below.now.trial.reads
+    c.args.self.now.found.entries (value_view c.args.value.now) c.args.below.now.reads
     c.args.below.now.uses.items c.requires.known c.requires.come
 
 pub returns-in_err-push-in-Kept-clause-gains : goal.returns-in_err-push-in-Kept-clause-gains
@@ -28,7 +28,7 @@ returns-in_err-push-in-Kept-clause-gains g c =
     subst (λ (f : Found). Gains c.args.rules.now c.args.store.now g.K.Keeper.exact c.args.needed old new found f
     c.args.self.now.work c.put.new.self.work) (sym c.put.ensures.found)
     (gains_put_so c.args.rules.now c.args.store.now g.K.Keeper.exact c.args.needed old new found v
-    c.args.below.now.trial.reads c.args.below.now.uses.items c.requires.known c.requires.come
+    c.args.below.now.reads c.args.below.now.uses.items c.requires.known c.requires.come
     (Some v) (inl (refl, c.requires.lazy)) absent c.args.self.now.work c.put.new.self.work c.put.ensures.counts
     c.in_ok-put.put c.in_ok-put.ensures.puts)
 
@@ -38,12 +38,12 @@ returns-in_ok-push-in-Kept-clause-told g c =
     let new = g.K.Keeper.contents c.put.new.keeper in
     let old = c.args.level.now in
     let v = value_view c.args.value.now in
-    let ls = c.args.below.now.trial.reads in
+    let ls = c.args.below.now.reads in
     let us = c.args.below.now.uses.items in
     let puts = subst (λ (p : Put). HasPut g.K.Keeper.exact entries c.args.needed (Some v) ls us new p) c.in-Kept.is
     c.in_ok-put.ensures.puts in
     told_kept c.args.rules.now (contents c.args.store.now) (known_by new c.put.new.self.found.entries) old (record {
-      trial = old.trial;
+      reads = old.reads;
       uses = c.push.new.self;
     }) c.args.needed v
     (kept_now new c.put.new.self.found.entries c.args.needed v (put_kept g.K.Keeper.exact entries new c.args.needed v
@@ -59,7 +59,7 @@ returns-in_ok-push-in-Kept-clause-gains g c =
     subst (λ (f : Found). Gains c.args.rules.now c.args.store.now g.K.Keeper.exact c.args.needed old new found f
     c.args.self.now.work c.put.new.self.work) (sym c.put.ensures.found)
     (gains_put_so c.args.rules.now c.args.store.now g.K.Keeper.exact c.args.needed old new found v
-    c.args.below.now.trial.reads c.args.below.now.uses.items c.requires.known c.requires.come
+    c.args.below.now.reads c.args.below.now.uses.items c.requires.known c.requires.come
     (Some v) (inl (refl, c.requires.lazy)) absent c.args.self.now.work c.put.new.self.work c.put.ensures.counts
     c.in_ok-put.put c.in_ok-put.ensures.puts)
 
@@ -80,7 +80,7 @@ returns-in_err-put-clause-traces g c =
     let us = c.args.below.now.uses.items in
     let absent = none_entered (old c.args.needed) c.stands.result c.stands.ensures c.if-stands.false in
     put_traced c.args.rules.now c.args.store.now c.requires.idle c.args.needed old new c.args.self.now.found.entries
-    (value_view c.args.value.now) c.args.below.now.trial.reads us c.order_of-order.result (g.K.Keeper.memories
+    (value_view c.args.value.now) c.args.below.now.reads us c.order_of-order.result (g.K.Keeper.memories
     c.args.keeper.now) (g.K.Keeper.memories c.put.new.keeper) c.requires.known c.requires.come c.requires.lazy
     (λ is. subst (λ (xs : List (Instance ℕ)). AreLazy c.args.rules.now xs) c.as_slice.ensures.value
     (c.order_of-order.ensures is))
@@ -94,11 +94,11 @@ returns-in_err-push-in-Kept-clause-traces g c =
     let us = c.args.below.now.uses.items in
     let absent = none_entered (old c.args.needed) c.stands.result c.stands.ensures c.if-stands.false in
     put_traced c.args.rules.now c.args.store.now c.requires.idle c.args.needed old new c.args.self.now.found.entries
-    (value_view c.args.value.now) c.args.below.now.trial.reads us c.order_of-order.result (g.K.Keeper.memories
+    (value_view c.args.value.now) c.args.below.now.reads us c.order_of-order.result (g.K.Keeper.memories
     c.args.keeper.now) (g.K.Keeper.memories c.put.new.keeper) c.requires.known c.requires.come c.requires.lazy
     (λ is. subst (λ (xs : List (Instance ℕ)). AreLazy c.args.rules.now xs) c.as_slice.ensures.value
     (c.order_of-order.ensures is))
-    (stays_put g.K.Keeper.exact old new c.args.needed (Some (value_view c.args.value.now)) c.args.below.now.trial.reads
+    (stays_put g.K.Keeper.exact old new c.args.needed (Some (value_view c.args.value.now)) c.args.below.now.reads
     us
     c.in_ok-put.put absent c.in_ok-put.ensures.puts)
     (g.K.Keeper.kept_last c.put.new.keeper) c.put.ensures.traces c.requires.justified
@@ -110,11 +110,11 @@ returns-in_ok-push-in-Kept-clause-traces g c =
     let us = c.args.below.now.uses.items in
     let absent = none_entered (old c.args.needed) c.stands.result c.stands.ensures c.if-stands.false in
     put_traced c.args.rules.now c.args.store.now c.requires.idle c.args.needed old new c.args.self.now.found.entries
-    (value_view c.args.value.now) c.args.below.now.trial.reads us c.order_of-order.result (g.K.Keeper.memories
+    (value_view c.args.value.now) c.args.below.now.reads us c.order_of-order.result (g.K.Keeper.memories
     c.args.keeper.now) (g.K.Keeper.memories c.put.new.keeper) c.requires.known c.requires.come c.requires.lazy
     (λ is. subst (λ (xs : List (Instance ℕ)). AreLazy c.args.rules.now xs) c.as_slice.ensures.value
     (c.order_of-order.ensures is))
-    (stays_put g.K.Keeper.exact old new c.args.needed (Some (value_view c.args.value.now)) c.args.below.now.trial.reads
+    (stays_put g.K.Keeper.exact old new c.args.needed (Some (value_view c.args.value.now)) c.args.below.now.reads
     us
     c.in_ok-put.put absent c.in_ok-put.ensures.puts)
     (g.K.Keeper.kept_last c.put.new.keeper) c.put.ensures.traces c.requires.justified
@@ -126,11 +126,11 @@ returns-in-Left-clause-traces g c =
     let us = c.args.below.now.uses.items in
     let absent = none_entered (old c.args.needed) c.stands.result c.stands.ensures c.if-stands.false in
     put_traced c.args.rules.now c.args.store.now c.requires.idle c.args.needed old new c.args.self.now.found.entries
-    (value_view c.args.value.now) c.args.below.now.trial.reads us c.order_of-order.result (g.K.Keeper.memories
+    (value_view c.args.value.now) c.args.below.now.reads us c.order_of-order.result (g.K.Keeper.memories
     c.args.keeper.now) (g.K.Keeper.memories c.put.new.keeper) c.requires.known c.requires.come c.requires.lazy
     (λ is. subst (λ (xs : List (Instance ℕ)). AreLazy c.args.rules.now xs) c.as_slice.ensures.value
     (c.order_of-order.ensures is))
-    (stays_put g.K.Keeper.exact old new c.args.needed (Some (value_view c.args.value.now)) c.args.below.now.trial.reads
+    (stays_put g.K.Keeper.exact old new c.args.needed (Some (value_view c.args.value.now)) c.args.below.now.reads
     us
     c.in_ok-put.put absent c.in_ok-put.ensures.puts)
     (g.K.Keeper.kept_last c.put.new.keeper) c.put.ensures.traces c.requires.justified

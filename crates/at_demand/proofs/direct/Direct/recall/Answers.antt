@@ -17,7 +17,7 @@ returns g c =
     let is = subst (λ (o : Option ValueCode). IsOneOf (kept_values entries c.args.needed.now) (remembered found
     c.args.needed.now) o) c.in-Some.is c.in_ok-value.ensures in
     told_kept c.args.rules.now (contents c.args._store.now) (known_by entries found) old (record {
-      trial = old.trial;
+      reads = old.reads;
       uses = c.push.new.self;
     }) c.args.needed.now (value_view c.in-Some.value)
     (one_known c.args.rules.now (contents c.args._store.now) entries found c.requires.known c.args.needed.now

@@ -41,7 +41,7 @@ returns-in_err-push-clause-gains g c =
     let put = c.in_ok-insert.ensures.inserted ∙ ap (λ (x : Instance ℕ). insert_entry same_instance
     c.see.new.self.found.entries x copied) c.in_ok-copy.ensures in
     let has = subst (λ (v : Value ℕ). HasValue (contents s) (meaning rules) i v) (sym c.in_ok-copy-2.ensures)
-    (valued rules s exact i old old f (value_view c.args.value.now) c.args.below.now.trial.reads
+    (valued rules s exact i old old f (value_view c.args.value.now) c.args.below.now.reads
     c.args.below.now.uses.items c.requires.known c.requires.come) in
     gains_more rules s exact i old new f c.see.new.self.found.entries c.insert.new.found.entries w c.see.new.self.work
     copied stood put has c.in_ok-stand.ensures.stands c.requires.lazy
@@ -62,13 +62,13 @@ returns-clause-told g c =
     let put = c.in_ok-insert.ensures.inserted ∙ ap (λ (x : Instance ℕ). insert_entry same_instance
     c.see.new.self.found.entries x copied) c.in_ok-copy.ensures in
     let has = subst (λ (v : Value ℕ). HasValue (contents s) (meaning rules) i v) (sym c.in_ok-copy-2.ensures)
-    (valued rules s exact i old old f (value_view c.args.value.now) c.args.below.now.trial.reads
+    (valued rules s exact i old old f (value_view c.args.value.now) c.args.below.now.reads
     c.args.below.now.uses.items c.requires.known c.requires.come) in
     let level = c.args.level.now in
     let is = more_known rules s exact i old new f c.see.new.self.found.entries c.insert.new.found.entries w
     c.see.new.self.work copied stood put has c.in_ok-stand.ensures.stands c.requires.lazy in
     told_kept rules (contents s) (known_by new c.insert.new.found.entries) level (record {
-      trial = level.trial;
+      reads = level.reads;
       uses =
           c.push.new.self;
     }) i (value_view c.args.value.now)
@@ -90,7 +90,7 @@ returns-clause-gains g c =
     let put = c.in_ok-insert.ensures.inserted ∙ ap (λ (x : Instance ℕ). insert_entry same_instance
     c.see.new.self.found.entries x copied) c.in_ok-copy.ensures in
     let has = subst (λ (v : Value ℕ). HasValue (contents s) (meaning rules) i v) (sym c.in_ok-copy-2.ensures)
-    (valued rules s exact i old old f (value_view c.args.value.now) c.args.below.now.trial.reads
+    (valued rules s exact i old old f (value_view c.args.value.now) c.args.below.now.reads
     c.args.below.now.uses.items c.requires.known c.requires.come) in
     gains_more rules s exact i old new f c.see.new.self.found.entries c.insert.new.found.entries w c.see.new.self.work
     copied stood put has c.in_ok-stand.ensures.stands c.requires.lazy

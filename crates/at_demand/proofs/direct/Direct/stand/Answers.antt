@@ -17,7 +17,7 @@ put-requires-clause-present g c = λ u h.
     let entries = g.K.Keeper.contents c.args.keeper.now in
     let below = c.args.below.now in
     taken c.args.rules.now c.args.store.now g.K.Keeper.exact c.args.needed.now entries entries
-    c.args.self.now.found.entries (value_view c.args.value.now) below.trial.reads below.uses.items c.requires.known
+    c.args.self.now.found.entries (value_view c.args.value.now) below.reads below.uses.items c.requires.known
     c.requires.come u
     (subst (λ (xs : List (Instance ℕ)). Contains xs u) c.as_slice-uses.ensures.value h)
 
@@ -56,13 +56,13 @@ returns-in-Kept-clause-gains g c =
     let one = subst (λ (x : Instance ℕ). HasPut exact old x None ls us new c.in_ok-put.put) c.in_ok-copy.ensures
     c.in_ok-put.ensures.puts in
     let two = subst (λ (xs : List (Location ℕ)). HasPut exact old i None xs us new c.in_ok-put.put)
-    (c.as_slice-reads.ensures ∙ c.reads.ensures) one in
-    let puts = subst (λ (xs : List (Instance ℕ)). HasPut exact old i None below.trial.reads xs new c.in_ok-put.put)
+    c.as_slice-reads.ensures one in
+    let puts = subst (λ (xs : List (Instance ℕ)). HasPut exact old i None below.reads xs new c.in_ok-put.put)
     c.as_slice-uses.ensures.value two in
     gains_put_so c.args.rules.now c.args.store.now exact i old new c.args.self.now.found.entries (value_view
-    c.args.value.now) below.trial.reads below.uses.items c.requires.known c.requires.come
+    c.args.value.now) below.reads below.uses.items c.requires.known c.requires.come
     None (inr (refl, c.requires.lazy)) absent w w (λ k. counts_shared_so c.args.rules.now c.args.store.now exact old
-    new i below.trial.reads below.uses.items w c.args.self.now.few absent c.in_ok-put.put puts) c.in_ok-put.put puts
+    new i below.reads below.uses.items w c.args.self.now.few absent c.in_ok-put.put puts) c.in_ok-put.put puts
 
 pub returns-in_err-put-clause-traces : goal.returns-in_err-put-clause-traces
 returns-in_err-put-clause-traces g c =

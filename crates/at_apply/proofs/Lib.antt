@@ -1,0 +1,2 @@
+mod Begun
+mod Compared

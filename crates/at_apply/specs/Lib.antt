@@ -1,0 +1,4 @@
+pub mod Looking
+pub mod Place
+pub mod Parts
+pub mod Forms

@@ -1,0 +1,361 @@
+//! What is done at the end of an evaluation in one go, and with what is known: it is told, kept, kept again or remembered.
+
+ghost use Rattle.std.specs.Prelude.{◌≡◌, IfOk, IfSome, IsSome, OnErr, OnOk, IsTrue, None, Some, false, true};
+ghost use Rattle.std.specs.Option.{option_map};
+ghost use Rattle.at_model.specs.Meaning.{Leads};
+ghost use Rattle.at_model.specs.Rules.{is_lazy};
+ghost use Rattle.at_store.specs.Shown.{IsIdle, contents};
+ghost use Rattle.at_body.specs.Values.{value_view};
+ghost use Rattle.at_body.specs.Same.{same_instance};
+ghost use Rattle.indexmap.specs.IndexMap.{insert_entry};
+ghost use Rattle.at_cache.specs.Kept.{AreKept, HasPut, KeepsAll};
+ghost use Rattle.at_cache.specs.Traced.{PutsTrace};
+ghost use Rattle.at_cache.specs.declared.keeper.Order.TheVariants as order_code;
+ghost use Rattle.at_demand.specs.Known.{kept_values, meaning};
+ghost use Rattle.at_demand.specs.Inner.{AreKnown, AreLazy, Gains, HasRecalled, HasTold, IsEvaluated, IsOneOf, known_by, remembered};
+ghost use Rattle.at_demand.specs.Sparing.{Counts};
+ghost use Rattle.at_demand.specs.Traces.{AreJustified, StayJustified};
+
+use super::{Direct, Level};
+use at_apply::Stop;
+use at_body::{Inst, Value};
+use at_cache::{Keeper, Order, Put};
+use at_rules::{AttrId, Rules};
+use at_store::{Loc, Store};
+use indexmap::IndexMap;
+use std::alloc::AllocError;
+
+// An instance that isn't lazy is evaluated again at each demand where that looks at no more locations than that, and goes over no more elements.
+// The value of another one is remembered, and what it rests on stands once.
+const FEW: usize = 16;
+
+// The same where the keeper traces: no trace is made of what takes a remembered value, so it would be evaluated anew after each edit.
+const FEW_TRACED: usize = 64;
+
+impl Direct {
+    // What stands in the way of keeping the instance again; it leads to that.
+    pub(super) fn in_the_way<K: Keeper>(
+        &self,
+        keeper: &K,
+        rules: &Rules,
+        _store: &Store,
+        needed: &Inst,
+    ) -> Result<Option<Inst>, AllocError>
+        requires idle { IsIdle _store.now }
+        requires known { AreKnown rules.now (contents _store.now) (K.contents keeper.now) self.now.found.entries }
+        requires justified { AreJustified rules.now (contents _store.now) (K.memories keeper.now) }
+        ensures lazy { IfOk result (λ o. IfSome o (λ i. is_lazy rules.now i.attribute ≡ true)) }
+        ensures led { IfOk result (λ o. IfSome o (Leads (contents _store.now) (meaning rules.now) needed.now)) }
+    {
+        let Some(other) = keeper.blocker(needed) else {
+            return Ok(None);
+        };
+        if !rules.is_lazy(other.attribute()) {
+            return Ok(None);
+        }
+        Ok(Some(other.copy(self.alloc)?))
+    }
+
+    // The value of an instance that isn't known, where it can be kept again with no evaluation; it is taken then.
+    pub(super) fn keep_again<K: Keeper>(
+        &mut self,
+        keeper: &mut K,
+        rules: &Rules,
+        store: &Store,
+        level: &mut Level,
+        needed: &Inst,
+    ) -> Result<Option<Value>, AllocError>
+        requires idle { IsIdle store.now }
+        requires known { AreKnown rules.now (contents store.now) (K.contents keeper.old) self.old.found.entries }
+        requires justified { AreJustified rules.now (contents store.now) (K.memories keeper.old) }
+        ensures recalled { IfOk result (HasRecalled rules.now (contents store.now) (known_by (K.contents keeper.new) self.new.found.entries)
+            level.old level.new needed.now) }
+        ensures gains { Gains rules.now store.now K.exact needed.now (K.contents keeper.old) (K.contents keeper.new) self.old.found.entries
+            self.new.found.entries self.old.work self.new.work }
+        ensures traces { StayJustified rules.now store.now needed.now (K.memories keeper.old) (K.memories keeper.new) }
+    {
+        if !self.have_settled(keeper, rules, store, needed) {
+            return Ok(None);
+        }
+        self.recall(keeper, rules, store, level, needed)
+    }
+
+    // Whether anything was kept again for the instance, which is counted.
+    fn have_settled<K: Keeper>(
+        &mut self,
+        keeper: &mut K,
+        rules: &Rules,
+        store: &Store,
+        needed: &Inst,
+    ) -> bool
+        requires idle { IsIdle store.now }
+        requires known { AreKnown rules.now (contents store.now) (K.contents keeper.old) self.old.found.entries }
+        requires justified { AreJustified rules.now (contents store.now) (K.memories keeper.old) }
+        ensures gains { Gains rules.now store.now K.exact needed.now (K.contents keeper.old) (K.contents keeper.new) self.old.found.entries
+            self.new.found.entries self.old.work self.new.work }
+        ensures traces { StayJustified rules.now store.now needed.now (K.memories keeper.old) (K.memories keeper.new) }
+    {
+        let before = self.work;
+        let later = keeper.settle(needed, before);
+        self.work = later;
+        before < later
+    }
+
+    // The known value of an instance, which is taken then.
+    pub(super) fn recall<K: Keeper>(
+        &self,
+        keeper: &K,
+        rules: &Rules,
+        _store: &Store,
+        level: &mut Level,
+        needed: &Inst,
+    ) -> Result<Option<Value>, AllocError>
+        requires known { AreKnown rules.now (contents _store.now) (K.contents keeper.now) self.now.found.entries }
+        ensures { IfOk result (HasRecalled rules.now (contents _store.now) (known_by (K.contents keeper.now) self.now.found.entries) level.old
+            level.new needed.now) }
+    {
+        let Some(value) = self.value_of(keeper, rules, needed)? else {
+            return Ok(None);
+        };
+        level.uses.push(needed.copy(self.alloc)?)?;
+        Ok(Some(value))
+    }
+
+    // The kept value of a lazy instance, or the one that is remembered of another one.
+    fn value_of<K: Keeper>(
+        &self,
+        keeper: &K,
+        rules: &Rules,
+        needed: &Inst,
+    ) -> Result<Option<Value>, AllocError>
+        ensures { IfOk result (IsOneOf (kept_values (K.contents keeper.now) needed.now) (remembered self.now.found.entries needed.now)) }
+    {
+        if rules.is_lazy(needed.attribute()) {
+            return copy_of(keeper.get(needed));
+        }
+        if !self.may_have(needed.attribute()) {
+            return Ok(None);
+        }
+        copy_of(self.found.get(needed))
+    }
+
+    // Whether an instance of the attribute may be remembered.
+    fn may_have(&self, attribute: AttrId) -> bool {
+        match self.seen.get(attribute.index()) {
+            Some(seen) => *seen,
+            None => false,
+        }
+    }
+
+    // Keeps the value of a lazy instance, which is taken then.
+    pub(super) fn keep<K: Keeper>(
+        &mut self,
+        keeper: &mut K,
+        rules: &Rules,
+        store: &Store,
+        level: &mut Level,
+        below: &Level,
+        needed: Inst,
+        value: &Value,
+    ) -> Result<(), Stop>
+        requires idle { IsIdle store.now }
+        requires lazy { is_lazy rules.now needed.attribute ≡ true }
+        requires known { AreKnown rules.now (contents store.now) (K.contents keeper.old) self.old.found.entries }
+        requires justified { AreJustified rules.now (contents store.now) (K.memories keeper.old) }
+        requires come { IsEvaluated rules.now (contents store.now) (known_by (K.contents keeper.old) self.old.found.entries) needed
+            (value_view value.now) below.now.reads below.now.uses.items }
+        ensures told { OnOk result (HasTold rules.now (contents store.now) (known_by (K.contents keeper.new) self.new.found.entries) level.old
+            level.new needed (value_view value.now)) }
+        ensures gains { Gains rules.now store.now K.exact needed (K.contents keeper.old) (K.contents keeper.new) self.old.found.entries
+            self.new.found.entries self.old.work self.new.work }
+        ensures traces { StayJustified rules.now store.now needed (K.memories keeper.old) (K.memories keeper.new) }
+    {
+        if keeper.stands(&needed) {
+            return Err(Stop::GivesUp);
+        }
+        let order = order_of(rules, below.uses.as_slice());
+        let put = self.put(keeper, &needed, value, below, order)?;
+        match put {
+            Put::Kept => {
+                level.uses.push(needed)?;
+                Ok(())
+            }
+            Put::Left => Err(Stop::GivesUp),
+        }
+    }
+
+    // Puts a value to what is kept, for all that its evaluation looked at and took, and counts it.
+    fn put<K: Keeper>(
+        &mut self,
+        keeper: &mut K,
+        inst: &Inst,
+        value: &Value,
+        level: &Level,
+        order: Order,
+    ) -> Result<Put, AllocError>
+        requires absent { K.contents keeper.old inst.now ≡ None }
+        requires present { AreKept (K.contents keeper.old) level.now.uses.items }
+        ensures puts { IfOk result (HasPut K.exact (K.contents keeper.old) inst.now (Some (value_view value.now)) level.now.reads
+            level.now.uses.items (K.contents keeper.new)) }
+        ensures err { OnErr result (KeepsAll (K.contents keeper.old) (K.contents keeper.new)) }
+        ensures counts { IsTrue K.exact → Counts (K.contents keeper.old) (K.contents keeper.new) self.old.work self.new.work }
+        ensures found { self.new.found.entries ≡ self.old.found.entries }
+        ensures traces { PutsTrace inst.now (Some (value_view value.now)) level.now.reads level.now.uses.items order
+            (K.memories keeper.old) (K.memories keeper.new) }
+    {
+        let reads = level.reads.as_slice();
+        let uses = level.uses.as_slice();
+        let put = keeper.put(
+            inst.copy(self.alloc)?,
+            Some(value.copy()?),
+            reads,
+            uses,
+            order,
+        )?;
+        self.work = self.work.saturating_add(1);
+        Ok(put)
+    }
+
+    // Remembers the value of an instance that isn't lazy, which is taken then.
+    pub(super) fn remember<K: Keeper>(
+        &mut self,
+        keeper: &mut K,
+        rules: &Rules,
+        store: &Store,
+        level: &mut Level,
+        below: &Level,
+        needed: Inst,
+        value: &Value,
+    ) -> Result<(), Stop>
+        requires idle { IsIdle store.now }
+        requires lazy { is_lazy rules.now needed.attribute ≡ false }
+        requires known { AreKnown rules.now (contents store.now) (K.contents keeper.old) self.old.found.entries }
+        requires justified { AreJustified rules.now (contents store.now) (K.memories keeper.old) }
+        requires come { IsEvaluated rules.now (contents store.now) (known_by (K.contents keeper.old) self.old.found.entries) needed
+            (value_view value.now) below.now.reads below.now.uses.items }
+        ensures told { OnOk result (HasTold rules.now (contents store.now) (known_by (K.contents keeper.new) self.new.found.entries) level.old
+            level.new needed (value_view value.now)) }
+        ensures gains { Gains rules.now store.now K.exact needed (K.contents keeper.old) (K.contents keeper.new) self.old.found.entries
+            self.new.found.entries self.old.work self.new.work }
+        ensures traces { StayJustified rules.now store.now needed (K.memories keeper.old) (K.memories keeper.new) }
+    {
+        self.stand(keeper, rules, store, &needed, value, below)?;
+        self.see(needed.attribute())?;
+        insert(&mut self.found, needed.copy(self.alloc)?, value.copy()?)?;
+        level.uses.push(needed)?;
+        Ok(())
+    }
+
+    // Gives an instance that isn't lazy an entry without a value, for all that its evaluation looked at and took, where it has none.
+    fn stand<K: Keeper>(
+        &mut self,
+        keeper: &mut K,
+        rules: &Rules,
+        store: &Store,
+        needed: &Inst,
+        value: &Value,
+        below: &Level,
+    ) -> Result<(), Stop>
+        requires idle { IsIdle store.now }
+        requires lazy { is_lazy rules.now needed.now.attribute ≡ false }
+        requires known { AreKnown rules.now (contents store.now) (K.contents keeper.old) self.old.found.entries }
+        requires justified { AreJustified rules.now (contents store.now) (K.memories keeper.old) }
+        requires come { IsEvaluated rules.now (contents store.now) (known_by (K.contents keeper.old) self.old.found.entries) needed.now
+            (value_view value.now) below.now.reads below.now.uses.items }
+        ensures stands { OnOk result (IsSome (K.contents keeper.new needed.now)) }
+        ensures found { self.new.found.entries ≡ self.old.found.entries }
+        ensures gains { Gains rules.now store.now K.exact needed.now (K.contents keeper.old) (K.contents keeper.new) self.old.found.entries
+            self.new.found.entries self.old.work self.new.work }
+        ensures traces { StayJustified rules.now store.now needed.now (K.memories keeper.old) (K.memories keeper.new) }
+    {
+        if keeper.stands(needed) {
+            return Ok(());
+        }
+        let reads = below.reads.as_slice();
+        let uses = below.uses.as_slice();
+        let put = keeper.put(needed.copy(self.alloc)?, None, reads, uses, Order::Any)?;
+        match put {
+            Put::Kept => Ok(()),
+            Put::Left => Err(Stop::GivesUp),
+        }
+    }
+
+    // An instance of the attribute is remembered.
+    fn see(&mut self, attribute: AttrId) -> Result<(), AllocError>
+        ensures work { self.new.work ≡ self.old.work }
+        ensures found { self.new.found.entries ≡ self.old.found.entries }
+    {
+        let index = attribute.index();
+        if self.seen.len() <= index {
+            self.seen.resize(index.saturating_add(1), false)?;
+        }
+        if let Some(seen) = self.seen.get_mut(index) {
+            *seen = true;
+        }
+        Ok(())
+    }
+}
+
+// How the uses of an evaluation stand: as they were taken, where all are lazy. The value of another one is known for one question alone.
+fn order_of(rules: &Rules, uses: &[Inst]) -> Order
+    ensures { result ≡ order_code.AsTaken → AreLazy rules.now uses.now }
+{
+    for inst in uses {
+        if !rules.is_lazy(inst.attribute()) {
+            return Order::Any;
+        }
+    }
+    Order::AsTaken
+}
+
+// How many locations, and elements, a small evaluation looks at.
+pub fn few_of<K: Keeper>(keeper: &K) -> usize {
+    if keeper.is_tracing() { FEW_TRACED } else { FEW }
+}
+
+// Whether an evaluation was a small one that looked at the locations behind the first so many, in all: a fold goes over the elements of a
+// component that it looked at.
+pub fn is_small(store: &Store, reads: &[Loc], before: usize, few: usize) -> bool
+    requires idle { IsIdle store.now }
+{
+    if reads.len() < before {
+        return true;
+    }
+    let own = reads.split_at(before).1;
+    if few < own.len() {
+        return false;
+    }
+    elements_in(store, own) <= few
+}
+
+// How many elements there are in the components among the locations.
+fn elements_in(store: &Store, reads: &[Loc]) -> usize
+    requires idle { IsIdle store.now }
+{
+    let mut elements = 0_usize;
+    for loc in reads {
+        if let Loc::Slot(node, part) = loc {
+            elements = elements.saturating_add(store.children(*node, *part).len());
+        }
+    }
+    elements
+}
+
+// A value once more, where there is one.
+fn copy_of(value: Option<&Value>) -> Result<Option<Value>, AllocError>
+    ensures { IfOk result (λ o. option_map value_view o ≡ option_map (λ v. value_view v.now) value.entry) }
+{
+    match value {
+        Some(value) => Ok(Some(value.copy()?)),
+        None => Ok(None),
+    }
+}
+
+// Puts the value by the instance, or finds memory wanting: then all is as it was.
+fn insert(found: &mut IndexMap<Inst, Value>, inst: Inst, value: Value) -> Result<(), AllocError>
+    ensures inserted { OnOk result (found.new.entries ≡ insert_entry same_instance found.old.entries inst value) }
+    ensures err { OnErr result (found.new.entries ≡ found.old.entries) }
+{
+    found.insert(inst, value)?;
+    Ok(())
+}
