@@ -19,13 +19,15 @@ REFUSED = [
     (["--keep", "1", "--cut-off", *THREE], ["error: --cut-off can't be used with --keep"]),
     (["--cut-off", "--cut-off", *THREE], ["cannot be used multiple times"]),
     (["--cut-off=1", *THREE], ["unexpected value '1' for '--cut-off'"]),
+    (["--gather", "--gather", *THREE], ["cannot be used multiple times"]),
+    (["--gather=1", *THREE], ["unexpected value '1' for '--gather'"]),
     (["sum.ast", "sum.txt"], ["<ASPECT>"]),
     (["--work", "--work", *THREE], ["cannot be used multiple times"]),
     (["--port", *THREE], ["unexpected argument '--port'"]),
     (["--socket=", *THREE], ["a value is required for '--socket <PATH>'"]),
 ]
-HELP = ["--socket <PATH>", "--connections <N>", "--slice <N>", "--keep <N>", "--cut-off", "--work", "--version", "<GRAMMAR>", "<TREE>",
-        "<ASPECT>", "$ attrd calc.ast", "ask PLACE", "move PLACE", "version ", "wait NUMBER"]
+HELP = ["--socket <PATH>", "--connections <N>", "--slice <N>", "--keep <N>", "--cut-off", "--gather", "--work", "--version", "<GRAMMAR>",
+        "<TREE>", "<ASPECT>", "$ attrd calc.ast", "ask PLACE", "move PLACE", "version ", "wait NUMBER"]
 
 # Two values are kept when an edit comes that touches the first one, and then the second is asked for anew.
 KEPT_BY_TURNS = b"0 ask /Left twice()\n0 ask /Right twice()\n0 token /Left Value 5\n0 ask /Right twice()\n"

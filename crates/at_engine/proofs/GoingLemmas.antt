@@ -6,7 +6,7 @@ use Rattle.at_cache.specs.Kept.{Entries}
 use Rattle.at_cache.specs.Traced.{Memories}
 use Rattle.at_engine.specs.Ends.{Remembers, SendsOn}
 use Rattle.at_engine.specs.Engines.{state_of, IsSound}
-use Rattle.at_engine.specs.Going.{Goes}
+use Rattle.at_engine.specs.Going.{Goes, unsaid}
 use Rattle.at_engine.specs.Serving.{Calls}
 use Rattle.at_engine.specs.Taking.{countable}
 use Rattle.at_engine.specs.declared.engine.Engine.{Engine}
@@ -24,6 +24,11 @@ sends_alike (Err e) (Err f) waited waits same h = tt
 sent_all : {T E : Type 0} (r : Result T E) (waited waits : Bool) → OnOk r (waits ≡ false) → SendsOn r waited waits
 sent_all (Ok x) waited waits sent = λ none. sent
 sent_all (Err e) waited waits sent = tt
+
+-- nothing is said
+unsaid_sent : {T E : Type 0} (r : Result T E) → SendsOn r false false
+unsaid_sent (Ok x) = λ none. none
+unsaid_sent (Err e) = tt
 
 module _ {K W : Type 0} (exact : Bool) (entries : K → Entries) (memories : K → Memories)
     (failure : W → Option Bool) (waiting : W → Bool) where
@@ -84,3 +89,34 @@ module _ {K W : Type 0} (exact : Bool) (entries : K → Entries) (memories : K �
   pub goes_more : {T : Type 0} (old new : Engine K) (desk next : Desk) (w x : W) (m n : ℕ) (result : Result T RunFault) → m ≤ n → Goes exact entries memories failure waiting old new desk next w x m result
       → Goes exact entries memories failure waiting old new desk next w x n result
   goes_more old new desk next w x m n result few h = record { failed = h.failed; sent = h.sent; spare = h.spare; rules = h.rules; slice = h.slice; grows = omega (arith, few, h.grows); sound = h.sound }
+
+  -- no more is said of what waits
+  pub goes_unsaid : {T : Type 0} (old new : Engine K) (desk next : Desk) (w x : W) (lines : ℕ)
+      (result : Result T RunFault)
+      → Goes exact entries memories failure waiting old new desk next w x lines result
+      → Goes exact entries memories failure unsaid old new desk next w x lines result
+  goes_unsaid old new desk next w x lines result h = record {
+    failed = h.failed;
+    sent = unsaid_sent result;
+    spare = h.spare;
+    rules = h.rules;
+    slice = h.slice;
+    grows = h.grows;
+    sound = h.sound;
+  }
+
+  -- it is said
+  pub goes_said : {T : Type 0} (old new : Engine K) (desk next : Desk) (w x : W) (lines : ℕ)
+      (result : Result T RunFault)
+      → SendsOn result (waiting w) (waiting x)
+      → Goes exact entries memories failure unsaid old new desk next w x lines result
+      → Goes exact entries memories failure waiting old new desk next w x lines result
+  goes_said old new desk next w x lines result sent h = record {
+    failed = h.failed;
+    sent = sent;
+    spare = h.spare;
+    rules = h.rules;
+    slice = h.slice;
+    grows = h.grows;
+    sound = h.sound;
+  }

@@ -1,5 +1,5 @@
 -- What is known of calls, over calls one after the other.
-use Rattle.std.proofs.Common.{◌≡◌, ℕ, ◌+◌, ◌^◌, ◌<◌, nat_eq, arith, inl, inr, Bool, true, false, ◌||◌, refl, sym, ap, ◌∙◌, subst, Option, Some, None, Result, Ok, Err}
+use Rattle.std.proofs.Common.{◌≡◌, ℕ, ◌+◌, ◌^◌, ◌<◌, nat_eq, arith, inl, inr, Bool, true, false, ◌||◌, refl, sym, ap, ◌∙◌, subst, Option, Some, None, Result, Ok, Err, OnOk}
 use Rattle.std.proofs.lemmas.Bool.Decides.{eqb_tells}
 use Rattle.at_engine.specs.Ends.{Counted, Remembers, SendsOn}
 
@@ -38,3 +38,9 @@ counted_on (Some b) between after m n h g = λ few.
 pub sends_later : {T E : Type 0} (result : Result T E) (waited between waits : Bool) → (waited ≡ false → between ≡ false) → SendsOn result between waits → SendsOn result waited waits
 sends_later (Ok x) waited between waits f g = λ none. g (f none)
 sends_later (Err e) waited between waits f g = tt
+
+-- all is sent on where that holds, and then no more waits
+pub sent_where : {T E : Type 0} (When : Type 0) (result : Result T E) (waited waits : Bool) → (When → waited ≡ false)
+    → SendsOn result waited waits → OnOk result (When → waits ≡ false)
+sent_where When (Ok x) waited waits f g = λ h. g (f h)
+sent_where When (Err e) waited waits f g = tt

@@ -11,3 +11,4 @@ pub mod Reading
 pub mod Bounding
 pub mod Awaiting
 pub mod Settling
+pub mod Waiting

@@ -1,5 +1,5 @@
 -- What each function of the loop over lines promises: what it has done, and what it leaves as it was.
-use Rattle.std.specs.Prelude.{◌≡◌, ℕ, ◌+◌, ◌*◌, ◌^◌, ◌<◌, ◌≤◌, Bool, List, [], ◌∷◌, Option, Result, filter, is_err, vec_len, IsTrue, OnOk}
+use Rattle.std.specs.Prelude.{◌≡◌, ℕ, ◌+◌, ◌*◌, ◌^◌, ◌<◌, ◌≤◌, Bool, false, List, [], ◌∷◌, Option, Result, filter, is_err, vec_len, IsTrue, OnOk}
 use Rattle.at_model.specs.Lines.{is_filled}
 use Rattle.at_model.specs.Machine.{State}
 use Rattle.at_cache.specs.Kept.{Entries}
@@ -57,25 +57,29 @@ pub record Works {K W T : Type 0} (exact : Bool) (entries : K → Entries) (memo
   pub line : next.line.items ≡ desk.line.items
   pub goes : Goes exact entries memories failure waiting old new desk next writer later 0 result
 
+-- nothing is said of what waits, since that is said apart
+abbrev pub unsaid : {W : Type 0} → W → Bool
+unsaid w = false
+
 -- the line that was read was served, and turns were given behind it
 pub record ServesLine {K W : Type 0} (exact : Bool) (entries : K → Entries) (memories : K → Memories)
-    (contents : W → Option (List ℕ)) (failure : W → Option Bool) (waiting : W → Bool)
+    (contents : W → Option (List ℕ)) (failure : W → Option Bool)
     (old new : Engine K) (desk next : Desk) (writer later : W) (result : Result (Unit {0}) RunFault) : Type 0 where
   pub served : ServedOrHalts result (rules_of old) (slice_of old) (state_of old) desk.line.items (state_of new) desk next (contents writer) (contents later)
   pub keeps : IsTrue exact → IsSpare entries old → OnOk result ((state_of old).posted ≡ [] → NonePosts (desk.line.items ∷ []) → next.memory ≡ desk.memory
       → KeepsLine entries desk.line.items old new)
   pub line : next.line.items ≡ desk.line.items
-  pub goes : Goes exact entries memories failure waiting old new desk next writer later 1 result
+  pub goes : Goes exact entries memories failure unsaid old new desk next writer later 1 result
 
 -- the bytes were taken, no more than so many lines
 pub record TakesBytes {K W : Type 0} (exact : Bool) (entries : K → Entries) (memories : K → Memories)
-    (contents : W → Option (List ℕ)) (failure : W → Option Bool) (waiting : W → Bool)
+    (contents : W → Option (List ℕ)) (failure : W → Option Bool)
     (bytes : List ℕ) (lines : ℕ) (old new : Engine K) (desk next : Desk) (writer later : W) (result : Result (Unit {0}) RunFault) : Type 0 where
   pub taken : (front : List ℕ) → IsOpen front → desk.line.items ≡ kept front
       → TakesOrStops result (rules_of old) (slice_of old) (state_of old) front bytes (state_of new) desk next (contents writer) (contents later)
   pub keeps : IsTrue exact → IsSpare entries old → (front : List ℕ) → IsOpen front → desk.line.items ≡ kept front
       → OnOk result (KeepsBytes entries front bytes old new desk next)
-  pub goes : Goes exact entries memories failure waiting old new desk next writer later lines result
+  pub goes : Goes exact entries memories failure unsaid old new desk next writer later lines result
 
 -- the last line, which no newline ends, was served, and turns were given until no question is open
 pub record FinishesAll {K W : Type 0} (exact : Bool) (entries : K → Entries) (memories : K → Memories)

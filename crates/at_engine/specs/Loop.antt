@@ -1,5 +1,6 @@
 -- Bytes that come in pieces of any size, and the lines that are served by them.
-use Rattle.std.specs.Prelude.{◌≡◌, ℕ, ◌≤◌, ◌==◌, Bool, List, [], ◌∷◌, ◌++◌, length, take, filter, Option, position}
+use Rattle.std.specs.Prelude.{◌≡◌, ℕ, ◌≤◌, ◌==◌, Bool, false, List, [], ◌∷◌, ◌++◌, length, take, filter, Option, None, Some, position}
+use denote.Ref.{Bor}
 use Rattle.at_model.specs.Lines.{pieces, is_filled}
 use Rattle.at_model.specs.Rules.{Rules}
 use Rattle.at_model.specs.Replies.{Reply}
@@ -29,3 +30,12 @@ pub record Progress (rules : Rules) (slice : ℕ) (old : State) (front bytes : L
   pub open' : IsOpen rest
   pub runs : Runs rules slice old (filter is_filled fulls) told new
   pub few : length (filter is_filled fulls) ≤ length bytes
+
+-- the first line of the bytes: it stands before a newline
+abbrev pub IsNext : List ℕ → Bor (List ℕ) → Type 0
+IsNext bytes line = IsOpen line.now × ((behind : List ℕ) × (bytes ≡ line.now ++ 10 ∷ behind))
+
+-- whether a reply may wait for that of the next line: where one is known that isn't empty
+abbrev pub lets_wait : Option (Bor (List ℕ)) → Bool
+lets_wait None = false
+lets_wait (Some line) = is_filled line.now

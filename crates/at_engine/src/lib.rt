@@ -25,4 +25,4 @@ mod posts;
 mod stream;
 
 pub use engine::Engine;
-pub use stream::{Input, Output, Report, RunFault, Watched, run, run_for};
+pub use stream::{Input, Output, Report, RunFault, Watched, run, run_for, run_gathering};

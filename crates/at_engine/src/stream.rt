@@ -1,9 +1,9 @@
 //! The loop over lines: bytes come in pieces of any size, each line is served whole, and its reply is written before the
-//! next line is looked at.
-ghost use Rattle.std.specs.Prelude.{◌≡◌, ◌∷◌, ◌++◌, ◌<◌, ◌+◌, [], false, length, is_err, MatchOption, OnOk};
+//! next line is served. It is sent on then, too; or, where replies are gathered, before anything that may take long.
+ghost use Rattle.std.specs.Prelude.{◌≡◌, ◌⊎◌, ◌∷◌, ◌++◌, ◌<◌, ◌+◌, [], true, false, length, is_err, vec_len, None, IfSome, MatchOption, OnOk};
 ghost use Rattle.at_engine.specs.Engines.{rules_of, slice_of, IsSound};
-ghost use Rattle.at_engine.specs.Ends.{Remembers};
-ghost use Rattle.at_engine.specs.Loop.{newline_at, IsOpen};
+ghost use Rattle.at_engine.specs.Ends.{Remembers, SendsOn};
+ghost use Rattle.at_engine.specs.Loop.{lets_wait, newline_at, IsNext, IsOpen};
 ghost use Rattle.at_engine.specs.Going.{CanGive, CanServe, CanServeLine, FinishesAll, ServesLine, TakesBytes, Works};
 ghost use Rattle.at_engine.specs.Taking.{Drains, GivesTurns, LeavesTurns, SettlesOne, Written};
 ghost use Rattle.at_engine.specs.Running.{RunsFor, max_reads};
@@ -11,7 +11,7 @@ ghost use Rattle.at_engine.specs.Running.{RunsFor, max_reads};
 mod desk;
 mod ends;
 
-use crate::engine::Engine;
+use crate::engine::{Engine, is_prompt};
 use at_cache::Keeper;
 use desk::Desk;
 pub use desk::{Report, RunFault};
@@ -24,11 +24,11 @@ const READS: u64 = 1_000_000_000;
 /// How many bytes a read may bring.
 const PIECE: usize = 8_192;
 
-/// Writes all of the bytes and flushes them. Where a call fails, some front of them was written.
-fn write_whole<W: Output>(writer: &mut W, bytes: &[u8]) -> Result<(), RunFault>
+/// Writes all of the bytes and, where they are due, flushes them. Where a call fails, some front of them was written.
+fn write_whole<W: Output>(writer: &mut W, bytes: &[u8], is_due: bool) -> Result<(), RunFault>
     ensures written { Written result (W.contents writer.old) (W.contents writer.new) bytes.now }
     ensures failed { Remembers (W.failed writer.old) (W.failed writer.new) (is_err result) }
-    ensures sent { OnOk result (W.waits writer.new ≡ false) }
+    ensures sent { OnOk result (is_due ≡ true → W.waits writer.new ≡ false) }
 {
     let mut rest = bytes;
     while !rest.is_empty() {
@@ -37,31 +37,50 @@ fn write_whole<W: Output>(writer: &mut W, bytes: &[u8]) -> Result<(), RunFault>
             Ok(n) => rest = rest.split_at(n).1,
         }
     }
+    if !is_due {
+        return Ok(());
+    }
     match writer.flush() {
         Ok(()) => Ok(()),
         Err(_) => Err(RunFault::Write),
     }
 }
 
-/// Serves the line that was read, writes its reply, and gives the turns that follow it.
+/// Serves the line that was read, writes its reply, and gives the turns that follow it. Where the next line is known, the
+/// reply may wait for that one's.
 #[inline(always)]
 fn serve<K: Keeper, W: Output>(
     engine: &mut Engine<K>,
     desk: &mut Desk,
     writer: &mut W,
+    next: Option<&[u8]>,
 ) -> Result<(), RunFault>
     requires { CanServeLine K.contents K.memories engine.old desk.old }
-    ensures { ServesLine K.exact K.contents K.memories W.contents W.failed W.waits engine.old engine.new desk.old desk.new writer.old writer.new result }
+    ensures serves { ServesLine K.exact K.contents K.memories W.contents W.failed engine.old engine.new desk.old desk.new writer.old writer.new result }
+    ensures sent { OnOk result (lets_wait next.entry ≡ false → W.waits writer.new ≡ false) }
 {
     desk.reply.clear();
     match engine.serve(desk.line.as_slice(), &mut desk.reply) {
         Ok(wants) => {
             desk.count_line();
             desk.count_answer(wants);
-            write_whole(writer, desk.reply.as_slice())?;
+            let due = is_due(engine, next);
+            write_whole(writer, desk.reply.as_slice(), due)?;
             give_turns(engine, desk, writer)
         }
         Err(_) => unreachable!(),
+    }
+}
+
+/// Whether what was told is sent on before the next line is served: always, but where that one is known, and is answered
+/// without that anything is evaluated. No question may be open then.
+fn is_due<K: Keeper>(engine: &Engine<K>, next: Option<&[u8]>) -> bool
+    requires { IsSound K.contents K.memories engine.now }
+    ensures { lets_wait next.entry ≡ false → result ≡ true }
+{
+    match next {
+        Some(line) if !line.is_empty() => !engine.is_settled() || !is_prompt(engine, line),
+        _ => true,
     }
 }
 
@@ -102,7 +121,7 @@ fn give_some<K: Keeper, W: Output>(
         Ok(spent) => match spent.told {
             Some(wants) => {
                 desk.count_answer(wants);
-                write_whole(writer, desk.reply.as_slice())?;
+                write_whole(writer, desk.reply.as_slice(), true)?;
                 Ok(limit - spent.turns)
             }
             None => Ok(0),
@@ -143,7 +162,7 @@ fn settle_one<K: Keeper, W: Output>(
         Ok(told) => match told {
             Some(wants) => {
                 desk.count_answer(wants);
-                write_whole(writer, desk.reply.as_slice())?;
+                write_whole(writer, desk.reply.as_slice(), true)?;
                 Ok(true)
             }
             None => Ok(false),
@@ -152,42 +171,61 @@ fn settle_one<K: Keeper, W: Output>(
     }
 }
 
-/// Takes a newline: it ends the line, which is served unless it is empty.
+/// Takes a newline: it ends the line, which is served unless it is empty. Where the next line is known, its reply may wait
+/// for that one's.
 fn take_newline<K: Keeper, W: Output>(
     engine: &mut Engine<K>,
     desk: &mut Desk,
     writer: &mut W,
+    next: Option<&[u8]>,
 ) -> Result<(), RunFault>
     requires { CanServe K.contents K.memories engine.old desk.old 1 }
-    ensures { TakesBytes K.exact K.contents K.memories W.contents W.failed W.waits (10 ∷ []) 1 engine.old engine.new
+    ensures takes { TakesBytes K.exact K.contents K.memories W.contents W.failed (10 ∷ []) 1 engine.old engine.new
         desk.old desk.new writer.old writer.new result }
+    ensures sent { OnOk result (lets_wait next.entry ≡ false → (W.waits writer.old ≡ false) ⊎ (0 < vec_len desk.old.line)
+        → W.waits writer.new ≡ false) }
 {
     if !desk.line.is_empty() {
-        serve(engine, desk, writer)?;
+        serve(engine, desk, writer, next)?;
         desk.line.clear();
     }
     Ok(())
 }
 
-/// Takes the bytes of a piece: whole lines, and the front of the next one.
+/// Takes the bytes of a piece: whole lines, and the front of the next one. Where replies are gathered, one may wait for the
+/// next line of the piece; none waits behind the last one.
 fn take_piece<K: Keeper, W: Output>(
     engine: &mut Engine<K>,
     desk: &mut Desk,
     piece: &[u8],
     writer: &mut W,
+    gathers: bool,
 ) -> Result<(), RunFault>
     requires { CanServe K.contents K.memories engine.old desk.old (length piece.now) }
-    ensures { TakesBytes K.exact K.contents K.memories W.contents W.failed W.waits piece.now (length piece.now)
+    ensures takes { TakesBytes K.exact K.contents K.memories W.contents W.failed piece.now (length piece.now)
         engine.old engine.new desk.old desk.new writer.old writer.new result }
+    ensures sent { SendsOn result (W.waits writer.old) (W.waits writer.new) }
 {
     let mut rest = piece;
     while let Some((line, behind)) = at_newline(rest) {
         desk.keep(line);
-        take_newline(engine, desk, writer)?;
+        take_newline(engine, desk, writer, next_line(behind, gathers))?;
         rest = behind;
     }
     desk.keep(rest);
     Ok(())
+}
+
+/// The next whole line of a piece, where replies are gathered and there is one.
+fn next_line(behind: &[u8], gathers: bool) -> Option<&[u8]>
+    ensures never { gathers ≡ false → result ≡ None }
+    ensures next { IfSome result (IsNext behind.now) }
+{
+    if !gathers {
+        return None;
+    }
+    let (line, _) = at_newline(behind)?;
+    Some(line)
 }
 
 /// The bytes before the first newline, and those behind it, where there is one.
@@ -218,7 +256,7 @@ fn finish<K: Keeper, W: Output>(
     if desk.line.is_empty() {
         return drain(engine, desk, writer);
     }
-    serve(engine, desk, writer)?;
+    serve(engine, desk, writer, None)?;
     drain(engine, desk, writer)
 }
 
@@ -243,6 +281,26 @@ pub fn run<K: Keeper, R: Input, W: Output>(
     run_for(engine, reader, writer, READS)
 }
 
+/// Serves as `run` does; and where it gathers replies, one isn't flushed if the next line is in the same piece and is answered
+/// as it stands, with no question open. So what waits is flushed before each read, before anything that takes long, and at the
+/// end. That is for a writer with a buffer; to another one each reply is written at once all the same.
+///
+/// # Errors
+///
+/// As `run`. Where a write failed, the last bytes that the writer has taken may be in its buffer alone.
+pub fn run_gathering<K: Keeper, R: Input, W: Output>(
+    engine: &mut Engine<K>,
+    reader: &mut R,
+    writer: &mut W,
+    gathers: bool,
+) -> Result<Report, RunFault>
+    requires sound { IsSound K.contents K.memories engine.old }
+    ensures { RunsFor K.exact K.contents K.memories R.remaining R.failed R.ended R.reads W.contents W.failed W.waits max_reads
+        engine.old engine.new reader.old reader.new writer.old writer.new result }
+{
+    run_with(engine, reader, writer, READS, gathers)
+}
+
 /// Serves as `run` does, with another limit on the reads.
 ///
 /// # Errors
@@ -253,6 +311,21 @@ pub fn run_for<K: Keeper, R: Input, W: Output>(
     reader: &mut R,
     writer: &mut W,
     limit: u64,
+) -> Result<Report, RunFault>
+    requires sound { IsSound K.contents K.memories engine.old }
+    ensures { RunsFor K.exact K.contents K.memories R.remaining R.failed R.ended R.reads W.contents W.failed W.waits limit
+        engine.old engine.new reader.old reader.new writer.old writer.new result }
+{
+    run_with(engine, reader, writer, limit, false)
+}
+
+/// Serves as `run` does, with another limit on the reads, and gathers replies or not.
+fn run_with<K: Keeper, R: Input, W: Output>(
+    engine: &mut Engine<K>,
+    reader: &mut R,
+    writer: &mut W,
+    limit: u64,
+    gathers: bool,
 ) -> Result<Report, RunFault>
     requires sound { IsSound K.contents K.memories engine.old }
     ensures { RunsFor K.exact K.contents K.memories R.remaining R.failed R.ended R.reads W.contents W.failed W.waits limit
@@ -273,7 +346,7 @@ pub fn run_for<K: Keeper, R: Input, W: Output>(
             let accepted = engine.version().saturating_sub(version);
             return Ok(desk.report(accepted, engine.work()));
         }
-        take_piece(engine, &mut desk, &piece[..count], writer)?;
+        take_piece(engine, &mut desk, &piece[..count], writer, gathers)?;
     }
     Err(RunFault::TooManyReads)
 }

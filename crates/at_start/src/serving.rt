@@ -9,7 +9,7 @@ use super::fault::StartFault;
 use super::files::Files;
 use super::start_with;
 use at_cache::Keeper;
-use at_engine::{Input, Output, Report, RunFault, run};
+use at_engine::{Input, Output, Report, RunFault, run_gathering};
 use std::alloc::Global;
 
 /// What became of the lines that a reader gave.
@@ -22,7 +22,8 @@ pub struct Answered {
 }
 
 /// Serves the lines that the reader gives by the engine that the files make, over an empty keeper, with so many turns behind
-/// each line, and writes what they are told. The bytes of the tree are given back, as by `start`.
+/// each line, and writes what they are told; where it gathers replies, as `run_gathering` does. The bytes of the tree are given
+/// back, as by `start`.
 ///
 /// # Errors
 ///
@@ -34,6 +35,7 @@ pub fn answer<K: Keeper, R: Input, W: Output>(
     slice: u32,
     reader: &mut R,
     writer: &mut W,
+    gathers: bool,
 ) -> Result<Answered, StartFault>
     requires { KeepsNothing K.contents K.memories keeper }
     ensures answers { AnswersFiles files.old slice result (R.remaining reader.old) (R.remaining reader.new) (W.contents writer.old) (W.contents writer.new) }
@@ -44,7 +46,7 @@ pub fn answer<K: Keeper, R: Input, W: Output>(
 {
     let mut engine = start_with(alloc, files, keeper)?;
     engine.set_slice(slice);
-    let ended = run(&mut engine, reader, writer);
+    let ended = run_gathering(&mut engine, reader, writer, gathers);
     let work = engine.work();
     Ok(Answered { run: ended, work })
 }

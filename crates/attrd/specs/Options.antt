@@ -61,6 +61,7 @@ pub record HasValues (rows : List Row) (o : Options) : Type 0 where
   pub slice : o.slice ≡ number_asked (one_of (codes "slice") rows)
   pub keep : o.keep ≡ option_map number (one_of (codes "keep") rows)
   pub cut_off : o.cut_off ≡ is_set (one_of (codes "cut-off") rows)
+  pub gather : o.gather ≡ is_set (one_of (codes "gather") rows)
   pub work : o.work ≡ is_set (one_of (codes "work") rows)
   pub grammar : Some (string_bytes o.grammar) ≡ first_of (codes "GRAMMAR") rows
   pub tree : Some (string_bytes o.tree) ≡ first_of (codes "TREE") rows
@@ -92,6 +93,7 @@ pub record IsWhole (rows : List Row) : Type 0 where
   pub slice : IfSome (one_of (codes "slice") rows) (SpellsUpTo max_slice)
   pub keep : IfSome (one_of (codes "keep") rows) (SpellsUpTo max_keep)
   pub cut_off : IfSome (one_of (codes "cut-off") rows) IsFlag
+  pub gather : IfSome (one_of (codes "gather") rows) IsFlag
   pub work : IfSome (one_of (codes "work") rows) IsFlag
   pub grammar : is_some (first_of (codes "GRAMMAR") rows) ≡ true
   pub tree : is_some (first_of (codes "TREE") rows) ≡ true

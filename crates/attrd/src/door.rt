@@ -3,7 +3,8 @@ ghost use Rattle.std.specs.Prelude.{IfOk, OnErr};
 ghost use Rattle.attrd.specs.Seen.{Comes, IsRefused, IsServed, Seen, unseen};
 
 use at_engine::{Input, Output, Watched};
-use std::io;
+use std::alloc::Global;
+use std::io::{self, BufWriter};
 use std::os::unix::net::{UnixListener, UnixStream};
 
 /// Both ends of a connection.
@@ -25,6 +26,9 @@ pub trait Door {
 
     /// What is known of those that come, of what is written to them, and of how many aren't accepted.
     ghost seen: { Self → Seen };
+
+    /// Whether replies are gathered: then the ends for them have buffers.
+    fn gathers(&self) -> bool;
 
     /// Both ends of the connection that comes next.
     ///
@@ -49,6 +53,10 @@ impl Door for UnixListener {
 
     ghost seen = { λ _. unseen };
 
+    fn gathers(&self) -> bool {
+        false
+    }
+
     fn open(&mut self) -> io::Result<Ends<Watched<UnixStream>, Watched<UnixStream>>> {
         let (reader, _) = self.accept()?;
         let writer = reader.try_clone()?;
@@ -59,4 +67,36 @@ impl Door for UnixListener {
     }
 
     fn note_served(&mut self, ends: &Ends<Watched<UnixStream>, Watched<UnixStream>>) {}
+}
+
+/// A socket whose connections get their replies gathered.
+#[derive(Drop)]
+pub struct Gathering<'a> {
+    /// The socket.
+    pub listener: &'a mut UnixListener,
+    /// Where the buffers come from.
+    pub alloc: Global,
+}
+
+impl<'a> Door for Gathering<'a> {
+    type Reader = Watched<UnixStream>;
+
+    type Writer = Watched<BufWriter<UnixStream>>;
+
+    ghost seen = { λ _. unseen };
+
+    fn gathers(&self) -> bool {
+        true
+    }
+
+    fn open(&mut self) -> io::Result<Ends<Watched<UnixStream>, Watched<BufWriter<UnixStream>>>> {
+        let (reader, _) = self.listener.accept()?;
+        let writer = BufWriter::new(self.alloc, reader.try_clone()?)?;
+        Ok(Ends {
+            reader: Watched::new(reader),
+            writer: Watched::new(writer),
+        })
+    }
+
+    fn note_served(&mut self, ends: &Ends<Watched<UnixStream>, Watched<BufWriter<UnixStream>>>) {}
 }

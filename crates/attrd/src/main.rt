@@ -24,15 +24,17 @@ mod serving;
 mod socket;
 
 use at_cache::{KeepAtMost, KeepCutOff, KeepRecorded, Keeper};
-use at_engine::{Engine, Watched};
+use at_engine::{Engine, Output, Watched};
 use at_start::{Files, MAX_FILE, Source, StartFault, answer, start_with};
+use door::Gathering;
 use failure::{Failure, status, tell};
 use options::{Options, options};
-use serving::serve;
+use serving::{Served, serve};
 use socket::Socket;
 use std::alloc::Global;
 use std::fs::File;
-use std::io::{ErrorKind, Read};
+use std::io::{BufWriter, ErrorKind, Read};
+use std::os::unix::net::UnixListener;
 use std::process::ExitCode;
 use std::{env, io};
 
@@ -144,7 +146,8 @@ fn refused(rt: &HostRuntime, files: &Files, fault: &StartFault) -> Failure
     }
 }
 
-/// Serves standard input, and replies on standard output; notes the engine's work.
+/// Serves standard input, and replies on standard output, which has a buffer where replies are gathered; notes the engine's
+/// work.
 fn serve_standard<K: Keeper>(
     rt: &HostRuntime,
     options: &Options,
@@ -154,15 +157,37 @@ fn serve_standard<K: Keeper>(
 ) -> Result<(), Failure>
     requires { KeepsNothing K.contents K.memories keeper }
 {
+    if !options.gather {
+        let mut writer = Watched::new(io::writer(rt));
+        return serve_lines(rt, options, files, keeper, &mut writer, work);
+    }
+    let Ok(buffered) = BufWriter::new(rt.alloc(), io::writer(rt)) else {
+        return Err(Failure::Memory);
+    };
+    let mut writer = Watched::new(buffered);
+    serve_lines(rt, options, files, keeper, &mut writer, work)
+}
+
+/// Serves standard input, and writes the replies there; notes the engine's work.
+fn serve_lines<K: Keeper, W: Output>(
+    rt: &HostRuntime,
+    options: &Options,
+    files: &mut Files,
+    keeper: K,
+    writer: &mut W,
+    work: &mut Option<u64>,
+) -> Result<(), Failure>
+    requires { KeepsNothing K.contents K.memories keeper }
+{
     let mut reader = Watched::new(rt.reader());
-    let mut writer = Watched::new(io::writer(rt));
     match answer(
         rt.alloc(),
         files,
         keeper,
         options.slice,
         &mut reader,
-        &mut writer,
+        writer,
+        options.gather,
     ) {
         Ok(answered) => {
             *work = Some(answered.work);
@@ -191,17 +216,17 @@ fn serve_connections<K: Keeper>(
         Err(fault) => return Err(refused(rt, files, &fault)),
     };
     engine.set_slice(options.slice);
-    let served = serve_socket(rt, path, options.connections, &mut engine);
+    let served = serve_socket(rt, path, options, &mut engine);
     *work = Some(engine.work());
     served
 }
 
-/// Serves so many connections of the socket, which has a file as long as that takes. Where the socket can't be made, nothing
-/// is served.
+/// Serves as many connections of the socket as are asked for; it has a file as long as that takes. Where the socket can't be
+/// made, nothing is served.
 fn serve_socket<K: Keeper>(
     rt: &HostRuntime,
     path: &str,
-    connections: u16,
+    options: &Options,
     engine: &mut Engine<K>,
 ) -> Result<(), Failure>
     requires { IsSound K.contents K.memories engine.old }
@@ -211,13 +236,35 @@ fn serve_socket<K: Keeper>(
         Err(e) if e.kind() == ErrorKind::OutOfMemory => return Err(Failure::Memory),
         Err(_) => return Err(Failure::Socket),
     };
-    let served = serve(engine, &mut socket.listener, connections);
+    let served = if options.gather {
+        serve_gathering(
+            engine,
+            &mut socket.listener,
+            rt.alloc(),
+            options.connections,
+        )
+    } else {
+        serve(engine, &mut socket.listener, options.connections)
+    };
     socket.remove_file(rt, path);
     if served.is_faultless() {
         Ok(())
     } else {
         Err(Failure::Connections(served))
     }
+}
+
+/// Serves so many connections, and gathers their replies.
+fn serve_gathering<K: Keeper>(
+    engine: &mut Engine<K>,
+    listener: &mut UnixListener,
+    alloc: Global,
+    connections: u16,
+) -> Served
+    requires { IsSound K.contents K.memories engine.old }
+{
+    let mut door = Gathering { listener, alloc };
+    serve(engine, &mut door, connections)
 }
 
 /// The files that are asked for, read in the order grammar, aspects, tree.

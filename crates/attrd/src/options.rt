@@ -21,6 +21,8 @@ pub struct Options {
     pub keep: Option<u32>,
     /// Whether what an edit may have changed is kept until it is known that it did.
     pub cut_off: bool,
+    /// Whether replies to lines that come together are sent on together.
+    pub gather: bool,
     /// Whether the engine's work is told at the end.
     pub work: bool,
     pub grammar: String,

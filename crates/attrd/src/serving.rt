@@ -7,7 +7,7 @@ ghost use Rattle.attrd.specs.Doors.{ServesAll, ServesNext, ending};
 
 use crate::door::Door;
 use at_cache::Keeper;
-use at_engine::{Engine, Report, RunFault, run};
+use at_engine::{Engine, Report, RunFault, run_gathering};
 use std::fmt;
 use thiserror::Error;
 
@@ -137,7 +137,8 @@ fn serve_next<K: Keeper, D: Door>(
     let Ok(mut ends) = door.open() else {
         return Err(ConnectionFault::Socket);
     };
-    let served = run(engine, &mut ends.reader, &mut ends.writer);
+    let gathers = door.gathers();
+    let served = run_gathering(engine, &mut ends.reader, &mut ends.writer, gathers);
     door.note_served(&ends);
     ended(served)
 }

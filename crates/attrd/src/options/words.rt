@@ -31,7 +31,7 @@ const MAX_SLICE: u32 = 1_000_000;
 const MAX_KEEP: u32 = 1_000_000_000;
 
 /// The program's version, which the file `VERSION` holds, too.
-const VERSION: &str = "0.25";
+const VERSION: &str = "0.26";
 
 /// What stands below the words in the help: a session, and the commands.
 const HELP: &str = "A session:
@@ -112,6 +112,14 @@ const WORDS: &[Word] = &[
         value: "",
         parser: ValueParser::Bool,
         help: "Keeps what an edit may have changed until it is known that it did",
+    },
+    Word {
+        name: "gather",
+        is_option: true,
+        most: 0,
+        value: "",
+        parser: ValueParser::Bool,
+        help: "Sends the replies to lines that come together on together",
     },
     Word {
         name: "work",
@@ -235,6 +243,7 @@ fn options_of(alloc: Global, matches: &ArgMatches<'_>) -> Result<Options, AllocE
         slice: slice_of(matches),
         keep: keep_of(matches),
         cut_off: has_flag(matches, "cut-off"),
+        gather: has_flag(matches, "gather"),
         work: has_flag(matches, "work"),
         grammar: file_of(alloc, matches, "GRAMMAR")?,
         tree: file_of(alloc, matches, "TREE")?,

@@ -1,4 +1,4 @@
-use Rattle.std.proofs.Common.{◌≡◌, ap, length, ◌<◌, ◌≤◌, arith, vec_len, refl, sym}
+use Rattle.std.proofs.Common.{◌≡◌, ap, length, ◌<◌, ◌≤◌, arith, vec_len, refl, sym, Ok}
 use Rattle.std.specs.Prelude.{is_err}
 use Rattle.std.proofs.lemmas.Result.{err_from_is_err_and}
 use Rattle.std.proofs.lemmas.Bool.Decides.{nat_tests}
@@ -6,7 +6,8 @@ use Rattle.at_engine.specs.Loop.{kept}
 use Rattle.at_engine.specs.Engines.{rules_of, slice_of, state_of}
 use Rattle.at_engine.proofs.of_keeping.Kept.{filled_as_kept, empty_as_kept}
 use Rattle.at_engine.proofs.of_keeping.KeepingBytes.{kept_at_end, kept_at_once}
-use Rattle.at_engine.proofs.GoingLemmas.{goes_alike, goes_more, goes_on}
+use Rattle.at_engine.specs.Going.{unsaid}
+use Rattle.at_engine.proofs.GoingLemmas.{goes_alike, goes_more, goes_on, goes_said}
 use Rattle.at_engine.proofs.Runnings.{end_of_empty, end_of_line, stopped_in_last}
 use Rattle.at_engine.proofs.stream.finish.Goals as goal
 
@@ -14,14 +15,15 @@ pub returns-in_err-serve : goal.returns-in_err-serve
 returns-in_err-serve g c = record {
   finished = λ front e.
       let p = err_from_is_err_and c.from_residual.result c.from_residual.ensures.1 in
-      let s = c.in_err-serve.ensures.served in
+      let s = c.in_err-serve.ensures.serves.served in
       let some : 0 < vec_len c.args.desk.now.line = grind (arith, nat_tests) in
       let long : 0 < length (kept front) = omega (arith, some, c.args.desk.now.line.ok.0, ap length e) in
       rw (p.1, p.2) (s.0, stopped_in_last (rules_of c.args.engine.now) (slice_of c.args.engine.now) _ _ front c.args.desk.now.line.items _ _ (filled_as_kept front long) e s.1);
   keeps = λ exact spare front e. let p = err_from_is_err_and c.from_residual.result c.from_residual.ensures.1 in rw p.1 tt;
   goes =
       let p = err_from_is_err_and c.from_residual.result c.from_residual.ensures.1 in
-      goes_alike g.K.Keeper.exact g.K.Keeper.contents g.K.Keeper.memories g.W.Output.failed g.W.Output.waits _ _ _ _ _ _ 1 _ c.from_residual.result (ap is_err (sym p.1)) c.in_err-serve.ensures.goes;
+      goes_said g.K.Keeper.exact g.K.Keeper.contents g.K.Keeper.memories g.W.Output.failed g.W.Output.waits _ _ _ _ _ _ 1 c.from_residual.result (rw p.1 tt)
+      (goes_alike g.K.Keeper.exact g.K.Keeper.contents g.K.Keeper.memories g.W.Output.failed unsaid _ _ _ _ _ _ 1 _ c.from_residual.result (ap is_err (sym p.1)) c.in_err-serve.ensures.serves.goes);
 }
 
 pub returns : goal.returns
@@ -32,14 +34,15 @@ returns g c = record {
       let some : 0 < vec_len c.args.desk.now.line = grind (arith, nat_tests) in
       let long : 0 < length (kept front) = omega (arith, some, c.args.desk.now.line.ok.0, ap length e) in
       end_of_line c.drain-2.result (rules_of old) (rules_of mid) (slice_of old) (state_of old) (state_of mid) (state_of c.drain-2.new.engine) front c.args.desk.now.line.items c.args.desk.now c.serve.new.desk c.drain-2.new.desk _ _ _
-      c.in_ok-serve.ensures.goes.rules (filled_as_kept front long) e c.in_ok-serve.ensures.served c.drain-2.ensures.done;
+      c.in_ok-serve.ensures.serves.goes.rules (filled_as_kept front long) e c.in_ok-serve.ensures.serves.served c.drain-2.ensures.done;
   keeps = λ exact spare front e.
       let mid = c.serve.new.engine in
       let some : 0 < vec_len c.args.desk.now.line = grind (arith, nat_tests) in
       let long : 0 < length (kept front) = omega (arith, some, c.args.desk.now.line.ok.0, ap length e) in
       kept_at_end g.K.Keeper.contents c.drain-2.result c.args.engine.now mid c.drain-2.new.engine (rules_of mid) (slice_of c.args.engine.now) front c.args.desk.now.line.items c.args.desk.now c.serve.new.desk c.drain-2.new.desk _ _ _
-      (filled_as_kept front long) e (c.in_ok-serve.ensures.keeps exact spare) c.in_ok-serve.ensures.served c.drain-2.ensures.done c.drain-2.ensures.none;
-  goes = goes_on g.K.Keeper.exact g.K.Keeper.contents g.K.Keeper.memories g.W.Output.failed g.W.Output.waits _ _ _ _ _ _ _ _ _ _ 1 0 1 tt c.drain-2.result c.in_ok-serve.ensures.goes refl refl (omega arith) c.drain-2.ensures.goes;
+      (filled_as_kept front long) e (c.in_ok-serve.ensures.serves.keeps exact spare) c.in_ok-serve.ensures.serves.served c.drain-2.ensures.done c.drain-2.ensures.none;
+  goes = goes_on g.K.Keeper.exact g.K.Keeper.contents g.K.Keeper.memories g.W.Output.failed g.W.Output.waits _ _ _ _ _ _ _ _ _ _ 1 0 1 (tt {0}) c.drain-2.result
+      (goes_said g.K.Keeper.exact g.K.Keeper.contents g.K.Keeper.memories g.W.Output.failed g.W.Output.waits _ _ _ _ _ _ 1 (Ok (tt {0})) (λ none. c.in_ok-serve.ensures.sent refl) c.in_ok-serve.ensures.serves.goes) refl refl (omega arith) c.drain-2.ensures.goes;
 }
 
 pub returns-then-is_empty : goal.returns-then-is_empty

@@ -46,7 +46,7 @@ returns-in_ok-write_whole-in-Some g c =
       done = (fewer, as_many_given _ turns _ _ _ _ _ _ _ same (gave_one rules turns _ _ c.args.desk.now c.count_answer.new.self _ _ a.said a.given c.count_answer.ensures.rest.0 memory written));
       none = call.done.none;
       line = c.count_answer.ensures.rest.1;
-      goes = goes_wrote g.K.Keeper.exact g.K.Keeper.contents g.K.Keeper.memories g.W.Output.failed g.W.Output.waits _ _ c.args.desk.now _ _ _ 0 _ _ _ call c.in_ok-write_whole-in-Some.ensures.failed c.in_ok-write_whole-in-Some.ensures.sent
+      goes = goes_wrote g.K.Keeper.exact g.K.Keeper.contents g.K.Keeper.memories g.W.Output.failed g.W.Output.waits _ _ c.args.desk.now _ _ _ 0 _ _ _ call c.in_ok-write_whole-in-Some.ensures.failed (c.in_ok-write_whole-in-Some.ensures.sent refl)
           (omega (arith, c.count_answer.ensures.rest.0, memory, counts_one rules turns _ _ a.said a.given));
     }
 

@@ -1,4 +1,4 @@
-use Rattle.std.proofs.Common.{◌∙◌, ◌+◌, if◌then◌else◌, sym, ap, subst, List, ℕ, ◌++◌, arith, Ok, refl}
+use Rattle.std.proofs.Common.{◌≡◌, false, ◌∙◌, ◌+◌, if◌then◌else◌, sym, ap, subst, List, ℕ, ◌++◌, arith, Ok, refl}
 use Rattle.std.specs.Io.KnownBytes.{Appends}
 use Rattle.std.proofs.lemmas.Result.{err_from_is_err_and}
 use Rattle.at_model.specs.Machine.{Serves}
@@ -7,7 +7,10 @@ use Rattle.at_engine.specs.Engines.{state_of, rules_of, slice_of}
 use Rattle.at_engine.specs.Keeping.{KeepsServed}
 use Rattle.at_engine.proofs.of_turns.Giving.{counts_served, halts_in_line, then_turns}
 use Rattle.at_engine.proofs.of_keeping.KeepingBytes.{kept_behind}
-use Rattle.at_engine.proofs.GoingLemmas.{goes_on, goes_wrote}
+use Rattle.at_engine.specs.Going.{unsaid}
+use Rattle.at_engine.specs.Loop.{lets_wait}
+use Rattle.at_engine.proofs.GoingLemmas.{goes_on, goes_unsaid, goes_wrote}
+use Rattle.at_engine.proofs.Remembering.{sent_where}
 use Rattle.at_engine.proofs.stream.serve.Goals as goal
 
 -- the line in the words of the engine's call
@@ -22,8 +25,8 @@ give_turns-requires g c =
       few = omega (arith, c.requires.ready.few, counts_served (rules_of old) (state_of old) (state_of c.serve.new.self) c.args.desk.now.line.items (c.in-Ok.wants, s.0) c.args.desk.now c.count_answer.new.self serves (c.count_answer.ensures.rest.0 ∙ c.count_line.ensures.lines) (c.count_answer.ensures.memory ∙ ap (λ n. n + (if c.in-Ok.wants then 1 else 0)) c.count_line.ensures.rest.0));
     }
 
-pub returns-in_err-write_whole-in-Ok : goal.returns-in_err-write_whole-in-Ok
-returns-in_err-write_whole-in-Ok g c =
+pub returns-in_err-write_whole-in-Ok-clause-serves : goal.returns-in_err-write_whole-in-Ok-clause-serves
+returns-in_err-write_whole-in-Ok-clause-serves g c =
     let p = err_from_is_err_and c.from_residual.result c.from_residual.ensures.1 in
     let w = c.in_err-write_whole-in-Ok.ensures.written in
     let old = c.args.engine.now in
@@ -35,12 +38,12 @@ returns-in_err-write_whole-in-Ok g c =
       served = rw (p.1, p.2) (w.0, halts_in_line (rules_of old) (slice_of old) _ _ c.args.desk.now.line.items (c.in-Ok.wants, s.0) _ _ w.1 w.2 serves (sym text ∙ w.3) w.4);
       keeps = λ exact spare. rw p.1 tt;
       line = c.count_answer.ensures.rest.1 ∙ c.count_line.ensures.rest.1;
-      goes = goes_wrote g.K.Keeper.exact g.K.Keeper.contents g.K.Keeper.memories g.W.Output.failed g.W.Output.waits _ _ c.args.desk.now _ _ _ 1 _ _ c.from_residual.result call (rw p.1 c.in_err-write_whole-in-Ok.ensures.failed) (rw p.1 tt)
+      goes = goes_wrote g.K.Keeper.exact g.K.Keeper.contents g.K.Keeper.memories g.W.Output.failed unsaid _ _ c.args.desk.now _ _ _ 1 _ _ c.from_residual.result call (rw p.1 c.in_err-write_whole-in-Ok.ensures.failed) (rw p.1 tt)
           (omega (arith, counts_served (rules_of old) (state_of old) (state_of c.serve.new.self) c.args.desk.now.line.items (c.in-Ok.wants, s.0) c.args.desk.now c.count_answer.new.self serves (c.count_answer.ensures.rest.0 ∙ c.count_line.ensures.lines) (c.count_answer.ensures.memory ∙ ap (λ n. n + (if c.in-Ok.wants then 1 else 0)) c.count_line.ensures.rest.0)));
     }
 
-pub returns : goal.returns
-returns g c =
+pub returns-clause-serves : goal.returns-clause-serves
+returns-clause-serves g c =
     let contents = g.W.Output.contents in
     let old = c.args.engine.now in
     let mid = c.serve.new.self in
@@ -59,7 +62,16 @@ returns g c =
           kept_behind c.give_turns.result g.K.Keeper.contents old mid c.give_turns.new.engine (rules_of mid) (slice_of mid) c.args.desk.now.line.items (c.in-Ok.wants, s.0) c.args.desk.now _ c.give_turns.new.desk _ _
           turns.done turns.none serves keeps (c.count_answer.ensures.memory ∙ ap (λ n. n + (if c.in-Ok.wants then 1 else 0)) c.count_line.ensures.rest.0);
       line = turns.line ∙ c.count_answer.ensures.rest.1 ∙ c.count_line.ensures.rest.1;
-      goes = goes_on g.K.Keeper.exact g.K.Keeper.contents g.K.Keeper.memories g.W.Output.failed g.W.Output.waits _ _ _ _ _ _ _ _ _ _ 1 0 1 (tt {0}) c.give_turns.result
-          (goes_wrote g.K.Keeper.exact g.K.Keeper.contents g.K.Keeper.memories g.W.Output.failed g.W.Output.waits _ _ c.args.desk.now c.count_answer.new.self _ _ 1 _ _ (Ok (tt {0})) call c.in_ok-write_whole-in-Ok.ensures.failed c.in_ok-write_whole-in-Ok.ensures.sent (omega (arith, counted)))
-          refl refl (omega arith) turns.goes;
+      goes = goes_on g.K.Keeper.exact g.K.Keeper.contents g.K.Keeper.memories g.W.Output.failed unsaid _ _ _ _ _ _ _ _ _ _ 1 0 1 (tt {0}) c.give_turns.result
+          (goes_wrote g.K.Keeper.exact g.K.Keeper.contents g.K.Keeper.memories g.W.Output.failed unsaid _ _ c.args.desk.now c.count_answer.new.self _ _ 1 _ _ (Ok (tt {0})) call c.in_ok-write_whole-in-Ok.ensures.failed refl (omega (arith, counted)))
+          refl refl (omega arith)
+          (goes_unsaid g.K.Keeper.exact g.K.Keeper.contents g.K.Keeper.memories g.W.Output.failed g.W.Output.waits _ _ _ _ _ _ 0 c.give_turns.result turns.goes);
     }
+
+pub returns-clause-sent : goal.returns-clause-sent
+returns-clause-sent g c =
+    sent_where (lets_wait c.args.next ≡ false) c.give_turns.result _ _ (λ none. c.in_ok-write_whole-in-Ok.ensures.sent (c.is_due-due.ensures none)) c.give_turns.ensures.goes.sent
+
+pub returns-in_err-write_whole-in-Ok-clause-sent : goal.returns-in_err-write_whole-in-Ok-clause-sent
+returns-in_err-write_whole-in-Ok-clause-sent g c =
+    let p = err_from_is_err_and c.from_residual.result c.from_residual.ensures.1 in rw p.1 tt

@@ -45,7 +45,7 @@ returns-in_ok-write_whole-in-Some g c =
       };
       none = call.done.none;
       line = c.count_answer.ensures.rest.1;
-      goes = goes_wrote g.K.Keeper.exact g.K.Keeper.contents g.K.Keeper.memories g.W.Output.failed g.W.Output.waits _ _ c.args.desk.now _ _ _ 0 _ _ _ call c.in_ok-write_whole-in-Some.ensures.failed c.in_ok-write_whole-in-Some.ensures.sent
+      goes = goes_wrote g.K.Keeper.exact g.K.Keeper.contents g.K.Keeper.memories g.W.Output.failed g.W.Output.waits _ _ c.args.desk.now _ _ _ 0 _ _ _ call c.in_ok-write_whole-in-Some.ensures.failed (c.in_ok-write_whole-in-Some.ensures.sent refl)
           (omega (arith, c.count_answer.ensures.rest.0, c.count_answer.ensures.memory, counts_one rules s.0 _ _ (c.in-Some.wants, s.1) s.2));
     }
 

@@ -1,6 +1,7 @@
 use Rattle.std.specs.Prelude.{IsTrue}
-use Rattle.std.proofs.Common.{◌≡◌, ◌++◌, List, ℕ, Ok, length}
-use Rattle.at_engine.specs.Going.{Goes}
+use Rattle.std.proofs.Common.{false, ◌≡◌, ◌++◌, List, ℕ, Ok, length}
+use Rattle.at_engine.specs.Going.{Goes, unsaid}
+use Rattle.at_engine.proofs.of_turns.Waiting.{MayWait}
 use Rattle.at_engine.specs.Loop.{IsOpen, kept}
 use Rattle.at_engine.specs.Taking.{Takes}
 use Rattle.at_engine.specs.Keeping.{IsSpare}
@@ -18,7 +19,8 @@ invariant-loop-line g l =
           → Takes (rules_of l.fn.engine) (slice_of l.fn.engine) (state_of l.fn.engine) front done (state_of l.engine) l.fn.desk l.desk (contents l.fn.writer) (contents l.writer);
       keeps : IsTrue g.K.Keeper.exact → IsSpare g.K.Keeper.contents l.fn.engine → (front : List ℕ) → IsOpen front → l.fn.desk.line.items ≡ kept front
           → KeepsBytes g.K.Keeper.contents front done l.fn.engine l.engine l.fn.desk l.desk;
-      goes : Goes {T = Unit {0}} g.K.Keeper.exact g.K.Keeper.contents g.K.Keeper.memories g.W.Output.failed g.W.Output.waits l.fn.engine l.engine l.fn.desk l.desk l.fn.writer l.writer (length done) (Ok tt);
+      goes : Goes {T = Unit {0}} g.K.Keeper.exact g.K.Keeper.contents g.K.Keeper.memories g.W.Output.failed unsaid l.fn.engine l.engine l.fn.desk l.desk l.fn.writer l.writer (length done) (Ok tt);
+      sent : g.W.Output.waits l.fn.writer ≡ false → MayWait l.rest (g.W.Output.waits l.writer);
     }
 
 abbrev pub decreases-loop-line : goal.decreases-loop-line

@@ -4,7 +4,7 @@ use Rattle.attrd.proofs.serving.serve_next.Goals as goal
 
 pub returns-clause-serves : goal.returns-clause-serves
 returns-clause-serves g c =
-    by_run c.run-served.result _ _ _ _ _ c.in-Ok.ensures.comes c.run-served.ensures.ran c.note_served.ensures c.ended.ensures
+    by_run c.run_gathering-served.result _ _ _ _ _ c.in-Ok.ensures.comes c.run_gathering-served.ensures.ran c.note_served.ensures c.ended.ensures
 
 pub returns-in_default-clause-serves : goal.returns-in_default-clause-serves
 returns-in_default-clause-serves g c = not_accepted refl c.in_default.ensures.refused refl
