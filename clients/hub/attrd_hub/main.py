@@ -8,7 +8,7 @@ import sys
 from contextlib import suppress
 from typing import List, Optional
 
-from attrd import KEPT, AttrdError, StartFault, explain, known_options, lasting_options
+from attrd import KEPT, AttrdError, StartFault, explain, gathering_options, known_options, lasting_options
 
 from .journal import SYNCS, JournalFault
 from .program import Unfit
@@ -60,7 +60,8 @@ def _tell_status(given: argparse.Namespace) -> int:
 
 def _settings(given: argparse.Namespace) -> Settings:
     """Raises AttrdError."""
-    words = lasting_options(known_options(given.program), given.keep)
+    known = known_options(given.program)
+    words = [*lasting_options(known, given.keep), *gathering_options(known)]
     return Settings(given.program, given.files, [*words, "--slice", str(given.slice)], given.socket, given.mode, given.group, given.tcp,
                     read_token(given.token) if given.token else None, given.state, given.sync, given.clients, given.half)
 

@@ -46,7 +46,7 @@ def find_completions(desk: Desk, texts: Mapping[str, str], source: Source, file:
     behind = WORD_START.match(text, offset)
     changed = text[:start] + (typed or UNTYPED) + text[behind.end() if behind else offset :]
     tried = source.with_file(file, changed, holds=False)
-    desk.show(tried.tree)
+    desk.try_tree(tried.tree)
     try:
         return (yield from completions_in(tried, file, start, typed))
     finally:
@@ -89,7 +89,7 @@ def declared_names(source: Source) -> List[str]:
     """The names of all declarations, also of those that stand in no text, in the order of the alphabet."""
     listed = source.language.listed
     names = {name_of(source, f"/{listed.component}:{it}") for it in range(len(listed.before))} if listed is not None else set()
-    for number in range(len(source.parts)):
+    for number in range(source.count):
         piece = source.piece(number)
         names.update(name for name, paths in piece.named.items() if any(source.declares(number, it) for it in paths))
     return sorted(names)

@@ -6,16 +6,19 @@ more questions sends lines that tick, since the program gives turns behind lines
 from __future__ import annotations
 
 import time
-from dataclasses import dataclass
+from dataclasses import dataclass, replace
 from functools import lru_cache
 from typing import Callable, Dict, Generic, List, Optional, Sequence, Tuple, TypeVar
 
 import attrd
 from attrd import commands
 from attrd.authoring import Source, Specification
+from attrd.connection import Pending
+from attrd.edits import Edit, Move
+from attrd.lexical import TREE_DEPTH, TREE_NODES
 from attrd.replies import Circular, Code, Done, Fault, Memory, Opened, RefusedReply, Value
 
-from .inquiry import Answer, Inquiry, Question
+from .inquiry import Answer, Inquiry, Kept, NoAnswer, Question
 
 T = TypeVar("T")
 Taker = Callable[[Question, Done], None]
@@ -53,35 +56,75 @@ class Desk:
 
     def __init__(self, server: attrd.Server, files: Sequence[Source], tree: attrd.Node, posts: bool) -> None:
         """`files` are the grammar and the aspects of the program. Raises GrammarFault."""
-        self.server, self.files, self.tree, self.posts = server, tuple(files), tree, posts
+        self.server, self.files, self.posts = server, tuple(files), posts
+        self.made: Callable[[], attrd.Node] = lambda: tree
+        self.size = tree.size
         self.grammar = attrd.Grammar.read(files[0].text)
         self.checks: Optional[attrd.Diagnostics] = None
         self.why = ""
         self.session = server.session(SESSION)
         self.open: Dict[Question, List[Taker]] = {}
+        self.shown: List[Pending] = []
 
     @property
     def version(self) -> int:
-        """The version of the tree."""
-        return self.server.version or 0
+        """The version of the tree, where all edits are accepted."""
+        return (self.server.version or 0) + sum(not it.is_answered for it in self.shown)
 
     @property
     def specification(self) -> Specification:
         """What the files declare."""
         return specified(self.files)
 
-    def show(self, tree: attrd.Node) -> None:
-        """Makes this the program's tree, by few edits. Raises AttrdError; which tree the program has isn't known then."""
+    def show(self, tree: attrd.Node) -> List[Edit]:
+        """Makes this the program's tree, by few edits, which are returned. They go out with the lines that come next.
+
+        Raises AttrdError; which tree the program has isn't known then."""
+        if tree.size > TREE_NODES:
+            raise attrd.Refused(Code.LIMIT, "limit", None, f"a tree of {tree.size} nodes")
+        if tree.depth > TREE_DEPTH:
+            raise attrd.TermFault("/", f"the tree is {tree.depth} deep, and {TREE_DEPTH} is the limit")
         edits = attrd.difference(self.grammar, self.tree, tree)
-        sent = [self.session.send(it.command()) for it in edits]
-        for pending in sent:
+        self.shown += self.session.send_all([it.command() for it in edits])
+        self.made, self.size = lambda: tree, tree.size
+        return edits
+
+    def try_tree(self, tree: attrd.Node) -> None:
+        """Shows a tree that is only tried. Raises NoAnswer where it is too large, which isn't shown then, and else as `show` does."""
+        if tree.size > TREE_NODES or tree.depth > TREE_DEPTH:
+            raise NoAnswer("the tree has no room for what is tried")
+        self.show(tree)
+
+    @property
+    def tree(self) -> attrd.Node:
+        """The tree that is shown."""
+        return self.made()
+
+    def show_part(self, path: str, old: attrd.Node, new: attrd.Node, made: Callable[[], attrd.Node]) -> List[Edit]:
+        """The same where one node alone is another one, which nothing above it is looked at for; `made` makes the whole tree.
+
+        Where the limits of a tree are near, or the node is the root, the whole tree is compared."""
+        size = self.size + new.size - old.size
+        if path in ("", "/") or size + new.size > TREE_NODES or max(old.depth, new.depth) + path.count("/") >= TREE_DEPTH:
+            return self.show(made())
+        above = attrd.Path.read(path)
+        edits = [below(above, it) for it in attrd.difference(self.grammar, old, new)]
+        self.shown += self.session.send_all([it.command() for it in edits])
+        self.made, self.size = made, size
+        return edits
+
+    def look_at_edits(self) -> None:
+        """Looks whether the edits were accepted, whose replies stand before those of later lines. Raises AttrdError where one wasn't."""
+        shown, self.shown = self.shown, []
+        for pending in shown:
             pending.accepted()
-        self.tree = tree
 
     def ask(self, questions: List[Question]) -> List[Answer]:
         """The answers of these questions, each evaluated to its end. Raises AttrdError."""
-        sent = [self.session.send(line_of("ask", it)) for it in questions]
-        return [answer_of(it.reply()) for it in sent]
+        sent = self.session.send_all([line_of("ask", it) for it in questions])
+        answers = [answer_of(it.reply()) for it in sent]
+        self.look_at_edits()
+        return answers
 
     def post(self, questions: List[Question], take: Taker) -> List[Question]:
         """Posts these questions, but those that are open already; `take` has the answers as they come.
@@ -90,9 +133,10 @@ class Desk:
         new = [it for it in questions if it not in self.open]
         for question in questions:
             self.open.setdefault(question, []).append(take)
-        sent = [(it, self.session.send(line_of("post", it))) for it in new]
-        self.tick(1)
-        return [question for question, pending in sent if not self.is_posted(question, pending.reply())]
+        *sent, tick = self.session.send_all([*(line_of("post", it) for it in new), commands.version()])
+        tick.version()
+        self.look_at_edits()
+        return [question for question, pending in zip(new, sent) if not self.is_posted(question, pending.reply())]
 
     def is_posted(self, question: Question, reply: attrd.Reply) -> bool:
         """Whether the reply is that the question was posted; else it isn't open."""
@@ -113,12 +157,21 @@ class Desk:
         """Sends so many lines that do nothing but have turns behind them, and waits for the reply to the last one.
 
         What was answered before that is here then. Raises AttrdError."""
-        sent = [self.session.send(commands.version()) for _ in range(count)]
+        sent = self.session.send_all([commands.version()] * count)
         sent[-1].version()
+        self.look_at_edits()
 
     def close(self) -> None:
         """Ends the program."""
         self.server.close()
+
+
+def below(above: attrd.Path, edit: Edit) -> Edit:
+    """The edit of a tree as one of the tree in which that stands at this path."""
+    path = attrd.Path(above.steps + edit.path.steps)
+    if isinstance(edit, Move):
+        return replace(edit, path=path, target=attrd.Path(above.steps + edit.target.steps))
+    return replace(edit, path=path)
 
 
 @lru_cache(maxsize=2)
@@ -151,7 +204,8 @@ class Program:
     def options(self) -> List[str]:
         """The options with which it is started. Raises AttrdError where it can't be."""
         known = attrd.known_options(self.file)
-        return [*(["--slice", str(SLICE)] if "--slice" in known else []), *attrd.lasting_options(known, self.kept)]
+        return [*(["--slice", str(SLICE)] if "--slice" in known else []), *attrd.lasting_options(known, self.kept),
+                *attrd.gathering_options(known)]
 
 
 class Task(Generic[T]):
@@ -171,7 +225,7 @@ class Task(Generic[T]):
     def step(self) -> None:
         """One short step. Raises AttrdError, and what the inquiry raises."""
         began = time.perf_counter()
-        if not (self.in_turns and self.desk.posts):
+        if not (self.in_turns and self.desk.posts) or isinstance(self.questions, Kept):
             self.ask_some()
             self.pace.follow(began)
         elif self.unsent and len(self.desk.open) < OPEN:

@@ -4,8 +4,7 @@ An inquiry is a generator: it yields questions, is sent their answers in the sam
 knows nothing of how questions are sent, and between two of its steps an edit can come in, which ends it."""
 from __future__ import annotations
 
-from dataclasses import dataclass
-from typing import Generator, List, Optional, Tuple, TypeVar, Union
+from typing import Generator, List, NamedTuple, Optional, Tuple, TypeVar, Union
 
 from attrd.replies import AskValue, Circular, Fault, Memory, RefusedReply, Value, read_value
 
@@ -13,13 +12,16 @@ T = TypeVar("T")
 Answer = Union[Value, Fault, Circular, RefusedReply, Memory]
 
 
-@dataclass(frozen=True)
-class Question:
+class Question(NamedTuple):
     """The value of an attribute of the node of that path, with these arguments: texts, paths of nodes, and null."""
 
     path: str
     attribute: str
     arguments: Tuple[AskValue, ...] = ()
+
+
+class Kept(List[Question]):
+    """Questions whose answers the program keeps, or what they rest on: they take no time to speak of, and are asked at once."""
 
 
 Inquiry = Generator[List[Question], List[Answer], T]

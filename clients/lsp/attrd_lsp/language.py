@@ -43,6 +43,10 @@ class Listed:
     """Elements that are there before all others, and stand in no text."""
     starts: Optional[Callable[[str], List[int]]] = None
     front: Callable[[str], List[Fault]] = nothing_in
+    is_by_line: bool = False
+    """Whether each line tells by itself where elements begin in it: `starts` answers for some lines what it answers for them in a text.
+
+    Then a key has it look at the line that was changed, and not at the whole text."""
 
 
 @dataclass(frozen=True)

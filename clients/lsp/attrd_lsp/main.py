@@ -2,6 +2,7 @@
 from __future__ import annotations
 
 import argparse
+import gc
 import sys
 from pathlib import Path
 from typing import List, Optional
@@ -19,6 +20,8 @@ from .workspace import Workspace
 
 # Expressions and blocks nest as deep as a tree may be, with a few calls for each level.
 CALLS = 20_000
+# How many objects come before the collector looks at them: a key makes some thousands, of which few are in circles.
+OBJECTS = 20_000
 
 
 def serve(language: Language, words: Optional[List[str]] = None) -> int:
@@ -41,6 +44,7 @@ def command_line(description: str) -> argparse.ArgumentParser:
 def serve_editor(language: Language, options: argparse.Namespace) -> int:
     """Serves an editor on standard input and output, or checks files; the exit status."""
     sys.setrecursionlimit(max(CALLS, sys.getrecursionlimit()))
+    gc.set_threshold(OBJECTS)
     program = Program(options.program, options.keep)
     if options.check:
         return check_files(language, program, options.check)

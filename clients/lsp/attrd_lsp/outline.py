@@ -71,7 +71,7 @@ def detail_of(project: Project, spot: Spot) -> str:
 def matching_symbols(project: Project, query: str) -> Iterator[Json]:
     """The declarations of all files whose names have the query in them, whatever the case of letters."""
     source, wanted = project.source, query.casefold()
-    for number in range(len(source.parts)):
+    for number in range(source.count):
         named = source.piece(number).named
         for below in [it for name, paths in named.items() if wanted in name.casefold() for it in paths]:
             kind = source.declares(number, below)

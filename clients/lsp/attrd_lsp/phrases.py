@@ -8,6 +8,7 @@ is a node of the class `Let` that stands at the characters 0 to 8; its name stan
 names of their components, in the order of the grammar: a phrase, a sequence of phrases, None, or a token (str, int or bool)."""
 from __future__ import annotations
 
+from functools import lru_cache
 from typing import Dict, List, NamedTuple, Optional, Sequence, Tuple, Union
 
 import attrd
@@ -16,6 +17,7 @@ from attrd.lexical import TREE_NODES
 
 from .positions import Span
 
+LONGEST_LIST, LONGEST_TEXT = 32, 200
 TreeCell = Union[Node, Tuple[Node, ...], None, str, int, bool]
 Cell = Union["Phrase", Sequence["Phrase"], None, str, int, bool]
 
@@ -61,25 +63,44 @@ def phrase(kind: str, span: Span, name: Optional[Span] = None, /, **cells: Cell)
     """A node with its place, and that of its name. Raises TermFault where a cell is nothing that a cell may be."""
     children: List[Tuple[str, Phrase]] = []
     trees: List[TreeCell] = []
-    texts: List[str] = []
+    identifier: Optional[str] = None if name is not None else ""
+    is_long = False
     for part, cell in cells.items():
         if isinstance(cell, Phrase):
             children.append((part, cell))
             trees.append(cell.tree)
         elif isinstance(cell, (tuple, list)):
-            children.extend([(f"{part}:{index}", it) for index, it in enumerate(cell)])
+            children += [(f"{part}:{index}", it) for index, it in enumerate(cell)]
             trees.append(tuple([it.tree for it in cell]))
+            is_long = is_long or len(cell) > LONGEST_LIST
         else:
             trees.append(cell)  # type: ignore[arg-type]
-            texts += [cell] if isinstance(cell, str) else []
-    identifier = texts[0] if texts and name is not None else ""
-    return Phrase(Node(kind, *trees), span, identifier, name, tuple(children), tuple(cells))
+            if isinstance(cell, str):
+                is_long = is_long or len(cell) > LONGEST_TEXT
+                identifier = cell if identifier is None else identifier
+    identifier = identifier or ""
+    return Phrase(Node(kind, *trees) if is_long else tree_of(kind, trees), span, identifier, name, tuple(children), tuple(cells))
+
+
+# Of a text that is read again most trees are as they were: these are the same nodes then, which are compared and checked at a glance.
+# So many nodes are kept, but none with a long list or text, which would take much memory.
+_kept_node = lru_cache(maxsize=1 << 14, typed=True)(Node)
+
+
+def tree_of(kind: str, cells: Sequence[TreeCell]) -> Node:
+    """The tree of these cells, mostly the same one as before. Raises TermFault."""
+    try:
+        return _kept_node(kind, *cells)
+    except TypeError:
+        return Node(kind, *cells)
 
 
 def misplaced(top: Phrase, length: int) -> Optional[str]:
     """What is wrong with the places of the phrase and those below it, in a text of that length; None where nothing is.
 
     Each phrase stands in the one around it, beside the others there; a name stands in its phrase."""
+    if is_in_order(top, length):
+        return None
     waiting = [(top, Span(0, length))]
     while waiting:
         it, around = waiting.pop()
@@ -92,6 +113,25 @@ def misplaced(top: Phrase, length: int) -> Optional[str]:
             return wrong
         waiting.extend([(child, it.span) for _, child in it.children])
     return None
+
+
+def is_in_order(top: Phrase, length: int) -> bool:
+    """Whether all places are right at first sight: those of children stand one behind the other in their order, which isn't a must."""
+    if not (is_span(top.span) and 0 <= top.span[0] <= top.span[1] <= length):
+        return False
+    waiting = [top]
+    for it in waiting:
+        start, end = it.span
+        name = it.name
+        if name is not None and name is not it.span and not (is_span(name) and start <= name[0] <= name[1] <= end):
+            return False
+        for _, child in it.children:
+            span = child.span
+            if not (is_span(span) and start <= span[0] <= span[1] <= end):
+                return False
+            start = span[1]
+            waiting.append(child)
+    return True
 
 
 def misplaced_in(what: str, span: Span, around: Span) -> Optional[str]:
@@ -128,11 +168,17 @@ def misfit(grammar: attrd.Grammar, top: Phrase, wanted: str) -> Optional[str]:
     except attrd.AttrdError as fault:
         return str(fault)
     waiting = [top]
-    names: Dict[str, Tuple[str, ...]] = {}
+    parts = part_names(grammar)
     while waiting:
         it = waiting.pop()
-        parts = names.get(it.kind) or names.setdefault(it.kind, tuple(part.name for part in grammar.parts(it.kind)))
-        if it.parts != parts:
-            return f"{it.kind} has the components {' '.join(parts)}, and the parser gives {' '.join(it.parts)}"
-        waiting.extend([child for _, child in it.children])
+        wanted_parts = parts[it.tree.name]
+        if it.parts != wanted_parts:
+            return f"{it.kind} has the components {' '.join(wanted_parts)}, and the parser gives {' '.join(it.parts)}"
+        waiting += [child for _, child in it.children]
     return None
+
+
+@lru_cache(maxsize=8)
+def part_names(grammar: attrd.Grammar) -> Dict[str, Tuple[str, ...]]:
+    """The names of the components of each class."""
+    return {it.name: tuple(part.name for part in it.parts) for it in grammar}

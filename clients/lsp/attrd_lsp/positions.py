@@ -6,8 +6,9 @@ from __future__ import annotations
 
 import bisect
 import re
+from array import array
 from dataclasses import dataclass
-from typing import List, NamedTuple, Optional
+from typing import List, NamedTuple, Optional, Tuple
 
 LINE_END = re.compile(r"\r\n|\n|\r")
 
@@ -31,6 +32,8 @@ class Span(NamedTuple):
 
     def behind(self, change: Span, length: int) -> Span:
         """Where the span is when `length` characters have come in the place of a change."""
+        if self.start > change.start and self.start >= change.end:
+            return self.moved(length - (change.end - change.start))
         return Span(*(it if it <= change.start else max(it + length - (change.end - change.start), change.start) for it in self))
 
     def holds(self, offset: int) -> bool:
@@ -70,32 +73,59 @@ def line_starts(text: str) -> List[int]:
 
 @dataclass(frozen=True)
 class Text:
-    """A text that isn't changed, with the offsets at which its lines begin."""
+    """A text that isn't changed, with the offsets at which its lines begin.
+
+    Those of `marks` are so, but for the lines from `moved` on: these begin `by` characters further on. So a change of the text has only
+    to tell how far all behind it has moved."""
 
     text: str
-    starts: List[int]
+    marks: "array[int]"
+    moved: int = 0
+    by: int = 0
 
     @classmethod
     def of(cls, text: str) -> Text:
         """This text."""
-        return cls(text, line_starts(text))
+        return cls(text, array("q", line_starts(text)))
+
+    @property
+    def starts(self) -> List[int]:
+        """Where all lines begin."""
+        return [*self.marks[: self.moved], *(it + self.by for it in self.marks[self.moved :])]
+
+    def start(self, number: int) -> int:
+        """Where the line of that number begins."""
+        return self.marks[number] + (self.by if number >= self.moved else 0)
+
+    def line_at(self, offset: int) -> int:
+        """The number of the line in which the offset is."""
+        marks, moved = self.marks, self.moved
+        if moved < len(marks) and marks[moved] + self.by <= offset:
+            return bisect.bisect_right(marks, offset - self.by, moved) - 1
+        return bisect.bisect_right(marks, offset, 0, moved) - 1
 
     def line(self, number: int) -> str:
         """The line of that number, without its end."""
-        end = self.starts[number + 1] if number + 1 < len(self.starts) else len(self.text)
-        return self.text[self.starts[number] : end].rstrip("\r\n")
+        end = self.start(number + 1) if number + 1 < len(self.marks) else len(self.text)
+        return self.text[self.start(number) : end].rstrip("\r\n")
 
     def offset(self, position: Position) -> int:
         """Where the position is. Behind a line's end is its end, and behind the last line the end of the text."""
-        if position.line >= len(self.starts):
+        if position.line >= len(self.marks):
             return len(self.text)
-        return self.starts[position.line] + characters(self.line(position.line), position.character)
+        return self.start(position.line) + characters(self.line(position.line), position.character)
 
     def position(self, offset: int) -> Position:
         """Where the offset is, for the editor."""
-        line = bisect.bisect_right(self.starts, offset) - 1
-        start = self.starts[line]
-        return Position(line, units(self.text[start:offset]))
+        line = self.line_at(offset)
+        return Position(line, units(self.text[self.start(line) : offset]))
+
+    def range(self, span: Span) -> Tuple[Position, Position]:
+        """Where the span begins and ends, for the editor; most are within a line, which is looked for once then."""
+        start = self.position(span.start)
+        if start.line + 1 < len(self.marks) and self.start(start.line + 1) <= span.end:
+            return start, self.position(span.end)
+        return start, Position(start.line, start.character + units(self.text[span.start : span.end]))
 
     def changed_span(self, change: Change) -> Span:
         """The stretch that is replaced by the change."""
@@ -105,15 +135,22 @@ class Text:
         return Span(start, max(start, self.offset(change.end)))
 
     def changed(self, span: Span, new: str) -> Text:
-        """The text with `new` in the place of the span."""
-        text = self.text[: span.start] + new + self.text[span.end :]
-        if "\r" in text:
-            return Text.of(text)
-        kept = bisect.bisect_right(self.starts, span.start)
-        behind = bisect.bisect_right(self.starts, span.end)
-        come = [span.start + it.end() for it in LINE_END.finditer(new)]
-        moved = len(new) - (span.end - span.start)
-        return Text(text, self.starts[:kept] + come + [it + moved for it in self.starts[behind:]])
+        """The text with `new` in the place of the span.
+
+        A line begins where it does by the characters before and behind that place: so no more than the places from the beginning of
+        what is new to its end are looked at."""
+        text = "".join((self.text[: span.start], new, self.text[span.end :]))
+        end = span.start + len(new)
+        kept = max(1, self.line_at(span.start - 1) + 1)
+        behind = self.line_at(span.end) + 1
+        found = (it.end() for it in LINE_END.finditer(text, max(0, span.start - 1), end + 1))
+        come = array("q", [it for it in found if span.start <= it <= end])
+        front, back, by = self.marks[:kept], self.marks[behind:], self.by + end - span.end
+        if self.moved < kept:
+            front[self.moved :] = array("q", [it + self.by for it in front[self.moved :]])
+        elif self.moved > behind:
+            back[: self.moved - behind] = array("q", [it - self.by for it in back[: self.moved - behind]])
+        return Text(text, front + come + back, len(front) + len(come), by)
 
 
 def carried(offset: int, old: str, new: str) -> int:

@@ -9,19 +9,21 @@ from contextlib import suppress
 from dataclasses import dataclass
 from typing import Any, Callable, Deque, Dict, Iterable, List, Optional
 
-from attrd import AttrdError, Code, Node, Refused, ServerLost, StartFault
+from attrd import AttrdError, Code, Edit, Node, Refused, ServerLost, StartFault
 
 from .desk import Desk, Task
 from .inquiry import Inquiry, NoAnswer
-from .positions import Change, Text
-from .problems import Known, Problem, find_problems, known_by
-from .reading import Reader
+from .positions import Change, Span, Text
+from .problems import Edited, Known, Problem, edited_by, find_problems, known_by
+from .reading import Reader, Stretch
 from .renaming import CannotRename
 from .rpc import CONTENT_MODIFIED, REQUEST_FAILED, Failure
 from .source import Source
 
 # How often in a row a program that ended is started anew, with nothing answered between.
 RESTARTS = 1
+# How many edits are remembered between two checks, so that problems are looked for there first.
+REMEMBERED = 8
 Start = Callable[[Node], Desk]
 Publish = Callable[["Project", Iterable[str]], None]
 CHANGED = Failure(CONTENT_MODIFIED, "the document was changed meanwhile")
@@ -52,6 +54,7 @@ class Project:
         self.source = Source(reader, {})
         self.problems: List[Problem] = []
         self.known = Known()
+        self.edited: List[Edited] = []
         self.trouble: Optional[str] = None
         self.desk: Optional[Desk] = None
         self.check: Optional[Task[List[Problem]]] = None
@@ -89,31 +92,44 @@ class Project:
     def change(self, name: str, version: int, changes: List[Change]) -> None:
         """Takes these changes, one after the other: what was under way ends, the program's tree follows, a new check is wanted."""
         self.give_up(CHANGED)
+        stretch: Optional[Stretch] = None
         for it in changes:
-            self.replace(name, it)
+            span = self.replace(name, it)
+            stretch = Stretch(span, len(it.text)) if stretch is None else stretch.then(span, len(it.text))
         had_faults = not self.source.files[name].is_good
         self.versions[name] = version
-        self.follow(self.source.with_file(name, self.texts[name].text))
+        self.follow(self.source.with_file(name, self.texts[name].text, stretch=stretch))
         if had_faults or not self.source.files[name].is_good:
             self.publish(self, [name])
 
-    def replace(self, name: str, change: Change) -> None:
-        """Changes the text. The problems that were told stay where they are in it, but for those whose place is gone."""
+    def replace(self, name: str, change: Change) -> Span:
+        """Changes the text, in the place of the span that is returned.
+
+        The problems that were told stay where they are in it, but for those whose place is gone."""
         text = self.texts[name]
         span = text.changed_span(change)
         self.texts[name] = text.changed(span, change.text)
-        moved = [it if it.file != name else it._replace(span=it.span.behind(span, len(change.text))) for it in self.problems]
+        moved = [it if it.file != name or it.span.end <= span.start else moved_behind(it, span, len(change.text)) for it in self.problems]
         self.problems = [it for it in moved if it.file != name or it.span.start < it.span.end]
+        return span
 
     def follow(self, source: Source) -> None:
         """The files are these now: the program's tree follows, and a new check is wanted."""
-        self.source = source
+        before, self.source = self.source, source
         self.wants_check = True
         if self.desk is not None:
             try:
-                self.desk.show(self.source.tree)
+                self.edited += edited_by(self.shown(self.desk, before, source)[:REMEMBERED])
+                del self.edited[:-REMEMBERED]
             except AttrdError as fault:
                 self.lost(fault)
+
+    def shown(self, desk: Desk, before: Source, source: Source) -> List[Edit]:
+        """Has the program's tree follow, which is that of the source before; the edits for that. Raises AttrdError."""
+        step = source.step
+        if step is None or step.before is not before.mark:
+            return desk.show(source.tree)
+        return desk.show_part(step.path, step.old, step.new, lambda: source.tree)
 
     def give_up(self, failure: Failure) -> None:
         """Ends all that is under way; the requests fail so."""
@@ -192,11 +208,11 @@ class Project:
         """The inquiry for problems. Raises NoAnswer where none can be told."""
         if desk.checks is None:
             raise NoAnswer(desk.why)
-        return find_problems(self.source, desk.checks, self.known)
+        return find_problems(self.source, desk.checks, self.known, self.edited)
 
     def checked(self, problems: List[Problem], trouble: Optional[str]) -> None:
         """The check is over, with these problems, or couldn't be made for that reason."""
-        self.known = known_by(self.source, problems)
+        self.known, self.edited = known_by(self.source, problems), []
         self.problems = [it for it in problems if not self.is_gone(it)]
         self.trouble = trouble
         self.check, self.wants_check, self.losses = None, False, 0
@@ -241,6 +257,12 @@ class Project:
         if desk is not None:
             with suppress(AttrdError):
                 desk.close()
+
+
+def moved_behind(problem: Problem, change: Span, length: int) -> Problem:
+    """The problem where its place is when so many characters have come in the place of a change."""
+    text, file, span, is_error, path = problem
+    return Problem(text, file, span.behind(change, length), is_error, path)
 
 
 def trouble_of(fault: AttrdError) -> str:

@@ -18,8 +18,8 @@ class Symbol(IntEnum):
 
 def range_of(text: Text, span: Span) -> Json:
     """The stretch of the text, for the editor."""
-    start, end = text.position(span.start), text.position(span.end)
-    return {"start": start._asdict(), "end": end._asdict()}
+    (line, character), (last, end) = text.range(span)
+    return {"start": {"line": line, "character": character}, "end": {"line": last, "character": end}}
 
 
 def diagnostic(text: Text, span: Span, message: str, severity: int, source: str = "attrd") -> Json:

@@ -4,11 +4,12 @@ A part whose text is as it was is not read again. A part that can't be parsed ke
 nodes stand then where that text went, as far as it can be told. A language that isn't split has one part, the whole file."""
 from __future__ import annotations
 
+import bisect
 import traceback
 from dataclasses import dataclass, field
 from functools import cached_property
 from pathlib import Path
-from typing import Dict, List, Optional, Tuple, TypeVar
+from typing import Dict, List, NamedTuple, Optional, Tuple, TypeVar
 
 import attrd
 
@@ -21,26 +22,41 @@ T = TypeVar("T")
 
 @dataclass(frozen=True)
 class Piece:
-    """The text of one part, and what was read of it: the phrases by their paths from the part, and these paths by names.
-
-    `trouble` is why the parser's answer can't be used."""
+    """The text of one part, and what was read of it. `trouble` is why the parser's answer can't be used."""
 
     text: str
     phrase: Optional[Phrase]
     faults: Tuple[Fault, ...]
     trouble: Optional[str]
-    phrases: Dict[str, Phrase]
-    named: Dict[str, List[str]]
+    met: Dict[str, Optional[Phrase]] = field(default_factory=dict, compare=False, repr=False)
 
     @classmethod
     def of(cls, text: str, parsed: Parsed, trouble: Optional[str]) -> Piece:
         """What was read of the text."""
-        phrases = {} if parsed.phrase is None else with_paths(parsed.phrase)
-        named: Dict[str, List[str]] = {}
-        for path, it in phrases.items():
+        return cls(text, parsed.phrase, tuple(parsed.faults), trouble)
+
+    @cached_property
+    def phrases(self) -> Dict[str, Phrase]:
+        """All phrases by their paths from the part, in the order of the text."""
+        return {} if self.phrase is None else with_paths(self.phrase)
+
+    @cached_property
+    def named(self) -> Dict[str, List[str]]:
+        """The paths of the phrases that have names, by these."""
+        found: Dict[str, List[str]] = {}
+        for path, it in self.phrases.items():
             if it.identifier:
-                named.setdefault(it.identifier, []).append(path)
-        return cls(text, parsed.phrase, tuple(parsed.faults), trouble, phrases, named)
+                found.setdefault(it.identifier, []).append(path)
+        return found
+
+    def at(self, path: str) -> Optional[Phrase]:
+        """The phrase of that path from the part; None where none is there. The others aren't looked at."""
+        if path not in self.met:
+            it = self.phrase
+            for step in path.split("/")[1:]:
+                it = None if it is None else it.child(step)
+            self.met[path] = it
+        return self.met[path]
 
     @cached_property
     def is_good(self) -> bool:
@@ -98,6 +114,12 @@ class Reader:
         """The class of what the parser reads."""
         return grammar.start if self.language.listed is None else self.language.listed.element
 
+    @property
+    def is_by_line(self) -> bool:
+        """Whether each line of a text tells by itself where parts begin in it."""
+        listed = self.language.listed
+        return listed is not None and listed.starts is not None and listed.is_by_line
+
     def starts(self, text: str) -> List[int]:
         """Where the parts of a text begin."""
         listed = self.language.listed
@@ -114,19 +136,78 @@ def failed(fault: Exception) -> str:
     return f"the parser fails: {type(fault).__name__}: {fault} ({Path(place.filename).name}, line {place.lineno})"
 
 
+class Stretch(NamedTuple):
+    """A stretch of an old text, and how many characters of the new one have come in its place. All else is alike."""
+
+    old: Span
+    length: int
+
+    @property
+    def moved(self) -> int:
+        """How many characters further on all behind it stands now."""
+        return self.length - (self.old.end - self.old.start)
+
+    def then(self, change: Span, length: int) -> Stretch:
+        """The stretch that has this one and a change of the new text in it."""
+        before, end = min(self.old.start, change.start), max(self.old.start + self.length, change.end)
+        return Stretch(Span(before, end - self.moved), end - before + length - (change.end - change.start))
+
+
+class Cut(NamedTuple):
+    """A text in parts: where each begins, and its text."""
+
+    starts: List[int]
+    texts: List[str]
+
+
+def cut_text(text: str, starts: List[int]) -> Cut:
+    """The text in the parts that begin there."""
+    return Cut(starts, [text[start:end] for start, end in zip(starts, [*starts[1:], len(text)])])
+
+
+def cut_again(old: Cut, text: str, stretch: Stretch, reader: Reader) -> Tuple[Cut, Tuple[int, int]]:
+    """The new text in parts, where each line tells by itself whether one begins in it; how many at the front and at the end are as before.
+
+    So no more than the lines of the stretch are looked at."""
+    first = max(text.rfind(it, 0, stretch.old.start) for it in "\r\n") + 1
+    ends = [text.find(it, stretch.old.start + stretch.length) for it in "\r\n"]
+    last = min([it + 1 for it in ends if it >= 0], default=len(text))
+    moved = stretch.moved
+    kept, behind = bisect.bisect_left(old.starts, first), bisect.bisect_left(old.starts, last - moved)
+    come = [first + it for it in reader.starts(text[first:last])]
+    front = max(0, kept - 1)
+    back = [it + moved for it in old.starts[behind:]]
+    between = [*old.starts[front:kept], *come]
+    fresh = [text[start:end] for start, end in zip(between, [*between[1:], *back[:1], len(text)])]
+    starts, texts = [*old.starts[:kept], *come, *back], [*old.texts[:front], *fresh, *old.texts[behind:]]
+    return Cut(starts, texts), (front, len(old.starts) - behind)
+
+
 @dataclass(frozen=True)
 class Reading:
     """The parts of a file: where the text of each begins, that text, what was read of it and its tree; and all faults.
 
-    `pieces` are the texts that were read, also those of which the tree has nothing."""
+    `pieces` are texts that were read, and `cut` is the text in all its parts, also those of which the tree has nothing; it is None
+    where these can't be told. `kept` is how many parts of the front and of the end the reading before had, where that is known."""
 
     starts: List[int] = field(default_factory=list)
     texts: List[str] = field(default_factory=list)
     taken: List[Piece] = field(default_factory=list)
-    trees: List[attrd.Node] = field(default_factory=list)
     faults: Tuple[Fault, ...] = ()
     trouble: Optional[str] = None
     pieces: Dict[str, Piece] = field(default_factory=dict)
+    cut: Optional[Cut] = Cut([], [])
+    kept: Optional[Tuple[int, int]] = None
+
+    @property
+    def trees(self) -> List[attrd.Node]:
+        """The trees of the parts."""
+        return trees_of(self.taken)
+
+    @property
+    def is_whole(self) -> bool:
+        """Whether the tree has all parts of the text, each as it is."""
+        return self.is_good and self.cut is not None and len(self.cut.texts) == len(self.taken)
 
     @property
     def is_good(self) -> bool:
@@ -137,27 +218,27 @@ class Reading:
         """Where a span of what was read of the part of that number stands in the file."""
         old, new, start = self.taken[number].text, self.texts[number], self.starts[number]
         if old == new:
-            return Span(*span).moved(start)
+            return Span(start + span[0], start + span[1])
         return Span(start + carried(span[0], old, new), start + carried(span[1], old, new))
 
 
-def read_file(text: str, old: Reading, reader: Reader, holds: bool = True) -> Reading:
-    """The file with that text, which was `old` before. Where it doesn't hold, a part with faults is what could be read of it."""
+def read_file(text: str, old: Reading, reader: Reader, holds: bool = True, stretch: Optional[Stretch] = None) -> Reading:
+    """The file with that text, which was `old` before. Where it doesn't hold, a part with faults is what could be read of it.
+
+    `stretch` is what has changed of the text, where that is known."""
     try:
-        starts = reader.starts(text)
+        cut, ends = cut_anew(text, old, reader, stretch)
+        starts, texts = cut
         front = reader.front(text[: starts[0]] if starts else text)
     except Exception as fault:  # noqa: BLE001  the language is anybody's
         return unread(old, failed(fault))
-    cut = [text[start:end] for start, end in zip(starts, [*starts[1:], len(text)])]
-    ends = alike_ends(cut, old.texts)
-    between = cut[ends[0] : len(cut) - ends[1]]
+    between = texts[ends[0] : len(texts) - ends[1]]
     new = {it: old.pieces.get(it) or reader.piece(it) for it in between}
-    texts = spliced(old.texts, ends, between)
-    if old.is_good and not front and all(it.is_good and it.phrase is not None for it in new.values()):
+    if old.is_whole and not front and all(it.is_good and it.phrase is not None for it in new.values()):
         fresh = [new[it] for it in between]
-        pieces = replaced(old.pieces, old.texts[ends[0] : len(old.texts) - ends[1]], new)
-        trees = spliced(old.trees, ends, trees_of(fresh))
-        return Reading(starts, texts, spliced(old.taken, ends, fresh), trees, (), None, pieces)
+        pieces = old.pieces if stretch is not None else dict(old.pieces)
+        replace(pieces, old.texts[ends[0] : len(old.texts) - ends[1]], new)
+        return Reading(starts, texts, spliced(old.taken, ends, fresh), (), None, pieces, cut, ends)
     pieces = {it: new.get(it) or old.pieces.get(it) or reader.piece(it) for it in texts}
     read = [pieces[it] for it in texts]
     trouble = next((it.trouble for it in read if it.trouble is not None), None)
@@ -166,12 +247,23 @@ def read_file(text: str, old: Reading, reader: Reader, holds: bool = True) -> Re
     taken = [it if it.is_good else last.get(number, it) for number, it in enumerate(read)]
     numbers = [number for number, it in enumerate(taken) if it.phrase is not None]
     chosen = [starts[it] for it in numbers], [texts[it] for it in numbers], [taken[it] for it in numbers]
-    return Reading(*chosen, trees_of(chosen[2]), tuple(faults), trouble, pieces)
+    return Reading(*chosen, tuple(faults), trouble, pieces, cut)
+
+
+def cut_anew(text: str, old: Reading, reader: Reader, stretch: Optional[Stretch]) -> Tuple[Cut, Tuple[int, int]]:
+    """The text in parts; how many of them at the front and at the end are as they were, one by one. Raises what the language raises."""
+    if old.cut is not None and stretch is not None and reader.is_by_line:
+        return cut_again(old.cut, text, stretch, reader)
+    starts, texts = cut_text(text, reader.starts(text))
+    if old.cut is None:
+        return Cut(starts, texts), (0, 0)
+    ends = alike_ends(texts, old.cut.texts)
+    return Cut(starts, spliced(old.cut.texts, ends, texts[ends[0] : len(texts) - ends[1]])), ends
 
 
 def unread(old: Reading, trouble: str) -> Reading:
     """The file as it was, where its parts can't be told."""
-    return Reading(old.starts, old.texts, old.taken, old.trees, (), trouble, old.pieces)
+    return Reading(old.starts, old.texts, old.taken, (), trouble, old.pieces, None)
 
 
 def trees_of(pieces: List[Piece]) -> List[attrd.Node]:
@@ -184,13 +276,11 @@ def spliced(old: List[T], ends: Tuple[int, int], between: List[T]) -> List[T]:
     return [*old[: ends[0]], *between, *old[len(old) - ends[1] :]]
 
 
-def replaced(pieces: Dict[str, Piece], gone: List[str], new: Dict[str, Piece]) -> Dict[str, Piece]:
-    """The pieces without those of the texts that are gone, and with new ones."""
-    found = dict(pieces)
+def replace(pieces: Dict[str, Piece], gone: List[str], new: Dict[str, Piece]) -> None:
+    """Takes the pieces of texts that are gone away, and puts new ones in. From key to key the readings of a file share them."""
     for it in gone:
-        found.pop(it, None)
-    found.update(new)
-    return found
+        pieces.pop(it, None)
+    pieces.update(new)
 
 
 def last_good(read: List[Piece], old: Reading) -> Dict[int, Piece]:

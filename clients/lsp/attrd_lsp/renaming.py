@@ -45,7 +45,7 @@ def find_renaming(desk: Desk, texts: Mapping[str, str], source: Source, known: K
     names = names_like(source, found[0], new)
     before = yield from find_meanings(source, names)
     errors = yield from errors_of(desk, source, known)
-    desk.show(tried.tree)
+    desk.try_tree(tried.tree)
     try:
         after = yield from find_meanings(source, names)
         come = yield from errors_of(desk, tried, known)

@@ -23,6 +23,7 @@ HEAD_END = b"\r\n\r\n"
 LONGEST_HEAD = 4096
 LONGEST_CONTENT = 1 << 30
 CHUNK = 1 << 16
+ENCODER = json.JSONEncoder(separators=(",", ":"), check_circular=False)
 
 
 class Ended(Exception):
@@ -110,8 +111,7 @@ def message_of(content: bytes) -> Message:
     return message
 
 
-def write_message(stream: BinaryIO, message: Message) -> None:
-    """Writes the message in one piece. Raises OSError where the editor has gone."""
-    content = json.dumps({"jsonrpc": "2.0", **message}, separators=(",", ":")).encode()
+def write_content(stream: BinaryIO, content: bytes) -> None:
+    """Writes a message of this content in one piece. Raises OSError where the editor has gone."""
     stream.write(b"Content-Length: %d\r\n\r\n%b" % (len(content), content))
     stream.flush()

@@ -9,6 +9,10 @@ from .phrases import Fault, Phrase
 from .positions import Span
 
 
+# The sorts of tokens that are always written alike.
+FIXED = ("word", "sign")
+
+
 class Token(NamedTuple):
     """A piece of the text. Its sort is the name of its group in the pattern, `word` for a word of the language, or `end` behind all."""
 
@@ -44,31 +48,29 @@ def tokens_of(
     the words. `wrong` tells for a sort and a text what is wrong with such a token, or None."""
     tokens: List[Token] = []
     faults: List[Fault] = []
+    made = tuple.__new__  # as Token and Span are made, in half the time
     for it in pattern.finditer(text):
         sort = it.lastgroup or "other"
         if sort == "blank":
             continue
-        span = Span(*it.span())
-        fault = f"unexpected character {it[0]!r}" if sort == "other" else wrong(sort, it[0])
+        word, span = it.group(), made(Span, it.span())
+        fault = f"unexpected character {word!r}" if sort == "other" else wrong(sort, word)
         if fault is not None:
             faults.append(Fault(fault, span))
         if sort != "other":
-            tokens.append(Token("word" if sort == "name" and it[0] in words else sort, it[0], span))
+            tokens.append(made(Token, ("word" if sort == "name" and word in words else sort, word, span)))
     last = tokens[-1].span.end if tokens else 0
     return [*tokens, Token("end", "the end", Span(last, last))], faults
 
 
 class Scanner:
-    """Goes through tokens, and collects faults. A parser is made on it, with a method for each form of its grammar."""
+    """Goes through tokens, and collects faults. A parser is made on it, with a method for each form of its grammar.
+
+    `token` is the one that is next, and `index` its number."""
 
     def __init__(self, tokens: List[Token], faults: List[Fault]) -> None:
         self.tokens, self.faults = tokens, faults
-        self.index = 0
-
-    @property
-    def token(self) -> Token:
-        """The token that is next."""
-        return self.tokens[self.index]
+        self.index, self.token = 0, tokens[0]
 
     @property
     def behind(self) -> int:
@@ -82,18 +84,19 @@ class Scanner:
 
     def at(self, *texts: str) -> bool:
         """Whether the next token is one of these words and signs."""
-        return self.token.sort in ("word", "sign") and self.token.text in texts
+        return self.token.text in texts and self.token.sort in FIXED
 
     def take(self) -> Token:
         """The next token; the one behind it is next then."""
         token = self.token
         if token.sort != "end":
             self.index += 1
+            self.token = self.tokens[self.index]
         return token
 
     def took(self, text: str) -> bool:
         """Whether the next token is this word or sign, which is taken then."""
-        found = self.at(text)
+        found = self.token.text == text and self.token.sort in FIXED
         if found:
             self.take()
         return found

@@ -2,7 +2,7 @@
 from __future__ import annotations
 
 import bisect
-from dataclasses import dataclass
+from dataclasses import dataclass, field
 from functools import cached_property
 from typing import Callable, Dict, Iterator, List, Mapping, NamedTuple, Optional, Sequence, Tuple, TypeVar
 
@@ -11,7 +11,7 @@ from attrd import Node, Path
 from .language import Language
 from .phrases import Phrase
 from .positions import Span
-from .reading import Piece, Reader, Reading, read_file
+from .reading import Piece, Reader, Reading, Stretch, read_file, trees_of
 
 T = TypeVar("T")
 
@@ -26,21 +26,48 @@ class Spot(NamedTuple):
     name: Span
 
 
+class Step(NamedTuple):
+    """One part of a tree that has changed: the mark of the source before, the path of the part, and its trees before and now."""
+
+    before: object
+    path: str
+    old: Node
+    new: Node
+
+
 @dataclass(frozen=True)
 class Source:
     """The files of a tree, in the order in which their parts stand in it."""
 
     reader: Reader
     files: Mapping[str, Reading]
+    step: Optional[Step] = field(default=None, compare=False, repr=False)
+    """How the tree comes of that of the source before, where one part of it has changed."""
+    mark: object = field(default_factory=object, compare=False, repr=False)
+    """What no other source has: so one can be told again that isn't kept."""
 
     @property
     def language(self) -> Language:
         """The language of the files."""
         return self.reader.language
 
-    def with_file(self, file: str, text: str, holds: bool = True) -> Source:
-        """The same files, but for this text of one of them. Another file comes behind all that are there."""
-        return Source(self.reader, {**self.files, file: read_file(text, self.files.get(file, Reading()), self.reader, holds)})
+    def with_file(self, file: str, text: str, holds: bool = True, stretch: Optional[Stretch] = None) -> Source:
+        """The same files, but for this text of one of them. Another file comes behind all that are there.
+
+        `stretch` is what has changed of the text, where that is known."""
+        read = read_file(text, self.files.get(file, Reading()), self.reader, holds, stretch)
+        found = Source(self.reader, {**self.files, file: read})
+        if read.kept is None or file not in self.files or self.language.listed is None:
+            return found
+        front, end = read.kept
+        gone, come = (trees_of(it.taken[front : len(it.taken) - end]) for it in (self.files[file], read))
+        if len(gone) == len(come) == 1:
+            return Source(self.reader, found.files, Step(self.mark, self.path(self.first[file] + front), gone[0], come[0]))
+        if "tree" in self.__dict__:
+            before = self.first[file] + len(self.language.listed.before)
+            behind = self.count - self.first[file] - len(self.files[file].taken)
+            found.__dict__["tree"] = self.tree.with_elements(0, before + front, behind + end, come)
+        return found
 
     def without(self, file: str) -> Source:
         """The same files without this one."""
@@ -49,9 +76,9 @@ class Source:
     # The tree
 
     @cached_property
-    def parts(self) -> List[Tuple[str, int]]:
-        """The file and the number there of each part of the tree."""
-        return [(file, number) for file, it in self.files.items() for number in range(len(it.taken))]
+    def count(self) -> int:
+        """How many parts the tree has."""
+        return sum(len(it.taken) for it in self.files.values())
 
     @cached_property
     def first(self) -> Dict[str, int]:
@@ -61,6 +88,19 @@ class Source:
             found[file] = count
             count += len(it.taken)
         return found
+
+    @cached_property
+    def files_by_number(self) -> Tuple[List[int], List[str]]:
+        """The numbers of the first parts of all files, and these files."""
+        return list(self.first.values()), list(self.first)
+
+    def where(self, number: int) -> Tuple[str, int]:
+        """The file of the part of that number, and its number there. A number that no part has is counted on behind the last file's."""
+        firsts, files = self.files_by_number
+        if len(files) == 1:
+            return files[0], number
+        at = bisect.bisect_right(firsts, number) - 1
+        return files[at], number - firsts[at]
 
     @cached_property
     def tree(self) -> Node:
@@ -75,13 +115,19 @@ class Source:
 
     def piece(self, number: int) -> Piece:
         """What the tree has of the part of that number."""
-        file, index = self.parts[number]
+        file, index = self.where(number)
         return self.files[file].taken[index]
+
+    def stands(self, number: int, span: Span) -> Tuple[str, Span]:
+        """The file of the part of that number, and where a span of what was read of it stands there."""
+        file, index = self.where(number)
+        return file, self.files[file].place(index, span)
 
     @cached_property
     def texts(self) -> List[str]:
         """The texts of all parts, as they are now."""
-        return [text for it in self.files.values() for text in it.texts]
+        found = [it.texts for it in self.files.values()]
+        return found[0] if len(found) == 1 else [text for texts in found for text in texts]
 
     @property
     def is_good(self) -> bool:
@@ -112,18 +158,25 @@ class Source:
         there = part == listed.component and index.isdigit()
         return (int(index) - len(listed.before) if there else -1), slash + steps
 
+    def phrase(self, number: int, below: str) -> Phrase:
+        """The phrase of that path below the part of that number. Raises LookupError where none is there."""
+        found = self.piece(number).at(below)
+        if found is None:
+            raise LookupError(f"part {number} has no {below}")
+        return found
+
     def located(self, number: int, below: str) -> Spot:
         """The phrase of that path below the part of that number; what has no name is named by its first character."""
-        file, index = self.parts[number]
+        file, index = self.where(number)
         reading = self.files[file]
-        phrase = reading.taken[index].phrases[below]
+        phrase = self.phrase(number, below)
         name = phrase.name or Span(phrase.span[0], min(phrase.span[0] + 1, phrase.span[1]))
         return Spot(self.path(number) + below or "/", phrase, file, reading.place(index, phrase.span), reading.place(index, name))
 
     def spot(self, path: str) -> Optional[Spot]:
         """The phrase of the node of that path; None for what stands in no text, or isn't there."""
         number, below = self.number(path)
-        if not 0 <= number < len(self.parts) or below not in self.piece(number).phrases:
+        if not 0 <= number < self.count or self.piece(number).at(below) is None:
             return None
         return self.located(number, below)
 
@@ -149,10 +202,10 @@ class Source:
         number = self.part_at(file, offset)
         if number < 0 or not self.located(number, "").span.holds(offset):
             return None
-        index, reading = self.parts[number][1], self.files[file]
+        index, reading = self.where(number)[1], self.files[file]
         below = ""
         while True:
-            children = self.piece(number).phrases[below].children
+            children = self.phrase(number, below).children
             inner = [step for step, it in children if reading.place(index, it.span).holds(offset)]
             if not inner:
                 return self.located(number, below)
@@ -165,7 +218,7 @@ class Source:
 
     def named(self, name: str) -> Iterator[Spot]:
         """The phrases with that name, in the order of the tree."""
-        for number in range(len(self.parts)):
+        for number in range(self.count):
             for below in self.piece(number).named.get(name, ()):
                 yield self.located(number, below)
 
@@ -193,12 +246,11 @@ class Source:
 
     def declares(self, number: int, below: str) -> Optional[int]:
         """The same of the phrase of that path below the part of that number."""
-        phrases = self.piece(number).phrases
-        kinds, phrase = self.language.kinds, phrases[below]
+        kinds, phrase = self.language.kinds, self.phrase(number, below)
         if phrase.name is None:
             return None
         above, _, step = below.rpartition("/")
-        known = kinds.get(f"{phrases[above].kind}.{step.partition(':')[0]}") if below else None
+        known = kinds.get(f"{self.phrase(number, above).kind}.{step.partition(':')[0]}") if below else None
         return known if known is not None else self.of_class(kinds, phrase.kind)
 
     def meanings(self, spot: Spot) -> Sequence[str]:

@@ -8,7 +8,7 @@ import tempfile
 from pathlib import Path as FilePath
 from typing import Any, Dict, List, Optional, Sequence
 
-from attrd import AttrdError, Grammar, known_options, lasting_options, write_term
+from attrd import AttrdError, Grammar, gathering_options, known_options, lasting_options, write_term
 
 from .hub import Hub
 from .page import Page
@@ -75,7 +75,8 @@ class Running:
 async def _upstream(given: argparse.Namespace, files: Sequence[str]) -> Upstream:
     if given.connect:
         return await connect(given.connect)
-    options = ["--work", *lasting_options(known_options(given.program), given.keep)]
+    known = known_options(given.program)
+    options = ["--work", *lasting_options(known, given.keep), *gathering_options(known)]
     return await start_program(given.program, files, options)
 
 

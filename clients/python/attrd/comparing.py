@@ -63,9 +63,9 @@ class Comparison:
         self.moved_out: CounterOf[Node] = Counter()
         self.moved_in: CounterOf[Node] = Counter()
         self.pairs = self._run(old, new)
-        gone, come = self._alone() if moving else (Counter(), Counter())
-        both = gone & come
-        if both:
+        gone, come = self._alone() if moving else ([], [])
+        if not set(gone).isdisjoint(come):
+            both = Counter(gone) & Counter(come)
             self.moved_out, self.moved_in = Counter(both), Counter(both)
             self.pairs = self._run(old, new)
 
@@ -77,18 +77,18 @@ class Comparison:
             at += 1
         return pairs
 
-    def _alone(self) -> Tuple["CounterOf[Node]", "CounterOf[Node]"]:
+    def _alone(self) -> Tuple[List[Node], List[Node]]:
         """Elements in the old lists that aren't in the new ones as they are, and the other way round."""
-        gone: CounterOf[Node] = Counter()
-        come: CounterOf[Node] = Counter()
+        gone: List[Node] = []
+        come: List[Node] = []
         for pair in self.pairs:
             for change in pair.lists:
                 olds: Any = pair.old.cells[change.part]
-                gone.update(olds[it] for it in change.gone)
-                come.update(it for it in change.entries if isinstance(it, Node))
+                gone += [olds[it] for it in change.gone]
+                come += [it for it in change.entries if isinstance(it, Node)]
                 below = [it.pair for it in change.entries if isinstance(it, Kept) and it.pair is not None]
-                gone.update(it.old for it in below)
-                come.update(it.new for it in below)
+                gone += [it.old for it in below]
+                come += [it.new for it in below]
         return gone, come
 
     def _fill(self, pair: Pair) -> List[Pair]:
@@ -130,7 +130,7 @@ class Comparison:
         return [it.pair for it in change.entries if isinstance(it, Kept) and it.pair is not None]
 
     def _align(self, change: ListChange, olds: Sequence[Node], news: Sequence[Node]) -> None:
-        matches = longest_common(olds, news)
+        matches = [] if len(olds) == len(news) == 1 else longest_common(olds, news)
         i = j = 0
         for old, new in [*matches, (len(olds), len(news))]:
             self._gap(change, olds[i:old], news[j:new], change.front + i)

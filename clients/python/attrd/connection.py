@@ -5,7 +5,7 @@ import threading
 import time
 from collections import deque
 from types import TracebackType
-from typing import Callable, Deque, Dict, List, Optional, Set, Type, TypeVar
+from typing import Callable, Deque, Dict, List, Optional, Sequence, Set, Type, TypeVar
 
 from . import commands
 from .channel import Channel
@@ -17,6 +17,8 @@ from .terms import Node
 
 SESSIONS = 1_000
 HIGH_WATER = 1 << 16
+# How many lines of `send_all` are put together at a time.
+TOGETHER = 256
 # Where many replies are to come, a pause before each read takes many of them at once: waking for each costs more than its answer.
 MANY, PAUSE_A_REPLY, LONGEST_PAUSE = 16, 2e-6, 1e-3
 
@@ -34,12 +36,14 @@ class Pending:
         self._connection = connection
         self._reply: Optional[Reply] = None
         self._failure: Optional[AttrdError] = None
-        self._calls: List[Callable[[], None]] = []
+        self._calls: Optional[List[Callable[[], None]]] = None
 
     def when_answered(self, call: Callable[[], None]) -> None:
         """Calls this when the reply is here, or will never come: at once where that is so already."""
         if self.is_answered:
             call()
+        elif self._calls is None:
+            self._calls = [call]
         else:
             self._calls.append(call)
 
@@ -75,8 +79,8 @@ class Pending:
 
     def _settle(self, reply: Optional[Reply], failure: Optional[AttrdError] = None) -> None:
         self._reply, self._failure, self.received = reply, failure, time.perf_counter()
-        calls, self._calls = self._calls, []
-        for call in calls:
+        calls, self._calls = self._calls, None
+        for call in calls or ():
             call()
 
 
@@ -149,6 +153,20 @@ class Connection:
             if len(self._out) > HIGH_WATER:
                 self.settle(lambda: len(self._out) <= HIGH_WATER)
         return pending
+
+    def send_all(self, session: int, commands_of: Sequence[str]) -> List[Pending]:
+        """Sends so many lines, each without a version, and doesn't wait. Raises as `send`: LineFault before any of them is sent."""
+        lines = [encoded_line(f"{session} {it}") for it in commands_of]
+        sent = [Pending(self, session, it) for it in commands_of]
+        with self._lock:
+            for at in range(0, len(sent), TOGETHER):
+                if self._lost is not None:
+                    raise self._lost
+                self._waiting.extend(sent[at:at + TOGETHER])
+                self._out += b"".join(lines[at:at + TOGETHER])
+                if len(self._out) > HIGH_WATER:
+                    self.settle(lambda: len(self._out) <= HIGH_WATER)
+        return sent
 
     def send_wait(self, session: int, number: int) -> Pending:
         """Sends `wait` for a question, and has the reply of a line behind it; the pending reply of the `wait`. Raises as `send`.

@@ -224,9 +224,13 @@ class _Check:
 
     def tree(self, node: Node, wanted: str) -> None:
         left: List[Tuple[Any, str, Optional[Any]]] = [(node, wanted, None)]
+        passed: List[Node] = []
         while left:
             top, kind, above = left.pop()
             self.node(top, kind, above)
+            if top.fits(self.grammar):
+                continue
+            passed.append(top)
             parts = self.grammar.classes[top.name].parts
             if len(top.cells) != len(parts):
                 self.miss(above, f"{top.name} has {len(parts)} cells ({' '.join(map(str, parts)) or 'none'}), and {len(top.cells)} are given")
@@ -234,6 +238,8 @@ class _Check:
             for part, cell in zip(parts, top.cells):
                 below.extend(self.cell(part, cell, above))
             left.extend(reversed(below))
+        for it in passed:
+            it.found_to_fit(self.grammar)
 
     def node(self, node: Any, wanted: str, above: Any) -> None:
         known = self.grammar.classes.get(node.name)

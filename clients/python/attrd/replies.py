@@ -3,12 +3,16 @@ from __future__ import annotations
 
 from dataclasses import dataclass
 from enum import Enum, IntEnum
+from functools import lru_cache
 from typing import Callable, Dict, Optional, Tuple, Union
 
 from .errors import ProtocolFault, SyntaxFault
 from .lexical import is_name, read_quoted
 from .paths import Path
 from .terms import Node, read_term
+
+# Replies of so many bytes at most are kept, to be read once.
+SHORT = 200
 
 
 class Code(IntEnum):
@@ -220,9 +224,17 @@ def read_form(text: str) -> Reply:
 
 def read_reply(line: bytes) -> Tuple[Optional[int], Reply]:
     """The session of a reply, None for `?`, and the reply. Raises ProtocolFault where the line is none."""
+    return _read_short(line) if len(line) <= SHORT else _read(line)
+
+
+def _read(line: bytes) -> Tuple[Optional[int], Reply]:
     try:
         session, _, rest = line.decode("utf-8").partition(" ")
         number = None if session == "?" else int(session)
     except ValueError:
         raise ProtocolFault(f"no reply: {line[:100]!r}") from None
     return number, read_form(rest)
+
+
+# Replies never change, and most of them come again and again.
+_read_short = lru_cache(maxsize=1 << 12)(_read)

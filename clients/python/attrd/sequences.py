@@ -8,7 +8,8 @@ from .terms import Node
 
 Match = Tuple[int, int]
 
-BLOCK = 256
+# So many elements are compared together, first many and then fewer: equal ones are mostly the same ones, which takes no time.
+BLOCKS = (256, 16, 1)
 MATCHES = 200_000
 COMPARED = 1_024
 LOOKED_DEEP = 3
@@ -17,21 +18,21 @@ LOOKED_DEEP = 3
 def common_front(olds: Sequence[Any], news: Sequence[Any]) -> int:
     """How many elements at the front are equal, one by one."""
     at, end = 0, min(len(olds), len(news))
-    while at < end and olds[at:at + BLOCK] == news[at:at + BLOCK]:
-        at += BLOCK
-    at = min(at, end)
-    while at < end and olds[at] == news[at]:
-        at += 1
+    for block in BLOCKS:
+        while at + block <= end and olds[at:at + block] == news[at:at + block]:
+            at += block
     return at
 
 
 def common_end(olds: Sequence[Any], news: Sequence[Any], front: int) -> int:
     """How many elements at the end are equal, one by one, none of them within the front."""
     most, count = min(len(olds), len(news)) - front, 0
-    while count + BLOCK <= most and (olds[len(olds) - count - BLOCK:len(olds) - count] == news[len(news) - count - BLOCK:len(news) - count]):
-        count += BLOCK
-    while count < most and olds[len(olds) - count - 1] == news[len(news) - count - 1]:
-        count += 1
+    for block in BLOCKS:
+        while count + block <= most:
+            old, new = len(olds) - count, len(news) - count
+            if olds[old - block:old] != news[new - block:new]:
+                break
+            count += block
     return count
 
 
@@ -100,6 +101,8 @@ def pair_up(olds: Sequence[Node], news: Sequence[Node]) -> List[Match]:
     """Which of these nodes go together, in the same order: those of one class that have most in common."""
     if not olds or not news:
         return []
+    if len(olds) == len(news) == 1:
+        return [(0, 0)] if olds[0].name == news[0].name else []
     if len(olds) * len(news) <= COMPARED:
         return _best(olds, news)
     return _by_keys(olds, news, [_key, lambda it: it.name])

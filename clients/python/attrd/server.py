@@ -22,7 +22,7 @@ from .versions import VersionWarning, misfit
 KEPT = 400_000
 HELP_SECONDS = 30.0
 _VERSION = re.compile(r"attrd (\S+)\s*\Z")
-_OPTION = re.compile(r"--[a-z]+")
+_OPTION = re.compile(r"--[a-z]+(?:-[a-z]+)*")
 _REFUSED = re.compile(r"(?P<file>.*): (?P<code>[GJF][0-9]+) (?P<name>.*?)(?: at (?P<line>[0-9]+):(?P<column>[0-9]+))?\Z")
 
 
@@ -98,7 +98,7 @@ def known_options(program: Union[str, "os.PathLike[str]"]) -> FrozenSet[str]:
 
 
 def program_version(program: Union[str, "os.PathLike[str]"]) -> str:
-    """The version that the program tells, as 0.25. Raises AttrdError where it can't be started or tells none."""
+    """The version that the program tells, as 0.26. Raises AttrdError where it can't be started or tells none."""
     name = _path(program)
     found = _VERSION.match(_told(name, "--version"))
     if not found:
@@ -123,6 +123,11 @@ def _told(program: str, word: str) -> str:
     except (OSError, ValueError, UnicodeError, subprocess.TimeoutExpired) as fault:
         raise cannot_start(program, fault) from None
     return told.stdout.decode("utf-8", "replace")
+
+
+def gathering_options(known: FrozenSet[str]) -> List[str]:
+    """The option by which a program sends the replies to lines that come together on together, where it knows it."""
+    return ["--gather"] if "--gather" in known else []
 
 
 def lasting_options(known: FrozenSet[str], values: int = KEPT) -> List[str]:

@@ -113,13 +113,17 @@ class Session:
 
     def send(self, command: str, at: Optional[int] = None) -> Pending:
         """Sends a command (see `attrd.commands`), and doesn't wait. Marks that were let go of are forgotten first."""
+        self._forget_marks()
+        return self.connection.send(self.number, command, at)
+
+    def _forget_marks(self) -> None:
         while self._let_go:
             self.connection.send(self.number, commands.unmark(self._let_go.popleft()))
-        return self.connection.send(self.number, command, at)
 
     def send_all(self, lines: Iterable[str]) -> List[Pending]:
         """Sends so many commands, and doesn't wait. Any number may be under way: replies are read meanwhile."""
-        return [self.send(it) for it in lines]
+        self._forget_marks()
+        return self.connection.send_all(self.number, list(lines))
 
     def ask(self, place: Place, attribute: str, *arguments: Argument, at: Optional[int] = None) -> Answer:
         """The answer of a question: Value, Fault or Circular. A `str` argument is a text; a place is a Path or a mark."""

@@ -2,7 +2,7 @@
 from __future__ import annotations
 
 import re
-from typing import Any, Iterator, List, Optional, Tuple, Union
+from typing import Any, Iterator, List, Optional, Sequence, Tuple, Union
 
 from .errors import AttrdError, SyntaxFault, TermFault, text_of
 from .lexical import GREATEST_INT, LEAST_INT, TREE_DEPTH, is_name, quoted, quoted_bytes, read_quoted, utf8_bytes
@@ -21,7 +21,7 @@ class Node:
     No grammar is asked here: `Grammar.check` tells whether a tree fits one. Raises TermFault where a cell is none of these.
     """
 
-    __slots__ = ("name", "cells", "size", "depth", "length", "_hash")
+    __slots__ = ("name", "cells", "size", "depth", "length", "_hash", "_sums", "_fits")
 
     name: str
     cells: Tuple[Cell, ...]
@@ -29,6 +29,10 @@ class Node:
     depth: int
     length: int
     _hash: int
+    _sums: Optional[Tuple[Any, ...]]
+    """What is hashed of the cells, where one is a long list: of that the sum of its elements' hashes."""
+    _fits: object
+    """The grammar which all below this node was found to fit; None before that."""
 
     def __init__(self, name: str, *cells: Any) -> None:
         size, depth, length = 1, 0, utf8_bytes(text_of("the name of a class", name)) + 2 + max(0, len(cells) - 1)
@@ -48,7 +52,7 @@ class Node:
                     size += sum([it.size for it in cell])
                     depth = max(depth, max([it.depth for it in cell]))
                     length += sum([it.length for it in cell])
-                    hashed[-1] = tuple([it._hash for it in cell])
+                    hashed[-1] = sum([it._hash for it in cell])
                     continue
                 for element in cell:
                     size, depth, length = size + element.size, max(depth, element.depth), length + element.length
@@ -61,6 +65,40 @@ class Node:
         put(self, "depth", depth + 1)
         put(self, "length", length)
         put(self, "_hash", hash((name, *hashed)))
+        put(self, "_sums", tuple(hashed) if size > FEW and any(map(_is_long, taken)) else None)
+        put(self, "_fits", None)
+
+    def with_elements(self, part: int, front: int, end: int, between: Sequence[Node]) -> Node:
+        """The node with these elements in a list, between so many of its front and so many of its end: the same as made anew, but faster.
+
+        The list is the cell of that index. Raises TermFault where an element is no node."""
+        among: Any = self.cells[part]
+        come, gone = _elements(between), among[front:len(among) - end]
+        cell = among[:front] + come + among[len(among) - end:]
+        deepest = max([0, *(it.depth for it in come)])
+        sums = self._sums
+        if sums is None or not (_is_long(among) and _is_long(cell)) or any(deepest < it.depth == self.depth - 1 for it in gone):
+            return Node(self.name, *self.cells[:part], cell, *self.cells[part + 1:])
+        made = object.__new__(Node)
+        put = object.__setattr__
+        put(made, "name", self.name)
+        put(made, "cells", self.cells[:part] + (cell,) + self.cells[part + 1:])
+        put(made, "size", self.size + sum([it.size for it in come]) - sum([it.size for it in gone]))
+        put(made, "depth", max(self.depth, deepest + 1))
+        put(made, "length", self.length + sum([it.length + 1 for it in come]) - sum([it.length + 1 for it in gone]))
+        sums = sums[:part] + (sums[part] + sum([it._hash for it in come]) - sum([it._hash for it in gone]),) + sums[part + 1:]
+        put(made, "_hash", hash((self.name, *sums)))
+        put(made, "_sums", sums)
+        put(made, "_fits", None)
+        return made
+
+    def fits(self, grammar: object) -> bool:
+        """Whether all below this node is known to fit the grammar, as `found_to_fit` noted."""
+        return self._fits is grammar
+
+    def found_to_fit(self, grammar: object) -> None:
+        """Notes that all below this node fits the grammar: neither of them changes, so it isn't looked at again."""
+        object.__setattr__(self, "_fits", grammar)
 
     def __setattr__(self, name: str, value: object) -> None:
         raise AttrdError("a node can't be changed: make another one")
@@ -101,6 +139,10 @@ class Node:
             node = left.pop()
             yield node
             left.extend(reversed(list(node.below())))
+
+
+def _is_long(cell: Any) -> bool:
+    return type(cell) is tuple and len(cell) > FEW
 
 
 def _elements(cell: Any) -> Tuple[Node, ...]:

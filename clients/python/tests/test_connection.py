@@ -166,6 +166,18 @@ class Pipelining(ServerTest):
         self.assertEqual(line.version(), 0)
 
 
+class Together(ServerTest):
+    def test_lines_of_which_one_is_too_long_are_not_sent(self):
+        self.assertRaises(attrd.LineFault, self.session.send_all, ["drop /Block/Stmt:0", "show " + "/" * 70000])
+        self.assertEqual((self.server.unanswered, self.session.version()), (0, 0))
+
+    def test_replies_that_are_alike_belong_each_to_its_line(self):
+        lines = ["ask / nosuch()", "version", "drop /Block/Stmt:0", "version", "ask / nosuch()", "version"] * 300
+        replies = [str(it.reply()) for it in self.session.send_all(lines)]
+        self.assertEqual(replies[:6], ["refused 13 attribute", "ok 0", "ok 1", "ok 1", "refused 13 attribute", "ok 1"])
+        self.assertEqual([it for it in replies[6:] if it.startswith("refused 13")], ["refused 13 attribute"] * 598)
+
+
 class Lost(ServerTest):
     def test_a_server_that_is_killed(self):
         os.kill(self.server._channel.process.pid, signal.SIGSTOP)
@@ -230,12 +242,14 @@ class Starts(unittest.TestCase):
 
     def test_options_that_a_program_knows(self):
         known = attrd.known_options(PROGRAM)
-        self.assertLessEqual({"--socket", "--connections", "--slice", "--work", "--help"}, known)
+        self.assertLessEqual({"--socket", "--connections", "--slice", "--cut-off", "--work", "--help"}, known)
         self.assertEqual(attrd.lasting_options(frozenset(["--keep"]), 7), ["--keep", "7"])
         self.assertEqual(attrd.lasting_options(frozenset(["--work"])), [])
+        self.assertEqual(attrd.gathering_options(known), ["--gather"])
+        self.assertEqual(attrd.gathering_options(frozenset(["--work"])), [])
         for program in ("/nosuch/attrd", "nul\0l", 5):
             self.assertRaises(attrd.AttrdError, attrd.known_options, program)
-        with calculator(options=attrd.lasting_options(known)) as server:
+        with calculator(options=attrd.lasting_options(known) + attrd.gathering_options(known)) as server:
             self.assertEqual(server.session().value("/Block/Stmt:1/Expr", "value"), 3)
 
     def test_options(self):

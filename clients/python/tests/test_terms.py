@@ -7,6 +7,14 @@ from attrd import Node, Path
 from support import SAMPLES, Trees, calculator_grammar
 
 
+def small_tree(chance):
+    """A tree of a few nodes."""
+    node = Node("L", chance.randint(0, 3))
+    for _ in range(chance.randint(0, 5)):
+        node = Node("W", node, chance.choice(["a", "\u00e9", 'q"']))
+    return node
+
+
 class Terms(unittest.TestCase):
     def test_written_and_read(self):
         trees = Trees(calculator_grammar(), random.Random(1))
@@ -38,6 +46,27 @@ class Terms(unittest.TestCase):
         self.assertNotEqual(Node("A", ()), Node("A", None))
         self.assertEqual(Node("A", [Node("B")]), Node("A", (Node("B"),)))
         self.assertEqual(hash(Node("A", 1, "x")), hash(Node("A", 1, "x")))
+
+    def test_long_lists_that_are_changed_are_as_made_anew(self):
+        chance = random.Random(5)
+        for _ in range(1500):
+            before = chance.choice([(), (None,), ("x",), (small_tree(chance),)])
+            old = [small_tree(chance) for _ in range(chance.randint(0, 40))]
+            front = chance.randint(0, len(old))
+            end = chance.randint(0, len(old) - front)
+            between = [small_tree(chance) for _ in range(chance.randint(0, 4))]
+            made = Node("R", *before, old, 7).with_elements(len(before), front, end, between)
+            again = made.with_elements(len(before), front, end, between)
+            new = Node("R", *before, old[:front] + between + old[len(old) - end:], 7)
+            for it in (made, again):
+                self.assertEqual(it, new)
+                told = [(hash(tree), tree.size, tree.depth, tree.length, str(tree)) for tree in (it, new)]
+                self.assertEqual(*told)
+        self.assertRaises(attrd.TermFault, Node("R", [Node("L")]).with_elements, 0, 0, 0, ["x"])
+
+    def test_the_order_of_a_long_list_counts(self):
+        elements = [Node("L", it) for it in range(30)]
+        self.assertNotEqual(Node("R", elements), Node("R", elements[::-1]))
 
     def test_paths(self):
         for text in ("/", "/A", "/A:0/B/C:12"):
@@ -84,6 +113,24 @@ class Checks(unittest.TestCase):
             self.assertIn(reason, caught.exception.reason)
         for value in (Node("Num", 2 ** 31), Node("Use", "a" * 4097), Node("Use", "\ud800")):
             self.assertRaises(attrd.TermFault, self.grammar.check, value, "Expr")
+
+    def test_what_fitted_once_is_looked_at_again_where_it_stands_elsewhere(self):
+        grammar = attrd.Grammar.read("R ::= A* [B];\nabstract A;\nL : A ::= <Value:int>;\nB ::= A;\n")
+        other = attrd.Grammar.read("R ::= A* [B];\nabstract A;\nL : A ::= <Value:String>;\nB ::= A;\n")
+        leaf = Node("L", 1)
+        for _ in range(2):
+            grammar.check(Node("R", [leaf, leaf], Node("B", leaf)))
+        self.assertEqual(self.fault(grammar, Node("R", [leaf], leaf)), ("/B", "L is neither B nor below it"))
+        self.assertEqual(self.fault(grammar, Node("R", [leaf, Node("L", True)], None))[0], "/A:1/Value")
+        self.assertEqual(self.fault(grammar, Node("R", [Node("B", Node("L", "x"))], None))[0], "/A:0")
+        self.assertEqual(self.fault(other, Node("R", [leaf], None))[0], "/A:0/Value")
+        grammar.check(Node("R", [leaf], None))
+
+    def fault(self, grammar, tree):
+        """The place and the reason for which the tree is refused."""
+        with self.assertRaises(attrd.TermFault) as caught:
+            grammar.check(tree)
+        return caught.exception.path, caught.exception.reason
 
     def test_limits(self):
         many = Node("Program", Node("Block", [Node("Block", [])] * 65535))

@@ -19,6 +19,10 @@ CHECKS = Path(__file__).resolve().parent / "checks.jrag"
 CLASS = re.compile(r"class(?<!\wclass)\b")
 
 
+# The kinds that are there before all classes.
+BASIC = (Node("Basic", "int"), Node("Basic", "boolean"))
+
+
 class NoLanguage(Exception):
     """A folder has no language in it; the text says why."""
 
@@ -55,7 +59,7 @@ def in_folder(folder: Path) -> Language:
         triggers=(".",),
         title=title,
         is_name=is_name,
-        listed=Listed("Program", "Kind", "ClassDecl", (Node("Basic", "int"), Node("Basic", "boolean")), class_starts, read_front),
+        listed=Listed("Program", "Kind", "ClassDecl", BASIC, class_starts, read_front, is_by_line=True),
     )
 
 

@@ -37,7 +37,7 @@ TOKEN = re.compile(
 
 def wrong_token(sort: str, text: str) -> Optional[str]:
     """What is wrong with a token of that sort, and None where nothing is."""
-    if sort == "name" and len(text.encode()) > LONGEST_NAME:
+    if sort == "name" and len(text) * 4 > LONGEST_NAME and len(text.encode()) > LONGEST_NAME:
         return f"a name has at most {LONGEST_NAME} bytes"
     if sort == "number" and not is_number(text):
         return f"a number is digits, and at most {LARGEST_NUMBER}"
