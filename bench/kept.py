@@ -161,8 +161,8 @@ def lists(bounds: Bounds, program: str, folder: str, turns: int) -> None:
     """Edits of a long list."""
     least = edits(bounds, program, folder, turns, [ListTree(size) for size in SIZES], list_rows)
     front = least[-1]["an insert or a drop at its front"] / line_of(least)
-    told = bounds.at_most("an insert or a drop at the front", front, BEFORE["front"] / 20)
-    print(f"an insert or a drop at its front, with {SIZES[-1]:,} nodes: {told} `version` lines, a twentieth of what they were")
+    told = bounds.at_most("an insert or a drop at the front", front, BEFORE["front"] / 200)
+    print(f"an insert or a drop at its front, with {SIZES[-1]:,} nodes: {told} `version` lines, at most a two-hundredth of what they were")
 
 
 def filling(bounds: Bounds, program: str, folder: str) -> None:
