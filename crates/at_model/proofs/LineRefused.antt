@@ -4,7 +4,7 @@ use Rattle.std.specs.Prelude.{nat_eq, nat_lt, nat_le, count_by, option_map, opti
 use Rattle.std.specs.List.{slice_get, list_any, list_all, flat_map}
 use Rattle.std.proofs.lemmas.Bool.Decides.{nat_tests}
 use Rattle.at_model.specs.Classes.{Classes, Shape}
-use Rattle.at_model.specs.Trees.{Tree, class_of}
+use Rattle.at_model.specs.Trees.{Tree, class_of, nodes}
 use Rattle.at_model.specs.Trees as tree
 use Rattle.at_model.specs.Terms.{Term}
 use Rattle.at_model.specs.Paths.{Path, Node, tree_at, node_at, children_at, step_in}
@@ -12,7 +12,7 @@ use Rattle.at_model.specs.Run.{Value, Instance}
 use Rattle.at_model.specs.Run as run
 use Rattle.at_model.specs.Rules.{Rules, attribute_named}
 use Rattle.at_model.specs.Meaning.{Among}
-use Rattle.at_model.specs.Edits.{Edit, Refusal, edited, has_component, shape_at, class_asked, list_class, optional_class, token_kind}
+use Rattle.at_model.specs.Edits.{Edit, Refusal, edited, edited_within, left_by, has_component, shape_at, class_asked, list_class, optional_class, token_kind}
 use Rattle.at_model.specs.Edits as edit
 use Rattle.at_model.specs.Shaping.{names_classes, shaped}
 use Rattle.at_model.specs.Effects.{component_named}
@@ -21,13 +21,14 @@ use Rattle.at_model.specs.Replies.{Code}
 use Rattle.at_model.specs.Replies as code
 use Rattle.at_model.specs.Replies.{Written, At}
 use Rattle.at_model.specs.Machine.{State, Posted, Verdict, Refuses, Leaves, Edits, Asks, Posts, Waits, marked, is_marked, marks_used, node_named, node_below, value_named, each, fit_parameters, parameters_of, is_posted, code_of, max_marks, max_posted, is_edit, is_stale, changed, with_component, with_tree, obeyed, verdict}
-use Rattle.at_model.specs.Refusing.{number, rank, Breaks, places_in, Asked, component_asked, term_in, shape_named, HasComponent, class_for, tree_for, meant, ExpectsOther, IsRefusedAs, IsPastLast, MarksAgain, MarksTooMany, PostsTooMany, AsksNone, AsksAmiss, WaitsForNone, Applies}
+use Rattle.at_model.specs.Refusing.{number, rank, Breaks, places_in, Asked, component_asked, term_in, shape_named, HasComponent, class_for, tree_for, meant, ExpectsOther, IsRefusedAs, IsTooLarge, IsPastLast, MarksAgain, MarksTooMany, PostsTooMany, AsksNone, AsksAmiss, WaitsForNone, Applies}
 use Rattle.at_model.proofs.Options.{led, mapped, both, either_true, or_right}
 use Rattle.at_model.proofs.of_edits.Untouched.{tree_at-append}
 use Rattle.at_model.proofs.Chained.{nat_same}
 use Rattle.at_model.proofs.FirstGiven.{off_on}
 use Rattle.at_model.proofs.GrammarKept.{off_not}
 use Rattle.at_model.proofs.EditRefused.{first_refused, none_refused}
+use Rattle.at_model.proofs.of_edits.Larger.{within_edited, why_refused}
 
 none_some : {A : Type 0} (o : Option A) (a : A) → o ≡ None → o ≡ Some a → ⊥
 none_some None a e f = absurd cc
@@ -170,14 +171,26 @@ module _ (rules : Rules) (s : State) (session : ℕ) (expected : Option ℕ) (fr
       not_waiting : WaitsForNone s (line c) → ⊥
       not_waiting (which, is, x) = off_on false refl (sym (ap is_edit is) ∙ edits)
 
-      nothing : ((q : Refusal) → Breaks rules.classes s.tree e q → ⊥) → (s.version ≡ last_version → ⊥) → (d : Code) → Isnt c d
-      nothing h version = every c
+      not_large : nat_le (nodes (left_by s.tree e)) s.limit ≡ true → IsTooLarge rules s (line c) → ⊥
+      not_large few (f, m, b) =
+          let x : Some f ≡ Some e = sym m ∙ means in
+          let same : f ≡ e = cc in
+          off_on (nat_le (nodes (left_by s.tree e)) s.limit) (subst (λ z. nat_le (nodes (left_by s.tree z)) s.limit ≡ false) same b) few
+
+      nothing : ((q : Refusal) → Breaks rules.classes s.tree e q → ⊥) →
+          nat_le (nodes (left_by s.tree e)) s.limit ≡ true → (s.version ≡ last_version → ⊥) → (d : Code) → Isnt c d
+      nothing h few version = every c
           (none_before c 15 mk (λ l. pa) (λ l. co) (λ l. cl) (λ l x. elim x [ inl y ↦ tr y | inr y ↦ not_this edit.Fit (h edit.Fit) y ])
           (λ l. not_this edit.Index (h edit.Index))
           (λ l x. elim x [ inl y ↦ not_this edit.Taken (h edit.Taken) y | inr y ↦ not_again y ])
           (λ l. not_this edit.Fixed (h edit.Fixed))
           (λ l. not_this edit.Inside (h edit.Inside))
-          (λ l x. elim x [ inl y ↦ not_this edit.Limit (h edit.Limit) y | inr (inl y) ↦ version y.2 | inr (inr y) ↦ not_many y ])
+          (λ l x. elim x [
+            | inl y ↦ not_this edit.Limit (h edit.Limit) y
+            | inr (inl (inl y)) ↦ not_large few y
+            | inr (inl (inr y)) ↦ version y.2
+            | inr (inr y) ↦ not_many y
+          ])
           (λ l. not_asked)
           (λ l. not_amiss)
           (omega arith))
@@ -210,16 +223,42 @@ module _ (rules : Rules) (s : State) (session : ℕ) (expected : Option ℕ) (fr
       applies edit.Inside b = (e, means, b)
       applies edit.Limit b = inl (e, means, b)
 
-      at_version : (u : Tree) → edited rules.classes s.tree e ≡ Ok u → (b : Bool) → nat_eq s.version last_version ≡ b → Firstly c (if b then Refuses code.Limit else Edits e u)
-      at_version u f true g = told c code.Limit (inr (inl (e, means, nat_same s.version last_version g)), earlier 12 (past_itself 12) (λ q l. (none_refused rules.classes s.tree e u f).0 q))
-      at_version u f false g = (λ d h. absurd cc, λ no. nothing (none_refused rules.classes s.tree e u f).0 (λ same. off_on (nat_eq s.version last_version) g (grind (arith, nat_tests))))
+      by_last : (u : Tree) → nat_le (nodes (left_by s.tree e)) s.limit ≡ true →
+          ((q : Refusal) → Breaks rules.classes s.tree e q → ⊥) → (b : Bool) →
+          nat_eq s.version last_version ≡ b → Firstly c (if b then Refuses code.Limit else Edits e u)
+      by_last u few none true g =
+          told c code.Limit (inr (inl (inr (e, means, nat_same s.version last_version g))), earlier 12 (past_itself 12) (λ q l. none q))
+      by_last u few none false g =
+          (λ d h. absurd cc, λ no. nothing none few (λ same. off_on (nat_eq s.version last_version) g (grind (arith, nat_tests))))
 
-      by_result : (r : Result Tree Refusal) → edited rules.classes s.tree e ≡ r → Firstly c (elim r [ Err refusal ↦ Refuses (code_of refusal) | Ok t ↦ if nat_eq s.version last_version then Refuses code.Limit else Edits e t ])
-      by_result (Err r) f = let (b, before) = first_refused rules.classes s.tree e r f in told c (code_of r) (applies r b, earlier (rank r) (past_twelve r) before)
+      -- the edit is refused as it is anyhow, or leaves too many nodes
+      by_reason : (r : Refusal) →
+          (edited rules.classes s.tree e ≡ Err r) ⊎ ((u : Tree) × (r ≡ edit.Limit) × (edited rules.classes s.tree e ≡ Ok u) × (nat_le (nodes u) s.limit ≡ false)) →
+          Firstly c (Refuses (code_of r))
+      by_reason r (inl f) =
+          let (b, before) = first_refused rules.classes s.tree e r f in told c (code_of r) (applies r b, earlier (rank r) (past_twelve r) before)
+      by_reason r (inr (u, limit, made, many)) =
+          let (none, left) = none_refused rules.classes s.tree e u made in
+          let large = ap (λ (x : Tree). nat_le (nodes x) s.limit) left ∙ many in
+          subst (λ (x : Refusal). Firstly c (Refuses (code_of x))) (sym limit)
+          (told c code.Limit (inr (inl (inl (e, means, large))), earlier 12 (past_itself 12) (λ q l. none q)))
+
+      at_version : (u : Tree) → edited_within s.limit rules.classes s.tree e ≡ Ok u → (b : Bool) →
+          nat_eq s.version last_version ≡ b →
+          Firstly c (if b then Refuses code.Limit else Edits e u)
+      at_version u f b g =
+          let (made, small) = within_edited s.limit rules.classes s.tree e u f in
+          let (none, left) = none_refused rules.classes s.tree e u made in
+          let few = ap (λ (x : Tree). nat_le (nodes x) s.limit) left ∙ small in
+          by_last u few none b g
+
+      by_result : (r : Result Tree Refusal) → edited_within s.limit rules.classes s.tree e ≡ r →
+          Firstly c (elim r [ Err refusal ↦ Refuses (code_of refusal) | Ok t ↦ if nat_eq s.version last_version then Refuses code.Limit else Edits e t ])
+      by_result (Err r) f = by_reason r (why_refused s.limit rules.classes s.tree e r f)
       by_result (Ok u) f = at_version u f (nat_eq s.version last_version) refl
 
       edit_stage : Firstly c (changed rules.classes s e)
-      edit_stage = by_result (edited rules.classes s.tree e) refl
+      edit_stage = by_result (edited_within s.limit rules.classes s.tree e) refl
 
   -- what commands name --------------------------------------------------------------------------------------------------
 
@@ -345,6 +384,9 @@ module _ (rules : Rules) (s : State) (session : ℕ) (expected : Option ℕ) (fr
   no_edit : (c : Command) (r : Refusal) → meant rules.classes s session c ≡ None → IsRefusedAs rules s (line c) r → ⊥
   no_edit c r e (f, m, b) = none_some (meant rules.classes s session c) f e m
 
+  no_large : (c : Command) → meant rules.classes s session c ≡ None → IsTooLarge rules s (line c) → ⊥
+  no_large c e (f, m, b) = none_some (meant rules.classes s session c) f e m
+
   no_last : (c : Command) → meant rules.classes s session c ≡ None → IsPastLast rules s (line c) → ⊥
   no_last c e (f, m, b) = none_some (meant rules.classes s session c) f e m
 
@@ -360,7 +402,7 @@ module _ (rules : Rules) (s : State) (session : ℕ) (expected : Option ℕ) (fr
         (λ l y. elim y [ inl z ↦ no_edit c edit.Taken ed z | inr z ↦ ta l z ])
         (λ l. no_edit c edit.Fixed ed)
         (λ l. no_edit c edit.Inside ed)
-        (λ l y. elim y [ inl z ↦ no_edit c edit.Limit ed z | inr (inl z) ↦ no_last c ed z | inr (inr z) ↦ li l z ])
+        (λ l y. elim y [ inl z ↦ no_edit c edit.Limit ed z | inr (inl (inl z)) ↦ no_large c ed z | inr (inl (inr z)) ↦ no_last c ed z | inr (inr z) ↦ li l z ])
         at ar most,
   )
 
@@ -373,7 +415,7 @@ module _ (rules : Rules) (s : State) (session : ℕ) (expected : Option ℕ) (fr
       (λ l y. elim y [ inl z ↦ no_edit c edit.Taken ed z | inr z ↦ ta z ])
       (λ l. no_edit c edit.Fixed ed)
       (λ l. no_edit c edit.Inside ed)
-      (λ l y. elim y [ inl z ↦ no_edit c edit.Limit ed z | inr (inl z) ↦ no_last c ed z | inr (inr z) ↦ li z ])
+      (λ l y. elim y [ inl z ↦ no_edit c edit.Limit ed z | inr (inl (inl z)) ↦ no_large c ed z | inr (inl (inr z)) ↦ no_last c ed z | inr (inr z) ↦ li z ])
       (λ l. at)
       (λ l. ar)
       (omega arith))

@@ -28,25 +28,25 @@ component_named classes sound c part p is =
     (at_index (IsComponentSound (length classes)) (parts classes c) part p
     (in_each (IsComponentSound (length classes)) (own_of classes) (λ d. own_sound classes sound d (slice_get classes d) refl) (reverse (chain classes c))) is).name
 
-pub index_written : (shape : Shape) (i : ℕ) → i < 65536 → IsIndex (index_in shape i)
+pub index_written : (shape : Shape) (i : ℕ) → i < 16777216 → IsIndex (index_in shape i)
 index_written (One c) i small = tt
 index_written (Many c) i small = omega (arith, small)
 index_written (Maybe c) i small = tt
 index_written (Token kind) i small = tt
 
 module _ (classes : Classes) (sound : AreSound classes) where
-  step_can : (c : ℕ) (way : ℕ × ℕ) (s : Step) → way.1 < 65536 → step_of classes c way ≡ Some s → IsStep s
+  step_can : (c : ℕ) (way : ℕ × ℕ) (s : Step) → way.1 < 16777216 → step_of classes c way ≡ Some s → IsStep s
   step_can c way s small e =
       let (p, there, is) = mapped (λ (p : Component). record { part = p.name; index = index_in p.shape way.1 }) (slice_get (parts classes c) way.0) s e in
       subst IsStep is (component_named classes sound c way.0 p there, index_written p.shape way.1 small)
 
-  pub path_written : (t : Tree) (n : Node) (p : Path) → nodes t ≤ 65536 → path_of classes t n ≡ Some p → IsPath p
+  pub path_written : (t : Tree) (n : Node) (p : Path) → nodes t ≤ 16777216 → path_of classes t n ≡ Some p → IsPath p
   path_written t [] p few e = let same : [] ≡ p = cc in subst IsPath same tt
   path_written t (way ∷ ways) p few e =
       let (s, written, rest) = led (λ s. option_and_then (λ u. option_map (λ ss. s ∷ ss) (path_of classes u ways)) (slice_get (children_at t way.0) way.1)) (step_of classes (class_of t) way) p e in
       let (u, child, below) = led (λ u. option_map (λ ss. s ∷ ss) (path_of classes u ways)) (slice_get (children_at t way.0) way.1) p rest in
       let (ss, is, ends) = mapped (λ (ss : Path). s ∷ ss) (path_of classes u ways) p below in
       let inside = slice_get_within (children_at t way.0) way.1 u child in
-      let small : way.1 < 65536 = omega (arith, inside, children_few t way.0, few) in
-      let fewer : nodes u ≤ 65536 = omega (arith, child_smaller t u way.0 way.1 child, few) in
+      let small : way.1 < 16777216 = omega (arith, inside, children_few t way.0, few) in
+      let fewer : nodes u ≤ 16777216 = omega (arith, child_smaller t u way.0 way.1 child, few) in
       subst IsPath ends (step_can (class_of t) way s small written, path_written u ways ss fewer is)

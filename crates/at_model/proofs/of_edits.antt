@@ -7,6 +7,7 @@ pub mod Carried
 pub mod Moves
 pub mod Moved
 pub mod Edited
+pub mod Larger
 pub mod Surviving
 pub mod Conforming
 pub mod CarriedInstances

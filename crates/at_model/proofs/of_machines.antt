@@ -3,6 +3,7 @@ pub mod Machines
 pub mod Runs
 pub mod OneOutput
 pub mod Sound
+pub mod LimitKept
 pub mod WellKept
 pub mod Played
 pub mod Commanded

@@ -1,8 +1,8 @@
 -- What each refusal says of an edit and of a line, in words of its own, and which comes first. `Edits` and `Machine` have the tests.
-use Rattle.std.specs.Prelude.{◌≡◌, ◌⊎◌, ℕ, ◌≤◌, Bool, true, false, nat_eq, List, [], ◌∷◌, count_by, Option, Some, None, option_and_then, option_map, is_some, IsSome, map}
+use Rattle.std.specs.Prelude.{◌≡◌, ◌⊎◌, ℕ, ◌≤◌, Bool, true, false, nat_eq, nat_le, List, [], ◌∷◌, count_by, Option, Some, None, option_and_then, option_map, is_some, IsSome, map}
 use Rattle.std.specs.List.{flat_map}
 use Rattle.at_model.specs.Classes.{Classes, Shape}
-use Rattle.at_model.specs.Trees.{Tree, class_of}
+use Rattle.at_model.specs.Trees.{Tree, class_of, nodes}
 use Rattle.at_model.specs.Terms.{Term}
 use Rattle.at_model.specs.Paths.{Node, tree_at}
 use Rattle.at_model.specs.Run.{Value}
@@ -149,6 +149,10 @@ ExpectsOther expected version = (v : ℕ) × (expected ≡ Some v) × (v ≡ ver
 abbrev pub IsRefusedAs : Rules → State → Line → Refusal → Type 0
 IsRefusedAs rules s l r = (e : Edit) × (meant rules.classes s l.session l.command ≡ Some e) × Breaks rules.classes s.tree e r
 
+-- the line is an edit that would leave more nodes than the tree may have
+abbrev pub IsTooLarge : Rules → State → Line → Type 0
+IsTooLarge rules s l = (e : Edit) × (meant rules.classes s l.session l.command ≡ Some e) × (nat_le (nodes (left_by s.tree e)) s.limit ≡ false)
+
 -- the line is an edit of a tree of the last version
 abbrev pub IsPastLast : Rules → State → Line → Type 0
 IsPastLast rules s l = (e : Edit) × (meant rules.classes s l.session l.command ≡ Some e) × (s.version ≡ last_version)
@@ -209,7 +213,8 @@ Applies rules s l code.Index = IsRefusedAs rules s l edit.Index
 Applies rules s l code.Taken = IsRefusedAs rules s l edit.Taken ⊎ MarksAgain s l
 Applies rules s l code.Fixed = IsRefusedAs rules s l edit.Fixed
 Applies rules s l code.Inside = IsRefusedAs rules s l edit.Inside
-Applies rules s l code.Limit = IsRefusedAs rules s l edit.Limit ⊎ (IsPastLast rules s l ⊎ (MarksTooMany s l ⊎ PostsTooMany s l))
+Applies rules s l code.Limit =
+    IsRefusedAs rules s l edit.Limit ⊎ ((IsTooLarge rules s l ⊎ IsPastLast rules s l) ⊎ (MarksTooMany s l ⊎ PostsTooMany s l))
 Applies rules s l code.Attribute = AsksNone rules s l
 Applies rules s l code.Arguments = AsksAmiss rules s l
 Applies rules s l code.Question = WaitsForNone s l

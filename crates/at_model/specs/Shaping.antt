@@ -1,6 +1,6 @@
 -- Which tree a term is: its names looked up, its cells laid against the components.
-use Rattle.std.specs.Prelude.{◌≡◌, ℕ, ◌<◌, length, Bool, true, false, ◌&&◌, if◌then◌else◌, List, [], ◌∷◌, Option, Some, None, option_map, option_and_then}
-use Rattle.at_model.specs.Classes.{Classes, Component, Shape, parts, fits, is_concrete, class_of_name, name_of}
+use Rattle.std.specs.Prelude.{ℕ, Bool, true, false, ◌&&◌, if◌then◌else◌, List, [], ◌∷◌, Option, Some, None, option_map, option_and_then}
+use Rattle.at_model.specs.Classes.{Classes, Component, Shape, parts, fits, is_concrete, class_of_name}
 use Rattle.at_model.specs.Classes as class
 use Rattle.at_model.specs.Trees.{Tree, is_of_kind}
 use Rattle.at_model.specs.Trees as tree
@@ -55,7 +55,3 @@ abbrev mutual
   pub terms_shaped : Classes → Terms → ℕ → Option tree.Trees
   terms_shaped classes no_terms b = Some tree.no_trees
   terms_shaped classes (term t ts) b = option_and_then (λ u. option_map (λ us. tree.tree u us) (terms_shaped classes ts b)) (shaped classes t b)
-
--- each class is the first one of its name
-abbrev pub AreNamedApart : Classes → Type 0
-AreNamedApart classes = (c : ℕ) → c < length classes → class_of_name classes (name_of classes c) ≡ Some c

@@ -13,7 +13,7 @@ use Rattle.at_model.specs.Terms.{Term, term_of}
 use Rattle.at_model.specs.Paths.{Node, tree_at}
 use Rattle.at_model.specs.Run.{Instance, Value}
 use Rattle.at_model.specs.Rules.{Rules, attribute_named}
-use Rattle.at_model.specs.Edits.{Edit, edited, class_asked, shape_at, list_class, optional_class, token_kind}
+use Rattle.at_model.specs.Edits.{Edit, edited, edited_within, class_asked, shape_at, list_class, optional_class, token_kind}
 use Rattle.at_model.specs.Edits as edit
 use Rattle.at_model.specs.Shaping.{shaped, names_classes}
 use Rattle.at_model.specs.Lines.{Line, Place, Argument, Command, Ask, Set, Put, Drop, Insert, Token, Move, Show, Mark, Unmark, Where, Version, Post, Wait, last_version}
@@ -22,6 +22,7 @@ use Rattle.at_model.specs.Replies as code
 use Rattle.at_model.specs.Machine.{State, Marked, Posted, Verdict, Refuses, Leaves, Edits, Asks, Says, Step, after, verdict, obeyed, changed, with_component, with_tree, with_mark, code_of, is_edit, is_mark, is_marked, marked, max_marks, node_named, each, value_named, questioned, fit_parameters, parameters_of, carried_marks, carried_posted, is_posted}
 use Rattle.at_model.specs.Effects.{IsEditOf, set, put, drop, insert, token, move, component_named, changes_mark, is_about_mark, is_marking, is_question, is_post}
 use Rattle.at_model.proofs.of_edits.Changes.{if_both, at_option, node_all, post_all, new_post, whole}
+use Rattle.at_model.proofs.of_edits.Larger.{within_edited}
 use Rattle.at_model.proofs.Options.{led, both, and_true, not_true}
 use Rattle.at_model.proofs.of_texts.Shaped.{shaped_conforms}
 
@@ -39,16 +40,18 @@ module _ (rules : Rules) (s : State) (session : ℕ) where
   abbrev pub Changes : Command → Verdict → Type 0
   Changes c v = IsChangeOf rules.classes s session c v
 
-  accepts : (c : Command) (e : Edit) → IsEditOf rules.classes s session c e → (r : Result Tree edit.Refusal) → edited rules.classes s.tree e ≡ r →
+  accepts : (c : Command) (e : Edit) → IsEditOf rules.classes s session c e → (r : Result Tree edit.Refusal) →
+      edited_within s.limit rules.classes s.tree e ≡ r →
       Changes c (elim r [
         | Err refusal ↦ Refuses (code_of refusal)
         | Ok t ↦ if nat_eq s.version last_version then Refuses code.Limit else Edits e t
       ])
   accepts c e asked (Err refusal) is = refused (code_of refusal)
-  accepts c e asked (Ok t) is = if_both (Changes c) (nat_eq s.version last_version) _ _ (refused code.Limit) (accepted e t asked is)
+  accepts c e asked (Ok t) is = if_both (Changes c) (nat_eq s.version last_version) _ _ (refused code.Limit)
+      (accepted e t asked (within_edited s.limit rules.classes s.tree e t is).0)
 
   changes : (c : Command) (e : Edit) → IsEditOf rules.classes s session c e → Changes c (changed rules.classes s e)
-  changes c e asked = accepts c e asked (edited rules.classes s.tree e) refl
+  changes c e asked = accepts c e asked (edited_within s.limit rules.classes s.tree e) refl
 
   node_is : (c : Command) (place : Place) (k : Node → Verdict) → ((n : Node) → node_named rules.classes s session place ≡ Some n → Changes c (k n)) → Changes c (elim (node_named rules.classes s session place) [ None ↦ Refuses code.Path | Some n ↦ k n ])
   node_is c place k h = at_some (Changes c) refused (node_named rules.classes s session place) code.Path k h

@@ -52,9 +52,9 @@ found_counted number (x ∷ qs) q e = by (nat_eq number x.number) refl e (found_
     by false is f rest = let (c, g, h) = rest f in (c, rw (is, is) g, h)
 
 -- what becomes of a question's words rests on the tree and the marks alone
-module _ (rules : Rules) (s : State) (version posts : ℕ) (ps : List Posted) where
+module _ (rules : Rules) (s : State) (limit version posts : ℕ) (ps : List Posted) where
   abbrev there : State
-  there = record s { version = version; posts = posts; posted = ps }
+  there = record s { limit = limit; version = version; posts = posts; posted = ps }
 
   node_same : (session : ℕ) (place : Place) → node_named rules.classes there session place ≡ node_named rules.classes s session place
   node_same session (From_root path) = refl
@@ -77,14 +77,15 @@ module _ (rules : Rules) (s : State) (version posts : ℕ) (ps : List Posted) wh
       let F : Option Node → Option (List (Value Node)) → Verdict = λ o vs. elim o [ None ↦ Refuses code.Path | Some n ↦ elim vs [ None ↦ Refuses code.Path | Some ws ↦ questioned rules s.tree n attribute ws ] ] in
       ap (λ o. F o (each (map (value_named rules.classes there session) as'))) (node_same session place) ∙ ap (F (node_named rules.classes s session place)) (values_same session as')
 
-words_same : (rules : Rules) (s : State) (version posts : ℕ) (ps : List Posted) (q : Posted) → verdict rules (seen_by q (record s { version = version; posts = posts; posted = ps })) (line_of q) ≡ verdict rules (seen_by q s) (line_of q)
-words_same rules s version posts ps q =
+words_same : (rules : Rules) (s : State) (limit version posts : ℕ) (ps : List Posted) (q : Posted) →
+    verdict rules (seen_by q (record s { limit = limit; version = version; posts = posts; posted = ps })) (line_of q) ≡ verdict rules (seen_by q s) (line_of q)
+words_same rules s limit version posts ps q =
     let used = list_all (is_marked q.marks q.session) (marks_used (Ask q.place q.attribute q.arguments)) in
-    ap (λ v. if not used then Refuses code.Mark else v) (obeyed_same rules (seen_by q s) version posts ps q.session q.place q.attribute q.arguments)
+    ap (λ v. if not used then Refuses code.Mark else v) (obeyed_same rules (seen_by q s) limit version posts ps q.session q.place q.attribute q.arguments)
 
 pub words_judged : (rules : Rules) (s t : State) (q : Posted) → t.tree ≡ s.tree → verdict rules (seen_by q t) (line_of q) ≡ verdict rules (seen_by q s) (line_of q)
 words_judged rules s t q e =
-    ap (λ (u : Tree). verdict rules (record { tree = u; version = t.version; marks = q.marks; posts = t.posts; posted = t.posted }) (line_of q)) e ∙ words_same rules s t.version t.posts t.posted q
+    ap (λ (u : Tree). verdict rules (record { tree = u; limit = t.limit; version = t.version; marks = q.marks; posts = t.posts; posted = t.posted }) (line_of q)) e ∙ words_same rules s t.limit t.version t.posts t.posted q
 
 says_same : (rules : Rules) (s : State) (ps : List Posted) (v : Verdict) (form : Form) → Says rules (record s { posted = ps }) v form → Says rules s v form
 says_same rules s ps (Refuses refusal) form h = h
@@ -98,7 +99,7 @@ says_same rules s ps (Waits number) form h = h
 told_same : (rules : Rules) (s : State) (ps : List Posted) (q : Posted) (form : Form) → AnswersPosted rules (record s { posted = ps }) q form → AnswersPosted rules s q form
 told_same rules s ps q form h =
     let t = seen_by q s in
-    let same : verdict rules (record t { posted = ps }) (line_of q) ≡ verdict rules t (line_of q) = words_same rules s s.version s.posts ps q in
+    let same : verdict rules (record t { posted = ps }) (line_of q) ≡ verdict rules t (line_of q) = words_same rules s s.limit s.version s.posts ps q in
     says_same rules t ps (verdict rules t (line_of q)) form (subst (λ v. Says rules (record t { posted = ps }) v form) same h)
 
 same_some : {A : Type 0} {a b : A} → Some a ≡ Some b → a ≡ b

@@ -20,7 +20,7 @@ use Rattle.at_model.proofs.PathsBack.{path_back}
 use Rattle.at_model.proofs.of_edits.Changes.{whole}
 use Rattle.at_model.proofs.of_machines.Sound.{leads-found}
 
-at_most : (a : ℕ) → nat_le a 65536 ≡ true → a ≤ 65536
+at_most : (a : ℕ) → nat_le a 16777216 ≡ true → a ≤ 16777216
 at_most a e = grind (arith, nat_tests)
 
 some_tree : (o : Option Tree) → IsSome o → (u : Tree) × (o ≡ Some u)
@@ -49,7 +49,7 @@ module _ (rules : Rules) (s : State) (apart : ArePartsApart rules.classes) (soun
       let same : path_to rules.classes s.tree n ≡ path = cc in
       let back : p ≡ path = sym (ap (λ o. unwrap_or o []) written) ∙ same in
       let few = both (nat_le (nodes s.tree) max_nodes && nat_le (depth s.tree) max_depth) (tokens_short s.tree) sound.tree_within in
-      let small : nodes s.tree ≤ 65536 = at_most (nodes s.tree) (both (nat_le (nodes s.tree) max_nodes) (nat_le (depth s.tree) max_depth) few.0).0 in
+      let small : nodes s.tree ≤ 16777216 = at_most (nodes s.tree) (both (nat_le (nodes s.tree) max_nodes) (nat_le (depth s.tree) max_depth) few.0).0 in
       (n, is, subst (λ (x : Path). node_at rules.classes s.tree x ≡ Some n) back read, λ named. subst IsPath back (path_written rules.classes named s.tree n p small written))
 
 pub where_step : (rules : Rules) (old : State) (l : Line) (new : State) (reply : Reply) (name : List ℕ) (path : Path) → ArePartsApart rules.classes → IsSound rules.classes old → l.command ≡ Where name → Step rules old l new reply →

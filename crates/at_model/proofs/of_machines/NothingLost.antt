@@ -17,6 +17,7 @@ use Rattle.at_model.proofs.WithinTree.{demands_stay}
 use Rattle.at_model.proofs.of_machines.WellAsked.{well_asked, well_there}
 use Rattle.at_model.proofs.of_edits.CarriedInstances.{instance_carried, instance_there}
 use Rattle.at_model.proofs.of_machines.KeptOverLines.{sound_heard, sound_over, kept_next}
+use Rattle.at_model.proofs.of_edits.Larger.{within_edited}
 
 -- all of these are instances of nodes of the tree
 abbrev pub AreThere : Tree → (Instance Node → Type 0) → Type 0
@@ -33,7 +34,8 @@ module _ (rules : Rules) (s : State) (Kept : Instance Node → Type 0) (sound : 
     | inl kept ↦ there i kept
     | inr worth ↦ demands_stay rules s.tree q i (well_there rules s.tree q (well_asked rules s l q is)) worth.reached
   ]
-  there_by l v is (edits e t made) = λ j (i, kept, free, like). instance_there rules s.tree t e made sound.tree_conforms i j like (there i kept)
+  there_by l v is (edits e t made) = λ j (i, kept, free, like).
+      instance_there rules s.tree t e (within_edited s.limit rules.classes s.tree e t made).0 sound.tree_conforms i j like (there i kept)
 
   there_heard : (l : Option Line) → AreThere (after s (heard rules s l)).tree (KeptAfter rules s (heard rules s l) Kept)
   there_heard None = there
@@ -54,7 +56,11 @@ made_by rules s e t v (left marks lead) is = absurd cc
 made_by rules s e t v (asked q) is = absurd cc
 made_by rules s e t v (posts q lead) is = absurd cc
 made_by rules s e t v (waited number) is = absurd cc
-made_by rules s e t v (edits by u made) is = let same : by ≡ e = cc in let also : u ≡ t = cc in subst (λ x. edited rules.classes s.tree e ≡ Ok x) also (subst (λ x. edited rules.classes s.tree x ≡ Ok u) same made)
+made_by rules s e t v (edits by u made) is =
+    let same : by ≡ e = cc in
+    let also : u ≡ t = cc in
+    let accepted = (within_edited s.limit rules.classes s.tree by u made).0 in
+    subst (λ x. edited rules.classes s.tree e ≡ Ok x) also (subst (λ x. edited rules.classes s.tree x ≡ Ok u) same accepted)
 
 made_heard : (rules : Rules) (s : State) (l : Option Line) (e : Edit) (t : Tree) → IsSound rules.classes s → heard rules s l ≡ Edits e t → edited rules.classes s.tree e ≡ Ok t
 made_heard rules s None e t sound is = absurd cc

@@ -11,7 +11,7 @@ use Rattle.at_model.specs.Paths.{Node, tree_at}
 use Rattle.at_model.specs.Run.{Value}
 use Rattle.at_model.specs.Rules.{Rules}
 use Rattle.at_model.specs.Meaning.{Among, Distinct}
-use Rattle.at_model.specs.Edits.{Edit, carried, edited}
+use Rattle.at_model.specs.Edits.{Edit, carried, edited_within}
 use Rattle.at_model.specs.Edits as edit
 use Rattle.at_model.specs.Lines.{Line, Place, Argument, Command, Ask, Set, Put, Drop, Insert, Token, Move, Show, Mark, Unmark, Where, Version, Post, Wait, last_version, last_post}
 use Rattle.at_model.specs.Replies.{Reply, Code}
@@ -227,7 +227,7 @@ module _ (rules : Rules) (s : State) (orderly : IsOrderly s) where
   by_result e (Ok t) = next (nat_eq s.version last_version) refl e t
 
   by_edit : (e : Edit) → Leads (changed rules.classes s e)
-  by_edit e = by_result e (edited rules.classes s.tree e)
+  by_edit e = by_result e (edited_within s.limit rules.classes s.tree e)
 
   by_question : (n : Node) (name : List ℕ) (vs : List (Value Node)) → Leads (questioned rules s.tree n name vs)
   by_question n name vs = at_option Leads stays _ code.Attribute _ (λ a. if_both Leads (fit_parameters rules.classes s.tree (parameters_of rules a) vs) _ _ (ends _ orderly) (ends _ orderly))

@@ -7,7 +7,7 @@ use Rattle.at_model.specs.Trees.{Tree, class_of, conforms}
 use Rattle.at_model.specs.Paths.{Path, Node, children_at, tree_at, step_in, node_at}
 use Rattle.at_model.specs.Run.{Instance, Value}
 use Rattle.at_model.specs.Rules.{Rules, attribute_named}
-use Rattle.at_model.specs.Edits.{Edit, carried, edited}
+use Rattle.at_model.specs.Edits.{Edit, carried, edited, edited_within}
 use Rattle.at_model.specs.Lines.{Line, Place, From_root, From_mark, Command, Ask, Set, Put, Drop, Insert, Token, Move, Show, Mark, Unmark, Where, Version, Post, Wait}
 use Rattle.at_model.specs.Replies.{Reply, Code, Shown}
 use Rattle.at_model.specs.Replies as code
@@ -17,6 +17,7 @@ use Rattle.at_model.proofs.of_edits.Untouched.{tree_at-append}
 use Rattle.at_model.proofs.of_edits.Edited.{accepted_conforms, carried_there}
 use Rattle.at_model.proofs.of_machines.Machines.{waited as when_waited}
 use Rattle.at_model.proofs.of_edits.Changes.{IsChange, refused as change_refused, accepted, if_both, at_option, node_all, post_all, edit_changes, whole}
+use Rattle.at_model.proofs.of_edits.Larger.{within_edited}
 
 -- the mark leads to a node of the tree
 abbrev pub Leads : Tree → Marked → Type 0
@@ -125,7 +126,7 @@ pub data Safe (classes : Classes) (s : State) : Verdict → Type 0 where
   told : (shown : Shown) → Safe classes s (Tells shown)
   asked : (q : Instance Node) → Safe classes s (Asks q)
   left : (marks : List Marked) → AllByRecursion (Leads s.tree) marks → Safe classes s (Leaves marks)
-  edits : (e : Edit) (t : Tree) → edited classes s.tree e ≡ Ok t → Safe classes s (Edits e t)
+  edits : (e : Edit) (t : Tree) → edited_within s.limit classes s.tree e ≡ Ok t → Safe classes s (Edits e t)
   posts : (q : Posted) → PostedLeads s.tree q → Safe classes s (Posts q)
   waited : (number : ℕ) → Safe classes s (Waits number)
 
@@ -165,11 +166,20 @@ module _ (rules : Rules) (s : State) (sound : IsSound rules.classes s) where
   sound_after v (refused c) = sound
   sound_after v (told shown) = sound
   sound_after v (asked q) = sound
-  sound_after v (left marks lead) = record { tree_conforms = sound.tree_conforms; tree_within = sound.tree_within; marks_lead = lead; posted_lead = sound.posted_lead }
+  sound_after v (left marks lead) =
+      record { tree_conforms = sound.tree_conforms; tree_within = sound.tree_within; tree_allowed = sound.tree_allowed; marks_lead = lead; posted_lead = sound.posted_lead }
   sound_after v (edits e t is) =
-      let both = accepted_conforms rules.classes s.tree e t sound.tree_conforms is in
-      record { tree_conforms = both.0; tree_within = both.1; marks_lead = leads-carried rules.classes s.tree t e sound.tree_conforms is s.marks sound.marks_lead; posted_lead = posted-carried rules.classes s.tree t e sound.tree_conforms is s.posted sound.posted_lead }
-  sound_after v (posts q lead) = record { tree_conforms = sound.tree_conforms; tree_within = sound.tree_within; marks_lead = sound.marks_lead; posted_lead = posted-append s.tree s.posted q sound.posted_lead lead }
+      let (made, few) = within_edited s.limit rules.classes s.tree e t is in
+      let both = accepted_conforms rules.classes s.tree e t sound.tree_conforms made in
+      record {
+        tree_conforms = both.0;
+        tree_within = both.1;
+        tree_allowed = few;
+        marks_lead = leads-carried rules.classes s.tree t e sound.tree_conforms made s.marks sound.marks_lead;
+        posted_lead = posted-carried rules.classes s.tree t e sound.tree_conforms made s.posted sound.posted_lead;
+      }
+  sound_after v (posts q lead) =
+      record { tree_conforms = sound.tree_conforms; tree_within = sound.tree_within; tree_allowed = sound.tree_allowed; marks_lead = sound.marks_lead; posted_lead = posted-append s.tree s.posted q sound.posted_lead lead }
   sound_after v (waited number) = sound
 
   pub sound_line : (l : Line) → IsSound rules.classes (after s (verdict rules s l))
@@ -177,7 +187,8 @@ module _ (rules : Rules) (s : State) (sound : IsSound rules.classes s) where
 
 -- a question is no longer open, or was given a turn
 without_sound : (classes : Classes) (s : State) (number : ℕ) → IsSound classes s → IsSound classes (without number s)
-without_sound classes s number sound = record { tree_conforms = sound.tree_conforms; tree_within = sound.tree_within; marks_lead = sound.marks_lead; posted_lead = posted-filter s.tree (λ q. not (nat_eq number q.number)) s.posted sound.posted_lead }
+without_sound classes s number sound =
+    record { tree_conforms = sound.tree_conforms; tree_within = sound.tree_within; tree_allowed = sound.tree_allowed; marks_lead = sound.marks_lead; posted_lead = posted-filter s.tree (λ q. not (nat_eq number q.number)) s.posted sound.posted_lead }
 
 counted_leads : (t : Tree) (number : ℕ) (q : Posted) → PostedLeads t q → PostedLeads t (counted number q)
 counted_leads t number q h = by_test (nat_eq number q.number)
@@ -191,7 +202,8 @@ posted-counted t number [] h = tt
 posted-counted t number (q ∷ qs) h = (counted_leads t number q h.0, posted-counted t number qs h.1)
 
 pub sound_turn : (rules : Rules) (old : State) (number : ℕ) (new : State) (o : Option (Bool × Reply)) → IsSound rules.classes old → Turns rules old number new o → IsSound rules.classes new
-sound_turn rules old number _ _ sound (stays q is) = record { tree_conforms = sound.tree_conforms; tree_within = sound.tree_within; marks_lead = sound.marks_lead; posted_lead = posted-counted old.tree number old.posted sound.posted_lead }
+sound_turn rules old number _ _ sound (stays q is) =
+    record { tree_conforms = sound.tree_conforms; tree_within = sound.tree_within; tree_allowed = sound.tree_allowed; marks_lead = sound.marks_lead; posted_lead = posted-counted old.tree number old.posted sound.posted_lead }
 sound_turn rules old number _ _ sound (answers q form is a) = without_sound rules.classes old number sound
 sound_turn rules old number _ _ sound (runs_out q is) = without_sound rules.classes old number sound
 

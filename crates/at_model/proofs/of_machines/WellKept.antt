@@ -20,6 +20,7 @@ use Rattle.at_model.proofs.of_edits.Edited.{carried_apart}
 use Rattle.at_model.proofs.of_edits.Edited.{edited_alike}
 use Rattle.at_model.proofs.of_edits.Changes.{whole}
 use Rattle.at_model.proofs.of_machines.Sound.{Safe, refused, told, asked, left, edits, posts, waited, safe}
+use Rattle.at_model.proofs.of_edits.Larger.{within_edited}
 
 walks-append : {N : Type 0} (look : Contents N) (equation : Equations N) (i j k : Instance N) (is js : List (Instance N)) → Walks look equation i is j → Walks look equation j js k → Walks look equation i (is ++ j ∷ js) k
 walks-append look equation i j k [] js h g = (h, g)
@@ -91,7 +92,8 @@ module _ (rules : Rules) (s : State) (Kept : Instance Node → Type 0) (well : A
   well_after sound v (left marks lead) = well
   well_after sound v (posts q lead) = well
   well_after sound v (waited number) = well
-  well_after sound v (edits e u made) = well_edited sound.tree_conforms e u made
+  well_after sound v (edits e u made) =
+      well_edited sound.tree_conforms e u (within_edited s.limit rules.classes s.tree e u made).0
 
 pub kept_well : (rules : Rules) (s : State) (l : Line) (Kept : Instance Node → Type 0) → IsSound rules.classes s → AreWellKept rules s.tree Kept → AreWellKept rules (after s (verdict rules s l)).tree (KeptAfter rules s (verdict rules s l) Kept)
 kept_well rules s l Kept sound well = well_after rules s Kept well sound (verdict rules s l) (whole (Safe rules.classes s) refused rules s l (safe rules s sound l.session l.command))

@@ -5,12 +5,12 @@ use Rattle.std.specs.Str.{bytes_eq}
 use Rattle.std.proofs.lemmas.List.Quantifiers.{position-Some}
 use Rattle.std.proofs.lemmas.Option.{slice_get-get_or, slice_get_within}
 use Rattle.std.proofs.lemmas.Slice.Eq.{bytes_eq-Decides}
-use Rattle.at_model.specs.Classes.{Classes, Class, Component, Shape, parts, fits, is_sub, is_concrete, name_of, class_of_name}
+use Rattle.at_model.specs.Classes.{AreNamedApart, Classes, Class, Component, Shape, parts, fits, is_sub, is_concrete, name_of, class_of_name}
 use Rattle.at_model.specs.Classes as class
 use Rattle.at_model.specs.Trees.{Tree, is_of_kind, conforms, cells_conform, cell_conforms, trees_conform}
 use Rattle.at_model.specs.Trees as tree
 use Rattle.at_model.specs.Terms.{Term, Cells, Cell, Terms, Node, no_cells, cell, One, Many, Empty, Holds, no_terms, term, term_of, cells_of, cell_of, terms_of}
-use Rattle.at_model.specs.Shaping.{shaped, cells_shaped, cell_shaped, terms_shaped, names_classes, cells_name_classes, cell_names_classes, terms_name_classes, AreNamedApart}
+use Rattle.at_model.specs.Shaping.{shaped, cells_shaped, cell_shaped, terms_shaped, names_classes, cells_name_classes, cell_names_classes, terms_name_classes}
 use Rattle.at_model.proofs.Options.{both, and_true, led, mapped, if_some, if_true}
 
 no_class : Class
