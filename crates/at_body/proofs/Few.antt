@@ -2,6 +2,6 @@
 use Rattle.std.proofs.Common.{ℕ, ◌≤◌}
 use Rattle.at_body.specs.Size.{most}
 
-pub few : (n : ℕ) → n ≤ 65536 → n ≤ most
+pub few : (n : ℕ) → n ≤ 16777216 → n ≤ most
 unfolding most
 few n h = h

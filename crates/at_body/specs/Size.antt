@@ -4,7 +4,7 @@ use Rattle.at_model.specs.Bodies.{Expr, Exprs, no_exprs, expr, Negate, Not, Arit
 
 -- the most children that a component has
 unfoldable pub most : ℕ
-most = 65536
+most = 16777216
 
 -- a fold over so many nodes
 abbrev pub tests : ℕ → ℕ → ℕ

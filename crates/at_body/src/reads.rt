@@ -30,13 +30,6 @@ impl Reads {
         }
     }
 
-    /// Those of a list.
-    pub(crate) fn of(items: Vec<Loc>) -> Self
-        ensures { result ≡ map loc_view items.items }
-    {
-        Reads { items }
-    }
-
     /// Takes all out; their memory stays.
     pub fn clear(&mut self)
         ensures { self.new ≡ [] }

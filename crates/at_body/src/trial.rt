@@ -115,11 +115,6 @@ impl<'a> Trial<'a> {
         mem::replace(&mut self.reads, Reads::new(alloc)).into_vec()
     }
 
-    /// Puts a list there, in whose memory it notes what it looks at once it begins anew. What is in it counts for nothing.
-    pub fn lend(&mut self, reads: Vec<Loc>) {
-        self.reads = Reads::of(reads);
-    }
-
     /// Goes on up to the end or to a demand.
     pub(crate) fn advance(
         &mut self,

@@ -167,7 +167,7 @@ impl Value {
 
     /// A number of nodes as an int.
     pub fn of_count(count: usize) -> Value
-        requires { count ≤ 65536 }
+        requires { count ≤ 16777216 }
         ensures { value_view result ≡ Int (pos count) }
     {
         Value::Int(count as i32)

@@ -6,7 +6,8 @@ use Rattle.at_model.specs.Paths.{IsPath, IsStep, Path, Step, index_in}
 use Rattle.at_model.proofs.PathsWritten.{index_written}
 
 -- one more step by a component
-pub step_written : (front : Path) (p : Component) (i : ℕ) (s : Step) → IsPath front → IsName p.name → i < 65536 → s ≡ record { part = p.name; index = index_in p.shape i } → IsPath (front ++ s ∷ [])
+pub step_written : (front : Path) (p : Component) (i : ℕ) (s : Step) → IsPath front → IsName p.name → i < 16777216 →
+    s ≡ record { part = p.name; index = index_in p.shape i } → IsPath (front ++ s ∷ [])
 step_written front p i s written named small is = longer front written
   where
     last : IsStep s

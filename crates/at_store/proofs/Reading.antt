@@ -63,24 +63,26 @@ shown_there s k n p =
     (u, is, number, relabelled-tree_at f (numbers s) n ∙ ap (option_map (relabel f)) is)
 
 -- a node has as many children as the limits allow, in any memory that keeps the tree
-pub few_kept : (s : Shown) → IsIdle s → (memory : ℕ → Option Info) → Keeps memory (numbers s) None → (n : Node) (u : Tree) → tree_at (numbers s) n ≡ Some u → (part : ℕ) → length (kids_in (memory (class_of u)) part) ≤ 65536
+pub few_kept : (s : Shown) → IsIdle s → (memory : ℕ → Option Info) → Keeps memory (numbers s) None →
+    (n : Node) (u : Tree) → tree_at (numbers s) n ≡ Some u → (part : ℕ) →
+    length (kids_in (memory (class_of u)) part) ≤ 16777216
 few_kept s h memory keeps n u is part =
     let same : length (kids_in (memory (class_of u)) part) ≡ length (children_at u part) = ap length (kids_kept memory (numbers s) keeps n u is part) ∙ length-map (children_at u part) class_of in
     omega (arith, same, children_fewer u part, below_smaller (numbers s) n u is, nodes_relabelled (class_in (memory_of s.slab)) (numbers s), within_nodes (tree s) h.limits)
 
-pub few_children : (s : Shown) → IsIdle s → (k part : ℕ) → length (kids_in (memory_of s.slab k) part) ≤ 65536
+pub few_children : (s : Shown) → IsIdle s → (k part : ℕ) → length (kids_in (memory_of s.slab k) part) ≤ 16777216
 few_children s h k part = by_path (path s k) refl
   where
-    by_path : (o : Option Node) → path s k ≡ o → length (kids_in (memory_of s.slab k) part) ≤ 65536
+    by_path : (o : Option Node) → path s k ≡ o → length (kids_in (memory_of s.slab k) part) ≤ 16777216
     by_path None e = let none : length (kids_in (memory_of s.slab k) part) ≡ 0 = ap (λ o. length (kids_in o part)) (absent (memory_of s.slab) (numbers s) h.keeps k e) in omega (arith, none)
     by_path (Some n) e =
         let (u, is, number) = number_found (numbers s) k n e in
-        subst (λ (j : ℕ). length (kids_in (memory_of s.slab j) part) ≤ 65536) number (few_kept s h (memory_of s.slab) h.keeps n u is part)
+        subst (λ (j : ℕ). length (kids_in (memory_of s.slab j) part) ≤ 16777216) number (few_kept s h (memory_of s.slab) h.keeps n u is part)
 
-pub small_index : (s : Shown) → IsIdle s → (k : ℕ) → index_in (memory_of s.slab k) < 65536
+pub small_index : (s : Shown) → IsIdle s → (k : ℕ) → index_in (memory_of s.slab k) < 16777216
 small_index s h k = by_path (path s k) refl
   where
-    by_path : (o : Option Node) → path s k ≡ o → index_in (memory_of s.slab k) < 65536
+    by_path : (o : Option Node) → path s k ≡ o → index_in (memory_of s.slab k) < 16777216
     by_path None e = let none : index_in (memory_of s.slab k) ≡ 0 = ap index_in (absent (memory_of s.slab) (numbers s) h.keeps k e) in omega (arith, none)
     by_path (Some n) e =
         let (u, is, number, there) = shown_there s k n e in

@@ -86,5 +86,5 @@ index_fewer t n v is = by_end (snoc n)
         let z : index_at (parent_of n) ≡ w.1 = ap (λ k. index_at (parent_of k)) e ∙ ap index_at (parent_of-snoc m w) in
         omega (arith, z, slice_get_within (children_at u w.0) w.1 v child, children_fewer u w.0, below_smaller t m u there)
 
-pub within_nodes : (t : Tree) → is_within_limits t ≡ true → nodes t ≤ 65536
-within_nodes t h = leb-true (nodes t) 65536 (both _ _ (both _ _ h).0).0
+pub within_nodes : (t : Tree) → is_within_limits t ≡ true → nodes t ≤ 16777216
+within_nodes t h = leb-true (nodes t) 16777216 (both _ _ (both _ _ h).0).0

@@ -1,6 +1,6 @@
 -- What a contract sees of a store: the tree, and which number each node has.
-use Rattle.std.specs.Prelude.{◌≡◌, ℕ, Option, None, true}
-use Rattle.at_model.specs.Trees.{Tree}
+use Rattle.std.specs.Prelude.{◌≡◌, ℕ, Option, None, nat_le, true}
+use Rattle.at_model.specs.Trees.{Tree, nodes}
 use Rattle.at_model.specs.Paths.{Node}
 use Rattle.at_model.specs.Run.{Contents}
 use Rattle.at_model.specs.Edits.{is_within_limits}
@@ -28,10 +28,11 @@ contents s = shown_contents (numbers s) (tree s)
 abbrev pub path : Shown → ℕ → Option Node
 path s k = path_in k (numbers s)
 
--- no edit is prepared and waits: what is kept is the tree, and nothing else, and no node is marked
+-- No edit is prepared and waits: what is kept is the tree, and nothing else, and no node is marked. It has no more nodes than it may.
 pub record IsIdle (s : Shown) : Type 0 where
   pub waiting : s.waiting ≡ None
   pub leaving : s.leaving ≡ None
   pub keeps : Keeps (memory_of s.slab) (numbers s) None
   pub limits : is_within_limits (tree s) ≡ true
+  pub allowed : nat_le (nodes (tree s)) s.limit ≡ true
   pub unmarked : IsUnmarked s.slab

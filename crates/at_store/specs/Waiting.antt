@@ -9,7 +9,7 @@ use Rattle.at_store.specs.View.{memory_of}
 
 -- all but the nodes and what waits is as before
 abbrev pub IsRestAsBefore : (before later : Shown) → Type 0
-IsRestAsBefore before later = (later.root ≡ before.root) × (later.leaving ≡ before.leaving)
+IsRestAsBefore before later = (later.root ≡ before.root) × (later.leaving ≡ before.leaving) × (later.limit ≡ before.limit)
 
 abbrev pub IsStoreAsBefore : (before later : Shown) → Type 0
 IsStoreAsBefore before later = IsAsBefore (memory_of before.slab) (memory_of later.slab) × (later.waiting ≡ before.waiting) × IsRestAsBefore before later
@@ -28,6 +28,7 @@ IsUnbrought before later = ((new : ℕ) → before.waiting ≡ Some new → IsFr
 -- nodes are marked; all else is as before
 abbrev pub IsMarking : (before later : Shown) → Type 0
 IsMarking before later = IsAsBefore (memory_of before.slab) (memory_of later.slab) × (later.root ≡ before.root) × (later.waiting ≡ before.waiting)
+    × (later.limit ≡ before.limit)
 
 -- the node leaves, with all below it
 abbrev pub IsLeaving : (node : ℕ) → (before later : Shown) → Type 0

@@ -1,28 +1,41 @@
 //! The limits of a tree.
-ghost use Rattle.std.specs.Prelude.{◌≡◌, IfSome, None, Some, cond, is_some, map, not};
-ghost use Rattle.at_model.specs.Edits.{cell_tokens_short, is_short, is_within_limits, tokens_short, trees_tokens_short};
+ghost use Rattle.std.specs.Prelude.{◌≡◌, ◌≤◌, IfSome, None, Some, cond, is_some, map, not};
+ghost use Rattle.at_model.specs.Edits.{cell_tokens_short, is_short, is_within_nodes, tokens_short, trees_tokens_short};
 ghost use Rattle.at_model.specs.Trees.{nodes, to_trees};
 ghost use Rattle.at_tree.specs.Token.{token_view};
 ghost use Rattle.at_tree.specs.TreeView.{cell_view, tree_view};
 ghost use Rattle.at_store.specs.Spending.{left_by_cell, left_by_tree, left_by_trees};
+ghost use Rattle.at_store.specs.Told.{allowed_nodes};
 
 use at_tree::reader::MAX_DEPTH;
 use at_tree::token::TokVal;
 use at_tree::tree::{Cell, Tree};
 
-/// How many nodes a tree may have.
-pub const MAX_NODES: usize = 65536;
+/// The greatest number of nodes that a tree may be allowed to have.
+pub const MAX_NODES: usize = 16_777_216;
+
+/// How many nodes a tree may have where nothing else is said.
+pub const USUAL_NODES: u32 = 65_536;
 
 /// How many bytes a text may have among the tokens.
 pub const MAX_TOKEN: usize = 4096;
 
-/// How many nodes the tree has, or `None` where it has more nodes, more levels or a longer text than a tree may.
-pub(crate) fn nodes_within_limits(tree: &Tree) -> Option<usize>
-    ensures within { is_some result ≡ is_within_limits (tree_view tree.now) }
+/// How many nodes a tree may have, where so many are allowed: no more than the greatest number.
+pub(crate) fn allowed_nodes(limit: usize) -> usize
+    ensures told { result ≡ allowed_nodes limit }
+    ensures few { result ≤ 16777216 }
+{
+    if limit <= MAX_NODES { limit } else { MAX_NODES }
+}
+
+/// How many nodes the tree has, or `None` where it has more nodes, more levels or a longer text than it may.
+pub(crate) fn nodes_within_limits(tree: &Tree, limit: usize) -> Option<usize>
+    ensures within { is_some result ≡ is_within_nodes limit (tree_view tree.now) }
     ensures counted { IfSome result (λ n. n ≡ nodes (tree_view tree.now)) }
 {
-    let left = left_after(tree, MAX_NODES, MAX_DEPTH)?;
-    Some(MAX_NODES - left)
+    let most = allowed_nodes(limit);
+    let left = left_after(tree, most, MAX_DEPTH)?;
+    Some(most - left)
 }
 
 /// How many more nodes may come after the tree, where so many may come with it, on so many levels; `None` where there

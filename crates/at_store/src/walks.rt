@@ -78,7 +78,7 @@ pub(crate) fn walk(
 
 /// The index that a step has.
 fn step_index(shape: PartShape, index: usize) -> Option<u32>
-    requires { index < 65536 }
+    requires { index < 16777216 }
     ensures { result ≡ index_of (shape_view shape) index }
 {
     match shape {
@@ -107,7 +107,7 @@ pub(crate) fn part_of(classes: &ClassTable, class: ClassId, part: usize) -> Opti
 
 /// The step by a component to a position.
 fn step_by(alloc: Global, part: &Part, index: usize) -> Result<Step<'static>, AllocError>
-    requires { index < 65536 }
+    requires { index < 16777216 }
     ensures { IfOk result (λ s. step_view s ≡ record { part = string_bytes part.now.name; index = index_of (shape_view part.now.shape) index }) }
 {
     Ok(Step {
@@ -124,7 +124,7 @@ pub(crate) fn steps_to(
     node: Node,
     most: usize,
 ) -> Result<Vec<Step<'static>>, AllocError>
-    requires { (k : ℕ) → StandsOnce (memory_of slab.now) k × (index_in (memory_of slab.now k) < 65536) }
+    requires { (k : ℕ) → StandsOnce (memory_of slab.now) k × (index_in (memory_of slab.now k) < 16777216) }
     ensures written { IfOk result (λ steps. IsPath (steps_view steps.items)) }
     ensures led { IfOk result (λ steps. (s : Numbered) (n : Place) (p : Path) → Keeps (memory_of slab.now) s None → path_in node s ≡ Some n → length n ≤ most
         → path_of classes.now (relabel (class_in (memory_of slab.now)) s) n ≡ Some p → steps_view steps.items ≡ p) }

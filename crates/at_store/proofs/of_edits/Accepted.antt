@@ -5,7 +5,7 @@ use Rattle.at_model.specs.Classes.{Classes}
 use Rattle.at_model.specs.Trees.{Cell, Cells, Empty, Filled, Holds, Many, One, Tree, Trees, cells_of, children, class_of, conforms, from_trees, no_trees, tree}
 use Rattle.at_model.specs.Trees as trees
 use Rattle.at_model.specs.Paths.{Node, cell_at, parent_of, tree_at}
-use Rattle.at_model.specs.Edits.{Edit, Put, Drop, Insert, Token, children_of, edited, is_plain, is_within_limits, list_class, optional_class, plain_class, shape_at, token_kind}
+use Rattle.at_model.specs.Edits.{Edit, Put, Drop, Insert, Token, children_of, edited, is_plain, is_within_limits, list_class, max_nodes, optional_class, plain_class, shape_at, token_kind}
 use Rattle.at_model.proofs.of_edits.Conforming.{accepted}
 use Rattle.at_model.proofs.of_edits.Surviving.{parent_is}
 use Rattle.at_model.proofs.of_edits.Untouching.{list_cell, not_false, plain_cell, selected, shape_there}
@@ -64,25 +64,25 @@ module _ (classes : Classes) (f : ℕ → ℕ) (s : Tree) (ok : conforms classes
 
   pub put_cell : (part : ℕ) (x : Tree) → IsAllowed classes t (Put n part x) → cell_at u part ≡ Some Empty
   put_cell part x h =
-      let (d, shape, here, some, conf) = held classes t ok within optional_class n part (relabel f u) h.component there in
+      let (d, shape, here, some, conf) = held classes t ok max_nodes within optional_class n part (relabel f u) h.component there in
       let zero_long : length (children_of t n part) ≡ 0 = eqb-true (length (children_of t n part)) 0 h.empty in
-      let empty : d ≡ Empty = empty_cell classes d shape some conf (sym (ap length (children_are classes t ok within n part (relabel f u) d there here)) ∙ zero_long) in
+      let empty : d ≡ Empty = empty_cell classes d shape some conf (sym (ap length (children_are classes t ok max_nodes within n part (relabel f u) d there here)) ∙ zero_long) in
       let (c, at', same) = cell_numbered part d here in
       at' ∙ ap Some (was_empty f c (same ∙ empty))
 
   pub insert_cell : (part index : ℕ) (x : Tree) → IsAllowed classes t (Insert n part index x) → (ts : Trees) × (cell_at u part ≡ Some (Many ts)) × (index ≤ length (from_trees ts))
   insert_cell part index x h =
-      let (d, shape, here, some, conf) = held classes t ok within list_class n part (relabel f u) h.component there in
+      let (d, shape, here, some, conf) = held classes t ok max_nodes within list_class n part (relabel f u) h.component there in
       let (us, many) = list_cell classes d shape some conf in
       let (c, at', same) = cell_numbered part d here in
       let (ts, list, elements) = was_many f c us (same ∙ many) in
       let most : index ≤ length (children_of t n part) = leb-true index (length (children_of t n part)) h.index in
-      let long : length (children_of t n part) ≡ length (from_trees ts) = ap length (children_are classes t ok within n part (relabel f u) d there here ∙ ap children many) ∙ ap (λ (x : Trees). length (from_trees x)) (sym elements) ∙ same_length f ts in
+      let long : length (children_of t n part) ≡ length (from_trees ts) = ap length (children_are classes t ok max_nodes within n part (relabel f u) d there here ∙ ap children many) ∙ ap (λ (x : Trees). length (from_trees x)) (sym elements) ∙ same_length f ts in
       (ts, at' ∙ ap Some list, subst (λ k. index ≤ k) long most)
 
   pub token_cell : (part : ℕ) (v : trees.Token) → IsAllowed classes t (Token n part v) → (was : trees.Token) × (cell_at u part ≡ Some (Holds was))
   token_cell part v h =
-      let (d, shape, here, some, conf) = held classes t ok within token_kind n part (relabel f u) h.component there in
+      let (d, shape, here, some, conf) = held classes t ok max_nodes within token_kind n part (relabel f u) h.component there in
       let (was, holds) = holds_cell classes d shape some conf in
       let (c, at', same) = cell_numbered part d here in
       (was, at' ∙ ap Some (was_token f c was (same ∙ holds)))

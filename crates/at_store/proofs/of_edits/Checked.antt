@@ -1,7 +1,7 @@
 -- What a check prepares is the edit that was asked.
-use Rattle.std.proofs.Common.{◌≡◌, ℕ, Option, Some, None, ◌⊎◌, refl, sym, ap, ◌∙◌, subst, option_map, is_some}
+use Rattle.std.proofs.Common.{◌≡◌, ℕ, nat_le, Option, Some, None, ◌⊎◌, refl, sym, ap, ◌∙◌, subst, option_map, is_some}
 use Rattle.at_model.specs.Classes.{Classes}
-use Rattle.at_model.specs.Trees.{Empty, Tree, class_of}
+use Rattle.at_model.specs.Trees.{Empty, Tree, class_of, nodes}
 use Rattle.at_model.specs.Paths.{Node, cell_at, tree_at}
 use Rattle.at_model.specs.Edits as model
 use Rattle.at_model.proofs.of_edits.Edited.{accepted_conforms}
@@ -47,21 +47,27 @@ module _ (before later : Shown) (memory_stays : IsAsBefore (memory_of before.sla
     same_tree : tree later ≡ tree before
     same_tree = ap (λ (m : ℕ → Option Info). relabel (class_in m) (numbers later)) (sym equal) ∙ ap (relabel (class_in (memory_of before.slab))) same_numbers
 
-    pub still_idle : IsIdle before → later.waiting ≡ before.waiting → later.leaving ≡ before.leaving → MarksNoMore before.slab later.slab → IsIdle later
-    still_idle h waiting leaving marks = record {
+    pub still_idle : IsIdle before → later.waiting ≡ before.waiting → later.leaving ≡ before.leaving →
+        later.limit ≡ before.limit → MarksNoMore before.slab later.slab → IsIdle later
+    still_idle h waiting leaving limit marks = record {
       waiting = waiting ∙ h.waiting;
       leaving = leaving ∙ h.leaving;
       keeps = subst (λ (t : Tree). Keeps (memory_of later.slab) t None) (sym same_numbers) (subst (λ (m : ℕ → Option Info). Keeps m (numbers before) None) equal h.keeps);
       limits = ap model.is_within_limits same_tree ∙ h.limits;
+      allowed = (λ i. nat_le (nodes (same_tree i)) (limit i)) ∙ h.allowed;
       unmarked = unmarked_still before.slab later.slab marks h.unmarked;
     }
 
 -- a refused edit changes nothing
-pub refused : (classes : Classes) (old new : Shown) (e : model.Edit) (r : Refusal) → IsIdle old → IsStoreAsBefore old new → MarksNoMore old.slab new.slab → (r ≡ refusal.Memory) ⊎ IsRefusalOf (model.edited classes (tree old) e) (model.left_by (tree old) e) (Some r) → IsRefused classes old e new r
-refused classes old new e r idle (memory, waiting, (root, leaving)) marks reason = record {
-  idle = still_idle old new memory root idle waiting leaving marks;
+pub refused : (classes : Classes) (old new : Shown) (e : model.Edit) (r : Refusal) → IsIdle old →
+    IsStoreAsBefore old new → MarksNoMore old.slab new.slab →
+    (r ≡ refusal.Memory) ⊎ IsRefusalOf (model.edited_within old.limit classes (tree old) e) (model.left_by (tree old) e) (Some r) →
+    IsRefused classes old e new r
+refused classes old new e r idle (memory, waiting, (root, leaving, limit)) marks reason = record {
+  idle = still_idle old new memory root idle waiting leaving limit marks;
   numbers_stay = same_numbers old new memory root;
   tree_stays = same_tree old new memory root;
+  limit_stays = limit;
   reason = reason;
 }
 
@@ -72,17 +78,28 @@ pub record Brings (old new : Shown) (t : Tree) (root : ℕ) : Type 0 where
   pub planted : IsPlanted (memory_of old.slab) (memory_of new.slab) top t arrived
   pub waits : new.waiting ≡ Some root
   pub root_stays : new.root ≡ old.root
+  pub limit_stays : new.limit ≡ old.limit
 
 pub brings : (old new : Shown) (t : Tree) (root : ℕ) → IsBrought old new t root → Brings old new t root
-brings old new t root ((w, number, planted), waits, (root_stays, leaving)) = record { arrived = w; number = number; planted = planted; waits = waits; root_stays = root_stays }
+brings old new t root ((w, number, planted), waits, (root_stays, leaving, limit)) =
+    record {
+      arrived =
+          w;
+      number = number;
+      planted = planted;
+      waits = waits;
+      root_stays = root_stays;
+      limit_stays = limit;
+    }
 
 pub brings_marked : (old mid new : Shown) (t : Tree) (root : ℕ) → Brings old mid t root → IsMarking mid new → Brings old new t root
-brings_marked old mid new t root b (memory, root_same, waiting) = record {
+brings_marked old mid new t root b (memory, root_same, waiting, limit) = record {
   arrived = b.arrived;
   number = b.number;
   planted = subst (λ (m : ℕ → Option Info). IsPlanted (memory_of old.slab) m top t b.arrived) (equal mid new memory) b.planted;
   waits = waiting ∙ b.waits;
   root_stays = root_same ∙ b.root_stays;
+  limit_stays = limit ∙ b.limit_stays;
 }
 
 module _ (classes : Classes) (old new : Shown) (asked : Edit) (n m : Node) (h : IsAccepted classes old asked n m) where
@@ -105,15 +122,18 @@ module _ (classes : Classes) (old new : Shown) (asked : Edit) (n m : Node) (h : 
   abbrev Leaves : model.Edit → Type 0
   Leaves numbered = (new.leaving ≡ option_map class_of (gone s numbered)) × ((k : ℕ) → leaves_in new.slab k ≡ stands_in k (gone s numbered))
 
-  prepared : (Does : Tree → model.Edit → Type 0) (numbered : model.Edit) → relabel_edit (class_in later) numbered ≡ edit_at n m asked → new.root ≡ old.root → Keeps later s (brought numbered) → relabel (class_in later) s ≡ tree old →
+  prepared : (Does : Tree → model.Edit → Type 0) (numbered : model.Edit) →
+      relabel_edit (class_in later) numbered ≡ edit_at n m asked → new.root ≡ old.root → new.limit ≡ old.limit →
+      Keeps later s (brought numbered) → relabel (class_in later) s ≡ tree old →
       new.waiting ≡ option_map class_of (brought numbered) → Leaves numbered → IsRoomFor new.slab s numbered → Does s numbered → IsPrepared classes old (edit_at n m asked) Does new
-  prepared Does numbered same root keeps stay waits leaves room does =
+  prepared Does numbered same root limit keeps stay waits leaves room does =
       let again : numbers new ≡ s = ap (grown later 512) (root ∙ sym (class-grown memory 512 old.root)) ∙ grown-stored later top 512 s keeps.stored keeps.shallow in
       record {
         numbered = numbered;
         same = same;
         numbers_stay = again;
         tree_stays = ap (relabel (class_in later)) again ∙ stay;
+        limit_stays = limit;
         keeps = keeps;
         waits = waits;
         leaving = leaves.0;
@@ -124,6 +144,7 @@ module _ (classes : Classes) (old new : Shown) (asked : Edit) (n m : Node) (h : 
         conforms = h.asked.conforming;
         left = model.left_by (tree old) (edit_at n m asked);
         accepted = h.accepted;
+        allowed = h.allowed;
         limits = (accepted_conforms classes (tree old) (edit_at n m asked) (model.left_by (tree old) (edit_at n m asked)) h.asked.conforming h.accepted).1;
       }
 
@@ -137,13 +158,13 @@ module _ (classes : Classes) (old new : Shown) (asked : Edit) (n m : Node) (h : 
 
     with_tree : (Does : Tree → model.Edit → Type 0) (numbered : model.Edit) → brought numbered ≡ Some b.arrived → relabel_edit (class_in later) numbered ≡ edit_at n m asked → Leaves numbered → IsRoomFor new.slab s numbered → Does s numbered → IsPrepared classes old (edit_at n m asked) Does new
     with_tree Does numbered gives same leaves room does =
-        prepared Does numbered same b.root_stays (subst (Keeps later s) (sym gives) waiting_kept) same_classes (b.waits ∙ ap Some (sym b.number) ∙ ap (option_map class_of) (sym gives)) leaves room does
+        prepared Does numbered same b.root_stays b.limit_stays (subst (Keeps later s) (sym gives) waiting_kept) same_classes (b.waits ∙ ap Some (sym b.number) ∙ ap (option_map class_of) (sym gives)) leaves room does
 
   -- without one
   module _ (marking : IsMarking old new) where
     without_tree : (Does : Tree → model.Edit → Type 0) (numbered : model.Edit) → brought numbered ≡ None → relabel_edit (class_in later) numbered ≡ edit_at n m asked → Leaves numbered → IsRoomFor new.slab s numbered → Does s numbered → IsPrepared classes old (edit_at n m asked) Does new
     without_tree Does numbered gives same leaves room does =
-        prepared Does numbered same marking.1 (subst (Keeps later s) (sym gives) (subst (λ (q : ℕ → Option Info). Keeps q s None) (equal old new marking.0) h.asked.idle.keeps))
+        prepared Does numbered same marking.1 marking.3 (subst (Keeps later s) (sym gives) (subst (λ (q : ℕ → Option Info). Keeps q s None) (equal old new marking.0) h.asked.idle.keeps))
         (ap (λ (q : ℕ → Option Info). relabel (class_in q) s) (sym (equal old new marking.0))) (marking.2 ∙ h.asked.idle.waiting ∙ ap (option_map class_of) (sym gives)) leaves room does
 
 pub set_prepared : (old mid new : Shown) (node root : ℕ) (t : Nested) → Brings old mid (tree_view t) root → MarksNoMore old.slab mid.slab → IsLeaving node mid new → Prepares old (edit.Set node t) new (plan.Set node root)
@@ -216,12 +237,12 @@ token_prepared old node part v classes n target h =
     let found = stands.1 in
     let number = stands.2 in
     let (was, here) = token_cell classes (class_in (memory_of old.slab)) (numbers old) h.asked.conforming idle.limits n u found part (token_view v) (allows classes old old asked n target h) in
-    without_tree classes old old asked n target h ((λ k. refl), refl, refl) (DoesToken node part (token_view v)) (model.Token n part (token_view v)) refl refl (idle.leaving, idle.unmarked)
+    without_tree classes old old asked n target h ((λ k. refl), refl, refl, refl) (DoesToken node part (token_view v)) (model.Token n part (token_view v)) refl refl (idle.leaving, idle.unmarked)
     tt
     (record { place = n; parent = u; was = was; is = refl; found = found; number = number; here = here })
 
 pub move_prepared : (old new : Shown) (node to part index : ℕ) → IsStoreAsBefore old new → MarksNoMore old.slab new.slab → HasRoom new.slab to part → Prepares old (edit.Move node to part index) new (plan.Move node to part index)
-move_prepared old new node to part index (stays, waiting, (root, leaving)) marks room classes n m h =
+move_prepared old new node to part index (stays, waiting, (root, leaving, limit)) marks room classes n m h =
     let idle = h.asked.idle in
     let memory = memory_of old.slab in
     let asked : Edit = edit.Move node to part index in
@@ -231,7 +252,7 @@ move_prepared old new node to part index (stays, waiting, (root, leaving)) marks
     let same_node : class_of d.moved ≡ node = (let f : Some d.moved ≡ Some stands.0 = sym d.there ∙ stands.1 in let g : d.moved ≡ stands.0 = cc in ap class_of g ∙ stands.2) in
     let (v, at_m, number) = number_found (numbers old) to m h.asked.target in
     let room' : HasRoom new.slab (number_at (numbers old) m) part = subst (λ (j : ℕ). HasRoom new.slab j part) (sym (ap (λ (o : Option Tree). elim o as (λ _. ℕ) [ None ↦ 0 | Some v ↦ class_of v ]) at_m ∙ number)) room in
-    without_tree classes old new asked n m h (stays, root, waiting) (DoesMove node to part index) (model.Move n m part index) refl refl (leaving ∙ idle.leaving, unmarked_still old.slab new.slab marks idle.unmarked)
+    without_tree classes old new asked n m h (stays, root, waiting, limit) (DoesMove node to part index) (model.Move n m part index) refl refl (leaving ∙ idle.leaving, unmarked_still old.slab new.slab marks idle.unmarked)
     room'
     (record {
       place = n;

@@ -1,13 +1,14 @@
 -- A commit leaves the tree that the edit leaves, and each node under its number.
 use Rattle.std.proofs.Common.{◌≡◌, ℕ, zero, suc, ◌≤◌, Bool, List, cond, drop, nat_eq, option_map, true, false, [], ◌∷◌, Option, Some, None, refl, sym, ap, ◌∙◌, subst, arith, option_and_then, is_some}
-use Rattle.std.specs.Prelude.{length, map}
+use Rattle.std.specs.Prelude.{length, map, nat_le}
 use Rattle.std.specs.List.{insert, slice_get}
 use Rattle.std.proofs.lemmas.Bool.{leb-true}
 use Rattle.at_model.specs.Classes.{Classes}
-use Rattle.at_model.specs.Trees.{Tree, Cell, Empty, Filled, Many, Node as branch, cells_of, class_of, conforms, depth, from_cells, from_trees}
+use Rattle.at_model.specs.Trees.{Tree, Cell, Empty, Filled, Many, Node as branch, cells_of, class_of, conforms, depth, from_cells, from_trees, nodes}
 use Rattle.at_model.specs.Trees as trees
 use Rattle.at_model.specs.Paths.{Node, tree_at, cell_at}
 use Rattle.at_model.specs.Edits.{Edit, carried, changed_at, edited, is_within_limits, left_by, with_cell, with_node, with_one_more}
+use Rattle.at_model.proofs.of_edits.Conforming.{accepted}
 use Rattle.at_model.specs.Edits as edit
 use Rattle.at_model.proofs.Options.{both, led}
 use Rattle.at_store.specs.Numbers.{IsFresh, number_at, path_in, path_in_new, relabel}
@@ -74,17 +75,25 @@ module _ (classes : Classes) (old mid new : Shown) (e : Edit) (Does : Tree → E
   pub root_was : class_of (numbers old) ≡ mid.root
   root_was = ap class_of (sym p.numbers_stay) ∙ class-grown (memory_of mid.slab) 512 mid.root
 
+  allowed_after : tree new ≡ left_by (tree old) e → new.limit ≡ old.limit → nat_le (nodes (tree new)) new.limit ≡ true
+  allowed_after is stays =
+      let made = accepted classes (tree old) e p.left p.accepted in
+      (λ i. nat_le (nodes (is i)) (stays i)) ∙ ap (λ (t : Tree). nat_le (nodes t) old.limit) made.left ∙ p.allowed
+
   pub committed : Keeps (memory_of new.slab) after None → class_of after ≡ new.root → relabel (class_in (memory_of new.slab)) after ≡ relabel class after →
-      new.waiting ≡ None → new.leaving ≡ None → IsUnmarked new.slab → IsCommitted old e new
-  committed keeps root stay waiting leaving unmarked =
+      new.waiting ≡ None → new.leaving ≡ None → new.limit ≡ mid.limit → IsUnmarked new.slab → IsCommitted old e new
+  committed keeps root stay waiting leaving limit unmarked =
       let grows : numbers new ≡ after = grown_kept (memory_of new.slab) after new.root keeps root in
       let is : tree new ≡ left_by (tree old) e = ap (relabel (class_in (memory_of new.slab))) grows ∙ stay ∙ same_tree in
+      let few : nat_le (nodes (tree new)) new.limit ≡ true = allowed_after is (limit ∙ p.limit_stays) in
       let fresh : IsFresh (numbers old) p.numbered = fresh_edit (memory_of mid.slab) (numbers old) p.numbered p.keeps.waits in
       let goes = edited_after classes class (numbers old) (ap (λ (t : Tree). conforms classes t 0) same_classes ∙ p.conforms) p.keeps.apart p.numbered p.left ((λ i. edited classes (same_classes i) (p.same i)) ∙ p.accepted) fresh in
       let carries : carried p.numbered ≡ carried e = sym (relabelled-carried class p.numbered) ∙ ap carried p.same in
       record {
-        idle = record { waiting = waiting; leaving = leaving; keeps = subst (λ (t : Tree). Keeps (memory_of new.slab) t None) (sym grows) keeps; limits = ap is_within_limits is ∙ p.limits; unmarked = unmarked };
+        idle =
+            record { waiting = waiting; leaving = leaving; keeps = subst (λ (t : Tree). Keeps (memory_of new.slab) t None) (sym grows) keeps; limits = ap is_within_limits is ∙ p.limits; allowed = few; unmarked = unmarked };
         tree_is = is;
+        limit_stays = limit ∙ p.limit_stays;
         paths = λ k n was. ap (path_in k) grows ∙ goes.1 k (not_new (numbers old) p.numbered fresh k n was) ∙ ap (option_and_then (carried p.numbered)) was ∙ ap (λ (g : Node → Option Node). g n) carries;
       }
 
@@ -94,8 +103,8 @@ unmarked_as classes old mid new e Does p same none k = same k ∙ p.marks k ∙ 
 
 -- a token has another value
 pub token_committed : (classes : Classes) (old mid new : Shown) (e : Edit) (node part : ℕ) (v : trees.Token) → IsPrepared classes old e (DoesToken node part v) mid →
-    ((k : ℕ) → stored_of new.slab k ≡ rewritten node part (Token_of v) k (stored_of mid.slab k)) → ((k : ℕ) → leaves_in new.slab k ≡ leaves_in mid.slab k) → new.root ≡ mid.root → new.waiting ≡ None → new.leaving ≡ None → IsCommitted old e new
-token_committed classes old mid new e node part v p changes marks root waiting leaving =
+    ((k : ℕ) → stored_of new.slab k ≡ rewritten node part (Token_of v) k (stored_of mid.slab k)) → ((k : ℕ) → leaves_in new.slab k ≡ leaves_in mid.slab k) → new.root ≡ mid.root → new.waiting ≡ None → new.leaving ≡ None → new.limit ≡ mid.limit → IsCommitted old e new
+token_committed classes old mid new e node part v p changes marks root waiting leaving limit =
     let memory = memory_of mid.slab in
     let later : ℕ → Option Info = λ k. rewritten node part (Token_of v) k (memory k) in
     let alike : AreAlike later (stored_of new.slab) = λ k. rewritten_alike node part (Token_of v) memory (stored_of mid.slab) (arranged_is (stored_of mid.slab)) k ∙ ap (with_index 0) (sym (changes k)) in
@@ -110,7 +119,7 @@ token_committed classes old mid new e node part v p changes marks root waiting l
     committed classes old mid new e (DoesToken node part v) p now
     (ap (λ (x : Edit). class_of (left_by s x)) d.is ∙ root_stays (λ c. trees.Holds v) part s d.place ∙ root_was classes old mid new e (DoesToken node part v) p ∙ sym root)
     (classes_stay memory (memory_of new.slab) (λ k. false) (λ k o. rewritten node part (Token_of v) k o) (class_rewritten node part (Token_of v)) same top (left_by s p.numbered) now.stored)
-    waiting leaving (unmarked_as classes old mid new e (DoesToken node part v) p marks (ap (gone s) d.is))
+    waiting leaving limit (unmarked_as classes old mid new e (DoesToken node part v) p marks (ap (gone s) d.is))
 
 -- a component shows the list that was written there
 pub kids_raised : (new : ℕ) (up : Option (ℕ × ℕ)) (k part : ℕ) (o : Option Info) → kids_in (raised new up k o) part ≡ kids_in o part
@@ -145,8 +154,9 @@ room_there slab s u n node part found number h = subst (λ (j : ℕ). HasRoom sl
 
 -- another element of a list
 pub insert_committed : (classes : Classes) (old mid new : Shown) (e : Edit) (node part index root : ℕ) → IsPrepared classes old e (DoesInsert node part index root) mid →
-    ComesTo node part index root mid.slab new.slab → ((k : ℕ) → leaves_in new.slab k ≡ leaves_in mid.slab k) → new.root ≡ mid.root → new.waiting ≡ None → new.leaving ≡ None → IsCommitted old e new
-insert_committed classes old mid new e node part index root p comes marks same_root waiting leaving =
+    ComesTo node part index root mid.slab new.slab → ((k : ℕ) → leaves_in new.slab k ≡ leaves_in mid.slab k) →
+    new.root ≡ mid.root → new.waiting ≡ None → new.leaving ≡ None → new.limit ≡ mid.limit → IsCommitted old e new
+insert_committed classes old mid new e node part index root p comes marks same_root waiting leaving limit =
     let memory = memory_of mid.slab in
     let s = numbers old in
     let d = p.does in
@@ -176,12 +186,13 @@ insert_committed classes old mid new e node part index root p comes marks same_r
     (ap (λ (x : Edit). class_of (left_by s x)) d.is ∙ root_stays (with_one_more w index) part s d.place ∙ root_was classes old mid new e Does p ∙ sym same_root)
     (classes_stay memory (memory_of new.slab) (λ k. false) (λ k o. renumbered (drop (suc index) kids) (suc index) k (placed (class_of w) (Some (class_of u, part), index) k (rewritten (class_of u) part (Kids List_of kids) k o)))
     (class_changed (drop (suc index) kids) (suc index) (class_of w) (Some (class_of u, part), index) (class_of u) part (Kids List_of kids)) (λ k. same k ∙ written k) top (left_by s p.numbered) now.stored)
-    waiting leaving (unmarked_as classes old mid new e Does p marks (ap (gone s) d.is))
+    waiting leaving limit (unmarked_as classes old mid new e Does p marks (ap (gone s) d.is))
 
 -- a child for an empty optional
 pub put_committed : (classes : Classes) (old mid new : Shown) (e : Edit) (node part root : ℕ) → IsPrepared classes old e (DoesPut node part root) mid →
-    ComesTo node part 0 root mid.slab new.slab → ((k : ℕ) → leaves_in new.slab k ≡ leaves_in mid.slab k) → new.root ≡ mid.root → new.waiting ≡ None → new.leaving ≡ None → IsCommitted old e new
-put_committed classes old mid new e node part root p comes marks same_root waiting leaving =
+    ComesTo node part 0 root mid.slab new.slab → ((k : ℕ) → leaves_in new.slab k ≡ leaves_in mid.slab k) →
+    new.root ≡ mid.root → new.waiting ≡ None → new.leaving ≡ None → new.limit ≡ mid.limit → IsCommitted old e new
+put_committed classes old mid new e node part root p comes marks same_root waiting leaving limit =
     let memory = memory_of mid.slab in
     let s = numbers old in
     let d = p.does in
@@ -211,7 +222,7 @@ put_committed classes old mid new e node part root p comes marks same_root waiti
     (ap (λ (x : Edit). class_of (left_by s x)) d.is ∙ root_stays (λ c. Filled w) part s d.place ∙ root_was classes old mid new e Does p ∙ sym same_root)
     (classes_stay memory (memory_of new.slab) (λ k. false) (λ k o. placed (class_of w) (place, 0) k (rewritten (class_of u) part (Kids Optional only) k o))
     (class_changed [] 0 (class_of w) (place, 0) (class_of u) part (Kids Optional only)) (λ k. same k ∙ written k) top (left_by s p.numbered) now.stored)
-    waiting leaving (unmarked_as classes old mid new e Does p marks (ap (gone s) d.is))
+    waiting leaving limit (unmarked_as classes old mid new e Does p marks (ap (gone s) d.is))
 
 -- what waited is given up
 abbrev waiting_in : Option Tree → ℕ → Bool
@@ -247,8 +258,9 @@ unmarked_back classes old mid new e Does p keeps back = by_gone (gone (numbers o
         unmarked_below back.freed new.slab (numbers old) n x (stored_same new.slab back.freed (λ k. sym (back.still k)) top (numbers old) keeps.stored) keeps.apart keeps.shallow there (λ k e. sym (p.marks k ∙ ap (stands_in k) is) ∙ back.fewer k e) (taken (Some x) is)
 
 pub cancelled : (classes : Classes) (old mid new : Shown) (e : Edit) (Does : Tree → Edit → Type 0) → IsPrepared classes old e Does mid → IsGivenUp mid.waiting (memory_of mid.slab) (memory_of new.slab) →
-    new.root ≡ mid.root → new.waiting ≡ None → new.leaving ≡ None → TakesMarksBack mid new → IsCancelled old new
-cancelled classes old mid new e Does p given root waiting leaving back =
+    new.root ≡ mid.root → new.waiting ≡ None → new.leaving ≡ None → new.limit ≡ mid.limit → TakesMarksBack mid new →
+    IsCancelled old new
+cancelled classes old mid new e Does p given root waiting leaving limit back =
     let memory = memory_of mid.slab in
     let later = memory_of new.slab in
     let s = numbers old in
@@ -256,8 +268,12 @@ cancelled classes old mid new e Does p given root waiting leaving back =
     let grows : numbers new ≡ s = grown_kept later s new.root keeps (root_was classes old mid new e Does p ∙ sym root) in
     let stay : relabel (class_in later) s ≡ relabel (class_in memory) s = classes_stay memory later (waiting_in (brought p.numbered)) (λ k o. o) (λ k o. refl) changes top s keeps.stored in
     let is : tree new ≡ tree old = ap (relabel (class_in later)) grows ∙ stay ∙ same_classes classes old mid new e Does p in
+    let stays : new.limit ≡ old.limit = limit ∙ p.limit_stays in
+    let few : nat_le (nodes (tree new)) new.limit ≡ true = (λ i. nat_le (nodes (is i)) (stays i)) ∙ p.was_idle.allowed in
     record {
-      idle = record { waiting = waiting; leaving = leaving; keeps = subst (λ (t : Tree). Keeps later t None) (sym grows) keeps; limits = ap is_within_limits is ∙ p.was_idle.limits; unmarked = unmarked_back classes old mid new e Does p keeps back };
+      idle =
+          record { waiting = waiting; leaving = leaving; keeps = subst (λ (t : Tree). Keeps later t None) (sym grows) keeps; limits = ap is_within_limits is ∙ p.was_idle.limits; allowed = few; unmarked = unmarked_back classes old mid new e Does p keeps back };
       numbers_stay = grows;
       tree_stays = is;
+      limit_stays = stays;
     }

@@ -169,8 +169,8 @@ left_of_move s x place target goes part index there outside =
 
 pub move_committed : (classes : Classes) (old mid new : Shown) (middle : Slab Entry) (e : Edit) (node to part index : ℕ) → IsPrepared classes old e (DoesMove node to part index) mid →
     IsLifted node (memory_of mid.slab) (stored_of middle) → KeepsRoom mid.slab middle → ComesTo to part index node middle new.slab → ((k : ℕ) → leaves_in new.slab k ≡ leaves_in mid.slab k) →
-    new.root ≡ mid.root → new.waiting ≡ None → new.leaving ≡ None → IsCommitted old e new
-move_committed classes old mid new middle e node to part index p lifts roomy comes marks same_root waiting leaving =
+    new.root ≡ mid.root → new.waiting ≡ None → new.leaving ≡ None → new.limit ≡ mid.limit → IsCommitted old e new
+move_committed classes old mid new middle e node to part index p lifts roomy comes marks same_root waiting leaving limit =
     let memory = memory_of mid.slab in
     let s = numbers old in
     let d = p.does in
@@ -220,4 +220,4 @@ move_committed classes old mid new middle e node to part index p lifts roomy com
     (λ k o. class_changed (drop (suc index) kids_then) (suc index) (class_of x) (Some (class_of w, part), index) (class_of w) part (Kids List_of kids_then) k _ ∙ class_placed (class_of x) top k _ ∙ class_renumbered (drop i left) i k _ ∙ class_rewritten pu d.way.0 c' k o)
     (λ k. same k ∙ second k ∙ ap (λ o. renumbered (drop (suc index) kids_then) (suc index) k (placed (class_of x) (Some (class_of w, part), index) k (rewritten (class_of w) part (Kids List_of kids_then) k o))) (first k))
     top (left_by s p.numbered) now.stored)
-    waiting leaving (unmarked_as classes old mid new e Does p marks (ap (gone s) d.is))
+    waiting leaving limit (unmarked_as classes old mid new e Does p marks (ap (gone s) d.is))

@@ -6,7 +6,7 @@ use Rattle.at_model.specs.Classes.{Classes}
 use Rattle.at_model.specs.Terms.{max_depth}
 use Rattle.at_model.specs.Trees.{Tree, One, Many, nodes, depth, conforms}
 use Rattle.at_model.specs.Paths.{Node, tree_at, cell_at, parent_of}
-use Rattle.at_model.specs.Edits.{Drop, Move, shape_at, list_class, plain_class, is_plain, max_nodes, tokens_short, is_within_limits, left_by, with_node, with_cell, without_child}
+use Rattle.at_model.specs.Edits.{Drop, Move, shape_at, list_class, plain_class, is_plain, tokens_short, left_by, with_node, with_cell, without_child}
 use Rattle.at_model.proofs.Options.{both}
 use Rattle.at_model.proofs.of_edits.Conforming.{wanted, lives}
 use Rattle.at_model.proofs.of_edits.Surviving.{parent_is}
@@ -16,7 +16,7 @@ use Rattle.at_model.proofs.of_edits.Moved.{between, left_is, ok1, has1, fit1, ra
 use Rattle.at_store.specs.Refusing.{IsAllowed}
 use Rattle.at_store.proofs.Counts.{of_cell, count_drop}
 use Rattle.at_store.proofs.Depths.{moved_length, one_at_least}
-use Rattle.at_store.proofs.of_edits.Room.{insert_room, drop_room, true_le}
+use Rattle.at_store.proofs.of_edits.Room.{in_bounds, insert_room, drop_room, true_le}
 use Rattle.at_store.proofs.ShortTokens.{node_changed}
 use Rattle.at_store.proofs.Sizes.{above_there}
 
@@ -36,11 +36,13 @@ only_levels true false true e f = refl
 only_levels false b c e f = cc
 only_levels a b false e f = cc
 
-module _ (classes : Classes) (t : Tree) (ok : conforms classes t 0 ≡ true) (within : is_within_limits t ≡ true) where
+module _ (classes : Classes) (t : Tree) (ok : conforms classes t 0 ≡ true) (most : ℕ) (within : in_bounds most t ≡ true) where
   drop_plain : (n : Node) (p : Node × (ℕ × ℕ)) → parent_of n ≡ Some p → is_some (option_and_then plain_class (shape_at classes t p.0 p.1.0)) ≡ false → not (is_plain classes t n) ≡ true
   drop_plain n p above bare = ap not (ap (λ (o : Option (Node × (ℕ × ℕ))). elim o as (λ _. Bool) [ None ↦ true | Some p ↦ is_some (option_and_then plain_class (shape_at classes t p.0 p.1.0)) ]) above ∙ bare)
 
-  pub move_room : (n m : Node) (part index : ℕ) (u : Tree) → tree_at t n ≡ Some u → IsAllowed classes t (Move n m part index) → nat_le (depth u) (max_depth - suc (length m)) ≡ is_within_limits (left_by t (Move n m part index))
+  pub move_room : (n m : Node) (part index : ℕ) (u : Tree) → tree_at t n ≡ Some u →
+      IsAllowed classes t (Move n m part index) →
+      nat_le (depth u) (max_depth - suc (length m)) ≡ in_bounds most (left_by t (Move n m part index))
   move_room n m part index u found allowed =
       let move = is_move classes t n m part index allowed.fit allowed.removable allowed.outside in
       let p = move.place in
@@ -59,13 +61,13 @@ module _ (classes : Classes) (t : Tree) (ok : conforms classes t 0 ≡ true) (wi
       let (ts, many) = list_cell classes c shape some conf in
       let not_one : (y : Tree) → c ≡ One y → ⊥ = λ y one. (let f : Many ts ≡ One y = sym many ∙ one in cc) in
       let count : nodes (left_by t (Drop n)) + nodes u ≡ nodes t = count_drop t n p.0 p.1 x u c move.above found there here not_one in
-      let few = leb-true (nodes t) max_nodes (both _ _ (both _ _ within).0).0 in
-      let within' : is_within_limits mid ≡ true = sym (ap is_within_limits taken) ∙ sym (drop_room classes t ok within n u found (record { component = refl; fit = refl; index = refl; empty = refl; removable = drop_plain n p move.above (plain classes t ok n m part index u found p move.above move.listed q move.goes allowed.component allowed.fit allowed.index); outside = refl })) in
+      let few = leb-true (nodes t) most (both _ _ (both _ _ within).0).0 in
+      let within' : in_bounds most mid ≡ true = sym (ap (in_bounds most) taken) ∙ sym (drop_room classes t ok most within n u found (record { component = refl; fit = refl; index = refl; empty = refl; removable = drop_plain n p move.above (plain classes t ok n m part index u found p move.above move.listed q move.goes allowed.component allowed.fit allowed.index); outside = refl })) in
       let (shape', sees) = wanted classes list_class (shape_at classes mid q part) has' in
       let (w, at_q) = lives classes mid q part shape' sees in
-      let room' = insert_room classes mid ok' within' q part index u w at_q (record { component = has'; fit = fit'; index = range'; empty = refl; removable = refl; outside = refl }) in
+      let room' = insert_room classes mid ok' most within' q part index u w at_q (record { component = has'; fit = fit'; index = range'; empty = refl; removable = refl; outside = refl }) in
       let long : length q ≡ length m = moved_length _ p.0 m q (sym (taking m) ∙ move.goes) in
-      let fewer : nat_le (nodes mid + nodes u) max_nodes ≡ true = true_le (nodes mid + nodes u) max_nodes (subst (λ (z : Tree). nodes z + nodes u ≤ max_nodes) taken (omega (arith, count, few))) in
+      let fewer : nat_le (nodes mid + nodes u) most ≡ true = true_le (nodes mid + nodes u) most (subst (λ (z : Tree). nodes z + nodes u ≤ most) taken (omega (arith, count, few))) in
       levels_left (depth u) (length m) max_depth (one_at_least u) ∙ ap (λ l. nat_le (suc l + depth u) max_depth) (sym long) ∙
-      only_levels (nat_le (nodes mid + nodes u) max_nodes) (nat_le (suc (length q) + depth u) max_depth) (tokens_short u) fewer (node_changed (λ y. y) t n u (both _ _ within).1 found).1 ∙
-      room' ∙ ap is_within_limits (sym left)
+      only_levels (nat_le (nodes mid + nodes u) most) (nat_le (suc (length q) + depth u) max_depth) (tokens_short u) fewer (node_changed (λ y. y) t n u (both _ _ within).1 found).1 ∙
+      room' ∙ ap (in_bounds most) (sym left)

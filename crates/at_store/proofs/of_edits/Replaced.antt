@@ -57,7 +57,7 @@ gone_first n part root place f k o q true e = by_tests (nat_eq k n) (nat_eq k ro
     by_tests false false = refl
 
 module _ (classes : Classes) (old mid new : Shown) (e : Edit) (node root : ℕ) (p : IsPrepared classes old e (DoesSet node root) mid)
-    (same_root : new.root ≡ cond (nat_eq node mid.root) root mid.root) (waiting : new.waiting ≡ None) (leaving : new.leaving ≡ None)
+    (same_root : new.root ≡ cond (nat_eq node mid.root) root mid.root) (waiting : new.waiting ≡ None) (leaving : new.leaving ≡ None) (limit : new.limit ≡ mid.limit)
     (fewer : MarksNoMore mid.slab new.slab) (freed : ℕ → Option Info) (free : IsFreed node (memory_of mid.slab) freed)
     (alike : AreAlike (replaced (up_in (memory_of mid.slab node)) (index_in (memory_of mid.slab node)) root freed) (stored_of new.slab)) where
   abbrev memory : ℕ → Option Info
@@ -132,7 +132,7 @@ module _ (classes : Classes) (old mid new : Shown) (e : Edit) (node root : ℕ) 
         let settles : Keeps (memory_of new.slab) (left_by s p.numbered) None = subst (λ (m : ℕ → Option Info). Keeps m (left_by s p.numbered) None) (λ i k. sym (same k) i) keeps in
         committed classes old mid new e (DoesSet node root) p settles (ap class_of left_is ∙ root_is)
         (classes_stay memory (memory_of new.slab) (λ k. is_some (path_in k x)) (λ k o. o) (λ k o. refl) (λ k. same k ∙ written_root k) top (left_by s p.numbered) settles.stored)
-        waiting leaving (unmarked (λ k here. same k ∙ written_root k ∙ ap (λ b. cond b None (memory k)) here))
+        waiting leaving limit (unmarked (λ k here. same k ∙ written_root k ∙ ap (λ b. cond b None (memory k)) here))
 
   -- in the place of a node that is no root
   module _ (above : Node) (way : Way) (under : parent_of place ≡ Some (above, way)) where
@@ -191,11 +191,14 @@ module _ (classes : Classes) (old mid new : Shown) (e : Edit) (node root : ℕ) 
         committed classes old mid new e (DoesSet node root) p settles
         (ap (λ (y : Edit). class_of (left_by s y)) p.does.is ∙ ap class_of (set_in_parent [] w place (above, way) under s) ∙ root_stays (with_child (λ u. w) way.1) way.0 s above ∙ root_remains)
         (classes_stay memory (memory_of new.slab) (λ k. is_some (path_in k x)) (λ k o. placed (class_of w) spot k (rewritten (class_of u) way.0 now k o)) (λ k o. class_placed (class_of w) spot k (rewritten (class_of u) way.0 now k o) ∙ class_rewritten (class_of u) way.0 now k o) (λ k. same k ∙ written k) top (left_by s p.numbered) settles.stored)
-        waiting leaving (unmarked (λ k here. same k ∙ written k ∙ ap (λ b. cond b None (placed (class_of w) spot k (rewritten (class_of u) way.0 now k (memory k)))) here))
+        waiting leaving limit (unmarked (λ k here. same k ∙ written k ∙ ap (λ b. cond b None (placed (class_of w) spot k (rewritten (class_of u) way.0 now k (memory k)))) here))
 
 pub set_committed : (classes : Classes) (old mid new : Shown) (e : Edit) (node root : ℕ) → IsPrepared classes old e (DoesSet node root) mid →
-    IsReplaced node root (memory_of mid.slab) (stored_of new.slab) → MarksNoMore mid.slab new.slab → new.root ≡ cond (nat_eq node mid.root) root mid.root → new.waiting ≡ None → new.leaving ≡ None → IsCommitted old e new
-set_committed classes old mid new e node root p replaces fewer same_root waiting leaving = by_parent (parent_of p.does.place) refl
+    IsReplaced node root (memory_of mid.slab) (stored_of new.slab) → MarksNoMore mid.slab new.slab →
+    new.root ≡ cond (nat_eq node mid.root) root mid.root → new.waiting ≡ None → new.leaving ≡ None →
+    new.limit ≡ mid.limit → IsCommitted old e new
+set_committed classes old mid new e node root p replaces fewer same_root waiting leaving limit =
+    by_parent (parent_of p.does.place) refl
   where
     h : Keeps (memory_of mid.slab) (numbers old) (Some p.does.brings)
     h = subst (λ (y : Edit). Keeps (memory_of mid.slab) (numbers old) (brought y)) p.does.is p.keeps
@@ -204,5 +207,7 @@ set_committed classes old mid new e node root p replaces fewer same_root waiting
     after = replaces (stands_once (memory_of mid.slab) (numbers old) h.stored h.apart p.does.place p.does.gone node p.does.there p.does.number)
 
     by_parent : (o : Option (Node × Way)) → parent_of p.does.place ≡ o → IsCommitted old e new
-    by_parent None is = root_committed classes old mid new e node root p same_root waiting leaving fewer after.0 after.1 after.2 is
-    by_parent (Some (above, way)) is = below_committed classes old mid new e node root p same_root waiting leaving fewer after.0 after.1 after.2 above way is
+    by_parent None is =
+        root_committed classes old mid new e node root p same_root waiting leaving limit fewer after.0 after.1 after.2 is
+    by_parent (Some (above, way)) is =
+        below_committed classes old mid new e node root p same_root waiting leaving limit fewer after.0 after.1 after.2 above way is

@@ -68,8 +68,9 @@ pub few_there : (old : Shown) → IsIdle old → (memory : ℕ → Option Info) 
 few_there old h memory keeps n u is part = let few = few_kept old h memory keeps n u is part in omega (arith, few)
 
 pub drop_committed : (classes : Classes) (old mid new : Shown) (e : Edit) (node : ℕ) → IsPrepared classes old e (DoesDrop node) mid →
-    IsTakenAway node (memory_of mid.slab) (stored_of new.slab) → MarksNoMore mid.slab new.slab → new.root ≡ mid.root → new.waiting ≡ None → new.leaving ≡ None → IsCommitted old e new
-drop_committed classes old mid new e node p takes fewer same_root waiting leaving =
+    IsTakenAway node (memory_of mid.slab) (stored_of new.slab) → MarksNoMore mid.slab new.slab → new.root ≡ mid.root →
+    new.waiting ≡ None → new.leaving ≡ None → new.limit ≡ mid.limit → IsCommitted old e new
+drop_committed classes old mid new e node p takes fewer same_root waiting leaving limit =
     let memory = memory_of mid.slab in
     let s = numbers old in
     let d = p.does in
@@ -113,5 +114,5 @@ drop_committed classes old mid new e node p takes fewer same_root waiting leavin
     committed classes old mid new e (DoesDrop node) p now
     (ap (λ (y : Edit). class_of (left_by s y)) d.is ∙ ap (λ (o : Option (Node × (ℕ × ℕ))). class_of (elim o [ None ↦ s | Some p ↦ with_node (with_cell (without_child p.1.1) p.1.0) s p.0 ])) d.under ∙ root_stays (without_child i) part s d.above ∙ root_was classes old mid new e (DoesDrop node) p ∙ sym same_root)
     (classes_stay memory (memory_of new.slab) (λ k. is_some (path_in k x)) (λ k o. renumbered (drop i left) i k (rewritten pu part c' k o)) (λ k o. class_renumbered (drop i left) i k (rewritten pu part c' k o) ∙ class_rewritten pu part c' k o) (λ k. same k ∙ written k) top (left_by s p.numbered) now.stored)
-    waiting leaving
+    waiting leaving limit
     (gone_unmarked mid.slab new.slab x fewer (λ k. p.marks k ∙ ap (λ y. stands_in k (gone s y)) d.is ∙ ap (stands_in k) d.there) (λ k here. same k ∙ written k ∙ ap (λ b. cond b None (renumbered (drop i left) i k (rewritten pu part c' k (memory k)))) here))

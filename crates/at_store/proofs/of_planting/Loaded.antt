@@ -47,6 +47,7 @@ pub record IsLoaded (s : Shown) (t : Tree) : Type 0 where
   pub free : (k : ℕ) → before k ≡ None
   pub planted : (w : Tree) × (class_of w ≡ s.root) × IsPlanted before (memory_of s.slab) top t w
   pub limits : is_within_limits t ≡ true
+  pub allowed : nat_le (nodes t) s.limit ≡ true
   pub unmarked : IsUnmarked s.slab
 
 module _ (s : Shown) (t : Tree) (h : IsLoaded s t) where
@@ -68,6 +69,7 @@ module _ (s : Shown) (t : Tree) (h : IsLoaded s t) where
     leaving = h.leaving;
     keeps = subst (λ x. Keeps (memory_of s.slab) x None) (sym grown) kept;
     limits = ap is_within_limits loaded_tree ∙ h.limits;
+    allowed = ap (λ (u : Tree). nat_le (nodes u) s.limit) loaded_tree ∙ h.allowed;
     unmarked = h.unmarked;
   }
 

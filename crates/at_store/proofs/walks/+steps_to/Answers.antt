@@ -40,7 +40,7 @@ returns-clause-written t c =
     let p = part_view c.in-Some-part_of.component.now in
     let front = steps_view c.in_ok-steps.steps.items in
     subst IsPath (sym (ap steps_view c.in_ok-push.ensures.items ∙ map-append step_view c.in_ok-steps.steps.items (c.in_ok-step_by.field-0 ∷ [])))
-    (step_written front p c.index_at.result (step_view c.in_ok-step_by.field-0) c.in_ok-steps.ensures.written (c.in-Some-part_of.ensures.named p (sym c.in-Some-part_of.ensures.found)) (subst (λ i. i < 65536) (sym (c.index_at.ensures (c.requires c.args.node).0)) (c.requires c.args.node).1) c.in_ok-step_by.ensures)
+    (step_written front p c.index_at.result (step_view c.in_ok-step_by.field-0) c.in_ok-steps.ensures.written (c.in-Some-part_of.ensures.named p (sym c.in-Some-part_of.ensures.found)) (subst (λ i. i < 16777216) (sym (c.index_at.ensures (c.requires c.args.node).0)) (c.requires c.args.node).1) c.in_ok-step_by.ensures)
 
 pub returns-then-most-eq0-clause-apart : goal.returns-then-most-eq0-clause-apart
 returns-then-most-eq0-clause-apart t c s n h found short = inl (nil_from_length n (omega (arith, short, c.if-most-eq0.true)))

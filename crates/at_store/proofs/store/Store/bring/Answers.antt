@@ -7,4 +7,4 @@ use Rattle.at_store.proofs.store.Store.bring.Goals as goal
 pub returns-clause-brought : goal.returns-clause-brought
 returns-clause-brought c =
     let (w, number, planted) = c.in_ok-new.ensures.planted in
-    ((w, number, planted_arranged (stored_of c.args.self.now.slab) (stored_of c.plant.new.slab) (tree_view c.args.tree) w planted), refl, (refl, refl))
+    ((w, number, planted_arranged (stored_of c.args.self.now.slab) (stored_of c.plant.new.slab) (tree_view c.args.tree) w planted), refl, (refl, refl, refl))

@@ -12,13 +12,13 @@ returns-clause-prepared c =
     let old = c.args.self.now in
     let new = c.bring_child.new.self in
     let root = c.in_ok-new.new in
-    let (planted, waits, (root_stays, leaving)) = c.in_ok-new.ensures.brought in
+    let (planted, waits, (root_stays, leaving, limit)) = c.in_ok-new.ensures.brought in
     let part = c.in_ok-part.part in
     subst (λ (p : ℕ). Prepares old (asked.Insert c.args.node p c.args.index c.args.tree) new (plan.Insert c.args.node part c.args.index root)) c.in_ok-part.ensures
     (insert_prepared old new c.args.node part c.args.index root c.args.tree (brings old new (tree_view c.args.tree) root c.in_ok-new.ensures.brought) leaving c.bring_child.ensures.marks c.in_ok-new.ensures.room)
 
 pub returns-in_err-part-clause-kept : goal.returns-in_err-part-clause-kept
-returns-in_err-part-clause-kept c = at_err c.from_residual.result (λ none. ((λ k. refl), refl, (refl, refl)))
+returns-in_err-part-clause-kept c = at_err c.from_residual.result (λ none. ((λ k. refl), refl, (refl, refl, refl)))
 
 pub returns-in_err-part-clause-marks : goal.returns-in_err-part-clause-marks
 returns-in_err-part-clause-marks c = at_err c.from_residual.result (λ k e. e)

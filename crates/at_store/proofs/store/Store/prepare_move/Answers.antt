@@ -12,16 +12,17 @@ returns-clause-prepared c =
     let new = record old { slab = c.reserve.new.slab } in
     let part = c.in_ok-part.part in
     subst (λ (p : ℕ). Prepares old (asked.Move c.args.node c.args.to p c.args.index) new (plan.Move c.args.node c.args.to part c.args.index)) c.in_ok-part.ensures
-    (move_prepared old new c.args.node c.args.to part c.args.index (c.reserve.ensures.stays, refl, (refl, refl)) (λ k e. sym (c.reserve.ensures.marks k) ∙ e) c.in_ok-reserve.ensures.room)
+    (move_prepared old new c.args.node c.args.to part c.args.index (c.reserve.ensures.stays, refl, (refl, refl, refl)) (λ k e. sym (c.reserve.ensures.marks k) ∙ e) c.in_ok-reserve.ensures.room)
 
 pub returns-in_err-reserve-clause-kept : goal.returns-in_err-reserve-clause-kept
-returns-in_err-reserve-clause-kept c = at_err c.from_residual-in_err-reserve.result (λ none. (c.reserve.ensures.stays, refl, (refl, refl)))
+returns-in_err-reserve-clause-kept c =
+    at_err c.from_residual-in_err-reserve.result (λ none. (c.reserve.ensures.stays, refl, (refl, refl, refl)))
 
 pub returns-in_err-reserve-clause-marks : goal.returns-in_err-reserve-clause-marks
 returns-in_err-reserve-clause-marks c = at_err c.from_residual-in_err-reserve.result (λ k e. sym (c.reserve.ensures.marks k) ∙ e)
 
 pub returns-in_err-part-clause-kept : goal.returns-in_err-part-clause-kept
-returns-in_err-part-clause-kept c = at_err c.from_residual.result (λ none. ((λ k. refl), refl, (refl, refl)))
+returns-in_err-part-clause-kept c = at_err c.from_residual.result (λ none. ((λ k. refl), refl, (refl, refl, refl)))
 
 pub returns-in_err-part-clause-marks : goal.returns-in_err-part-clause-marks
 returns-in_err-part-clause-marks c = at_err c.from_residual.result (λ k e. e)

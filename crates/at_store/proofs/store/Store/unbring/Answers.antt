@@ -11,7 +11,7 @@ returns-in-Some-clause-unbrought c = (
       let same : c.in-Some.new ≡ new = cc in
       subst (λ (n : ℕ). IsFreed n (memory_of c.args.self.now.slab) (memory_of c.free.new.slab)) same (freed_arranged c.in-Some.new c.args.self.now.slab c.free.new.slab c.free.ensures.freed)),
   refl,
-  (refl, refl),
+  (refl, refl, refl),
 )
 
 pub returns-in-Some-clause-given_up : goal.returns-in-Some-clause-given_up
