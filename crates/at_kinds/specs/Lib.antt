@@ -4,3 +4,4 @@ pub mod Kinds
 pub mod Judging
 pub mod Typed
 pub mod KindTable
+pub mod SampleForms

@@ -3,7 +3,8 @@
 //!
 //! **Its specs:** `Judging` has the kind of each form and the body that it means, `Accessors` which accessor a name
 //! stands for, `Signatures` what is declared of attributes, `Kinds` the kinds; `Typed` says what results stand for.
-//! `KindTable` is the table of kinds, without places and bodies; `laws.rt` has that `Judging` goes by it.
+//! `KindTable` is the table of kinds, without places and bodies; `laws.rt` has that `Judging` goes by it. `SampleForms` has
+//! expressions for `form_cases.rt`, where each form has its kind and its body.
 //!
 //! **Where to begin:** `typing.rt` and its folder, a recursion over the form with parts before the whole.
 //!
@@ -14,6 +15,7 @@
 pub mod accessors;
 mod code;
 pub mod components;
+pub mod form_cases;
 pub mod laws;
 pub mod signatures;
 pub mod typing;

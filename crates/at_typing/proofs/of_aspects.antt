@@ -8,3 +8,4 @@ pub mod MeaningsFound
 pub mod CodesMeant
 pub mod FaultsTold
 pub mod LackingSamples
+pub mod CalculatorBuilt

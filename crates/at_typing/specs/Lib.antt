@@ -15,3 +15,4 @@ pub mod Single
 pub mod AspectRules
 pub mod Samples
 pub mod SampleAspects
+pub mod SampleCalculator

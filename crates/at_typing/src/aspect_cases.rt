@@ -1,8 +1,10 @@
 //! Worked aspects over calc.ast: the fault of each, and its place. Each is the contract of a function that does nothing.
 
-ghost use Rattle.std.specs.Prelude.{◌≡◌, None, Some, Err, Ok};
-ghost use Rattle.at_model.specs.Samples.{calc_classes};
+ghost use Rattle.std.specs.Prelude.{◌≡◌, ◌∷◌, [], codes, None, Some, pos, Err, Ok};
+ghost use Rattle.at_model.specs.Bodies.{IntLiteral};
+ghost use Rattle.at_model.specs.Samples.{calc, calc_classes};
 ghost use Rattle.at_text.specs.declared.fault.Failure.TheVariants.{For};
+ghost use Rattle.at_text.specs.declared.place.Place.{Place};
 ghost use Rattle.at_kinds.specs.declared.code.RuleCode.TheVariants as code;
 ghost use Rattle.at_typing.specs.Building.{first_fault, rules_of, Builds};
 ghost use Rattle.at_typing.specs.SampleAspects.{
@@ -19,6 +21,7 @@ ghost use Rattle.at_typing.specs.SampleAspects.{
   is_of_no_component,
   passes_an_int,
 };
+ghost use Rattle.at_typing.specs.SampleCalculator.{calculator};
 ghost use Rattle.at_typing.specs.Samples.{column};
 
 /// An attribute with an accessor's name, one that is declared twice, an equation of none, and one that is there twice: each is told at the declaration.
@@ -44,4 +47,16 @@ pub fn equations_that_classes_lack()
     ensures own { Builds calc_classes has_no_equation (Err (For (record { code = code.ClassWithoutEquation; file = 1; at = column 12 }))) }
     ensures above { Builds calc_classes has_none_above (Err (For (record { code = code.InheritedWithoutEquation; file = 1; at = column 12 }))) }
     ensures accepted { Builds calc_classes has_one_above (Ok (rules_of calc_classes has_one_above)) }
+{}
+
+/// An equation with `getChild()` is for each component of its class.
+pub fn an_equation_for_each_component()
+    ensures { (rules_of calc_classes has_one_above).inherited ≡ record { class = 0; part = None; name = codes "q"; body = IntLiteral (pos 1) } ∷ [] }
+{}
+
+/// The declarations of calc.jrag and probe.jrag make just the rules that stand as `calc`: each attribute with its kinds and whether
+/// it is lazy, each equation with its body. And they are accepted.
+pub fn rules_of_the_calculator()
+    ensures rules { (at : Place) → rules_of calc_classes (calculator at) ≡ calc }
+    ensures accepted { (at : Place) → Builds calc_classes (calculator at) (Ok calc) }
 {}

@@ -5,7 +5,8 @@
 //! `Meanings` and `Ruling` what each means by itself, `Completing` where a missing equation is told; `Located` and
 //! `Numbering` list and number the declarations; `AccessorNames`, `AttributeKeys`, `EquationKeys`, `Twice` and
 //! `Bound` are what the checks keep, `Seen` what their values stand for; `Single` says what is declared once;
-//! `AspectRules` has what each code's rule says, `Samples` and `SampleAspects` the declarations of the cases.
+//! `AspectRules` has what each code's rule says, `Samples`, `SampleAspects` and `SampleCalculator` the declarations of
+//! the cases.
 //!
 //! **Where to begin:** `building.rt`. `numbered.rt` numbers the declarations' classes and names, `attributes.rt`
 //! finds attributes, `checks.rt` has the faults of declarations together, `meaning.rt` what each means.
