@@ -97,6 +97,7 @@ impl Here {
 
     /// The value of an expression that has no parts; where that is an index, the child's index is looked at. Gives up at an expression with parts, at a
     /// name behind all that was passed, and at an index where there is no child. Or memory is wanting.
+    #[inline(always)]
     pub fn value(&self, store: &Store, reads: &mut Reads, body: &Body) -> Result<Value, Stop>
         requires idle { IsIdle store.now }
         ensures { (classes : Classes)
@@ -115,6 +116,7 @@ impl Here {
     }
 
     // What a name stands for.
+    #[inline(always)]
     fn name(&self, position: usize) -> Result<Value, Stop>
         ensures { IfOk result (λ v. named (scope (place_at self.now)).names position ≡ value_view v) }
     {
@@ -125,6 +127,7 @@ impl Here {
     }
 
     // What a name behind those of the folds stands for.
+    #[inline(always)]
     fn argument(&self, position: usize) -> Result<Value, Stop>
         ensures { IfOk result (λ v. named (map value_view self.now.arguments) (position - length self.now.bound) ≡ value_view v) }
     {
@@ -152,6 +155,7 @@ impl Here {
 
 /// Begins the evaluation of an instance: where its equation stands, and its body. The classes of the node and of the nodes among the arguments are
 /// looked at, and the way up to an inherited equation. Gives up where there is no equation. Or memory is wanting.
+#[inline(always)]
 pub fn begin<'a>(
     alloc: Global,
     rules: &'a Rules,

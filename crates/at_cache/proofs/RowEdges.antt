@@ -1,5 +1,6 @@
 -- The edges of a row, from its front and to its end.
-use Rattle.std.proofs.Common.{◌≡◌, ℕ, zero, suc, ◌+◌, ◌-◌, ◌*◌, ◌%◌, ◌^◌, ◌<◌, List, [], ◌∷◌, ◌++◌, nat_eq, true, false, length, arith, refl, sym, ap, ◌∙◌, add-zero, add-suc, add_assoc, mod-eq_of_lt, Option, None, Some, IfSome}
+use Rattle.std.proofs.Common.{◌≡◌, ℕ, zero, suc, ◌+◌, ◌-◌, ◌*◌, ◌%◌, ◌^◌, ◌<◌, List, [], ◌∷◌, ◌++◌, nat_eq, true, false, length, Contains, arith, refl, sym, ap, ◌∙◌, subst, add-zero, add-suc, add_assoc, mod-eq_of_lt}
+use Rattle.std.proofs.lemmas.List.Elements.{Contains-push}
 use native.Mathlib.Nat.{zero-mul, one-mul, suc-mul, add_comm, mod-add-mod, suc-add, zero-add}
 use Rattle.at_cache.specs.declared.edge.Edge.{Edge}
 use Rattle.at_cache.specs.Rows.{edge_at, edges_from}
@@ -64,10 +65,6 @@ pub any_step : (f : Edge) (s t n : ℕ) → n ≡ 1 → edges_from f s 0 n ≡ e
 unfolding edges_from
 any_step f s t n one = ap (edges_from f s 0) one ∙ ap (λ x. x ∷ []) (at_step f s t) ∙ sym (ap (edges_from f t 0) one)
 
-pub some_step : (f : Edge) (t n : ℕ) → n ≡ 1 → (o : Option ℕ) → IfSome o (λ s. edges_from f s 0 n ≡ edges_from f t 0 n)
-some_step f t n one None = tt
-some_step f t n one (Some s) = any_step f s t n one
-
 -- the edge lies behind the last one
 pub goes_on : (f x : Edge) (s was n more way : ℕ) → x.slot < 2 ^ 32 → x.stamp < 2 ^ 64 → more ≡ n + 1 → way ≡ n * s → x.slot ≡ f.slot + way → x.stamp ≡ f.stamp + way →
     edges_from f s 0 n ≡ edges_from f was 0 n → edges_from f s 0 more ≡ edges_from f was 0 n ++ x ∷ []
@@ -76,3 +73,13 @@ goes_on f x s was n more way slot stamp counts far p q same =
     ∙ one_more f s 0 n
     ∙ ap (λ y. edges_from f s 0 n ++ y ∷ []) (ap (edge_at f s) (zero-add n) ∙ at_place f x s n slot stamp (p ∙ ap (λ w. f.slot + w) far) (q ∙ ap (λ w. f.stamp + w) far))
     ∙ ap (λ xs. xs ++ x ∷ []) same
+
+-- the edge is the last one
+pub ends_so : (f x : Edge) (s n place way : ℕ) → x.slot < 2 ^ 32 → x.stamp < 2 ^ 64 → n ≡ suc place → way ≡ place * s
+    → x.slot ≡ f.slot + way → x.stamp ≡ f.stamp + way → Contains (edges_from f s 0 n) x
+ends_so f x s n place way slot stamp counts far p q =
+    let here : edge_at f s (0 + place) ≡ x = ap (edge_at f s) (zero-add place)
+    ∙ at_place f x s place slot stamp (p ∙ ap (λ w. f.slot + w) far) (q ∙ ap (λ w. f.stamp + w) far) in
+    let all : edges_from f s 0 n ≡ edges_from f s 0 place ++ x ∷ [] = ap (edges_from f s 0) counts ∙ one_more f s 0 place
+    ∙ ap (λ y. edges_from f s 0 place ++ y ∷ []) here in
+    subst (λ es. Contains es x) (sym all) (Contains-push (edges_from f s 0 place) x)

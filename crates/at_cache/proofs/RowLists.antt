@@ -1,5 +1,5 @@
 -- Lists of rows lose edges that tell of no entry, and gain one.
-use Rattle.std.proofs.Common.{◌≡◌, ◌⊎◌, inl, inr, ℕ, zero, suc, ◌<◌, List, [], ◌∷◌, ◌++◌, nat_eq, true, false, Contains, Some, length, get_or, slice_get, slice_set, swap_remove, IsPermutation, refl, sym, ap, ◌∙◌, subst, append-nil, append_assoc, arith, eqb-true, Result, Ok, Err, IfOk}
+use Rattle.std.proofs.Common.{◌≡◌, ◌⊎◌, inl, inr, ℕ, zero, suc, ◌<◌, List, [], ◌∷◌, ◌++◌, nat_eq, true, false, Contains, Some, length, get_or, slice_get, slice_set, swap_remove, IsPermutation, refl, sym, ap, ◌∙◌, subst, append-nil, append_assoc, arith, eqb-true}
 use Rattle.std.specs.List.{flat_map}
 use Rattle.std.proofs.lemmas.Grind.{flat_map-append}
 use Rattle.std.proofs.lemmas.List.{get_or_default}
@@ -16,6 +16,7 @@ use Rattle.at_cache.specs.Putting.{Keeps, Lists, is_current}
 use Rattle.at_cache.specs.Rows.{edges_along, edges_of}
 use Rattle.at_cache.proofs.Dooming.{head_of}
 use Rattle.at_cache.proofs.Listing.{current, listed_one}
+use Rattle.at_cache.proofs.Lists.{get_contains}
 use Rattle.at_cache.proofs.Taking.{none_in}
 
 pub keeps_then : {m : Memory} {old mid new : List Edge} → Keeps m old mid → Keeps m mid new → Keeps m old new
@@ -45,6 +46,11 @@ module _ {X Y : Type 0} (f : X → List Y) where
     | inl same ↦ Contains-append_left (f z) (flat_map f zs) y (subst (λ w. Contains (f w) y) (sym same) c)
     | inr e ↦ Contains-append_right (f z) (flat_map f zs) y (along_to zs x y e c)
   ]
+
+-- what a row has stands along the rows
+pub along_has : (rs : List Row) (k : ℕ) (r : Row) (x : Edge) → slice_get rs k ≡ Some r → Contains (edges_of r) x
+    → Contains (edges_along rs) x
+along_has rs k r x is c = along_to edges_of rs r x (get_contains rs k r is) c
 
 -- a row whose edges tell of no entry goes
 pub row_goes : {m : Memory} {read mid new : List Row} (i : ℕ) (r d t : Row) → i < length mid → read ≡ mid → r ≡ get_or mid i r → Keeps m (edges_of (get_or read i d)) (edges_of t) → nat_eq (length (edges_of t)) 0 ≡ true →
@@ -116,8 +122,3 @@ longer_last (y ∷ rs) (suc i) d s x long longer =
 -- the last row has one edge more
 pub last_longer : (rs read : List Row) (i : ℕ) (d s : Row) (x : Edge) → length rs ≡ suc i → read ≡ rs → edges_of s ≡ edges_of (get_or read i d) ++ x ∷ [] → edges_along (slice_set rs i s) ≡ edges_along rs ++ x ∷ []
 last_longer rs read i d s x long same longer = longer_last rs i d s x long (longer ∙ ap (λ (ys : List Row). edges_of (get_or ys i d) ++ x ∷ []) same)
-
--- it comes behind what is kept
-pub comes_behind : {m : Memory} {old mid : List Edge} {E : Type 0} (x : Edge) (r : Result Edges E) → Keeps m old mid → IfOk r (λ es. edges_in es ≡ mid ++ x ∷ []) → IfOk r (λ es. Lists m x old (edges_in es) × Contains (edges_in es) x)
-comes_behind {mid = mid} x (Ok es) k is = (listed_one k is, subst (λ xs. Contains xs x) (sym is) (Contains-push mid x))
-comes_behind x (Err e) k is = tt

@@ -17,8 +17,8 @@ pub struct Edge {
     pub stamp: u64,
 }
 
-/// Edges in several rows, or in a long one; two rows stand in the block of the list itself.
-pub type Many = SmallVec<Row, 2>;
+/// Edges in several rows, or in a long one; three rows stand in the block of the list itself.
+pub type Many = SmallVec<Row, 3>;
 
 /// Edges, in sixteen bytes.
 pub enum Edges {

@@ -53,8 +53,8 @@ impl KeepAtMost {
         self.keeper.len()
     }
 
-    /// How many direct reads the entries have, each location as often as it was put, but a node's class that comes again at once only
-    /// once; or the greatest `usize` if they are more. It goes over all that was ever read.
+    /// How many direct reads the entries have: of an entry a location once, however often it was put, and a node's class once for each
+    /// location that is read next to it; or the greatest `usize` if they are more. It goes over all that was ever read.
     pub fn stored(&self) -> usize
         ensures { result ≡ min (reads_held (memory_of self.now.keeper.entries) self.now.keeper.readers.items) (2 ^ 64 - 1) }
     {

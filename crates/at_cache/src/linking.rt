@@ -117,12 +117,25 @@ fn extends_last(rows: &mut Many, edge: Edge) -> bool
     }
 }
 
+// Whether the last edge of these rows is that one.
+fn do_end_with(rows: &[Row], edge: Edge) -> bool
+    ensures { IsTrue result → Contains (edges_along rows.now) edge }
+{
+    match rows.last() {
+        Some(row) => row.ends_with(edge),
+        None => false,
+    }
+}
+
 // One more edge of a list in a block: its last row has it, or another one.
 fn add_to_many(entries: &Table, rows: &mut Many, edge: Edge) -> Result<(), AllocError>
     ensures lists { Lists (memory_of entries.now) edge (edges_along rows.old.items) (edges_along rows.new.items) }
     ensures has { OnOk result (Contains (edges_along rows.new.items) edge) }
 {
     if extends_last(rows, edge) {
+        return Ok(());
+    }
+    if do_end_with(rows.as_slice(), edge) {
         return Ok(());
     }
     add_row(entries, rows, edge)
@@ -158,14 +171,27 @@ fn in_place(row: Row, edge: Edge) -> Option<Edges>
     Edges::of_row(row.extended(edge)?)
 }
 
-// One more edge of a row, which loses those at its front that tell of no entry, where it would take a block else.
-fn add_to_row(alloc: Global, entries: &Table, row: Row, edge: Edge) -> Result<Edges, AllocError>
-    ensures { IfOk result (λ edges. Lists (memory_of entries.now) edge (edges_of row) (edges_in edges) × Contains (edges_in edges) edge) }
+// One more edge of a list that is a row. That stays where the edge is its last one, and loses those at its front that tell of no entry,
+// where it would take a block else.
+fn add_to_few(
+    alloc: Global,
+    entries: &Table,
+    edges: &mut Edges,
+    row: Row,
+    edge: Edge,
+) -> Result<(), AllocError>
+    requires row { edges_in edges.old ≡ edges_of row }
+    ensures lists { Lists (memory_of entries.now) edge (edges_in edges.old) (edges_in edges.new) }
+    ensures has { OnOk result (Contains (edges_in edges.new) edge) }
 {
-    if let Some(edges) = in_place(row, edge) {
-        return Ok(edges);
+    if let Some(longer) = in_place(row, edge) {
+        *edges = longer;
+        return Ok(());
     }
-    both(alloc, trimmed(entries, row), edge)
+    if !row.ends_with(edge) {
+        *edges = both(alloc, trimmed(entries, row), edge)?;
+    }
+    Ok(())
 }
 
 // One more edge of a list.
@@ -180,8 +206,7 @@ fn add_edge(alloc: Global, entries: &Table, edges: &mut Edges, edge: Edge) -> Re
         }
         Edges::Few(count, step, slot, stamp) => {
             let row = Row::few(*count, *step, *slot, *stamp);
-            *edges = add_to_row(alloc, entries, row, edge)?;
-            Ok(())
+            add_to_few(alloc, entries, edges, row, edge)
         }
         Edges::More(rows) => add_to_many(entries, rows, edge),
     }

@@ -1,6 +1,6 @@
 //! Edges that lie in a row.
 
-ghost use Rattle.std.specs.Prelude.{◌≡◌, ◌+◌, ◌*◌, ◌++◌, ◌∷◌, ◌<◌, [], IfSome, IsTrue, MatchOption, length, nat_eq};
+ghost use Rattle.std.specs.Prelude.{◌≡◌, ◌+◌, ◌*◌, ◌++◌, ◌∷◌, ◌<◌, [], Contains, IfSome, IsTrue, MatchOption, length, nat_eq};
 ghost use Rattle.at_cache.specs.declared.edge.Edges.TheVariants as edges;
 ghost use Rattle.at_cache.specs.Edges.{edges_in};
 ghost use Rattle.at_cache.specs.Rows.{edge_at, edges_from, edges_of};
@@ -105,13 +105,26 @@ impl Row {
         })
     }
 
-    // The step of the row with this edge at its end: a row of one edge takes any.
+    /// Whether its last edge is that one.
+    pub fn ends_with(&self, edge: Edge) -> bool
+        ensures { IsTrue result → Contains (edges_of self.now) edge }
+    {
+        match self.count.checked_sub(1) {
+            Some(place) => lies(self.first, edge, way(self.step, place)),
+            None => false,
+        }
+    }
+
+    // The step of the row with this edge at its end: a row of one edge takes any that leads on.
     fn step_to(&self, edge: Edge) -> Option<u32>
         ensures { IfSome result (λ step. edges_from self.now.first step 0 self.now.count ≡ edges_of self.now) }
     {
-        if self.count == 1 {
-            return edge.slot.checked_sub(self.first.slot);
+        if self.count != 1 {
+            return Some(self.step);
         }
-        Some(self.step)
+        if edge.slot <= self.first.slot {
+            return None;
+        }
+        Some(edge.slot - self.first.slot)
     }
 }
