@@ -1,33 +1,28 @@
 -- What a question adds: each lazy instance that has a value and to which the question leads, and no other.
-use Rattle.std.proofs.Common.{◌≡◌, ◌⊎◌, ℕ, true, List, [], ◌∷◌, ◌++◌, slice_get, Some, inl, inr, refl, sym, ◌∙◌, subst}
+use Rattle.std.proofs.Common.{◌≡◌, ◌⊎◌, ℕ, Bool, true, List, [], ◌∷◌, ◌++◌, slice_get, Some, inl, inr, refl, sym, ap, ◌∙◌, subst}
 use Rattle.std.specs.Prelude.{IsSome}
-use Rattle.at_model.specs.Run.{Value, Instance, Contents, Fails, Demands}
+use Rattle.at_model.specs.Run.{Instance, Contents, Fails}
 use Rattle.at_model.specs.Rules.{Rules, is_lazy}
-use Rattle.at_model.specs.Meaning.{Finds, Faults, Holds, HasValue, Among, Comes, Leads}
-use Rattle.at_model.proofs.Outcomes.{once}
-use Rattle.at_body.specs.Values.{value_view, fault_view}
-use Rattle.at_body.specs.Rest.{resumed}
-use Rattle.at_body.specs.declared.value.Value.{Value as ValueCode}
+use Rattle.at_model.specs.Meaning.{HasValue, Among, Comes, Leads}
+use Rattle.at_body.specs.Values.{fault_view}
 use Rattle.at_body.specs.declared.value.FaultKind.{FaultKind as FaultCode}
-use Rattle.at_body.specs.declared.trial.Step.{Step}
 use Rattle.at_body.specs.declared.trial.Step.TheVariants as step
 use Rattle.at_cache.specs.Kept.{Kept, Entries}
 use Rattle.at_cache.proofs.Lists.{get_push, get_contains}
 use Rattle.at_demand.specs.declared.evaluation.Demanded.{Demanded}
 use Rattle.at_demand.specs.declared.evaluation.Find.{Find}
 use Rattle.at_demand.specs.declared.evaluation.Frame.{Frame}
-use Rattle.at_demand.specs.declared.evaluation.Evaluation.{Evaluation}
-use Rattle.at_demand.specs.Known.{meaning, kept_values, AreValued, IsFound, IsKept, WaitingKept}
-use Rattle.at_demand.specs.UnderWay.{HasStepped, AreWaiting, first_of, chain_of, IsTrueIn, IsOrderlyIn}
-use Rattle.at_demand.specs.Covering.{IsDemanded, IsTold, HavePassed, HasPassedTo, AreWhole, IsWhole, IsCoveringIn}
+use Rattle.at_demand.specs.Known.{meaning, kept_values, AreValued, IsFound, IsKept}
+use Rattle.at_demand.specs.Covering.{IsDemanded, IsTold, HasPassedTo, AreWhole, IsWhole}
 use Rattle.at_demand.specs.Sparing.{IsDeep, IsWorthKeeping, AddsWorthy, HasWorthy, MayGain, IsSettled, AreSettled}
-use Rattle.at_demand.proofs.Coming.{has_value, has_fault}
-use Rattle.at_demand.proofs.Chains.{leads}
 use Rattle.at_demand.proofs.Entered.{entered, entered_on, kept_on, not_none}
 use Rattle.at_demand.proofs.Gathered.{among_at}
 use Rattle.at_demand.proofs.Passing.{past_more, past_has}
-use Rattle.at_demand.proofs.Leading.{led_now, valueless, open_led, comes_before, comes_failed}
-use Rattle.at_demand.proofs.OnlyLemmas.{needs_comes}
+use Rattle.at_demand.proofs.Leading.{led_now, comes_failed}
+
+-- what the rules say of the instance's attribute
+pub told_lazy : (rules : Rules) (said is : Bool) (attribute at : ℕ) → said ≡ is_lazy rules attribute → attribute ≡ at → said ≡ is → is_lazy rules at ≡ is
+told_lazy rules said is attribute at e same h = ap (is_lazy rules) (sym same) ∙ sym e ∙ h
 
 -- an instance whose value is kept, by its place among the kept ones
 pub is_kept : (entries : Entries) (us : List (Instance ℕ)) (u : Instance ℕ) → AreValued entries us → Among u us → IsKept entries u
@@ -112,26 +107,9 @@ module _ (rules : Rules) (look : Contents ℕ) where
         | inr e ↦ subst (λ (x : Instance ℕ × Find). IsSettled rules new x.0 x.1) e.1 (record { lazy = kept; took = λ u h. entered_on old new grows.stays u (took u h) })
       ]
 
-  -- the last one has a value, to which what was asked leads
-  pub worth_last : (asked : Instance ℕ) (entries : Entries) (q : Evaluation) (v : ValueCode) → IsTrueIn rules look asked entries q (step.Value v) → IsLazy q.inst → IsWorthKeeping rules look asked q.inst
-  worth_last asked entries q v h lazy = let (js, past) = h.last in record {
-    reached = subst (λ x. Leads look (meaning rules) x q.inst) h.starts (leads rules look q.waiting.entries q.inst h.waits);
-    lazy = lazy;
-    value = value_view v;
-    has = has_value look (meaning rules) q.inst (value_view v) js q.frame.trial.reads past;
-  }
-
   -- a kept instance leads to no other lazy ones than kept ones
   pub asked_kept : (asked : Instance ℕ) (entries : Entries) → IsKept entries asked → IsDeep rules look entries entries → HasWorthy rules look asked entries
   asked_kept asked entries kept deep i w = deep asked i (entered entries asked kept) w.reached w.lazy
-
-  -- what was asked has a value
-  pub valued_all : (asked : Instance ℕ) (entries : Entries) → ((j : Instance ℕ) → Leads look (meaning rules) asked j → IsLazy j → IsKept entries j) → HasWorthy rules look asked entries
-  valued_all asked entries all i w = all i w.reached w.lazy
-
-  first_among : (es : List (Instance ℕ × Frame)) (i : Instance ℕ) → Among (first_of es i) (chain_of es i)
-  first_among [] i = inl refl
-  first_among (e ∷ es) i = inl refl
 
   -- a question that ends with no value
   module _ (entries : Entries) (found : List (Instance ℕ × Find)) (whole : AreWhole rules look found) (settled : AreSettled rules entries found) (deep : IsDeep rules look entries entries) where
@@ -139,41 +117,15 @@ module _ (rules : Rules) (look : Contents ℕ) where
     abbrev pub IsKnown : Instance ℕ → Type 0
     IsKnown j = IsSome (entries j) ⊎ ((p : ℕ) × (f : Find) × (slice_get found p ≡ Some (j, f)))
 
-    known_demanded : (d : Demanded) (j : Instance ℕ) → AreValued entries d.kept.items → IsDemanded found d j → IsKnown j
+    pub known_demanded : (d : Demanded) (j : Instance ℕ) → AreValued entries d.kept.items → IsDemanded found d j → IsKnown j
     known_demanded d j all (inl k) = inl (entered entries j (is_kept entries d.kept.items j all k))
     known_demanded d j all (inr (p, f, at, is)) = inr (p, f, is)
 
-    known_below : (i j : Instance ℕ) → IsKnown i → Leads look (meaning rules) i j → IsLazy j → IsKept entries j
+    pub known_below : (i j : Instance ℕ) → IsKnown i → Leads look (meaning rules) i j → IsLazy j → IsKept entries j
     known_below i j (inl some) led lazy = deep i j some led lazy
     known_below i j (inr (p, f, is)) led lazy =
         let s = settled p i f is in
         all_below entries entries i found (gain_none found entries i) f whole (whole p i f is) settled s.took deep s.lazy j led lazy
-
-    -- each of the chain but the last one comes to the next
-    steps_on : (es : List (Instance ℕ × Frame)) (i c : Instance ℕ) → AreWaiting rules look es i → Among c (chain_of es i) → (c ≡ i) ⊎ ((m : Instance ℕ) × Among m (chain_of es i) × Comes look (meaning rules) c m)
-    steps_on [] i c all (inl same) = inl same
-    steps_on [] i c all (inr h) = absurd h
-    steps_on (e ∷ es) i c all (inl same) = inr (first_of es i, inr (first_among es i), subst (λ x. Comes look (meaning rules) x (first_of es i)) (sym same) (needs_comes rules look e.0 (first_of es i) e.1.trial all.0))
-    steps_on (e ∷ es) i c all (inr h) = elim (steps_on es i c all.1 h) [ inl same ↦ inl same | inr (m, a, comes) ↦ inr (m, inr a, comes) ]
-
-    -- and to nothing else that isn't known
-    module _ (Open : Instance ℕ → Type 0) (none : (c : Instance ℕ) (v : Value ℕ) → Open c → HasValue look (meaning rules) c v → ⊥) where
-      comes_known : (es : List (Instance ℕ × Frame)) (i c m : Instance ℕ) → HavePassed rules look found es i → WaitingKept entries es → ((x : Instance ℕ) → Among x (chain_of es i) → Open x) →
-          ((x : Instance ℕ) → Comes look (meaning rules) i x → IsKnown x ⊎ Open x) → Among c (chain_of es i) → Comes look (meaning rules) c m → IsKnown m ⊎ Open m
-      comes_known [] i c m passed kept inside last (inl same) comes = last m (subst (λ x. Comes look (meaning rules) x m) same comes)
-      comes_known [] i c m passed kept inside last (inr h) comes = absurd h
-      comes_known (e ∷ es) i c m passed kept inside last (inr h) comes = comes_known es i c m passed.1 kept.1 (λ x a. inside x (inr a)) last h comes
-      comes_known (e ∷ es) i c m passed kept inside last (inl same) comes =
-          let (js, past) = passed.0 in
-          let n = first_of es i in
-          let rest = resumed rules.classes e.1.trial in
-          let has = IsTold rules look found e.1.demanded in
-          let open_n : Open n = inside n (inr (first_among es i)) in
-          let plain = past_more look has (HasValue look (meaning rules)) (λ k w t. t.0) (meaning rules e.0) (Demands n rest) js e.1.trial.reads past in
-          elim (comes_before look (meaning rules) (meaning rules e.0) (Demands n rest) n rest js e.1.trial.reads m refl (λ v. none n v open_n) plain (subst (λ x. Comes look (meaning rules) x m) same comes)) [
-            | inl a ↦ (let (w, t) = past_has look has (meaning rules e.0) (Demands n rest) js e.1.trial.reads m past a in inl (known_demanded e.1.demanded m kept.0 t.1))
-            | inr at ↦ inr (subst Open (sym at) open_n)
-          ]
 
     -- an evaluation that fails has come to what is known alone
     pub failed_known : (i : Instance ℕ) (f : Frame) (k : FaultCode) → HasPassedTo rules look found i f (step.Fault k) → AreValued entries f.demanded.kept.items → (m : Instance ℕ) → Comes look (meaning rules) i m → IsKnown m
@@ -183,62 +135,3 @@ module _ (rules : Rules) (look : Contents ℕ) where
         let a = comes_failed look (meaning rules) (meaning rules i) (Fails (fault_view k)) (fault_view k) js f.trial.reads m refl plain comes in
         let (w, t) = past_has look has (meaning rules i) (Fails (fault_view k)) js f.trial.reads m past a in
         known_demanded f.demanded m kept t.1
-
-    -- and one that needs an instance with no value, to that one beside
-    pub needs_known : (i n : Instance ℕ) (f : Frame) → HasPassedTo rules look found i f (step.Need n) → AreValued entries f.demanded.kept.items → ((v : Value ℕ) → HasValue look (meaning rules) n v → ⊥) →
-        (m : Instance ℕ) → Comes look (meaning rules) i m → IsKnown m ⊎ (m ≡ n)
-    needs_known i n f (js, past) kept none m comes =
-        let rest = resumed rules.classes f.trial in
-        let has = IsTold rules look found f.demanded in
-        let plain = past_more look has (HasValue look (meaning rules)) (λ x w t. t.0) (meaning rules i) (Demands n rest) js f.trial.reads past in
-        elim (comes_before look (meaning rules) (meaning rules i) (Demands n rest) n rest js f.trial.reads m refl none plain comes) [
-          | inl a ↦ (let (w, t) = past_has look has (meaning rules i) (Demands n rest) js f.trial.reads m past a in inl (known_demanded f.demanded m kept t.1))
-          | inr at ↦ inr at
-        ]
-
-  -- a question has kept all that is worth it where it ends
-  module _ (asked : Instance ℕ) (entries : Entries) (q : Evaluation) (s : Step) (orderly : IsOrderlyIn entries q) (h : IsTrueIn rules look asked entries q s) (stands : IsCoveringIn rules look q s)
-      (settled : AreSettled rules entries q.found.entries) (deep : IsDeep rules look entries entries) where
-    abbrev IsOpen : Instance ℕ → Type 0
-    IsOpen c = Among c (chain_of q.waiting.entries q.inst)
-
-    abbrev IsReady : Instance ℕ → Type 0
-    IsReady = IsKnown entries q.found.entries stands.finds settled deep
-
-    module _ (none : (c : Instance ℕ) (v : Value ℕ) → IsOpen c → HasValue look (meaning rules) c v → ⊥) (last : (x : Instance ℕ) → Comes look (meaning rules) q.inst x → IsReady x ⊎ IsOpen x) where
-      onward : (c m : Instance ℕ) → IsOpen c → Comes look (meaning rules) c m → IsReady m ⊎ IsOpen m
-      onward c m o comes = comes_known entries q.found.entries stands.finds settled deep IsOpen none q.waiting.entries q.inst c m stands.waits orderly.waiting_kept (λ x a. a) last o comes
-
-      ended_all : HasWorthy rules look asked entries
-      ended_all j w =
-          open_led look (meaning rules) IsOpen IsReady IsLazy (IsKept entries) onward none (known_below entries q.found.entries stands.finds settled deep)
-          asked j w.value (subst IsOpen h.starts (first_among q.waiting.entries q.inst)) w.reached w.lazy w.has
-
-    -- with a fault
-    pub failed_all : (k : FaultCode) → s ≡ step.Fault k → HasWorthy rules look asked entries
-    failed_all k is = ended_all none (λ x comes. inl (failed_known entries q.found.entries stands.finds settled deep q.inst q.frame k (subst (HasPassedTo rules look q.found.entries q.inst q.frame) is stands.last) orderly.last_kept x comes))
-      where
-        fault : Holds look (meaning rules) q.inst (Faults (fault_view k) q.inst)
-        fault = let (js, past) = subst (HasStepped rules look q.inst q.frame.trial) is h.last in has_fault look (meaning rules) q.inst (fault_view k) js q.frame.trial.reads past
-
-        stuck : (i : Instance ℕ) (v : Value ℕ) → i ≡ q.inst → HasValue look (meaning rules) i v → ⊥
-        stuck i v same has = let e : Faults (fault_view k) q.inst ≡ Finds v = once look (meaning rules) q.inst (Faults (fault_view k) q.inst) (Finds v) fault (subst (λ x. HasValue look (meaning rules) x v) same has) in absurd cc
-
-        none : (c : Instance ℕ) (v : Value ℕ) → IsOpen c → HasValue look (meaning rules) c v → ⊥
-        none = valueless look (meaning rules) IsOpen (λ c. c ≡ q.inst) (λ c o. steps_on entries q.found.entries stands.finds settled deep q.waiting.entries q.inst c h.waits o) stuck
-
-    -- or with a circle
-    pub circle_all : (n : Instance ℕ) → s ≡ step.Need n → Among n (chain_of q.waiting.entries q.inst) → HasWorthy rules look asked entries
-    circle_all n is closes = ended_all none last
-      where
-        steps : (c : Instance ℕ) → IsOpen c → ⊥ ⊎ ((m : Instance ℕ) × IsOpen m × Comes look (meaning rules) c m)
-        steps c o = elim (steps_on entries q.found.entries stands.finds settled deep q.waiting.entries q.inst c h.waits o) [
-          | inl same ↦ inr (n, closes, subst (λ x. Comes look (meaning rules) x n) (sym same) (needs_comes rules look q.inst n q.frame.trial (subst (HasStepped rules look q.inst q.frame.trial) is h.last)))
-          | inr more ↦ inr more
-        ]
-
-        none : (c : Instance ℕ) (v : Value ℕ) → IsOpen c → HasValue look (meaning rules) c v → ⊥
-        none = valueless look (meaning rules) IsOpen (λ c. ⊥) steps (λ c v s has. s)
-
-        last : (x : Instance ℕ) → Comes look (meaning rules) q.inst x → IsReady x ⊎ IsOpen x
-        last x comes = elim (needs_known entries q.found.entries stands.finds settled deep q.inst n q.frame (subst (HasPassedTo rules look q.found.entries q.inst q.frame) is stands.last) orderly.last_kept (λ v. none n v closes) x comes) [ inl k ↦ inl k | inr at ↦ inr (subst IsOpen (sym at) closes) ]

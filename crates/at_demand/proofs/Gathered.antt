@@ -142,10 +142,6 @@ module _ (found : List (Instance ℕ × Find)) where
     added = λ q i g there is. let same : p ≡ q = same_Some p q (at ∙ there) in absurd (none-some (i, g) (gone ∙ ap (slice_get found) same ∙ is));
   }
 
-  -- or no position
-  pub adds_nothing : (next : ℕ) (s : Sources) (ps : List ℕ) → ◌≡◌ {A = Option ℕ} None (slice_get ps next) → AddsAt found next s s ps ps
-  adds_nothing next s ps gone = record { reads = extends_self s.reads.items; kept = extends_self s.kept.items; finds = extends_self ps; added = λ q i g there is. absurd (none-some q (gone ∙ there)) }
-
   -- where the find there is
   pub adds_one : {E : Type 0} (r : Result (Unit {0}) E) (next p : ℕ) (i : Instance ℕ) (g : Find) (s t : Sources) (ps qs : List ℕ) → Some p ≡ slice_get ps next → Some (i, g) ≡ slice_get found p → OnOk r (Adds g s t ps qs) → OnOk r (AddsAt found next s t ps qs)
   adds_one (Err e) next p i g s t ps qs at is a = tt

@@ -49,15 +49,6 @@ module _ {X : Type 0} where
       by true f more = inl f
       by false f more = more f
 
-  -- another instance is found as before
-  pub lookup_other : (es : List (Instance ℕ × X)) (i j : Instance ℕ) (x : X) → (j ≡ i → ⊥) → lookup (same_instance j) es ≡ None → lookup (same_instance j) (es ++ (i, x) ∷ []) ≡ None
-  lookup_other [] i j x other f = rw (apart j i other) refl
-  lookup_other (e ∷ es) i j x other f = by (same_instance j e.0) f (lookup_other es i j x other)
-    where
-      by : (b : Bool) → (if b then Some e.1 else lookup (same_instance j) es) ≡ None → (lookup (same_instance j) es ≡ None → lookup (same_instance j) (es ++ (i, x) ∷ []) ≡ None) → (if b then Some e.1 else lookup (same_instance j) (es ++ (i, x) ∷ [])) ≡ None
-      by true f more = absurd cc
-      by false f more = more f
-
   pub length_push : (es : List (Instance ℕ × X)) (e : Instance ℕ × X) → length (es ++ e ∷ []) ≡ suc (length es)
   length_push [] e = refl
   length_push (d ∷ es) e = ap suc (length_push es e)

@@ -1,9 +1,7 @@
 pub mod Sameness
 pub mod Entered
 pub mod Coming
-pub mod Chains
 pub mod Keys
-pub mod of_cutting
 pub mod Orderly
 pub mod Recalling
 pub mod Truth
@@ -18,7 +16,6 @@ pub mod Leading
 pub mod OnlyLemmas
 pub mod Gaining
 pub mod Counting
-pub mod SparingOn
 pub mod of_steps
 pub mod Naming
 pub mod TypedKnown
@@ -29,7 +26,6 @@ pub mod Standing
 pub mod Few
 mod Fitting
 mod Putting
-pub mod Chained
 mod of_nesting
 mod of_parts
 pub mod of_traces

@@ -28,7 +28,7 @@ use Rattle.at_demand.specs.declared.gathering.Sources.{Sources}
 use Rattle.at_demand.specs.Known.{meaning}
 use Rattle.at_demand.specs.UnderWay.{HasStepped}
 use Rattle.at_demand.specs.Covering.{Extends, IsDemanded}
-use Rattle.at_demand.specs.Only.{TakesOnly, TakeOnly, IsLean, AreLean, LeadsTo, itself, further, IsFrom, AreFrom, VisitsOnly, AddsOnly, AddsOnlyAt}
+use Rattle.at_demand.specs.Only.{TakesOnly, IsLean, AreLean, LeadsTo, itself, further, IsFrom, AreFrom, VisitsOnly, AddsOnly, AddsOnlyAt}
 use Rattle.at_demand.proofs.Sameness.{same_true}
 use Rattle.at_demand.proofs.Coming.{comes}
 use Rattle.at_demand.proofs.Seeing.{read_seen}
@@ -189,19 +189,6 @@ module _ (rules : Rules) (look : Contents ℕ) where
     | inl e ↦ lean_more found (found ++ (i, d) ∷ []) j g ((i, d) ∷ [], refl) (all p j g e)
     | inr e ↦ subst (λ (x : Instance ℕ × Find). IsLean rules look (found ++ (i, d) ∷ []) x.0 x.1) e.1 (lean_more found (found ++ (i, d) ∷ []) i d ((i, d) ∷ [], refl) one)
   ]
-
-  -- those that wait
-  pub take_push : (found : List (Instance ℕ × Find)) (es : List (Instance ℕ × Frame)) (i : Instance ℕ) (f : Frame) → TakeOnly rules look found es → TakesOnly rules look found i f.demanded → TakeOnly rules look found (es ++ (i, f) ∷ [])
-  take_push found [] i f all one = (one, tt)
-  take_push found (e ∷ es) i f all one = (all.0, take_push found es i f all.1 one)
-
-  pub take_pop : (found : List (Instance ℕ × Find)) (es : List (Instance ℕ × Frame)) (i : Instance ℕ) (f : Frame) → TakeOnly rules look found (es ++ (i, f) ∷ []) → TakeOnly rules look found es × TakesOnly rules look found i f.demanded
-  take_pop found [] i f all = (tt, all.0)
-  take_pop found (e ∷ es) i f all = let r = take_pop found es i f all.1 in ((all.0, r.0), r.1)
-
-  pub take_more : (found more : List (Instance ℕ × Find)) (es : List (Instance ℕ × Frame)) → Extends found more → TakeOnly rules look found es → TakeOnly rules look more es
-  take_more found more [] grows all = tt
-  take_more found more (e ∷ es) grows all = (takes_more found more e.0 e.1.demanded grows all.0, take_more found more es grows all.1)
 
   -- what stands with a find stands for nothing but what supports its instance
   module _ (found : List (Instance ℕ × Find)) (f : Find) (i : Instance ℕ) (all : AreLean rules look found) (one : IsLean rules look found i f) where

@@ -1,31 +1,24 @@
 -- What an evaluation under way was told stands with its frame, and a find that it ends with is whole.
-use Rattle.std.proofs.Common.{◌≡◌, ℕ, nat_eq, List, [], ◌∷◌, ◌++◌, map, slice_get, Some, inl, inr, refl, sym, ◌∙◌, subst}
-use Rattle.indexmap.specs.IndexMap.{insert_entry}
+use Rattle.std.proofs.Common.{◌≡◌, ℕ, nat_eq, List, [], ◌∷◌, ◌++◌, map, slice_get, Some, inl, inr, refl, sym, subst}
 use Rattle.at_model.specs.Run.{Value, Instance, Location, Contents, Run, Gives, Demands}
 use Rattle.at_model.specs.Follow.{follow, Past, here, looked, told}
 use Rattle.at_model.specs.Rules.{Rules, evaluation}
 use Rattle.at_model.specs.Meaning.{Among, HasValue}
 use Rattle.at_model.proofs.Listed.{among_left, among_right}
 use Rattle.at_store.specs.Located.{loc_view}
-use Rattle.at_body.specs.Same.{same_instance}
 use Rattle.at_body.specs.Values.{value_view}
 use Rattle.at_body.specs.Rest.{reached, resumed}
 use Rattle.at_body.specs.declared.value.Value.{Value as ValueCode}
 use Rattle.at_body.specs.declared.trial.Step.{Step}
 use Rattle.at_body.specs.declared.trial.Step.TheVariants as step
-use Rattle.at_cache.specs.Kept.{Entries}
 use Rattle.at_cache.proofs.Lists.{get_push}
 use Rattle.at_demand.specs.declared.evaluation.Demanded.{Demanded}
 use Rattle.at_demand.specs.declared.evaluation.Find.{Find}
 use Rattle.at_demand.specs.declared.evaluation.Frame.{Frame}
-use Rattle.at_demand.specs.declared.evaluation.Evaluation.{Evaluation}
 use Rattle.at_demand.specs.Known.{meaning}
-use Rattle.at_demand.specs.UnderWay.{first_of, IsOrderlyIn}
-use Rattle.at_demand.specs.Covering.{IsDemanded, IsTold, HasPassed, HasPassedTo, HavePassed, IsWhole, AreWhole, IsCovering, IsCoveringIn, Extends}
+use Rattle.at_demand.specs.Covering.{IsDemanded, IsTold, HasPassed, HasPassedTo, IsWhole, AreWhole, Extends}
 use Rattle.at_demand.proofs.Coming.{begins, goes_on}
 use Rattle.at_demand.proofs.Seeing.{sees_read, comes_told}
-use Rattle.at_demand.proofs.Chains.{first_push}
-use Rattle.at_demand.proofs.Orderly.{waits_last, found_last}
 use Rattle.at_demand.proofs.Gathered.{get_more}
 
 pub past_more : {N A : Type 0} (tree : Contents N) (has more : Instance N → Value N → Type 0) → ((j : Instance N) (v : Value N) → has j v → more j v) → (r s : Run N A) (js : List (Instance N)) (ls : List (Location N)) → Past tree has r js ls s → Past tree more r js ls s
@@ -96,63 +89,3 @@ module _ (rules : Rules) (look : Contents ℕ) where
     | inl e ↦ whole_more found (found ++ (i, d) ∷ []) j g ((i, d) ∷ [], refl) (all p j g e)
     | inr e ↦ subst (λ (x : Instance ℕ × Find). IsWhole rules look (found ++ (i, d) ∷ []) x.0 x.1) e.1 (whole_more found (found ++ (i, d) ∷ []) i d ((i, d) ∷ [], refl) one)
   ]
-
-  passed_push : (found : List (Instance ℕ × Find)) (es : List (Instance ℕ × Frame)) (i j : Instance ℕ) (f : Frame) → HavePassed rules look found es i → HasPassed rules look found i f (Demands j (resumed rules.classes f.trial)) → HavePassed rules look found (es ++ (i, f) ∷ []) j
-  passed_push found [] i j f all one = (one, tt)
-  passed_push found (e ∷ es) i j f all one = (subst (λ x. HasPassed rules look found e.0 e.1 (Demands x (resumed rules.classes e.1.trial))) (sym (first_push es i j f)) all.0, passed_push found es i j f all.1 one)
-
-  pub passed_pop : (found : List (Instance ℕ × Find)) (es : List (Instance ℕ × Frame)) (i j : Instance ℕ) (f : Frame) → HavePassed rules look found (es ++ (i, f) ∷ []) j → HavePassed rules look found es i × HasPassed rules look found i f (Demands j (resumed rules.classes f.trial))
-  passed_pop found [] i j f all = (tt, all.0)
-  passed_pop found (e ∷ es) i j f all =
-      let r = passed_pop found es i j f all.1 in
-      ((subst (λ x. HasPassed rules look found e.0 e.1 (Demands x (resumed rules.classes e.1.trial))) (first_push es i j f) all.0, r.0), r.1)
-
-  all_more : (found more : List (Instance ℕ × Find)) (es : List (Instance ℕ × Frame)) (i : Instance ℕ) → Extends found more → HavePassed rules look found es i → HavePassed rules look more es i
-  all_more found more [] i grows all = tt
-  all_more found more (e ∷ es) i grows all = (passed_more found more e.0 e.1 (Demands (first_of es i) (resumed rules.classes e.1.trial)) grows all.0, all_more found more es i grows all.1)
-
-  -- a question as it begins
-  pub begun_covering : (ws : List (Instance ℕ × Frame)) (fs : List (Instance ℕ × Find)) (i : Instance ℕ) (f : Frame) (s : Step) → ws ≡ [] → fs ≡ [] → HasPassedTo rules look fs i f s → IsCovering rules look ws fs i f s
-  begun_covering ws fs i f s alone nothing passed = record {
-    waits = subst (λ x. HavePassed rules look fs x i) (sym alone) tt;
-    last = passed;
-    finds = subst (AreWhole rules look) (sym nothing) (λ p j g e. absurd (none_there p j g e));
-  }
-    where
-      none_there : (p : ℕ) (j : Instance ℕ) (g : Find) → slice_get {X = Instance ℕ × Find} [] p ≡ Some (j, g) → ⊥
-      none_there p j g e = absurd cc
-
-  -- the last one has come further
-  pub covers_on : (ws : List (Instance ℕ × Frame)) (fs : List (Instance ℕ × Find)) (i : Instance ℕ) (f g : Frame) (s r : Step) → IsCovering rules look ws fs i f s → HasPassedTo rules look fs i g r → IsCovering rules look ws fs i g r
-  covers_on ws fs i f g s r h passed = record { waits = h.waits; last = passed; finds = h.finds }
-
-  module _ (entries : Entries) (old new : Evaluation) (q : IsOrderlyIn entries old) where
-    -- the last one needs an instance that isn't under way
-    pub deepens_covering : (j : Instance ℕ) (s : Step) → IsCoveringIn rules look old (step.Need j) → new.waiting.entries ≡ insert_entry same_instance old.waiting.entries old.inst old.frame → new.found.entries ≡ old.found.entries → new.inst ≡ j →
-        HasPassedTo rules look old.found.entries j new.frame s → IsCoveringIn rules look new s
-    deepens_covering j s h waiting same last passed =
-        let ws = old.waiting.entries in
-        let fs = old.found.entries in
-        let goes = waiting ∙ waits_last entries ws fs old.inst _ q old.frame in
-        let P : List (Instance ℕ × Frame) → List (Instance ℕ × Find) → Instance ℕ → Type 0 = λ x y z. IsCovering rules look x y z new.frame s in
-        let there : P (ws ++ (old.inst, old.frame) ∷ []) fs j = record { waits = passed_push fs ws old.inst j old.frame h.waits h.last; last = passed; finds = h.finds } in
-        subst (λ z. P new.waiting.entries new.found.entries z) (sym last) (subst (λ y. P new.waiting.entries y j) (sym same) (subst (λ x. P x fs j) (sym goes) there))
-
-    -- the last one has a value
-    pub settles_covering : (v : ValueCode) (needed b : Instance ℕ) (f : Frame) (d : Find) → IsCoveringIn rules look old (step.Value v) → map loc_view d.reads.items ≡ old.frame.trial.reads → d.demanded ≡ old.frame.demanded →
-        old.waiting.entries ≡ new.waiting.entries ++ (b, f) ∷ [] → new.found.entries ≡ insert_entry same_instance old.found.entries old.inst d → new.inst ≡ b → new.frame ≡ f → needed ≡ old.inst → IsCoveringIn rules look new (step.Need needed)
-    settles_covering v needed b f d h reads demanded waiting found last same is =
-        let rest = new.waiting.entries in
-        let fs = old.found.entries in
-        let i = old.inst in
-        let goes = found ∙ found_last entries old.waiting.entries fs i _ q d in
-        let more : List (Instance ℕ × Find) = fs ++ (i, d) ∷ [] in
-        let grows : Extends fs more = ((i, d) ∷ [], refl) in
-        let split = passed_pop fs rest b i f (subst (λ ws. HavePassed rules look fs ws i) waiting h.waits) in
-        let P : List (Instance ℕ × Find) → Instance ℕ → Frame → Instance ℕ → Type 0 = λ x y z w. IsCovering rules look rest x y z (step.Need w) in
-        let there : P more b f i = record {
-          waits = all_more fs more rest b grows split.0;
-          last = passed_more fs more b f (Demands i (resumed rules.classes f.trial)) grows split.1;
-          finds = whole_push fs i d h.finds (whole fs i old.frame v d h.last reads demanded);
-        } in
-        subst (λ y. P new.found.entries y new.frame needed) (sym last) (subst (λ z. P new.found.entries b z needed) (sym same) (subst (λ x. P x b f needed) (sym goes) (subst (λ w. P more b f w) (sym is) there)))

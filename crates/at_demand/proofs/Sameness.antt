@@ -1,5 +1,5 @@
 -- Instances that the test finds the same are equal.
-use Rattle.std.proofs.Common.{◌≡◌, ◌&&◌, ℕ, nat_eq, Bool, true, false, List, [], ◌∷◌, refl, sym, ap, ◌∙◌}
+use Rattle.std.proofs.Common.{◌≡◌, ℕ, true, false, List, [], ◌∷◌, refl, sym, ap, ◌∙◌}
 use Rattle.std.proofs.lemmas.Bool.{and_parts, eqb-true, true≢false, false_from_ne_true}
 use Rattle.std.specs.Cmp.Lexicographic.{pointwise}
 use Rattle.at_model.specs.Run.{Value, Instance}
@@ -28,7 +28,3 @@ same_refl i = instances_equiv.refl i
 
 pub apart : (i j : Instance ℕ) → (i ≡ j → ⊥) → same_instance i j ≡ false
 apart i j other = false_from_ne_true (same_instance i j) (λ e. other (same_true i j e))
-
--- of other nodes they aren't the same
-pub other_node : (i j : Instance ℕ) (b : Bool) (m n : ℕ) → m ≡ i.node → n ≡ j.node → b ≡ nat_eq m n → b ≡ false → b ≡ same_instance i j
-other_node i j b m n p q e f = f ∙ sym (ap (λ c. c && (nat_eq i.attribute j.attribute && pointwise same_value i.arguments j.arguments)) (sym (e ∙ λ k. nat_eq (p k) (q k)) ∙ f))

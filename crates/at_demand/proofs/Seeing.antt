@@ -28,9 +28,3 @@ module _ {N : Type 0} (look : Contents N) (equation : Equations N) where
   read_seen r s js ls l (looked m k p) (inl same) = inl (sym same)
   read_seen r s js ls l (looked m k p) (inr h) = inr (read_seen (k (look m)) s _ _ l p h)
   read_seen r s js ls l (told j k w is p) h = (w, is, read_seen (k w) s _ _ l p h)
-
-  pub told_comes : (r s : Run N (Value N)) (js : List (Instance N)) (ls : List (Location N)) (i : Instance N) → Past look (HasValue look equation) r js ls s → Among i js → Reaches look (HasValue look equation) r i
-  told_comes r s js ls i (here _) h = absurd h
-  told_comes r s js ls i (looked m k p) h = told_comes (k (look m)) s _ _ i p h
-  told_comes r s js ls i (told j k w is p) (inl same) = inl (sym same)
-  told_comes r s js ls i (told j k w is p) (inr h) = inr (w, is, told_comes (k w) s _ _ i p h)

@@ -1,5 +1,5 @@
 -- A question that was posted on the tree as it is stands so after each of its turns, and while more comes to what is kept.
-use Rattle.std.proofs.Common.{◌≡◌, ◌⊎◌, ℕ, Bool, true, false, List, [], ◌∷◌, ◌++◌, Option, Some, None, inl, inr, refl, sym, ap, ◌∙◌, subst, if◌then◌else◌}
+use Rattle.std.proofs.Common.{◌≡◌, ◌⊎◌, ℕ, Bool, true, false, List, [], ◌∷◌, ◌++◌, Option, Some, None, inl, inr, refl, sym, ap, ◌∙◌, subst, append-nil, if◌then◌else◌}
 use Rattle.std.specs.Prelude.{IsSome, IfSome}
 use Rattle.std.specs.List.{AllByRecursion}
 use Rattle.std.specs.Map.{keys_of, lookup}
@@ -27,7 +27,8 @@ use Rattle.at_demand.specs.Right.{AreThere, IsThere}
 use Rattle.at_demand.specs.Covering.{AreWhole}
 use Rattle.at_demand.specs.Only.{AreLean}
 use Rattle.at_demand.specs.Sparing.{AddsWorthy, AreSettled, IsWorthKeeping}
-use Rattle.at_demand.specs.Turns.{IsStanding, IsSparingTurns, found_of, passed_of, under_way}
+use Rattle.at_demand.specs.Turns.{HasMet, HaveMet, IsMet, IsStanding, IsSparingTurns, found_of, passed_of, under_way}
+use Rattle.at_demand.proofs.of_steps.Met.{have_more, met_more, met_pop, met_push}
 use Rattle.at_demand.specs.ChainSteps.{HasSettled, HasPassedOn, HasDeepened}
 use Rattle.at_demand.specs.Attempts.{HasFound, HasNeeded}
 use Rattle.at_demand.proofs.Entered.{entered_on, is_there, kept_on, value_on, valued_on}
@@ -178,23 +179,61 @@ module _ (rules : Rules) (s : Shown) (entries more : Entries) (grown : (i : Inst
   settled_still : AreSettled rules entries old.found.entries → AreSettled rules more old.found.entries
   settled_still settled p i f e = let x = settled p i f e in record { lazy = λ l. kept_on entries more grown i (x.lazy l); took = λ u a. entered_on entries more grown u (x.took u a) }
 
-  pub spares_as : (new : Question) → new.found.entries ≡ old.found.entries → IsSparingTurns rules (contents s) entries old → IsSparingTurns rules (contents s) more new
-  spares_as new found sparing = record { lean = subst (AreLean rules (contents s)) (sym found) sparing.lean; settled = subst (AreSettled rules more) (sym found) (settled_still sparing.settled) }
+  pub still_met : (j : Instance ℕ) → IsMet entries old.found.entries j → IsMet more old.found.entries j
+  still_met = met_more entries more grown old.found.entries old.found.entries ([], sym (append-nil old.found.entries))
+
+  pub met_still : HaveMet rules (contents s) entries old.found.entries (keys_of old.waiting.entries) old.inst → HaveMet rules (contents s) more old.found.entries (keys_of old.waiting.entries) old.inst
+  met_still = have_more rules (contents s) entries more old.found.entries old.found.entries still_met (keys_of old.waiting.entries) old.inst
+
+  pub spares_as : (new : Question) → under_way new ≡ under_way old → new.found.entries ≡ old.found.entries → IsSparingTurns rules (contents s) entries old → IsSparingTurns rules (contents s) more new
+  spares_as new same found sparing = record {
+    lean = subst (AreLean rules (contents s)) (sym found) sparing.lean;
+    settled = subst (AreSettled rules more) (sym found) (settled_still sparing.settled);
+    met = subst (λ (u : UnderWay ℕ). HaveMet rules (contents s) more new.found.entries u.waiting u.last) (sym same)
+        (subst (λ fs. HaveMet rules (contents s) more fs (keys_of old.waiting.entries) old.inst) (sym found) (met_still sparing.met));
+  }
+
+  -- the last one is off the chain
+  met_risen : (new : Question) → old.waiting.entries ≡ new.waiting.entries ++ (new.inst, tt) ∷ [] → (longer : List (Instance ℕ × Find)) →
+      HaveMet rules (contents s) more longer (keys_of old.waiting.entries) old.inst → HaveMet rules (contents s) more longer (keys_of new.waiting.entries) new.inst
+  met_risen new waits longer met =
+      met_pop rules (contents s) more longer (keys_of new.waiting.entries) new.inst old.inst
+      (subst (λ is. HaveMet rules (contents s) more longer is old.inst) (last_two old.waiting.entries new.waiting.entries new.inst waits) met)
 
   pub spares_settled : (new : Question) (d : Find) → HasFound rules (contents s) entries old.found.entries old.inst d → (o : Option AnswerCode) → HasSettled old d new o → IsSparingTurns rules (contents s) entries old →
       AreSettled rules more (old.found.entries ++ (old.inst, d) ∷ []) → IsSparingTurns rules (contents s) more new
-  spares_settled new d has (Some a) r sparing settled = spares_as new r.found sparing
+  spares_settled new d has (Some a) r sparing settled = spares_as new r.same r.found sparing
   spares_settled new d has None r sparing settled =
       let goes = r.found ∙ goes_last old.found.entries old.inst d (fresh_found rules s entries entries old st) in
-      record { lean = subst (AreLean rules (contents s)) (sym goes) (lean_push rules (contents s) old.found.entries old.inst d sparing.lean has.lean); settled = subst (AreSettled rules more) (sym goes) settled }
+      let longer : List (Instance ℕ × Find) = old.found.entries ++ (old.inst, d) ∷ [] in
+      let grows = met_more entries more grown old.found.entries longer ((old.inst, d) ∷ [], refl) in
+      record {
+        lean = subst (AreLean rules (contents s)) (sym goes) (lean_push rules (contents s) old.found.entries old.inst d sparing.lean has.lean);
+        settled = subst (AreSettled rules more) (sym goes) settled;
+        met = subst (λ fs. HaveMet rules (contents s) more fs (keys_of new.waiting.entries) new.inst) (sym goes)
+            (met_risen new r.waits longer (have_more rules (contents s) entries more old.found.entries longer grows (keys_of old.waiting.entries) old.inst sparing.met));
+      }
 
   pub spares_passed : (new : Question) (v : ValueCode) (o : Option AnswerCode) → HasPassedOn old v new o → IsSparingTurns rules (contents s) entries old → IsSparingTurns rules (contents s) more new
-  spares_passed new v (Some a) r sparing = spares_as new r.found sparing
-  spares_passed new v None r sparing = spares_as new r.found sparing
+  spares_passed new v (Some a) r sparing = spares_as new r.same r.found sparing
+  spares_passed new v None r sparing = record {
+    lean = subst (AreLean rules (contents s)) (sym r.found) sparing.lean;
+    settled = subst (AreSettled rules more) (sym r.found) (settled_still sparing.settled);
+    met = subst (λ fs. HaveMet rules (contents s) more fs (keys_of new.waiting.entries) new.inst) (sym r.found) (met_risen new r.waits old.found.entries (met_still sparing.met));
+  }
 
-  pub spares_deepened : (new : Question) (j : Instance ℕ) (o : Option AnswerCode) → HasDeepened old j new o → IsSparingTurns rules (contents s) entries old → IsSparingTurns rules (contents s) more new
-  spares_deepened new j (Some a) r sparing = spares_as new (ap (λ (q : Question). q.found.entries) r.same) sparing
-  spares_deepened new j None r sparing = spares_as new r.found sparing
+  pub spares_deepened : (new : Question) (j : Instance ℕ) (o : Option AnswerCode) → HasDeepened old j new o → HasMet rules (contents s) entries old.found.entries old.inst j → IsSparingTurns rules (contents s) entries old → IsSparingTurns rules (contents s) more new
+  spares_deepened new j (Some a) r one sparing = spares_as new (ap (λ q. under_way q) r.same) (ap (λ (q : Question). q.found.entries) r.same) sparing
+  spares_deepened new j None r one sparing =
+      let ws : chain (under_way old) ≡ keys_of new.waiting.entries = sym (ap keys_of r.waiting ∙ waits_push rules s entries entries old st) in
+      let all = met_push rules (contents s) entries old.found.entries (keys_of old.waiting.entries) old.inst j sparing.met one in
+      let still = have_more rules (contents s) entries more old.found.entries old.found.entries still_met (chain (under_way old)) j all in
+      record {
+        lean = subst (AreLean rules (contents s)) (sym r.found) sparing.lean;
+        settled = subst (AreSettled rules more) (sym r.found) (settled_still sparing.settled);
+        met = subst (λ fs. HaveMet rules (contents s) more fs (keys_of new.waiting.entries) new.inst) (sym r.found)
+            (subst (λ x. HaveMet rules (contents s) more old.found.entries (keys_of new.waiting.entries) x) (sym r.inst) (subst (λ xs. HaveMet rules (contents s) more old.found.entries xs j) ws still));
+      }
 
 -- what was asked stays what was asked
 pub asked_same : (rules : Rules) (s : Shown) (entries : Entries) (q : Question) → IsStanding rules s entries q → (u : UnderWay ℕ) (o : Option AnswerCode) → Turned (contents s) (meaning rules) (kept_values entries) (under_way q) u (option_map answer_view o) → asked u ≡ asked (under_way q)

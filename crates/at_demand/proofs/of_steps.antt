@@ -1,6 +1,5 @@
 -- Steps of a question.
-pub mod Ascending
-pub mod Rising
-pub mod Advanced
-pub mod Ending
+pub mod Met
+pub mod AllTurns
+pub mod Ended
 pub mod Turning

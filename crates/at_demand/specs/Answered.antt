@@ -1,5 +1,5 @@
 -- What a question is answered, and what becomes of what is kept.
-use Rattle.std.specs.Prelude.{ℕ, Bool, Option, IsTrue, IfOk, IfSome, Result}
+use Rattle.std.specs.Prelude.{ℕ, Bool, Option, IsTrue, IfOk, IfSome, OnErr, Result}
 use Rattle.std.specs.Option.{option_map}
 use Rattle.at_model.specs.Run.{Instance}
 use Rattle.at_model.specs.Rules.{Rules}
@@ -14,7 +14,7 @@ use Rattle.at_demand.specs.Known.{meaning, kept_values, ArePlain, answer_view}
 use Rattle.at_demand.specs.Right.{AreRight, IsThere}
 use Rattle.at_demand.specs.Sparing.{AddsWorthy, AreSpare, Counts, HasWorthy, IsWork, MayAddLazy}
 use Rattle.at_demand.specs.KeptTrials.{FitAfter}
-use Rattle.at_demand.specs.Turns.{HasGiven, IsSparingTurns, IsStanding, under_way}
+use Rattle.at_demand.specs.Turns.{AreTurns, BreaksOff, HasGiven, IsSparingTurns, IsStanding, under_way}
 
 -- The instance has its answer. What is kept stays right; with an exact keeper it stays spare, has all that is worth keeping, and the
 -- work counts that.
@@ -46,6 +46,8 @@ pub record HasTurnedWith {E : Type 0} (rules : Rules) (s : Shown) (exact : Bool)
   pub turned : IfOk r (λ o. Turned (contents s) (meaning rules) (kept_values before) (under_way old) (under_way new) (option_map answer_view o))
   pub standing : IfOk r (λ o. IsStanding rules s after new)
   pub fit : IfOk r (FitAfter rules s after new t)
+  pub all : IsTrue exact → AreSpare rules (contents s) before → IsSparingTurns rules (contents s) before old
+      → IfOk r (λ o. IfSome o (λ a. HasWorthy rules (contents s) (asked (under_way old)) after))
   pub sparing : IsTrue exact → AreSpare rules (contents s) before → IsSparingTurns rules (contents s) before old
       → IfOk r (λ o. IsSparingTurns rules (contents s) after new)
   pub gains : GainsAtMost rules s exact before after earlier later old
@@ -62,6 +64,8 @@ pub record HasTurned {E : Type 0} (rules : Rules) (s : Shown) (exact : Bool) (be
   pub plain : ArePlain rules after
   pub last : MayAddLazy rules before after old.inst
   pub worthy : AddsWorthy rules (contents s) (asked (under_way old)) before after
+  pub all : IsTrue exact → AreSpare rules (contents s) before → IsSparingTurns rules (contents s) before old
+      → IfOk r (λ o. IfSome o (λ a. HasWorthy rules (contents s) (asked (under_way old)) after))
   pub sparing : IsTrue exact → AreSpare rules (contents s) before → IsSparingTurns rules (contents s) before old
       → IfOk r (λ o. IsSparingTurns rules (contents s) after new)
   pub spare : IsTrue exact → AreSpare rules (contents s) before → IsSparingTurns rules (contents s) before old → AreSpare rules (contents s) after
@@ -71,6 +75,11 @@ pub record HasTurned {E : Type 0} (rules : Rules) (s : Shown) (exact : Bool) (be
 pub record HasTurnedOften {E : Type 0} (rules : Rules) (s : Shown) (exact : Bool) (before after : Entries) (earlier later limit : ℕ)
     (old new : Question) (r : Result (ℕ × Option Answer) E) : Type 0 where
   pub given : IfOk r (λ g. HasGiven (contents s) (meaning rules) limit g.0 (under_way old) (under_way new) (option_map answer_view g.1))
+  pub each : IfOk r (λ g. AreTurns rules s g.0 before (under_way old) after (under_way new) (option_map answer_view g.1))
+  pub broke : OnErr r (BreaksOff rules s limit before (under_way old) after)
+  pub all : IsTrue exact → AreSpare rules (contents s) before → IsSparingTurns rules (contents s) before old
+      → IfOk r (λ g. IfSome g.1 (λ a. HasWorthy rules (contents s) (asked (under_way old)) after))
+  pub answers : IfOk r (λ g. IfSome g.1 (λ a. Answers (contents s) (meaning rules) (asked (under_way old)) (answer_view a)))
   pub standing : IfOk r (λ g. IsStanding rules s after new)
   pub right : Right (contents s) (meaning rules) (kept_values after)
   pub worthy : AddsWorthy rules (contents s) (asked (under_way old)) before after

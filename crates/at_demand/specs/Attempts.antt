@@ -34,11 +34,11 @@ pub record HasComeTo (rules : Rules) (at : ClassAt ℕ) (look : Contents ℕ) (e
   pub typed : IsTypedStep rules at s f.trial
   pub kept : AreValued entries f.demanded.kept.items
 
--- where it needs another instance, its trial waits for that
+-- where it needs another instance, its trial waits for that, and where it fails it has come to that
 abbrev pub Awaits : Rules → ClassAt ℕ → Contents ℕ → Entries → List (Instance ℕ × Find) → Instance ℕ → Frame → Attempt → Type 0
 Awaits rules at look entries found i f (attempt.Kept v) = Unit {0}
 Awaits rules at look entries found i f (attempt.Found d) = Unit {0}
-Awaits rules at look entries found i f (attempt.Fails kind) = Unit {0}
+Awaits rules at look entries found i f (attempt.Fails kind) = HasComeTo rules at look entries found i f (step.Fault kind)
 Awaits rules at look entries found i f (attempt.Needs j) = HasComeTo rules at look entries found i f (step.Need j)
 
 -- the value of an instance was found, with all that it rests on and nothing else

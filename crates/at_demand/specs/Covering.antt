@@ -1,26 +1,23 @@
 -- That what a question finds rests on the locations and the instances that stand with it, and nothing else.
-use Rattle.std.specs.Prelude.{◌≡◌, ◌⊎◌, ℕ, true, List, [], ◌∷◌, ◌++◌, map, slice_get, Some}
-use Rattle.at_model.specs.Run.{Value, Instance, Location, Contents, Run, Demands}
+use Rattle.std.specs.Prelude.{◌≡◌, ◌⊎◌, ℕ, true, List, ◌++◌, map, slice_get, Some}
+use Rattle.at_model.specs.Run.{Value, Instance, Location, Contents, Run}
 use Rattle.at_model.specs.Follow.{Past}
 use Rattle.at_model.specs.Rules.{Rules}
 use Rattle.at_model.specs.Meaning.{HasValue, Among, Comes}
 use Rattle.at_model.specs.Support.{Sees, Supports}
 use Rattle.at_store.specs.declared.node.Loc.{Loc}
 use Rattle.at_store.specs.Located.{loc_view}
-use Rattle.at_body.specs.Rest.{reached, resumed}
+use Rattle.at_body.specs.Rest.{reached}
 use Rattle.at_body.specs.declared.trial.Step.{Step}
 use Rattle.at_cache.specs.Kept.{Kept, Entries}
 use Rattle.at_demand.specs.declared.evaluation.Demanded.{Demanded}
 use Rattle.at_demand.specs.declared.evaluation.Find.{Find}
 use Rattle.at_demand.specs.declared.evaluation.Frame.{Frame}
-use Rattle.at_demand.specs.declared.evaluation.Evaluation.{Evaluation}
 use Rattle.at_demand.specs.declared.evaluation.Recalled.{Recalled}
 use Rattle.at_demand.specs.declared.evaluation.Recalled.TheVariants as recalled
 use Rattle.at_demand.specs.declared.gathering.Sources.{Sources}
-use Rattle.at_demand.specs.declared.evaluation.Advance.{Advance}
-use Rattle.at_demand.specs.declared.evaluation.Advance.TheVariants as advance
 use Rattle.at_demand.specs.Known.{meaning}
-use Rattle.at_demand.specs.UnderWay.{left_of, first_of}
+use Rattle.at_demand.specs.UnderWay.{left_of}
 
 -- the instance is one of the kept ones, or was found at one of the positions
 abbrev pub IsDemanded : List (Instance ℕ × Find) → Demanded → Instance ℕ → Type 0
@@ -38,12 +35,6 @@ HasPassed rules look found i f r = (js : List (Instance ℕ)) × Past look (IsTo
 abbrev pub HasPassedTo : Rules → Contents ℕ → List (Instance ℕ × Find) → Instance ℕ → Frame → Step → Type 0
 HasPassedTo rules look found i f s = HasPassed rules look found i f (left_of (reached rules.classes s f.trial))
 
--- each that waits has come to the demand of the next, and the last one to that of i
-abbrev pub HavePassed : Rules → Contents ℕ → List (Instance ℕ × Find) → List (Instance ℕ × Frame) → Instance ℕ → Type 0
-HavePassed rules look found [] i = Unit {0}
-HavePassed rules look found (e ∷ es) i = HasPassed rules look found e.0 e.1 (Demands (first_of es i) (resumed rules.classes e.1.trial))
-    × HavePassed rules look found es i
-
 -- what was demanded stays so, and the instance is among it where its value was recalled
 abbrev pub Takes : List (Instance ℕ × Find) → (old new : Demanded) → Instance ℕ → Recalled → Type 0
 Takes found old new i (recalled.Value v) = ((j : Instance ℕ) → IsDemanded found old j → IsDemanded found new j) × IsDemanded found new i
@@ -57,23 +48,6 @@ pub record IsWhole (rules : Rules) (look : Contents ℕ) (found : List (Instance
 -- so it is of all that was found
 abbrev pub AreWhole : Rules → Contents ℕ → List (Instance ℕ × Find) → Type 0
 AreWhole rules look found = (p : ℕ) (i : Instance ℕ) (f : Find) → slice_get found p ≡ Some (i, f) → IsWhole rules look found i f
-
--- Whatever the question was told stands with the frame that was told it, or with the find.
-pub record IsCovering (rules : Rules) (look : Contents ℕ) (waiting : List (Instance ℕ × Frame)) (found : List (Instance ℕ
-    × Find)) (i : Instance ℕ) (f : Frame) (s : Step) : Type 0 where
-  pub waits : HavePassed rules look found waiting i
-  pub last : HasPassedTo rules look found i f s
-  pub finds : AreWhole rules look found
-
--- so it is of a question
-abbrev pub IsCoveringIn : Rules → Contents ℕ → Evaluation → Step → Type 0
-IsCoveringIn rules look q s = IsCovering rules look q.waiting.entries q.found.entries q.inst q.frame s
-
--- the question goes on so, or has its answer
-abbrev pub IsCoveringAdvance : Rules → Contents ℕ → Evaluation → Advance → Type 0
-IsCoveringAdvance rules look q (advance.GoesOn s) = IsCoveringIn rules look q s
-IsCoveringAdvance rules look q (advance.Fails kind) = Unit {0}
-IsCoveringAdvance rules look q (advance.Answers a) = Unit {0}
 
 -- each entry stands for all that supports its instance
 abbrev pub AreCovered : Rules → Contents ℕ → Entries → Type 0

@@ -1,5 +1,5 @@
 -- What is known of values while a question is answered: what is kept, and what was found.
-use Rattle.std.specs.Prelude.{◌≡◌, ◌⊎◌, ℕ, nat_eq, false, List, [], ◌∷◌, slice_get, Some, None, IsSome, Contains}
+use Rattle.std.specs.Prelude.{◌≡◌, ◌⊎◌, ℕ, nat_eq, false, List, slice_get, Some, None, IsSome, Contains}
 use Rattle.std.specs.Option.{option_map}
 use Rattle.std.specs.Map.{lookup}
 use Rattle.at_model.specs.Run.{Value, Instance, Known}
@@ -9,7 +9,6 @@ use Rattle.at_body.specs.Same.{same_instance}
 use Rattle.at_body.specs.Values.{value_view, fault_view}
 use Rattle.at_cache.specs.Kept.{Kept, Entries, value_at}
 use Rattle.at_demand.specs.declared.evaluation.Find.{Find}
-use Rattle.at_demand.specs.declared.evaluation.Frame.{Frame}
 use Rattle.at_demand.specs.declared.evaluation.Recalled.{Recalled}
 use Rattle.at_demand.specs.declared.evaluation.Recalled.TheVariants as recalled
 use Rattle.at_demand.specs.declared.answer.Answer.{Answer as AnswerCode}
@@ -65,12 +64,7 @@ FoundAs found i f = (p : ℕ) × (slice_get found p ≡ Some (i, f))
 abbrev pub IsFound : List (Instance ℕ × Find) → Instance ℕ → Type 0
 IsFound found i = (p : ℕ) × (f : Find) × (slice_get found p ≡ Some (i, f))
 
--- what the evaluations that wait took of what is kept is kept
-abbrev pub WaitingKept : Entries → List (Instance ℕ × Frame) → Type 0
-WaitingKept entries [] = Unit {0}
-WaitingKept entries (w ∷ ws) = AreValued entries w.1.demanded.kept.items × WaitingKept entries ws
-
--- and so what those took that found a value
+-- what those that found a value took of what is kept is kept
 abbrev pub FoundKept : Entries → List (Instance ℕ × Find) → Type 0
 FoundKept entries found = (i : Instance ℕ) (f : Find) → lookup (same_instance i) found ≡ Some f → AreValued entries f.demanded.kept.items
 

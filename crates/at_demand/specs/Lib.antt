@@ -1,13 +1,10 @@
-pub mod Chain
 pub mod Known
 pub mod UnderWay
-pub mod Typing
 pub mod Right
 pub mod Touched
 pub mod Covering
 pub mod Only
 pub mod Sparing
-pub mod Stacked
 pub mod Advancing
 pub mod Spared
 pub mod Called

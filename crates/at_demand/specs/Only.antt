@@ -8,7 +8,6 @@ use Rattle.at_store.specs.declared.node.Loc.{Loc}
 use Rattle.at_store.specs.Located.{loc_view}
 use Rattle.at_demand.specs.declared.evaluation.Demanded.{Demanded}
 use Rattle.at_demand.specs.declared.evaluation.Find.{Find}
-use Rattle.at_demand.specs.declared.evaluation.Frame.{Frame}
 use Rattle.at_demand.specs.declared.evaluation.Recalled.{Recalled}
 use Rattle.at_demand.specs.declared.evaluation.Recalled.TheVariants as recalled
 use Rattle.at_demand.specs.declared.gathering.Sources.{Sources}
@@ -19,11 +18,6 @@ use Rattle.at_demand.specs.Covering.{IsDemanded}
 pub record TakesOnly (rules : Rules) (look : Contents ℕ) (found : List (Instance ℕ × Find)) (i : Instance ℕ) (d : Demanded) : Type 0 where
   pub kept : (j : Instance ℕ) → Among j d.kept.items → Comes look (meaning rules) i j
   pub finds : (p : ℕ) → Among p d.finds.items → (j : Instance ℕ) × (g : Find) × (slice_get found p ≡ Some (j, g)) × Comes look (meaning rules) i j
-
--- so it is of all that wait
-abbrev pub TakeOnly : Rules → Contents ℕ → List (Instance ℕ × Find) → List (Instance ℕ × Frame) → Type 0
-TakeOnly rules look found [] = Unit {0}
-TakeOnly rules look found (e ∷ es) = TakesOnly rules look found e.0 e.1.demanded × TakeOnly rules look found es
 
 -- The evaluation of i sees each of the find's reads, and comes to each instance that was taken.
 pub record IsLean (rules : Rules) (look : Contents ℕ) (found : List (Instance ℕ × Find)) (i : Instance ℕ) (f : Find) : Type 0 where

@@ -7,11 +7,7 @@ use Rattle.at_model.specs.Meaning.{HasValue, Leads, Among, Distinct}
 use Rattle.at_model.specs.Support.{Supports}
 use Rattle.at_cache.specs.Kept.{Kept, Entries}
 use Rattle.at_demand.specs.declared.evaluation.Find.{Find}
-use Rattle.at_demand.specs.declared.evaluation.Evaluation.{Evaluation}
-use Rattle.at_demand.specs.declared.evaluation.Advance.{Advance}
-use Rattle.at_demand.specs.declared.evaluation.Advance.TheVariants as advance
 use Rattle.at_demand.specs.Known.{meaning, kept_values, IsFound, IsKept, KeepsEntries}
-use Rattle.at_demand.specs.Only.{TakesOnly, TakeOnly, AreLean}
 
 -- with each entry of these all lazy instances to which its own leads are kept among those
 abbrev pub IsDeep : Rules → Contents ℕ → (these those : Entries) → Type 0
@@ -61,21 +57,6 @@ pub record IsSettled (rules : Rules) (entries : Entries) (i : Instance ℕ) (f :
 
 abbrev pub AreSettled : Rules → Entries → List (Instance ℕ × Find) → Type 0
 AreSettled rules entries found = (p : ℕ) (i : Instance ℕ) (f : Find) → slice_get found p ≡ Some (i, f) → IsSettled rules entries i f
-
--- Nothing else stands with the evaluations under way and with the finds than what they see and come to; what is kept is spare,
--- and all that was found is kept where it is lazy.
-pub record IsSparing (rules : Rules) (look : Contents ℕ) (entries : Entries) (q : Evaluation) : Type 0 where
-  pub waits : TakeOnly rules look q.found.entries q.waiting.entries
-  pub last : TakesOnly rules look q.found.entries q.inst q.frame.demanded
-  pub finds : AreLean rules look q.found.entries
-  pub settled : AreSettled rules entries q.found.entries
-  pub spare : AreSpare rules look entries
-
--- the question goes on so, or has its answer, and all that is worth keeping is kept
-abbrev pub IsSparingAdvance : Rules → Contents ℕ → Instance ℕ → Entries → Evaluation → Advance → Type 0
-IsSparingAdvance rules look asked entries q (advance.GoesOn s) = IsSparing rules look entries q
-IsSparingAdvance rules look asked entries q (advance.Fails kind) = HasWorthy rules look asked entries
-IsSparingAdvance rules look asked entries q (advance.Answers a) = HasWorthy rules look asked entries
 
 -- the list has each instance once that `new` keeps and `old` doesn't; what `old` has stays
 pub record AreGained (old new : Entries) (gained : List (Instance ℕ)) : Type 0 where

@@ -1,11 +1,12 @@
 -- Questions that are given turns, as code has them.
-use Rattle.std.specs.Prelude.{◌≡◌, ℕ, ◌+◌, ◌≤◌, List, ◌++◌, map, Option, Some, None}
+use Rattle.std.specs.Prelude.{◌≡◌, ◌⊎◌, ℕ, ◌+◌, ◌<◌, ◌≤◌, List, [], ◌∷◌, ◌++◌, get_or, map, Option, Some, None, IsSome}
 use Rattle.std.specs.List.{AllByRecursion}
 use Rattle.std.specs.Map.{keys_of}
-use Rattle.at_model.specs.Run.{Value, Instance, Contents, Known}
+use Rattle.at_model.specs.Run.{Value, Instance, Location, Contents, Known, Run, Demands}
+use Rattle.at_model.specs.Follow.{Past}
 use Rattle.at_model.specs.Rules.{Rules}
 use Rattle.at_model.specs.Instances.{AnyText}
-use Rattle.at_model.specs.Meaning.{Answer, Equations, Among}
+use Rattle.at_model.specs.Meaning.{Answer, Equations, Among, HasValue}
 use Rattle.at_model.specs.TypedRuns.{IsWellTyped}
 use Rattle.at_model.specs.Turning.{UnderWay, chain, asked, IsOn, Silent, Turned}
 use Rattle.at_store.specs.Shown.{Shown, contents}
@@ -15,10 +16,10 @@ use Rattle.at_body.specs.declared.value.Value.{Value as ValueCode}
 use Rattle.at_cache.specs.Kept.{Entries}
 use Rattle.at_demand.specs.declared.evaluation.Find.{Find}
 use Rattle.at_demand.specs.declared.question.Question.{Question}
-use Rattle.at_demand.specs.Known.{meaning, kept_values, FoundKept}
+use Rattle.at_demand.specs.Known.{meaning, kept_values, FoundKept, IsFound}
 use Rattle.at_demand.specs.Covering.{AreWhole}
 use Rattle.at_demand.specs.Only.{AreLean}
-use Rattle.at_demand.specs.Sparing.{AreSettled}
+use Rattle.at_demand.specs.Sparing.{AreSettled, MayAddLazy}
 
 -- the values that were found
 abbrev pub found_of : List (Instance ℕ × Find) → List (Instance ℕ × Value ℕ)
@@ -41,14 +42,47 @@ pub record IsStanding (rules : Rules) (s : Shown) (entries : Entries) (q : Quest
   pub passed : (i : Instance ℕ) (v : Value ℕ) → Among (i, v) (passed_of q.passed.entries) → kept_values entries i ≡ Some v
   pub whole : AreWhole rules (contents s) q.found.entries
 
--- nothing else stands with what was found than what its evaluations see and come to, and what was found of lazy attributes is
--- kept
+-- an instance that has an entry, or was found
+abbrev pub IsMet : Entries → List (Instance ℕ × Find) → Instance ℕ → Type 0
+IsMet entries found j = IsSome (entries j) ⊎ IsFound found j
+
+-- the evaluation of i has come to the demand of n, past values of what is met
+abbrev pub HasMet : Rules → Contents ℕ → Entries → List (Instance ℕ × Find) → (i n : Instance ℕ) → Type 0
+HasMet rules look entries found i n = (js : List (Instance ℕ)) × (ls : List (Location ℕ)) × (rest : Value ℕ → Run ℕ (Value ℕ))
+    × Past look (λ j v. HasValue look (meaning rules) j v × IsMet entries found j) (meaning rules i) js ls (Demands n rest)
+
+-- so each of these has come to the demand of the next, and the last one to that of n
+abbrev pub HaveMet : Rules → Contents ℕ → Entries → List (Instance ℕ × Find) → List (Instance ℕ) → Instance ℕ → Type 0
+HaveMet rules look entries found [] n = Unit {0}
+HaveMet rules look entries found (i ∷ is) n = HasMet rules look entries found i (get_or is 0 n) × HaveMet rules look entries found is n
+
+-- nothing else stands with what was found than what its evaluations see and come to, what was found of lazy attributes is
+-- kept, and those that wait have met nothing else
 pub record IsSparingTurns (rules : Rules) (look : Contents ℕ) (entries : Entries) (q : Question) : Type 0 where
   pub lean : AreLean rules look q.found.entries
   pub settled : AreSettled rules entries q.found.entries
+  pub met : HaveMet rules look entries q.found.entries (keys_of q.waiting.entries) q.inst
 
 -- It was given so many turns: as many as it may be, without an answer; or none of them was answered but the last.
 abbrev pub HasGiven : Contents ℕ → Equations ℕ → (limit given : ℕ) → UnderWay ℕ → UnderWay ℕ → Option (Answer ℕ) → Type 0
 HasGiven look equation limit given u new None = (given ≡ limit) × Silent look equation given u new
 HasGiven look equation limit given u new (Some a) = (before : ℕ) × (mid : UnderWay ℕ) × (kept : Known ℕ) × (given ≡ before + 1) × (given ≤ limit)
     × Silent look equation before u mid × Turned look equation kept mid new (Some a)
+
+-- So many single turns were given, one behind the other: each tried the one equation to which the question had come, and lets at
+-- most the value of that instance come to what is kept, where it is lazy. None but the last one answers it.
+pub data AreTurns (rules : Rules) (s : Shown) : (given : ℕ) → (before : Entries) → UnderWay ℕ → (after : Entries) → UnderWay ℕ
+    → Option (Answer ℕ) → Type 0 where
+  none : (e : Entries) (u : UnderWay ℕ) → AreTurns rules s 0 e u e u None
+  more : (n : ℕ) (d e f : Entries) (u v w : UnderWay ℕ) (o : Option (Answer ℕ)) → AreTurns rules s n d u e v None
+      → Turned (contents s) (meaning rules) (kept_values e) v w o → MayAddLazy rules e f v.last → AreTurns rules s (n + 1) d u f w o
+
+-- Memory ran out in one of so many turns at most. Those before it were given so, and that one lets at most the value of the instance
+-- to which the question had come then come to what is kept.
+pub record BreaksOff (rules : Rules) (s : Shown) (limit : ℕ) (before : Entries) (u : UnderWay ℕ) (after : Entries) : Type 0 where
+  pub given : ℕ
+  pub fewer : given < limit
+  pub mid : Entries
+  pub way : UnderWay ℕ
+  pub turns : AreTurns rules s given before u mid way None
+  pub last : MayAddLazy rules mid after way.last

@@ -1,28 +1,21 @@
 //! Questions for the values of instances.
 
 ghost use Rattle.std.specs.Prelude.{◌≡◌, ◌<◌, ◌^◌, [], is_some, map, IfOk, IfSome, OnErr, IsTrue, None, Some, true};
-ghost use Rattle.std.specs.Map.{lookup};
 ghost use Rattle.at_model.specs.Instances.{AnyText};
 ghost use Rattle.at_model.specs.Meaning.{HasValue, Right};
 ghost use Rattle.at_model.specs.TypedRuns.{IsWellTyped};
 ghost use Rattle.at_model.specs.WellFormed.{AreWellFormed, IsTreeSound};
-ghost use Rattle.at_body.specs.declared.trial.Step.TheVariants as step_code;
 ghost use Rattle.at_store.specs.Located.{loc_view};
 ghost use Rattle.at_store.specs.Shown.{IsIdle, contents, tree};
-ghost use Rattle.at_body.specs.Same.{same_instance};
 ghost use Rattle.at_body.specs.Typed.{class_shown};
 ghost use Rattle.at_body.specs.Values.{value_view};
 ghost use Rattle.at_cache.specs.Kept.{AreKept, AreNamed, HasPut, KeepsAll, Answers as Says, LeavesUntouched, LosesTouched, value_at};
-ghost use Rattle.at_demand.specs.Known.{meaning, kept_values, known_in, ArePlain, AreValued, FoundKept};
+ghost use Rattle.at_demand.specs.Known.{meaning, kept_values, ArePlain, AreValued, FoundKept};
 ghost use Rattle.at_demand.specs.Keeping.{HasPlaced, KeepsWhereLazy, Shares};
-ghost use Rattle.at_demand.specs.Advancing.{HasAdvanced};
 ghost use Rattle.at_demand.specs.Answered.{HasAnswered};
-ghost use Rattle.at_demand.specs.UnderWay.{HasStepped, IsOrderlyIn};
-ghost use Rattle.at_demand.specs.Typing.{AreTypedWaiting, IsTypedIn};
 ghost use Rattle.at_model.specs.Rules.{is_lazy};
 ghost use Rattle.at_demand.specs.Sparing.{AreSpare, Counts, HasWorthy};
 ghost use Rattle.at_demand.specs.Inner.{AreKnown, Gains};
-ghost use Rattle.at_demand.specs.Stacked.{IsStackedIn};
 ghost use Rattle.at_demand.specs.Right.{IsThere};
 ghost use Rattle.at_demand.specs.Traces.{AreJustified, AreOfTree, StayJustified};
 ghost use Rattle.at_cache.specs.Traced.{FlushesTraces, StayTraced};
@@ -32,10 +25,10 @@ mod turning;
 
 use crate::answer::Answer;
 use crate::direct::Direct;
-use crate::evaluation::{Advance, Evaluation, Find};
+use crate::evaluation::Find;
 use crate::sharing::Sharing;
 use at_apply::Stop;
-use at_body::{Inst, Step, Value};
+use at_body::{Inst, Value};
 use at_cache::{Keeper, Order, Put};
 use at_rules::Rules;
 use at_store::{Loc, Places, Store};
@@ -100,7 +93,7 @@ impl<K: Keeper> Demand<K> {
         self.keeper.get(inst).is_some()
     }
 
-    // The answer for an instance that isn't kept: in one go or, where that gives up, by a chain of evaluations that wait.
+    // The answer for an instance that isn't kept: in one go or, where that gives up, by the turns of a question.
     #[inline(never)]
     fn answer_anew(
         &mut self,
@@ -122,7 +115,7 @@ impl<K: Keeper> Demand<K> {
         let at_once = self.answer_at_once(rules, store, inst)?;
         match at_once {
             Some(value) => Ok(Answer::Value(value)),
-            None => self.answer_by_chain(rules, store, inst),
+            None => self.answer_by_turns(rules, store, inst),
         }
     }
 
@@ -152,8 +145,8 @@ impl<K: Keeper> Demand<K> {
         }
     }
 
-    // The answer for an instance, which may have come to be kept where an evaluation in one go gave up.
-    fn answer_by_chain(
+    // The answer for an instance by all turns of a question. An error behind the greatest number, as if memory were wanting.
+    fn answer_by_turns(
         &mut self,
         rules: &Rules,
         store: &Store,
@@ -169,39 +162,9 @@ impl<K: Keeper> Demand<K> {
             self.old.work self.new.work inst.now result }
         ensures traces { StayTraced (K.memories self.old.keeper) (K.memories self.new.keeper) }
     {
-        if let Some(value) = self.keeper.get(inst) {
-            return Ok(Answer::Value(value.copy()?));
-        }
-        self.evaluate(rules, store, inst)
-    }
-
-    // The answer for an instance that isn't kept. Apart from the look-up, which most questions end with, so that those
-    // don't make room for a question under way.
-    fn evaluate(&mut self, rules: &Rules, store: &Store, inst: &Inst) -> Result<Answer, AllocError>
-        requires idle { IsIdle store.now }
-        requires formed { AreWellFormed rules.now }
-        requires sound { IsTreeSound rules.now.classes (tree store.now) }
-        requires typed { IsWellTyped rules.now (class_shown store.now) AnyText inst.now }
-        requires right { Right (contents store.now) (meaning rules.now) (kept_values (K.contents self.old.keeper)) }
-        requires plain { ArePlain rules.now (K.contents self.old.keeper) }
-        requires unkept { kept_values (K.contents self.old.keeper) inst.now ≡ None }
-        ensures answered { HasAnswered rules.now store.now K.exact (K.contents self.old.keeper) (K.contents self.new.keeper)
-            self.old.work self.new.work inst.now result }
-        ensures traces { StayTraced (K.memories self.old.keeper) (K.memories self.new.keeper) }
-    {
-        self.sharing.clear();
-        let begun = Evaluation::new(self.alloc, rules, store, inst.copy(self.alloc)?)?;
-        let (mut evaluation, mut step) = begun;
-        loop {
-            match self.advance(rules, store, &mut evaluation, step)? {
-                Advance::GoesOn(reached) => step = reached,
-                Advance::Fails(kind) => {
-                    let at = evaluation.into_inst();
-                    return Ok(Answer::Fault { kind, at });
-                }
-                Advance::Answers(answer) => return Ok(answer),
-            }
-        }
+        let mut question = self.post(inst.copy(self.alloc)?)?;
+        let given = self.turns(rules, store, &mut question, u64::MAX)?;
+        given.1.ok_or(AllocError)
     }
 
     /// Forgets what an edit touches: called once the edit is decided, and before it is made.
@@ -232,131 +195,6 @@ impl<K: Keeper> Demand<K> {
         ensures { result ≡ self.now.work }
     {
         self.work
-    }
-
-    // Goes on with the last instance of the chain up to its end, or to an instance that isn't known; then that one's
-    // evaluation is begun.
-    fn advance<'a>(
-        &mut self,
-        rules: &'a Rules,
-        store: &'a Store,
-        evaluation: &mut Evaluation<'a>,
-        step: Step,
-    ) -> Result<Advance, AllocError>
-        requires idle { IsIdle store.now }
-        requires formed { AreWellFormed rules.now }
-        requires sound { IsTreeSound rules.now.classes (tree store.now) }
-        requires right { Right (contents store.now) (meaning rules.now) (known_in (K.contents self.old.keeper) evaluation.old.found.entries) }
-        requires typed { IsTypedIn rules.now (class_shown store.now) evaluation.old step }
-        requires stepped { HasStepped rules.now (contents store.now) evaluation.old.inst evaluation.old.frame.trial step }
-        requires orderly { IsOrderlyIn (K.contents self.old.keeper) evaluation.old }
-        requires stacked { IsStackedIn evaluation.old }
-        requires plain { ArePlain rules.now (K.contents self.old.keeper) }
-        ensures advanced { HasAdvanced rules.now store.now K.exact (K.contents self.old.keeper) (K.contents self.new.keeper)
-            self.old.work self.new.work evaluation.old step evaluation.new result }
-        ensures traces { StayTraced (K.memories self.old.keeper) (K.memories self.new.keeper) }
-    {
-        let step = evaluation.frame.go_on(
-            self.alloc,
-            &self.keeper,
-            &evaluation.found,
-            rules,
-            store,
-            step,
-        )?;
-        match step {
-            Step::Value(value) => self.settle(rules, store, evaluation, value),
-            Step::Fault(kind) => Ok(Advance::Fails(kind)),
-            Step::Need(needed) => self.deepen(rules, store, evaluation, needed),
-        }
-    }
-
-    // The last instance needs another one.
-    fn deepen<'a>(
-        &self,
-        rules: &'a Rules,
-        store: &'a Store,
-        evaluation: &mut Evaluation<'a>,
-        needed: Inst,
-    ) -> Result<Advance, AllocError>
-        requires idle { IsIdle store.now }
-        requires formed { AreWellFormed rules.now }
-        requires sound { IsTreeSound rules.now.classes (tree store.now) }
-        requires typed { IsTypedIn rules.now (class_shown store.now) evaluation.old (step_code.Need needed) }
-        requires orderly { IsOrderlyIn (K.contents self.now.keeper) evaluation.old }
-        requires stacked { IsStackedIn evaluation.old }
-        requires found { lookup (same_instance needed) evaluation.old.found.entries ≡ None }
-        requires kept { kept_values (K.contents self.now.keeper) needed ≡ None }
-        requires plain { ArePlain rules.now (K.contents self.now.keeper) }
-        ensures { HasAdvanced rules.now store.now K.exact (K.contents self.now.keeper) (K.contents self.now.keeper)
-            self.now.work self.now.work evaluation.old (step_code.Need needed) evaluation.new result }
-    {
-        if evaluation.has(&needed) {
-            return Ok(Advance::Answers(Answer::Circular { at: needed }));
-        }
-        let step = evaluation.descend(self.alloc, rules, store, needed)?;
-        Ok(Advance::GoesOn(step))
-    }
-
-    // The last instance has this value, which is found where its attribute isn't lazy.
-    fn settle<'a>(
-        &mut self,
-        rules: &'a Rules,
-        store: &'a Store,
-        evaluation: &mut Evaluation<'a>,
-        value: Value,
-    ) -> Result<Advance, AllocError>
-        requires idle { IsIdle store.now }
-        requires formed { AreWellFormed rules.now }
-        requires sound { IsTreeSound rules.now.classes (tree store.now) }
-        requires typed { AreTypedWaiting rules.now (class_shown store.now) evaluation.old.waiting.entries evaluation.old.inst }
-        requires has { HasValue (contents store.now) (meaning rules.now) evaluation.old.inst (value_view value) }
-        requires orderly { IsOrderlyIn (K.contents self.old.keeper) evaluation.old }
-        requires stacked { IsStackedIn evaluation.old }
-        requires plain { ArePlain rules.now (K.contents self.old.keeper) }
-        ensures advanced { HasAdvanced rules.now store.now K.exact (K.contents self.old.keeper) (K.contents self.new.keeper)
-            self.old.work self.new.work evaluation.old (step_code.Value value) evaluation.new result }
-        ensures traces { StayTraced (K.memories self.old.keeper) (K.memories self.new.keeper) }
-    {
-        if rules.is_lazy(evaluation.inst.attribute()) {
-            return self.settle_lazy(rules, store, evaluation, value);
-        }
-        let find = evaluation.frame.find(self.alloc, value);
-        evaluation.ascend(self.alloc, rules, store, find)
-    }
-
-    // The last instance, whose attribute is lazy, has this value.
-    #[inline(always)]
-    fn settle_lazy<'a>(
-        &mut self,
-        rules: &'a Rules,
-        store: &'a Store,
-        evaluation: &mut Evaluation<'a>,
-        value: Value,
-    ) -> Result<Advance, AllocError>
-        requires idle { IsIdle store.now }
-        requires formed { AreWellFormed rules.now }
-        requires sound { IsTreeSound rules.now.classes (tree store.now) }
-        requires lazy { is_lazy rules.now evaluation.old.inst.attribute ≡ true }
-        requires typed { AreTypedWaiting rules.now (class_shown store.now) evaluation.old.waiting.entries evaluation.old.inst }
-        requires has { HasValue (contents store.now) (meaning rules.now) evaluation.old.inst (value_view value) }
-        requires orderly { IsOrderlyIn (K.contents self.old.keeper) evaluation.old }
-        requires stacked { IsStackedIn evaluation.old }
-        requires plain { ArePlain rules.now (K.contents self.old.keeper) }
-        ensures advanced { HasAdvanced rules.now store.now K.exact (K.contents self.old.keeper) (K.contents self.new.keeper)
-            self.old.work self.new.work evaluation.old (step_code.Value value) evaluation.new result }
-        ensures traces { StayTraced (K.memories self.old.keeper) (K.memories self.new.keeper) }
-    {
-        let find = evaluation.frame.take_find(self.alloc, value);
-        let put = self.keep_lazy(rules, &evaluation.found, &evaluation.inst, &find)?;
-        match put {
-            Put::Kept => {
-                // What was found since its evaluation began may go, and other finds may come to its positions.
-                self.sharing.forget_from(evaluation.frame.start());
-                evaluation.pass(self.alloc, rules, store, find)
-            }
-            Put::Left => evaluation.ascend(self.alloc, rules, store, find),
-        }
     }
 
     // Keeps the value that was found of the instance, if its attribute is lazy, and says whether it is kept.

@@ -309,6 +309,7 @@ impl Direct {
     }
 
     // Evaluates an instance, from its beginning to its end.
+    #[inline(always)]
     #[cycle(direct)]
     fn evaluate<K: Keeper>(
         &mut self,
@@ -507,6 +508,7 @@ impl Direct {
     }
 
     // The value of an attribute of a node, with the values of arguments.
+    #[inline(always)]
     #[cycle(direct)]
     fn call<K: Keeper>(
         &mut self,
@@ -544,6 +546,7 @@ impl Direct {
     }
 
     // The values of arguments.
+    #[inline(always)]
     #[cycle(direct)]
     fn passed<K: Keeper>(
         &mut self,

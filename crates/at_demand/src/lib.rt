@@ -1,25 +1,23 @@
 //! Questions: the answer that the equations give for an instance, by demands, none of which is of an instance under way.
 //!
-//! **Its specs**, in order: `Known` is what is known meanwhile, `Chain` who waits, `UnderWay` how far a question has come, `Stacked` which
-//! finds its evaluations took, `Typing` of which kinds the values are; `Right` says when what is kept is right,
+//! **Its specs**, in order: `Known` is what is known meanwhile, `UnderWay` how far an evaluation has come; `Right` says when what is kept is right,
 //! `Covering` how the locations of an entry come together, `Only` that nothing else does, `Keeping` what becomes of a
 //! find that is to be kept, and which entries without a value come before; `Sparing` what an exact keeper has and how
-//! much comes, `Advancing` what a step comes to and `Answered` a question, `Touched` and `Spared` what an edit leaves,
+//! much comes, `Advancing` what an evaluation comes to and `Answered` a question, `Touched` and `Spared` what an edit leaves,
 //! `Called` the same by paths. `Inner` is what instances are told that are evaluated in one go, and what comes of it, `InParts` the same of an
 //! expression, part by part, and `Traces` when what can be kept again with no evaluation is right. Of questions in turns, `Turns` shows one in the words of `at_model`, `Attempts` is what
 //! one try comes to, `ChainSteps` what that does to the chain, `KeptTrials` the trials that stay while turns follow
 //! each other.
 //!
 //! **Where to begin:** `Demand::answer` in `demand.rt`: a question is answered in one go by `direct.rt`, a recursion, or where that gives up
-//! over `evaluation.rt` and its `chain.rt`; what many kept values rest on is gathered in `gathering.rt` and stands once by `demand/shared.rt`; a question that is given turns is `question.rt` and
-//! `demand/turning.rt`. It holds nothing of rules or tree between turns.
+//! by all turns of a question, which is `question.rt` and `demand/turning.rt`, with evaluations of `evaluation.rt`. It holds nothing of
+//! rules or tree between turns. What many kept values rest on is gathered in `gathering.rt` and stands once by `demand/shared.rt`.
 //!
 //! **What it keeps true:** what is kept is right, and, with an exact keeper, spare; `laws.rt` and `turning_laws.rt`
 //! say that it stays so over questions and edits.
 #![tactic(auto)]
 
 mod answer;
-mod chain;
 mod demand;
 mod direct;
 mod evaluation;

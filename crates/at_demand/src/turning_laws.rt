@@ -6,14 +6,14 @@ ghost use Rattle.at_model.specs.Asking.{IsWellFormed};
 ghost use Rattle.at_model.specs.Instances.{instances};
 ghost use Rattle.at_model.specs.Paths.{Node};
 ghost use Rattle.at_model.specs.Rules.{Rules};
-ghost use Rattle.at_model.specs.Run.{Contents, Instance};
+ghost use Rattle.at_model.specs.Run.{Instance};
 ghost use Rattle.at_model.specs.WellFormed.{AreWellFormed, IsTreeSound};
-ghost use Rattle.at_model.specs.Turning.{IsOn, Silent, UnderWay, asked, posted};
+ghost use Rattle.at_model.specs.Turning.{IsOn, Silent, UnderWay, posted};
 ghost use Rattle.at_store.specs.Shown.{IsIdle, Shown, contents, path, tree};
 ghost use Rattle.at_cache.specs.Kept.{Entries};
 ghost use Rattle.at_demand.specs.declared.question.Question.{Question};
 ghost use Rattle.at_demand.specs.Known.{meaning};
-ghost use Rattle.at_demand.specs.Turns.{IsSparingTurns, IsStanding, under_way};
+ghost use Rattle.at_demand.specs.Turns.{IsSparingTurns, IsStanding};
 
 /// Twice the number of all instances is two more than the turns that a question is given without an answer, whatever is kept
 /// at each of them; and all that is under way and was found are that many instances at most.

@@ -1,5 +1,5 @@
 -- What comes to what is kept while an instance is evaluated in one go.
-use Rattle.std.proofs.Common.{◌≡◌, ◌⊎◌, ℕ, zero, suc, ◌^◌, ◌<◌, Bool, true, false, not, List, [], ◌∷◌, ◌++◌, Option, Some, None, inl, inr, refl, sym, ap, ◌∙◌, subst, append-nil, arith, if◌then◌else◌, true≢false}
+use Rattle.std.proofs.Common.{◌≡◌, ℕ, zero, suc, ◌^◌, ◌<◌, Bool, true, false, not, List, [], ◌∷◌, ◌++◌, Option, Some, None, inl, inr, refl, sym, ap, ◌∙◌, subst, append-nil, arith, if◌then◌else◌, true≢false}
 use Rattle.std.specs.Prelude.{Contains, IsSome, IsTrue}
 use Rattle.std.proofs.lemmas.List.Elements.{Contains-append_cases, Contains-push_cases}
 use Rattle.at_demand.specs.declared.direct.Level.{Level}
@@ -12,13 +12,13 @@ use Rattle.at_body.specs.Values.{value_view}
 use Rattle.at_body.specs.declared.value.Value.{Value as ValueCode}
 use Rattle.at_model.specs.Rules.{Rules, is_lazy}
 use Rattle.at_model.specs.Meaning.{Among, Comes, HasValue, Leads, Right}
-use Rattle.at_model.specs.Nested.{Tells, Evaluates}
+use Rattle.at_model.specs.Nested.{Tells}
 use Rattle.at_model.proofs.of_nesting.Nesting.{tells_hold, evaluates_value, taken_known, led}
 use Rattle.at_store.specs.Shown.{Shown, IsIdle, contents}
-use Rattle.at_cache.specs.Kept.{Kept, Entries, AreKept, HasPut, KeepsAll, Puts, value_at}
+use Rattle.at_cache.specs.Kept.{Kept, Entries, HasPut, KeepsAll, Puts, value_at}
 use Rattle.at_cache.specs.declared.keeper.Put.{Put}
 use Rattle.at_cache.specs.declared.keeper.Put.TheVariants as put
-use Rattle.at_demand.specs.Known.{meaning, kept_values, ArePlain, IsKept, KeepsEntries}
+use Rattle.at_demand.specs.Known.{meaning, kept_values, ArePlain, IsKept}
 use Rattle.at_demand.specs.Right.{AreRight, IsThere, IsValued}
 use Rattle.at_demand.specs.Sparing.{AddsWorthy, AreSpare, Counts, HasWorthy, IsWorthKeeping}
 use Rattle.at_demand.specs.Inner.{AreKnown, Gains, HasTold, IsEvaluated, IsGiven, is_inner, known_by, remembered}
@@ -123,18 +123,6 @@ module _ (rules : Rules) (s : Shown) (exact : Bool) where
     known = a.known;
     still = a.still;
     stays = λ there all. a.stays (led_there rules s idle i j there leads) all;
-    spare = a.spare;
-    counts = a.counts;
-  }
-
-  -- what was remembered for it counts no more
-  pub gains_forget : (i : Instance ℕ) (old new : Entries) (f g : Found) (w x : ℕ) →
-      Gains rules s exact i old new f g w x → Gains rules s exact i old new [] [] w x
-  gains_forget i old new f g w x a = record {
-    worthy = a.worthy;
-    known = known_none rules (contents s) new a.known.right a.known.plain;
-    still = λ j v e. e;
-    stays = a.stays;
     spare = a.spare;
     counts = a.counts;
   }

@@ -1,8 +1,7 @@
 -- A value that was evaluated with inner ones, and is put for all that was looked at and taken, leaves what is kept
 -- right and spare.
-use Rattle.std.proofs.Common.{◌≡◌, ◌⊎◌, ◌||◌, ℕ, Bool, true, false, not, List, [], ◌∷◌, Option, Some, None, inl, inr, refl, sym, ap, ◌∙◌, subst, if◌then◌else◌, true≢false}
+use Rattle.std.proofs.Common.{◌≡◌, ◌⊎◌, ◌||◌, ℕ, Bool, true, false, not, List, Option, Some, None, inl, inr, refl, sym, ap, ◌∙◌, subst, if◌then◌else◌, true≢false}
 use Rattle.std.specs.Prelude.{IsSome, IsTrue}
-use Rattle.std.specs.List.{list_any}
 use Rattle.std.proofs.lemmas.Option.{none-some, same_Some}
 use Rattle.at_model.specs.Run.{Value, Instance, Location, Contents, Known}
 use Rattle.at_model.specs.Rules.{Rules, is_lazy}
@@ -22,7 +21,7 @@ use Rattle.at_demand.proofs.Entered.{is_there, kept_on, not_none, there as is_so
 use Rattle.at_demand.proofs.Gathered.{any_among}
 use Rattle.at_demand.proofs.Leading.{supports_on}
 use Rattle.at_demand.proofs.OnlyLemmas.{any_one}
-use Rattle.at_demand.proofs.Sameness.{same_refl, same_true}
+use Rattle.at_demand.proofs.Sameness.{same_true}
 
 left : (a b : Bool) → a ≡ true → (a || b) ≡ true
 left true b e = refl
@@ -71,10 +70,6 @@ module _ (rules : Rules) (look : Contents ℕ) (exact : Bool) (old new : Entries
     | inr p ↦ absurd (not_none (old j) some (subst (λ x. old x ≡
         None) p.0 absent))
   ]
-
-  pub stands_now : IsSome (new i)
-  stands_now = subst (λ (x : Option Kept). IsSome x) (sym (puts.adds i ∙ ap (λ t. if t then Some puts.entry else old i)
-      (same_refl i))) refl
 
   pub right_now : Right look (meaning rules) (kept_values old) → Right look (meaning rules) (kept_values new)
   right_now all j w e = elim (cases j) [

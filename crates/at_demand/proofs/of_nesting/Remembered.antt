@@ -5,7 +5,7 @@ use Rattle.std.specs.Map.{lookup}
 use Rattle.std.specs.Option.{option_map}
 use Rattle.std.proofs.lemmas.Option.{same_Some}
 use Rattle.indexmap.specs.IndexMap.{insert_entry}
-use Rattle.at_model.specs.Run.{Value, Instance, Contents, Known}
+use Rattle.at_model.specs.Run.{Value, Instance, Contents}
 use Rattle.at_model.specs.Rules.{Rules, is_lazy}
 use Rattle.at_model.specs.Meaning.{Finds, HasValue, Right}
 use Rattle.at_model.proofs.Outcomes.{once}
@@ -14,8 +14,8 @@ use Rattle.at_body.specs.Values.{value_view}
 use Rattle.at_body.specs.declared.value.Value.{Value as ValueCode}
 use Rattle.at_cache.specs.Kept.{Entries}
 use Rattle.at_demand.specs.Known.{meaning, kept_values, KeepsEntries}
-use Rattle.at_demand.specs.Inner.{AreKnown, IsOneOf, StayRemembered, known_by, remembered}
-use Rattle.at_demand.proofs.Entered.{entered, entered_on, is_there, value_on}
+use Rattle.at_demand.specs.Inner.{AreKnown, StayRemembered, known_by, remembered}
+use Rattle.at_demand.proofs.Entered.{entered, is_there, value_on}
 use Rattle.at_demand.proofs.Sameness.{same_true, same_refl}
 
 -- what stands behind an instance once one more is put

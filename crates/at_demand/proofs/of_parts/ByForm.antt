@@ -1,7 +1,7 @@
 -- Evaluations in one go, form by form.
-use Rattle.std.proofs.Common.{◌≡◌, ℕ, Bool, true, false, cond, List, [], ◌∷◌, ◌++◌, map, Option, Some, None, Result, Ok, Err, IfOk, refl, sym, ap, ◌∙◌, subst}
+use Rattle.std.proofs.Common.{◌≡◌, ℕ, Bool, true, false, cond, List, [], ◌∷◌, ◌++◌, map, Option, Some, Result, Ok, Err, IfOk, refl, sym, ap, ◌∙◌, subst}
 use Rattle.std.specs.Borrow.{Bor}
-use Rattle.at_model.specs.Run.{Value, Truth, Ref, Slot, Instance, Location, Run, Gives, LooksTo, ◌>>=◌}
+use Rattle.at_model.specs.Run.{Value, Truth, Ref, Slot, Instance, Location, Run, LooksTo, ◌>>=◌}
 use Rattle.at_model.specs.Bodies.{Expr, demand_of, elements_of, truth_of}
 use Rattle.at_model.specs.Rules.{Rules}
 use Rattle.at_store.specs.Shown.{Shown, contents}
@@ -18,7 +18,7 @@ use Rattle.at_apply.specs.Looking.{HasBegun, HasLooked}
 use Rattle.at_apply.specs.Parts.{call_of, either_of, fold_of, one_of, or_truth, two_of}
 use Rattle.at_demand.specs.declared.direct.Level.{Level}
 use Rattle.at_demand.specs.Inner.{Gains, HasTold}
-use Rattle.at_demand.specs.InParts.{HasCome, HasGained, Held, IsHeld, demand, values_in}
+use Rattle.at_demand.specs.InParts.{HasCome, HasGained, Held, demand, values_in}
 use Rattle.at_demand.specs.Traces.{StayJustified}
 use Rattle.at_demand.proofs.of_parts.Directly.{come_begun, come_end, come_then, gains_begun, gains_demand, gains_then, gains_within, grows, grows_then, told_come}
 

@@ -1,10 +1,9 @@
 -- Evaluations in one go, one part behind the other: what they come to, and what comes to what is held meanwhile.
-use Rattle.std.proofs.Common.{◌≡◌, ◌<◌, ◌^◌, ℕ, ◌+◌, Bool, List, [], ◌∷◌, ◌++◌, Option, Some, None, Result, Ok, Err, IfOk, inl, refl, sym, ap, ◌∙◌, subst, append_assoc, append-nil, arith}
-use Rattle.std.specs.Prelude.{IsTrue}
-use Rattle.at_model.specs.Run.{Value, Instance, Location, Run, Gives, LooksTo, ◌>>=◌}
+use Rattle.std.proofs.Common.{◌≡◌, ◌<◌, ◌^◌, ℕ, ◌+◌, Bool, List, [], ◌++◌, Option, Some, None, Result, Ok, Err, IfOk, inl, refl, sym, ap, ◌∙◌, subst, append_assoc, append-nil, arith}
+use Rattle.at_model.specs.Run.{Value, Instance, Location, Run, Gives, ◌>>=◌}
 use Rattle.at_model.specs.Follow.{follow}
 use Rattle.at_model.specs.Meaning.{HasValue, Right}
-use Rattle.at_model.specs.Nested.{Tells, Evaluates, Passes, gives, told}
+use Rattle.at_model.specs.Nested.{Tells, Evaluates, gives, told}
 use Rattle.at_model.specs.Rules.{Rules}
 use Rattle.at_model.proofs.of_nesting.Nesting.{binds, evaluates_more, evaluates_deeper, reaches_behind, reaches_within}
 use Rattle.at_store.specs.Shown.{Shown, contents}
@@ -12,7 +11,7 @@ use Rattle.at_apply.specs.Looking.{HasBegun, HasLooked}
 use Rattle.at_demand.specs.declared.direct.Level.{Level}
 use Rattle.at_demand.specs.Known.{meaning, kept_values, IsKept, KeepsEntries}
 use Rattle.at_demand.specs.Inner.{Gains, HasTold, StayRemembered, is_inner}
-use Rattle.at_demand.specs.InParts.{AreDemandedThere, Demanded, HasCome, HasGained, Held, IsHeld, demand, values_in}
+use Rattle.at_demand.specs.InParts.{Demanded, HasCome, HasGained, Held, IsHeld, demand, values_in}
 use Rattle.at_demand.specs.Sparing.{IsWorthKeeping}
 use Rattle.at_demand.specs.Traces.{StayJustified}
 use Rattle.at_demand.proofs.Counting.{counts_more, counts_none}

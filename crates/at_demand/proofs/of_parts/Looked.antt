@@ -1,5 +1,5 @@
 -- Evaluations that look at locations first: what stands behind the looks is theirs, too.
-use Rattle.std.proofs.Common.{◌≡◌, ℕ, List, [], ◌∷◌, ◌++◌, refl, sym, ap, ◌∙◌, subst, append_assoc, append-nil}
+use Rattle.std.proofs.Common.{◌≡◌, ℕ, List, [], ◌∷◌, ◌++◌, sym, ap, ◌∙◌, subst, append_assoc, append-nil}
 use Rattle.at_model.specs.Run.{Value, Instance, Location, Contents, Run, Gives, Fails, Looks, Demands, LooksTo}
 use Rattle.at_model.specs.Follow.{Reached, Ends, Stops, Waits}
 use Rattle.at_model.specs.Meaning.{Reaches}

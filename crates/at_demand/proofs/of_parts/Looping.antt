@@ -2,18 +2,17 @@
 use Rattle.std.proofs.Common.{◌≡◌, ◌<◌, ◌^◌, ℕ, Bool, List, [], ◌∷◌, ◌++◌, map, refl, sym, ap, ◌∙◌, subst, append_assoc, append-nil}
 use Rattle.std.proofs.lemmas.List.{map_push}
 use Rattle.at_model.specs.Run.{Value, Run, Gives, ◌>>=◌}
-use Rattle.at_model.specs.Bodies.{Expr}
 use Rattle.at_model.specs.Rules.{Rules}
 use Rattle.at_store.specs.Shown.{Shown, contents}
-use Rattle.at_rules.specs.Bodies.{bodies_view, body_view}
+use Rattle.at_rules.specs.Bodies.{body_view}
 use Rattle.at_rules.specs.declared.body.Body.{Body}
-use Rattle.at_body.specs.Rest.{ev, ev_all, over, settled}
-use Rattle.at_body.specs.Stacked.{below}
+use Rattle.at_body.specs.Rest.{ev, over, settled}
 use Rattle.at_body.specs.Standing.{Place, inside}
 use Rattle.at_body.specs.Values.{value_view}
 use Rattle.at_body.specs.declared.todo.Fold.{Fold}
 use Rattle.at_body.specs.declared.todo.Fold.TheVariants as fold
 use Rattle.at_body.specs.declared.value.Value.{Value as ValueCode}
+use Rattle.at_body.specs.Stacked.{below}
 use Rattle.at_demand.specs.declared.direct.Level.{Level}
 use Rattle.at_demand.specs.InParts.{HasCome, HasGained, Held, IsHeld}
 use Rattle.at_demand.proofs.of_parts.Directly.{Grows, come_gives, come_then, gains_then, gains_within, grows, grows_none, grows_then, nothing_gained}

@@ -28,13 +28,13 @@ returns-in-Some g c = record {
 pub returns-in-None : goal.returns-in-None
 returns-in-None g c = record {
   answered =
-      answered_after c.args.rules.now c.args.store.now g.K.Keeper.exact c.args.inst.now c.answer_by_chain.result
+      answered_after c.args.rules.now c.args.store.now g.K.Keeper.exact c.args.inst.now c.answer_by_turns.result
       (g.K.Keeper.contents c.args.self.now.keeper) (g.K.Keeper.contents c.answer_at_once.new.self.keeper)
-      (g.K.Keeper.contents c.answer_by_chain.new.self.keeper)
-      c.args.self.now.work c.answer_at_once.new.self.work c.answer_by_chain.new.self.work c.answer_at_once.ensures.gains
-      c.answer_by_chain.ensures.answered;
+      (g.K.Keeper.contents c.answer_by_turns.new.self.keeper)
+      c.args.self.now.work c.answer_at_once.new.self.work c.answer_by_turns.new.self.work c.answer_at_once.ensures.gains
+      c.answer_by_turns.ensures.answered;
   traces = traced_then c.args.rules.now c.args.store.now c.args.inst.now (g.K.Keeper.memories c.args.self.now.keeper) (g.K.Keeper.memories c.answer_at_once.new.self.keeper)
-      (g.K.Keeper.memories c.answer_by_chain.new.self.keeper) c.answer_at_once.ensures.traces (traced_on c.args.rules.now c.args.store.now c.args.inst.now
-      (g.K.Keeper.memories c.answer_at_once.new.self.keeper) (g.K.Keeper.memories c.answer_by_chain.new.self.keeper) c.answer_by_chain.ensures.traces
+      (g.K.Keeper.memories c.answer_by_turns.new.self.keeper) c.answer_at_once.ensures.traces (traced_on c.args.rules.now c.args.store.now c.args.inst.now
+      (g.K.Keeper.memories c.answer_at_once.new.self.keeper) (g.K.Keeper.memories c.answer_by_turns.new.self.keeper) c.answer_by_turns.ensures.traces
       c.answer_at_once.ensures.traces.justified);
 }

@@ -144,7 +144,10 @@ returns-in-Fault g c = record {
       let inst = c.args.inst.now in
       let entries = g.K.Keeper.contents c.args.self.now.keeper in
       let stepped = subst (λ (s : Step). HasStepped rules look inst c.go_on.new.self.trial s) c.in-Fault.is (c.in_ok-step.ensures.stepped inst c.requires.standing.stepped) in
-      record { tried = has_failed rules look entries found inst c.go_on.new.self.trial c.in-Fault.kind stepped; right = c.requires.kept_right; stays = λ there finds right. right; plain = c.requires.plain; lazy = λ j. inl refl; worthy = worthy_none rules look inst entries; spare = λ exact spare lean settled. spare; settles = λ exact spare settled. settled; counts = λ exact. counts_none entries c.args.self.now.work c.args.self.now.few; keeps = tt; waits = tt };
+      let typed = subst (λ (s : Step). IsTypedStep rules (class_shown c.args.store.now) s c.go_on.new.self.trial) c.in-Fault.is c.in_ok-step.ensures.typed in
+      let passed = subst (λ (s : Step). HasPassedTo rules look found inst c.go_on.new.self s) c.in-Fault.is (c.in_ok-step.ensures.passed inst c.requires.standing.passed) in
+      let takes = c.in_ok-step.ensures.only inst c.requires.standing.stepped c.requires.standing.takes in
+      record { tried = has_failed rules look entries found inst c.go_on.new.self.trial c.in-Fault.kind stepped; right = c.requires.kept_right; stays = λ there finds right. right; plain = c.requires.plain; lazy = λ j. inl refl; worthy = worthy_none rules look inst entries; spare = λ exact spare lean settled. spare; settles = λ exact spare settled. settled; counts = λ exact. counts_none entries c.args.self.now.work c.args.self.now.few; keeps = tt; waits = record { stepped = stepped; passed = passed; takes = takes; typed = typed; kept = c.in_ok-step.ensures.kept } };
   traces = stay_same (g.K.Keeper.memories c.args.self.now.keeper);
 }
 

@@ -1,6 +1,6 @@
 use Rattle.std.proofs.Common.{true, false}
+use Rattle.at_demand.proofs.Gaining.{told_lazy}
 use Rattle.at_demand.proofs.Putting.{left_out}
-use Rattle.at_demand.proofs.SparingOn.{told_lazy}
 use Rattle.at_demand.proofs.of_traces.Justified.{stay_same}
 use Rattle.at_demand.proofs.demand.Demand.keep.Goals as goal
 

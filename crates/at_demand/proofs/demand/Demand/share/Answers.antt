@@ -1,7 +1,7 @@
 use Rattle.std.proofs.Common.{false, refl, sym}
+use Rattle.at_demand.proofs.Gaining.{told_lazy}
 use Rattle.at_demand.proofs.Entered.{none_entered}
 use Rattle.at_demand.proofs.Entering.{shares_none}
-use Rattle.at_demand.proofs.SparingOn.{told_lazy}
 use Rattle.at_demand.proofs.of_traces.Justified.{stay_same}
 use Rattle.at_demand.proofs.demand.Demand.share.Goals as goal
 

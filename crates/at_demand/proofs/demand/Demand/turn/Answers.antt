@@ -35,6 +35,7 @@ returns g c = record {
         plain = e.gains.plain;
         last = e.gains.last;
         worthy = e.gains.worthy;
+        all = e.all;
         sparing = e.sparing;
         spare = e.gains.spare;
         counts = e.gains.counts;

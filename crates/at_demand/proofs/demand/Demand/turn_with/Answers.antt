@@ -8,7 +8,10 @@ use Rattle.at_demand.specs.Known.{kept_values}
 use Rattle.at_demand.specs.Attempts.{HasTried, IsKeptAs, SettlesOn, Awaits}
 use Rattle.at_demand.specs.KeptTrials.{FitAt}
 use Rattle.at_demand.proofs.Turned.{gained_turn, settled_turn, passed_turn, failed_turn, kept_turn, deepened_turn}
-use Rattle.at_demand.proofs.Standing.{stands_grown, last_typed, stands_settled, stands_passed, stands_deepened, all_right, spares_settled, spares_passed, spares_deepened}
+use Rattle.at_demand.proofs.Standing.{stands_grown, last_typed, stands_settled, stands_passed, stands_deepened, all_right, spares_as, spares_settled, spares_passed, spares_deepened}
+use Rattle.at_demand.proofs.of_steps.Ended.{asked_all, circle_all, fault_all, found_all, one_met, passed_all}
+use Rattle.at_model.specs.Turning.{asked}
+use Rattle.at_demand.specs.Turns.{under_way}
 use Rattle.at_demand.proofs.of_steps.Turning.{gains_none, gains_tried}
 use Rattle.at_demand.proofs.Fitting.{fit_gained, fit_passed, fit_settled, fit_deepened}
 use Rattle.at_demand.proofs.of_traces.Justified.{stay_same}
@@ -36,6 +39,7 @@ returns-in_err-copy g c = record {
         turned = rw is tt;
         standing = rw is tt;
         fit = rw is tt;
+        all = λ exact spare sparing. rw is tt;
         sparing = λ exact spare sparing. rw is tt;
         gains = gains_none rules s g.K.Keeper.exact old c.args.self.now.work c.args.self.now.few q c.requires.right c.requires.plain;
       };
@@ -55,6 +59,7 @@ returns-in_err-copy-2 g c = record {
         turned = rw is tt;
         standing = rw is tt;
         fit = rw is tt;
+        all = λ exact spare sparing. rw is tt;
         sparing = λ exact spare sparing. rw is tt;
         gains = gains_none rules s g.K.Keeper.exact old c.args.self.now.work c.args.self.now.few q c.requires.right c.requires.plain;
       };
@@ -74,6 +79,7 @@ returns-in_err-begun g c = record {
         turned = rw is tt;
         standing = rw is tt;
         fit = rw is tt;
+        all = λ exact spare sparing. rw is tt;
         sparing = λ exact spare sparing. rw is tt;
         gains = gains_none rules s g.K.Keeper.exact old c.args.self.now.work c.args.self.now.few q c.requires.right c.requires.plain;
       };
@@ -95,6 +101,7 @@ returns-in_err-value g c = record {
         turned = rw is tt;
         standing = rw is tt;
         fit = rw is tt;
+        all = λ exact spare sparing. rw is tt;
         sparing = λ exact spare sparing. rw is tt;
         gains = gains_tried rules s g.K.Keeper.exact old new c.args.self.now.work c.go_on.new.self.work q c.go_on.new.frame _ c.requires.idle st c.go_on.ensures.attempted;
       };
@@ -116,6 +123,7 @@ returns-in_err-copy-in-Kept g c = record {
         turned = rw is tt;
         standing = rw is tt;
         fit = rw is tt;
+        all = λ exact spare sparing. rw is tt;
         sparing = λ exact spare sparing. rw is tt;
         gains = gains_tried rules s g.K.Keeper.exact old new c.args.self.now.work c.go_on.new.self.work q c.go_on.new.frame _ c.requires.idle st c.go_on.ensures.attempted;
       };
@@ -137,6 +145,7 @@ returns-in_err-copy-in-Found g c = record {
         turned = rw is tt;
         standing = rw is tt;
         fit = rw is tt;
+        all = λ exact spare sparing. rw is tt;
         sparing = λ exact spare sparing. rw is tt;
         gains = gains_tried rules s g.K.Keeper.exact old new c.args.self.now.work c.go_on.new.self.work q c.go_on.new.frame _ c.requires.idle st c.go_on.ensures.attempted;
       };
@@ -158,6 +167,7 @@ returns-in_err-at-in-Fails g c = record {
         turned = rw is tt;
         standing = rw is tt;
         fit = rw is tt;
+        all = λ exact spare sparing. rw is tt;
         sparing = λ exact spare sparing. rw is tt;
         gains = gains_tried rules s g.K.Keeper.exact old new c.args.self.now.work c.go_on.new.self.work q c.go_on.new.frame _ c.requires.idle st c.go_on.ensures.attempted;
       };
@@ -179,6 +189,7 @@ returns-in_err-push-in-Needs g c = record {
         turned = rw is tt;
         standing = rw is tt;
         fit = rw is tt;
+        all = λ exact spare sparing. rw is tt;
         sparing = λ exact spare sparing. rw is tt;
         gains = gains_tried rules s g.K.Keeper.exact old new c.args.self.now.work c.go_on.new.self.work q c.go_on.new.frame _ c.requires.idle st c.go_on.ensures.attempted;
       };
@@ -200,6 +211,7 @@ returns-in-Some-get g c = record {
         turned = IfOk-weaker c.pass.result _ _ (passed_turn rules s old old q st p v c.requires.right kept) c.pass.ensures;
         standing = IfOk-weaker c.pass.result _ _ (λ o r. stands_passed rules s old old (λ i some. refl) q st p v kept o r (passed_turn rules s old old q st p v c.requires.right kept o r)) c.pass.ensures;
         fit = IfOk-weaker c.pass.result _ _ (fit_passed rules s old old (λ i some. refl) q p st c.forget.new.self v c.forget.ensures.frames c.forget.ensures.awaited) c.pass.ensures;
+        all = λ exact spare sparing. IfOk-weaker c.pass.result _ _ (passed_all rules s old q p v kept spare) c.pass.ensures;
         sparing = λ exact spare sparing. IfOk-weaker c.pass.result _ _ (λ o r. spares_passed rules s old old (λ i some. refl) q st p v o r sparing) c.pass.ensures;
         gains = gains_none rules s g.K.Keeper.exact old c.args.self.now.work c.args.self.now.few q c.requires.right c.requires.plain;
       };
@@ -226,6 +238,7 @@ returns-in_ok-copy-in-Kept g c = record {
         turned = IfOk-weaker c.pass-in-Kept.result _ _ (gained_turn rules s old old q st p v d same has) c.pass-in-Kept.ensures;
         standing = IfOk-weaker c.pass-in-Kept.result _ _ (λ o r. stands_passed rules s old new grown q st p v kept o r (gained_turn rules s old old q st p v d same has o r)) c.pass-in-Kept.ensures;
         fit = IfOk-weaker c.pass-in-Kept.result _ _ (fit_gained rules s old new grown q c.pass-in-Kept.new.self st (record { frames = t.frames; awaited = Some c.in_ok-copy-in-Kept.field-0 }) c.in_ok-copy-in-Kept.field-0 c.in-Kept.value c.in_ok-copy-in-Kept.ensures refl fit) c.pass-in-Kept.ensures;
+        all = λ exact spare sparing. IfOk-weaker c.pass-in-Kept.result _ _ (passed_all rules s new q p v kept (c.go_on.ensures.attempted.spare exact spare sparing.lean sparing.settled)) c.pass-in-Kept.ensures;
         sparing = λ exact spare sparing. IfOk-weaker c.pass-in-Kept.result _ _ (λ o r. spares_passed rules s old new grown q st c.pass-in-Kept.new.self c.in-Kept.value o r sparing) c.pass-in-Kept.ensures;
         gains = gains_tried rules s g.K.Keeper.exact old new c.args.self.now.work c.go_on.new.self.work q c.go_on.new.frame _ c.requires.idle st c.go_on.ensures.attempted;
       };
@@ -251,6 +264,7 @@ returns-in_ok-copy-in-Found g c = record {
         turned = IfOk-weaker c.settle.result _ _ (settled_turn rules s old old q st p d has) c.settle.ensures;
         standing = IfOk-weaker c.settle.result _ _ (λ o r. stands_settled rules s old new grown q st p d has o r (settled_turn rules s old old q st p d has o r)) c.settle.ensures;
         fit = IfOk-weaker c.settle.result _ _ (fit_settled rules s old new grown q p st (record { frames = t.frames; awaited = Some c.in_ok-copy-in-Found.field-0 }) c.in_ok-copy-in-Found.field-0 d c.in_ok-copy-in-Found.ensures refl fit) c.settle.ensures;
+        all = λ exact spare sparing. let settled = subst (λ (t : Attempt). SettlesOn rules new q.found.entries q.inst t) c.in-Found.is (c.in_ok-value.ensures.attempted.settles exact spare sparing.settled) in IfOk-weaker c.settle.result _ _ (found_all rules s old new grown q st sparing (c.go_on.ensures.attempted.spare exact spare sparing.lean sparing.settled) p d has settled) c.settle.ensures;
         sparing = λ exact spare sparing. let settled = subst (λ (t : Attempt). SettlesOn rules new q.found.entries q.inst t) c.in-Found.is (c.in_ok-value.ensures.attempted.settles exact spare sparing.settled) in IfOk-weaker c.settle.result _ _ (λ o r. spares_settled rules s old new grown q st p d has o r sparing settled) c.settle.ensures;
         gains = gains_tried rules s g.K.Keeper.exact old new c.args.self.now.work c.go_on.new.self.work q c.go_on.new.frame _ c.requires.idle st c.go_on.ensures.attempted;
       };
@@ -279,7 +293,8 @@ returns-in_ok-push-in-Needs g c = record {
         turned = IfOk-weaker c.deepen.result _ _ (deepened_turn rules s old old q st p j has) c.deepen.ensures;
         standing = IfOk-weaker c.deepen.result _ _ (λ o r. stands_deepened rules s old new grown q st p j has o r (deepened_turn rules s old old q st p j has o r)) c.deepen.ensures;
         fit = IfOk-weaker c.deepen.result _ _ (fit_deepened rules s old new grown q p st u t.frames.items frame j (c.push.ensures.awaited ∙ c.trial_of.ensures.none) c.in_ok-push-in-Needs.ensures.frames fit one) c.deepen.ensures;
-        sparing = λ exact spare sparing. IfOk-weaker c.deepen.result _ _ (λ o r. spares_deepened rules s old new grown q st p j o r sparing) c.deepen.ensures;
+        all = λ exact spare sparing. let settled = subst (λ (t : Attempt). SettlesOn rules new q.found.entries q.inst t) c.in-Needs.is (c.in_ok-value.ensures.attempted.settles exact spare sparing.settled) in IfOk-weaker c.deepen.result _ _ (circle_all rules s old new grown q st sparing (c.go_on.ensures.attempted.spare exact spare sparing.lean sparing.settled) p j (one_met rules s old q st sparing spare frame j one) settled) c.deepen.ensures;
+        sparing = λ exact spare sparing. IfOk-weaker c.deepen.result _ _ (λ o r. spares_deepened rules s old new grown q st p j o r (one_met rules s old q st sparing spare frame j one) sparing) c.deepen.ensures;
         gains = gains_tried rules s g.K.Keeper.exact old new c.args.self.now.work c.go_on.new.self.work q c.go_on.new.frame _ c.requires.idle st c.go_on.ensures.attempted;
       };
   traces = c.go_on.ensures.traces;
@@ -296,12 +311,14 @@ returns-in_ok-at-in-Fails g c = record {
       let new = g.K.Keeper.contents c.go_on.new.self.keeper in
       let grown = c.go_on.ensures.attempted.worthy.stays in
       let has = subst (λ (t : Attempt). HasTried rules (class_shown s) (contents s) old q.found.entries q.inst t) c.in-Fails.is c.in_ok-value.ensures.attempted.tried in
+      let come = subst (λ (t : Attempt). Awaits rules (class_shown s) (contents s) old q.found.entries q.inst c.go_on.new.frame t) c.in-Fails.is c.in_ok-value.ensures.attempted.waits in
       let turned = failed_turn rules s old old q st c.in-Fails.kind c.in_ok-at-in-Fails.at c.in_ok-at-in-Fails.ensures has in
       record {
         turned = turned;
         standing = stands_grown rules s old new grown q st;
         fit = tt;
-        sparing = λ exact spare sparing. record { lean = sparing.lean; settled = subst (λ (t : Attempt). SettlesOn rules new q.found.entries q.inst t) c.in-Fails.is (c.in_ok-value.ensures.attempted.settles exact spare sparing.settled) };
+        all = λ exact spare sparing. let settled = subst (λ (t : Attempt). SettlesOn rules new q.found.entries q.inst t) c.in-Fails.is (c.in_ok-value.ensures.attempted.settles exact spare sparing.settled) in fault_all rules s old new grown q st sparing (c.go_on.ensures.attempted.spare exact spare sparing.lean sparing.settled) c.go_on.new.frame c.in-Fails.kind come has settled;
+        sparing = λ exact spare sparing. let x = spares_as rules s old new grown q st q refl refl sparing in record { lean = x.lean; settled = subst (λ (t : Attempt). SettlesOn rules new q.found.entries q.inst t) c.in-Fails.is (c.in_ok-value.ensures.attempted.settles exact spare sparing.settled); met = x.met };
         gains = gains_tried rules s g.K.Keeper.exact old new c.args.self.now.work c.go_on.new.self.work q c.go_on.new.frame _ c.requires.idle st c.go_on.ensures.attempted;
       };
   traces = c.go_on.ensures.traces;
@@ -321,6 +338,7 @@ returns-in-Some g c = record {
         turned = kept_turn rules s old old q st v c.requires.right kept;
         standing = st;
         fit = tt;
+        all = λ exact spare sparing. asked_all rules s old (asked (under_way q)) v kept spare;
         sparing = λ exact spare sparing. sparing;
         gains = gains_none rules s g.K.Keeper.exact old c.args.self.now.work c.args.self.now.few q c.requires.right c.requires.plain;
       };

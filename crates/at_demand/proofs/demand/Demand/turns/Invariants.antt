@@ -1,4 +1,4 @@
-use Rattle.std.proofs.Common.{◌≡◌, ◌≤◌, ◌-◌}
+use Rattle.std.proofs.Common.{◌≡◌, ◌≤◌, ◌-◌, None}
 use Rattle.std.specs.Prelude.{IsTrue}
 use Rattle.at_model.specs.Meaning.{Right}
 use Rattle.at_store.specs.Shown.{contents}
@@ -7,7 +7,7 @@ use Rattle.at_cache.specs.Traced.{StayTraced}
 use Rattle.at_demand.specs.Known.{meaning, kept_values, ArePlain}
 use Rattle.at_demand.specs.Right.{AreRight, IsThere}
 use Rattle.at_demand.specs.Sparing.{AddsWorthy, AreSpare, Counts}
-use Rattle.at_demand.specs.Turns.{IsSparingTurns, IsStanding, under_way}
+use Rattle.at_demand.specs.Turns.{AreTurns, IsSparingTurns, IsStanding, under_way}
 use Rattle.at_demand.specs.KeptTrials.{Fit}
 use Rattle.at_demand.proofs.demand.Demand.turns.Given as goal
 
@@ -16,6 +16,8 @@ invariant-loop-given g l = record {
   standing : IsStanding l.rules l.store (g.K.Keeper.contents l.self.keeper) l.question;
   fit : Fit l.rules l.store (g.K.Keeper.contents l.self.keeper) l.question l.trials;
   right : Right (contents l.store) (meaning l.rules) (kept_values (g.K.Keeper.contents l.self.keeper));
+  each : AreTurns l.rules l.store l.given (g.K.Keeper.contents l.initial.self.keeper) (under_way l.initial.question)
+      (g.K.Keeper.contents l.self.keeper) (under_way l.question) None;
   silent : Silent (contents l.store) (meaning l.rules) l.given (under_way l.initial.question) (under_way l.question);
   same : asked (under_way l.question) ≡ asked (under_way l.initial.question);
   within : l.given ≤ l.limit;

@@ -1,34 +1,29 @@
-use Rattle.std.proofs.Common.{◌≡◌, ℕ, List, Some, true, false, drop, take, length, Option, refl, sym, ap, ◌+◌, ◌∙◌, subst, arith, ◌++◌, Ok, None, IfOk, map}
+use Rattle.std.proofs.Common.{◌≡◌, ℕ, List, true, drop, take, length, Option, refl, sym, ap, ◌+◌, ◌∙◌, subst, arith, ◌++◌, Ok, IfOk, map}
 use Rattle.std.specs.Option.{IfSome}
 use Rattle.std.proofs.lemmas.Result.{IfOk-weaker}
 use Rattle.at_model.specs.Meaning.{Leads}
-use Rattle.at_model.specs.Rules.{is_lazy}
 use Rattle.at_model.specs.Run.{Instance, Location, Gives, Truth}
 use Rattle.at_store.specs.Shown.{contents}
 use Rattle.at_body.specs.Values.{value_view}
 use Rattle.at_body.specs.declared.value.Value.{Value as ValueCode}
 use Rattle.at_demand.specs.declared.direct.Level.{Level}
-use Rattle.at_demand.specs.Inner.{AreKnown, Gains, HasRecalled, HasTold, IsEvaluated, known_by}
+use Rattle.at_demand.specs.Inner.{Gains, HasRecalled, HasTold, IsEvaluated, known_by}
 use Rattle.at_demand.specs.InParts.{HasCome, Held, held, values_in}
 use Rattle.at_demand.specs.Known.{meaning}
-use Rattle.at_demand.proofs.SparingOn.{told_lazy}
 use Rattle.at_demand.proofs.of_nesting.Asked.{evaluated_behind, evaluated_in, inner_told, reads_before, reads_longer, told_alike, uses_before, uses_longer, gains_evaluated, traced_evaluated}
 use Rattle.at_demand.proofs.of_nesting.InnerGains.{Found, gains_from, gains_none, gains_then, gains_up}
 use Rattle.at_demand.proofs.of_traces.Putting.{traced_same, traced_then, traced_up}
 use Rattle.std.proofs.lemmas.List.{nil_from_length}
 use Rattle.at_rules.specs.Bodies.{bodies_view, body_view}
-use Rattle.at_rules.specs.declared.body.Body.{items_hidden-the_row-Body-0}
 use Rattle.at_body.specs.Rest.{ev, ev_all, over}
-use Rattle.at_body.proofs.Entering.{call_view}
 use Rattle.at_apply.specs.Looking.{MayHaveLooked}
 use Rattle.at_apply.specs.Parts.{next_of, or_truth, two_of}
 use Rattle.at_apply.specs.Place.{place_at}
 use Rattle.at_demand.specs.Traces.{StayJustified}
 use Rattle.at_demand.proofs.of_parts.Directly.{come_begun, come_gives, come_looked, gains_begun, nothing_gained}
-use Rattle.at_demand.proofs.of_parts.ByForm.{call_come, call_gains, call_gains_first, call_gains_second, come_as, either_come, either_gains, either_gains_test, fold_come, fold_gains, fold_gains_first, gains_as, one_come, one_gains, two_come, two_gains, two_gains_first}
+use Rattle.at_demand.proofs.of_parts.ByForm.{call_come, call_gains, call_gains_first, call_gains_second, either_come, either_gains, either_gains_test, fold_come, fold_gains, fold_gains_first, one_come, one_gains, two_come, two_gains, two_gains_first}
 use Rattle.at_demand.proofs.of_parts.Looping.{bound_at, each_all, each_ends, each_gains, each_on, gains_so_far, passed_all, passed_gains, passed_on, starts, unbound_at}
 use Rattle.at_demand.proofs.direct.Direct.+direct.Goals as goal
-use Rattle.at_model.specs.Bodies as model
 use Rattle.at_body.specs.declared.value.Value.TheVariants as value
 
 pub verify-loop-init : goal.verify-loop-init

@@ -4,7 +4,7 @@ use Rattle.at_model.specs.Meaning.{HasValue}
 use Rattle.at_model.specs.Run.{Instance}
 use Rattle.at_store.specs.Shown.{contents}
 use Rattle.at_body.specs.Values.{value_view}
-use Rattle.at_demand.specs.Inner.{AreKnown, Gains}
+use Rattle.at_demand.specs.Inner.{AreKnown}
 use Rattle.at_demand.specs.Known.{meaning}
 use Rattle.at_demand.specs.Sparing.{HasWorthy}
 use Rattle.at_demand.proofs.of_nesting.InnerGains.{Found, gains_as, gains_from, gains_none, told_holds, told_whole}

@@ -1,6 +1,4 @@
 use Rattle.std.proofs.Common.{refl}
-use Rattle.at_demand.proofs.of_nesting.InnerGains.{gains_none}
-use Rattle.at_demand.proofs.of_traces.Putting.{traced_same}
 use Rattle.at_demand.proofs.direct.Direct.keep_again.Goals as goal
 
 pub returns-then-not-have_settled : goal.returns-then-not-have_settled

@@ -1,4 +1,4 @@
-use Rattle.std.proofs.Common.{ℕ, List, None, inr, map, refl, ◌∙◌, subst}
+use Rattle.std.proofs.Common.{ℕ, List, None, inr, map, refl, subst}
 use Rattle.std.specs.Prelude.{Contains}
 use Rattle.at_model.specs.Run.{Instance, Location}
 use Rattle.at_store.specs.Located.{loc_view}

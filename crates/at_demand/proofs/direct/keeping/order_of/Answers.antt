@@ -1,8 +1,8 @@
 use Rattle.std.proofs.Common.{ℕ, List, true, subst, arith}
 use Rattle.std.proofs.lemmas.List.{take_all}
 use Rattle.at_model.specs.Run.{Instance}
+use Rattle.at_demand.proofs.Gaining.{told_lazy}
 use Rattle.at_demand.specs.Inner.{AreLazy}
-use Rattle.at_demand.proofs.SparingOn.{told_lazy}
 use Rattle.at_demand.proofs.of_traces.Lazily.{lazy_more}
 use Rattle.at_demand.proofs.direct.keeping.order_of.Goals as goal
 

@@ -1,4 +1,4 @@
-use Rattle.std.proofs.Common.{◌≡◌, ℕ, length, None, refl, sym, subst}
+use Rattle.std.proofs.Common.{◌≡◌, ℕ, None, sym, subst}
 use Rattle.std.proofs.lemmas.Result.{err_from_is_err_and}
 use Rattle.at_model.specs.Run.{Instance}
 use Rattle.at_store.specs.Shown.{contents}
@@ -7,7 +7,6 @@ use Rattle.at_body.specs.Typed.{IsTypedStep, class_shown}
 use Rattle.at_body.proofs.TypedShown.{shown_typed}
 use Rattle.at_body.specs.declared.trial.Step.{Step}
 use Rattle.at_demand.specs.declared.evaluation.Recalled.{Recalled}
-use Rattle.at_demand.specs.declared.evaluation.Recalled.TheVariants as recalled
 use Rattle.at_body.specs.declared.trial.Step.TheVariants as step
 use Rattle.at_demand.specs.Known.{known_in, IsRecalled}
 use Rattle.at_demand.specs.UnderWay.{HasStepped}
@@ -15,8 +14,6 @@ use Rattle.at_demand.specs.Covering.{HasPassedTo, Takes}
 use Rattle.at_demand.specs.declared.evaluation.Demanded.{Demanded}
 use Rattle.at_demand.specs.declared.evaluation.Frame.{Frame}
 use Rattle.at_demand.specs.Only.{TakesOne, TakesOnly}
-use Rattle.at_demand.specs.Stacked.{TakesBelow}
-use Rattle.at_demand.proofs.of_cutting.Stacking.{below_on}
 use Rattle.at_demand.proofs.Passing.{passed_on}
 use Rattle.at_demand.proofs.OnlyLemmas.{needs_comes, takes_one}
 use Rattle.at_demand.proofs.Truth.{resumed_step, open_end}
@@ -38,7 +35,7 @@ loop-step-preserved g c =
           resumed_step rules look i c.in-Need.needed c.loop-step.self.trial c.resume.new.self (value_view c.in-Value.value) c.in_ok-step-in-Value.step waits (c.requires.right c.in-Need.needed (value_view c.in-Value.value) told) c.in_ok-step-in-Value.ensures.found;
       passed = λ i h.
           let found = c.args.found.now.entries in
-          let next : Frame = record { trial = c.resume.new.self; demanded = c.recall.new.self; start = c.loop-step.self.start } in
+          let next : Frame = record { trial = c.resume.new.self; demanded = c.recall.new.self } in
           let takes = subst (λ (r : Recalled). Takes found c.loop-step.self.demanded c.recall.new.self c.in-Need.needed r) c.in-Value.is c.in_ok-value-in-Need.ensures.takes in
           let waits = subst (λ (s : Step). HasPassedTo rules look found i c.loop-step.self s) c.in-Need.is (c.loop-step.invariant.passed i h) in
           passed_on rules look found i c.in-Need.needed c.loop-step.self next (value_view c.in-Value.value) c.in_ok-step-in-Value.step waits takes.0 takes.1 (c.requires.right c.in-Need.needed (value_view c.in-Value.value) told) c.in_ok-step-in-Value.ensures.found;
@@ -47,9 +44,6 @@ loop-step-preserved g c =
           let waits = subst (λ (s : Step). HasStepped rules look i c.loop-step.self.trial s) c.in-Need.is (c.loop-step.invariant.stepped i h) in
           let one = subst (λ (r : Recalled). TakesOne found c.loop-step.self.demanded c.recall.new.self c.in-Need.needed r) c.in-Value.is c.in_ok-value-in-Need.ensures.one in
           takes_one rules look found i c.in-Need.needed c.loop-step.self.demanded c.recall.new.self (needs_comes rules look i c.in-Need.needed c.loop-step.self.trial waits) one (c.loop-step.invariant.only i h takes);
-      start = c.loop-step.invariant.start;
-      below = λ h. let one = subst (λ (r : Recalled). TakesOne c.args.found.now.entries c.loop-step.self.demanded c.recall.new.self c.in-Need.needed r) c.in-Value.is c.in_ok-value-in-Need.ensures.one in
-          below_on c.args.found.now.entries c.loop-step.self.demanded c.recall.new.self c.in-Need.needed (recalled.Value c.in-Value.value) one (c.loop-step.invariant.below h);
     }
 
 pub resume-requires-clause-over : goal.resume-requires-clause-over
@@ -75,7 +69,7 @@ returns-in-Unknown g c =
     let told = subst (λ (r : Recalled). IsRecalled known c.in-Need.needed r) c.in-Unknown.is recalls.recalled in
     let old = c.loop-step.self in
     let same = subst (λ (r : Recalled). TakesOne found old.demanded c.recall.new.self c.in-Need.needed r) c.in-Unknown.is recalls.one in
-    let P : Demanded → Instance ℕ → Instance ℕ → Type 0 = λ d i j. HasPassedTo rules look found i (record { trial = old.trial; demanded = d; start = old.start }) (step.Need j) in
+    let P : Demanded → Instance ℕ → Instance ℕ → Type 0 = λ d i j. HasPassedTo rules look found i (record { trial = old.trial; demanded = d }) (step.Need j) in
     record {
       kept = recalls.kept;
       stepped = λ i h. subst (λ j. HasStepped rules look i old.trial (step.Need j)) (sym told.0)
@@ -85,8 +79,6 @@ returns-in-Unknown g c =
           subst (λ d. P d i c.in-Unknown.needed) (sym same) (subst (λ j. P old.demanded i j) (sym told.0) waits);
       only = λ i h takes. subst (TakesOnly rules look found i) (sym same) (c.loop-step.invariant.only i h takes);
       typed = subst (λ j. IsTypedStep rules at (step.Need j) old.trial) (sym told.0) (subst (λ (x : Step). IsTypedStep rules at x old.trial) c.in-Need.is c.loop-step.invariant.typed);
-      start = c.loop-step.invariant.start;
-      below = λ h. subst (TakesBelow (length found)) (sym same) (c.loop-step.invariant.below h);
       unknown = subst (λ j. known j ≡ None) (sym told.0) told.1;
     }
 
@@ -97,14 +89,12 @@ returns-in_default g c =
       stepped = c.loop-step.invariant.stepped;
       passed = c.loop-step.invariant.passed;
       only = c.loop-step.invariant.only;
-      start = c.loop-step.invariant.start;
-      below = c.loop-step.invariant.below;
       typed = c.loop-step.invariant.typed;
       unknown = open_end (known_in (g.K.Keeper.contents c.args.keeper.now) c.args.found.now.entries) c.loop-step.step c.in_default.not-Need;
     }
 
 pub loop-step-init : goal.loop-step-init
-loop-step-init g c = record { kept = c.requires.kept; stepped = λ i h. h; passed = λ i h. h; only = λ i h takes. takes; start = refl; below = λ h. h; typed = c.requires.typed }
+loop-step-init g c = record { kept = c.requires.kept; stepped = λ i h. h; passed = λ i h. h; only = λ i h takes. takes; typed = c.requires.typed }
 
 pub returns-in_err-value-in-Need : goal.returns-in_err-value-in-Need
 returns-in_err-value-in-Need g c =

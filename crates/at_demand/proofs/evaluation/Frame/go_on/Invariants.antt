@@ -1,4 +1,4 @@
-use Rattle.std.proofs.Common.{◌≡◌, ℕ, length}
+use Rattle.std.proofs.Common.{ℕ}
 use Rattle.at_model.specs.Run.{Instance}
 use Rattle.at_store.specs.Shown.{contents}
 use Rattle.at_body.specs.Rest.{left}
@@ -7,7 +7,6 @@ use Rattle.at_demand.specs.Known.{AreValued}
 use Rattle.at_demand.specs.UnderWay.{HasStepped}
 use Rattle.at_demand.specs.Covering.{HasPassedTo}
 use Rattle.at_demand.specs.Only.{TakesOnly}
-use Rattle.at_demand.specs.Stacked.{TakesBelow}
 use Rattle.at_demand.proofs.evaluation.Frame.go_on.Given as goal
 
 abbrev pub invariant-loop-step : goal.invariant-loop-step
@@ -16,8 +15,6 @@ invariant-loop-step g l = record {
   stepped : (i : Instance ℕ) → HasStepped l.rules (contents l.store) i l.initial.self.trial l.fn.step → HasStepped l.rules (contents l.store) i l.self.trial l.step;
   passed : (i : Instance ℕ) → HasPassedTo l.rules (contents l.store) l.found.entries i l.initial.self l.fn.step → HasPassedTo l.rules (contents l.store) l.found.entries i l.self l.step;
   only : (i : Instance ℕ) → HasStepped l.rules (contents l.store) i l.initial.self.trial l.fn.step → TakesOnly l.rules (contents l.store) l.found.entries i l.initial.self.demanded → TakesOnly l.rules (contents l.store) l.found.entries i l.self.demanded;
-  start : l.self.start ≡ l.initial.self.start;
-  below : TakesBelow (length l.found.entries) l.initial.self.demanded → TakesBelow (length l.found.entries) l.self.demanded;
   typed : IsTypedStep l.rules (class_shown l.store) l.step l.self.trial;
 }
 

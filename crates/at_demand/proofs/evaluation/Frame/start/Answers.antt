@@ -1,8 +1,7 @@
-use Rattle.std.proofs.Common.{refl}
 use Rattle.at_store.specs.Shown.{contents}
 use Rattle.at_demand.proofs.Truth.{started}
 use Rattle.at_demand.proofs.Passing.{passed_start}
-use Rattle.at_demand.proofs.evaluation.Frame.begin.Goals as goal
+use Rattle.at_demand.proofs.evaluation.Frame.start.Goals as goal
 
 pub returns : goal.returns
 returns c =
@@ -12,10 +11,9 @@ returns c =
     let step = c.in_ok-step.step in
     let e = c.in_ok-step.ensures in
     record {
-      start = refl;
-      fresh = c.clear.ensures.kept;
-      unfound = c.clear.ensures.finds;
+      fresh = c.new-demanded.ensures.kept;
+      unfound = c.new-demanded.ensures.finds;
       stepped = started rules look inst c.restart.new.self step e.found;
-      passed = λ finds. passed_start rules look finds inst (record { trial = c.restart.new.self; demanded = c.clear.new.self; start = c.args.start }) step e.found;
+      passed = λ finds. passed_start rules look finds inst (record { trial = c.restart.new.self; demanded = c.new-demanded.result }) step e.found;
       typed = e.typed;
     }
