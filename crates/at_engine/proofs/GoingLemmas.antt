@@ -8,6 +8,7 @@ use Rattle.at_engine.specs.Ends.{Remembers, SendsOn}
 use Rattle.at_engine.specs.Engines.{state_of, IsSound}
 use Rattle.at_engine.specs.Going.{Goes, unsaid}
 use Rattle.at_engine.specs.Serving.{Calls}
+use Rattle.at_engine.specs.Stepping.{GoesBy, by_line, by_turns, nowhere}
 use Rattle.at_engine.specs.Taking.{countable}
 use Rattle.at_engine.specs.declared.engine.Engine.{Engine}
 use Rattle.at_engine.specs.declared.stream.desk.Desk.{Desk}
@@ -30,6 +31,16 @@ unsaid_sent : {T E : Type 0} (r : Result T E) → SendsOn r false false
 unsaid_sent (Ok x) = λ none. none
 unsaid_sent (Err e) = tt
 
+-- and then others
+pub by_both : {K : Type 0} (exact : Bool) (entries : K → Entries) (old mid new : Engine K)
+    → GoesBy exact entries old mid → GoesBy exact entries mid new
+    → GoesBy exact entries old new
+by_both exact entries old mid _ first nowhere = first
+by_both exact entries old mid _ first (by_line next new line before after wants second served) =
+    by_line next new line before after wants (by_both exact entries old mid next first second) served
+by_both exact entries old mid _ first (by_turns next new limit before after spent second spends) =
+    by_turns next new limit before after spent (by_both exact entries old mid next first second) spends
+
 module _ {K W : Type 0} (exact : Bool) (entries : K → Entries) (memories : K → Memories)
     (failure : W → Option Bool) (waiting : W → Bool) where
   -- nothing was written, and the engine is as it was
@@ -37,6 +48,7 @@ module _ {K W : Type 0} (exact : Bool) (entries : K → Entries) (memories : K �
       → Goes exact entries memories failure waiting e e desk next w w lines (Ok x)
   goes_nowhere e desk next w lines x sound same_lines same_memory = record {
     failed = no_call (failure w);
+    by = nowhere;
     sent = λ none. none;
     spare = λ exact spare. spare;
     rules = refl;
@@ -48,9 +60,11 @@ module _ {K W : Type 0} (exact : Bool) (entries : K → Entries) (memories : K �
   -- the engine was called, and what that told was written, or could not be
   pub goes_wrote : {T U D : Type 0} {IsDone : T → Type 0} {a : T} (old new : Engine K) (desk next : Desk) (w x : W) (lines : ℕ) (out later : Vec ℕ Global) (result : Result U RunFault)
       → Calls {E = D} exact entries memories old new out later IsDone (Ok a) → Remembers (failure w) (failure x) (is_err result) → OnOk result (waiting x ≡ false)
-      → countable next (state_of new) ≤ countable desk (state_of old) + 3 * lines → Goes exact entries memories failure waiting old new desk next w x lines result
-  goes_wrote old new desk next w x lines out later result call failed sent grows = record {
+      → GoesBy exact entries old new → countable next (state_of new) ≤ countable desk (state_of old) + 3 * lines
+      → Goes exact entries memories failure waiting old new desk next w x lines result
+  goes_wrote old new desk next w x lines out later result call failed sent by grows = record {
     failed = failed;
+    by = by;
     sent = sent_all result (waiting w) (waiting x) sent;
     spare = call.spare;
     rules = call.rules;
@@ -64,6 +78,7 @@ module _ {K W : Type 0} (exact : Bool) (entries : K → Entries) (memories : K �
       → Goes exact entries memories failure waiting old new desk next w x lines r → Goes exact entries memories failure waiting old new desk next w x lines result
   goes_alike old new desk next w x lines r result same h = record {
     failed = subst (Remembers (failure w) (failure x)) same h.failed;
+    by = h.by;
     sent = sends_alike r result (waiting w) (waiting x) same h.sent;
     spare = h.spare;
     rules = h.rules;
@@ -77,6 +92,7 @@ module _ {K W : Type 0} (exact : Bool) (entries : K → Entries) (memories : K �
       → same.lines ≡ next.lines → same.memory ≡ next.memory → m + n ≤ lines → Goes exact entries memories failure waiting mid new same last x y n result → Goes exact entries memories failure waiting old new desk last w y lines result
   goes_on old mid new desk next same last w x y m n lines u result first same_lines same_memory few second = record {
     failed = then_calls (failure w) (failure x) (failure y) (is_err result) first.failed second.failed;
+    by = by_both exact entries old mid new first.by second.by;
     sent = sends_later result (waiting w) (waiting x) (waiting y) first.sent second.sent;
     spare = λ exact spare. second.spare exact (first.spare exact spare);
     rules = second.rules ∙ first.rules;
@@ -88,7 +104,7 @@ module _ {K W : Type 0} (exact : Bool) (entries : K → Entries) (memories : K �
   -- no more lines were counted than so many more
   pub goes_more : {T : Type 0} (old new : Engine K) (desk next : Desk) (w x : W) (m n : ℕ) (result : Result T RunFault) → m ≤ n → Goes exact entries memories failure waiting old new desk next w x m result
       → Goes exact entries memories failure waiting old new desk next w x n result
-  goes_more old new desk next w x m n result few h = record { failed = h.failed; sent = h.sent; spare = h.spare; rules = h.rules; slice = h.slice; grows = omega (arith, few, h.grows); sound = h.sound }
+  goes_more old new desk next w x m n result few h = record { failed = h.failed; by = h.by; sent = h.sent; spare = h.spare; rules = h.rules; slice = h.slice; grows = omega (arith, few, h.grows); sound = h.sound }
 
   -- no more is said of what waits
   pub goes_unsaid : {T : Type 0} (old new : Engine K) (desk next : Desk) (w x : W) (lines : ℕ)
@@ -97,6 +113,7 @@ module _ {K W : Type 0} (exact : Bool) (entries : K → Entries) (memories : K �
       → Goes exact entries memories failure unsaid old new desk next w x lines result
   goes_unsaid old new desk next w x lines result h = record {
     failed = h.failed;
+    by = h.by;
     sent = unsaid_sent result;
     spare = h.spare;
     rules = h.rules;
@@ -113,6 +130,7 @@ module _ {K W : Type 0} (exact : Bool) (entries : K → Entries) (memories : K �
       → Goes exact entries memories failure waiting old new desk next w x lines result
   goes_said old new desk next w x lines result sent h = record {
     failed = h.failed;
+    by = h.by;
     sent = sent;
     spare = h.spare;
     rules = h.rules;

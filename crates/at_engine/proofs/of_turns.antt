@@ -1,3 +1,4 @@
+pub mod Counted
 pub mod Giving
 pub mod Numberings
 pub mod Wordings

@@ -1,5 +1,5 @@
 -- What each function of the loop over lines promises: what it has done, and what it leaves as it was.
-use Rattle.std.specs.Prelude.{◌≡◌, ℕ, ◌+◌, ◌*◌, ◌^◌, ◌<◌, ◌≤◌, Bool, false, List, [], ◌∷◌, Option, Result, filter, is_err, vec_len, IsTrue, OnOk}
+use Rattle.std.specs.Prelude.{◌≡◌, ℕ, ◌+◌, ◌*◌, ◌^◌, ◌<◌, ◌≤◌, Bool, false, List, [], ◌∷◌, Option, Result, filter, is_err, vec_len, IfSome, IsTrue, OnOk}
 use Rattle.at_model.specs.Lines.{is_filled}
 use Rattle.at_model.specs.Machine.{State}
 use Rattle.at_cache.specs.Kept.{Entries}
@@ -10,6 +10,7 @@ use Rattle.at_engine.specs.Keeping.{IsSpare, KeepsLine}
 use Rattle.at_engine.specs.KeepingRuns.{KeepsAll, KeepsBytes}
 use Rattle.at_engine.specs.KeptOver.{NonePosts}
 use Rattle.at_engine.specs.Loop.{kept, IsOpen}
+use Rattle.at_engine.specs.Stepping.{GoesBy}
 use Rattle.at_engine.specs.Taking.{countable, Finishes, ServedOrHalts, TakesOrStops}
 use Rattle.at_engine.specs.declared.engine.Engine.{Engine}
 use Rattle.at_engine.specs.declared.stream.desk.Desk.{Desk}
@@ -29,17 +30,19 @@ pub record CanServeLine {K : Type 0} (entries : K → Entries) (memories : K →
 
 -- turns can be given: the engine is sound, and there are some to give
 pub record CanGive {K : Type 0} (entries : K → Entries) (memories : K → Memories)
-    (e : Engine K) (desk : Desk) (limit : ℕ) : Type 0 where
+    (e : Engine K) (desk : Desk) (limit : Option ℕ) : Type 0 where
   pub ready : CanServe entries memories e desk 0
-  pub some : 0 < limit
+  pub some : IfSome limit (λ n. 0 < n)
 
--- It is known of the writer whether a call failed, and where none did, all that was written is sent on. The engine is sound, its
+-- It is known of the writer whether a call failed, and where none did, all that was written is sent on. The engine has gone through
+-- nothing but lines and turns, each of which tried one equation. It is sound, its
 -- rules and how many turns follow each line are as they were, what was kept spare is so still, and no more than so many lines
 -- were counted.
 pub record Goes {K W T : Type 0} (exact : Bool) (entries : K → Entries) (memories : K → Memories)
     (failure : W → Option Bool) (waiting : W → Bool) (old new : Engine K) (desk next : Desk)
     (writer later : W) (lines : ℕ) (result : Result T RunFault) : Type 0 where
   pub failed : Remembers (failure writer) (failure later) (is_err result)
+  pub by : GoesBy exact entries old new
   pub sent : SendsOn result (waiting writer) (waiting later)
   pub spare : IsTrue exact → IsSpare entries old → IsSpare entries new
   pub rules : rules_of new ≡ rules_of old

@@ -3,6 +3,7 @@ use Rattle.std.specs.Prelude.{◌≡◌, ℕ, List, [], map, true, Option, Some,
 use Rattle.std.specs.List.{AllByRecursion}
 use Rattle.at_model.specs.Alike.{InstanceLike, Names}
 use Rattle.at_model.specs.Classes.{AreSound}
+use Rattle.at_model.specs.Edits.{max_nodes}
 use Rattle.at_model.specs.Enduring.{AreNumbered}
 use Rattle.at_model.specs.Names.{IsName}
 use Rattle.at_model.specs.Paths.{Node}
@@ -27,6 +28,7 @@ use Rattle.at_engine.specs.declared.posts.Posts.{Posts}
 abbrev pub state_in : Shown → ℕ → List Mark → Posts → State
 state_in s version marks posts = record {
   tree = tree s;
+  limit = s.limit;
   version = version;
   marks = marks_view (path s) marks;
   posts = posts.count;
@@ -35,7 +37,7 @@ state_in s version marks posts = record {
 
 -- what becomes of a question's words on that tree, by the marks that it has: nothing else of a state counts for it
 abbrev pub words_verdict : Rules → Tree → PostedOf → Verdict
-words_verdict rules t q = verdict rules (record { tree = t; version = 0; marks = q.marks; posts = 0; posted = [] }) (line_of q)
+words_verdict rules t q = verdict rules (record { tree = t; limit = max_nodes; version = 0; marks = q.marks; posts = 0; posted = [] }) (line_of q)
 
 -- the question's words ask for the instance for which that was begun
 pub record IsBegunFor (rules : Rules) (s : Shown) (entries : Entries) (p : Posted) (q : Question) : Type 0 where

@@ -8,6 +8,7 @@ pub mod Posted
 pub mod PostedFor
 pub mod Holding
 pub mod Serving
+pub mod Stepping
 pub mod Following
 pub mod Naming
 pub mod Lasting

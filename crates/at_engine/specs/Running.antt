@@ -16,6 +16,7 @@ use Rattle.at_engine.specs.declared.stream.desk.RunFault.{RunFault}
 use Rattle.at_engine.specs.declared.stream.desk.RunFault.TheVariants.{Read, Write, TooManyReads, Memory}
 use Rattle.at_engine.specs.Ends.{Counted, Remembers}
 use Rattle.at_engine.specs.Loop.{Progress}
+use Rattle.at_engine.specs.Stepping.{GoesBy}
 use Rattle.at_engine.specs.Taking.{EndsIn, wants}
 
 -- The reader came to its end. What was written is the output of the bytes that it gave, with so many turns behind each line and
@@ -143,7 +144,7 @@ abbrev pub SendsAll : Result Report RunFault → (waited waits : Bool) → Type 
 SendsAll result waited waits = write_fails result ≡ false → waited ≡ false → waits ≡ false
 
 -- What a run of at most so many reads promises, by what is known of the reader and of the writer: what it has done, which of its
--- calls failed, and what is kept.
+-- calls failed, what the engine has gone through, and what is kept.
 pub record RunsFor {K R W : Type 0} (exact : Bool) (entries : K → Entries) (memories : K → Memories)
     (remaining : R → Option (List ℕ)) (misread ending : R → Option Bool)
     (count : R → Option ℕ) (contents : W → Option (List ℕ)) (failure : W → Option Bool) (waiting : W → Bool) (most_reads : ℕ)
@@ -154,6 +155,7 @@ pub record RunsFor {K R W : Type 0} (exact : Bool) (entries : K → Entries) (me
   pub reads : MakesReads most_reads result (count reader) (count left)
   pub ended : TellsEnd result (ending reader) (ending left)
   pub sent : SendsAll result (waiting writer) (waiting later)
+  pub by : GoesBy exact entries old new
   pub keeps : IsTrue exact → IsSpare entries old → IfOk result (λ report. report.memory ≡ 0 → KeepsRun entries old new (remaining reader) (remaining left))
   pub work : IfOk result (λ report. report.work ≡ work_of new)
   pub spare : IsTrue exact → IsSpare entries old → IsSpare entries new

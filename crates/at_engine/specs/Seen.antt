@@ -6,4 +6,4 @@ use Rattle.at_engine.specs.Marks.{Mark, marks_view}
 
 -- a state with that tree and these marks: nothing else of a state counts for the places and the questions that words name
 abbrev pub state_seen : Shown → List Mark → State
-state_seen s marks = record { tree = tree s; version = 0; marks = marks_view (path s) marks; posts = 0; posted = [] }
+state_seen s marks = record { tree = tree s; limit = s.limit; version = 0; marks = marks_view (path s) marks; posts = 0; posted = [] }

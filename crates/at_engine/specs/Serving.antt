@@ -1,42 +1,19 @@
 -- What one call of the engine does.
-use Rattle.std.specs.Prelude.{◌≡◌, ◌⊎◌, ℕ, ◌+◌, ◌≤◌, ◌<◌, Bool, List, [], ◌∷◌, ◌++◌, length, map, Option, Some, None, Result, Vec, vec_capacity, vec_len, IfOk, IfSome, IsTrue, OnErr}
+use Rattle.std.specs.Prelude.{◌≡◌, ℕ, ◌+◌, ◌≤◌, ◌<◌, Bool, List, [], ◌∷◌, ◌++◌, Result, Vec, vec_capacity, vec_len, IfOk, IsTrue, OnErr}
 use Rattle.std.specs.Global.{Global}
 use Rattle.at_model.specs.Rules.{Rules}
-use Rattle.at_model.specs.Machine.{State, Given, Serves, text_of}
+use Rattle.at_model.specs.Machine.{State, Serves}
 use Rattle.at_model.specs.Replies.{Reply, reply_text}
 use Rattle.at_cache.specs.Kept.{Entries}
 use Rattle.at_cache.specs.Traced.{Memories}
 use Rattle.at_engine.specs.Engines.{rules_of, slice_of, state_of, IsSound}
 use Rattle.at_engine.specs.Keeping.{IsSpare, KeepsServed, KeepsStep}
 use Rattle.at_engine.specs.declared.engine.Engine.{Engine}
-use Rattle.at_engine.specs.declared.engine.turning.Spent.{Spent}
 
 -- An empty line changes and appends nothing. Any other one is a step of the machine, and its reply is appended.
 abbrev pub Steps : Rules → State → List ℕ → State → (before after : List ℕ) → Type 0
 Steps rules old [] new before after = (new ≡ old) × (after ≡ before)
 Steps rules old (b ∷ bs) new before after = (wants : Bool) × (reply : Reply) × Serves rules old (b ∷ bs) new (wants, reply)
-    × (after ≡ before ++ reply_text reply)
-
--- what is there, as a list
-abbrev pub listed : {A : Type 0} → Option A → List A
-listed None = []
-listed (Some a) = a ∷ []
-
--- Turns were given to the open question with the least number, and its answer, where it has one, is appended. Without one they
--- are as many as they may be, or no question is open.
-pub record Spends (rules : Rules) (limit : ℕ) (old new : State) (before after : List ℕ) (spent : Spent) : Type 0 where
-  pub told : List (Bool × Reply)
-  pub given : Given rules spent.turns old told new
-  pub appended : after ≡ before ++ text_of told
-  pub named : map (λ (x : Bool × Reply). x.0) told ≡ listed spent.told
-  pub within : spent.turns ≤ limit
-  pub some : (wants : Bool) → spent.told ≡ Some wants → 0 < spent.turns
-  pub whole : spent.told ≡ None → (new.posted ≡ []) ⊎ (spent.turns ≡ limit)
-
--- No question is open; or the one with the least number is given turns until it is answered, and its answer is appended.
-abbrev pub Settles : Rules → State → State → (before after : List ℕ) → Option Bool → Type 0
-Settles rules old new before after None = (old.posted ≡ []) × (new ≡ old) × (after ≡ before)
-Settles rules old new before after (Some wants) = (turns : ℕ) × (reply : Reply) × Given rules turns old ((wants, reply) ∷ []) new
     × (after ≡ before ++ reply_text reply)
 
 -- A call that appends to `out` has done that; or room for 64 bytes was refused, and nothing has changed. The engine is sound, its
@@ -64,14 +41,3 @@ pub record IsServed {K : Type 0} (exact : Bool) (entries : K → Entries) (line 
     (wants : Bool) : Type 0 where
   pub served : (reply : Reply) × Serves (rules_of old) (state_of old) line (state_of new) (wants, reply) × (after ≡ before ++ reply_text reply)
   pub keeps : IsTrue exact → IsSpare entries old → KeepsServed entries wants line old new
-
--- turns were given; where no question is open, nothing has changed
-pub record HasGiven {K : Type 0} (limit : ℕ) (old new : Engine K) (before after : List ℕ) (spent : Spent) : Type 0 where
-  pub spends : Spends (rules_of old) limit (state_of old) (state_of new) before after spent
-  pub none : (state_of old).posted ≡ [] → new ≡ old
-
--- a question was answered, and is open no longer; where none is, nothing has changed
-pub record HasSettledFirst {K : Type 0} (old new : Engine K) (before after : List ℕ) (told : Option Bool) : Type 0 where
-  pub settles : Settles (rules_of old) (state_of old) (state_of new) before after told
-  pub none : (state_of old).posted ≡ [] → new ≡ old
-  pub fewer : IfSome told (λ wants. length new.posts.items.items + 1 ≡ length old.posts.items.items)

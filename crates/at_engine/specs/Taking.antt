@@ -1,5 +1,5 @@
 -- What the loop over lines has done with the bytes that came.
-use Rattle.std.specs.Prelude.{◌≡◌, ℕ, ◌+◌, ◌-◌, ◌≤◌, ◌<◌, Bool, true, false, List, [], ◌∷◌, ◌++◌, length, filter, if◌then◌else◌, Option, Result, Ok, Err}
+use Rattle.std.specs.Prelude.{◌≡◌, ◌⊎◌, ℕ, ◌+◌, ◌≤◌, ◌<◌, Bool, true, false, List, [], ◌∷◌, ◌++◌, length, filter, if◌then◌else◌, Option, None, Some, Result, Ok, Err}
 use Rattle.std.specs.Io.KnownBytes.{Appends}
 use Rattle.at_engine.specs.declared.stream.desk.RunFault.{RunFault}
 use Rattle.at_engine.specs.declared.stream.desk.RunFault.TheVariants as fault
@@ -9,6 +9,7 @@ use Rattle.at_model.specs.Replies.{Reply, reply_text}
 use Rattle.at_model.specs.Machine.{State, Given, Runs, Serves, text_of}
 use Rattle.at_engine.specs.declared.stream.desk.Desk.{Desk}
 use Rattle.at_engine.specs.Loop.{Progress, kept}
+use Rattle.at_engine.specs.Turning.{IsWithin}
 
 -- the text was written; or a call failed, and some front of it was written
 abbrev pub Written : Result (Unit {0}) RunFault → Option (List ℕ) → Option (List ℕ) → List ℕ → Type 0
@@ -48,27 +49,28 @@ pub record GivesInPart (rules : Rules) (limit : ℕ) (old new : State) (before a
   pub split : reply_text said.1 ≡ done ++ undone
   pub written : Appends before after (text_of told ++ done)
 
+-- So many turns are left of those that there may be, and fewer than there were; or, where there is no limit, fewer questions are open,
+-- if one was.
+abbrev pub AreLeft : (limit : Option ℕ) → (turns left : ℕ) → State → State → Type 0
+AreLeft None turns left old new = (old.posted ≡ []) ⊎ (length new.posted < length old.posted)
+AreLeft (Some limit) turns left old new = (left < limit) × (turns + left ≡ limit)
+
 -- all of the turns were given but those that are left
-abbrev pub LeavesTurns : Result ℕ RunFault → Rules → (limit : ℕ) → State → State → Desk → Desk → Option (List ℕ) → Option (List ℕ) → Type 0
-LeavesTurns (Ok left) rules limit old new desk next before after = (left < limit) × Gives rules (limit - left) old new desk next before after
-LeavesTurns (Err e) rules limit old new desk next before after = (e ≡ fault.Write) × GivesInPart rules limit old new before after
+pub record GivesSome (rules : Rules) (limit : Option ℕ) (left : ℕ) (old new : State) (desk next : Desk) (before after : Option (List ℕ)) : Type 0 where
+  pub turns : ℕ
+  pub gives : Gives rules turns old new desk next before after
+  pub are_left : AreLeft limit turns left old new
+
+-- so it was, or in part
+abbrev pub LeavesTurns : Result ℕ RunFault → Rules → (limit : Option ℕ) → State → State → Desk → Desk → Option (List ℕ) → Option (List ℕ) → Type 0
+LeavesTurns (Ok left) rules limit old new desk next before after = GivesSome rules limit left old new desk next before after
+LeavesTurns (Err e) rules limit old new desk next before after =
+    (e ≡ fault.Write) × (n : ℕ) × IsWithin limit n × GivesInPart rules n old new before after
 
 -- all of the turns were given
 abbrev pub GivesTurns : Result (Unit {0}) RunFault → Rules → (limit : ℕ) → State → State → Desk → Desk → Option (List ℕ) → Option (List ℕ) → Type 0
 GivesTurns (Ok u) rules limit old new desk next before after = Gives rules limit old new desk next before after
 GivesTurns (Err e) rules limit old new desk next before after = (e ≡ fault.Write) × GivesInPart rules limit old new before after
-
--- a question was open, and it was answered
-pub record Settled (rules : Rules) (old new : State) (desk next : Desk) (before after : Option (List ℕ)) : Type 0 where
-  pub turns : ℕ
-  pub gives : Gives rules turns old new desk next before after
-  pub fewer : length new.posted + 1 ≡ length old.posted
-
--- so it was; or no question is open, and nothing was done
-abbrev pub SettlesOne : Result Bool RunFault → Rules → State → State → Desk → Desk → Option (List ℕ) → Option (List ℕ) → Type 0
-SettlesOne (Ok true) rules old new desk next before after = Settled rules old new desk next before after
-SettlesOne (Ok false) rules old new desk next before after = (new.posted ≡ []) × Gives rules 0 old new desk next before after
-SettlesOne (Err e) rules old new desk next before after = (e ≡ fault.Write) × (limit : ℕ) × GivesInPart rules limit old new before after
 
 -- All of the bytes were taken: what was written answers the whole lines and the questions that were answered behind them, and of
 -- the next line its front is kept.

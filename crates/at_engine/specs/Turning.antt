@@ -1,16 +1,17 @@
 -- What turns come to, by the position of their question.
 use Rattle.std.specs.declared.alloc.AllocError.{AllocError}
-use Rattle.std.specs.Prelude.{◌≡◌, ℕ, ◌+◌, ◌<◌, ◌≤◌, Bool, List, Option, Some, None, Result, Ok, Err, IfOk, IsTrue, length, remove, slice_get, slice_set}
+use Rattle.std.specs.Prelude.{◌≡◌, ◌⊎◌, ℕ, ◌<◌, ◌≤◌, Bool, List, Option, Some, None, Result, Ok, Err, IfOk, IfSome, IsTrue, OnErr, length, remove, slice_get, slice_set}
+use Rattle.std.specs.Option.{option_map}
 use Rattle.at_model.specs.Alike.{AnswerLike, InstanceLike, Names}
 use Rattle.at_model.specs.Asking.{IsWellFormed}
 use Rattle.at_model.specs.Lines.{Command}
 use Rattle.at_model.specs.Machine.{State, Asks, Refuses, Waits, answer_form, obeyed}
 use Rattle.at_model.specs.Meaning.{Answer, Right}
-use Rattle.at_model.specs.Meaning.{Answers as HasAnswer}
 use Rattle.at_model.specs.Paths.{Node}
+use Rattle.at_model.specs.Replies.{Code, Form as FormOf}
 use Rattle.at_model.specs.Rules.{Rules}
 use Rattle.at_model.specs.Run.{Contents, Instance}
-use Rattle.at_model.specs.Turning.{Turned, UnderWay, asked}
+use Rattle.at_model.specs.Turning.{UnderWay, asked}
 use Rattle.at_model.specs.WellFormed.{AreWellFormed, IsTreeSound}
 use Rattle.at_protocol.specs.ReplyView.{code_view}
 use Rattle.at_protocol.specs.declared.reply.Form.{Form}
@@ -19,14 +20,15 @@ use Rattle.at_cache.specs.Kept.{Entries}
 use Rattle.at_cache.specs.Traced.{Memories, StayTraced}
 use Rattle.at_demand.specs.Known.{answer_view, kept_values, meaning, ArePlain}
 use Rattle.at_demand.specs.Right.{AreRight, IsThere}
-use Rattle.at_demand.specs.Sparing.{AddsWorthy, AreSpare, MayAddLazy}
-use Rattle.at_demand.specs.Turns.{IsSparingTurns, IsStanding, under_way}
+use Rattle.at_demand.specs.Sparing.{AddsWorthy, AreSpare, HasWorthy}
+use Rattle.at_demand.specs.Turns.{AreTurns, BreaksOff, IsSparingTurns, IsStanding, under_way}
 use Rattle.at_demand.specs.declared.answer.Answer.{Answer as AnswerCode}
+use Rattle.at_demand.specs.declared.demand.Demand.{Demand}
 use Rattle.at_demand.specs.declared.question.Question.{Question}
 use Rattle.at_engine.specs.Engines.{rules_of, state_of, IsHeld, IsSound, IsTyped}
 use Rattle.at_engine.specs.Holding.{IsBegunFor, words_verdict}
 use Rattle.at_engine.specs.Keeping.{IsSpare}
-use Rattle.at_engine.specs.Posted.{came_to, posted_view, turns_given}
+use Rattle.at_engine.specs.Posted.{came_to, posted_view}
 use Rattle.at_engine.specs.Telling.{IsAnswerTo}
 use Rattle.at_engine.specs.declared.engine.Engine.{Engine}
 use Rattle.at_engine.specs.declared.engine.saying.Told.{Told}
@@ -65,59 +67,88 @@ pub record IsAskedOf (rules : Rules) (s : Shown) (i : Instance ℕ) : Type 0 whe
   pub like : InstanceLike (Names (path s)) i named
   pub formed : IsWellFormed rules (tree s) named
 
--- it is the answer to the words of the question, or none yet
-abbrev pub MayAnswer : {K : Type 0} → Engine K → Posted → Option Form → Type 0
-MayAnswer e p None = Unit {0}
-MayAnswer e p (Some f) = IsAnswerTo (rules_of e) (state_of e) (posted_view (path e.store) p) f
+-- the words of the question are refused
+pub record AreRefused {K : Type 0} (e : Engine K) (p : Posted) : Type 0 where
+  pub code : Code
+  pub words : words_verdict (rules_of e) (tree e.store) (posted_view (path e.store) p) ≡ Refuses code
 
--- one turn has come so far: to where the question has come now, or to its answer
-abbrev pub HasCome : {K E : Type 0} → (entries : K → Entries) → Engine K → Posted → Option Question → Instance ℕ → Result (Option Form) E → Type 0
-HasCome entries e p now i (Ok None) = (q : Question) × (now ≡ Some q)
-    × Turned (contents e.store) (meaning (rules_of e)) (kept_values (entries e.demand.keeper)) (came_to p.question i) (under_way q) None
-HasCome entries e p now i (Ok (Some f)) =
-    (u : UnderWay ℕ) × (a : Answer ℕ) × (b : Answer Node)
-    × Turned (contents e.store) (meaning (rules_of e)) (kept_values (entries e.demand.keeper)) (came_to p.question i) u (Some a)
-    × AnswerLike (Names (path e.store)) a b × (said : IsAnswerTo (rules_of e) (state_of e) (posted_view (path e.store) p) f)
-    × (said.form ≡ answer_form (rules_of e) (tree e.store) b)
-HasCome entries e p now i (Err e') = Unit {0}
+-- they ask for an instance, and for that one it holds
+pub record AreAsked {K : Type 0} (e : Engine K) (p : Posted) (Holds : Instance ℕ → Type 0) : Type 0 where
+  pub inst : Instance ℕ
+  pub named : Instance Node
+  pub words : words_verdict (rules_of e) (tree e.store) (posted_view (path e.store) p) ≡ Asks named
+  pub like : InstanceLike (Names (path e.store)) inst named
+  pub holds : Holds inst
 
--- it isn't silent
-abbrev pub IsEnd : {E : Type 0} → Result (Option Form) E → Type 0
-IsEnd (Ok None) = ⊥
-IsEnd r = Unit {0}
+-- no more turns than may be given: any number, where there is no limit
+abbrev pub IsWithin : (limit : Option ℕ) → ℕ → Type 0
+IsWithin None n = Unit {0}
+IsWithin (Some limit) n = n ≤ limit
 
--- The turn tried the equation to which the question had come, or nothing, where its words ask for nothing or memory ran out.
-pub data TriedOnce {K E : Type 0} (entries : K → Entries) (old new : Engine K) (p : Posted) (now : Option Question) (r : Result (Option Form) E) : Type 0 where
-  tried : (i : Instance ℕ) (named : Instance Node) → words_verdict (rules_of old) (tree old.store) (posted_view (path old.store) p) ≡ Asks named
-      → InstanceLike (Names (path old.store)) i named
-      → MayAddLazy (rules_of old) (entries old.demand.keeper) (entries new.demand.keeper) (came_to p.question i).last → HasCome entries old p now i r
-      → TriedOnce entries old new p now r
-  tried_nothing : IsEnd r → new.demand ≡ old.demand → TriedOnce entries old new p now r
+-- So many turns were given, and counted so: as many as may be, where none had an answer, or up to the one that had. Where there is no
+-- limit one has, and they aren't counted.
+abbrev pub CountsTurns : {A : Type 0} → (limit : Option ℕ) → (given counted : ℕ) → Option A → Type 0
+CountsTurns None given counted None = ⊥
+CountsTurns None given counted (Some a) = Unit {0}
+CountsTurns (Some limit) given counted None = (counted ≡ given) × (given ≡ limit)
+CountsTurns (Some limit) given counted (Some a) = (counted ≡ given) × (given ≤ limit)
 
--- what one turn of the question at the position has done
-pub record Tried {K E : Type 0} (entries : K → Entries) (old new : Engine K) (position : ℕ) (p : Posted) (r : Result (Option Form) E) : Type 0 where
+-- memory ran out in one of the turns that may be given
+abbrev pub BreaksOffIn : Rules → Shown → (limit : Option ℕ) → Entries → UnderWay ℕ → Entries → Type 0
+BreaksOffIn rules s limit before u after = (n : ℕ) × IsWithin limit n × BreaksOff rules s n before u after
+
+-- From where the question for the instance had come the turns led there, and to these values that are kept.
+abbrev pub TurnsLead : {K : Type 0} → (entries : K → Entries) → Engine K → Demand K → Posted → (given : ℕ) → Instance ℕ → UnderWay ℕ
+    → Option (Answer ℕ) → Type 0
+TurnsLead entries e d p given i u o =
+    AreTurns (rules_of e) e.store given (entries e.demand.keeper) (came_to p.question i) (entries d.keeper) u o
+
+-- They led to the answer that is told so. With an exact keeper, all that is worth keeping for the instance is kept.
+pub record ComesToEnd {K : Type 0} (exact : Bool) (entries : K → Entries) (e : Engine K) (d : Demand K) (p : Posted) (given : ℕ) (told : FormOf)
+    (i : Instance ℕ) : Type 0 where
+  pub end : UnderWay ℕ
+  pub answer : Answer ℕ
+  pub named : Answer Node
+  pub turns : TurnsLead entries e d p given i end (Some answer)
+  pub like : AnswerLike (Names (path e.store)) answer named
+  pub form : told ≡ answer_form (rules_of e) (tree e.store) named
+  pub all : IsTrue exact → IsSpare entries e → HasWorthy (rules_of e) (contents e.store) i (entries d.keeper)
+
+-- By so many turns the question is answered so: its words are refused, and nothing was tried; or each tried one equation.
+abbrev pub EndsSo : {K : Type 0} → (exact : Bool) → (entries : K → Entries) → Engine K → Demand K → Posted → (given : ℕ) → FormOf → Type 0
+EndsSo exact entries e d p given told = (AreRefused e p × (d ≡ e.demand) × (given ≡ 1)) ⊎ AreAsked e p (ComesToEnd exact entries e d p given told)
+
+-- Memory ran out: before its words were looked at, and nothing was tried; or in a turn, or behind the last one.
+abbrev pub RunsOut : {K : Type 0} → (entries : K → Entries) → (limit : Option ℕ) → Engine K → Demand K → Posted → Type 0
+RunsOut entries limit e d p = (d ≡ e.demand)
+    ⊎ AreAsked e p (λ i. BreaksOffIn (rules_of e) e.store limit (entries e.demand.keeper) (came_to p.question i) (entries d.keeper))
+
+-- the question has no answer by so many turns, each of which tried one equation
+abbrev pub StaysOpen : {K : Type 0} → (entries : K → Entries) → Engine K → Demand K → Posted → (given : ℕ) → Option Question → Type 0
+StaysOpen entries e d p given now = AreAsked e p (λ i. (q : Question) × (now ≡ Some q) × TurnsLead entries e d p given i (under_way q) None)
+
+-- what turns of the question have done, and how many are counted
+abbrev pub Came : {K E : Type 0} → (exact : Bool) → (entries : K → Entries) → (limit : Option ℕ) → Engine K → Demand K → Posted → Option Question
+    → Result (ℕ × Option Form) E → Type 0
+Came exact entries limit e d p now (Ok (counted, None)) =
+    (given : ℕ) × CountsTurns {A = Form} limit given counted None × StaysOpen entries e d p given now
+Came exact entries limit e d p now (Ok (counted, Some f)) =
+    (given : ℕ) × CountsTurns limit given counted (Some f) × (said : IsAnswerTo (rules_of e) (state_of e) (posted_view (path e.store) p) f)
+    × EndsSo exact entries e d p given said.form
+Came exact entries limit e d p now (Err e') = RunsOut entries limit e d p
+
+-- so it is of the question at the position, which has come so far now
+pub record HasGone {K E : Type 0} (exact : Bool) (entries : K → Entries) (limit : Option ℕ) (old new : Engine K) (position : ℕ) (p : Posted)
+    (r : Result (ℕ × Option Form) E) : Type 0 where
   pub now : Option Question
   pub reopens : Reopens position old.posts new.posts p now
-  pub answer : IfOk r (MayAnswer old p)
-  pub once : TriedOnce entries old new p now r
+  pub came : Came exact entries limit old new.demand p now r
 
--- so many turns had no answer, as many as there may be, and the question has come so far; or the last one had
-abbrev pub CountsTurns : (limit turns : ℕ) → (before now : Option Question) → Option Form → Type 0
-CountsTurns limit turns before now None = (turns ≡ limit) × (turns_given now ≡ turns_given before + turns)
-CountsTurns limit turns before now (Some f) = (0 < turns) × (turns ≤ limit)
-
--- what turns of the question at the position have done
-pub record HasGone {K E : Type 0} (old new : Engine K) (position limit : ℕ) (p : Posted) (r : Result (ℕ × Option Form) E) : Type 0 where
-  pub now : Option Question
-  pub reopens : Reopens position old.posts new.posts p now
-  pub answer : IfOk r (λ x. MayAnswer old p x.1)
-  pub counts : IfOk r (λ x. CountsTurns limit x.0 p.question now x.1)
-
--- what all turns of the question at the position have done
-pub record HasSettled {K E : Type 0} (old new : Engine K) (position : ℕ) (p : Posted) (r : Result Form E) : Type 0 where
-  pub now : Option Question
-  pub reopens : Reopens position old.posts new.posts p now
-  pub answer : IfOk r (IsAnswerTo (rules_of old) (state_of old) (posted_view (path old.store) p))
+-- so all turns have done that a question needs, whose answer is told
+abbrev pub HasEnded : {K E : Type 0} → (exact : Bool) → (entries : K → Entries) → Engine K → Demand K → Posted → Result Form E → Type 0
+HasEnded exact entries e d p (Ok f) =
+    (given : ℕ) × (said : IsAnswerTo (rules_of e) (state_of e) (posted_view (path e.store) p) f) × EndsSo exact entries e d p given said.form
+HasEnded exact entries e d p (Err e') = RunsOut entries None e d p
 
 -- what is told of the question, where this is its answer, on the tree of that version
 abbrev pub told_of : Posted → (version : ℕ) → Result Form AllocError → Told
@@ -144,15 +175,15 @@ pub record CanTurn {K : Type 0} (entries : K → Entries) (memories : K → Memo
 
 -- and there are some to give
 pub record CanGoOn {K : Type 0} (entries : K → Entries) (memories : K → Memories)
-    (e : Engine K) (position limit : ℕ) : Type 0 where
+    (e : Engine K) (position : ℕ) (limit : Option ℕ) : Type 0 where
   pub ready : CanTurn entries memories e position
-  pub some : 0 < limit
+  pub some : IfSome limit (λ n. 0 < n)
 
 -- turns can be given to whichever question is the first
 pub record CanSpend {K : Type 0} (entries : K → Entries) (memories : K → Memories)
-    (e : Engine K) (limit : ℕ) : Type 0 where
+    (e : Engine K) (limit : Option ℕ) : Type 0 where
   pub sound : IsSound entries memories e
-  pub some : 0 < limit
+  pub some : IfSome limit (λ n. 0 < n)
 
 -- That was done with the question at the position: nothing but questions and what is kept has changed, the engine is held, and
 -- what was kept spare is so still.
@@ -182,12 +213,21 @@ pub record CanAnswer (rules : Rules) (s : Shown) (entries : Entries) (q : Questi
   pub standing : IsStanding rules s entries q
   pub named : IsAskedOf rules s (asked (under_way q))
 
--- The question was answered, unless memory ran out. Only what is worth keeping for it was added; what is kept is right still, and
--- spare; and nothing is traced anew.
-pub record AnswersIt {E : Type 0} (exact : Bool) (rules : Rules) (s : Shown) (q : Question) (old new : Entries)
-    (before later : Memories) (result : Result AnswerCode E) : Type 0 where
-  pub answers : IfOk result (λ a. HasAnswer (contents s) (meaning rules) (asked (under_way q)) (answer_view a))
-  pub worthy : AddsWorthy rules (contents s) (asked (under_way q)) old new
-  pub stays : IsThere s (asked (under_way q)) → AreRight rules s old → AreRight rules s new
-  pub spare : IsTrue exact → AreSpare rules (contents s) old → IsSparingTurns rules (contents s) old q → AreSpare rules (contents s) new
-  pub traces : StayTraced before later
+-- It was given turns: so many, or fewer where one of them answers it, or, without a limit, until one does. What is kept is right still,
+-- with an exact keeper spare, and where it was answered all that is worth keeping for it is kept; and nothing is traced anew.
+pub record HasTurnedUpTo {E : Type 0} (exact : Bool) (rules : Rules) (s : Shown) (limit : Option ℕ) (before after : Entries)
+    (earlier later : Memories) (old new : Question) (r : Result (ℕ × Option AnswerCode) E) : Type 0 where
+  pub each : IfOk r (λ g. (given : ℕ) × CountsTurns limit given g.0 (option_map answer_view g.1)
+      × AreTurns rules s given before (under_way old) after (under_way new) (option_map answer_view g.1))
+  pub broke : OnErr r (BreaksOffIn rules s limit before (under_way old) after)
+  pub all : IsTrue exact → AreSpare rules (contents s) before → IsSparingTurns rules (contents s) before old
+      → IfOk r (λ g. IfSome g.1 (λ a. HasWorthy rules (contents s) (asked (under_way old)) after))
+  pub standing : IfOk r (λ g. IsStanding rules s after new)
+  pub right : Right (contents s) (meaning rules) (kept_values after)
+  pub worthy : AddsWorthy rules (contents s) (asked (under_way old)) before after
+  pub stays : IsThere s (asked (under_way old)) → AreRight rules s before → AreRight rules s after
+  pub plain : ArePlain rules after
+  pub spare : IsTrue exact → AreSpare rules (contents s) before → IsSparingTurns rules (contents s) before old → AreSpare rules (contents s) after
+  pub sparing : IsTrue exact → AreSpare rules (contents s) before → IsSparingTurns rules (contents s) before old
+      → IfOk r (λ g. IsSparingTurns rules (contents s) after new)
+  pub traces : StayTraced earlier later

@@ -2,7 +2,8 @@
 //!
 //! **Its specs.** Each function promises one record. Of the loop, from above: `Running` (what a run has done, and
 //! what it promises), `Going` (what each function of the loop promises), `Loop` and `Taking` (pieces of any size),
-//! `Serving` (one call of the engine), `Ends` and `RunFaults` (streams that fail). Of a line: `Holding` and
+//! `Serving` (one call of the engine), `Stepping` (what an engine has gone through), `Ends` and `RunFaults` (streams
+//! that fail). Of a line: `Holding` and
 //! `Engines` (which state of the machine an engine holds, and when it is sound), `Commanding` (what a command
 //! promises), `Meant` (what its words come to), `Following` and `Telling` (what a verdict leads to, in the program's
 //! words), `Lasting` (where the last question was asked). By numbers for nodes: `Seen`, `Naming`, `Marks`,

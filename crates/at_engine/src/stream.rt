@@ -1,11 +1,11 @@
 //! The loop over lines: bytes come in pieces of any size, each line is served whole, and its reply is written before the
 //! next line is served. It is sent on then, too; or, where replies are gathered, before anything that may take long.
-ghost use Rattle.std.specs.Prelude.{◌≡◌, ◌⊎◌, ◌∷◌, ◌++◌, ◌<◌, ◌+◌, [], true, false, length, is_err, vec_len, None, IfSome, MatchOption, OnOk};
+ghost use Rattle.std.specs.Prelude.{◌≡◌, ◌⊎◌, ◌∷◌, ◌++◌, ◌<◌, ◌≤◌, ◌+◌, [], true, false, length, is_err, vec_len, None, IfSome, MatchOption, OnOk};
 ghost use Rattle.at_engine.specs.Engines.{rules_of, slice_of, IsSound};
 ghost use Rattle.at_engine.specs.Ends.{Remembers, SendsOn};
 ghost use Rattle.at_engine.specs.Loop.{lets_wait, newline_at, IsNext, IsOpen};
 ghost use Rattle.at_engine.specs.Going.{CanGive, CanServe, CanServeLine, FinishesAll, ServesLine, TakesBytes, Works};
-ghost use Rattle.at_engine.specs.Taking.{Drains, GivesTurns, LeavesTurns, SettlesOne, Written};
+ghost use Rattle.at_engine.specs.Taking.{Drains, GivesTurns, LeavesTurns, Written};
 ghost use Rattle.at_engine.specs.Running.{RunsFor, max_reads};
 
 mod desk;
@@ -99,18 +99,18 @@ fn give_turns<K: Keeper, W: Output>(
     }
     let mut left = u64::from(engine.slice());
     while left > 0 {
-        left = give_some(engine, desk, writer, left)?;
+        left = give_some(engine, desk, writer, Some(left))?;
     }
     Ok(())
 }
 
 /// Gives turns up to the first answer, which is written: how many of the turns are left. Where no question is answered by
-/// them, none is left.
+/// them, none is left; and none is counted where there is no limit.
 fn give_some<K: Keeper, W: Output>(
     engine: &mut Engine<K>,
     desk: &mut Desk,
     writer: &mut W,
-    limit: u64,
+    limit: Option<u64>,
 ) -> Result<u64, RunFault>
     requires { CanGive K.contents K.memories engine.old desk.old limit }
     ensures { Works K.exact K.contents K.memories W.contents W.failed W.waits engine.old engine.new desk.old desk.new writer.old writer.new
@@ -122,11 +122,22 @@ fn give_some<K: Keeper, W: Output>(
             Some(wants) => {
                 desk.count_answer(wants);
                 write_whole(writer, desk.reply.as_slice(), true)?;
-                Ok(limit - spent.turns)
+                Ok(left_of(limit, spent.turns))
             }
             None => Ok(0),
         },
         Err(_) => unreachable!(),
+    }
+}
+
+/// How many turns are left of those that there may be, where they are counted.
+fn left_of(limit: Option<u64>, turns: u64) -> u64
+    requires { IfSome limit (λ n. turns ≤ n) }
+    ensures { IfSome limit (λ n. turns + result ≡ n) }
+{
+    match limit {
+        Some(limit) => limit - turns,
+        None => 0,
     }
 }
 
@@ -140,35 +151,10 @@ fn drain<K: Keeper, W: Output>(
     ensures { Works K.exact K.contents K.memories W.contents W.failed W.waits engine.old engine.new desk.old desk.new writer.old writer.new
         (Drains result (rules_of engine.old)) result }
 {
-    let mut is_open = true;
-    while is_open {
-        is_open = settle_one(engine, desk, writer)?;
+    while !engine.is_settled() {
+        give_some(engine, desk, writer, None)?;
     }
     Ok(())
-}
-
-/// Gives turns until a question is answered, and writes its answer; whether a question was open.
-fn settle_one<K: Keeper, W: Output>(
-    engine: &mut Engine<K>,
-    desk: &mut Desk,
-    writer: &mut W,
-) -> Result<bool, RunFault>
-    requires { CanServe K.contents K.memories engine.old desk.old 0 }
-    ensures { Works K.exact K.contents K.memories W.contents W.failed W.waits engine.old engine.new desk.old desk.new writer.old writer.new
-        (SettlesOne result (rules_of engine.old)) result }
-{
-    desk.reply.clear();
-    match engine.settle_first(&mut desk.reply) {
-        Ok(told) => match told {
-            Some(wants) => {
-                desk.count_answer(wants);
-                write_whole(writer, desk.reply.as_slice(), true)?;
-                Ok(true)
-            }
-            None => Ok(false),
-        },
-        Err(_) => unreachable!(),
-    }
 }
 
 /// Takes a newline: it ends the line, which is served unless it is empty. Where the next line is known, its reply may wait

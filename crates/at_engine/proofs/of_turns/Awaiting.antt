@@ -7,7 +7,7 @@ use Rattle.at_model.specs.Paths.{Node, part_named, tree_at}
 use Rattle.at_model.specs.Rules.{Rules, attribute_named}
 use Rattle.at_model.specs.Run.{Value}
 use Rattle.at_model.specs.Shaping.{names_classes, shaped}
-use Rattle.at_model.specs.Edits.{Edit, Refusal, class_asked, edited, list_class, optional_class, shape_at, token_kind}
+use Rattle.at_model.specs.Edits.{Edit, Refusal, class_asked, edited_within, list_class, optional_class, shape_at, token_kind}
 use Rattle.at_model.specs.Edits as edit
 use Rattle.at_model.specs.Lines.{Argument, Place, Post, last_post, last_version}
 use Rattle.at_model.specs.Machine.{State, Verdict, Asks, Edits, Leaves, Posted, Posts, Refuses, Tells, at_node, changed, code_of, each, fit_parameters, is_marked, marked, marks_named, marks_used, max_marks, max_posted, node_named, obeyed, parameters_of, path_to, questioned, value_named, with_component, with_mark, with_tree}
@@ -51,7 +51,7 @@ module _ (rules : Rules) (s : State) (session : ℕ) where
       by true (Some u) = all u
 
   at_edit : (e : Edit) → IsAtOnce (changed rules.classes s e)
-  at_edit e = by (edited rules.classes s.tree e) (nat_eq s.version last_version)
+  at_edit e = by (edited_within s.limit rules.classes s.tree e) (nat_eq s.version last_version)
     where
       by : (r : Result Tree Refusal) (last : Bool) → IsAtOnce (elim r as (λ _. Verdict) [ Err refusal ↦ Refuses (code_of refusal) | Ok t ↦ if last then Refuses code.Limit else Edits e t ])
       by (Err r) last = tt

@@ -2,6 +2,7 @@
 use Rattle.std.proofs.Common.{◌≡◌, ◌∙◌, ℕ, ◌+◌, ◌*◌, ◌≤◌, Bool, true, false, cond, if◌then◌else◌, nat_eq, List, [], ◌∷◌, ◌++◌, map, find, length, Option, Some, None, option_map, option_and_then, ap, arith, refl, sym, subst}
 use Rattle.std.specs.List.{AllByRecursion, flat_map}
 use Rattle.at_model.specs.Instances.{all_nodes, argument_lists, below, instances, literals_of, text_in, text_of_value, tokens}
+use Rattle.at_model.specs.Edits.{max_nodes}
 use Rattle.at_model.specs.Lines.{Argument, Ask, Place, Ref, Text, Null}
 use Rattle.at_model.specs.Paths.{Node, tree_at}
 use Rattle.at_model.specs.Replies as code
@@ -81,7 +82,7 @@ by_marks false v i e = e
 
 module _ (rules : Rules) (s : Shown) (idle : IsIdle s) (ok : AreWellFormed rules) (sound : IsTreeSound rules.classes (tree s)) (entries : Entries) where
   abbrev bare : PostedOf → State
-  bare q = record { tree = tree s; version = 0; marks = q.marks; posts = 0; posted = [] }
+  bare q = record { tree = tree s; limit = max_nodes; version = 0; marks = q.marks; posts = 0; posted = [] }
 
   few_begun : (p : Posted) (q : Question) → IsBegunFor rules s entries p q → turns_of (under_way q) ≤ 2 * universe_of rules (tree s) (posted_view (path s) p) + 1
   few_begun p q b =

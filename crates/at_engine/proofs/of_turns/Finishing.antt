@@ -1,37 +1,38 @@
 -- What the turns of the first open question come to, in the words of the machine.
-use Rattle.std.proofs.Common.{◌≡◌, ℕ, zero, suc, ◌+◌, ◌-◌, ◌<◌, ◌≤◌, Bool, true, false, if◌then◌else◌, List, [], ◌∷◌, ◌++◌, length, map, Option, Some, None, Result, Ok, Err, IfOk, refl, sym, ap, ◌∙◌, subst, arith, append-nil, inl, inr}
-use Rattle.std.specs.Prelude.{slice_get, slice_set, remove}
+use Rattle.std.proofs.Common.{◌≡◌, ℕ, zero, suc, ◌+◌, ◌-◌, ◌<◌, ◌≤◌, Bool, true, false, not, if◌then◌else◌, List, [], ◌∷◌, ◌++◌, length, map, Option, Some, None, Result, Ok, Err, IfOk, refl, sym, ap, ◌∙◌, subst, arith, append-nil}
+use Rattle.std.proofs.lemmas.List.{length-map}
+use Rattle.std.specs.Prelude.{slice_get, slice_set, remove, IfSome, IsTrue, MatchBool, Vec, vec_capacity}
+use Rattle.std.specs.Global.{Global}
+use Rattle.std.proofs.lemmas.Option.{slice_get_within}
 use Rattle.std.specs.declared.alloc.AllocError.{AllocError}
 use Rattle.at_model.specs.Enduring.{AreNumbered, AreTokens}
 use Rattle.at_model.specs.Machine.{State, Posted as PostedOf, AnswersPosted, Given, spent, telling, Turns, done_reply, first_of, without}
 use Rattle.at_model.specs.Replies.{Form as FormOf, Memory, Reply, reply_text}
 use Rattle.at_model.specs.Rules.{Rules}
-use Rattle.at_model.specs.Run.{Instance}
-use Rattle.at_model.specs.Turning.{UnderWay, turns_of}
 use Rattle.at_model.specs.WellFormed.{AreWellFormed}
-use Rattle.at_model.proofs.of_machines.Bounded.{one_turn}
 use Rattle.at_protocol.specs.Writable.{IsWritable}
 use Rattle.at_protocol.specs.declared.reply.Form.{Form}
-use Rattle.at_store.specs.Shown.{Shown, contents, path, tree}
+use Rattle.at_store.specs.Shown.{Shown, path, tree}
 use Rattle.at_cache.specs.Kept.{Entries}
 use Rattle.at_cache.specs.Traced.{Memories}
-use Rattle.at_demand.specs.Known.{kept_values, meaning}
-use Rattle.at_demand.specs.Sparing.{MayAddLazy}
 use Rattle.at_demand.specs.Turns.{under_way}
 use Rattle.at_demand.specs.declared.demand.Demand.{Demand}
 use Rattle.at_demand.specs.declared.question.Question.{Question}
-use Rattle.at_engine.specs.Engines.{marks_of, rules_of, state_of, IsHeld, IsTyped}
+use Rattle.at_engine.specs.Engines.{marks_of, rules_of, state_of, IsHeld, IsSound, IsTyped, Knows}
 use Rattle.at_engine.specs.Holding.{state_in, IsSoundWith}
 use Rattle.at_engine.specs.Posted.{came_to, posted_view, turns_given}
-use Rattle.at_engine.specs.Serving.{Settles, Spends}
+use Rattle.at_engine.specs.Keeping.{IsSpare}
+use Rattle.at_engine.specs.Serving.{Calls}
 use Rattle.at_engine.specs.Telling.{IsAnswerTo, IsClosed, IsSaid}
-use Rattle.at_engine.specs.Turned.{TakesTurn, TriesOnce, tries, tries_nothing}
-use Rattle.at_engine.specs.Turning.{HasGone, Reopens, StandsAt, Tried, TriedOnce, tried, tried_nothing, told_of}
+use Rattle.at_engine.specs.Turned.{HasGiven, HasTried, HasTurned, gives, none_open}
+use Rattle.at_engine.specs.Turning.{Attends, Came, CountsTurns, EndsSo, HasEnded, HasGone, Reopens, RunsOut, StandsAt, TakesOff, told_of}
 use Rattle.at_engine.specs.declared.engine.Engine.{Engine}
 use Rattle.at_engine.specs.declared.engine.saying.Told.{Told}
 use Rattle.at_engine.specs.declared.posts.Posted.{Posted}
+use Rattle.at_engine.specs.declared.engine.turning.Spent.{Spent}
+use Rattle.at_engine.proofs.of_turns.Counted.{counts_refused, counts_same, given_by, out_behind, silent_same, some_given, some_silent, turns_counted}
 use Rattle.at_engine.proofs.of_turns.Openings.{TurnTold, closed, gone, told_err, told_ok}
-use Rattle.at_engine.proofs.Positions.{get_set}
+use Rattle.at_engine.proofs.Positions.{get_set, there_at}
 use Rattle.at_engine.proofs.of_turns.Turnings.{answered_at, ran_out_at, silent_one, silent_turns, told_turns, without_it}
 
 -- the list begins with an element
@@ -91,7 +92,7 @@ module _ {K : Type 0} (kept : K → Entries) (e : Engine K) {memories : Memories
         subst (IsClosed (rules_of e) (state_of e) (posted_view (path e.store) p) (state_of n)) (sym (is ∙ ap (λ (v : ℕ). told_of p v r) (ap (λ (x : Engine K). x.version) rest)))
         (closed (rules_of e) e.store e.version (marks_of e) e.posts position p there sound.numbered r (state_of n) state_gone answer)
 
-module _ {K : Type 0} (kept : K → Entries) (e : Engine K) {memories : Memories}
+module _ {K : Type 0} (exact : Bool) (kept : K → Entries) (e : Engine K) {memories : Memories}
     (sound : IsSoundWith (rules_of e) e.store (marks_of e) e.posts (kept e.demand.keeper) memories) (p : Posted) (others : List Posted) (least : e.posts.items.items ≡ p ∷ others) where
   abbrev view : Posted → PostedOf
   view = posted_view (path e.store)
@@ -124,23 +125,6 @@ module _ {K : Type 0} (kept : K → Entries) (e : Engine K) {memories : Memories
         let items = r.items ∙ ap (λ (l : List Posted). slice_set l 0 (record p { question = o })) least in
         state_mid ∙ (λ i. record (state_of e) { posts = r.count i; posted = map view (items i) }) ∙ ap at_turn is
 
-    -- one turn that is silent
-    silent_so : Tried {E = AllocError} kept e m 0 p (Ok None) → Turns (rules_of e) (state_of e) p.number (state_of m) None
-    silent_so h = by h.once
-      where
-        counts : (x : Option Question) (i : Instance ℕ) (u : UnderWay ℕ) → turns_of u ≡ suc (turns_of (came_to x i)) → turns_of u ≡ turns_given x + 1
-        counts None i u is = is
-        counts (Some q) i u is = let next : suc (turns_given (Some q)) ≡ turns_given (Some q) + 1 = omega arith in is ∙ next
-
-        by : TriedOnce {E = AllocError} kept e m p h.now (Ok None) → Turns (rules_of e) (state_of e) p.number (state_of m) None
-        by (tried i named asks like added (q, is, turned)) =
-            let count : turns_given h.now ≡ turns_given p.question + 1 = ap turns_given is ∙ counts p.question i (under_way q) (one_turn (contents e.store) (meaning (rules_of e)) (kept_values (kept e.demand.keeper)) (came_to p.question i) (under_way q) turned) in
-            let end : at_turn (turns_given p.question + 1) ≡ state_of m = sym (state_at h.now (turns_given p.question + 1) h.reopens count) in
-            subst (λ (x : State). Turns (rules_of e) x p.number (state_of m) None) as_now
-            (subst (λ (x : State). Turns (rules_of e) (at_turn (turns_given p.question)) p.number x None) end
-            (silent_one (rules_of e) (state_of e) (view p) (map view others) e.posts.count increase (turns_given p.question)))
-        by (tried_nothing ends same) = absurd ends
-
     -- then it was told
     module _ (n : Engine K) (tells : n ≡ record m { posts = record n.posts { count = m.posts.count } }) (items : n.posts.items.items ≡ remove m.posts.items.items 0) (o : Option Question) (opens : Reopens 0 e.posts m.posts p o) where
       gone_end : state_of n ≡ without p.number (state_of e)
@@ -158,131 +142,275 @@ module _ {K : Type 0} (kept : K → Entries) (e : Engine K) {memories : Memories
         failed_so e' said = told_err (rules_of e) e.store e.version (marks_of e) e.posts 0 p first_stands sound.numbered (state_of n) gone_end before after e' wants
             (subst (λ (v : ℕ). IsSaid (told_of p v (Err e')) wants before after) version_mid said)
 
-      -- what one turn has done
       demand_end : n.demand ≡ m.demand
       demand_end = ap (λ (x : Engine K). x.demand) tells
 
-      module _ (before after : List ℕ) where
-        taken : (wants : Bool) (form : FormOf) (t : TurnTold (rules_of e) (state_of e) (view p) (state_of n) wants form before after) → TriesOnce kept e n p others (Some (wants, t.reply)) → TakesTurn kept e n before after
-        taken wants form t once = record {
-          first = p;
-          others = others;
-          least = least;
-          told = Some (wants, t.reply);
-          turns = t.turns;
-          appended = t.appended ∙ ap (λ l. before ++ l) (sym (append-nil (reply_text t.reply)));
-          once = once;
-        }
-
-        nothing_tried : (wants : Bool) (reply : Reply) → m.demand ≡ e.demand → TriesOnce kept e n p others (Some (wants, reply))
-        nothing_tried wants reply same = tries_nothing (wants, reply) refl (demand_end ∙ same)
-
-        keeper_end : (i : Instance ℕ) → MayAddLazy (rules_of e) (kept e.demand.keeper) (kept m.demand.keeper) i → MayAddLazy (rules_of e) (kept e.demand.keeper) (kept n.demand.keeper) i
-        keeper_end i h = subst (λ (d : Demand K). MayAddLazy (rules_of e) (kept e.demand.keeper) (kept d.keeper) i) (sym demand_end) h
-
-        pub takes_told : (f : Form) (h : Tried {E = AllocError} kept e m 0 p (Ok (Some f))) (wants : Bool) → IsSaid (told_of p m.version (Ok f)) wants before after → TakesTurn kept e n before after
-        takes_told f h wants said = by h.once wants said
-          where
-            by : TriedOnce {E = AllocError} kept e m p h.now (Ok (Some f)) → (wants : Bool) → IsSaid (told_of p m.version (Ok f)) wants before after → TakesTurn kept e n before after
-            by (tried i named asks like added (u, a, b, turned, alike, y, is)) true said =
-                let t = told_so true before after f y said in
-                taken true y.form t (tries i named asks like (keeper_end (came_to p.question i).last added) tt)
-            by (tried i named asks like added (u, a, b, turned, alike, y, is)) false said =
-                let t = told_so false before after f y said in
-                taken false y.form t (tries i named asks like (keeper_end (came_to p.question i).last added) (u, a, b, turned, alike, t.is_form refl ∙ is))
-            by (tried_nothing ends same) wants said =
-                let t = told_so wants before after f h.answer said in
-                taken wants h.answer.form t (nothing_tried wants t.reply same)
-
-        pub takes_failed : (e' : AllocError) (h : Tried kept e m 0 p (Err e')) (wants : Bool) → IsSaid (told_of p m.version (Err e')) wants before after → TakesTurn kept e n before after
-        takes_failed e' h wants said = by h.once wants (failed_so wants before after e' said)
-          where
-            by : TriedOnce kept e m p h.now (Err e') → (wants : Bool) → (wants ≡ true) × TurnTold (rules_of e) (state_of e) (view p) (state_of n) wants Memory before after → TakesTurn kept e n before after
-            by (tried i named asks like added come) true t = taken true Memory t.1 (tries i named asks like (keeper_end (came_to p.question i).last added) tt)
-            by (tried i named asks like added come) false t = let no : false ≡ true = t.0 in absurd cc
-            by (tried_nothing ends same) wants t = taken wants Memory t.1 (nothing_tried wants t.1.reply same)
-
-        -- what a slice has done
-        first_now : first_of (state_of e).posted ≡ Some (view p)
-        first_now = ap first_of viewed
-
-        once_given : (said : Bool × Reply) → Turns (rules_of e) (state_of e) p.number (state_of n) (Some said) → Given (rules_of e) 1 (state_of e) (said ∷ []) (state_of n)
-        once_given said turns = telling (view p) first_now turns (spent (state_of n))
-
+      module _ (limit : Option ℕ) (before after : List ℕ) where
         gone_at : (t : ℕ) → without p.number (at_turn t) ≡ state_of n
         gone_at t =
             without_it (rules_of e) (state_of e) (view p) (map view others) e.posts.count increase t
             ∙ sym (without_it (rules_of e) (state_of e) (view p) (map view others) e.posts.count increase (turns_given p.question))
             ∙ ap (without p.number) as_now ∙ sym gone_end
 
-        turn_at : (t : ℕ) (wants : Bool) (form : FormOf) → AnswersPosted (rules_of e) (state_of e) (view p) form → Turns (rules_of e) (at_turn t) p.number (state_of n) (Some (wants, done_reply (state_of e) (view p) (if wants then Memory else form)))
-        turn_at t true form answers = subst (λ (x : State). Turns (rules_of e) (at_turn t) p.number x (Some (true, done_reply (state_of e) (view p) Memory))) (gone_at t) (ran_out_at (rules_of e) (state_of e) (view p) (map view others) e.posts.count increase t)
-        turn_at t false form answers = subst (λ (x : State). Turns (rules_of e) (at_turn t) p.number x (Some (false, done_reply (state_of e) (view p) form))) (gone_at t) (answered_at (rules_of e) (state_of e) (view p) (map view others) e.posts.count increase t form answers)
+        turn_at : (t : ℕ) (wants : Bool) (form : FormOf) → AnswersPosted (rules_of e) (state_of e) (view p) form
+            → Turns (rules_of e) (at_turn t) p.number (state_of n) (Some (
+              wants,
+              done_reply (state_of e) (view p)
+                  (if wants then Memory else form),
+            ))
+        turn_at t true form answers = subst (λ (x : State). Turns (rules_of e) (at_turn t) p.number x (Some
+            (true, done_reply (state_of e) (view p) Memory)))
+            (gone_at t) (ran_out_at (rules_of e) (state_of e) (view p) (map view others) e.posts.count increase t)
+        turn_at t false form answers = subst (λ (x : State). Turns (rules_of e) (at_turn t) p.number x (Some
+            (false, done_reply (state_of e) (view p) form)))
+            (gone_at t) (answered_at (rules_of e) (state_of e) (view p)
+            (map view others) e.posts.count increase t form answers)
 
-        one_told : (limit turns : ℕ) (wants : Bool) (reply : Reply) → Given (rules_of e) turns (state_of e) ((wants, reply) ∷ []) (state_of n) → after ≡ before ++ reply_text reply → 0 < turns → turns ≤ limit →
-            Spends (rules_of e) limit (state_of e) (state_of n) before after (record { turns = turns; told = Some wants })
-        one_told limit turns wants reply given appended some within = record {
-          told = (wants, reply) ∷ [];
+        spent_so : (given counted : ℕ) (wants : Bool) (reply : Reply) → 0 < given
+            → CountsTurns {A = Bool × Reply} limit given counted (Some (wants, reply))
+            → Given (rules_of e) given (state_of e) ((wants, reply) ∷ []) (state_of n)
+            → after ≡ before ++ reply_text reply
+            → HasTried exact kept limit e n p others given (Some (wants, reply))
+            → HasGiven exact kept limit e n before after (record { turns = counted; told = Some wants })
+        spent_so given counted wants reply some counts turns appended tried = gives (record {
+          first = p;
+          others = others;
+          least = least;
+          told = Some (wants, reply);
           given = given;
+          some = some;
+          counts = counts;
+          turns = turns;
           appended = appended ∙ ap (λ l. before ++ l) (sym (append-nil (reply_text reply)));
           named = refl;
-          within = within;
-          some = λ w e. some;
-          whole = λ e. absurd cc;
-        }
+          tried = tried;
+        })
 
-        pub spends_told : (limit k : ℕ) (f : Form) (x : IsAnswerTo (rules_of e) (state_of e) (view p) f) → 0 < k → k ≤ limit → (wants : Bool) → IsSaid (told_of p m.version (Ok f)) wants before after
-            → Spends (rules_of e) limit (state_of e) (state_of n) before after (record { turns = k; told = Some wants })
-        spends_told limit k f x some within wants said =
+        -- the last of them answers it
+        pub gives_told : (counted : ℕ) (f : Form)
+            → Came {E = AllocError} exact kept limit e m.demand p o (Ok (counted, Some f)) → (wants : Bool)
+            → IsSaid (told_of p m.version (Ok f)) wants before after
+            → HasGiven exact kept limit e n before after (record { turns = counted; told = Some wants })
+        gives_told counted f (given, counts, x, ends) wants said =
             let t = told_so wants before after f x said in
-            let turn = subst (λ (r : Reply). Turns (rules_of e) (at_turn (turns_given p.question + (k - 1))) p.number (state_of n) (Some (wants, r))) (sym t.reply_is) (turn_at (turns_given p.question + (k - 1)) wants x.form x.answers) in
-            let size : k - 1 + 1 ≡ k = omega (arith, some) in
-            let given = told_turns (rules_of e) (state_of e) (view p) (map view others) e.posts.count increase (k - 1) (turns_given p.question) (state_of n) (wants, t.reply) turn in
-            one_told limit k wants t.reply (subst (λ (j : ℕ). Given (rules_of e) j (state_of e) ((wants, t.reply) ∷ []) (state_of n)) size (subst (λ (y : State). Given (rules_of e) (k - 1 + 1) y ((wants, t.reply) ∷ []) (state_of n)) as_now given)) t.appended some within
+            let start = turns_given p.question in
+            let some = some_given exact kept e m.demand p given x.form ends in
+            let turn = subst (λ (r : Reply). Turns (rules_of e) (at_turn (start + (given - 1))) p.number (state_of n)
+            (Some (wants, r))) (sym t.reply_is)
+            (turn_at (start + (given - 1)) wants x.form x.answers) in
+            let size : given - 1 + 1 ≡ given = omega (arith, some) in
+            let turns = told_turns (rules_of e) (state_of e) (view p) (map view others) e.posts.count increase
+            (given - 1) start (state_of n) (wants, t.reply) turn in
+            let all = subst (λ (j : ℕ). Given (rules_of e) j (state_of e) ((wants, t.reply) ∷ []) (state_of n)) size
+            (subst (λ (y : State). Given (rules_of e) (given - 1 + 1) y ((wants, t.reply) ∷ [])
+            (state_of n)) as_now turns) in
+            spent_so given counted wants t.reply some (counts_same {B = Bool × Reply} limit given counted f
+            (wants, t.reply) counts) all t.appended
+            (by given counted wants t.reply x.form t.is_form ends counts)
+          where
+            by : (given counted : ℕ) (wants : Bool) (reply : Reply) (g : FormOf) → (wants ≡ false → reply.form ≡ g)
+                → EndsSo exact kept e m.demand p given g
+                → CountsTurns limit given counted (Some f)
+                → HasTried exact kept limit e n p others given (Some (wants, reply))
+            by given counted false reply g is ends counts = subst (λ
+                (d : Demand K). EndsSo exact kept e d p given reply.form) (sym demand_end)
+                (subst (EndsSo exact kept e m.demand p given) (sym (is refl)) ends)
+            by given counted true reply g is ends counts = subst (λ (d : Demand K). RunsOut kept limit e d p)
+                (sym demand_end)
+                (out_behind exact kept limit e m.demand p given counted f g counts ends)
 
-        pub spends_failed : (limit : ℕ) (e' : AllocError) → 0 < limit → (wants : Bool) → IsSaid (told_of p m.version (Err e')) wants before after → Spends (rules_of e) limit (state_of e) (state_of n) before after (record { turns = 1; told = Some wants })
-        spends_failed limit e' some wants said =
-            let t = (failed_so wants before after e' said).1 in
-            one_told limit 1 wants t.reply (once_given (wants, t.reply) t.turns) t.appended (omega arith) (omega (arith, some))
+        -- or memory runs out
+        pub gives_failed : (e' : AllocError) → Came exact kept limit e m.demand p o (Err e') → IfSome limit (λ n. 0 < n)
+            → (wants : Bool)
+            → IsSaid (told_of p m.version (Err e')) wants before after
+            → HasGiven exact kept limit e n before after (record { turns = 1; told = Some wants })
+        gives_failed e' out some wants said = by wants (failed_so wants before after e' said)
+          where
+            by : (wants : Bool) → (wants ≡ true) × TurnTold (rules_of e) (state_of e) (view p)
+                (state_of n) wants Memory before after
+                → HasGiven exact kept limit e n before after (record { turns = 1; told = Some wants })
+            by true (is, t) = spent_so 1 1 true t.reply (omega arith) (counts_refused {A = Bool × Reply} limit
+                (true, t.reply) some)
+                (telling (view p) (ap first_of viewed) t.turns (spent (state_of n))) t.appended
+                (subst (λ (d : Demand K). RunsOut kept limit e d p) (sym demand_end) out)
+            by false (is, t) = absurd cc
 
-        -- what all its turns have done
-        pub settles_so : (r : Result Form AllocError) → IfOk r (IsAnswerTo (rules_of e) (state_of e) (view p)) → (wants : Bool) → IsSaid (told_of p m.version r) wants before after → Settles (rules_of e) (state_of e) (state_of n) before after (Some wants)
-        settles_so (Ok f) x wants said = let t = told_so wants before after f x said in (1, t.reply, once_given (wants, t.reply) t.turns, t.appended)
-        settles_so (Err e') x wants said = let t = (failed_so wants before after e' said).1 in (1, t.reply, once_given (wants, t.reply) t.turns, t.appended)
-
-    -- one turn was silent
-    pub takes_silent : (before after : List ℕ) → after ≡ before → Tried {E = AllocError} kept e m 0 p (Ok None) → TakesTurn kept e m before after
-    takes_silent before after same h = record {
-      first = p;
-      others = others;
-      least = least;
-      told = None;
-      turns = silent_so h;
-      appended = same ∙ sym (append-nil before);
-      once = by h.once;
-    }
-      where
-        by : TriedOnce {E = AllocError} kept e m p h.now (Ok None) → TriesOnce kept e m p others None
-        by (tried i named asks like added (q, is, turned)) =
-            tries i named asks like added (q, turned, h.reopens.items ∙ ap (λ (l : List Posted). slice_set l 0 (record p { question = h.now })) least ∙ ap (λ (o : Option Question). record p { question = o } ∷ others) is)
-        by (tried_nothing ends same) = absurd ends
-
-    -- so were as many as there may be
-    pub spends_silent : (limit k : ℕ) (before after : List ℕ) → after ≡ before → (h : HasGone {E = AllocError} e m 0 limit p (Ok (k, None))) → Spends (rules_of e) limit (state_of e) (state_of m) before after (record { turns = k; told = None })
-    spends_silent limit k before after same h =
-        let given = silent_turns (rules_of e) (state_of e) (view p) (map view others) e.posts.count increase k (turns_given p.question) in
-        let end : at_turn (turns_given p.question + k) ≡ state_of m = sym (state_at h.now (turns_given p.question + k) h.reopens h.counts.1) in
-        record {
-          told = [];
-          given = subst (λ (x : State). Given (rules_of e) k x [] (state_of m)) as_now (subst (λ (x : State). Given (rules_of e) k (at_turn (turns_given p.question)) [] x) end given);
+    -- it has no answer yet
+    pub gives_silent : (limit : Option ℕ) (o : Option Question) → Reopens 0 e.posts m.posts p o
+        → (counted : ℕ) (before after : List ℕ) → after ≡ before
+        → IfSome limit (λ n. 0 < n) → Came {E = AllocError} exact kept limit e m.demand p o (Ok (counted, None))
+        → HasGiven exact kept limit e m before after (record { turns = counted; told = None })
+    gives_silent limit o opens counted before after same some (given, counts, still) =
+        let start = turns_given p.question in
+        let count : turns_given o ≡ start + given = given_by p.question still.inst still.holds.0 o still.holds.1 given
+        (turns_counted (rules_of e) e.store given (kept e.demand.keeper) (kept m.demand.keeper)
+        (came_to p.question still.inst) (under_way still.holds.0) still.holds.2) in
+        let turns = silent_turns (rules_of e) (state_of e) (view p)
+        (map view others) e.posts.count increase given start in
+        let end : at_turn (start + given) ≡ state_of m = sym (state_at o (start + given) opens count) in
+        gives (record {
+          first = p;
+          others = others;
+          least = least;
+          told = None;
+          given = given;
+          some = some_silent Form limit given counted counts some;
+          counts = silent_same Form (Bool × Reply) limit given counted counts;
+          turns = subst (λ (x : State). Given (rules_of e) given x [] (state_of m)) as_now
+              (subst (λ (x : State). Given (rules_of e) given (at_turn start) [] x) end turns);
           appended = same ∙ sym (append-nil before);
           named = refl;
-          within = omega (arith, h.counts.0);
-          some = λ w e. absurd cc;
-          whole = λ e. inr h.counts.0;
-        }
+          tried = (o, still, opens.items ∙ ap (λ (l : List Posted). slice_set l 0 (record p { question = o })) least);
+        })
 
--- no question is open
-module _ (rules : Rules) (s : State) (before after : List ℕ) (none : s.posted ≡ []) (same : after ≡ before) where
-  pub spends_nothing : (limit : ℕ) → Spends rules limit s s before after (record { turns = 0; told = None })
-  spends_nothing limit = record { told = []; given = spent s; appended = same ∙ sym (append-nil before); named = refl; within = omega arith; some = λ w e. absurd cc; whole = λ e. inl none }
+-- no question is open, and nothing is done
+pub gives_nothing : {K : Type 0} (exact : Bool) (kept : K
+    → Entries) (limit : Option ℕ) (e : Engine K) (before after : List ℕ) → e.posts.items.items ≡ []
+    → after ≡ before → HasGiven exact kept limit e e before after (record { turns = 0; told = None })
+gives_nothing exact kept limit e before after none same = none_open (ap (map (posted_view
+    (path e.store))) none) refl same refl
+
+-- one turn, where a question is open
+pub turned_once : {K : Type 0} (exact : Bool) (kept : K
+    → Entries) (e n : Engine K) (before after : List ℕ) (it : Spent) (is_settled : Bool)
+    → MatchBool is_settled (e.posts.items.items ≡ []) (0 < length e.posts.items.items)
+    → HasGiven exact kept (Some 1) e n before after it
+    → HasTurned exact kept e n before after (not is_settled)
+turned_once exact kept e n before after it true none (none_open posted same appended told) = (posted, same, appended)
+turned_once exact kept e n before after it true none
+    (gives s) = let no : s.first ∷ s.others ≡ [] = sym s.least ∙ none in absurd cc
+turned_once exact kept e n before after it false some (none_open posted same appended told) =
+    absurd (omega (arith, some, sym (length-map e.posts.items.items (posted_view (path e.store))) ∙ ap length posted))
+turned_once exact kept e n before after it false some (gives s) = (it, s)
+
+-- what is told of a question that was given all turns
+abbrev pub IsResult : Result (ℕ × Option Form) AllocError → Result Form AllocError → Type 0
+IsResult (Ok (counted, None)) form = ⊥
+IsResult (Ok (counted, Some f)) form = form ≡ Ok f
+IsResult (Err e') form = form ≡ Err e'
+
+module _ {K : Type 0} (exact : Bool) (kept : K
+    → Entries) (e : Engine K) (d : Demand K) (p : Posted) (o : Option Question) where
+  ends_with : (r : Result (ℕ × Option Form) AllocError) (form : Result Form AllocError) → IsResult r form
+      → Came exact kept None e d p o r
+      → IfOk form (IsAnswerTo (rules_of e) (state_of e) (posted_view (path e.store) p)) × HasEnded exact kept e d p form
+  ends_with (Ok (counted, None)) form is came = absurd is
+  ends_with (Ok (counted, Some f)) form is (given, counts, said, ends) =
+      subst (λ (x : Result Form AllocError). IfOk x (IsAnswerTo (rules_of e) (state_of e) (posted_view
+      (path e.store) p)) × HasEnded exact kept e d p x)
+      (sym is) (said, (given, said, ends))
+  ends_with (Err e') form is came =
+      subst (λ (x : Result Form AllocError). IfOk x (IsAnswerTo (rules_of e) (state_of e) (posted_view
+      (path e.store) p)) × HasEnded exact kept e d p x)
+      (sym is) (tt, came)
+
+-- what a line that waits is told
+pub waited : {K : Type 0} (exact : Bool) (kept : K → Entries) (memories : K → Memories) (e : Engine K)
+    → IsHeld kept memories e → (position : ℕ) (m : Engine K)
+    (r : Result (ℕ × Option Form) AllocError)
+    → Attends exact kept memories e m position (λ p. HasGone exact kept None e m position p r)
+    → (form : Result Form AllocError) → IsResult r form → (n : Engine K) (told : Told)
+    → TakesOff exact kept memories m n position (λ p. told ≡ told_of p m.version form)
+    → Attends exact kept memories e n position (λ p. IsClosed (rules_of e) (state_of e) (posted_view (path e.store) p)
+    (state_of n) told
+    × HasEnded exact kept e n.demand p told.form)
+waited {K} exact kept memories e held position m r a form is n told off = record {
+  done = λ p there.
+      let h = a.done p there in
+      let both = ends_with exact kept e m.demand p h.now r form is h.came in
+      let still = stands_open kept e held position p there m a.rest h.now h.reopens in
+      let is_told : told ≡ told_of p m.version form = off.told (record p { question = h.now }) still in
+      let same : n.demand ≡ m.demand = ap (λ (x : Engine K). x.demand) off.rest in (
+        closed_so kept e held position p there m a.rest h.now h.reopens n off.rest off.items form both.0 told is_told,
+        subst (HasEnded exact kept e n.demand p) (sym (ap (λ (t : Told). t.form) is_told))
+            (subst (λ (x : Demand K). HasEnded exact kept e x p form) (sym same) both.1),
+      );
+  rest = rest_end e m n a.rest off.rest;
+  spare = λ ex spare. off.spare ex (a.spare ex spare);
+  sound = off.sound;
+}
+
+pub stays_there : {K : Type 0} (exact : Bool) (kept : K → Entries) (memories : K
+    → Memories) (e : Engine K) (position : ℕ) → position < length e.posts.items.items
+    → (m : Engine K) (r : Result (ℕ × Option Form) AllocError)
+    → Attends exact kept memories e m position (λ p. HasGone exact kept None e m position p r)
+    → position < length m.posts.items.items
+stays_there exact kept memories e position within m r a =
+    let (p, there) = there_at e.posts.items.items position within in
+    let h = a.done p there in
+    let q : Posted = record p { question = h.now } in
+    slice_get_within m.posts.items.items position q
+    (subst (λ (l : List Posted). slice_get l position ≡ Some q) (sym h.reopens.items)
+    (get_set e.posts.items.items position p q there))
+
+-- without a limit it has an answer
+pub never_silent : {K : Type 0} (exact : Bool) (kept : K → Entries) (memories : K
+    → Memories) (e m : Engine K) (position : ℕ) → position < length e.posts.items.items
+    → (counted : ℕ) (o : Option Form)
+    → Attends exact kept memories e m position (λ p. HasGone {E = AllocError} exact kept None e m position p (Ok
+    (counted, o))) → o ≡ None → ⊥
+never_silent exact kept memories e m position within counted o a is =
+    let (p, there) = there_at e.posts.items.items position within in
+    let h = a.done p there in
+    (subst (λ (x : Option Form). Came {E = AllocError} exact kept None e m.demand p h.now (Ok
+    (counted, x))) is h.came).1
+
+-- the first question was given turns
+pub record FirstGone {K E : Type 0} (exact : Bool) (kept : K
+    → Entries) (limit : Option ℕ) (e m : Engine K) (r : Result (ℕ × Option Form) E) : Type 0 where
+  pub p : Posted
+  pub others : List Posted
+  pub least : e.posts.items.items ≡ p ∷ others
+  pub there : StandsAt e.posts.items.items 0 p
+  pub now : Option Question
+  pub reopens : Reopens 0 e.posts m.posts p now
+  pub still : StandsAt m.posts.items.items 0 (record p { question = now })
+  pub within : 0 < length m.posts.items.items
+  pub came : Came exact kept limit e m.demand p now r
+
+pub first_gone : {K E : Type 0} (exact : Bool) (kept : K → Entries) (memories : K
+    → Memories) (limit : Option ℕ) (e m : Engine K)
+    (r : Result (ℕ × Option Form) E) → 0 < length e.posts.items.items
+    → Attends exact kept memories e m 0 (λ p. HasGone exact kept limit e m 0 p r) → FirstGone exact kept limit e m r
+first_gone exact kept memories limit e m r some a =
+    let (p, others, least) = first_there e.posts.items.items some in
+    let there : StandsAt e.posts.items.items 0 p = ap (λ (l : List Posted). slice_get l 0) least in
+    let h = a.done p there in
+    let still : StandsAt m.posts.items.items 0 (record p { question = h.now }) =
+    subst (λ (l : List Posted). slice_get l 0 ≡ Some (record p { question = h.now })) (sym h.reopens.items)
+    (get_set e.posts.items.items 0 p (record p { question = h.now }) there) in
+    record {
+      p = p;
+      others = others;
+      least = least;
+      there = there;
+      now = h.now;
+      reopens = h.reopens;
+      still = still;
+      within = slice_get_within m.posts.items.items 0 (record p { question = h.now }) still;
+      came = h.came;
+    }
+
+-- what a call promises that gives turns
+pub called : {K T E : Type 0} (exact : Bool) (kept : K → Entries) (memories : K
+    → Memories) (e m n : Engine K) (out next : Vec ℕ Global) (Done : T → Type 0) (t : T)
+    → IsSound kept memories e → m ≡ record e { demand = m.demand; posts = m.posts }
+    → n ≡ record m { posts = record n.posts { count = m.posts.count } }
+    → (IsTrue exact → IsSpare kept e → IsSpare kept n) → IsHeld kept memories n → vec_capacity out ≤ vec_capacity next
+    → Done t
+    → Calls {E = E} exact kept memories e n out next Done (Ok t)
+called {K} exact kept memories e m n out next Done t sound rest tells spare held room done = record {
+  done = done;
+  same = tt;
+  full = tt;
+  err = tt;
+  room = room;
+  spare = spare;
+  rules = ap (λ (x : Engine K). x.rules) tells ∙ ap (λ (x : Engine K). x.rules) rest;
+  slice = ap (λ (x : Engine K). x.slice) tells ∙ ap (λ (x : Engine K). x.slice) rest;
+  sound = record {
+    held = held;
+    typed = typed_end m n tells (typed_rest e m rest sound.typed);
+    known = subst (Knows {K = K}) (sym tells) (subst (Knows {K = K}) (sym rest) sound.known);
+  };
+}

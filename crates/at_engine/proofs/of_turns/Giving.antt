@@ -1,5 +1,7 @@
 -- What turns do, and how much can be counted of lines and turns.
 use Rattle.std.proofs.Common.{◌≡◌, ◌⊎◌, ℕ, suc, ◌+◌, ◌-◌, ◌^◌, ◌≤◌, ◌<◌, Bool, true, false, cond, not, nat_eq, if◌then◌else◌, List, [], ◌∷◌, ◌++◌, map, filter, length, inl, inr, refl, sym, ap, ◌∙◌, append_assoc, append-nil, subst, arith, length-append, Option, Some, None, Result, Ok, Err, true≢false}
+use Rattle.std.specs.Prelude.{IfSome}
+use Rattle.std.specs.Option.{option_map}
 use Rattle.std.proofs.lemmas.Bool.Decides.{eqb_tells}
 use Rattle.std.proofs.lemmas.List.{length-map}
 use Rattle.std.proofs.KnownBytes.{Appends-nil, Appends-trans}
@@ -8,20 +10,24 @@ use Rattle.at_model.specs.Effects.{is_post}
 use Rattle.at_model.specs.Lines.{Line, Spells}
 use Rattle.at_model.specs.Rules.{Rules}
 use Rattle.at_model.specs.Replies.{Reply, reply_text}
-use Rattle.at_model.specs.Machine.{State, Posted, Verdict, Refuses, Tells, Leaves, Edits, Asks, Posts, Waits, Handles, obeys, waits, refuses, Serves, handles, runs_out, Turns, stays, answers, Given, spent, none_open, silent, telling, first_of, after, verdict, text_of, carried_posted, counted}
+use Rattle.at_model.specs.Machine.{State, Posted, Verdict, Refuses, Tells, Leaves, Edits, Asks, Posts, Waits, Handles, obeys, waits, refuses, Serves, handles, runs_out, Turns, stays, answers, Given, spent, silent, telling, first_of, after, verdict, text_of, carried_posted, counted}
+use Rattle.at_model.specs.Machine.{none_open as none_open_given}
 use Rattle.at_model.proofs.of_machines.Commanded.{none_after}
 use Rattle.at_model.proofs.of_machines.Machines.{none_given, waited}
 use Rattle.at_model.proofs.of_machines.Runs.{given_on}
 use Rattle.at_store.specs.Shown.{path}
-use Rattle.at_engine.specs.Engines.{state_of}
+use Rattle.at_cache.specs.Kept.{Entries}
+use Rattle.at_engine.specs.Engines.{rules_of, state_of}
 use Rattle.at_engine.specs.Posted.{posted_view}
 use Rattle.at_engine.specs.declared.engine.Engine.{Engine}
 use Rattle.at_engine.specs.declared.engine.turning.Spent.{Spent}
 use Rattle.at_engine.specs.declared.stream.desk.Desk.{Desk}
 use Rattle.at_engine.specs.KeptOver.{NonePosts}
 use Rattle.at_engine.specs.declared.stream.desk.RunFault.{RunFault}
-use Rattle.at_engine.specs.Serving.{Settles, Spends, listed}
-use Rattle.at_engine.specs.Taking.{in_line, in_turn, Gives, GivesInPart, GivesTurns, Halts, Served, ServedOrHalts, SettlesOne, countable, wants}
+use Rattle.at_engine.specs.Stepping.{GoesBy, by_turns, nowhere}
+use Rattle.at_engine.specs.Turned.{HasGiven, gives, listed, none_open}
+use Rattle.at_engine.specs.Turning.{CountsTurns, IsWithin}
+use Rattle.at_engine.specs.Taking.{in_line, in_turn, AreLeft, Gives, GivesInPart, GivesTurns, GivesSome, Halts, Served, ServedOrHalts, countable, wants}
 use Rattle.at_engine.proofs.Takings.{both_counted, both_written, no_count, written_behind}
 
 -- so many questions are open at most
@@ -61,7 +67,7 @@ telling_turn rules s q _ _ first (runs_out p e) = first_gone s.posted q first
 -- by turns as many questions fewer are open at least as answers are told
 pub fewer_given : (rules : Rules) (limit : ℕ) (s : State) (told : List (Bool × Reply)) (new : State) → Given rules limit s told new → length told + length new.posted ≤ length s.posted
 fewer_given rules _ _ _ _ (spent s) = omega arith
-fewer_given rules _ _ _ _ (none_open limit s e) = omega arith
+fewer_given rules _ _ _ _ (none_open_given limit s e) = omega arith
 fewer_given rules _ _ _ new (silent {limit = limit} {s = s} {mid = mid} {told = told} q first turn given) = omega (arith, silent_turn rules s q.number mid turn, fewer_given rules limit mid told new given)
 fewer_given rules _ _ _ new (telling {limit = limit} {s = s} {mid = mid} {said = said} {told = told} q first turn given) = omega (arith, telling_turn rules s q mid said first turn, fewer_given rules limit mid told new given)
 
@@ -105,70 +111,149 @@ none_served rules old line _ _ none no_post (runs_out session) = none
 pub none_behind : (rules : Rules) (limit : ℕ) (old : State) (told : List (Bool × Reply)) (new : State) → old.posted ≡ [] → Given rules limit old told new → new.posted ≡ []
 none_behind rules limit old told new none given = ap (λ (x : State). x.posted) (none_given rules limit old told new none given).1 ∙ none
 
--- turns that had no answer are as many as there may be, or no question is open
-quiet : (rules : Rules) (turns limit : ℕ) (old new : State) → turns ≤ limit → (new.posted ≡ []) ⊎ (turns ≡ limit) → Given rules turns old [] new → Given rules limit old [] new
-quiet rules turns limit old new few (inl none) given =
-    let rest = limit - turns in
-    let whole : turns + rest ≡ limit = omega (arith, few) in
-    subst (λ n. Given rules n old [] new) whole (given_on rules turns rest old new new [] [] given (none_open rest new none))
-quiet rules turns limit old new few (inr same) given = subst (λ n. Given rules n old [] new) same given
-
--- what was told is one thing, or nothing
-nothing_told : (told : List (Bool × Reply)) → map (λ (x : Bool × Reply). x.0) told ≡ [] → told ≡ []
-nothing_told [] e = refl
-nothing_told (x ∷ told) e = absurd cc
-
-pub record IsOne (told : List (Bool × Reply)) (wants : Bool) : Type 0 where
-  pub said : Bool × Reply
-  pub only : told ≡ said ∷ []
-  pub names : said.0 ≡ wants
-
-one_told : (told : List (Bool × Reply)) (wants : Bool) → map (λ (x : Bool × Reply). x.0) told ≡ wants ∷ [] → IsOne told wants
-one_told [] wants e = absurd cc
-one_told (x ∷ []) wants e = record { said = x; only = refl; names = cc }
-one_told (x ∷ y ∷ told) wants e = absurd cc
-
--- the turns spent, of which the last one had an answer
-pub record Answers (rules : Rules) (limit : ℕ) (old new : State) (wants : Bool) (turns : ℕ) (before after : List ℕ) : Type 0 where
-  pub said : Bool × Reply
-  pub names : said.0 ≡ wants
-  pub given : Given rules turns old (said ∷ []) new
-  pub text : after ≡ before ++ reply_text said.1
-  pub some : 0 < turns
-  pub within : turns ≤ limit
-
-pub has_answer : (rules : Rules) (limit : ℕ) (old new : State) (before after : List ℕ) (it : Spent) (wants : Bool) → it.told ≡ Some wants → Spends rules limit old new before after it → Answers rules limit old new wants it.turns before after
-has_answer rules limit old new before after it wants is s =
-    let one = one_told s.told wants (s.named ∙ ap listed is) in
-    record {
-      said = one.said;
-      names = one.names;
-      given = subst (λ (told : List (Bool × Reply)). Given rules it.turns old told new) one.only s.given;
-      text = s.appended ∙ ap (λ (told : List (Bool × Reply)). before ++ text_of told) one.only ∙ ap (λ l. before ++ l) (append-nil (reply_text one.said.1));
-      some = s.some wants is;
-      within = s.within;
-    }
-
-pub has_none : (rules : Rules) (limit : ℕ) (old new : State) (before after : List ℕ) (it : Spent) → it.told ≡ None → Spends rules limit old new before after it → Given rules limit old [] new
-has_none rules limit old new before after it is s =
-    let none = nothing_told s.told (s.named ∙ ap listed is) in
-    quiet rules it.turns limit old new s.within (s.whole is) (subst (λ (told : List (Bool × Reply)). Given rules it.turns old told new) none s.given)
-
--- the question was answered, or none was open
-pub has_settled : (rules : Rules) (old new : State) (before after : List ℕ) (o : Option Bool) (wants : Bool) → o ≡ Some wants → Settles rules old new before after o → Settles rules old new before after (Some wants)
-has_settled rules old new before after o wants is s = subst (λ (x : Option Bool). Settles rules old new before after x) is s
-
-pub none_settled : (rules : Rules) (old new : State) (before after : List ℕ) (o : Option Bool) → o ≡ None → Settles rules old new before after o → Settles rules old new before after None
-none_settled rules old new before after o is s = subst (λ (x : Option Bool). Settles rules old new before after x) is s
-
 module _ (rules : Rules) where
-  pub gave_nothing : (old new : State) (desk next : Desk) (before : Option (List ℕ)) → new ≡ old → next.lines ≡ desk.lines → next.memory ≡ desk.memory → Gives rules 0 old new desk next before before
-  gave_nothing old new desk next before same l m = record { told = []; given = subst (λ (x : State). Given rules 0 old [] x) (sym same) (spent old); counts = no_count desk next l m; written = Appends-nil before }
+  pub gave_nothing : (old new : State) (desk next : Desk) (before : Option (List ℕ)) → new ≡ old
+      → next.lines ≡ desk.lines → next.memory ≡ desk.memory → Gives rules 0 old new desk next before before
+  gave_nothing old new desk next before same l m = record {
+    told = [];
+    given = subst (λ
+        (x : State). Given rules 0 old [] x) (sym same)
+        (spent old);
+    counts = no_count desk next l m;
+    written = Appends-nil before;
+  }
 
   -- no turn, and turns that had no answer
-  pub gave_none : (limit : ℕ) (old new : State) (desk next : Desk) (before : Option (List ℕ)) → Given rules limit old [] new → next.lines ≡ desk.lines → next.memory ≡ desk.memory → Gives rules limit old new desk next before before
+  pub gave_none : (limit : ℕ) (old new : State) (desk next : Desk) (before : Option (List ℕ))
+      → Given rules limit old [] new → next.lines ≡ desk.lines → next.memory ≡ desk.memory
+      → Gives rules limit old new desk next before before
   gave_none limit old new desk next before given l m = record { told = []; given = given; counts = no_count desk next l m; written = Appends-nil before }
 
+-- what was told is one thing
+one_told : (o : Option (Bool × Reply)) (wants : Bool) → option_map (λ (x : Bool × Reply). x.0) o ≡ Some wants
+    → (said : Bool × Reply) × (o ≡ Some said) × (said.0 ≡ wants)
+one_told None wants e = absurd cc
+one_told (Some said) wants e = (said, refl, cc)
+
+none_told : (o : Option (Bool × Reply)) → option_map (λ (x : Bool × Reply). x.0) o ≡ None → o ≡ None
+none_told None e = refl
+none_told (Some said) e = absurd cc
+
+not_both : (o : Option Bool) (wants : Bool) → o ≡ None → o ≡ Some wants → ⊥
+not_both o wants e f = let no : ◌≡◌ {A = Option Bool} None (Some wants) = sym e ∙ f in absurd cc
+
+-- the turns spent, of which the last one had an answer
+pub record Answers (rules : Rules) (limit : Option ℕ) (old new : State) (wants : Bool) (counted : ℕ)
+    (before after : List ℕ) : Type 0 where
+  pub said : Bool × Reply
+  pub names : said.0 ≡ wants
+  pub given : ℕ
+  pub turns : Given rules given old (said ∷ []) new
+  pub text : after ≡ before ++ reply_text said.1
+  pub some : 0 < given
+  pub counts : CountsTurns limit given counted (Some said)
+
+module _ {K : Type 0} (exact : Bool) (kept : K
+    → Entries) (limit : Option ℕ) (old new : Engine K) (before after : List ℕ) (it : Spent) where
+  pub has_answer : (wants : Bool) → it.told ≡ Some wants → HasGiven exact kept limit old new before after it
+      → Answers (rules_of old) limit (state_of old) (state_of new) wants it.turns before after
+  has_answer wants is (none_open none same appended told) = absurd (not_both it.told wants told is)
+  has_answer wants is (gives s) =
+      let (said, one, names) = one_told s.told wants (s.named ∙ is) in
+      record {
+        said = said;
+        names = names;
+        given = s.given;
+        turns = subst (λ (o : Option (Bool × Reply)). Given (rules_of old) s.given (state_of old) (listed o)
+            (state_of new)) one s.turns;
+        text = s.appended ∙ ap (λ (o : Option (Bool × Reply)). before ++ text_of (listed o)) one ∙ ap (λ l. before ++ l)
+            (append-nil (reply_text said.1));
+        some = s.some;
+        counts = subst (λ (o : Option (Bool × Reply)). CountsTurns limit s.given it.turns o) one s.counts;
+      }
+
+  -- where no question is open, nothing has changed
+  pub none_changed : HasGiven exact kept limit old new before after it → (state_of old).posted ≡ [] → new ≡ old
+  none_changed (none_open none same appended told) posted = same
+  none_changed (gives s) posted =
+      let some : posted_view (path old.store) s.first ∷ map (posted_view (path old.store)) s.others ≡ [] =
+      sym (ap (map (posted_view (path old.store))) s.least) ∙ posted in
+      absurd cc
+
+  -- so the engine has gone on
+  pub has_gone : HasGiven exact kept limit old new before after it → GoesBy exact kept old new
+  has_gone (none_open none same appended told) = subst (GoesBy exact kept old) (sym same) nowhere
+  has_gone (gives s) = by_turns old new limit before after it nowhere s
+
+  pub no_more_open : HasGiven exact kept limit old new before after it
+      → length (state_of new).posted ≤ length (state_of old).posted
+  no_more_open (none_open none same appended told) = omega (
+    arith,
+    ap (λ (e : Engine K). length
+        (state_of e).posted) same,
+  )
+  no_more_open (gives s) = omega (
+    arith,
+    fewer_given (rules_of old) s.given (state_of old) (listed s.told)
+        (state_of new) s.turns,
+  )
+
+-- and what the others leave
+pub quiet_leaves : {K : Type 0} (exact : Bool) (kept : K
+    → Entries) (limit : Option ℕ) (old new : Engine K) (before after : List ℕ) (it : Spent)
+    (desk next : Desk) (w : Option (List ℕ)) → it.told ≡ None → HasGiven exact kept limit old new before after it
+    → IfSome limit (λ n. 0 < n)
+    → next.lines ≡ desk.lines → next.memory ≡ desk.memory
+    → GivesSome (rules_of old) limit 0 (state_of old) (state_of new) desk next w w
+quiet_leaves {K} exact kept None old new before after it desk next w is
+    (none_open none same appended told) some l m = record {
+      turns = 0;
+      gives = gave_nothing (rules_of old) (state_of old) (state_of new) desk next w (ap (state_of {K = K}) same) l m;
+      are_left = inl none;
+    }
+quiet_leaves exact kept None old new before after it desk next w is (gives s) some l m = absurd (subst (λ (o : Option
+    (Bool × Reply)). CountsTurns None s.given it.turns o)
+    (none_told s.told (s.named ∙ is)) s.counts)
+quiet_leaves {K} exact kept (Some limit) old new before after it desk next w is
+    (none_open none same appended told) some l m = record {
+      turns = limit;
+      gives = gave_none (rules_of old) limit (state_of old) (state_of new) desk next w
+          (subst (λ (x : State). Given (rules_of old) limit (state_of old) [] x) (sym (ap (state_of {K = K}) same))
+          (none_open_given limit (state_of old) none)) l m;
+      are_left = (some, omega arith);
+    }
+quiet_leaves exact kept (Some limit) old new before after it desk next w is (gives s) some l m =
+    let none = none_told s.told (s.named ∙ is) in
+    let counts = subst (λ (o : Option (Bool × Reply)). CountsTurns (Some limit) s.given it.turns o) none s.counts in
+    let turns = subst (λ (o : Option (Bool × Reply)). Given (rules_of old) s.given (state_of old) (listed o)
+    (state_of new)) none s.turns in
+    record {
+      turns = limit;
+      gives = gave_none (rules_of old) limit (state_of old) (state_of new) desk next w
+          (subst (λ (k : ℕ). Given (rules_of old) k (state_of old) [] (state_of new)) counts.1 turns) l m;
+      are_left = (some, omega arith);
+    }
+
+-- an answer leaves fewer turns, or fewer questions
+pub are_left_then : (rules : Rules) (limit : Option ℕ) (given counted left : ℕ) (old new : State) (said : Bool × Reply)
+    → CountsTurns limit given counted (Some said)
+    → IfSome limit (λ n. counted + left ≡ n) → 0 < given → Given rules given old (said ∷ []) new
+    → AreLeft limit given left old new
+are_left_then rules None given counted left old new said counts is some turns = inr (omega
+    (arith, fewer_given rules given old (said ∷ []) new turns))
+are_left_then rules (Some limit) given counted left old new said counts is some turns = (
+  omega
+      (arith, counts.0, is, some),
+  omega (arith, counts.0, is),
+)
+
+pub counted_within : (limit : Option ℕ) (given counted : ℕ) (said : Bool × Reply)
+    → CountsTurns limit given counted (Some said)
+    → IfSome limit (λ n. counted ≤ n) × IsWithin limit given
+counted_within None given counted said counts = (tt, tt)
+counted_within (Some limit) given counted said counts = (omega (arith, counts.0, counts.1), counts.1)
+
+module _ (rules : Rules) where
   -- the last one had an answer
   pub gave_one : (turns : ℕ) (old new : State) (desk next : Desk) (before after : Option (List ℕ)) (said : Bool × Reply) → Given rules turns old (said ∷ []) new → next.lines ≡ desk.lines → next.memory ≡ desk.memory + (if said.0 then 1 else 0)
       → Appends before after (reply_text said.1) → Gives rules turns old new desk next before after
@@ -263,8 +348,19 @@ module _ (rules : Rules) where
 pub as_many_given : (rules : Rules) (m n : ℕ) (old new : State) (desk next : Desk) (before after : Option (List ℕ)) → m ≡ n → Gives rules m old new desk next before after → Gives rules n old new desk next before after
 as_many_given rules m n old new desk next before after e g = subst (λ k. Gives rules k old new desk next before after) e g
 
-pub as_many_in_part : (rules : Rules) (m n : ℕ) (old new : State) (before after : Option (List ℕ)) → m ≡ n → GivesInPart rules m old new before after → GivesInPart rules n old new before after
-as_many_in_part rules m n old new before after e g = subst (λ k. GivesInPart rules k old new before after) e g
+pub as_many_in_part : (rules : Rules) (m n : ℕ) (old new : State) (before after : Option (List ℕ)) → m ≤ n
+    → GivesInPart rules m old new before after → GivesInPart rules n old new before after
+as_many_in_part rules m n old new before after few g = record {
+  turns = g.turns;
+  within = omega (arith, few, g.within);
+  told = g.told;
+  said = g.said;
+  given = g.given;
+  done = g.done;
+  undone = g.undone;
+  split = g.split;
+  written = g.written;
+}
 
 pub ruled : (rules others : Rules) (n : ℕ) (old new : State) (desk next : Desk) (before after : Option (List ℕ)) → others ≡ rules → Gives others n old new desk next before after → Gives rules n old new desk next before after
 ruled rules others n old new desk next before after e g = subst (λ (r : Rules). Gives r n old new desk next before after) e g
@@ -277,21 +373,19 @@ pub then_turns : (result : Result (Unit {0}) RunFault) (rules others : Rules) (s
     → others ≡ rules → turns ≡ slice → Serves rules old line mid said → next.lines ≡ desk.lines + 1 → next.memory ≡ desk.memory + (if said.0 then 1 else 0) → Appends before between (reply_text said.1) → ServedOrHalts result rules slice old line new desk last before after
 then_turns (Ok u) rules others slice turns old mid new line said desk next last before between after g e n serves l m written =
     served_then rules slice old mid new line said desk next last before between after serves l m written (as_many_given rules turns slice mid new next last between after n (ruled rules others turns mid new next last between after e g))
-then_turns (Err f) rules others slice turns old mid new line said desk next last before between after g e n serves l m written =
-    (g.0, halts_behind rules slice old mid new line said before between after serves written (as_many_in_part rules turns slice mid new between after n (ruled_in_part rules others turns mid new between after e g.1)))
+then_turns (Err f) rules others slice turns old mid new line said desk next last before between after g e n serves l m written = (
+  g.0,
+  halts_behind rules slice old mid new line said before between after serves written
+      (as_many_in_part rules turns slice mid new between after (omega (arith, n))
+      (ruled_in_part rules others turns mid new between after e g.1)),
+)
 
--- a question more was answered, or none was open
-pub drained_more : (found : Bool) (rules others : Rules) (old mid new : State) (desk next last : Desk) (before between after : Option (List ℕ)) → others ≡ rules → (turns : ℕ) × Gives rules turns old mid desk next before between → SettlesOne (Ok found) others mid new next last between after
-    → (turns : ℕ) × Gives rules turns old new desk last before after
-drained_more true rules others old mid new desk next last before between after e (turns, g) s = (turns + s.turns, gave_more rules turns s.turns old mid new desk next last before between after g (ruled rules others s.turns mid new next last between after e s.gives))
-drained_more false rules others old mid new desk next last before between after e (turns, g) s = (turns + 0, gave_more rules turns 0 old mid new desk next last before between after g (ruled rules others 0 mid new next last between after e s.1))
+-- turns without a limit leave fewer questions
+pub fewer_then : {K : Type 0} (e : Engine K) (turns left : ℕ) (new : State) → 0 < length e.posts.items.items
+    → AreLeft None turns left (state_of e) new
+    → length new.posted < length (state_of e).posted
+fewer_then e turns left new some (inl none) = absurd (omega (arith, some, as_many_open e, ap length none))
+fewer_then e turns left new some (inr fewer) = fewer
 
-pub closed_then : (found : Bool) (rules : Rules) (old new : State) (desk next : Desk) (before after : Option (List ℕ)) → SettlesOne (Ok found) rules old new desk next before after → found ≡ false → new.posted ≡ []
-closed_then true rules old new desk next before after s e = absurd (true≢false e)
-closed_then false rules old new desk next before after s e = s.0
-
-pub fewer_then : (was found : Bool) (rules : Rules) (old new : State) (desk next : Desk) (before after : Option (List ℕ)) → was ≡ true → SettlesOne (Ok found) rules old new desk next before after → length new.posted + (if found then 1 else 0) < length old.posted + (if was then 1 else 0)
-fewer_then true true rules old new desk next before after is s = omega (arith, s.fewer)
-fewer_then true false rules old new desk next before after is s = omega (arith, ap length s.0)
-fewer_then false true rules old new desk next before after is s = absurd (true≢false (sym is))
-fewer_then false false rules old new desk next before after is s = absurd (true≢false (sym is))
+pub none_posted : {K : Type 0} (e : Engine K) → e.posts.items.items ≡ [] → (state_of e).posted ≡ []
+none_posted e none = ap (map (posted_view (path e.store))) none

@@ -70,8 +70,8 @@ module _ (rules : Rules) (s : Shown) (version : ℕ) (ms : List Mark) (old : Pos
   -- the state without it
   pub gone : (new : Posts) → new.items.items ≡ remove old.items.items position → new.count ≡ old.count → state_in s version ms new ≡ without p.number now
   gone new items count =
-      ap (λ (c : ℕ). held (tree s) version (marks_view (path s) ms) c (map view new.items.items)) count
-      ∙ ap (λ (l : List PostedOf). held (tree s) version (marks_view (path s) ms) old.count l)
+      ap (λ (c : ℕ). held (tree s) s.limit version (marks_view (path s) ms) c (map view new.items.items)) count
+      ∙ ap (λ (l : List PostedOf). held (tree s) s.limit version (marks_view (path s) ms) old.count l)
       (ap (map view) (items ∙ (at_position old.items.items position p there).removed) ∙ map-append view before_it behind_it
       ∙ sym (left_there (map view before_it) (view p) (map view behind_it) 0 old.count split_numbered) ∙ ap (filter (λ (x : PostedOf). not (nat_eq p.number x.number))) (sym viewed))
 
@@ -134,7 +134,7 @@ module _ (rules : Rules) (s : Shown) (entries more : Entries) (grown : (i : Inst
 
   sparing_grown : (p : Posted) (o : Option Question) → HasBegun rules s entries p o → IsSparingOn rules (contents s) entries o → IsSparingOn rules (contents s) more o
   sparing_grown p None h g = tt
-  sparing_grown p (Some q) h g = spares_as rules s entries more grown q h.standing q refl g
+  sparing_grown p (Some q) h g = spares_as rules s entries more grown q h.standing q refl refl g
 
   all_sparing : (ps : List Posted) → AllByRecursion (IsPostedOn rules s entries) ps → AllByRecursion (λ (p : Posted). IsSparingOn rules (contents s) entries p.question) ps → AllByRecursion (λ (p : Posted). IsSparingOn rules (contents s) more p.question) ps
   all_sparing [] h g = tt

@@ -1,255 +1,360 @@
 -- What comes of turns of the question at a position.
-use Rattle.std.proofs.Common.{◌≡◌, ℕ, ◌+◌, ◌<◌, List, Option, Some, None, Result, Ok, Err, IfOk, refl, sym, ap, ◌∙◌, subst, arith}
-use Rattle.std.specs.Prelude.{slice_get, slice_set, IsSome}
+use Rattle.std.proofs.Common.{◌≡◌, ℕ, ◌+◌, ◌<◌, ◌≤◌, Bool, List, [], length, Option, Some, None, Result, Ok, Err, IfOk, refl, sym, ap, ◌∙◌, subst, arith, inl, inr}
+use Rattle.std.specs.Prelude.{slice_get, slice_set, IsSome, IfSome, IsTrue}
+use Rattle.std.specs.Option.{option_map}
+use Rattle.at_model.specs.Edits.{max_nodes}
 use Rattle.at_model.specs.Alike.{AnswerLike, InstanceLike, Names}
-use Rattle.at_model.specs.Machine.{AnswersIn, Refuses, answer_form}
+use Rattle.at_model.specs.Machine.{Refuses, answer_form, line_of}
 use Rattle.at_model.specs.Meaning.{Answer, Answers}
 use Rattle.at_model.specs.Paths.{Node}
-use Rattle.at_model.specs.Replies.{Refused}
+use Rattle.at_model.specs.Replies.{Form as FormOf, Refused}
 use Rattle.at_model.specs.Run.{Instance}
-use Rattle.at_model.specs.Turning.{IsOn, Silent, Turned, UnderWay, asked, turns_of}
-use Rattle.at_model.proofs.of_machines.Bounded.{answers_right, turns_are}
+use Rattle.at_model.specs.Turning.{UnderWay, asked}
 use Rattle.at_protocol.specs.ReplyView.{code_view}
 use Rattle.at_protocol.specs.declared.reply.Form.{Form}
 use Rattle.at_protocol.specs.declared.reply.Form.TheVariants as form
 use Rattle.at_protocol.specs.declared.reply.Refusal.{Refusal}
-use Rattle.at_store.specs.Shown.{contents, path, tree}
+use Rattle.at_store.specs.Shown.{Shown, contents, path, tree}
 use Rattle.at_cache.specs.Kept.{Entries}
-use Rattle.at_cache.specs.Traced.{Memories, StayTraced}
-use Rattle.at_demand.specs.Known.{kept_values, meaning}
-use Rattle.at_demand.specs.Right.{AreRight, IsThere}
-use Rattle.at_demand.specs.Sparing.{AreSpare, MayAddLazy}
-use Rattle.at_demand.specs.Turns.{HasGiven, IsSparingTurns, IsStanding, under_way}
+use Rattle.at_cache.specs.Traced.{Memories}
+use Rattle.at_demand.specs.Known.{answer_view, meaning}
+use Rattle.at_demand.specs.Right.{IsThere}
+use Rattle.at_demand.specs.Sparing.{HasWorthy}
+use Rattle.at_demand.specs.Turns.{AreTurns, IsSparingTurns, IsStanding, under_way}
+use Rattle.at_demand.specs.declared.answer.Answer.{Answer as AnswerCode}
+use Rattle.at_demand.specs.declared.demand.Demand.{Demand}
 use Rattle.at_demand.specs.declared.question.Question.{Question}
-use Rattle.at_engine.specs.Engines.{marks_of, rules_of, state_of, IsHeld}
+use Rattle.at_engine.specs.Engines.{marks_of, rules_of, state_of, IsHeld, IsTyped}
 use Rattle.at_engine.specs.Holding.{HasBegun, IsBegunFor, IsPostedOn, IsSoundWith, words_verdict}
 use Rattle.at_engine.specs.Keeping.{IsSpare, IsSpareWith, IsSparingOn}
-use Rattle.at_engine.specs.Posted.{came_to, posted_view, turns_given}
+use Rattle.at_engine.specs.Posted.{came_to, posted_view}
 use Rattle.at_engine.specs.Telling.{IsAnswerTo, IsToldAs}
-use Rattle.at_engine.specs.Turning.{HasGone, HasSettled, IsBegun, Reopens, StandsAt, Tried, tried, tried_nothing}
+use Rattle.at_engine.specs.Turning.{Attends, Begins, BeginsSparing, BreaksOffIn, Came, CanAnswer, CountsTurns, HasGone, HasTurnedUpTo, IsBegun, Reopens, StandsAt}
 use Rattle.at_engine.specs.declared.engine.Engine.{Engine}
+use Rattle.at_engine.specs.declared.engine.turning.Begun.{Begun}
+use Rattle.at_engine.specs.declared.engine.turning.Begun.TheVariants as begun
 use Rattle.at_engine.specs.declared.posts.Posted.{Posted}
 use Rattle.at_engine.specs.declared.posts.Posts.{Posts}
+use Rattle.at_model.proofs.of_machines.WellAsked.{well_asked}
 use Rattle.at_engine.proofs.Numbered.{answer_named}
+use Rattle.at_engine.proofs.of_turns.Counted.{answers_by_turns, asked_by_turns, breaks_behind, counts_refused, counts_same, silent_same}
 use Rattle.at_engine.proofs.of_turns.Openings.{sound_grown, sound_reopened, spare_grown, spare_reopened}
-use Rattle.at_engine.proofs.Positions.{get_set, holds_at, set_set}
+use Rattle.at_engine.proofs.Positions.{get_set, holds_at, same_there, set_set, there_at, within_set}
 use Rattle.at_engine.proofs.of_turns.Wordings.{answers_asked, answers_refused}
 use Rattle.at_engine.proofs.of_keeping.Tracing.{remembered_still}
 
-module _ {K : Type 0} (kept : K → Entries) (e : Engine K) {memories : Memories}
-    (sound : IsSoundWith (rules_of e) e.store (marks_of e) e.posts (kept e.demand.keeper) memories) (position : ℕ) (p : Posted) (there : StandsAt e.posts.items.items position p)
-    (t : Posts) (count : t.count ≡ e.posts.count) (items : t.items.items ≡ slice_set e.posts.items.items position (record p { question = None })) where
-  abbrev pub bare : Posted
-  bare = record p { question = None }
+-- what was done for the question at the position was taken out of it
+pub record Taken {K : Type 0} (kept : K → Entries) (memories : K
+    → Memories) (e : Engine K) (position : ℕ) (o : Option Question)
+    (t : Posts) : Type 0 where
+  pub posted : Posted
+  pub there : StandsAt e.posts.items.items position posted
+  pub same : o ≡ posted.question
+  pub opens : Reopens position e.posts t posted None
+  pub held : IsHeld kept memories e
+
+pub taken : {K : Type 0} (kept : K → Entries) (memories : K → Memories) (e : Engine K) → IsHeld kept memories e
+    → (position : ℕ)
+    → position < length e.posts.items.items → (o : Option Question) (t : Posts)
+    → (t.count ≡ e.posts.count) × ((p : Posted) → slice_get e.posts.items.items position ≡ Some p
+    → (o ≡ p.question) × Reopens position e.posts t p None)
+    → Taken kept memories e position o t
+taken kept memories e held position within o t took =
+    let (p, there) = there_at e.posts.items.items position within in
+    let at = took.1 p there in
+    record { posted = p; there = there; same = at.0; opens = at.1; held = held }
+
+module _ {K : Type 0} (exact : Bool) (kept : K → Entries) (memories : K
+    → Memories) (e : Engine K) (position : ℕ) (limit : Option ℕ) (new : Engine K)
+    (p : Posted) (there : StandsAt e.posts.items.items position p) (now : Option Question)
+    (reopens : Reopens position e.posts new.posts p now)
+    (rest : new ≡ record e { demand = new.demand; posts = new.posts }) (spare : IsTrue exact → IsSpare kept e
+    → IsSpare kept new)
+    (sound : IsHeld kept memories new) where
+  pub attended : {E : Type 0} (r : Result (ℕ × Option Form) E) → Came exact kept limit e new.demand p now r
+      → Attends exact kept memories e new position (λ q. HasGone exact kept limit e new position q r)
+  attended r came = record {
+    done = λ q at. subst (λ (x : Posted). HasGone exact kept limit e new position x r)
+        (same_there e.posts.items.items position p q there at)
+        (record { now = now; reopens = reopens; came = came });
+    rest = rest;
+    spare = spare;
+    sound = sound;
+  }
+
+module _ {K : Type 0} (exact : Bool) (kept : K → Entries) (memories : K
+    → Memories) (e : Engine K) (position : ℕ) (limit : Option ℕ)
+    (o : Option Question) (t : Posts) (it : Taken kept memories e position o t) where
+  abbrev bare : Posted
+  bare = record it.posted { question = None }
 
   abbrev entries : Entries
   entries = kept e.demand.keeper
 
-  pub taken : Reopens position e.posts t p None
-  taken = record { count = count; items = items }
+  there_still : StandsAt t.items.items position bare
+  there_still = subst (λ (l : List Posted). slice_get l position ≡ Some bare) (sym it.opens.items)
+      (get_set e.posts.items.items position it.posted bare it.there)
 
-  pub there_still : StandsAt t.items.items position bare
-  there_still = subst (λ (l : List Posted). slice_get l position ≡ Some bare) (sym items) (get_set e.posts.items.items position p bare there)
+  pub within_still : position < length t.items.items
+  within_still = subst (λ (l : List Posted). position < length l) (sym it.opens.items)
+      (within_set e.posts.items.items position it.posted bare it.there)
 
-  pub sound_taken : IsSoundWith (rules_of e) e.store (marks_of e) t entries memories
-  sound_taken = sound_reopened (rules_of e) e.store entries entries (λ i some. refl) (marks_of e) e.posts sound position p there None t taken sound.right sound.remembered tt
+  pub sound_taken : IsSoundWith (rules_of e) e.store (marks_of e) t entries (memories e.demand.keeper)
+  sound_taken = sound_reopened (rules_of e) e.store entries entries (λ i some. refl)
+      (marks_of e) e.posts it.held position it.posted
+      it.there None t it.opens it.held.right it.held.remembered tt
 
-  pub spare_taken : IsSpare kept e → IsSpareWith (rules_of e) (contents e.store) entries t.items.items
-  spare_taken spare = spare_reopened (rules_of e) e.store entries entries (λ i some. refl) (marks_of e) e.posts sound position p there None t taken spare.kept tt spare
+  spare_taken : IsSpare kept e → IsSpareWith (rules_of e) (contents e.store) entries t.items.items
+  spare_taken spare = spare_reopened (rules_of e) e.store entries entries (λ i some. refl)
+      (marks_of e) e.posts it.held position
+      it.posted it.there None t it.opens spare.kept tt spare
 
-  begun_bare : (o : Option Question) → HasBegun (rules_of e) e.store entries p o → HasBegun (rules_of e) e.store entries bare o
+  begun_bare : (o : Option Question) → HasBegun (rules_of e) e.store entries it.posted o
+      → HasBegun (rules_of e) e.store entries bare o
   begun_bare None h = tt
   begun_bare (Some q) h = record { standing = h.standing; named = h.named; asks = h.asks; like = h.like }
 
-  pub was_begun : (o : Option Question) → o ≡ p.question → HasBegun (rules_of e) e.store entries bare o
-  was_begun o same = subst (HasBegun (rules_of e) e.store entries bare) (sym same) (begun_bare p.question (holds_at (IsPostedOn (rules_of e) e.store entries) e.posts.items.items position p there sound.posted).begun)
+  was_begun : HasBegun (rules_of e) e.store entries bare o
+  was_begun = subst (HasBegun (rules_of e) e.store entries bare) (sym it.same) (begun_bare it.posted.question
+      (holds_at (IsPostedOn (rules_of e) e.store entries) e.posts.items.items position it.posted it.there it.held.posted).begun)
 
-  pub was_sparing : (o : Option Question) → o ≡ p.question → IsSpare kept e → IsSparingOn (rules_of e) (contents e.store) entries o
-  was_sparing o same spare = subst (IsSparingOn (rules_of e) (contents e.store) entries) (sym same)
-      (holds_at (λ (x : Posted). IsSparingOn (rules_of e) (contents e.store) entries x.question) e.posts.items.items position p there spare.posted')
+  was_sparing : IsSpare kept e → IsSparingOn (rules_of e) (contents e.store) entries o
+  was_sparing spare = subst (IsSparingOn (rules_of e) (contents e.store) entries) (sym it.same)
+      (holds_at (λ (x : Posted). IsSparingOn (rules_of e)
+      (contents e.store) entries x.question) e.posts.items.items position it.posted
+      it.there spare.posted')
 
-  -- what refuses its words is their answer
-  pub refused_answer : (r : Refusal) → words_verdict (rules_of e) (tree e.store) (posted_view (path e.store) bare) ≡ Refuses (code_view r) → IsAnswerTo (rules_of e) (state_of e) (posted_view (path e.store) p) (form.Refused r)
-  refused_answer r is = record { writable = tt; form = Refused (code_view r); is_form = refl; answers = answers_refused (rules_of e) (state_of e) (posted_view (path e.store) p) (code_view r) is }
+  -- with nothing tried
+  pub not_read : {E : Type 0} (r : Result (ℕ × Option Form) E) (e' : E) → r ≡ Err e'
+      → Attends exact kept memories e (record e { posts = t }) position (λ q. HasGone exact kept limit e
+      (record e { posts = t }) position q r)
+  not_read r e' is =
+      let new : Engine K = record e { posts = t } in
+      attended exact kept memories e position limit new it.posted it.there None it.opens refl
+      (λ ex spare. spare_taken spare) sound_taken r
+      (subst (Came exact kept limit e new.demand it.posted None) (sym is) (inl refl))
 
-  pub tried_refused : {E : Type 0} (new : Engine K) (r : Refusal) (result : Result (Option Form) E) → result ≡ Ok (Some (form.Refused r)) → new.posts ≡ t → new.demand ≡ e.demand
-      → words_verdict (rules_of e) (tree e.store) (posted_view (path e.store) bare) ≡ Refuses (code_view r) → Tried kept e new position p result
-  tried_refused {E} new r result is posts demand words = subst (λ (x : Result (Option Form) E). Tried kept e new position p x) (sym is) (record {
-    now = None;
-    reopens = record { count = ap (λ (x : Posts). x.count) posts ∙ count; items = ap (λ (x : Posts). x.items.items) posts ∙ items };
-    answer = refused_answer r words;
-    once = tried_nothing tt demand;
-  })
+  pub was_refused : {E : Type 0} {b : Begun} → ((x : Posted) → StandsAt t.items.items position x
+      → HasBegun (rules_of e) e.store entries x o
+      → Begins (rules_of e) e.store entries x o b) → (f : Refusal) → b ≡ begun.Refused f → IfSome limit (λ n. 0 < n)
+      → Attends exact kept memories e (record e { posts = t }) position
+      (λ q. HasGone {E = E} exact kept limit e (record e { posts = t }) position q (Ok (1, Some (form.Refused f))))
+  was_refused {E} {b} begins f is some =
+      let new : Engine K = record e { posts = t } in
+      let words = subst (Begins (rules_of e) e.store entries bare o) is (begins bare there_still was_begun) in
+      let v = posted_view (path e.store) it.posted in
+      let said : IsAnswerTo (rules_of e) (state_of e) v (form.Refused f) = record {
+        writable = tt;
+        form = Refused
+            (code_view f);
+        is_form = refl;
+        answers = answers_refused (rules_of e) (state_of e) v (code_view f) words;
+      } in
+      attended exact kept memories e position limit new it.posted it.there None it.opens refl
+      (λ ex spare. spare_taken spare) sound_taken
+      {E = E} (Ok (1, Some (form.Refused f))) (
+        1,
+        counts_refused limit (form.Refused f) some,
+        said,
+        inl
+            (record { code = code_view f; words = words }, refl, refl),
+      )
 
-  pub tried_unread : {E : Type 0} (new : Engine K) (result : Result (Option Form) E) (e' : E) → result ≡ Err e' → new.posts ≡ t → new.demand ≡ e.demand → Tried kept e new position p result
-  tried_unread {E} new result e' is posts demand = subst (λ (x : Result (Option Form) E). Tried kept e new position p x) (sym is) (record {
-    now = None;
-    reopens = record { count = ap (λ (x : Posts). x.count) posts ∙ count; items = ap (λ (x : Posts). x.items.items) posts ∙ items };
-    answer = tt;
-    once = tried_nothing tt demand;
-  })
+  -- a question was begun
+  pub begun_for : {b : Begun} → ((x : Posted) → StandsAt t.items.items position x
+      → HasBegun (rules_of e) e.store entries x o
+      → Begins (rules_of e) e.store entries x o b) → (q : Question) → b ≡ begun.Question q
+      → IsBegun (rules_of e) e.store entries bare o q
+  begun_for begins q is = subst (Begins (rules_of e) e.store entries bare o) is (begins bare there_still was_begun)
 
-  -- many turns, or all of them, without an answer to tell
-  pub gone_err : {E : Type 0} (new : Engine K) (limit : ℕ) (result : Result (ℕ × Option Form) E) (e' : E) → result ≡ Err e' → new.posts ≡ t → HasGone e new position limit p result
-  gone_err {E} new limit result e' is posts = subst (λ (x : Result (ℕ × Option Form) E). HasGone e new position limit p x) (sym is) (record {
-    now = None;
-    reopens = record { count = ap (λ (x : Posts). x.count) posts ∙ count; items = ap (λ (x : Posts). x.items.items) posts ∙ items };
-    answer = tt;
-    counts = tt;
-  })
+  pub sparing_for : {b : Begun} → (IsSparingOn (rules_of e) (contents e.store) entries o
+      → BeginsSparing (rules_of e) (contents e.store) entries b)
+      → (q : Question) → b ≡ begun.Question q → IsSpare kept e
+      → IsSparingTurns (rules_of e) (contents e.store) entries q
+  sparing_for sparing q is spare =
+      subst (BeginsSparing (rules_of e) (contents e.store) entries) is (sparing (was_sparing spare))
 
-  pub gone_refused : {E : Type 0} (new : Engine K) (limit : ℕ) (r : Refusal) → new.posts ≡ t → 0 < limit → words_verdict (rules_of e) (tree e.store) (posted_view (path e.store) bare) ≡ Refuses (code_view r)
-      → HasGone {E = E} e new position limit p (Ok (1, Some (form.Refused r)))
-  gone_refused new limit r posts some words = record {
-    now = None;
-    reopens = record { count = ap (λ (x : Posts). x.count) posts ∙ count; items = ap (λ (x : Posts). x.items.items) posts ∙ items };
-    answer = refused_answer r words;
-    counts = (omega arith, omega (arith, some));
-  }
-
-  pub settled_err : {E : Type 0} (new : Engine K) (result : Result Form E) (e' : E) → result ≡ Err e' → new.posts ≡ t → HasSettled e new position p result
-  settled_err {E} new result e' is posts = subst (λ (x : Result Form E). HasSettled e new position p x) (sym is) (record {
-    now = None;
-    reopens = record { count = ap (λ (x : Posts). x.count) posts ∙ count; items = ap (λ (x : Posts). x.items.items) posts ∙ items };
-    answer = tt;
-  })
-
-  pub settled_so : {E : Type 0} (new : Engine K) (result : Result Form E) → new.posts ≡ t → IfOk result (IsAnswerTo (rules_of e) (state_of e) (posted_view (path e.store) p)) → HasSettled e new position p result
-  settled_so new result posts answer = record {
-    now = None;
-    reopens = record { count = ap (λ (x : Posts). x.count) posts ∙ count; items = ap (λ (x : Posts). x.items.items) posts ∙ items };
-    answer = answer;
-  }
-
-  -- more is kept
-  module _ (more : Entries) (grown : (i : Instance ℕ) → IsSome (entries i) → more i ≡ entries i) where
-    pub sound_more : {n : Memories} → AreRight (rules_of e) e.store more → StayTraced memories n
-        → IsSoundWith (rules_of e) e.store (marks_of e) t more n
-    sound_more {n} right traces =
-        sound_grown (rules_of e) e.store entries more grown (marks_of e) t sound_taken right
-        (remembered_still (rules_of e) e.store memories n traces sound.remembered)
-
-    pub spare_more : AreSpare (rules_of e) (contents e.store) more → IsSpare kept e → IsSpareWith (rules_of e) (contents e.store) more t.items.items
-    spare_more all spare = spare_grown (rules_of e) e.store entries more grown (marks_of e) t sound_taken all (spare_taken spare)
-
-    -- and the question has come farther
-    module _ (q : Question) (k : Posts) (still : k.count ≡ t.count) (put : k.items.items ≡ slice_set t.items.items position (record bare { question = Some q })) where
-      pub sound_put : {n : Memories} → AreRight (rules_of e) e.store more → StayTraced memories n
-          → IsBegunFor (rules_of e) e.store more bare q → IsSoundWith (rules_of e) e.store (marks_of e) k more n
-      sound_put {n} right traces begun =
-          sound_reopened (rules_of e) e.store entries more grown (marks_of e) t sound_taken position bare there_still (Some q) k
-          (record { count = still; items = put }) right (remembered_still (rules_of e) e.store memories n traces sound.remembered) begun
-
-      pub spare_put : AreSpare (rules_of e) (contents e.store) more → IsSparingTurns (rules_of e) (contents e.store) more q → IsSpare kept e → IsSpareWith (rules_of e) (contents e.store) more k.items.items
-      spare_put all sparing spare = spare_reopened (rules_of e) e.store entries more grown (marks_of e) t sound_taken position bare there_still (Some q) k (record { count = still; items = put }) all sparing (spare_taken spare)
-
-      pub reopened : Reopens position e.posts k p (Some q)
-      reopened = record {
-        count = still ∙ count;
-        items = put ∙ ap (λ (l : List Posted). slice_set l position (record p { question = Some q })) items ∙ set_set e.posts.items.items position bare (record p { question = Some q });
+  pub can_answer : (q : Question) → IsBegun (rules_of e) e.store entries bare o q → IsTyped (rules_of e) (state_of e)
+      → CanAnswer (rules_of e) e.store entries q
+  can_answer q b typed =
+      let v = posted_view (path e.store) bare in
+      record {
+        idle = it.held.idle;
+        formed = typed.formed;
+        sound = record { conform = it.held.conforming; within = it.held.idle.limits; tokens = typed.tokens };
+        right = it.held.right.values;
+        plain = it.held.right.plain;
+        standing = b.begun.standing;
+        named = record {
+          named = b.begun.named;
+          like = b.begun.like;
+          formed = well_asked (rules_of e)
+              (record { tree = tree e.store; limit = max_nodes; version = 0; marks = v.marks; posts = 0; posted = [] })
+              (line_of v) b.begun.named b.begun.asks;
+        };
       }
 
-  -- a question was begun for its words
-  module _ (o : Option Question) (same : o ≡ p.question) (q : Question) (b : IsBegun (rules_of e) e.store entries bare o q) where
-    abbrev pub asked_for : Instance ℕ
+  module _ (q : Question) (b : IsBegun (rules_of e) e.store entries bare o q)
+      (sparing : IsSpare kept e → IsSparingTurns (rules_of e) (contents e.store) entries q) where
+    abbrev asked_for : Instance ℕ
     asked_for = asked (under_way q)
 
-    pub there_asked : IsThere e.store asked_for
+    there_asked : IsThere e.store asked_for
     there_asked = (b.begun.named, b.begun.like)
 
-    came : under_way q ≡ came_to p.question asked_for
-    came = b.came ∙ ap (λ (x : Option Question). came_to x asked_for) same
+    came : under_way q ≡ came_to it.posted.question asked_for
+    came = b.came ∙ ap (λ (x : Option Question). came_to x asked_for) it.same
 
-    -- after turns it stands for the same instance
-    pub begun_after : (more : Entries) (r : Question) → asked (under_way r) ≡ asked_for → IsStanding (rules_of e) e.store more r → IsBegunFor (rules_of e) e.store more bare r
-    begun_after more r asks standing = record {
-      standing = standing;
-      named = b.begun.named;
-      asks = b.begun.asks;
-      like = subst (λ (i : Instance ℕ). InstanceLike (Names (path e.store)) i b.begun.named) (sym asks) b.begun.like;
-    }
+    -- it was given turns
+    module _ {E' : Type 0} (d : Demand K) (later : Question) (r : Result (ℕ × Option AnswerCode) E')
+        (h : HasTurnedUpTo exact (rules_of e) e.store limit entries (kept d.keeper) (memories e.demand.keeper)
+        (memories d.keeper) q later r) where
+      abbrev more : Entries
+      more = kept d.keeper
 
-    -- an answer that is told is the answer to its words
-    pub told_answer : (a : Answer ℕ) → Answers (contents e.store) (meaning (rules_of e)) asked_for a → {E : Type 0} (value : Result Form E) → ((x : Answer Node) → AnswerLike (Names (path e.store)) a x → IfOk value (IsToldAs (rules_of e) (tree e.store) x))
-        → (x : Answer Node) × AnswerLike (Names (path e.store)) a x × IfOk value (λ f. (y : IsAnswerTo (rules_of e) (state_of e) (posted_view (path e.store) p) f) × (y.form ≡ answer_form (rules_of e) (tree e.store) x))
-    told_answer a has value told =
-        let (x, like, answers) = answer_named (rules_of e) e.store sound.idle asked_for b.begun.named a b.begun.like has in
-        (x, like, by x answers value (told x like))
-      where
-        by : {E : Type 0} (x : Answer Node) → AnswersIn (rules_of e) (tree e.store) b.begun.named x → (value : Result Form E) → IfOk value (IsToldAs (rules_of e) (tree e.store) x)
-            → IfOk value (λ f. (y : IsAnswerTo (rules_of e) (state_of e) (posted_view (path e.store) p) f) × (y.form ≡ answer_form (rules_of e) (tree e.store) x))
-        by x answers (Ok f) told = (
-          record {
-            writable = told.writable;
+      pub sound_more : IsSoundWith (rules_of e) e.store (marks_of e) t more (memories d.keeper)
+      sound_more = sound_grown (rules_of e) e.store entries more h.worthy.stays (marks_of e) t sound_taken
+          (h.stays there_asked it.held.right)
+          (remembered_still (rules_of e) e.store (memories e.demand.keeper)
+          (memories d.keeper) h.traces it.held.remembered)
+
+      spare_more : IsTrue exact → IsSpare kept e → IsSpareWith (rules_of e) (contents e.store) more t.items.items
+      spare_more ex spare = spare_grown (rules_of e) e.store entries more h.worthy.stays (marks_of e) t sound_taken
+          (h.spare ex spare.kept (sparing spare)) (spare_taken spare)
+
+      module _ {E : Type 0} (result : Result (ℕ × Option Form) E) where
+        without_memory : (e' : E) → result ≡ Err e' → BreaksOffIn (rules_of e) e.store limit entries (under_way q) more
+            → Attends exact kept memories e (record e { posts = t; demand = d }) position
+            (λ p. HasGone exact kept limit e (record e { posts = t; demand = d }) position p result)
+        without_memory e' is broke =
+            let new : Engine K = record e { posts = t; demand = d } in
+            let from = subst (λ (u : UnderWay ℕ). BreaksOffIn (rules_of e) e.store limit entries u more) came broke in
+            attended exact kept memories e position limit new it.posted it.there None it.opens refl spare_more sound_more result
+            (subst (Came exact kept limit e new.demand it.posted None) (sym is)
+            (inr (record { inst = asked_for; named = b.begun.named; words = b.begun.asks; like = b.begun.like; holds = from })))
+
+        -- memory ran out in a turn, or behind the last one
+        pub broke_off : (e' : E) (f : E') → result ≡ Err e' → r ≡ Err f
+            → Attends exact kept memories e (record e { posts = t; demand = d }) position
+            (λ p. HasGone exact kept limit e (record e { posts = t; demand = d }) position p result)
+        broke_off e' f is failed = without_memory e' is (broken r failed h)
+          where
+            broken : (x : Result (ℕ × Option AnswerCode) E') → x ≡ Err f
+                → HasTurnedUpTo exact (rules_of e) e.store limit entries more (memories e.demand.keeper)
+                (memories d.keeper) q later x
+                → BreaksOffIn (rules_of e) e.store limit entries (under_way q) more
+            broken (Ok g) failed h = absurd cc
+            broken (Err f) failed h = h.broke
+
+    module _ (d : Demand K) (later : Question) (turns : ℕ) where
+      abbrev grown : Entries
+      grown = kept d.keeper
+
+      -- its answer can't be told
+      pub untold : {E E' : Type 0} (a : AnswerCode)
+          (h : HasTurnedUpTo {E = E'} exact (rules_of e) e.store limit entries grown (memories e.demand.keeper)
+          (memories d.keeper) q later (Ok (turns, Some a)))
+          (result : Result (ℕ × Option Form) E) (e' : E) → result ≡ Err e'
+          → Attends exact kept memories e (record e { posts = t; demand = d }) position
+          (λ p. HasGone exact kept limit e (record e { posts = t; demand = d }) position p result)
+      untold {E} {E'} a h result e' is = without_memory {E' = E'} d later (Ok (turns, Some a)) h result e' is
+          (breaks_behind (rules_of e) e.store limit entries (under_way q) grown (under_way later) turns
+          (answer_view a) h.each)
+
+      -- it is told
+      pub told : {E E' : Type 0} (a : AnswerCode)
+          (h : HasTurnedUpTo {E = E'} exact (rules_of e) e.store limit entries grown (memories e.demand.keeper)
+          (memories d.keeper) q later (Ok (turns, Some a)))
+          (f : Form) → ((x : Answer Node) → AnswerLike (Names (path e.store)) (answer_view a) x
+          → IsToldAs (rules_of e) (tree e.store) x f)
+          → Attends exact kept memories e (record e { posts = t; demand = d }) position
+          (λ p. HasGone {E = E} exact kept limit e (record e { posts = t; demand = d }) position p (Ok (turns, Some f)))
+      told {E} {E'} a h f tells =
+          let new : Engine K = record e { posts = t; demand = d } in
+          let (given, counts, each) = h.each in
+          let v = posted_view (path e.store) it.posted in
+          let has = answers_by_turns (rules_of e) e.store entries q b.begun.standing given grown (under_way later)
+          (answer_view a) each in
+          let (x, like, answers) = answer_named (rules_of e) e.store it.held.idle asked_for b.begun.named
+          (answer_view a) b.begun.like has in
+          let is = tells x like in
+          let said : IsAnswerTo (rules_of e) (state_of e) v f = record {
+            writable = is.writable;
             form = answer_form (rules_of e) (tree e.store) x;
-            is_form = told.is_form;
-            answers = answers_asked (rules_of e) (state_of e) (posted_view (path e.store) p) b.begun.named x b.begun.asks answers;
-          },
-          refl,
-        )
-        by x answers (Err e') told = tt
+            is_form = is.is_form;
+            answers = answers_asked (rules_of e) (state_of e) v b.begun.named x b.begun.asks answers;
+          } in
+          let lead = subst (λ (u : UnderWay ℕ). AreTurns (rules_of e) e.store given entries u grown (under_way later)
+          (Some (answer_view a))) came each in
+          attended exact kept memories e position limit new it.posted it.there None it.opens refl
+          (spare_more {E' = E'} d later (Ok (turns, Some a)) h) (sound_more {E' = E'} d later (Ok
+          (turns, Some a)) h) {E = E} (Ok (turns, Some f)) (
+            given,
+            counts_same limit given turns (answer_view a) f counts,
+            said,
+            inr (record {
+              inst = asked_for;
+              named = b.begun.named;
+              words = b.begun.asks;
+              like = b.begun.like;
+              holds = record {
+                end = under_way later;
+                answer = answer_view a;
+                named = x;
+                turns = lead;
+                like = like;
+                form = refl;
+                all = λ ex spare. h.all ex spare.kept (sparing spare);
+              };
+            }),
+          )
 
-    -- one turn
-    module _ (new : Engine K) (added : MayAddLazy (rules_of e) entries (kept new.demand.keeper) q.inst) where
-      last_added : MayAddLazy (rules_of e) entries (kept new.demand.keeper) (came_to p.question asked_for).last
-      last_added = subst (λ (u : UnderWay ℕ). MayAddLazy (rules_of e) entries (kept new.demand.keeper) u.last) came added
-
-      pub tried_err : {E : Type 0} (result : Result (Option Form) E) (e' : E) → result ≡ Err e' → new.posts ≡ t → Tried kept e new position p result
-      tried_err {E} result e' is posts = subst (λ (x : Result (Option Form) E). Tried kept e new position p x) (sym is) (record {
-        now = None;
-        reopens = record { count = ap (λ (x : Posts). x.count) posts ∙ count; items = ap (λ (x : Posts). x.items.items) posts ∙ items };
-        answer = tt;
-        once = tried asked_for b.begun.named b.begun.asks b.begun.like last_added tt;
-      })
-
-      pub tried_silent : {E : Type 0} (r : Question) → Turned (contents e.store) (meaning (rules_of e)) (kept_values entries) (under_way q) (under_way r) None → Reopens position e.posts new.posts p (Some r) → Tried {E = E} kept e new position p (Ok None)
-      tried_silent r turned opens = record {
-        now = Some r;
-        reopens = opens;
-        answer = tt;
-        once = tried asked_for b.begun.named b.begun.asks b.begun.like last_added
-            (r, refl, subst (λ (u : UnderWay ℕ). Turned (contents e.store) (meaning (rules_of e)) (kept_values entries) u (under_way r) None) came turned);
-      }
-
-      pub tried_told : {E : Type 0} (f : Form) (u : UnderWay ℕ) (a : Answer ℕ) → Turned (contents e.store) (meaning (rules_of e)) (kept_values entries) (under_way q) u (Some a) → new.posts ≡ t
-          → (x : Answer Node) × AnswerLike (Names (path e.store)) a x × ((y : IsAnswerTo (rules_of e) (state_of e) (posted_view (path e.store) p) f) × (y.form ≡ answer_form (rules_of e) (tree e.store) x))
-          → Tried {E = E} kept e new position p (Ok (Some f))
-      tried_told f u a turned posts (x, like, told) = record {
-        now = None;
-        reopens = record { count = ap (λ (x : Posts). x.count) posts ∙ count; items = ap (λ (x : Posts). x.items.items) posts ∙ items };
-        answer = told.0;
-        once = tried asked_for b.begun.named b.begun.asks b.begun.like last_added
-            (u, a, x, subst (λ (v : UnderWay ℕ). Turned (contents e.store) (meaning (rules_of e)) (kept_values entries) v u (Some a)) came turned, like, told.0, told.1);
-      }
-
-    -- many turns
-    on_now : IsOn (contents e.store) (meaning (rules_of e)) asked_for (under_way q)
-    on_now = b.begun.standing.on
-
-    pub silent_asked : (n : ℕ) (u : UnderWay ℕ) → Silent (contents e.store) (meaning (rules_of e)) n (under_way q) u → asked u ≡ asked_for
-    silent_asked n u silent = (turns_are (contents e.store) (meaning (rules_of e)) n asked_for (under_way q) u silent on_now).0.starts
-
-    pub silent_turns : (n : ℕ) (u : UnderWay ℕ) → Silent (contents e.store) (meaning (rules_of e)) n (under_way q) u → turns_of u ≡ turns_given p.question + n
-    silent_turns n u silent = by p.question (subst (λ (v : UnderWay ℕ). turns_of u ≡ n + turns_of v) came (turns_are (contents e.store) (meaning (rules_of e)) n asked_for (under_way q) u silent on_now).1)
-      where
-        by : (x : Option Question) → turns_of u ≡ n + turns_of (came_to x asked_for) → turns_of u ≡ turns_given x + n
-        by None count = omega (arith, count)
-        by (Some y) count = omega (arith, count)
-
-    pub given_right : (limit given : ℕ) (u : UnderWay ℕ) (a : Answer ℕ) → HasGiven (contents e.store) (meaning (rules_of e)) limit given (under_way q) u (Some a) → Answers (contents e.store) (meaning (rules_of e)) asked_for a
-    given_right limit given u a (before, mid, known, is, within, silent, turned) =
-        let on = (turns_are (contents e.store) (meaning (rules_of e)) before asked_for (under_way q) mid silent on_now).0 in
-        answers_right (contents e.store) (meaning (rules_of e)) asked_for mid on known u a turned
-
-    pub gone_told : {E : Type 0} (new : Engine K) (limit turns : ℕ) (f : Form) (u : UnderWay ℕ) (a : Answer ℕ) → new.posts ≡ t → HasGiven (contents e.store) (meaning (rules_of e)) limit turns (under_way q) u (Some a)
-        → IsAnswerTo (rules_of e) (state_of e) (posted_view (path e.store) p) f → HasGone {E = E} e new position limit p (Ok (turns, Some f))
-    gone_told new limit turns f u a posts (before, mid, known, is, within, silent, turned) y = record {
-      now = None;
-      reopens = record { count = ap (λ (x : Posts). x.count) posts ∙ count; items = ap (λ (x : Posts). x.items.items) posts ∙ items };
-      answer = y;
-      counts = (omega (arith, is), within);
-    }
-
-    pub gone_silent : {E : Type 0} (new : Engine K) (limit turns : ℕ) (r : Question) → Reopens position e.posts new.posts p (Some r) → HasGiven (contents e.store) (meaning (rules_of e)) limit turns (under_way q) (under_way r) None
-        → HasGone {E = E} e new position limit p (Ok (turns, None))
-    gone_silent new limit turns r opens (same, silent) = record { now = Some r; reopens = opens; answer = tt; counts = (same, silent_turns turns (under_way r) silent) }
+      -- it has no answer yet
+      pub not_yet : {E E' : Type 0}
+          (h : HasTurnedUpTo {E = E'} exact (rules_of e) e.store limit entries grown (memories e.demand.keeper)
+          (memories d.keeper) q later (Ok (turns, None)))
+          (k : Posts) → ((p : Posted) → slice_get t.items.items position ≡ Some p → Reopens position t k p (Some later))
+          → Attends exact kept memories e (record e { posts = k; demand = d }) position
+          (λ p. HasGone {E = E} exact kept limit e (record e { posts = k; demand = d }) position p (Ok (turns, None)))
+      not_yet {E} {E'} h k keeps =
+          let new : Engine K = record e { posts = k; demand = d } in
+          let (given, counts, each) = h.each in
+          let put = keeps bare there_still in
+          let standing = b.begun.standing in
+          let asks = asked_by_turns (rules_of e) e.store entries q standing given grown (under_way later) each in
+          let still : IsBegunFor (rules_of e) e.store grown bare later = record {
+            standing = h.standing;
+            named = b.begun.named;
+            asks = b.begun.asks;
+            like = subst (λ (i : Instance ℕ). InstanceLike (Names (path e.store)) i b.begun.named)
+                (sym asks) b.begun.like;
+          } in
+          let opens : Reopens position e.posts k it.posted (Some later) = record {
+            count = put.count ∙ it.opens.count;
+            items = put.items ∙ ap (λ (l : List Posted). slice_set l position
+                (record it.posted { question = Some later })) it.opens.items
+                ∙ set_set e.posts.items.items position bare (record it.posted { question = Some later });
+          } in
+          let lead = subst (λ (u : UnderWay ℕ). AreTurns (rules_of e) e.store given entries u grown
+          (under_way later) None) came each in
+          attended exact kept memories e position limit new it.posted it.there (Some later) opens refl
+          (λ ex spare. spare_reopened (rules_of e) e.store entries grown h.worthy.stays
+          (marks_of e) t sound_taken position bare there_still
+          (Some later) k put (h.spare ex spare.kept (sparing spare)) (h.sparing ex spare.kept (sparing spare))
+          (spare_taken spare))
+          (sound_reopened (rules_of e) e.store entries grown h.worthy.stays
+          (marks_of e) t sound_taken position bare there_still (Some later) k
+          put (h.stays there_asked it.held.right)
+          (remembered_still (rules_of e) e.store (memories e.demand.keeper)
+          (memories d.keeper) h.traces it.held.remembered) still)
+          {E = E} (Ok (turns, None)) (
+            given,
+            silent_same (Answer ℕ) Form limit given turns counts,
+            record {
+              inst = asked_for;
+              named = b.begun.named;
+              words = b.begun.asks;
+              like = b.begun.like;
+              holds = (later, refl, lead);
+            },
+          )

@@ -1,6 +1,7 @@
 -- What becomes of a question's words: it rests on the tree and on the marks that the question has.
 use Rattle.std.proofs.Common.{◌≡◌, ℕ, true, false, not, if◌then◌else◌, List, [], ◌∷◌, map, Option, Some, None, option_map, refl, sym, ap, ◌∙◌, subst}
 use Rattle.std.specs.List.{list_all}
+use Rattle.at_model.specs.Edits.{max_nodes}
 use Rattle.at_model.specs.Paths.{Node}
 use Rattle.at_model.specs.Run.{Instance, Value}
 use Rattle.at_model.specs.Run as run
@@ -14,12 +15,12 @@ use Rattle.at_model.specs.Machine.{State, Marked, Posted, AnswersIn, AnswersPost
 use Rattle.at_engine.specs.Holding.{words_verdict}
 
 -- two states with one tree and the same marks
-module _ (rules : Rules) (t : Tree) (marks : List Marked) (version other posts more : ℕ) (ps qs : List Posted) where
+module _ (rules : Rules) (t : Tree) (marks : List Marked) (limit larger version other posts more : ℕ) (ps qs : List Posted) where
   abbrev here : State
-  here = record { tree = t; version = version; marks = marks; posts = posts; posted = ps }
+  here = record { tree = t; limit = limit; version = version; marks = marks; posts = posts; posted = ps }
 
   abbrev there : State
-  there = record { tree = t; version = other; marks = marks; posts = more; posted = qs }
+  there = record { tree = t; limit = larger; version = other; marks = marks; posts = more; posted = qs }
 
   node_same : (session : ℕ) (place : Place) → node_named rules.classes here session place ≡ node_named rules.classes there session place
   node_same session (From_root path) = refl
@@ -45,7 +46,7 @@ module _ (rules : Rules) (s : State) (q : Posted) where
   used v = if not (list_all (is_marked q.marks q.session) (marks_used (Ask q.place q.attribute q.arguments))) then Refuses code.Mark else v
 
   pub words_same : verdict rules (seen_by q s) (line_of q) ≡ words_verdict rules s.tree q
-  words_same = ap used (obeyed_same rules s.tree q.marks s.version 0 s.posts 0 s.posted [] q.session q.place q.attribute q.arguments)
+  words_same = ap used (obeyed_same rules s.tree q.marks s.limit max_nodes s.version 0 s.posts 0 s.posted [] q.session q.place q.attribute q.arguments)
 
   -- the words are refused, or ask for an instance, which has an answer
   pub answers_refused : (c : Code) → words_verdict rules s.tree q ≡ Refuses c → AnswersPosted rules s q (Refused c)
@@ -56,9 +57,9 @@ module _ (rules : Rules) (s : State) (q : Posted) where
 
   -- the question has lost a mark that its words use, or has all of them
   pub words_unmarked : list_all (is_marked q.marks q.session) (marks_used (Ask q.place q.attribute q.arguments)) ≡ false → words_verdict rules s.tree q ≡ Refuses code.Mark
-  words_unmarked e = ap (λ b. if not b then Refuses code.Mark else obeyed rules (record { tree = s.tree; version = 0; marks = q.marks; posts = 0; posted = [] }) q.session (Ask q.place q.attribute q.arguments)) e
+  words_unmarked e = ap (λ b. if not b then Refuses code.Mark else obeyed rules (record { tree = s.tree; limit = max_nodes; version = 0; marks = q.marks; posts = 0; posted = [] }) q.session (Ask q.place q.attribute q.arguments)) e
 
   pub words_obeyed : list_all (is_marked q.marks q.session) (marks_used (Ask q.place q.attribute q.arguments)) ≡ true → (v : Verdict) → obeyed rules (seen_by q s) q.session (Ask q.place q.attribute q.arguments) ≡ v → words_verdict rules s.tree q ≡ v
   words_obeyed e v is =
-      ap (λ b. if not b then Refuses code.Mark else obeyed rules (record { tree = s.tree; version = 0; marks = q.marks; posts = 0; posted = [] }) q.session (Ask q.place q.attribute q.arguments)) e
-      ∙ sym (obeyed_same rules s.tree q.marks s.version 0 s.posts 0 s.posted [] q.session q.place q.attribute q.arguments) ∙ is
+      ap (λ b. if not b then Refuses code.Mark else obeyed rules (record { tree = s.tree; limit = max_nodes; version = 0; marks = q.marks; posts = 0; posted = [] }) q.session (Ask q.place q.attribute q.arguments)) e
+      ∙ sym (obeyed_same rules s.tree q.marks s.limit max_nodes s.version 0 s.posts 0 s.posted [] q.session q.place q.attribute q.arguments) ∙ is

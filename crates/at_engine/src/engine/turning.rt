@@ -1,6 +1,7 @@
 //! Turns of open questions.
 
-ghost use Rattle.at_engine.specs.Turning.{AnswersIt, CanAnswer};
+ghost use Rattle.std.specs.Prelude.{None};
+ghost use Rattle.at_engine.specs.Turning.{CanAnswer, HasTurnedUpTo};
 
 use super::asking::Asked;
 use super::saying::{Told, say};
@@ -20,28 +21,48 @@ pub enum Begun {
     Refused(Refusal),
 }
 
-/// What turns were spent: how many, and, where the question was answered by the last one, whether for want of memory.
+/// What turns were spent: how many, where there is a limit, and, where the question was answered by the last one, whether for
+/// want of memory.
 #[derive(Clone, Copy, Debug)]
 pub struct Spent {
     pub turns: u64,
     pub told: Option<bool>,
 }
 
-/// Turns of a question until it is answered: its answer.
-fn answer_to<K: Keeper>(
+/// So many turns of a question, or fewer where one of them answers it; without a limit, turns until it is answered. How many
+/// they were, where there is a limit, and its answer.
+fn turns_up_to<K: Keeper>(
     demand: &mut Demand<K>,
     rules: &Rules,
     store: &Store,
-    mut question: Question,
-) -> Result<Answer, AllocError>
-    requires { CanAnswer rules.now store.now (K.contents demand.old.keeper) question }
-    ensures { AnswersIt K.exact rules.now store.now question (K.contents demand.old.keeper) (K.contents demand.new.keeper)
-        (K.memories demand.old.keeper) (K.memories demand.new.keeper) result }
+    question: &mut Question,
+    limit: Option<u64>,
+) -> Result<(u64, Option<Answer>), AllocError>
+    requires { CanAnswer rules.now store.now (K.contents demand.old.keeper) question.old }
+    ensures { HasTurnedUpTo K.exact rules.now store.now limit (K.contents demand.old.keeper) (K.contents demand.new.keeper)
+        (K.memories demand.old.keeper) (K.memories demand.new.keeper) question.old question.new result }
+{
+    match limit {
+        Some(limit) => demand.turns(rules, store, question, limit),
+        None => all_turns(demand, rules, store, question),
+    }
+}
+
+/// Turns of a question until it is answered: how many the last ones were, and its answer.
+fn all_turns<K: Keeper>(
+    demand: &mut Demand<K>,
+    rules: &Rules,
+    store: &Store,
+    question: &mut Question,
+) -> Result<(u64, Option<Answer>), AllocError>
+    requires { CanAnswer rules.now store.now (K.contents demand.old.keeper) question.old }
+    ensures { HasTurnedUpTo K.exact rules.now store.now None (K.contents demand.old.keeper) (K.contents demand.new.keeper)
+        (K.memories demand.old.keeper) (K.memories demand.new.keeper) question.old question.new result }
 {
     loop {
-        let (_, answer) = demand.turns(rules, store, &mut question, u64::MAX)?;
+        let (turns, answer) = demand.turns(rules, store, question, u64::MAX)?;
         if let Some(answer) = answer {
-            return Ok(answer);
+            return Ok((turns, Some(answer)));
         }
     }
 }
@@ -56,9 +77,9 @@ impl<K: Keeper> Engine<K> {
     ghost use Rattle.at_engine.specs.declared.posts.Posted.{Posted};
     ghost use Rattle.at_engine.specs.Telling.{IsClosed, IsSaid};
     ghost use Rattle.at_protocol.specs.Writable.{IsWritable};
-    ghost use Rattle.at_engine.specs.Serving.{Calls, HasGiven, HasSettledFirst};
-    ghost use Rattle.at_engine.specs.Turned.{HasTurned};
-    ghost use Rattle.at_engine.specs.Turning.{Attends, Begins, BeginsSparing, CanGoOn, CanSpend, CanTurn, HasGone, HasSettled, IsHeldAt, StandsAt, TakesOff, Tried, told_of};
+    ghost use Rattle.at_engine.specs.Serving.{Calls};
+    ghost use Rattle.at_engine.specs.Turned.{HasGiven, HasTurned};
+    ghost use Rattle.at_engine.specs.Turning.{Attends, Begins, BeginsSparing, CanGoOn, CanSpend, CanTurn, HasEnded, HasGone, IsHeldAt, StandsAt, TakesOff, told_of};
 
     /// Gives one turn to the open question with the least number, and appends the line with its answer, where it has one.
     /// Whether a question is open.
@@ -69,23 +90,11 @@ impl<K: Keeper> Engine<K> {
     pub fn turn(&mut self, out: &mut Vec<u8>) -> Result<bool, AllocError>
         requires sound { IsSound K.contents K.memories self.old }
         ensures { Calls K.exact K.contents K.memories self.old self.new out.old out.new
-            (HasTurned K.contents self.old self.new out.old.items out.new.items) result }
+            (HasTurned K.exact K.contents self.old self.new out.old.items out.new.items) result }
     {
-        out.reserve(REPLY_ROOM)?;
-        if self.posts.is_empty() {
-            return Ok(false);
-        }
-        match self.try_once(0) {
-            Ok(None) => Ok(true),
-            Ok(Some(form)) => {
-                self.tell(0, Ok(form), out);
-                Ok(true)
-            }
-            Err(error) => {
-                self.tell(0, Err(error), out);
-                Ok(true)
-            }
-        }
+        let is_settled = self.posts.is_empty();
+        self.give(Some(1), out)?;
+        Ok(!is_settled)
     }
 
     /// Whether no question is open.
@@ -95,11 +104,16 @@ impl<K: Keeper> Engine<K> {
         self.posts.is_empty()
     }
 
-    /// Gives up to so many turns to the open question with the least number, and appends the line with its answer, where it
-    /// has one.
-    pub(crate) fn give(&mut self, limit: u64, out: &mut Vec<u8>) -> Result<Spent, AllocError>
+    /// Gives up to so many turns to the open question with the least number, or, without a limit, as many as it needs, and
+    /// appends the line with its answer, where it has one.
+    pub(crate) fn give(
+        &mut self,
+        limit: Option<u64>,
+        out: &mut Vec<u8>,
+    ) -> Result<Spent, AllocError>
         requires { CanSpend K.contents K.memories self.old limit }
-        ensures { Calls K.exact K.contents K.memories self.old self.new out.old out.new (HasGiven limit self.old self.new out.old.items out.new.items) result }
+        ensures { Calls K.exact K.contents K.memories self.old self.new out.old out.new
+            (HasGiven K.exact K.contents limit self.old self.new out.old.items out.new.items) result }
     {
         out.reserve(REPLY_ROOM)?;
         if self.posts.is_empty() {
@@ -124,28 +138,21 @@ impl<K: Keeper> Engine<K> {
         }
     }
 
-    /// Gives turns to the open question with the least number until it is answered, and appends the line with its answer:
-    /// whether that is `memory`; none where no question is open.
-    pub(crate) fn settle_first(&mut self, out: &mut Vec<u8>) -> Result<Option<bool>, AllocError>
-        requires sound { IsSound K.contents K.memories self.old }
-        ensures { Calls K.exact K.contents K.memories self.old self.new out.old out.new (HasSettledFirst self.old self.new out.old.items out.new.items) result }
-    {
-        out.reserve(REPLY_ROOM)?;
-        if self.posts.is_empty() {
-            return Ok(None);
-        }
-        let form = self.settle(0);
-        Ok(Some(self.tell(0, form, out)))
-    }
-
     /// What is told of a line that waits for the question at the position, which is given turns until it is answered.
     pub(super) fn wait(&mut self, position: usize) -> Told
         requires { CanTurn K.contents K.memories self.old position }
         ensures { Attends K.exact K.contents K.memories self.old self.new position
-            (λ p. IsClosed (rules_of self.old) (state_of self.old) (posted_view (path_shown self.old.store) p) (state_of self.new) result) }
+            (λ p. IsClosed (rules_of self.old) (state_of self.old) (posted_view (path_shown self.old.store) p) (state_of self.new) result
+            × HasEnded K.exact K.contents self.old self.new.demand p result.form) }
     {
-        let form = self.settle(position);
-        self.close(position, form)
+        let (_, form) = match self.go_on(position, None) {
+            Ok(gone) => gone,
+            Err(error) => return self.close(position, Err(error)),
+        };
+        match form {
+            Some(form) => self.close(position, Ok(form)),
+            None => unreachable!(),
+        }
     }
 
     /// Takes the question at the position off, and appends the line with its answer; whether that is `memory`.
@@ -177,38 +184,29 @@ impl<K: Keeper> Engine<K> {
         }
     }
 
-    /// One turn of the question at the position: its answer, where it has one.
-    fn try_once(&mut self, position: usize) -> Result<Option<Form>, AllocError>
-        requires { CanTurn K.contents K.memories self.old position }
-        ensures { Attends K.exact K.contents K.memories self.old self.new position (λ p. Tried K.contents self.old self.new position p result) }
-    {
-        let begun = self.posts.take(position);
-        let mut question = match self.begin(position, begun)? {
-            Begun::Question(question) => question,
-            Begun::Refused(refusal) => return Ok(Some(Form::Refused(refusal))),
-        };
-        match self.demand.turn(&self.rules, &self.store, &mut question)? {
-            Some(answer) => Ok(Some(self.told(answer)?)),
-            None => {
-                self.posts.keep(position, question);
-                Ok(None)
-            }
-        }
-    }
-
-    /// So many turns of the question at the position, or fewer where it is answered: how many they were, and its answer.
-    fn go_on(&mut self, position: usize, limit: u64) -> Result<(u64, Option<Form>), AllocError>
+    /// So many turns of the question at the position, or fewer where it is answered; without a limit, turns until it is. How
+    /// many they were, where there is a limit, and its answer.
+    fn go_on(
+        &mut self,
+        position: usize,
+        limit: Option<u64>,
+    ) -> Result<(u64, Option<Form>), AllocError>
         requires { CanGoOn K.contents K.memories self.old position limit }
-        ensures { Attends K.exact K.contents K.memories self.old self.new position (λ p. HasGone self.old self.new position limit p result) }
+        ensures { Attends K.exact K.contents K.memories self.old self.new position
+            (λ p. HasGone K.exact K.contents limit self.old self.new position p result) }
     {
         let begun = self.posts.take(position);
         let mut question = match self.begin(position, begun)? {
             Begun::Question(question) => question,
             Begun::Refused(refusal) => return Ok((1, Some(Form::Refused(refusal)))),
         };
-        let (turns, answer) = self
-            .demand
-            .turns(&self.rules, &self.store, &mut question, limit)?;
+        let (turns, answer) = turns_up_to(
+            &mut self.demand,
+            &self.rules,
+            &self.store,
+            &mut question,
+            limit,
+        )?;
         match answer {
             Some(answer) => Ok((turns, Some(self.told(answer)?))),
             None => {
@@ -216,20 +214,6 @@ impl<K: Keeper> Engine<K> {
                 Ok((turns, None))
             }
         }
-    }
-
-    /// Turns of the question at the position until it is answered: its answer.
-    fn settle(&mut self, position: usize) -> Result<Form, AllocError>
-        requires { CanTurn K.contents K.memories self.old position }
-        ensures { Attends K.exact K.contents K.memories self.old self.new position (λ p. HasSettled self.old self.new position p result) }
-    {
-        let begun = self.posts.take(position);
-        let question = match self.begin(position, begun)? {
-            Begun::Question(question) => question,
-            Begun::Refused(refusal) => return Ok(Form::Refused(refusal)),
-        };
-        let answer = answer_to(&mut self.demand, &self.rules, &self.store, question)?;
-        self.told(answer)
     }
 
     /// What was done for the question at the position; where nothing was, its words are looked at.

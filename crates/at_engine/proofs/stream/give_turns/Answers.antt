@@ -1,12 +1,12 @@
-use Rattle.std.proofs.Common.{◌≡◌, ◌∙◌, [], ap, arith, map, refl, false, ◌+◌, ◌-◌, None, Ok, sym}
+use Rattle.std.proofs.Common.{◌≡◌, ◌≤◌, ◌∙◌, ap, arith, map, refl, false, ◌+◌, ◌-◌, Ok, sym}
 use Rattle.std.proofs.lemmas.Result.{err_from_is_err_and}
 use Rattle.std.specs.Prelude.{is_err}
 use Rattle.at_store.specs.Shown.{path}
 use Rattle.at_engine.specs.Engines.{rules_of, slice_of, state_of}
 use Rattle.at_engine.specs.Posted.{posted_view}
 use Rattle.at_engine.specs.declared.engine.Engine.{Engine}
-use Rattle.at_engine.proofs.of_turns.Finishing.{spends_nothing}
-use Rattle.at_engine.proofs.of_turns.Giving.{as_many_given, as_many_in_part, gave_more, gave_none, gave_nothing, has_none, ruled, ruled_in_part, stops_later}
+use Rattle.at_model.specs.Machine.{none_open}
+use Rattle.at_engine.proofs.of_turns.Giving.{as_many_given, as_many_in_part, gave_more, gave_none, gave_nothing, ruled, ruled_in_part, stops_later}
 use Rattle.at_engine.proofs.GoingLemmas.{goes_alike, goes_nowhere, goes_on}
 use Rattle.at_engine.proofs.stream.give_turns.Goals as goal
 
@@ -14,7 +14,7 @@ pub returns-then-is_settled : goal.returns-then-is_settled
 returns-then-is_settled g c =
     let e = c.args.engine.now in
     let none = ap (map (posted_view (path e.store))) c.if-is_settled.ensures in
-    let given = has_none (rules_of e) (slice_of e) (state_of e) (state_of e) [] [] (record { turns = 0; told = None }) refl (spends_nothing (rules_of e) (state_of e) [] [] none refl (slice_of e)) in
+    let given = none_open (slice_of e) (state_of e) none in
     record {
       done = gave_none (rules_of e) (slice_of e) (state_of e) (state_of e) c.args.desk.now c.args.desk.now (g.W.Output.contents c.args.writer.now) given refl refl;
       none = λ h. refl;
@@ -44,11 +44,13 @@ loop-left-preserved g c =
     let slice = slice_of c.args.engine.now in
     let left = c.loop-left.left in
     let rest = c.in_ok-left.left in
-    let more = ruled rules (rules_of c.loop-left.engine) (left - rest) _ _ _ _ _ _ inv.goes.rules some.done.1 in
-    let all : (slice - left) + (left - rest) ≡ slice - rest = omega (arith, inv.within, some.done.0) in
+    let turns = some.done.turns in
+    let more = ruled rules (rules_of c.loop-left.engine) turns _ _ _ _ _ _ inv.goes.rules some.done.gives in
+    let all : (slice - left) + turns ≡ slice - rest = omega (arith, inv.within, some.done.are_left.1) in
     record {
-      within = omega (arith, inv.within, some.done.0);
-      gives = as_many_given rules ((slice - left) + (left - rest)) (slice - rest) _ _ _ _ _ _ all (gave_more rules (slice - left) (left - rest) _ _ _ _ _ _ _ _ _ inv.gives more);
+      within = omega (arith, inv.within, some.done.are_left.0);
+      gives = as_many_given rules ((slice - left) + turns) (slice - rest) _ _ _ _ _ _ all (gave_more rules
+          (slice - left) turns _ _ _ _ _ _ _ _ _ inv.gives more);
       none = λ h. some.none (ap (λ (e : Engine g.row.K.Denot). (state_of e).posted) (inv.none h) ∙ h) ∙ inv.none h;
       line = some.line ∙ inv.line;
       goes = goes_on g.K.Keeper.exact g.K.Keeper.contents g.K.Keeper.memories g.W.Output.failed g.W.Output.waits _ _ _ _ _ _ _ _ _ _ 0 0 0 tt (Ok tt) inv.goes refl refl (omega arith)
@@ -75,11 +77,14 @@ returns-in_err-left g c =
     let rules = rules_of c.args.engine.now in
     let slice = slice_of c.args.engine.now in
     let left = c.loop-left.left in
-    let all : (slice - left) + left ≡ slice = omega (arith, inv.within) in
+    let n = some.done.1 in
+    let all : (slice - left) + n ≤ slice = omega (arith, inv.within, some.done.2) in
     record {
       done = rw (p.1, p.2) (
         some.done.0,
-        as_many_in_part rules ((slice - left) + left) slice _ _ _ _ all (stops_later rules (slice - left) left _ _ _ _ _ _ _ _ inv.gives (ruled_in_part rules (rules_of c.loop-left.engine) left _ _ _ _ inv.goes.rules some.done.1)),
+        as_many_in_part rules ((slice - left) + n) slice _ _ _ _ all (stops_later rules
+            (slice - left) n _ _ _ _ _ _ _ _ inv.gives (ruled_in_part rules
+            (rules_of c.loop-left.engine) n _ _ _ _ inv.goes.rules some.done.3)),
       );
       none = λ h. some.none (ap (λ (e : Engine g.row.K.Denot). (state_of e).posted) (inv.none h) ∙ h) ∙ inv.none h;
       line = some.line ∙ inv.line;

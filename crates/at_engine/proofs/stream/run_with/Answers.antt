@@ -6,6 +6,8 @@ use Rattle.at_engine.specs.Ends.{Remembers}
 use Rattle.at_engine.specs.Keeping.{IsSpare}
 use Rattle.at_engine.specs.KeepingRuns.{KeepsBytes}
 use Rattle.at_engine.specs.Engines.{state_of, rules_of, slice_of}
+use Rattle.at_engine.specs.Stepping.{nowhere}
+use Rattle.at_engine.proofs.GoingLemmas.{by_both}
 use Rattle.at_engine.proofs.of_keeping.Kept.{kept-nil}
 use Rattle.at_engine.proofs.of_turns.Giving.{few_open}
 use Rattle.at_engine.proofs.of_keeping.KeepingBytes.{keeps_more, keeps_none, keeps_run}
@@ -22,6 +24,7 @@ loop-turn-init g c = record {
   reads = none_counted _;
   written = no_call _;
   sent = λ none. none;
+  by = nowhere;
   spare = λ exact spare. spare;
   rules = refl;
   slice = refl;
@@ -66,6 +69,8 @@ returns-in_err-finish g c = record {
       rw (p.1, p.2, f.0) (λ well none. absurd (true≢false well));
   keeps = λ exact spare. let p = err_from_is_err_and c.from_residual.result c.from_residual.ensures.1 in rw p.1 tt;
   work = let p = err_from_is_err_and c.from_residual.result c.from_residual.ensures.1 in rw p.1 tt;
+  by = by_both g.K.Keeper.exact g.K.Keeper.contents c.args.engine.now c.loop-turn.engine c.finish.new.engine c.loop-turn.invariant.by
+      c.in_err-finish.ensures.goes.by;
   spare = λ exact spare. c.in_err-finish.ensures.goes.spare exact (c.loop-turn.invariant.spare exact spare);
   rules = c.in_err-finish.ensures.goes.rules ∙ c.loop-turn.invariant.rules;
   slice = c.in_err-finish.ensures.goes.slice ∙ c.loop-turn.invariant.slice;
@@ -100,6 +105,8 @@ returns-then-count-eq0 g c = record {
       let read = at_end _ _ _ inv.0 c.in-Ok-read.count c.read.new.piece c.if-count-eq0.true inv.1 c.in-Ok-read.ensures.bytes.0 in
       keeps_run g.K.Keeper.contents c.args.engine.now c.loop-turn.engine c.finish.new.engine inv.0 _ _ c.in-Ok.desk c.loop-turn.desk read c.loop-turn.invariant.rules first p (λ open_none no_post. c.in_ok-finish.ensures.keeps exact (c.loop-turn.invariant.spare exact spare) p.rest p.line open_none no_post later);
   work = c.report.ensures.work ∙ c.work.ensures;
+  by = by_both g.K.Keeper.exact g.K.Keeper.contents c.args.engine.now c.loop-turn.engine c.finish.new.engine c.loop-turn.invariant.by
+      c.in_ok-finish.ensures.goes.by;
   spare = λ exact spare. c.in_ok-finish.ensures.goes.spare exact (c.loop-turn.invariant.spare exact spare);
   rules = c.in_ok-finish.ensures.goes.rules ∙ c.loop-turn.invariant.rules;
   slice = c.in_ok-finish.ensures.goes.slice ∙ c.loop-turn.invariant.slice;
@@ -141,6 +148,8 @@ returns-in_err-take_piece g c = record {
       rw (p.1, p.2, u.0) (λ well none. absurd (true≢false well));
   keeps = λ exact spare. let p = err_from_is_err_and c.from_residual-in_err-take_piece.result c.from_residual-in_err-take_piece.ensures.1 in rw p.1 tt;
   work = let p = err_from_is_err_and c.from_residual-in_err-take_piece.result c.from_residual-in_err-take_piece.ensures.1 in rw p.1 tt;
+  by = by_both g.K.Keeper.exact g.K.Keeper.contents c.args.engine.now c.loop-turn.engine c.take_piece.new.engine c.loop-turn.invariant.by
+      c.in_err-take_piece.ensures.takes.goes.by;
   spare = λ exact spare. c.in_err-take_piece.ensures.takes.goes.spare exact (c.loop-turn.invariant.spare exact spare);
   rules = c.in_err-take_piece.ensures.takes.goes.rules ∙ c.loop-turn.invariant.rules;
   slice = c.in_err-take_piece.ensures.takes.goes.slice ∙ c.loop-turn.invariant.slice;
@@ -158,6 +167,7 @@ returns-in-Err g c = record {
   sent = λ well none. c.loop-turn.invariant.sent none;
   keeps = λ exact spare. tt;
   work = tt;
+  by = c.loop-turn.invariant.by;
   spare = c.loop-turn.invariant.spare;
   rules = c.loop-turn.invariant.rules;
   slice = c.loop-turn.invariant.slice;
@@ -187,6 +197,8 @@ loop-turn-preserved g c =
       reads = counted_on _ _ _ c.loop-turn.turn 1 c.loop-turn.invariant.reads c.in-Ok-read.ensures.counted;
       written = then_calls _ _ _ false c.loop-turn.invariant.written c.in_ok-take_piece.ensures.takes.goes.failed;
       sent = λ none. c.in_ok-take_piece.ensures.sent (c.loop-turn.invariant.sent none);
+      by = by_both g.K.Keeper.exact g.K.Keeper.contents c.args.engine.now c.loop-turn.engine c.take_piece.new.engine c.loop-turn.invariant.by
+          c.in_ok-take_piece.ensures.takes.goes.by;
       spare = λ exact spare. c.in_ok-take_piece.ensures.takes.goes.spare exact (c.loop-turn.invariant.spare exact spare);
       rules = c.in_ok-take_piece.ensures.takes.goes.rules ∙ c.loop-turn.invariant.rules;
       slice = c.in_ok-take_piece.ensures.takes.goes.slice ∙ c.loop-turn.invariant.slice;
@@ -206,8 +218,25 @@ returns g c = record {
   sent = λ well none. c.loop-turn.invariant.sent none;
   keeps = λ exact spare. tt;
   work = tt;
+  by = c.loop-turn.invariant.by;
   spare = c.loop-turn.invariant.spare;
   rules = c.loop-turn.invariant.rules;
   slice = c.loop-turn.invariant.slice;
   sound = c.loop-turn.invariant.sound;
+}
+
+pub returns-in_default : goal.returns-in_default
+returns-in_default g c = record {
+  ran = record { state = refl; read = refl; written = refl };
+  failed = (no_call _, no_call _);
+  reads = (0, refl, none_counted _);
+  ended = no_call _;
+  sent = λ well none. none;
+  by = nowhere;
+  keeps = λ exact spare. tt;
+  work = tt;
+  spare = λ exact spare. spare;
+  rules = refl;
+  slice = refl;
+  sound = c.requires.sound;
 }

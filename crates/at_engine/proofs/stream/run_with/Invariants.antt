@@ -4,6 +4,7 @@ use Rattle.std.specs.Io.KnownBytes.{Consumes}
 use Rattle.at_engine.specs.Ends.{Counted, Remembers}
 use Rattle.at_engine.specs.Taking.{Takes, countable}
 use Rattle.at_engine.specs.Keeping.{IsSpare}
+use Rattle.at_engine.specs.Stepping.{GoesBy}
 use Rattle.at_engine.specs.KeepingRuns.{KeepsBytes}
 use Rattle.at_engine.specs.Engines.{state_of, rules_of, slice_of, IsSound}
 use Rattle.at_engine.proofs.stream.run_with.Given as goal
@@ -22,6 +23,7 @@ invariant-loop-turn g l =
       reads : Counted (g.R.Input.reads l.fn.reader) (g.R.Input.reads l.reader) l.turn;
       written : Remembers (g.W.Output.failed l.fn.writer) (g.W.Output.failed l.writer) false;
       sent : g.W.Output.waits l.fn.writer ≡ false → g.W.Output.waits l.writer ≡ false;
+      by : GoesBy g.K.Keeper.exact g.K.Keeper.contents l.fn.engine l.engine;
       spare : IsTrue g.K.Keeper.exact → IsSpare g.K.Keeper.contents l.fn.engine → IsSpare g.K.Keeper.contents l.engine;
       rules : rules_of l.engine ≡ rules_of l.fn.engine;
       slice : slice_of l.engine ≡ slice_of l.fn.engine;

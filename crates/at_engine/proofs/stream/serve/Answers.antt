@@ -9,6 +9,7 @@ use Rattle.at_engine.proofs.of_turns.Giving.{counts_served, halts_in_line, then_
 use Rattle.at_engine.proofs.of_keeping.KeepingBytes.{kept_behind}
 use Rattle.at_engine.specs.Going.{unsaid}
 use Rattle.at_engine.specs.Loop.{lets_wait}
+use Rattle.at_engine.specs.Stepping.{by_line, nowhere}
 use Rattle.at_engine.proofs.GoingLemmas.{goes_on, goes_unsaid, goes_wrote}
 use Rattle.at_engine.proofs.Remembering.{sent_where}
 use Rattle.at_engine.proofs.stream.serve.Goals as goal
@@ -39,6 +40,7 @@ returns-in_err-write_whole-in-Ok-clause-serves g c =
       keeps = λ exact spare. rw p.1 tt;
       line = c.count_answer.ensures.rest.1 ∙ c.count_line.ensures.rest.1;
       goes = goes_wrote g.K.Keeper.exact g.K.Keeper.contents g.K.Keeper.memories g.W.Output.failed unsaid _ _ c.args.desk.now _ _ _ 1 _ _ c.from_residual.result call (rw p.1 c.in_err-write_whole-in-Ok.ensures.failed) (rw p.1 tt)
+          (by_line old c.serve.new.self _ _ _ c.in-Ok.wants nowhere call.done)
           (omega (arith, counts_served (rules_of old) (state_of old) (state_of c.serve.new.self) c.args.desk.now.line.items (c.in-Ok.wants, s.0) c.args.desk.now c.count_answer.new.self serves (c.count_answer.ensures.rest.0 ∙ c.count_line.ensures.lines) (c.count_answer.ensures.memory ∙ ap (λ n. n + (if c.in-Ok.wants then 1 else 0)) c.count_line.ensures.rest.0)));
     }
 
@@ -63,7 +65,8 @@ returns-clause-serves g c =
           turns.done turns.none serves keeps (c.count_answer.ensures.memory ∙ ap (λ n. n + (if c.in-Ok.wants then 1 else 0)) c.count_line.ensures.rest.0);
       line = turns.line ∙ c.count_answer.ensures.rest.1 ∙ c.count_line.ensures.rest.1;
       goes = goes_on g.K.Keeper.exact g.K.Keeper.contents g.K.Keeper.memories g.W.Output.failed unsaid _ _ _ _ _ _ _ _ _ _ 1 0 1 (tt {0}) c.give_turns.result
-          (goes_wrote g.K.Keeper.exact g.K.Keeper.contents g.K.Keeper.memories g.W.Output.failed unsaid _ _ c.args.desk.now c.count_answer.new.self _ _ 1 _ _ (Ok (tt {0})) call c.in_ok-write_whole-in-Ok.ensures.failed refl (omega (arith, counted)))
+          (goes_wrote g.K.Keeper.exact g.K.Keeper.contents g.K.Keeper.memories g.W.Output.failed unsaid _ _ c.args.desk.now c.count_answer.new.self _ _ 1 _ _ (Ok (tt {0})) call c.in_ok-write_whole-in-Ok.ensures.failed refl
+          (by_line old c.serve.new.self _ _ _ c.in-Ok.wants nowhere call.done) (omega (arith, counted)))
           refl refl (omega arith)
           (goes_unsaid g.K.Keeper.exact g.K.Keeper.contents g.K.Keeper.memories g.W.Output.failed g.W.Output.waits _ _ _ _ _ _ 0 c.give_turns.result turns.goes);
     }

@@ -39,7 +39,7 @@ returns-in_ok-serve-clause-takes g c = record {
       (λ none no_post. none_after_line _ _ _ _ _ _ _ _ _ none no_post c.in_ok-serve.ensures.serves.served);
   goes =
       let s = c.in_ok-serve.ensures.serves.goes in
-      record { failed = s.failed; sent = s.sent; spare = s.spare; rules = s.rules; slice = s.slice; grows = s.grows; sound = s.sound };
+      record { failed = s.failed; by = s.by; sent = s.sent; spare = s.spare; rules = s.rules; slice = s.slice; grows = s.grows; sound = s.sound };
 }
 
 pub returns-else-not-is_empty-clause-takes : goal.returns-else-not-is_empty-clause-takes

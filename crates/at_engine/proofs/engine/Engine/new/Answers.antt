@@ -17,7 +17,7 @@ use Rattle.at_engine.proofs.engine.Engine.new.Goals as goal
 
 pub returns-clause-first : goal.returns-clause-first
 returns-clause-first g c = λ i.
-    held (c.in_ok-store.ensures.loaded i) 0 (marks_view (path c.in_ok-store.store) (c.new-3.ensures i)) (c.new-4.ensures.count i) (map (posted_view (path c.in_ok-store.store)) (c.new-4.ensures.items i))
+    held (c.in_ok-store.ensures.loaded i) (c.in_ok-store.ensures.limit i) 0 (marks_view (path c.in_ok-store.store) (c.new-3.ensures i)) (c.new-4.ensures.count i) (map (posted_view (path c.in_ok-store.store)) (c.new-4.ensures.items i))
 
 pub returns-clause-sound : goal.returns-clause-sound
 returns-clause-sound g c formed tokens nothing = record {

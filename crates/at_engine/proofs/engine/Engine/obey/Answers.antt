@@ -42,7 +42,9 @@ pub returns-in-Some-awaited-clause-hears : goal.returns-in-Some-awaited-clause-h
 returns-in-Some-awaited-clause-hears g c =
     let e = c.args.self.now in
     let q = c.in-Some-awaited.ensures.question in
-    by_turns (posted_view (path e.store) q) ((c.in_default.ensures (line_view c.args.line) refl (sym c.has_used-is_marked.ensures)) ∙ c.in-Some-awaited.ensures.waits) (c.wait.ensures.done q c.in-Some-awaited.ensures.there)
+    by_turns (posted_view (path e.store) q) ((c.in_default.ensures (line_view c.args.line) refl
+    (sym c.has_used-is_marked.ensures)) ∙ c.in-Some-awaited.ensures.waits)
+    (c.wait.ensures.done q c.in-Some-awaited.ensures.there).0
 
 pub returns-in-Some-awaited-clause-spares : goal.returns-in-Some-awaited-clause-spares
 returns-in-Some-awaited-clause-spares g c exact spare =

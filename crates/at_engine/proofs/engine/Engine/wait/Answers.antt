@@ -1,28 +1,46 @@
-use Rattle.std.proofs.lemmas.Option.{slice_get_within}
-use Rattle.at_engine.proofs.of_turns.Finishing.{closed_so, rest_end, stands_open}
-use Rattle.at_engine.proofs.Positions.{there_at}
+use Rattle.std.proofs.Common.{ℕ, Option, None, Result, Ok, Err, refl, subst, sym}
+use Rattle.std.specs.declared.alloc.AllocError.{AllocError}
+use Rattle.at_protocol.specs.declared.reply.Form.{Form}
+use Rattle.at_engine.specs.Turning.{Attends, HasGone}
+use Rattle.at_engine.proofs.of_turns.Finishing.{IsResult, never_silent, stays_there, waited}
 use Rattle.at_engine.proofs.engine.Engine.wait.Goals as goal
-
-pub returns : goal.returns
-returns g c = record {
-  done = λ p there.
-      let e = c.args.self.now in
-      let m = c.settle-form.new.self in
-      let h = c.settle-form.ensures.done p there in
-      closed_so g.K.Keeper.contents e c.requires.sound c.args.position p there m c.settle-form.ensures.rest h.now h.reopens c.close.new.self c.close.ensures.rest c.close.ensures.items c.settle-form.result h.answer c.close.result
-      (c.close.ensures.told (record p { question = h.now }) (stands_open g.K.Keeper.contents e c.requires.sound c.args.position p there m c.settle-form.ensures.rest h.now h.reopens));
-  rest = rest_end c.args.self.now c.settle-form.new.self c.close.new.self c.settle-form.ensures.rest c.close.ensures.rest;
-  spare = λ exact spare. c.close.ensures.spare exact (c.settle-form.ensures.spare exact spare);
-  sound = c.close.ensures.sound;
-}
 
 pub close-requires : goal.close-requires
 close-requires g c = record {
-  sound = c.settle-form.ensures.sound;
-  within =
-      let e = c.args.self.now in
-      let (p, there) = there_at e.posts.items.items c.args.position c.requires.within in
-      let m = c.settle-form.new.self in
-      let h = c.settle-form.ensures.done p there in
-      slice_get_within m.posts.items.items c.args.position (record p { question = h.now }) (stands_open g.K.Keeper.contents e c.requires.sound c.args.position p there m c.settle-form.ensures.rest h.now h.reopens);
+  sound = c.go_on.ensures.sound;
+  within = stays_there g.K.Keeper.exact g.K.Keeper.contents g.K.Keeper.memories c.args.self.now c.args.position c.requires.within c.go_on.new.self c.go_on.result c.go_on.ensures;
 }
+
+pub close-requires-in-Some : goal.close-requires-in-Some
+close-requires-in-Some g c = record {
+  sound = c.go_on.ensures.sound;
+  within = stays_there g.K.Keeper.exact g.K.Keeper.contents g.K.Keeper.memories c.args.self.now c.args.position c.requires.within c.go_on.new.self c.go_on.result c.go_on.ensures;
+}
+
+pub returns-in-Err : goal.returns-in-Err
+returns-in-Err g c =
+    let is = subst (λ (r : Result (ℕ × Option Form) AllocError). IsResult r (Err c.in-Err.error))
+    (sym c.in-Err.is) refl in
+    waited g.K.Keeper.exact g.K.Keeper.contents g.K.Keeper.memories c.args.self.now c.requires.sound c.args.position c.go_on.new.self c.go_on.result
+    c.go_on.ensures (Err c.in-Err.error) is c.close.new.self c.close.result c.close.ensures
+
+pub returns : goal.returns
+returns g c =
+    let some = subst (λ (o : Option Form). IsResult (Ok (c.in-Ok.gone.0, o)) (Ok c.in-Some.form))
+    (sym c.in-Some.is) refl in
+    let is = subst (λ (r : Result (ℕ × Option Form) AllocError). IsResult r (Ok c.in-Some.form))
+    (sym c.in-Ok.is) some in
+    waited g.K.Keeper.exact g.K.Keeper.contents g.K.Keeper.memories c.args.self.now c.requires.sound c.args.position c.go_on.new.self c.go_on.result
+    c.go_on.ensures (Ok c.in-Some.form) is c.close-in-Some.new.self c.close-in-Some.result c.close-in-Some.ensures
+
+pub unreachable-requires : goal.unreachable-requires
+unreachable-requires g c =
+    let e = c.args.self.now in
+    let k = g.K.Keeper.contents in
+    let x = g.K.Keeper.exact in
+    let i = c.args.position in
+    let m = c.go_on.new.self in
+    let a = subst (λ (r : Result (ℕ × Option Form) AllocError). Attends x k g.K.Keeper.memories e m i
+    (λ p. HasGone x k None e m i p r)) c.in-Ok.is
+    c.go_on.ensures in
+    never_silent x k g.K.Keeper.memories e m i c.requires.within c.in-Ok.gone.0 c.in-Ok.gone.1 a c.in-None.is

@@ -1,0 +1,28 @@
+use Rattle.std.proofs.Common.{Option, subst, sym, ℕ}
+use Rattle.std.specs.declared.alloc.AllocError.{AllocError}
+use Rattle.at_engine.specs.Turning.{HasTurnedUpTo}
+use Rattle.at_engine.proofs.of_turns.Settling.{as_one_record}
+use Rattle.at_engine.proofs.engine.turning.turns_up_to.Goals as goal
+
+pub returns-in-Some : goal.returns-in-Some
+returns-in-Some g c =
+    let k = g.K.Keeper.contents in
+    let old = c.args.demand.now in
+    let new = c.turns.new.self in
+    subst (λ (limit : Option ℕ). HasTurnedUpTo {E = AllocError} g.K.Keeper.exact c.args.rules.now c.args.store.now limit
+    (k old.keeper) (k new.keeper)
+    (g.K.Keeper.memories old.keeper) (g.K.Keeper.memories new.keeper) c.args.question.now c.turns.new.question c.turns.result) (sym c.in-Some.is)
+    (as_one_record g.K.Keeper.exact c.args.rules.now c.args.store.now c.in-Some.limit (k old.keeper)
+    (k new.keeper) old.work new.work
+    (g.K.Keeper.memories old.keeper) (g.K.Keeper.memories new.keeper) c.args.question.now c.turns.new.question c.turns.result c.turns.ensures.turned
+    c.turns.ensures.traces)
+
+pub returns-in-None : goal.returns-in-None
+returns-in-None g c =
+    let k = g.K.Keeper.contents in
+    let old = c.args.demand.now in
+    let new = c.all_turns.new.demand in
+    subst (λ (limit : Option ℕ). HasTurnedUpTo {E = AllocError} g.K.Keeper.exact c.args.rules.now c.args.store.now limit
+    (k old.keeper) (k new.keeper)
+    (g.K.Keeper.memories old.keeper) (g.K.Keeper.memories new.keeper) c.args.question.now c.all_turns.new.question c.all_turns.result) (sym c.in-None.is)
+    c.all_turns.ensures
