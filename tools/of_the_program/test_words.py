@@ -15,6 +15,12 @@ REFUSED = [
     (["--keep=1000000001", *THREE], ["1000000001 is not in 1..=1000000000"]),
     (["--keep=many", *THREE], ["invalid value 'many' for '--keep <N>'"]),
     (["--keep=1", "--keep=1", *THREE], ["cannot be used multiple times"]),
+    (["--nodes", "0", *THREE], ["0 is not in 1..=16777216"]),
+    (["--nodes=16777217", *THREE], ["16777217 is not in 1..=16777216"]),
+    (["--nodes=many", *THREE], ["invalid value 'many' for '--nodes <N>'"]),
+    (["--nodes=", *THREE], ["for '--nodes <N>'"]),
+    (["--nodes=7", "--nodes=7", *THREE], ["cannot be used multiple times"]),
+    (["--nodes"], ["a value is required for '--nodes <N>'"]),
     (["--cut-off", "--keep=1", *THREE], ["error: --cut-off can't be used with --keep"]),
     (["--keep", "1", "--cut-off", *THREE], ["error: --cut-off can't be used with --keep"]),
     (["--cut-off", "--cut-off", *THREE], ["cannot be used multiple times"]),
@@ -26,7 +32,7 @@ REFUSED = [
     (["--port", *THREE], ["unexpected argument '--port'"]),
     (["--socket=", *THREE], ["a value is required for '--socket <PATH>'"]),
 ]
-HELP = ["--socket <PATH>", "--connections <N>", "--slice <N>", "--keep <N>", "--cut-off", "--gather", "--work", "--version", "<GRAMMAR>",
+HELP = ["--socket <PATH>", "--connections <N>", "--slice <N>", "--keep <N>", "--nodes <N>", "[default: 65536]", "--cut-off", "--gather", "--work", "--version", "<GRAMMAR>",
         "<TREE>", "<ASPECT>", "$ attrd calc.ast", "ask PLACE", "move PLACE", "version ", "wait NUMBER"]
 
 # Two values are kept when an edit comes that touches the first one, and then the second is asked for anew.

@@ -1,6 +1,6 @@
 //! The calculator sample, and the files of samples.
 
-use at_start::{Files, Source};
+use at_start::{Files, Source, USUAL_NODES};
 use std::alloc::{AllocError, Global};
 
 /// What stands in files.
@@ -88,6 +88,7 @@ pub fn files(alloc: Global, sample: &Sample) -> Result<Files, AllocError> {
         grammar: source(alloc, "grammar", sample.grammar)?,
         tree: source(alloc, "tree", sample.tree)?,
         aspects,
+        nodes: USUAL_NODES,
     })
 }
 
@@ -101,6 +102,7 @@ pub fn copied(alloc: Global, files: &Files) -> Result<Files, AllocError> {
         grammar: source(alloc, files.grammar.name.as_str(), &files.grammar.bytes)?,
         tree: source(alloc, files.tree.name.as_str(), &files.tree.bytes)?,
         aspects,
+        nodes: files.nodes,
     })
 }
 

@@ -8,7 +8,7 @@ ghost use Rattle.at_store.specs.Shown.{IsIdle, path as path_shown, tree as tree_
 use crate::samples::{GRAMMAR, TREE};
 use at_class::{ClassTable, are_named};
 use at_grammar::parse_ast;
-use at_store::{Edit, Loc, Node, Ready, Refusal, Store};
+use at_store::{Edit, Loc, Node, Ready, Refusal, Store, USUAL_NODES};
 use at_tree::path::{read_path, write_path};
 use at_tree::tree::read_tree;
 use std::alloc::{AllocError, Global};
@@ -49,7 +49,7 @@ pub fn loaded(alloc: Global, classes: &ClassTable) -> Result<Store, Fail>
     let Ok(tree) = read_tree(alloc, classes, TREE, classes.start()) else {
         return Err(Fail::new("no tree"));
     };
-    match Store::load(alloc, classes, tree) {
+    match Store::load(alloc, classes, tree, USUAL_NODES as usize) {
         Ok(store) => Ok(store),
         Err(_) => Err(Fail::new("no store")),
     }

@@ -26,6 +26,6 @@ aspects_refuse files classes (Refused n c None) g h = absurd h
 aspects_refuse files classes Memory g h = tt
 
 pub tree_refuses : (files : Files) (classes : Classes) (rules : Rules) (f : Failure Code) → GivesClasses files.grammar.bytes.items classes → GivesRules classes (aspect_bytes files.aspects.items) rules
-    → IsTreeFault classes files.tree.bytes.items f → IsStartFault files (of_tree (length files.aspects.items + 1) f)
+    → IsTreeFault classes files.nodes files.tree.bytes.items f → IsStartFault files (of_tree (length files.aspects.items + 1) f)
 tree_refuses files classes rules (failure.For c) g r h = by_tree classes rules c g r h
 tree_refuses files classes rules failure.Memory g r h = tt

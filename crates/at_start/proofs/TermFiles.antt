@@ -7,7 +7,7 @@ use Rattle.at_model.specs.Terms.{Term, Node, IsTerm, term_text, with_commas, cel
 use Rattle.at_model.specs.Trees.{Tree}
 use Rattle.at_tree.specs.ReadTrees.{IsReadAs, IsUnread}
 use Rattle.at_tree.specs.declared.tree.reading.ReadFault.TheVariants as read
-use Rattle.at_start.specs.Files.{IsText}
+use Rattle.at_start.specs.Files.{IsText, tree_bytes}
 use Rattle.at_start.specs.TreeFiles.{IsTermFile, IsWithoutNewline, RefusesTree, no_term, no_class, no_fit}
 use Rattle.at_start.specs.declared.code.Code.TheVariants as code
 
@@ -50,11 +50,11 @@ pub is_tree_file : (classes : Classes) (text inner : List ℕ) (b : ℕ) (u : Tr
 is_tree_file classes text inner b u e (t, is, s) = is_term_file text inner (term_of classes u) e (subst IsTerm (sym s.written) is.0) (ap term_text s.written ∙ is.1)
 
 -- where none is read of it, the file is refused
-pub no_term_read : (classes : Classes) (bytes inner : List ℕ) (place : ℕ) → IsText bytes → IsWithoutNewline bytes inner → IsUnread classes inner 0 (read.Syntax place) → RefusesTree classes bytes code.TreeSyntax
-no_term_read classes bytes inner place text e none = no_term text (λ t h. none.0 (t, h.0, inner_term bytes inner t e h))
+pub no_term_read : (classes : Classes) (limit : ℕ) (bytes inner : List ℕ) (place : ℕ) → IsText (tree_bytes limit) bytes → IsWithoutNewline bytes inner → IsUnread classes inner 0 (read.Syntax place) → RefusesTree classes limit bytes code.TreeSyntax
+no_term_read classes limit bytes inner place text e none = no_term text (λ t h. none.0 (t, h.0, inner_term bytes inner t e h))
 
-pub no_class_read : (classes : Classes) (bytes inner : List ℕ) → IsText bytes → IsWithoutNewline bytes inner → IsUnread classes inner 0 read.Class → RefusesTree classes bytes code.TreeClass
-no_class_read classes bytes inner text e (t, is, unknown) = no_class t text (is_term_file bytes inner t e is.0 is.1) unknown
+pub no_class_read : (classes : Classes) (limit : ℕ) (bytes inner : List ℕ) → IsText (tree_bytes limit) bytes → IsWithoutNewline bytes inner → IsUnread classes inner 0 read.Class → RefusesTree classes limit bytes code.TreeClass
+no_class_read classes limit bytes inner text e (t, is, unknown) = no_class t text (is_term_file bytes inner t e is.0 is.1) unknown
 
-pub no_fit_read : (classes : Classes) (bytes inner : List ℕ) → IsText bytes → IsWithoutNewline bytes inner → IsUnread classes inner 0 read.Fit → RefusesTree classes bytes code.TreeFit
-no_fit_read classes bytes inner text e (t, is, misfit) = no_fit t text (is_term_file bytes inner t e is.0 is.1) misfit.0 misfit.1
+pub no_fit_read : (classes : Classes) (limit : ℕ) (bytes inner : List ℕ) → IsText (tree_bytes limit) bytes → IsWithoutNewline bytes inner → IsUnread classes inner 0 read.Fit → RefusesTree classes limit bytes code.TreeFit
+no_fit_read classes limit bytes inner text e (t, is, misfit) = no_fit t text (is_term_file bytes inner t e is.0 is.1) misfit.0 misfit.1

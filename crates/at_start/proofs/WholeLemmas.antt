@@ -43,7 +43,7 @@ whole files slice report input left after a =
         tree = s.tree;
         told = r.told;
         new = a.new;
-        outputs = subst (λ (l : List ℕ). Outputs a.rules slice (opening s.opened) l r.told a.new) all from;
+        outputs = subst (λ (l : List ℕ). Outputs a.rules slice (opening files.nodes s.opened) l r.told a.new) all from;
         text = refl;
       },
     )

@@ -10,7 +10,7 @@ use Rattle.at_jrag.specs.Grammar.{File, IsWithin}
 use Rattle.at_jrag.specs.Faults.{IsFault}
 use Rattle.at_jrag.specs.declared.JragCode.{JragCode}
 use Rattle.at_jrag.specs.declared.JragCode.TheVariants as jrag
-use Rattle.at_start.specs.Files.{IsText, IsNoText}
+use Rattle.at_start.specs.Files.{IsText, IsNoText, max_file}
 use Rattle.at_typing.specs.Building.{Builds}
 use Rattle.at_typing.specs.Located.{Located, located}
 use Rattle.at_typing.specs.declared.fault.Breach.{Breach}
@@ -26,7 +26,7 @@ use Rattle.at_start.specs.declared.fault.StartFault.TheVariants as start
 
 -- the file is a text that spells the aspects, whose expressions don't nest too deep
 pub record Holds (bytes : List ℕ) (aspects : List Aspect) : Type 0 where
-  pub text : IsText bytes
+  pub text : IsText max_file bytes
   pub tokens : List PlacedToken
   pub cut : HasTokens bytes tokens
   pub spells : File aspects tokens []
@@ -46,8 +46,8 @@ jrag_code jrag.Nesting = code.AspectLimit
 
 -- the file is refused by the code at the place: it is no text, or this is the fault of its text
 pub data RefusesReading (bytes : List ℕ) : Code → Place → Type 0 where
-  no_text : (c : Code) → IsNoText bytes code.AspectLimit code.AspectSyntax c → RefusesReading bytes c first_place
-  no_aspects : (c : JragCode) (at : Place) → IsText bytes → IsFault bytes (fault.Refused c at) → RefusesReading bytes (jrag_code c) at
+  no_text : (c : Code) → IsNoText max_file bytes code.AspectLimit code.AspectSyntax c → RefusesReading bytes c first_place
+  no_aspects : (c : JragCode) (at : Place) → IsText max_file bytes → IsFault bytes (fault.Refused c at) → RefusesReading bytes (jrag_code c) at
 
 -- the fault is one by which the file is refused; of want of memory nothing is said
 abbrev pub IsReadingFaultOf : List ℕ → Fault Code → Type 0

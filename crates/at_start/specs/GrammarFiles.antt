@@ -14,7 +14,7 @@ use Rattle.at_class.specs.Grammar.{form_view, place_view}
 use Rattle.at_class.specs.Faults.{code_view}
 use Rattle.at_class.specs.declared.fault.ClassCode.{ClassCode}
 use Rattle.at_class.specs.declared.fault.ClassCode.TheVariants as class
-use Rattle.at_start.specs.Files.{IsText, IsNoText}
+use Rattle.at_start.specs.Files.{IsText, IsNoText, max_file}
 use Rattle.at_start.specs.declared.code.Code.{Code}
 use Rattle.at_start.specs.declared.code.Code.TheVariants as code
 use Rattle.at_text.specs.declared.fault.Fault.{Fault}
@@ -40,7 +40,7 @@ pub record Declares (text : List ℕ) (ds : Declarations) : Type 0 where
 
 -- The file gives the classes: its text declares them, and no rule is broken.
 pub record GivesClasses (bytes : List ℕ) (classes : Classes) : Type 0 where
-  pub text : IsText bytes
+  pub text : IsText max_file bytes
   pub declarations : Declarations
   pub declares : Declares bytes declarations
   pub faultless : first_fault declarations ≡ None
@@ -61,9 +61,9 @@ ast_code ast.LeftOut = code.GrammarFormLeftOut
 
 -- The file is refused by the code at the place: it is no text; its text is no grammar; the first rule that its classes break.
 pub data RefusesGrammar (bytes : List ℕ) : Code → Place → Type 0 where
-  no_text : (c : Code) → IsNoText bytes code.GrammarLimit code.GrammarSyntax c → RefusesGrammar bytes c first_place
-  no_grammar : (c : AstCode) (at : Place) → IsText bytes → IsFault bytes (fault.Refused c at) → RefusesGrammar bytes (ast_code c) at
-  breaks : (ds : Declarations) (c : ClassCode) (at : Place) → IsText bytes → Declares bytes ds
+  no_text : (c : Code) → IsNoText max_file bytes code.GrammarLimit code.GrammarSyntax c → RefusesGrammar bytes c first_place
+  no_grammar : (c : AstCode) (at : Place) → IsText max_file bytes → IsFault bytes (fault.Refused c at) → RefusesGrammar bytes (ast_code c) at
+  breaks : (ds : Declarations) (c : ClassCode) (at : Place) → IsText max_file bytes → Declares bytes ds
       → first_fault ds ≡ Some (record { code = code_view c; at = place_view at }) → RefusesGrammar bytes (class_code c) at
 
 -- the fault is one by which the file is refused; of want of memory nothing is said

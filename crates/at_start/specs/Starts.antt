@@ -22,9 +22,9 @@ use Rattle.at_start.specs.declared.fault.StartFault.TheVariants.{Refused, Memory
 abbrev pub aspect_bytes : List Source → List (List ℕ)
 aspect_bytes = map (λ s. s.bytes.items)
 
--- the state at the start: that tree, at version 0, with no marks and no open questions
-abbrev pub opening : Tree → State
-opening t = record { tree = t; version = 0; marks = []; posts = 0; posted = [] }
+-- the state at the start: that tree, which may have so many nodes, at version 0, with no marks and no open questions
+abbrev pub opening : (limit : ℕ) → Tree → State
+opening limit t = record { tree = t; limit = limit; version = 0; marks = []; posts = 0; posted = [] }
 
 -- the engine can serve lines: it is sound, and what it keeps is right
 abbrev pub IsReady : Engine KeepRecorded → Type 0
@@ -36,8 +36,8 @@ pub record Starts (files : Files) (rules : Rules) (state : State) : Type 0 where
   pub grammar : GivesClasses files.grammar.bytes.items classes
   pub aspects : GivesRules classes (aspect_bytes files.aspects.items) rules
   pub opened : Tree
-  pub tree : GivesTree classes files.tree.bytes.items opened
-  pub state_is : state ≡ opening opened
+  pub tree : GivesTree classes files.nodes files.tree.bytes.items opened
+  pub state_is : state ≡ opening files.nodes opened
 
 -- The file of that number is the first that is refused, by the code and at the place; a tree file's fault has none.
 pub data Refuses (files : Files) : (file : ℕ) → Code → Option Place → Type 0 where
@@ -46,11 +46,12 @@ pub data Refuses (files : Files) : (file : ℕ) → Code → Option Place → Ty
       → RefusesAspects classes (aspect_bytes files.aspects.items) file c at → Refuses files file c (Some at)
   by_tree : (classes : Classes) (rules : Rules) (c : Code) → GivesClasses files.grammar.bytes.items classes
       → GivesRules classes (aspect_bytes files.aspects.items) rules
-      → RefusesTree classes files.tree.bytes.items c → Refuses files (length files.aspects.items + 1) c None
+      → RefusesTree classes files.nodes files.tree.bytes.items c → Refuses files (length files.aspects.items + 1) c None
 
 -- all but the bytes of the tree is as it was, and so each name
 abbrev pub AreSameButTree : (before later : Files) → Type 0
 AreSameButTree before later = (later.grammar ≡ before.grammar) × (later.aspects ≡ before.aspects) × (later.tree.name ≡ before.tree.name)
+    × (later.nodes ≡ before.nodes)
 
 -- the fault is the first one of the files; of want of memory nothing is said
 abbrev pub IsStartFault : Files → StartFault → Type 0

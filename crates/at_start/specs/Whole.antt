@@ -59,8 +59,8 @@ pub record MeansOutput (files : Files) (slice : ℕ) (input output : List ℕ) :
   pub rules : Rules
   pub aspects : GivesRules classes (aspect_bytes files.aspects.items) rules
   pub opened : Tree
-  pub tree : GivesTree classes files.tree.bytes.items opened
+  pub tree : GivesTree classes files.nodes files.tree.bytes.items opened
   pub told : List (Bool × Reply)
   pub new : State
-  pub outputs : Outputs rules slice (opening opened) input told new
+  pub outputs : Outputs rules slice (opening files.nodes opened) input told new
   pub text : output ≡ text_of told

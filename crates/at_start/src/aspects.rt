@@ -9,7 +9,7 @@ ghost use Rattle.at_start.specs.AspectFiles.{Holds, AllHold, GivesRules, IsReadi
 ghost use Rattle.at_start.specs.Starts.{aspect_bytes};
 
 use super::fault::{StartFault, of_file};
-use super::files::{Source, text_of};
+use super::files::{MAX_FILE, Source, text_of};
 use crate::code::Code;
 use at_class::ClassTable;
 use at_jrag::{Aspect, JragCode, parse_jrag};
@@ -54,7 +54,7 @@ fn read(alloc: Global, bytes: &[u8]) -> Result<Vec<Aspect>, Fault<Code>>
     ensures hold { IfOk result (λ v. Holds bytes.now (map aspect_view v.items)) }
     ensures refused { IfErr result (IsReadingFaultOf bytes.now) }
 {
-    let text = match text_of(bytes, Code::AspectLimit, Code::AspectSyntax) {
+    let text = match text_of(bytes, MAX_FILE, Code::AspectLimit, Code::AspectSyntax) {
         Ok(text) => text,
         Err(code) => {
             return Err(Fault::Refused {

@@ -4,10 +4,10 @@ ghost use Rattle.std.specs.Prelude.{◌≡◌, IfOk, IfErr};
 ghost use Rattle.at_model.specs.Declarations.{AreNamed};
 ghost use Rattle.at_model.specs.WellFormed.{IsHierarchy};
 ghost use Rattle.at_class.specs.Grammar.{grammar_view};
-ghost use Rattle.at_start.specs.Files.{IsText};
+ghost use Rattle.at_start.specs.Files.{IsText, max_file};
 ghost use Rattle.at_start.specs.GrammarFiles.{GivesClasses, Declares, IsGrammarFault, ast_code, class_code};
 
-use super::files::text_of;
+use super::files::{MAX_FILE, text_of};
 use crate::code::Code;
 use at_class::{ClassCode, ClassTable};
 use at_grammar::{AstCode, Grammar, parse_ast};
@@ -26,7 +26,7 @@ pub fn classes_of(alloc: Global, bytes: &[u8]) -> Result<ClassTable, Fault<Code>
     ensures hierarchy { IfOk result IsHierarchy }
     ensures refused { IfErr result (IsGrammarFault bytes.now) }
 {
-    let text = match text_of(bytes, Code::GrammarLimit, Code::GrammarSyntax) {
+    let text = match text_of(bytes, MAX_FILE, Code::GrammarLimit, Code::GrammarSyntax) {
         Ok(text) => text,
         Err(code) => {
             return Err(Fault::Refused {
@@ -43,7 +43,7 @@ pub fn classes_of(alloc: Global, bytes: &[u8]) -> Result<ClassTable, Fault<Code>
 }
 
 fn parse(alloc: Global, text: &str) -> Result<Grammar, Fault<Code>>
-    requires { IsText text.now }
+    requires { IsText max_file text.now }
     ensures named { IfOk result (λ g. AreNamed (grammar_view g)) }
     ensures declares { IfOk result (λ g. Declares text.now (grammar_view g)) }
     ensures refused { IfErr result (IsGrammarFault text.now) }

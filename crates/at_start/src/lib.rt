@@ -31,11 +31,12 @@ use aspects::rules_of;
 use at_cache::{KeepRecorded, Keeper};
 use at_engine::Engine;
 use at_store::LoadFault;
+pub use at_store::USUAL_NODES;
 use at_text::fault::Failure;
 pub use code::Code;
 pub use fault::StartFault;
 use fault::{of_file, of_tree};
-pub use files::{Files, MAX_FILE, Source};
+pub use files::{Files, MAX_FILE, Source, tree_bytes};
 use grammar::classes_of;
 pub use serving::{Answered, answer};
 use std::alloc::Global;
@@ -84,7 +85,7 @@ pub fn start_with<K: Keeper>(
     };
     let rules = rules_of(alloc, classes, &files.aspects)?;
     let file = files.aspects.len() + 1;
-    let tree = match tree_of(alloc, rules.classes(), &files.tree.bytes) {
+    let tree = match tree_of(alloc, rules.classes(), files.nodes, &files.tree.bytes) {
         Ok(tree) => tree,
         Err(fault) => return Err(of_tree(file, fault)),
     };
@@ -92,7 +93,7 @@ pub fn start_with<K: Keeper>(
     // the C library takes later ones from the heap, where they are copied as they grow.
     files.tree.bytes.truncate(1);
     files.tree.bytes.shrink_to_fit();
-    match Engine::new(alloc, rules, tree, keeper) {
+    match Engine::new(alloc, rules, tree, keeper, files.nodes as usize) {
         Ok(engine) => Ok(engine),
         Err(LoadFault::Fit) => Err(of_tree(file, Failure::For(Code::TreeFit))),
         Err(LoadFault::Limit) => Err(of_tree(file, Failure::For(Code::TreeLimit))),

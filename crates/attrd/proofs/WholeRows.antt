@@ -24,7 +24,7 @@ use Rattle.clap.specs.declared.parser.matches.Found.{Found}
 use Rattle.clap.proofs.SimpleLemmas.{plain_fields}
 use Rattle.clap.proofs.WalkLemmas.{both, one_text-rows}
 use Rattle.attrd.specs.CommandLine.{command_line}
-use Rattle.attrd.specs.Options.{IsFlag, IsWhole, SpellsUpTo, max_connections, max_keep, max_slice}
+use Rattle.attrd.specs.Options.{IsFlag, IsWhole, SpellsUpTo, max_connections, max_keep, max_nodes_asked, max_slice}
 use Rattle.attrd.proofs.Entries.{IsValue, each_of, needs_value, plain_command, required_there, requires, rule_passes, value_of, value_there}
 
 -- ---- how a value reads
@@ -105,6 +105,7 @@ pub record IsFit (s : Shape) : Type 0 where
   pub connections : each_of (codes "connections") (λ r. is_range max_connections (parser_of_value r.parser)) s.rules ≡ true
   pub slice : each_of (codes "slice") (λ r. is_range max_slice (parser_of_value r.parser)) s.rules ≡ true
   pub keep : each_of (codes "keep") (λ r. is_range max_keep (parser_of_value r.parser)) s.rules ≡ true
+  pub nodes : each_of (codes "nodes") (λ r. is_range max_nodes_asked (parser_of_value r.parser)) s.rules ≡ true
   pub cut_off : each_of (codes "cut-off") (λ r. is_bool (parser_of_value r.parser)) s.rules ≡ true
   pub gather : each_of (codes "gather") (λ r. is_bool (parser_of_value r.parser)) s.rules ≡ true
   pub work : each_of (codes "work") (λ r. is_bool (parser_of_value r.parser)) s.rules ≡ true
@@ -113,10 +114,10 @@ pub record IsFit (s : Shape) : Type 0 where
   pub aspects : each_of (codes "ASPECT") needs_value s.rules ≡ true
 
 fit_before : IsFit command_line.top
-fit_before = record { plain = refl; connections = refl; slice = refl; keep = refl; cut_off = refl; gather = refl; work = refl; grammar = refl; tree = refl; aspects = refl }
+fit_before = record { plain = refl; connections = refl; slice = refl; keep = refl; nodes = refl; cut_off = refl; gather = refl; work = refl; grammar = refl; tree = refl; aspects = refl }
 
 fit_built : IsFit (built command_line).top
-fit_built = record { plain = refl; connections = refl; slice = refl; keep = refl; cut_off = refl; gather = refl; work = refl; grammar = refl; tree = refl; aspects = refl }
+fit_built = record { plain = refl; connections = refl; slice = refl; keep = refl; nodes = refl; cut_off = refl; gather = refl; work = refl; grammar = refl; tree = refl; aspects = refl }
 
 -- a number that is there is spelled within its range
 number_there : (c : Command) (f : Found) (id : Text) (most : ℕ) → ValuesPass c f → groups_of c ≡ [] → (id ≡ [] → ⊥)
@@ -146,6 +147,7 @@ whole_rows old new m same fit builds parses =
       connections = number_there new f (codes "connections") max_connections values none (λ e. cc) fit.connections;
       slice = number_there new f (codes "slice") max_slice values none (λ e. cc) fit.slice;
       keep = number_there new f (codes "keep") max_keep values none (λ e. cc) fit.keep;
+      nodes = number_there new f (codes "nodes") max_nodes_asked values none (λ e. cc) fit.nodes;
       cut_off = flag_there new f (codes "cut-off") values none (λ e. cc) fit.cut_off;
       gather = flag_there new f (codes "gather") values none (λ e. cc) fit.gather;
       work = flag_there new f (codes "work") values none (λ e. cc) fit.work;

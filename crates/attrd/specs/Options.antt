@@ -5,6 +5,7 @@ use Rattle.std.specs.Option.{option_map_or}
 use Rattle.std.specs.Str.{bytes_eq}
 use Rattle.std.specs.Str.Parse.{IsNumeral, digits_value, without_leading_plus}
 use Rattle.std.specs.String.{string_bytes}
+use Rattle.at_model.specs.Edits.{max_nodes}
 use Rattle.clap.specs.Words.{Row, Text, all_of, first_of, found_of, matches_of, one_of, rows_of}
 use Rattle.clap.specs.Words.{takes}
 use Rattle.clap.specs.declared.parser.matches.ArgMatches.{ArgMatches}
@@ -23,6 +24,10 @@ max_slice = 1000000
 abbrev pub max_keep : ℕ
 max_keep = 1000000000
 
+-- the most nodes of a tree that can be asked for
+abbrev pub max_nodes_asked : ℕ
+max_nodes_asked = max_nodes
+
 -- one at least, and so many at most
 abbrev pub IsUpTo : ℕ → ℕ → Type 0
 IsUpTo most n = (1 ≤ n) × (n ≤ most)
@@ -30,7 +35,7 @@ IsUpTo most n = (1 ≤ n) × (n ≤ most)
 -- it can be served: there is an aspect file, and the numbers of connections, of turns and of values to be kept are in range
 abbrev pub IsUsable : Options → Type 0
 IsUsable o = (0 < length o.aspects.items) × IsUpTo max_connections o.connections × IsUpTo max_slice o.slice
-    × IfSome o.keep (IsUpTo max_keep)
+    × IfSome o.keep (IsUpTo max_keep) × IfSome o.nodes (IsUpTo max_nodes_asked)
 
 -- no bound is asked for where what an edit may have changed is kept
 abbrev pub IsApart : Options → Type 0
@@ -60,6 +65,7 @@ pub record HasValues (rows : List Row) (o : Options) : Type 0 where
   pub connections : o.connections ≡ number_asked (one_of (codes "connections") rows)
   pub slice : o.slice ≡ number_asked (one_of (codes "slice") rows)
   pub keep : o.keep ≡ option_map number (one_of (codes "keep") rows)
+  pub nodes : o.nodes ≡ option_map number (one_of (codes "nodes") rows)
   pub cut_off : o.cut_off ≡ is_set (one_of (codes "cut-off") rows)
   pub gather : o.gather ≡ is_set (one_of (codes "gather") rows)
   pub work : o.work ≡ is_set (one_of (codes "work") rows)
@@ -92,6 +98,7 @@ pub record IsWhole (rows : List Row) : Type 0 where
   pub connections : IfSome (one_of (codes "connections") rows) (SpellsUpTo max_connections)
   pub slice : IfSome (one_of (codes "slice") rows) (SpellsUpTo max_slice)
   pub keep : IfSome (one_of (codes "keep") rows) (SpellsUpTo max_keep)
+  pub nodes : IfSome (one_of (codes "nodes") rows) (SpellsUpTo max_nodes_asked)
   pub cut_off : IfSome (one_of (codes "cut-off") rows) IsFlag
   pub gather : IfSome (one_of (codes "gather") rows) IsFlag
   pub work : IfSome (one_of (codes "work") rows) IsFlag

@@ -11,7 +11,9 @@
 //! `at_engine`'s `run`, each in the state in which the one before it has left the engine. Nothing else is written.
 #![tactic(auto)]
 
-ghost use Rattle.std.specs.Prelude.{◌≡◌, None, IfSome, option_map};
+ghost use Rattle.std.specs.Prelude.{◌≡◌, None, IfOk, IfSome, option_map};
+ghost use Rattle.std.specs.Option.{unwrap_or};
+ghost use Rattle.at_model.specs.Edits.{usual_nodes};
 ghost use Rattle.at_cache.specs.Bound.{kept_by};
 ghost use Rattle.at_cache.specs.Kept.{KeepsAll};
 ghost use Rattle.at_engine.specs.Engines.{IsSound, KeepsNothing};
@@ -25,7 +27,7 @@ mod socket;
 
 use at_cache::{KeepAtMost, KeepCutOff, KeepRecorded, Keeper};
 use at_engine::{Engine, Output, Watched};
-use at_start::{Files, MAX_FILE, Source, StartFault, answer, start_with};
+use at_start::{Files, MAX_FILE, Source, StartFault, USUAL_NODES, answer, start_with, tree_bytes};
 use door::Gathering;
 use failure::{Failure, status, tell};
 use options::{Options, options};
@@ -267,34 +269,46 @@ fn serve_gathering<K: Keeper>(
     serve(engine, &mut door, connections)
 }
 
+/// How many nodes the tree may have.
+fn nodes_asked(options: &Options) -> u32
+    ensures { result ≡ unwrap_or options.now.nodes usual_nodes }
+{
+    options.nodes.unwrap_or(USUAL_NODES)
+}
+
 /// The files that are asked for, read in the order grammar, aspects, tree.
-fn read_files(rt: &HostRuntime, options: &Options) -> Result<Files, Failure> {
-    let grammar = read_file(rt, &options.grammar)?;
+fn read_files(rt: &HostRuntime, options: &Options) -> Result<Files, Failure>
+    ensures nodes { IfOk result (λ files. files.nodes ≡ unwrap_or options.now.nodes usual_nodes) }
+{
+    let grammar = read_file(rt, &options.grammar, MAX_FILE)?;
     let mut aspects = Vec::new(rt.alloc());
     for name in &options.aspects {
-        aspects.push(read_file(rt, name)?)?;
+        aspects.push(read_file(rt, name, MAX_FILE)?)?;
     }
-    let tree = read_file(rt, &options.tree)?;
+    let nodes = nodes_asked(options);
+    let tree = read_file(rt, &options.tree, tree_bytes(nodes))?;
     Ok(Files {
         grammar,
         tree,
         aspects,
+        nodes,
     })
 }
 
-/// The file of that name, and one byte more at most than a file may have.
-fn read_file(rt: &HostRuntime, name: &str) -> Result<Source, Failure> {
+/// The file of that name, and one byte more at most than it may have.
+fn read_file(rt: &HostRuntime, name: &str, most: usize) -> Result<Source, Failure> {
     let name = String::from_str(rt.alloc(), name)?;
     let mut bytes = Vec::new(rt.alloc());
-    match read_bytes(rt, name.as_str(), &mut bytes) {
+    match read_bytes(rt, name.as_str(), most, &mut bytes) {
         Ok(()) => Ok(Source { name, bytes }),
         Err(e) if e.kind() == ErrorKind::OutOfMemory => Err(Failure::Memory),
         Err(_) => Err(Failure::File { name }),
     }
 }
 
-fn read_bytes(rt: &HostRuntime, name: &str, bytes: &mut Vec<u8>) -> io::Result<()> {
+fn read_bytes(rt: &HostRuntime, name: &str, most: usize, bytes: &mut Vec<u8>) -> io::Result<()> {
     let file = File::open(rt, name)?;
-    file.take(MAX_FILE as u64 + 1).read_to_end(bytes)?;
+    file.take((most as u64).saturating_add(1))
+        .read_to_end(bytes)?;
     Ok(())
 }

@@ -19,6 +19,8 @@ pub struct Options {
     pub slice: u32,
     /// How many values an edit may find kept without that all are forgotten; any number where there is none.
     pub keep: Option<u32>,
+    /// How many nodes the tree may have: 1 to 16,777,216.
+    pub nodes: Option<u32>,
     /// Whether what an edit may have changed is kept until it is known that it did.
     pub cut_off: bool,
     /// Whether replies to lines that come together are sent on together.

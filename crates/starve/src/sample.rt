@@ -6,7 +6,7 @@ ghost use Rattle.at_engine.specs.Engines.{IsSound, KeepsNothing};
 use crate::telling::Stop;
 use at_cache::Keeper;
 use at_engine::Engine;
-use at_start::{Files, Source, StartFault, start_with};
+use at_start::{Files, Source, StartFault, USUAL_NODES, start_with};
 use std::alloc::{AllocError, Global};
 
 const GRAMMAR: &str = "Program ::= Block;
@@ -180,6 +180,7 @@ fn files(alloc: Global) -> Result<Files, AllocError> {
         grammar: source(alloc, "calc.ast", GRAMMAR)?,
         tree: source(alloc, "tree.txt", TREE)?,
         aspects,
+        nodes: USUAL_NODES,
     })
 }
 

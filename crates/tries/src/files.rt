@@ -13,7 +13,7 @@ use at_class::{ClassFault, ClassTable, are_named};
 use at_grammar::{AstFault, parse_ast};
 use at_jrag::{Aspect, JragFault, parse_jrag};
 use at_rules::Rules;
-use at_store::{LoadFault, Store};
+use at_store::{LoadFault, Store, USUAL_NODES};
 use at_tree::tree::{ReadFault, Tree, read_tree};
 use at_typing::{RuleFault, build};
 use std::alloc::Global;
@@ -47,7 +47,7 @@ pub fn load(alloc: Global, grammar: &str, aspects: &str, tree: &str) -> Result<W
 {
     let rules = rules(alloc, grammar, aspects)?;
     let tree = tree_of(alloc, rules.classes(), tree)?;
-    match Store::load(alloc, rules.classes(), tree) {
+    match Store::load(alloc, rules.classes(), tree, USUAL_NODES as usize) {
         Ok(store) => Ok(World {
             alloc,
             rules,

@@ -3,14 +3,12 @@ use Rattle.std.proofs.lemmas.Result.{err_from_is_err_and}
 use Rattle.at_model.specs.Classes.{Classes}
 use Rattle.at_model.specs.Terms.{term_of}
 use Rattle.at_model.specs.Trees.{conforms}
-use Rattle.at_model.specs.Edits.{is_within_limits}
 use Rattle.at_model.specs.Rules.{Rules}
-use Rattle.at_model.specs.Machine.{State}
 use Rattle.at_store.specs.Loading.{IsNotLoaded}
 use Rattle.at_store.specs.declared.edit.LoadFault.{LoadFault}
 use Rattle.at_tree.specs.TreeView.{tree_view}
 use Rattle.at_start.specs.AspectFiles.{GivesRules, IsAspectFault}
-use Rattle.at_start.specs.Files.{IsText}
+use Rattle.at_start.specs.Files.{IsText, tree_bytes}
 use Rattle.at_start.specs.GrammarFiles.{GivesClasses, IsGrammarFault}
 use Rattle.at_start.specs.Starts.{aspect_bytes, IsStartFault}
 use Rattle.at_start.specs.TreeFiles.{IsTreeFault, IsTermFile, no_room}
@@ -38,8 +36,8 @@ returns-in-Err-tree_of-clause-refused g c =
     let files = c.args.files.now in
     let given = subst (λ (b : List ℕ). GivesClasses b c.in-Ok.classes) c.deref.ensures.value c.in-Ok.ensures.given in
     let rules = subst (λ (s : List Source). GivesRules c.in-Ok.classes (aspect_bytes s) c.in_ok-rules.rules) c.deref-2.ensures.value c.in_ok-rules.ensures.given in
-    let there = subst (λ (k : Classes). IsTreeFault k c.deref-3.result.now c.in-Err-tree_of.fault) (c.classes.ensures ∙ c.in_ok-rules.ensures.classes) c.in-Err-tree_of.ensures.refused in
-    let fault = subst (λ (b : List ℕ). IsTreeFault c.in-Ok.classes b c.in-Err-tree_of.fault) c.deref-3.ensures.value there in
+    let there = subst (λ (k : Classes). IsTreeFault k files.nodes c.deref-3.result.now c.in-Err-tree_of.fault) (c.classes.ensures ∙ c.in_ok-rules.ensures.classes) c.in-Err-tree_of.ensures.refused in
+    let fault = subst (λ (b : List ℕ). IsTreeFault c.in-Ok.classes files.nodes b c.in-Err-tree_of.fault) c.deref-3.ensures.value there in
     let count : c.len-file.result ≡ length files.aspects.items = omega (arith, c.len-file.ensures, files.aspects.ok.0) in
     rw (c.of_tree.ensures, count) (tree_refuses files c.in-Ok.classes c.in_ok-rules.rules c.in-Err-tree_of.fault given rules fault)
 
@@ -51,8 +49,8 @@ returns-in-Err-Limit-clause-refused g c =
     let same = c.classes.ensures ∙ c.in_ok-rules.ensures.classes in
     let given = subst (λ (b : List ℕ). GivesClasses b c.in-Ok.classes) c.deref.ensures.value c.in-Ok.ensures.given in
     let rules = subst (λ (s : List Source). GivesRules c.in-Ok.classes (aspect_bytes s) c.in_ok-rules.rules) c.deref-2.ensures.value c.in_ok-rules.ensures.given in
-    let load = subst (λ (f : LoadFault). IsNotLoaded c.in_ok-rules.rules.classes t f) c.in-Err-Limit.field-0-is c.in-Err-Limit.ensures.refused in
-    let text = subst IsText c.deref-3.ensures.value c.in-Ok-tree_of.ensures.text in
+    let load = subst (λ (f : LoadFault). IsNotLoaded c.in_ok-rules.rules.classes files.nodes t f) c.in-Err-Limit.field-0-is c.in-Err-Limit.ensures.refused in
+    let text = subst (IsText (tree_bytes files.nodes)) c.deref-3.ensures.value c.in-Ok-tree_of.ensures.text in
     let there = subst (λ (b : List ℕ). IsTermFile b (term_of c.classes.result.now t)) c.deref-3.ensures.value c.in-Ok-tree_of.ensures.written in
     let written = subst (λ (k : Classes). IsTermFile bytes (term_of k t)) same there in
     let whole = subst (λ (k : Classes). conforms k t 0 ≡ true) same c.in-Ok-tree_of.ensures.whole in
@@ -74,17 +72,15 @@ returns-in-Ok-new-clause-started g c =
     let given = subst (λ (b : List ℕ). GivesClasses b c.in-Ok.classes) c.deref.ensures.value c.in-Ok.ensures.given in
     let read = subst (λ (s : List Source). GivesRules c.in-Ok.classes (aspect_bytes s) c.in_ok-rules.rules) c.deref-2.ensures.value c.in_ok-rules.ensures.given in
     let rules = subst (λ (r : Rules). GivesRules c.in-Ok.classes (aspect_bytes files.aspects.items) r) (sym c.in-Ok-new.ensures.rules) read in
-    let text = subst IsText c.deref-3.ensures.value c.in-Ok-tree_of.ensures.text in
+    let text = subst (IsText (tree_bytes files.nodes)) c.deref-3.ensures.value c.in-Ok-tree_of.ensures.text in
     let there = subst (λ (b : List ℕ). IsTermFile b (term_of c.classes.result.now t)) c.deref-3.ensures.value c.in-Ok-tree_of.ensures.written in
     let written = subst (λ (k : Classes). IsTermFile bytes (term_of k t)) same there in
     let whole = subst (λ (k : Classes). conforms k t 0 ≡ true) same c.in-Ok-tree_of.ensures.whole in
-    let sound = returns-in-Ok-new-clause-ready g c in
-    let within = subst (λ (s : State). is_within_limits s.tree ≡ true) c.in-Ok-new.ensures.first sound.held.idle.limits in
     record {
       classes = c.in-Ok.classes;
       grammar = given;
       aspects = rules;
       opened = t;
-      tree = record { text = text; written = written; whole = whole; within = within };
+      tree = record { text = text; written = written; whole = whole; within = c.in-Ok-new.ensures.within };
       state_is = c.in-Ok-new.ensures.first;
     }

@@ -6,7 +6,7 @@ ghost use Rattle.clap.specs.Words.{all_of, app_of, first_of, kind_of, matches_of
 ghost use Rattle.clap.specs.declared.error.ErrorKind.TheVariants.{OutOfMemory};
 ghost use Rattle.attrd.specs.CommandLine.{command_line, rule, with_words};
 ghost use Rattle.attrd.specs.Options.{Asks, HasValues, IsApart, IsFlag, IsUsable, IsWhole, SpellsUpTo};
-ghost use Rattle.attrd.specs.Options.{are_both, is_set, max_connections, max_keep, max_slice, number, number_asked, rows_found};
+ghost use Rattle.attrd.specs.Options.{are_both, is_set, max_connections, max_keep, max_nodes_asked, max_slice, number, number_asked, rows_found};
 ghost use Rattle.attrd.specs.declared.options.WordsFault.TheVariants.{Memory};
 
 use super::{Options, WordsFault};
@@ -30,8 +30,11 @@ const MAX_SLICE: u32 = 1_000_000;
 /// The greatest number of values to be kept that can be asked for.
 const MAX_KEEP: u32 = 1_000_000_000;
 
+/// The most nodes of a tree that can be asked for.
+const MAX_NODES: u32 = 16_777_216;
+
 /// The program's version, which the file `VERSION` holds, too.
-const VERSION: &str = "0.26";
+const VERSION: &str = "0.27";
 
 /// What stands below the words in the help: a session, and the commands.
 const HELP: &str = "A session:
@@ -104,6 +107,14 @@ const WORDS: &[Word] = &[
         value: "N",
         parser: ValueParser::Signed(1, MAX_KEEP as i64),
         help: "Forgets all kept values at an edit that finds more than N: 1 to 1000000000 [default: no bound]",
+    },
+    Word {
+        name: "nodes",
+        is_option: true,
+        most: 1,
+        value: "N",
+        parser: ValueParser::Signed(1, MAX_NODES as i64),
+        help: "How many nodes the tree may have: 1 to 16777216 [default: 65536]",
     },
     Word {
         name: "cut-off",
@@ -242,6 +253,7 @@ fn options_of(alloc: Global, matches: &ArgMatches<'_>) -> Result<Options, AllocE
         connections: connections_of(matches),
         slice: slice_of(matches),
         keep: keep_of(matches),
+        nodes: nodes_of(matches),
         cut_off: has_flag(matches, "cut-off"),
         gather: has_flag(matches, "gather"),
         work: has_flag(matches, "work"),
@@ -283,6 +295,14 @@ fn keep_of(matches: &ArgMatches<'_>) -> Option<u32>
     ensures { result ≡ option_map number (one_of (codes "keep") (rows_found matches.now)) }
 {
     matches.get_one::<u32>("keep")
+}
+
+/// How many nodes the tree may have, where that is asked for.
+fn nodes_of(matches: &ArgMatches<'_>) -> Option<u32>
+    requires { IfSome (one_of (codes "nodes") (rows_found matches.now)) (SpellsUpTo max_nodes_asked) }
+    ensures { result ≡ option_map number (one_of (codes "nodes") (rows_found matches.now)) }
+{
+    matches.get_one::<u32>("nodes")
 }
 
 /// Whether the flag is there.

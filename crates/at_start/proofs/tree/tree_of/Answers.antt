@@ -3,12 +3,14 @@ use Rattle.at_model.specs.Trees.{conforms}
 use Rattle.at_tree.specs.ReadTrees.{IsUnread}
 use Rattle.at_tree.specs.TreeView.{tree_view}
 use Rattle.at_tree.specs.declared.tree.reading.ReadFault.{ReadFault}
+use Rattle.at_start.specs.Files.{IsNoText, IsText}
+use Rattle.at_start.specs.declared.code.Code.TheVariants as code
 use Rattle.at_start.specs.TreeFiles.{IsWithoutNewline, no_text}
 use Rattle.at_start.proofs.TermFiles.{is_tree_file, no_term_read, no_class_read, no_fit_read}
 use Rattle.at_start.proofs.tree.tree_of.Goals as goal
 
 pub returns-in-Err-clause-refused : goal.returns-in-Err-clause-refused
-returns-in-Err-clause-refused c = no_text c.in-Err.code c.in-Err.ensures
+returns-in-Err-clause-refused c = no_text c.in-Err.code (subst (λ (m : ℕ). IsNoText m c.args.bytes.now code.TreeLimit code.TreeSyntax c.in-Err.code) c.tree_bytes.ensures c.in-Err.ensures)
 
 pub returns-in-Ok-read_tree-clause-written : goal.returns-in-Ok-read_tree-clause-written
 returns-in-Ok-read_tree-clause-written c =
@@ -23,18 +25,18 @@ returns-in-Err-Syntax-clause-refused c =
     let file = subst (λ (x : List ℕ). IsWithoutNewline x c.without_newline.result.now) c.in-Ok.ensures.1 c.without_newline.ensures in
     let at_start = subst (λ (b : ℕ). IsUnread c.args.classes.now c.without_newline.result.now b c.in-Err-Syntax.field-0) c.start.ensures.first c.in-Err-Syntax.ensures.refused in
     let none = subst (λ (f : ReadFault). IsUnread c.args.classes.now c.without_newline.result.now 0 f) c.in-Err-Syntax.field-0-is at_start in
-    no_term_read c.args.classes.now c.args.bytes.now c.without_newline.result.now _ c.in-Ok.ensures.0 file none
+    no_term_read c.args.classes.now c.args.nodes c.args.bytes.now c.without_newline.result.now _ (subst (λ (m : ℕ). IsText m c.args.bytes.now) c.tree_bytes.ensures c.in-Ok.ensures.0) file none
 
 pub returns-in-Err-Class-clause-refused : goal.returns-in-Err-Class-clause-refused
 returns-in-Err-Class-clause-refused c =
     let file = subst (λ (x : List ℕ). IsWithoutNewline x c.without_newline.result.now) c.in-Ok.ensures.1 c.without_newline.ensures in
     let at_start = subst (λ (b : ℕ). IsUnread c.args.classes.now c.without_newline.result.now b c.in-Err-Class.field-0) c.start.ensures.first c.in-Err-Class.ensures.refused in
     let none = subst (λ (f : ReadFault). IsUnread c.args.classes.now c.without_newline.result.now 0 f) c.in-Err-Class.field-0-is at_start in
-    no_class_read c.args.classes.now c.args.bytes.now c.without_newline.result.now c.in-Ok.ensures.0 file none
+    no_class_read c.args.classes.now c.args.nodes c.args.bytes.now c.without_newline.result.now (subst (λ (m : ℕ). IsText m c.args.bytes.now) c.tree_bytes.ensures c.in-Ok.ensures.0) file none
 
 pub returns-in-Err-Fit-clause-refused : goal.returns-in-Err-Fit-clause-refused
 returns-in-Err-Fit-clause-refused c =
     let file = subst (λ (x : List ℕ). IsWithoutNewline x c.without_newline.result.now) c.in-Ok.ensures.1 c.without_newline.ensures in
     let at_start = subst (λ (b : ℕ). IsUnread c.args.classes.now c.without_newline.result.now b c.in-Err-Fit.field-0) c.start.ensures.first c.in-Err-Fit.ensures.refused in
     let none = subst (λ (f : ReadFault). IsUnread c.args.classes.now c.without_newline.result.now 0 f) c.in-Err-Fit.field-0-is at_start in
-    no_fit_read c.args.classes.now c.args.bytes.now c.without_newline.result.now c.in-Ok.ensures.0 file none
+    no_fit_read c.args.classes.now c.args.nodes c.args.bytes.now c.without_newline.result.now (subst (λ (m : ℕ). IsText m c.args.bytes.now) c.tree_bytes.ensures c.in-Ok.ensures.0) file none

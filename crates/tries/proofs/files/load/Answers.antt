@@ -1,5 +1,4 @@
 use Rattle.std.proofs.Common.{◌≡◌, ◌∙◌, true, sym, ap, subst}
-use Rattle.at_model.specs.Edits.{is_within_limits}
 use Rattle.at_model.specs.Enduring.{AreTokens}
 use Rattle.at_model.specs.Trees.{Tree, conforms}
 use Rattle.at_store.specs.Shown.{tree}
@@ -14,7 +13,7 @@ returns-in-Ok c =
       formed = c.in_ok-rules.ensures;
       sound = record {
         conform = ap (λ k. conforms k (tree c.in-Ok.store) 0) (sym c.classes-2.ensures) ∙ conform;
-        within = subst (λ (u : Tree). is_within_limits u ≡ true) same c.in-Ok.ensures.within;
+        within = c.in-Ok.ensures.idle.limits;
         tokens = subst AreTokens same c.in_ok-tree.ensures;
       };
     }
