@@ -8,7 +8,9 @@ import sys
 from contextlib import suppress
 from typing import List, Optional
 
-from attrd import KEPT, AttrdError, StartFault, explain, gathering_options, known_options, lasting_options
+from attrd import KEPT, AttrdError, StartFault, explain, gathering_options, kept_for, known_options, lasting_options
+from attrd.lexical import TREE_NODES
+from attrd.server import KEPT_A_NODE
 
 from .journal import SYNCS, JournalFault
 from .program import Unfit
@@ -45,7 +47,9 @@ def options() -> argparse.ArgumentParser:
     reader.add_argument("--half", metavar="SECONDS", type=float, default=30.0,
                         help="ends a client that is silent for so long in the middle of a line (%(default)s)")
     reader.add_argument("--program", default="attrd", help="the program (attrd on the PATH)")
-    reader.add_argument("--keep", metavar="N", type=int, default=KEPT, help="how many values the program keeps at most (%(default)s)")
+    reader.add_argument("--nodes", metavar="N", type=int, default=TREE_NODES, help="how many nodes the tree may have (%(default)s)")
+    reader.add_argument("--keep", metavar="N", type=int,
+                        help=f"how many values the program keeps at most ({KEPT}, and {KEPT_A_NODE} for each node that the tree may have)")
     reader.add_argument("--slice", metavar="N", type=int, default=1, help="turns of open questions behind each line (%(default)s)")
     reader.add_argument("--status", metavar="PATH", help="tells the figures of the hub that serves this socket, and ends")
     reader.add_argument("--json", action="store_true", help="tells them as an object of JSON")
@@ -61,9 +65,12 @@ def _tell_status(given: argparse.Namespace) -> int:
 def _settings(given: argparse.Namespace) -> Settings:
     """Raises AttrdError."""
     known = known_options(given.program)
-    words = [*lasting_options(known, given.keep), *gathering_options(known)]
+    words = [*lasting_options(known, kept_for(given.nodes) if given.keep is None else given.keep), *gathering_options(known)]
+    if given.nodes != TREE_NODES:
+        words += ["--nodes", str(given.nodes)]
     return Settings(given.program, given.files, [*words, "--slice", str(given.slice)], given.socket, given.mode, given.group, given.tcp,
-                    read_token(given.token) if given.token else None, given.state, given.sync, given.clients, given.half)
+                    read_token(given.token) if given.token else None, given.state, given.sync, given.clients, given.half,
+                    given.nodes)
 
 
 def _more_files() -> None:
@@ -73,9 +80,9 @@ def _more_files() -> None:
         resource.setrlimit(resource.RLIMIT_NOFILE, (most, most))
 
 
-def _explained(fault: StartFault, files: List[str]) -> str:
+def _explained(fault: StartFault, given: argparse.Namespace) -> str:
     try:
-        return str(explain(fault, files))
+        return str(explain(fault, given.files, given.nodes))
     except AttrdError:
         return str(fault)
 
@@ -95,7 +102,7 @@ def main(words: Optional[List[str]] = None) -> int:
         _more_files()
         return Service(_settings(given)).run()
     except StartFault as fault:
-        log(Level.ERROR, _explained(fault, given.files))
+        log(Level.ERROR, _explained(fault, given))
         return fault.status if fault.status and fault.status > 0 else LOST
     except Unfit as fault:
         log(Level.ERROR, f"{given.state}: {fault}")

@@ -34,8 +34,9 @@ UNSENT = 1 << 18
 UNREAD_IN_ALL = 1 << 28
 # A term is written anew when the journal has so many edits, or so many bytes.
 JOURNAL_EDITS, JOURNAL_BYTES = 10_000, 1 << 24
-# A term that is longer is refused as a tree's file: the journal goes on behind the one before.
-TERM_BYTES = 4_194_303
+# A term that is longer than the file of a tree, or than so many bytes for each node of it, is refused: the journal goes on behind the
+# one before.
+FILE_BYTES, BYTES_A_NODE = 4_194_304, 64
 # The least time between two starts of the program.
 RESTART_SECONDS = 1.0
 LAST_SECONDS = 5.0
@@ -75,6 +76,11 @@ class Service:
 
     def _on_signal(self, _number: int, _frame: object) -> None:
         self._is_stopping = True
+
+    @property
+    def term_bytes(self) -> int:
+        """How many bytes a term has at most that the program reads as a file, with its newline."""
+        return max(FILE_BYTES, BYTES_A_NODE * self.settings.nodes) - 1
 
     def _start(self) -> None:
         """Starts the program with the tree as it was. Raises AttrdError."""
@@ -199,9 +205,9 @@ class Service:
         self.hub.send(None, SHARED, b"show /", self._take_term)
 
     def _take_term(self, form: bytes) -> None:
-        if self.journal is not None and len(form) - 2 > TERM_BYTES:
+        if self.journal is not None and len(form) - 2 > self.term_bytes:
             # `_is_renewing` stays: it isn't asked for again.
-            log(Level.WARNING, f"the tree has more than {TERM_BYTES:,} bytes: no term is written any more, and the journal goes on")
+            log(Level.WARNING, f"the tree has more than {self.term_bytes:,} bytes: no term is written any more, and the journal goes on")
             return
         self._is_renewing = False
         if self.journal is not None and form.startswith(b"= "):

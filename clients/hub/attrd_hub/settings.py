@@ -4,10 +4,13 @@ from __future__ import annotations
 from dataclasses import dataclass
 from typing import Optional, Sequence
 
+from attrd.lexical import TREE_NODES
+
 
 @dataclass
 class Settings:
-    """The words of the command line. `state` is the journal's folder, where there is one; `half` a time in seconds."""
+    """The words of the command line. `state` is the journal's folder, where there is one; `half` a time in seconds; `nodes` how many nodes
+    the tree may have."""
 
     program: str
     files: Sequence[str]
@@ -21,3 +24,4 @@ class Settings:
     sync: str = "each"
     clients: int = 1_000
     half: float = 30.0
+    nodes: int = TREE_NODES

@@ -3,6 +3,7 @@ from __future__ import annotations
 
 import json
 import os
+import shutil
 import signal
 import socket
 import stat
@@ -210,6 +211,36 @@ class Restarts(unittest.TestCase):
         client = hub.client()
         client.send("0 version", "0 show /Block/Stmt:0")
         self.assertEqual([client.reply(), client.reply()], ["0 ok 11000", '0 = Decl("n10999",Num(1))'])
+
+    def test_a_tree_has_as_many_nodes_as_is_said(self) -> None:
+        """Also behind a restart. The calculator's has eight."""
+        hub = self.hub("--nodes", "9")
+        insert = '0 insert /Block Stmt 0 Decl("y",-)'
+        self.assertEqual([hub.client().ask(insert) for _ in range(2)], ["0 ok 1", "0 refused 12 limit"])
+        hub.kill()
+        hub.start()
+        self.assertEqual([hub.client().ask(it) for it in (insert, "0 drop /Block/Stmt:0", insert)], ["0 refused 12 limit", "0 ok 2", "0 ok 3"])
+
+    def test_a_term_of_more_than_four_megabytes_is_written_and_read_again(self) -> None:
+        hub = self.hub()
+        hub.kill()
+        shutil.rmtree(hub.state)
+        declarations = ['Decl("x",-)'] * 390_000
+        Path(hub.files[1]).write_text(f"Program(Block([{','.join(declarations)}]))\n")
+        hub.words = ("--nodes", "400000")
+        hub.start()
+        self.assertEqual(hub.client().ask('0 token /Block/Stmt:389999 ID "y"'), "0 ok 1")
+        self.assertEqual(hub.kill(signal.SIGTERM), 0)
+        self.assertGreater((hub.state / "tree-1.txt").stat().st_size, 4_194_304)
+        hub.start()
+        self.assertEqual([hub.client().ask(it) for it in ("0 version", "0 show /Block/Stmt:389999")], ["0 ok 1", '0 = Decl("y",-)'])
+
+    def test_a_number_of_nodes_that_is_none(self) -> None:
+        hub = self.hub()
+        hub.kill()
+        status, told = run_hub("--socket", hub.socket, "--nodes", "0", *hub.files)
+        self.assertEqual(status, 2)
+        self.assertIn("0 is not in 1..=16777216", told)
 
     def test_a_journal_that_doesn_t_fit(self) -> None:
         hub = self.hub()

@@ -3,13 +3,14 @@ from __future__ import annotations
 
 import sys
 from pathlib import Path
-from typing import Any, Dict, List, Optional, Sequence
+from typing import Dict, List, Optional, Sequence
 
 from .desk import Program
 from .editor import ERROR, WARNING, Editor
 from .folders import text_of
 from .language import Language
 from .language_files import LanguageFiles, path_of
+from .protocol import Json
 from .workspace import Workspace
 
 SEVERITIES = {ERROR: "error", WARNING: "warning"}
@@ -20,11 +21,11 @@ class Console(Editor):
 
     def __init__(self) -> None:
         super().__init__(sys.stdout.buffer)
-        self.told: Dict[str, List[Dict[str, Any]]] = {}
+        self.told: Dict[str, List[Json]] = {}
 
-    def publish(self, uri: str, version: Optional[int], diagnostics: List[Dict[str, Any]]) -> None:
+    def publish(self, uri: str, version: Optional[int], diagnostics: Sequence[Json]) -> None:
         """Keeps these diagnostics of a file, in the place of all others."""
-        self.told[uri] = diagnostics
+        self.told[uri] = list(diagnostics)
 
     def show(self, kind: int, text: str) -> None:
         """Passes a message over."""
@@ -52,7 +53,7 @@ def check_files(language: Language, program: Program, files: Sequence[Path]) -> 
     return int(any(it["severity"] == ERROR for told in console.told.values() for it in told))
 
 
-def lines_of(name: str, told: List[Dict[str, Any]]) -> List[str]:
+def lines_of(name: str, told: List[Json]) -> List[str]:
     """What is told of a file, each as `FILE:LINE:COLUMN: error: message`; lines and columns count from 1."""
     places = [(it["range"]["start"], SEVERITIES.get(it["severity"], "note"), it["message"]) for it in told]
     return [f"{name}:{start['line'] + 1}:{start['character'] + 1}: {kind}: {message}" for start, kind, message in places]

@@ -6,22 +6,30 @@ more questions sends lines that tick, since the program gives turns behind lines
 from __future__ import annotations
 
 import time
-from dataclasses import dataclass, replace
+from dataclasses import dataclass
 from functools import lru_cache
-from typing import Callable, Dict, Generic, List, Optional, Sequence, Tuple, TypeVar
+from typing import Callable, Dict, FrozenSet, Generic, List, Optional, Sequence, Tuple, TypeVar
 
 import attrd
 from attrd import commands
 from attrd.authoring import Source, Specification
 from attrd.connection import Pending
-from attrd.edits import Edit, Move
-from attrd.lexical import TREE_DEPTH, TREE_NODES
+from attrd.edits import Edit, below
+from attrd.lexical import TREE_DEPTH
 from attrd.replies import Circular, Code, Done, Fault, Memory, Opened, RefusedReply, Value
 
 from .inquiry import Answer, Inquiry, Kept, NoAnswer, Question
 
 T = TypeVar("T")
 Taker = Callable[[Question, Done], None]
+
+
+class TooLarge(attrd.AttrdError):
+    """A tree has more nodes than the program takes."""
+
+    def __init__(self, nodes: int) -> None:
+        super().__init__(f"the file is too large: its tree has more than {nodes:,} nodes")
+
 
 SESSION = 0
 # How many turns the program gives behind each line: a fraction of a millisecond.
@@ -67,6 +75,11 @@ class Desk:
         self.shown: List[Pending] = []
 
     @property
+    def nodes(self) -> int:
+        """How many nodes the program's tree may have."""
+        return self.server.nodes
+
+    @property
     def version(self) -> int:
         """The version of the tree, where all edits are accepted."""
         return (self.server.version or 0) + sum(not it.is_answered for it in self.shown)
@@ -80,18 +93,18 @@ class Desk:
         """Makes this the program's tree, by few edits, which are returned. They go out with the lines that come next.
 
         Raises AttrdError; which tree the program has isn't known then."""
-        if tree.size > TREE_NODES:
-            raise attrd.Refused(Code.LIMIT, "limit", None, f"a tree of {tree.size} nodes")
+        if tree.size > self.nodes:
+            raise TooLarge(self.nodes)
         if tree.depth > TREE_DEPTH:
             raise attrd.TermFault("/", f"the tree is {tree.depth} deep, and {TREE_DEPTH} is the limit")
-        edits = attrd.difference(self.grammar, self.tree, tree)
+        edits = attrd.difference(self.grammar, self.tree, tree, nodes=self.nodes)
         self.shown += self.session.send_all([it.command() for it in edits])
         self.made, self.size = lambda: tree, tree.size
         return edits
 
     def try_tree(self, tree: attrd.Node) -> None:
         """Shows a tree that is only tried. Raises NoAnswer where it is too large, which isn't shown then, and else as `show` does."""
-        if tree.size > TREE_NODES or tree.depth > TREE_DEPTH:
+        if tree.size > self.nodes or tree.depth > TREE_DEPTH:
             raise NoAnswer("the tree has no room for what is tried")
         self.show(tree)
 
@@ -105,10 +118,10 @@ class Desk:
 
         Where the limits of a tree are near, or the node is the root, the whole tree is compared."""
         size = self.size + new.size - old.size
-        if path in ("", "/") or size + new.size > TREE_NODES or max(old.depth, new.depth) + path.count("/") >= TREE_DEPTH:
+        if path in ("", "/") or size + new.size > self.nodes or max(old.depth, new.depth) + path.count("/") >= TREE_DEPTH:
             return self.show(made())
         above = attrd.Path.read(path)
-        edits = [below(above, it) for it in attrd.difference(self.grammar, old, new)]
+        edits = [below(above, it) for it in attrd.difference(self.grammar, old, new, nodes=self.nodes)]
         self.shown += self.session.send_all([it.command() for it in edits])
         self.made, self.size = made, size
         return edits
@@ -166,14 +179,6 @@ class Desk:
         self.server.close()
 
 
-def below(above: attrd.Path, edit: Edit) -> Edit:
-    """The edit of a tree as one of the tree in which that stands at this path."""
-    path = attrd.Path(above.steps + edit.path.steps)
-    if isinstance(edit, Move):
-        return replace(edit, path=path, target=attrd.Path(above.steps + edit.target.steps))
-    return replace(edit, path=path)
-
-
 @lru_cache(maxsize=2)
 def specified(files: Tuple[Source, ...]) -> Specification:
     """What these files declare, the grammar and the aspects."""
@@ -196,16 +201,15 @@ def answer_of(reply: attrd.Reply) -> Answer:
 
 @dataclass(frozen=True)
 class Program:
-    """The program attrd: its file, and how many values it keeps at most, where it has an option for that."""
+    """The program attrd: its file, and how many values it keeps at most, where it has an option for that and a number is given."""
 
     file: str
-    kept: int = attrd.KEPT
+    kept: Optional[int] = None
 
-    def options(self) -> List[str]:
-        """The options with which it is started. Raises AttrdError where it can't be."""
-        known = attrd.known_options(self.file)
-        return [*(["--slice", str(SLICE)] if "--slice" in known else []), *attrd.lasting_options(known, self.kept),
-                *attrd.gathering_options(known)]
+    def options(self, known: FrozenSet[str], size: int) -> List[str]:
+        """The options with which it is started over a tree of that size; `known` are those that it knows."""
+        kept = attrd.kept_for(size) if self.kept is None else self.kept
+        return [*(["--slice", str(SLICE)] if "--slice" in known else []), *attrd.lasting_options(known, kept), *attrd.gathering_options(known)]
 
 
 class Task(Generic[T]):

@@ -1,17 +1,13 @@
 """The editor's end of the conversation: what is written to it."""
 from __future__ import annotations
 
-from functools import lru_cache
-from typing import Any, BinaryIO, Dict, List, Optional
+from typing import Any, BinaryIO, Dict, Optional, Sequence
 
+from .protocol import Json, Told
 from .rpc import ENCODER, Failure, Message, write_content
 
 # The protocol's numbers for kinds of messages and of diagnostics.
 ERROR, WARNING, INFORMATION = 1, 2, 3
-
-
-# What a diagnostic tells.
-PARTS = ("range", "severity", "source", "message")
 
 
 class EditorGone(Exception):
@@ -47,29 +43,13 @@ class Editor:
         """Sends a request, whose answer isn't waited for."""
         self.write({"id": method, "method": method, "params": params})
 
-    def publish(self, uri: str, version: Optional[int], diagnostics: List[Dict[str, Any]]) -> None:
+    def publish(self, uri: str, version: Optional[int], diagnostics: Sequence[Json]) -> None:
         """Has these diagnostics shown for a file, in the place of all others."""
         params: Dict[str, Any] = {"uri": uri} if version is None else {"uri": uri, "version": version}
         front = ENCODER.encode({"jsonrpc": "2.0", "method": "textDocument/publishDiagnostics", "params": params})
-        told = ",".join(map(encoded, diagnostics))
+        told = ",".join([it.text if isinstance(it, Told) else ENCODER.encode(it) for it in diagnostics])
         self.send(f'{front[:-2]},"diagnostics":[{told}]}}}}'.encode())
 
     def show(self, kind: int, text: str) -> None:
         """Has a message shown."""
         self.write({"method": "window/showMessage", "params": {"type": kind, "message": text}})
-
-
-def encoded(told: Dict[str, Any]) -> str:
-    """A diagnostic in JSON. Most are told again and again, at each key."""
-    if tuple(told) != PARTS:
-        return ENCODER.encode(told)
-    start, end = told["range"]["start"], told["range"]["end"]
-    places = start["line"], start["character"], end["line"], end["character"]
-    return encoded_parts(*places, *(told[it] for it in PARTS[1:]))
-
-
-@lru_cache(maxsize=1 << 12)
-def encoded_parts(line: int, character: int, last: int, behind: int, severity: int, source: str, message: str) -> str:
-    """A diagnostic of these parts in JSON."""
-    places = {"start": {"line": line, "character": character}, "end": {"line": last, "character": behind}}
-    return ENCODER.encode(dict(zip(PARTS, (places, severity, source, message))))

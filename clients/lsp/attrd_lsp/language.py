@@ -91,6 +91,10 @@ class Language:
     """The end of the names of files: all of them in one folder are one tree, where the language is `listed`."""
     source: str = "attrd"
     """What diagnostics are said to come from."""
+    again: Mapping[str, Callable[[str], Parsed]] = field(default_factory=dict)
+    """Classes of phrases whose text may be read by itself, each with what reads it. That is asked where a key changes the text between
+    the first and the last character of such a phrase. Where it answers a phrase of that class for all of the text, and no fault, all
+    around it has to be what it was: `parse` would answer the same for the whole."""
 
     def __post_init__(self) -> None:
         """Raises ValueError where the parts don't fit each other."""

@@ -10,7 +10,7 @@ import attrd
 from attrd import authoring
 from attrd.explain import SENTENCES
 
-from .desk import Desk, Program
+from .desk import Desk, Program, TooLarge
 from .editor import ERROR, Editor
 from .language import Language
 from .positions import Span, Text
@@ -57,13 +57,17 @@ class LanguageFiles:
     def opened(self, tree: attrd.Node) -> Desk:
         """A program over the tree, with questions in turns where it has them.
 
-        Raises StartFault, whose file is one of the language or the tree's, and AttrdError."""
-        options = self.program.options()
+        Raises StartFault, whose file is one of the language or the tree's, TooLarge and AttrdError."""
+        known = attrd.known_options(self.program.file)
+        nodes, options = attrd.nodes_of(known), self.program.options(known, tree.size)
+        if tree.size > nodes:
+            raise TooLarge(nodes)
         given: List[Given] = [attrd.Text(it.name, self.texts[it].text) if it in self.texts else it for it in self.language.files]
         checks, why = self.checks()
         counts = [] if checks is None else [checks.aspect]
         try:
-            server = attrd.start(given[0], tree, *given[1:], *counts, program=self.program.file, options=options)
+            server = attrd.start(given[0], tree, *given[1:], *counts, program=self.program.file, options=options,
+                                 nodes=nodes if "--nodes" in known else None)
         except attrd.StartFault as fault:
             fault.file = self.named(fault.file)
             raise

@@ -34,8 +34,8 @@ def command_line(description: str) -> argparse.ArgumentParser:
     """The options that the server of each language has."""
     parser = argparse.ArgumentParser(description=description)
     parser.add_argument("--program", default="attrd", help="the program attrd (found on the PATH if it isn't given)")
-    keep_help = "how many values attrd keeps at most, if it has the option (%(default)s if it isn't given)"
-    parser.add_argument("--keep", type=int, metavar="N", default=attrd.KEPT, help=keep_help)
+    keep_help = f"how many values attrd keeps at most, if it has the option ({attrd.KEPT} if it isn't given, more for a large tree)"
+    parser.add_argument("--keep", type=int, metavar="N", help=keep_help)
     check_help = "tells what is wrong with these files, and serves no editor; the status is 1 where there is an error"
     parser.add_argument("--check", type=Path, nargs="+", metavar="FILE", help=check_help)
     return parser

@@ -1,7 +1,7 @@
 """Diagnostics, symbols and folds of a file, as the editor's protocol has them."""
 from __future__ import annotations
 
-from typing import Dict, Iterator, List, Tuple
+from typing import Dict, Iterator, List, Sequence, Tuple
 
 from .editor import ERROR, INFORMATION, WARNING
 from .positions import Span
@@ -15,7 +15,7 @@ def location_of(project: Project, spot: Spot) -> Json:
     return {"uri": project.uris[spot.file], "range": range_of(project.texts[spot.file], spot.name)}
 
 
-def diagnostics_of(project: Project, file: str) -> List[Json]:
+def diagnostics_of(project: Project, file: str) -> Sequence[Json]:
     """All that is to be told of a file: why nothing is known, where it is open; faults of its syntax, parts that are held, problems."""
     text, reading = project.texts[file], project.source.files[file]
     top = Span(0, len(text.line(0)))
@@ -24,7 +24,8 @@ def diagnostics_of(project: Project, file: str) -> List[Json]:
     told += [(it.span, it.text, ERROR) for it in reading.faults]
     told += [(it.name, held_text(it, is_last_good), INFORMATION) for it, is_last_good in project.source.held(file)]
     told += [(it.span, it.text, ERROR if it.is_error else WARNING) for it in project.problems if it.file == file]
-    return [diagnostic(text, span, message, severity, project.source.language.source) for span, message, severity in told]
+    source = project.source.language.source
+    return [diagnostic(text, span, message, severity, source) for span, message, severity in told]
 
 
 def held_text(spot: Spot, is_last_good: bool) -> str:

@@ -13,7 +13,6 @@ from typing import Dict, List, NamedTuple, Optional, Sequence, Tuple, Union
 
 import attrd
 from attrd import Node
-from attrd.lexical import TREE_NODES
 
 from .positions import Span
 
@@ -95,6 +94,41 @@ def tree_of(kind: str, cells: Sequence[TreeCell]) -> Node:
         return Node(kind, *cells)
 
 
+def moved(it: Phrase, by: int) -> Phrase:
+    """The phrase so many characters further on."""
+    if by == 0:
+        return it
+    children = tuple([(step, moved(child, by)) for step, child in it.children])
+    return it._replace(span=it.span.moved(by), name=None if it.name is None else it.name.moved(by), children=children)
+
+
+def with_child(above: Phrase, index: int, new: Phrase, change: Span, length: int) -> Phrase:
+    """The phrase with another one in the place of that child, where so many characters have come in the place of a change within that."""
+    by = length - (change.end - change.start)
+    step = above.children[index][0]
+    children = [(step, moved(child, by if child.span[0] >= change.end else 0)) for step, child in above.children]
+    children[index] = (step, new)
+    name = None if above.name is None else above.name.behind(change, length)
+    tree = with_tree(above.tree, above.parts, step, new.tree)
+    return above._replace(tree=tree, span=Span(above.span[0], above.span[1] + by), name=name, children=tuple(children))
+
+
+def with_tree(above: Node, parts: Sequence[str], step: str, new: Node) -> Node:
+    """The node with another one just below it, where that step leads; `parts` are the names of its components."""
+    part, _, index = step.partition(":")
+    at, cells = parts.index(part), list(above.cells)
+    among = cells[at]
+    if isinstance(among, tuple) and len(among) > LONGEST_LIST:
+        return above.with_elements(at, int(index), len(among) - int(index) - 1, [new])
+    cells[at] = (*among[: int(index)], new, *among[int(index) + 1 :]) if isinstance(among, tuple) else new
+    return Node(above.name, *cells) if any(map(is_long, cells)) else tree_of(above.name, cells)
+
+
+def is_long(cell: TreeCell) -> bool:
+    """Whether a cell is a list or text of which no more is kept than needed."""
+    return isinstance(cell, tuple) and len(cell) > LONGEST_LIST or isinstance(cell, str) and len(cell) > LONGEST_TEXT
+
+
 def misplaced(top: Phrase, length: int) -> Optional[str]:
     """What is wrong with the places of the phrase and those below it, in a text of that length; None where nothing is.
 
@@ -161,10 +195,8 @@ def misfit(grammar: attrd.Grammar, top: Phrase, wanted: str) -> Optional[str]:
     """Why the tree of the phrase doesn't stand where a node of that class is wanted; None where it does.
 
     That a tree has too many nodes is the program's to tell."""
-    if top.tree.size > TREE_NODES:
-        return None
     try:
-        grammar.check(top.tree, wanted)
+        grammar.check(top.tree, wanted, top.tree.size)
     except attrd.AttrdError as fault:
         return str(fault)
     waiting = [top]

@@ -8,7 +8,7 @@ import bisect
 import re
 from array import array
 from dataclasses import dataclass
-from typing import List, NamedTuple, Optional, Tuple
+from typing import Iterable, Iterator, List, NamedTuple, Optional, Tuple
 
 LINE_END = re.compile(r"\r\n|\n|\r")
 
@@ -71,61 +71,104 @@ def line_starts(text: str) -> List[int]:
     return [0, *(it.end() for it in LINE_END.finditer(text))]
 
 
-@dataclass(frozen=True)
-class Text:
-    """A text that isn't changed, with the offsets at which its lines begin.
+@dataclass(frozen=True, eq=False)
+class Marks:
+    """Offsets in their order. Those of `given` are so, but for those from the index `moved` on: these stand `by` characters further on.
 
-    Those of `marks` are so, but for the lines from `moved` on: these begin `by` characters further on. So a change of the text has only
-    to tell how far all behind it has moved."""
+    So a change of the text has only to tell how far all behind it has moved."""
 
-    text: str
-    marks: "array[int]"
+    given: "array[int]"
     moved: int = 0
     by: int = 0
 
     @classmethod
+    def of(cls, offsets: Iterable[int]) -> Marks:
+        """These offsets."""
+        return cls(array("q", offsets))
+
+    def __len__(self) -> int:
+        return len(self.given)
+
+    def __getitem__(self, index: int) -> int:
+        return self.given[index] + (self.by if index >= self.moved else 0)
+
+    def __iter__(self) -> Iterator[int]:
+        yield from self.given[: self.moved]
+        yield from (it + self.by for it in self.given[self.moved :])
+
+    def __eq__(self, other: object) -> bool:
+        return isinstance(other, Marks) and list(self) == list(other)
+
+    def passed(self, offset: int) -> int:
+        """How many of them aren't behind the offset."""
+        given, moved = self.given, self.moved
+        if moved < len(given) and given[moved] + self.by <= offset:
+            return bisect.bisect_right(given, offset - self.by, moved)
+        return bisect.bisect_right(given, offset, 0, moved)
+
+    def around(self, offset: int) -> Tuple[int, int, Optional[int]]:
+        """The index of the last one that isn't behind the offset, and that one; and the next one, where there is one."""
+        given, moved, by = self.given, self.moved, self.by
+        if moved < len(given) and given[moved] + by <= offset:
+            index = bisect.bisect_right(given, offset - by, moved) - 1
+            return index, given[index] + by, given[index + 1] + by if index + 1 < len(given) else None
+        index = bisect.bisect_right(given, offset, 0, moved) - 1
+        return index, given[index], self[index + 1] if index + 1 < len(given) else None
+
+    def replaced(self, kept: int, come: Iterable[int], behind: int, by: int) -> Marks:
+        """The first ones, as many as are kept, others behind them, and then those from an index on, each so many characters further on."""
+        front, back = self.given[:kept], self.given[behind:]
+        if self.by and self.moved < kept:
+            front[self.moved :] = array("q", [it + self.by for it in front[self.moved :]])
+        elif self.by and self.moved > behind:
+            back[: self.moved - behind] = array("q", [it - self.by for it in back[: self.moved - behind]])
+        front.extend(come)
+        return Marks(front + back, len(front), self.by + by)
+
+
+@dataclass(frozen=True)
+class Text:
+    """A text that isn't changed, with the offsets at which its lines begin."""
+
+    text: str
+    starts: Marks
+
+    @classmethod
     def of(cls, text: str) -> Text:
         """This text."""
-        return cls(text, array("q", line_starts(text)))
-
-    @property
-    def starts(self) -> List[int]:
-        """Where all lines begin."""
-        return [*self.marks[: self.moved], *(it + self.by for it in self.marks[self.moved :])]
-
-    def start(self, number: int) -> int:
-        """Where the line of that number begins."""
-        return self.marks[number] + (self.by if number >= self.moved else 0)
+        return cls(text, Marks.of(line_starts(text)))
 
     def line_at(self, offset: int) -> int:
         """The number of the line in which the offset is."""
-        marks, moved = self.marks, self.moved
-        if moved < len(marks) and marks[moved] + self.by <= offset:
-            return bisect.bisect_right(marks, offset - self.by, moved) - 1
-        return bisect.bisect_right(marks, offset, 0, moved) - 1
+        return self.starts.passed(offset) - 1
 
     def line(self, number: int) -> str:
         """The line of that number, without its end."""
-        end = self.start(number + 1) if number + 1 < len(self.marks) else len(self.text)
-        return self.text[self.start(number) : end].rstrip("\r\n")
+        return self.text[self.starts[number] : self.behind(number)].rstrip("\r\n")
+
+    def behind(self, number: int) -> int:
+        """Where the line behind that of the number begins, or the text ends."""
+        return self.starts[number + 1] if number + 1 < len(self.starts) else len(self.text)
 
     def offset(self, position: Position) -> int:
         """Where the position is. Behind a line's end is its end, and behind the last line the end of the text."""
-        if position.line >= len(self.marks):
+        if position.line >= len(self.starts):
             return len(self.text)
-        return self.start(position.line) + characters(self.line(position.line), position.character)
+        return self.starts[position.line] + characters(self.line(position.line), position.character)
 
     def position(self, offset: int) -> Position:
         """Where the offset is, for the editor."""
         line = self.line_at(offset)
-        return Position(line, units(self.text[self.start(line) : offset]))
+        return Position(line, units(self.text[self.starts[line] : offset]))
 
     def range(self, span: Span) -> Tuple[Position, Position]:
         """Where the span begins and ends, for the editor; most are within a line, which is looked for once then."""
-        start = self.position(span.start)
-        if start.line + 1 < len(self.marks) and self.start(start.line + 1) <= span.end:
-            return start, self.position(span.end)
-        return start, Position(start.line, start.character + units(self.text[span.start : span.end]))
+        start, end = span
+        line, begin, behind = self.starts.around(start)
+        character = units(self.text[begin:start])
+        if behind is not None and behind <= end:
+            return Position(line, character), self.position(end)
+        return Position(line, character), Position(line, character + units(self.text[start:end]))
 
     def changed_span(self, change: Change) -> Span:
         """The stretch that is replaced by the change."""
@@ -142,15 +185,9 @@ class Text:
         text = "".join((self.text[: span.start], new, self.text[span.end :]))
         end = span.start + len(new)
         kept = max(1, self.line_at(span.start - 1) + 1)
-        behind = self.line_at(span.end) + 1
         found = (it.end() for it in LINE_END.finditer(text, max(0, span.start - 1), end + 1))
-        come = array("q", [it for it in found if span.start <= it <= end])
-        front, back, by = self.marks[:kept], self.marks[behind:], self.by + end - span.end
-        if self.moved < kept:
-            front[self.moved :] = array("q", [it + self.by for it in front[self.moved :]])
-        elif self.moved > behind:
-            back[: self.moved - behind] = array("q", [it - self.by for it in back[: self.moved - behind]])
-        return Text(text, front + come + back, len(front) + len(come), by)
+        come = [it for it in found if span.start <= it <= end]
+        return Text(text, self.starts.replaced(kept, come, self.line_at(span.end) + 1, end - span.end))
 
 
 def carried(offset: int, old: str, new: str) -> int:

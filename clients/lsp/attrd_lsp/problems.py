@@ -26,20 +26,43 @@ NEAR = 24
 
 
 class Problem(NamedTuple):
-    """Something is wrong at this stretch of a file; it is an error or a warning, told by an attribute of the node of that path."""
+    """Something is wrong at this stretch of a file; it is an error or a warning, told by an attribute of the node of that path.
+
+    The node stands in the part of that number, at the path that is told last from there."""
 
     text: str
     file: str
     span: Span
     is_error: bool
     path: str
+    number: int
+    below: str
+
+
+class Replaced(NamedTuple):
+    """So many characters have come in the place of a stretch of a file."""
+
+    file: str
+    span: Span
+    length: int
+
+    def carried(self, problems: Iterable[Problem]) -> List[Problem]:
+        """The problems where they are then, but for those whose place is gone."""
+        found = [self.moved(it) if it.file == self.file and it.span.end > self.span.start else it for it in problems]
+        return [it for it in found if it.file != self.file or it.span.start < it.span.end]
+
+    def moved(self, it: Problem) -> Problem:
+        """The problem where its place is then."""
+        return it._replace(span=it.span.behind(self.span, self.length))
 
 
 class Known(NamedTuple):
-    """Where problems were at the last check: the texts of all parts, and by the numbers of those with problems the paths below them."""
+    """Where problems were at the last check: the texts of all parts, and by the numbers of those with problems the paths below them, each
+    with that from the root; and the mark of the files, as they were then."""
 
     texts: Sequence[str] = ()
-    wrong: Mapping[int, Mapping[str, None]] = {}
+    wrong: Mapping[int, Mapping[str, str]] = {}
+    mark: object = None
 
 
 class Edited(NamedTuple):
@@ -79,7 +102,7 @@ def find_problems(source: Source, checks: Diagnostics, known: Known, edited: Seq
     edited since, as far as these are remembered: where they have all that the root counts, nothing else is asked."""
     asking = Asking(source, checks)
     numbers = range(source.count)
-    changed = Changed.of(known, source.texts)
+    changed = Changed.of(known, source)
     fresh, is_fresh = changed.fresh, set(changed.fresh)
     few = fresh if known.texts and len(fresh) <= FRESH else []
     first = yield from asking.first(few)
@@ -109,8 +132,11 @@ class Changed(NamedTuple):
     moved: Dict[int, int]
 
     @classmethod
-    def of(cls, known: Known, texts: Sequence[str]) -> Changed:
-        """What has become of them where the texts of all parts are these now."""
+    def of(cls, known: Known, source: Source) -> Changed:
+        """What has become of them where the files are these now."""
+        step, texts = source.step, source.texts
+        if step is not None and step.before is known.mark:
+            return cls(step.number, len(texts) - step.number - 1, [step.number], {})
         front = common_front(known.texts, texts)
         end = common_end(known.texts, texts, front)
         were = {known.texts[it]: it for it in range(front, len(known.texts) - end)}
@@ -122,19 +148,28 @@ class Changed(NamedTuple):
 def standing_in(source: Source, known: Known, changed: Changed) -> List[Place]:
     """The nodes that had problems: those in parts that are as they were, and by the numbers of their parts those in fresh ones."""
     behind, moved = len(known.texts) - changed.end, source.count - len(known.texts)
-    wrong = [(it if it < changed.front else it + moved, paths) for it, paths in known.wrong.items() if it < changed.front or it >= behind]
+    there = [(it, paths) for it, paths in known.wrong.items() if it < changed.front or it >= behind and moved == 0]
+    found = [Place(number, below, path, phrase) for number, paths in there for below, path, phrase in phrases_at(source, number, paths)]
+    wrong = [(it + moved, paths) for it, paths in known.wrong.items() if it >= behind and moved != 0]
     wrong += [(it, known.wrong.get(old, {})) for it, old in changed.moved.items()]
     wrong += [(it, known.wrong.get(it, {})) for it in changed.fresh]
-    return [it for number, paths in wrong for it in places_of(source, number, paths)]
+    return found + [it for number, paths in wrong for it in places_of(source, number, paths)]
+
+
+def phrases_at(source: Source, number: int, paths: Mapping[str, str]) -> Iterator[Tuple[str, str, Phrase]]:
+    """The phrases of these paths below the part of that number, as far as they are there, each with its paths."""
+    at = source.piece(number).at
+    for below, path in paths.items():
+        phrase = at(below)
+        if phrase is not None:
+            yield below, path, phrase
 
 
 def places_of(source: Source, number: int, paths: Iterable[str]) -> Iterator[Place]:
     """The nodes of these paths below the part of that number, as far as they are there."""
-    front, piece = source.path(number), source.piece(number)
-    for below in paths:
-        phrase = piece.at(below)
-        if phrase is not None:
-            yield Place(number, below, (front + below) or "/", phrase)
+    front = source.path(number)
+    for below, path, phrase in phrases_at(source, number, {it: (front + it) or "/" for it in paths}):
+        yield Place(number, below, path, phrase)
 
 
 def place_of(source: Source, number: int, below: str) -> Optional[Place]:
@@ -201,12 +236,10 @@ def in_order(source: Source, found: List[Problem]) -> List[Problem]:
 
 def known_by(source: Source, found: Iterable[Problem]) -> Known:
     """Where problems are, for the next check."""
-    wrong: Dict[int, Dict[str, None]] = {}
+    wrong: Dict[int, Dict[str, str]] = {}
     for it in found:
-        number, below = source.number(it.path)
-        if number >= 0:
-            wrong.setdefault(number, {})[below] = None
-    return Known(source.texts, wrong)
+        wrong.setdefault(it.number, {})[it.below] = it.path
+    return Known(source.texts, wrong, source.mark)
 
 
 class Asking:
@@ -214,7 +247,7 @@ class Asking:
 
     def __init__(self, source: Source, checks: Diagnostics) -> None:
         self.source, self.count = source, checks.count
-        self.checks = checks
+        self.checks, self.warnings = checks, source.language.warnings
         self.of_kind: Dict[str, Sequence[Check]] = {}
 
     def checks_of(self, kind: str) -> Sequence[Check]:
@@ -286,7 +319,7 @@ class Asking:
     def problem(self, place: Place, check: Check, text: str) -> Problem:
         """The problem with this text at the name of the node, or else at the whole of it."""
         file, span = self.source.stands(place.number, place.phrase.name or place.phrase.span)
-        return Problem(text, file, span, check.name not in self.source.language.warnings, place.path)
+        return Problem(text, file, span, check.name not in self.warnings, place.path, place.number, place.below)
 
 
 def by_ancestors(told: List[Problem]) -> Dict[str, List[Problem]]:

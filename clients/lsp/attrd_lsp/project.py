@@ -9,12 +9,12 @@ from contextlib import suppress
 from dataclasses import dataclass
 from typing import Any, Callable, Deque, Dict, Iterable, List, Optional
 
-from attrd import AttrdError, Code, Edit, Node, Refused, ServerLost, StartFault
+from attrd import AttrdError, Edit, Node, ServerLost
 
-from .desk import Desk, Task
+from .desk import Desk, Task, TooLarge
 from .inquiry import Inquiry, NoAnswer
 from .positions import Change, Span, Text
-from .problems import Edited, Known, Problem, edited_by, find_problems, known_by
+from .problems import Edited, Known, Problem, Replaced, edited_by, find_problems, known_by
 from .reading import Reader, Stretch
 from .renaming import CannotRename
 from .rpc import CONTENT_MODIFIED, REQUEST_FAILED, Failure
@@ -52,7 +52,8 @@ class Project:
         self.uris: Dict[str, str] = {}
         self.versions: Dict[str, int] = {}
         self.source = Source(reader, {})
-        self.problems: List[Problem] = []
+        self.told: List[Problem] = []
+        self.replaced: List[Replaced] = []
         self.known = Known()
         self.edited: List[Edited] = []
         self.trouble: Optional[str] = None
@@ -62,6 +63,20 @@ class Project:
         self.requests: Deque[Request] = deque()
         self.losses = 0
         self.start, self.publish, self.tell = start, publish, tell
+
+    @property
+    def problems(self) -> List[Problem]:
+        """The problems that were told, where they stand in the texts as they are now."""
+        for it in self.replaced:
+            self.told = it.carried(self.told)
+        self.replaced.clear()
+        return self.told
+
+    @problems.setter
+    def problems(self, problems: List[Problem]) -> None:
+        """Has these told."""
+        self.told = problems
+        self.replaced.clear()
 
     @property
     def is_busy(self) -> bool:
@@ -103,14 +118,11 @@ class Project:
             self.publish(self, [name])
 
     def replace(self, name: str, change: Change) -> Span:
-        """Changes the text, in the place of the span that is returned.
-
-        The problems that were told stay where they are in it, but for those whose place is gone."""
+        """Changes the text, in the place of the span that is returned; the problems that were told move with it."""
         text = self.texts[name]
         span = text.changed_span(change)
         self.texts[name] = text.changed(span, change.text)
-        moved = [it if it.file != name or it.span.end <= span.start else moved_behind(it, span, len(change.text)) for it in self.problems]
-        self.problems = [it for it in moved if it.file != name or it.span.start < it.span.end]
+        self.replaced.append(Replaced(name, span, len(change.text)))
         return span
 
     def follow(self, source: Source) -> None:
@@ -129,7 +141,7 @@ class Project:
         step = source.step
         if step is None or step.before is not before.mark:
             return desk.show(source.tree)
-        return desk.show_part(step.path, step.old, step.new, lambda: source.tree)
+        return desk.show_part(source.path(step.number), step.old, step.new, lambda: source.tree)
 
     def give_up(self, failure: Failure) -> None:
         """Ends all that is under way; the requests fail so."""
@@ -213,14 +225,14 @@ class Project:
     def checked(self, problems: List[Problem], trouble: Optional[str]) -> None:
         """The check is over, with these problems, or couldn't be made for that reason."""
         self.known, self.edited = known_by(self.source, problems), []
-        self.problems = [it for it in problems if not self.is_gone(it)]
+        self.problems = [it for it in problems if it.span.start < it.span.end or not self.is_gone(it)]
         self.trouble = trouble
         self.check, self.wants_check, self.losses = None, False, 0
         self.publish(self, self.texts)
 
     def is_gone(self, problem: Problem) -> bool:
-        """Whether the problem's text, of a part that is held, isn't there any more."""
-        spot = self.source.spot(problem.path) if problem.span.start == problem.span.end else None
+        """Whether the problem's text, which is empty now, of a part that is held, isn't there any more."""
+        spot = self.source.spot(problem.path)
         return spot is not None and spot.phrase.span[0] < spot.phrase.span[1]
 
     def lost(self, fault: AttrdError) -> None:
@@ -259,16 +271,10 @@ class Project:
                 desk.close()
 
 
-def moved_behind(problem: Problem, change: Span, length: int) -> Problem:
-    """The problem where its place is when so many characters have come in the place of a change."""
-    text, file, span, is_error, path = problem
-    return Problem(text, file, span.behind(change, length), is_error, path)
-
-
 def trouble_of(fault: AttrdError) -> str:
     """Why nothing can be asked, in a sentence."""
     if isinstance(fault, ServerLost):
         return f"attrd ended: {fault}"
-    if (isinstance(fault, Refused) and fault.code == Code.LIMIT) or (isinstance(fault, StartFault) and fault.code == "F12"):
-        return "the file is too large: its tree has more than 65,536 nodes"
+    if isinstance(fault, TooLarge):
+        return str(fault)
     return f"attrd can't be asked: {fault}"

@@ -2,9 +2,11 @@
 from __future__ import annotations
 
 from enum import IntEnum
+from functools import cached_property, lru_cache
 from typing import Any, Dict
 
 from .positions import Span, Text
+from .rpc import ENCODER
 
 Json = Dict[str, Any]
 
@@ -22,6 +24,23 @@ def range_of(text: Text, span: Span) -> Json:
     return {"start": {"line": line, "character": character}, "end": {"line": last, "character": end}}
 
 
-def diagnostic(text: Text, span: Span, message: str, severity: int, source: str = "attrd") -> Json:
+class Told(Json):
+    """A diagnostic. It isn't changed: most are told again at each key, and are written then as they were."""
+
+    @cached_property
+    def text(self) -> str:
+        """What is written of it."""
+        return ENCODER.encode(self)
+
+
+def diagnostic(text: Text, span: Span, message: str, severity: int, source: str = "attrd") -> Told:
     """A message at a stretch of the text."""
-    return {"range": range_of(text, span), "severity": severity, "source": source, "message": message}
+    start, end = text.range(span)
+    return told_at(*start, *end, message, severity, source)
+
+
+@lru_cache(maxsize=1 << 12)
+def told_at(line: int, character: int, last: int, end: int, message: str, severity: int, source: str) -> Told:
+    """The diagnostic of a place as the editor tells it."""
+    places = {"start": {"line": line, "character": character}, "end": {"line": last, "character": end}}
+    return Told(range=places, severity=severity, source=source, message=message)

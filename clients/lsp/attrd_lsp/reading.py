@@ -4,7 +4,6 @@ A part whose text is as it was is not read again. A part that can't be parsed ke
 nodes stand then where that text went, as far as it can be told. A language that isn't split has one part, the whole file."""
 from __future__ import annotations
 
-import bisect
 import traceback
 from dataclasses import dataclass, field
 from functools import cached_property
@@ -14,10 +13,14 @@ from typing import Dict, List, NamedTuple, Optional, Tuple, TypeVar
 import attrd
 
 from .language import Language
-from .phrases import Fault, Parsed, Phrase, misfit, misplaced
-from .positions import Span, carried
+from .phrases import Fault, Parsed, Phrase, misfit, misplaced, moved, with_child
+from .positions import Marks, Span, carried
 
 T = TypeVar("T")
+# How deep the tree of a part may be of which no more is read than what has changed.
+DEEPEST_AGAIN = 100
+# How many of the phrases around a change are tried to be read by themselves.
+TRIED = 2
 
 
 @dataclass(frozen=True)
@@ -96,6 +99,30 @@ class Reader:
             parsed, trouble = Parsed(None, []), failed(fault)
         return Piece.of(text, parsed if trouble is None else Parsed(None, []), trouble)
 
+    def again(self, old: Piece, text: str, stretch: Stretch) -> Optional[Piece]:
+        """What is read of the text of a part in which a stretch has changed, where a phrase around that can be read by itself and is of the
+        same class again: the innermost one, or the next. None where the text has to be read as a whole."""
+        around = phrases_around(old.phrase, stretch.old) if old.is_good and old.phrase is not None else []
+        if not around or around[0][0].tree.depth > DEEPEST_AGAIN:
+            return None
+        alone = [it for it, (phrase, _) in enumerate(around) if phrase.kind in self.language.again]
+        for last in alone[: -TRIED - 1 : -1]:
+            inner = around[last][0]
+            found = self.read_alone(inner, text[inner.span[0] : inner.span[1] + stretch.moved])
+            if found is not None and found.tree.depth <= DEEPEST_AGAIN:
+                return Piece(text, with_inner(around[: last + 1], found, stretch), (), None)
+        return None
+
+    def read_alone(self, inner: Phrase, text: str) -> Optional[Phrase]:
+        """What is read of the text of a phrase by itself; None where that has a fault, or isn't a phrase of all of it of the same class."""
+        try:
+            found, faults = self.language.again[inner.kind](text)
+        except Exception:  # noqa: BLE001  the whole part is read then, where it is told
+            return None
+        if found is None or faults or found.span != (0, len(text)) or found.kind != inner.kind or misplaced(found, len(text)):
+            return None
+        return None if self.grammar is not None and misfit(self.grammar, found, inner.kind) else found
+
     def trouble_with(self, parsed: Parsed, length: int) -> Optional[str]:
         """Why the parser's answer can't be used; None where it can."""
         found, faults = parsed
@@ -136,6 +163,28 @@ def failed(fault: Exception) -> str:
     return f"the parser fails: {type(fault).__name__}: {fault} ({Path(place.filename).name}, line {place.lineno})"
 
 
+def phrases_around(top: Phrase, change: Span) -> List[Tuple[Phrase, int]]:
+    """The phrases that a change lies within, from the outermost on, each with its index among the children of the one before.
+
+    The first and the last character of each stay."""
+    found: List[Tuple[Phrase, int]] = []
+    waiting = [(0, top)]
+    while waiting:
+        index, it = waiting[0]
+        found.append((it, index))
+        children = enumerate(child for _, child in it.children)
+        waiting = [(at, child) for at, child in children if child.span[0] < change.start and change.end < child.span[1]]
+    return found
+
+
+def with_inner(around: List[Tuple[Phrase, int]], new: Phrase, stretch: Stretch) -> Phrase:
+    """The outermost one of these phrases, with what was read of the innermost one's text in the place of that."""
+    found = moved(new, around[-1][0].span[0])
+    for (above, _), (_, index) in zip(around[-2::-1], around[:0:-1]):
+        found = with_child(above, index, found, stretch.old, stretch.length)
+    return found
+
+
 class Stretch(NamedTuple):
     """A stretch of an old text, and how many characters of the new one have come in its place. All else is alike."""
 
@@ -156,13 +205,13 @@ class Stretch(NamedTuple):
 class Cut(NamedTuple):
     """A text in parts: where each begins, and its text."""
 
-    starts: List[int]
+    starts: Marks
     texts: List[str]
 
 
 def cut_text(text: str, starts: List[int]) -> Cut:
     """The text in the parts that begin there."""
-    return Cut(starts, [text[start:end] for start, end in zip(starts, [*starts[1:], len(text)])])
+    return Cut(Marks.of(starts), [text[start:end] for start, end in zip(starts, [*starts[1:], len(text)])])
 
 
 def cut_again(old: Cut, text: str, stretch: Stretch, reader: Reader) -> Tuple[Cut, Tuple[int, int]]:
@@ -172,15 +221,13 @@ def cut_again(old: Cut, text: str, stretch: Stretch, reader: Reader) -> Tuple[Cu
     first = max(text.rfind(it, 0, stretch.old.start) for it in "\r\n") + 1
     ends = [text.find(it, stretch.old.start + stretch.length) for it in "\r\n"]
     last = min([it + 1 for it in ends if it >= 0], default=len(text))
-    moved = stretch.moved
-    kept, behind = bisect.bisect_left(old.starts, first), bisect.bisect_left(old.starts, last - moved)
+    kept, behind = old.starts.passed(first - 1), old.starts.passed(last - stretch.moved - 1)
     come = [first + it for it in reader.starts(text[first:last])]
-    front = max(0, kept - 1)
-    back = [it + moved for it in old.starts[behind:]]
-    between = [*old.starts[front:kept], *come]
-    fresh = [text[start:end] for start, end in zip(between, [*between[1:], *back[:1], len(text)])]
-    starts, texts = [*old.starts[:kept], *come, *back], [*old.texts[:front], *fresh, *old.texts[behind:]]
-    return Cut(starts, texts), (front, len(old.starts) - behind)
+    starts = old.starts.replaced(kept, come, behind, stretch.moved)
+    alike = max(0, kept - 1), len(old.starts) - behind
+    borders = [starts[it] if it < len(starts) else len(text) for it in range(alike[0], kept + len(come) + 1)]
+    fresh = [text[start:end] for start, end in zip(borders, borders[1:])]
+    return Cut(starts, spliced(old.texts, alike, fresh)), alike
 
 
 @dataclass(frozen=True)
@@ -190,13 +237,13 @@ class Reading:
     `pieces` are texts that were read, and `cut` is the text in all its parts, also those of which the tree has nothing; it is None
     where these can't be told. `kept` is how many parts of the front and of the end the reading before had, where that is known."""
 
-    starts: List[int] = field(default_factory=list)
+    starts: Marks = field(default_factory=lambda: Marks.of(()))
     texts: List[str] = field(default_factory=list)
     taken: List[Piece] = field(default_factory=list)
     faults: Tuple[Fault, ...] = ()
     trouble: Optional[str] = None
     pieces: Dict[str, Piece] = field(default_factory=dict)
-    cut: Optional[Cut] = Cut([], [])
+    cut: Optional[Cut] = Cut(Marks.of(()), [])
     kept: Optional[Tuple[int, int]] = None
 
     @property
@@ -233,7 +280,9 @@ def read_file(text: str, old: Reading, reader: Reader, holds: bool = True, stret
     except Exception as fault:  # noqa: BLE001  the language is anybody's
         return unread(old, failed(fault))
     between = texts[ends[0] : len(texts) - ends[1]]
-    new = {it: old.pieces.get(it) or reader.piece(it) for it in between}
+    changed = None if stretch is None else changed_part(old, ends, between, stretch)
+    again = None if changed is None else reader.again(old.taken[ends[0]], between[0], changed)
+    new = {it: again or old.pieces.get(it) or reader.piece(it) for it in between}
     if old.is_whole and not front and all(it.is_good and it.phrase is not None for it in new.values()):
         fresh = [new[it] for it in between]
         pieces = old.pieces if stretch is not None else dict(old.pieces)
@@ -246,8 +295,17 @@ def read_file(text: str, old: Reading, reader: Reader, holds: bool = True, stret
     last = last_good(read, old) if holds else {}
     taken = [it if it.is_good else last.get(number, it) for number, it in enumerate(read)]
     numbers = [number for number, it in enumerate(taken) if it.phrase is not None]
-    chosen = [starts[it] for it in numbers], [texts[it] for it in numbers], [taken[it] for it in numbers]
+    chosen = Marks.of(starts[it] for it in numbers), [texts[it] for it in numbers], [taken[it] for it in numbers]
     return Reading(*chosen, tuple(faults), trouble, pieces, cut)
+
+
+def changed_part(old: Reading, ends: Tuple[int, int], between: List[str], stretch: Stretch) -> Optional[Stretch]:
+    """The stretch that has changed of the one part between the ends; None where it isn't one part, or isn't within it."""
+    if not old.is_whole or len(between) != 1 or len(old.taken) - sum(ends) != 1:
+        return None
+    start = old.starts[ends[0]]
+    inner = stretch.old.moved(-start)
+    return Stretch(inner, stretch.length) if 0 < inner.start and inner.end < len(old.texts[ends[0]]) else None
 
 
 def cut_anew(text: str, old: Reading, reader: Reader, stretch: Optional[Stretch]) -> Tuple[Cut, Tuple[int, int]]:
@@ -273,7 +331,9 @@ def trees_of(pieces: List[Piece]) -> List[attrd.Node]:
 
 def spliced(old: List[T], ends: Tuple[int, int], between: List[T]) -> List[T]:
     """The old list with these elements between so many of its front and so many of its end."""
-    return [*old[: ends[0]], *between, *old[len(old) - ends[1] :]]
+    found = old.copy()
+    found[ends[0] : len(old) - ends[1]] = between
+    return found
 
 
 def replace(pieces: Dict[str, Piece], gone: List[str], new: Dict[str, Piece]) -> None:

@@ -27,10 +27,10 @@ class Spot(NamedTuple):
 
 
 class Step(NamedTuple):
-    """One part of a tree that has changed: the mark of the source before, the path of the part, and its trees before and now."""
+    """One part of a tree that has changed: the mark of the source before, the number of the part, and its trees before and now."""
 
     before: object
-    path: str
+    number: int
     old: Node
     new: Node
 
@@ -62,7 +62,7 @@ class Source:
         front, end = read.kept
         gone, come = (trees_of(it.taken[front : len(it.taken) - end]) for it in (self.files[file], read))
         if len(gone) == len(come) == 1:
-            return Source(self.reader, found.files, Step(self.mark, self.path(self.first[file] + front), gone[0], come[0]))
+            return Source(self.reader, found.files, Step(self.mark, self.first[file] + front, gone[0], come[0]))
         if "tree" in self.__dict__:
             before = self.first[file] + len(self.language.listed.before)
             behind = self.count - self.first[file] - len(self.files[file].taken)
@@ -194,7 +194,7 @@ class Source:
         """The number of the part that begins there or before, and -1 where none does."""
         if file not in self.files:
             return -1
-        index = bisect.bisect_right(self.files[file].starts, offset) - 1
+        index = self.files[file].starts.passed(offset) - 1
         return -1 if index < 0 else self.first[file] + index
 
     def at(self, file: str, offset: int) -> Optional[Spot]:

@@ -3,7 +3,7 @@ from __future__ import annotations
 
 import gc
 from pathlib import Path
-from typing import Any, Dict, Iterable, List, Optional, Tuple
+from typing import Any, Dict, Iterable, Optional, Sequence, Tuple
 
 from attrd import AttrdError
 
@@ -27,7 +27,7 @@ class Workspace:
         self.files, self.editor = files, editor
         self.projects: Dict[str, Project] = {}
         self.stamps: Dict[str, Dict[Path, Stamp]] = {}
-        self.published: Dict[str, List[Json]] = {}
+        self.published: Dict[str, Sequence[Json]] = {}
 
     @property
     def is_busy(self) -> bool:

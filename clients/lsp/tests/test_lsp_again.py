@@ -1,18 +1,22 @@
 """What is kept from key to key, against what is made anew of the same text: parts, trees, places, diagnostics and their JSON."""
+import json
+import os
 import random
 import re
 import tempfile
 import unittest
+from dataclasses import replace
 from pathlib import Path as FilePath
+from unittest import mock
 
 from attrd import Grammar, Move, Node, Path, TermFault, applied, difference
+from attrd.edits import below
 from attrd_lsp.checking import Console
 from attrd_lsp.completing import find_completions
-from attrd_lsp.desk import Program, below
-from attrd_lsp.editor import encoded
+from attrd_lsp.desk import Program
 from attrd_lsp.language_files import LanguageFiles
 from attrd_lsp.outline import diagnostics_of
-from attrd_lsp.phrases import phrase, tree_of
+from attrd_lsp.phrases import Parsed, phrase, tree_of
 from attrd_lsp.positions import Change, Span, Text
 from attrd_lsp.project import Project, Request
 from attrd_lsp.reading import Reader, Stretch, cut_text
@@ -23,6 +27,7 @@ from lsp_support import CLASS_NODES, FILE, LSP, SMALL, Client, Editing, large_cl
 
 SIGNS = ["{", "}", ";", " ", "\n", "\r", "\r\n", "//", "\U0001f600", "", ""]
 WORDS = ["x", "q", "class ", "class", "// class ", "int ", large_class(7), *SIGNS]
+SIZELESS = LSP / "tests" / "sizeless.py"
 LANGUAGE = tutorials()
 GRAMMAR = Grammar.read(LANGUAGE.grammar.read_text("utf-8"))
 READER = Reader(LANGUAGE, GRAMMAR)
@@ -67,12 +72,55 @@ class Readings(unittest.TestCase):
                 source = source.with_file(FILE, text, stretch=stretch)
                 self.compare(source, wanted, text)
 
+    def test_what_is_read_of_a_phrase_alone_is_what_is_read_of_the_part(self):
+        chance = random.Random(3)
+        text, count, whole = large_class(4), 0, 0
+        old = READER.piece(text)
+        for _ in range(4000):
+            start = chance.randint(1, len(text) - 1)
+            span = Span(start, min(len(text), start + chance.choice((0, 0, 0, 1, 1, 2, 7))))
+            new = chance.choice(["a", "q", "1", " ", "\n", ";", "{", "}", "(", ")", "//", "= x", "+", "x; ", "{ }", "show ", "\u00e9", "", "", ""])
+            changed = text[: span.start] + new + text[span.end :]
+            again, wanted = READER.again(old, changed, Stretch(span, len(new))), READER.piece(changed)
+            if again is not None:
+                self.assertEqual((again, again.phrase.tree.size), (wanted, wanted.phrase.tree.size))
+            count, whole = count + (again is not None), whole + wanted.is_good
+            if wanted.is_good and len(changed) < 700:
+                text, old = changed, wanted
+        self.assertGreater(count, 300)
+        self.assertGreater(count, whole * 0.8)
+
+    def test_a_phrase_is_read_alone_only_where_that_is_one_again(self):
+        text = "class A {\n  int x;\n  {\n    show x;\n    { y = (x); }\n  }\n}\n"
+        old = READER.piece(text)
+        self.assertTrue(old.is_good)
+        for at, new, is_again in (("x;\n    {", "xy;\n    {", True), ("show x", "show // x", False), ("ow x", "ow x; show x", True),
+                                  ("ow x;\n", "ow x };\n", False), ("y = (x)", "y = (" + "(" * 300 + "x" + ")" * 301, False),
+                                  ("y = (x)", "y = (" + "(" * 90 + "x" + ")" * 91, True), ("nt x", "n x", True), ("nt x", "nt x y", False)):
+            start = text.index(at)
+            changed = text[:start] + new + text[start + len(at) :]
+            again = READER.again(old, changed, Stretch(Span(start, start + len(at)), len(new)))
+            self.assertEqual(again is not None, is_again, at)
+            if again is not None:
+                self.assertEqual(again, READER.piece(changed))
+
+    def test_a_reader_of_phrases_that_raises_or_errs_is_passed_over(self):
+        def raises(text):
+            raise ValueError(text)
+
+        text = large_class(4)
+        start = text.index("t2 <")
+        changed = text[:start] + "q" + text[start:]
+        for read in (raises, lambda _: Parsed(None, []), lambda _: READER.language.parse(text), lambda it: READER.language.parse("class A { {} }")):
+            reader = Reader(replace(LANGUAGE, again=dict.fromkeys(("Block", "Decl"), read)), GRAMMAR)
+            self.assertIsNone(reader.again(READER.piece(text), changed, Stretch(Span(start, start), 1)))
+
     def compare(self, source, wanted, text):
         """Compares all that was read, and the tree with one that is made anew of its parts."""
         found, other = source.files[FILE], wanted.files[FILE]
         self.assertEqual(found.cut, cut_text(text, class_starts(text)))
         self.assertEqual((found.starts, found.texts, found.faults, found.trouble), (other.starts, other.texts, other.faults, other.trouble))
-        self.assertEqual([it.text for it in found.taken], [it.text for it in other.taken])
+        self.assertEqual([(it.text, it.phrase) for it in found.taken], [(it.text, it.phrase) for it in other.taken])
         self.assertLessEqual(found.pieces.keys(), set(found.cut.texts))
         trees = [it.phrase.tree for name in source.files for it in source.files[name].taken]
         made = Node("Program", [*LANGUAGE.listed.before, *trees])
@@ -146,15 +194,19 @@ class Edits(unittest.TestCase):
             after = before.with_file(FILE, "".join([texts[0], f"class B {{ {{ {' '.join(new)} }} }}\n", texts[2]]))
             step = after.step
             if step is not None:
-                self.assertEqual((step.path, step.before), ("/Kind:5", before.mark))
-                edits = [below(Path.read(step.path), it) for it in difference(GRAMMAR, step.old, step.new)]
+                self.assertEqual((before.path(step.number), step.before), ("/Kind:5", before.mark))
+                edits = [below(Path.read(before.path(step.number)), it) for it in difference(GRAMMAR, step.old, step.new)]
                 self.assertEqual(applied(GRAMMAR, before.tree, edits), after.tree)
                 moves += sum(isinstance(it, Move) for it in edits)
         self.assertGreater(moves, 50)
 
     def test_a_tree_near_its_limit_and_one_too_large(self):
+        """By a program without the option --nodes: the limit is 65,536."""
         console = Console()
-        files = LanguageFiles(Program(program()), LANGUAGE, console)
+        named = mock.patch.dict(os.environ, {"ATTRD": program()})
+        named.start()
+        self.addCleanup(named.stop)
+        files = LanguageFiles(Program(str(SIZELESS)), LANGUAGE, console)
         told = []
         project = Project(files.reader(), files.start, lambda *_: None, told.append)
         self.addCleanup(project.drop_desk)
@@ -295,10 +347,23 @@ class Diagnostics(unittest.TestCase):
 
     def test_the_json_of_a_diagnostic(self):
         project = self.project(SMALL.replace("x + r", 'qé + r').replace("end =", "Circle end ="))
-        for told in diagnostics_of(project, FILE) * 2:
-            self.assertEqual(encoded(told), ENCODER.encode(told))
-            self.assertEqual(encoded({**told, "code": 7}), ENCODER.encode({**told, "code": 7}))
-            self.assertEqual(encoded({**told, "message": 'a "b"\n'}), ENCODER.encode({**told, "message": 'a "b"\n'}))
+        told, again = (diagnostics_of(project, FILE) for _ in range(2))
+        self.assertTrue(told)
+        for one, other in zip(told, again):
+            self.assertIs(one, other)
+            self.assertEqual(json.loads(one.text), one)
+            self.assertEqual(one.text, ENCODER.encode(dict(one)))
+
+    def test_problems_move_with_changes_before_the_next_check(self):
+        project = self.project(SMALL.replace("near = x", "near = q").replace("x + r", "qq + r"))
+        text = project.texts[FILE]
+        self.assertEqual([text.text[it.span.start : it.span.end] for it in project.problems], ["q", "qq"])
+        for word, new in (("Point {", "Punkt {"), ("qq", ""), ("class Circle", "\n\nclass Circle")):
+            text = project.texts[FILE]
+            start = text.text.index(word)
+            project.change(FILE, 7, [Change(text.position(start), text.position(start + len(word)), new)])
+        text = project.texts[FILE].text
+        self.assertEqual([text[it.span.start : it.span.end] for it in project.problems], ["q"])
 
 
 class Lines(unittest.TestCase):

@@ -14,6 +14,11 @@ CONTENT_MODIFIED, CANCELLED, FAILED = -32801, -32800, -32803
 HELD = "can't be parsed: what is told of it goes by its last text that could be"
 
 
+def large(count):
+    """A class with so many statements, each of two nodes, one of which is in a line of its own."""
+    return "class A {{\nshow 2;\n" + "show 1;" * (count - 1) + "}}"
+
+
 class OnTheTutorialsProgram(unittest.TestCase):
     """One server, and a document with the tutorial's program for each test."""
 
@@ -153,11 +158,17 @@ class OnTheTutorialsProgram(unittest.TestCase):
         self.client.write(*(self.document.changed(old, new) for old, new in (("x + r", "a + r"), ("a + r", "b + r"), ("b + r", "c + r"))))
         self.assertEqual(self.document.settled(), ["7:11 no declaration of c"])
 
-    def test_a_tree_that_is_too_large_is_told(self):
-        text = "class A {{\n" + "show 1;" * 32_800 + "}}"
-        document = Editing(self.client, text, self.document.uri + "large.small")
-        self.assertEqual(document.settled(), ["1:1 the file is too large: its tree has more than 65,536 nodes"])
-        self.client.notify("textDocument/didClose", {"textDocument": {"uri": document.uri}})
+    def test_a_tree_of_more_nodes_than_the_usual_is_checked(self):
+        """A file may also grow beyond them while its program runs."""
+        for count in 32_800, 32_764:
+            with self.subTest(count=count):
+                document = Editing(self.client, large(count), f"{self.document.uri}{count}.small")
+                self.assertEqual(document.settled(), [])
+                document.change("show 2;", "show 2; show q + r; show s;")
+                self.assertEqual(document.settled(), ["2:14 no declaration of q", "2:18 no declaration of r", "2:26 no declaration of s"])
+                document.change("show s;", "int s = 3; show s;")
+                self.assertEqual(document.settled(), ["2:14 no declaration of q", "2:18 no declaration of r"])
+                self.client.notify("textDocument/didClose", {"textDocument": {"uri": document.uri}})
 
 
 class OnTheLanguage(unittest.TestCase):
@@ -243,6 +254,22 @@ class OnOptions(unittest.TestCase):
     def test_a_program_that_runs_long_keeps_no_more_than_is_said(self):
         self.assertEqual(self.words(), "--slice 100 --keep 400000")
         self.assertEqual(self.words("--keep", "7"), "--slice 100 --keep 7")
+
+
+class OnSizes(unittest.TestCase):
+    """A program without the option --nodes."""
+
+    def test_a_tree_that_is_too_large_is_told(self):
+        sizeless = str(Path(__file__).resolve().parent / "sizeless.py")
+        told = ["1:1 the file is too large: its tree has more than 65,536 nodes"]
+        with Client(attrd=sizeless, environment={"ATTRD": program()}) as client:
+            self.assertEqual(Editing(client, large(32_800)).settled(), told)
+            document = Editing(client, large(32_763))
+            self.assertEqual(document.settled(), [])
+            document.change("show 2;", "show 2; show 3; show 4; show 5;")
+            self.assertEqual(document.settled(), told)
+            document.change("show 4; show 5;", "")
+            self.assertEqual(document.settled(), [])
 
 
 class OnFaults(unittest.TestCase):

@@ -5,6 +5,7 @@ from typing import Any
 
 from attrd import AttrdError, Node, SyntaxFault, TermFault, commands
 from attrd.grammar import Grammar, Part, Shape, token_fault
+from attrd.lexical import MOST_NODES
 from attrd.terms import read_term
 
 from .mirror import Item, Mirror
@@ -49,7 +50,7 @@ def edit_command(mirror: Mirror, message: Json) -> str:
 def _term(grammar: Grammar, message: Json, wanted: str) -> Node:
     try:
         term = read_term(str(message["term"]).strip())
-        grammar.check(term, wanted)
+        grammar.check(term, wanted, MOST_NODES)
     except (SyntaxFault, TermFault) as fault:
         raise Asked(f"the term doesn't fit: {fault}") from None
     return term

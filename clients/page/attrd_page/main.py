@@ -25,8 +25,8 @@ def options(words: Optional[List[str]] = None) -> argparse.Namespace:
     reader.add_argument("tree", metavar="TREE")
     reader.add_argument("aspects", metavar="ASPECT", nargs="+")
     reader.add_argument("--program", default="attrd", help="the program (attrd on the PATH, where none is given)")
-    reader.add_argument("--keep", metavar="N", type=int, default=KEPT,
-                        help="how many values the program keeps at most, if it has the option (%(default)s where none is given)")
+    reader.add_argument("--keep", metavar="N", type=int,
+                        help=f"how many values the program keeps at most, if it has the option ({KEPT} where none is given, more for large trees)")
     reader.add_argument("--connect", metavar="SOCKET", help="takes the program that runs at this socket already, over these files")
     reader.add_argument("--listen", metavar="SOCKET", help="has other clients speak the server's protocol at this socket, all at once")
     reader.add_argument("--port", type=int, default=0, help="the page's port at 127.0.0.1 (a random one, where none is given)")

@@ -8,7 +8,7 @@ import tempfile
 from pathlib import Path as FilePath
 from typing import Any, Dict, List, Optional, Sequence
 
-from attrd import AttrdError, Grammar, gathering_options, known_options, lasting_options, write_term
+from attrd import AttrdError, Grammar, gathering_options, kept_for, known_options, lasting_options, sizing_options, write_term
 
 from .hub import Hub
 from .page import Page
@@ -16,6 +16,8 @@ from .source import SourceText
 from .upstream import Upstream, connect, start_program
 
 LOOK_SECONDS = 0.5
+# About how few bytes of a tree's file a node takes.
+BYTES_A_NODE = 8
 
 
 class Running:
@@ -76,8 +78,17 @@ async def _upstream(given: argparse.Namespace, files: Sequence[str]) -> Upstream
     if given.connect:
         return await connect(given.connect)
     known = known_options(given.program)
-    options = ["--work", *lasting_options(known, given.keep), *gathering_options(known)]
+    kept = kept_for(_most_nodes(files[1])) if given.keep is None else given.keep
+    options = ["--work", *lasting_options(known, kept), *sizing_options(known), *gathering_options(known)]
     return await start_program(given.program, files, options)
+
+
+def _most_nodes(tree: str) -> int:
+    """About how many nodes a tree of this file has; 0 where it can't be read, which the program tells."""
+    try:
+        return os.path.getsize(tree) // BYTES_A_NODE
+    except OSError:
+        return 0
 
 
 class Watched:

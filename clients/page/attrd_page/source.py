@@ -8,6 +8,7 @@ from typing import Any, Callable, Iterable, List, Optional, Tuple
 
 from attrd import AttrdError, Grammar, Node, Path, difference
 from attrd.grammar import read_file
+from attrd.lexical import MOST_NODES
 from attrd.replies import Ok
 
 from .hub import Hub, Member
@@ -56,7 +57,7 @@ class SourceText:
         self.text, self.fault, self.places, self.tree, self.version = text, "", [], None, None
         try:
             tree, places = self.parser(text)
-            self.grammar.check(tree)
+            self.grammar.check(tree, nodes=MOST_NODES)
             self.places = [(Path.read(path), int(start), int(end)) for path, start, end in places]
         except Exception as fault:
             self.fault = str(fault) or type(fault).__name__
@@ -67,7 +68,7 @@ class SourceText:
     async def send(self, tree: Node, member: Member, hub: Hub, mirror: Mirror) -> bool:
         """Makes the server's tree the one of the text, by few edits; whether no other client came between. Raises ServerLost."""
         version = hub.version
-        edits = difference(self.grammar, mirror.term(mirror.root), tree)
+        edits = difference(self.grammar, mirror.term(mirror.root), tree, nodes=MOST_NODES)
         self.version = version + len(edits)
         replies = await member.replies([(0, f"at {version + at} {it.command()}") for at, it in enumerate(edits)])
         if not all(isinstance(it, Ok) for it in replies):

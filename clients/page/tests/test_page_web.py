@@ -15,6 +15,7 @@ from unittest import mock
 
 from page_support import CLONE, SECONDS, Served, program, until
 
+from attrd import known_options
 from attrd_page.work import Copy, count
 
 
@@ -217,6 +218,24 @@ class Options(unittest.TestCase):
                 for words, wanted in (((), "--work --keep 400000"), (("--keep", "7"), "--work --keep 7")):
                     Served("--program", keeping, *words).close()
                     self.assertEqual(noted.read_text(), wanted)
+
+
+class Sizes(unittest.TestCase):
+    @unittest.skipUnless("--nodes" in known_options(program()), "the program has no option --nodes")
+    def test_a_tree_of_more_nodes_than_the_usual_is_opened_and_edited(self) -> None:
+        def files(folder: Path) -> List[str]:
+            texts = {"row.ast": "Row ::= Item*;\nItem ::= <ID>;\n", "row.txt": "Row([" + ",".join(['Item("a")'] * 66_000) + "])\n",
+                     "row.jrag": "aspect R { syn int Row.many() = getNumItem(); }\n"}
+            for name, text in texts.items():
+                (folder / name).write_text(text)
+            return [str(folder / name) for name in texts]
+
+        served = Served(files=files)
+        self.addCleanup(served.close)
+        client = served.client()
+        self.addCleanup(client.close)
+        client.send("0 ask / many()", '0 insert / Item 66000 Item("b")', "0 ask / many()")
+        self.assertEqual([client.reply() for _ in range(3)], ["0 = 66000", "0 ok 1", "0 = 66001"])
 
 
 class Work(unittest.TestCase):

@@ -8,6 +8,7 @@ from typing import List, Optional
 from . import check_command
 from .errors import AttrdError, StartFault
 from .explain import explain
+from .lexical import TREE_NODES
 from .prompt import Prompt
 
 
@@ -22,6 +23,7 @@ def options(words: Optional[List[str]] = None) -> argparse.Namespace:
     reader.add_argument("--program", default="attrd", help="the program (attrd on the PATH, where none is given)")
     reader.add_argument("--faults", metavar="ATTRIBUTE", action="append", default=[],
                         help="an attribute that tells a fault of its node; then the command 'faults' finds all of them")
+    reader.add_argument("--nodes", metavar="N", type=int, help="how many nodes the tree may have (65536, where none is given)")
     return reader.parse_args(words)
 
 
@@ -33,11 +35,11 @@ def main(words: Optional[List[str]] = None) -> int:
     given = options(words)
     files = [given.grammar, given.tree, *given.aspects]
     try:
-        with Prompt.start(given.grammar, given.tree, given.aspects, given.program, given.faults) as prompt:
+        with Prompt.start(given.grammar, given.tree, given.aspects, given.program, given.faults, given.nodes) as prompt:
             return prompt.run()
     except StartFault as fault:
         try:
-            print(explain(fault, files), file=sys.stderr)
+            print(explain(fault, files, given.nodes or TREE_NODES), file=sys.stderr)
         except AttrdError:
             print(fault, file=sys.stderr)
         return fault.status or 3

@@ -40,10 +40,10 @@ Slot = Union[InPlaceOf, Into]
 
 
 class Builder:
-    """The edits so far, and the tree that they leave."""
+    """The edits so far, and the tree that they leave, which never has more than so many nodes."""
 
-    def __init__(self, grammar: Grammar, tree: Node) -> None:
-        self.grammar = grammar
+    def __init__(self, grammar: Grammar, tree: Node, most: int = TREE_NODES) -> None:
+        self.grammar, self.most = grammar, most
         self.edits: List[Edit] = []
         self.root = Live(tree, None, 0)
         self._nodes = tree.size
@@ -111,7 +111,7 @@ class Builder:
 
     def _add(self, edit: Edit, more: int) -> None:
         self._nodes += more
-        if self._nodes > TREE_NODES:
+        if self._nodes > self.most:
             raise OverLimit
         self.edits.append(edit)
 

@@ -10,7 +10,7 @@ from typing import Callable, Deque, Dict, List, Optional, Sequence, Set, Type, T
 from . import commands
 from .channel import Channel
 from .errors import AttrdError, ConnectionClosed, LineFault, OutOfMemory, ProtocolFault, Refused, ReplyTimeout, ServerLost
-from .lexical import GREATEST_VERSION, LINE_BYTES
+from .lexical import GREATEST_VERSION, LINE_BYTES, TREE_NODES
 from .replies import Code, Done, Memory, Ok, RefusedReply, Reply, read_reply
 from .session import Session
 from .terms import Node
@@ -102,6 +102,7 @@ class Connection:
 
     def __init__(self, channel: Channel) -> None:
         self.version: Optional[int] = None
+        self.nodes = TREE_NODES
         self.started_with: Optional[Node] = None
         self._channel = channel
         self._lock = threading.RLock()

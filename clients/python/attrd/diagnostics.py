@@ -6,18 +6,17 @@ from typing import Dict, Iterable, List, Optional, Sequence, Set, Tuple
 
 from . import commands
 from .connection import Pending
+from .counting import Counting, accessors, free
 from .declarations import Attribute, attributes_of
 from .document import Document
 from .edits import Edit
 from .errors import AspectFault, ProtocolFault
 from .following import followed
-from .grammar import ClassOf, Grammar, Part, Shape
+from .grammar import Grammar
 from .paths import Path, Step
 from .replies import Answer, Circular, Fault, Value
 from .server import Text
 from .terms import Node
-
-FLAT = 16
 
 
 @dataclass(frozen=True)
@@ -70,29 +69,18 @@ class Diagnostics:
             if it.of not in grammar:
                 raise AspectFault(f"{it.of}.{it.name}: there is no class {it.of}")
         self.grammar, self.checks = grammar, tuple(checks)
-        self.count = _free("faultCount", {*taken, *(it.name for it in checks), *_accessors(grammar)})
+        self._taken = {*taken, *(it.name for it in checks), *accessors(grammar)}
+        self.count = free("faultCount", self._taken)
         self._of_class = {it.name: self._checks_of(it.name) for it in grammar}
 
     @property
     def aspect(self) -> Text:
         """The aspect: for each class how many of its checks tell a fault, and how many do below it."""
-        lines = [f"  syn lazy int {it.name}.{self.count}();" for it in self.grammar if it.superclass is None]
-        lines += [f"  eq {it.name}.{self.count}() = {self._equation(it)};" for it in self.grammar if not it.is_abstract]
-        return Text(f"{self.count}.jrag", "aspect FaultCount {\n" + "\n".join(lines) + "\n}\n")
+        counting = Counting(self.grammar, self.count, lambda name: [it.count() for it in self._of_class[name]], self._taken)
+        return Text(f"{self.count}.jrag", "aspect FaultCount {\n" + "\n".join(counting.lines()) + "\n}\n")
 
     def _checks_of(self, name: str) -> Tuple[Check, ...]:
         return tuple(it for it in self.checks if self.grammar.is_below(name, it.of))
-
-    def _equation(self, of: ClassOf) -> str:
-        terms = [it.count() for it in self._of_class[of.name]]
-        terms += [self._below(it) for it in of.parts if it.shape is not Shape.TOKEN]
-        return _sum(terms)
-
-    def _below(self, part: Part) -> str:
-        if part.shape is Shape.LIST:
-            return f"sum (it : get{part.name}List()) {{ it.{self.count}() }}"
-        counted = f"get{part.name}().{self.count}()"
-        return f"(has{part.name}() ? {counted} : 0)" if part.shape is Shape.OPTIONAL else counted
 
     def total(self, document: Document) -> Answer:
         """How many faults the tree has: one question. Raises as `Session.ask`."""
@@ -241,24 +229,6 @@ def _check(attribute: Attribute) -> Check:
     if attribute.parameters:
         raise AspectFault(f"{attribute.of}.{attribute.name} has parameters, so it tells no fault of a node")
     return Check(attribute.of, attribute.name, attribute.kind)
-
-
-def _free(name: str, taken: Set[str]) -> str:
-    count, free = 1, name
-    while free in taken:
-        count, free = count + 1, f"{name}{count + 1}"
-    return free
-
-
-def _accessors(grammar: Grammar) -> Set[str]:
-    return {f"{front}{part.name}{end}" for it in grammar for part in it.own for front in ("get", "has", "getNum") for end in ("", "List")}
-
-
-def _sum(terms: List[str]) -> str:
-    """The sum, in groups, so that it nests no deeper than the server allows."""
-    while len(terms) > FLAT:
-        terms = ["(" + " + ".join(terms[at:at + FLAT]) + ")" for at in range(0, len(terms), FLAT)]
-    return " + ".join(terms) if terms else "0"
 
 
 def _answer(line: Pending) -> Answer:

@@ -2,41 +2,74 @@
 from __future__ import annotations
 
 from dataclasses import dataclass, field
-from typing import Dict, Iterator, List, Optional, Union
+from typing import Any, Dict, Iterator, List, Optional, Sequence, Union
 
 from .building import Builder, InPlaceOf, Into, OverLimit
 from .comparing import Comparison, Kept, ListChange, Pair
 from .costs import Costs
-from .edits import Edit
-from .grammar import Grammar
-from .lexical import LINE_BYTES
+from .edits import Edit, SetToken
+from .grammar import Grammar, Shape
+from .lexical import LINE_BYTES, TREE_NODES
 from .live import Live
 from .moving import Fresh, Moves
+from .paths import Path, Step
+from .sequences import common_end, common_front
 from .terms import Node
 
 # A term of so many bytes fits into a line, whatever its path.
 SET_BYTES = LINE_BYTES * 3 // 4
 
 
-def difference(grammar: Grammar, old: Node, new: Node, costs: Optional[Costs] = None) -> List[Edit]:
+def difference(grammar: Grammar, old: Node, new: Node, costs: Optional[Costs] = None, nodes: int = TREE_NODES) -> List[Edit]:
     """Edits that make the old tree the new one, in their order.
 
-    Both have to fit the grammar (`Grammar.check`). Equal elements stay, one that stands elsewhere in a list is moved, and a
+    Both have to fit the grammar (`Grammar.check`), and no tree between has more than so many nodes. Equal elements stay, one that stands elsewhere in a list is moved, and a
     changed token is a token; an element of a list is never replaced as a whole where an edit below it serves. `costs` decide
     whether many edits below a child are one `set` of it. Terms that are too long for a line come in pieces. Raises LineFault
     where no line is short enough: names or paths of tens of thousands of bytes.
     """
     if old == new:
         return []
+    taken = costs or Costs()
+    token = one_token(grammar, old, new) if taken.token <= taken.of_set(1) else None
+    if token is not None:
+        return [token]
     if old.name == new.name:
         for moving in (True, False):
             try:
-                return _Plan(grammar, old, new, costs or Costs(), moving).edits()
+                return _Plan(Builder(grammar, old, nodes), Comparison(grammar, old, new, moving), taken, moving).edits()
             except OverLimit:
                 continue
-    builder = Builder(grammar, old)
+    builder = Builder(grammar, old, nodes)
     builder.build(new, InPlaceOf(builder.root))
     return builder.edits
+
+
+def one_token(grammar: Grammar, old: Node, new: Node) -> Optional[SetToken]:
+    """The edit of the token that alone differs in two trees, as where one types in a name; None where something else does."""
+    steps: List[Step] = []
+    while old.name == new.name and old.size == new.size:
+        parts = [at for at, (x, y) in enumerate(zip(old.cells, new.cells)) if x is not y and x != y]
+        if len(parts) != 1:
+            return None
+        part = grammar.parts(old.name)[parts[0]]
+        one: Any = old.cells[parts[0]]
+        other: Any = new.cells[parts[0]]
+        if part.shape is Shape.TOKEN:
+            return SetToken(Path(tuple(steps)), part.name, other)
+        index = only_other(one, other) if part.shape is Shape.LIST else None
+        if part.shape is Shape.LIST and index is None or one is None or other is None:
+            return None
+        steps.append(Step(part.name, index))
+        old, new = (one, other) if index is None else (one[index], other[index])
+    return None
+
+
+def only_other(olds: Sequence[Node], news: Sequence[Node]) -> Optional[int]:
+    """The index at which alone two lists differ; None where they differ elsewhere, too, or one is longer."""
+    front = common_front(olds, news)
+    is_alone = len(olds) == len(news) and front + common_end(olds, news, front) == len(olds) - 1
+    return front if is_alone else None
 
 
 Entry = Union[Live, Fresh]
@@ -69,11 +102,11 @@ class _Work:
 class _Plan:
     """What is done at each pair of a comparison, and the edits for that."""
 
-    def __init__(self, grammar: Grammar, old: Node, new: Node, costs: Costs, moving: bool) -> None:
-        self.builder, self.costs = Builder(grammar, old), costs
+    def __init__(self, builder: Builder, comparison: Comparison, costs: Costs, moving: bool) -> None:
+        self.builder, self.costs = builder, costs
         self.gone: List[Live] = []
         self.fresh: List[Fresh] = []
-        self.work = self._opened(Comparison(grammar, old, new, moving))
+        self.work = self._opened(comparison)
         self.moves = Moves([it.node for it in self.gone] if moving else [], self.fresh, int(costs.move / costs.node) + 1)
         self.sources = [self.gone[it.gone].at(it.steps) for it in self.moves.sources]
         self._replace()

@@ -51,6 +51,11 @@ class Document:
         return View(self.grammar, self.tree)
 
     @property
+    def nodes(self) -> int:
+        """How many nodes the tree may have, as far as that is known here."""
+        return self.session.connection.nodes
+
+    @property
     def marks(self) -> Dict[str, Mark]:
         """The marks of this document, by their names: those whose nodes are there."""
         return {name: self._marks[name] for name in self._places}
@@ -103,7 +108,7 @@ class Document:
         tree = self.session.connection.started_with
         if tree is None or self.session.version() != 0:
             return None
-        self.grammar.check(tree)
+        self.grammar.check(tree, nodes=self.nodes)
         return tree, 0
 
     def _read(self) -> Tuple[Node, int]:
@@ -115,7 +120,7 @@ class Document:
                 if refusal.code != Code.STALE:
                     raise
                 continue
-            self.grammar.check(tree)
+            self.grammar.check(tree, nodes=max(self.nodes, tree.size))
             return tree, version
 
     def update(self, new: Node) -> Update:
@@ -125,8 +130,8 @@ class Document:
         edited the tree (then `refresh` and try again); OutOfMemory (then it may be tried again); what else `Session` raises.
         `tree` and `version` are what is known afterwards, also then: the edits up to the first refused one.
         """
-        self.grammar.check(new)
-        return self.send(difference(self.grammar, self.tree, new, self.costs), new)
+        self.grammar.check(new, nodes=self.nodes)
+        return self.send(difference(self.grammar, self.tree, new, self.costs, self.nodes), new)
 
     def send(self, edits: List[Edit], new: Node) -> Update:
         """Sends edits that make the tree this one. Raises as `update`, and LineFault before anything is sent."""

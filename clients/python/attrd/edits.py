@@ -1,7 +1,7 @@
 """Edits as values, the lines that send them, and what they make of a tree."""
 from __future__ import annotations
 
-from dataclasses import dataclass
+from dataclasses import dataclass, replace
 from typing import Any, Callable, Iterable, List, Tuple, TypeVar, Union
 
 from . import commands
@@ -91,6 +91,14 @@ class Move:
 
 
 Edit = Union[SetNode, Put, Drop, Insert, SetToken, Move]
+
+
+def below(above: Path, edit: Edit) -> Edit:
+    """The edit of a tree as one of the tree in which that stands at this path."""
+    path = Path(above.steps + edit.path.steps)
+    if isinstance(edit, Move):
+        return replace(edit, path=path, target=Path(above.steps + edit.target.steps))
+    return replace(edit, path=path)
 
 
 def applied(grammar: Grammar, tree: Node, edits: Iterable[Edit]) -> Node:

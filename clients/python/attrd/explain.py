@@ -7,6 +7,7 @@ from typing import Dict, Optional, Sequence, Tuple, Union
 
 from .errors import AttrdError, GrammarFault, StartFault, SyntaxFault, TermFault
 from .grammar import Grammar, read_file
+from .lexical import TREE_NODES
 from .terms import read_term
 
 # For each code of the server: what is wrong, and what helps.
@@ -51,7 +52,7 @@ SENTENCES: Dict[str, Tuple[str, str]] = {
            "A tree is one term without blanks, as `Add(Num(1),Num(2))`, with `[..]` for lists and `-` for an empty optional."),
     "F6": ("The tree has a class that isn't declared, or is abstract.", "Correct the name, or declare the class in the grammar."),
     "F7": ("A node doesn't fit the grammar.", "A node has a cell for each component, inherited ones first."),
-    "F12": ("The tree is over a limit.", "There may be 65,536 nodes, 4,096 bytes in a token's text, and 4,194,304 in the file."),
+    "F12": ("The tree is over a limit.", "There may be 65,536 nodes, 4,096 bytes in a token's text, and 4,194,304 in the file; `--nodes` has more nodes, and 64 bytes for each."),
 }
 
 
@@ -88,8 +89,10 @@ def _window(source: str, column: int) -> Tuple[str, str]:
     return shown.replace("\t", " ").replace("\r", " "), " " * len(before) + "^"
 
 
-def explain(fault: Union[StartFault, GrammarFault], files: Sequence[Union[str, "os.PathLike[str]"]]) -> Explanation:
-    """The fault in words. `files` are those that the program was given: the grammar first, then the tree, then aspects.
+def explain(fault: Union[StartFault, GrammarFault], files: Sequence[Union[str, "os.PathLike[str]"]],
+            nodes: int = TREE_NODES) -> Explanation:
+    """The fault in words. `files` are those that the program was given: the grammar first, then the tree, then aspects; and `nodes` is
+    how many nodes it takes.
 
     Of a tree, for which the server tells no place, the place is found here. Raises AttrdError where the fault isn't one of a file,
     or the file can't be read.
@@ -101,7 +104,7 @@ def explain(fault: Union[StartFault, GrammarFault], files: Sequence[Union[str, "
         raise AttrdError(f"this is no fault of a file: {fault}")
     text = read_file(file).decode("utf-8", "replace")
     if code.startswith("F"):
-        return _of_tree(fault, file, text, names[0] if names else None)
+        return _of_tree(fault, file, text, names[0] if names else None, nodes)
     sentence, hint = SENTENCES[code]
     line, column = fault.line or 1, fault.column or 1
     lines = text.split("\n")
@@ -109,14 +112,14 @@ def explain(fault: Union[StartFault, GrammarFault], files: Sequence[Union[str, "
     return Explanation(file, code, fault.name or "", sentence, hint, line, column, source)
 
 
-def _of_tree(fault: Union[StartFault, GrammarFault], file: str, text: str, grammar: Optional[str]) -> Explanation:
+def _of_tree(fault: Union[StartFault, GrammarFault], file: str, text: str, grammar: Optional[str], nodes: int) -> Explanation:
     code, name = fault.code or "", fault.name or ""
     sentence, hint = SENTENCES[code]
     term = text[:-1] if text.endswith("\n") else text
     try:
         tree = read_term(term)
         if grammar is not None:
-            Grammar.load(grammar).check(tree)
+            Grammar.load(grammar).check(tree, nodes=nodes)
     except SyntaxFault as found:
         line = term.count("\n", 0, found.at) + 1
         begin = term.rfind("\n", 0, found.at) + 1

@@ -135,16 +135,16 @@ class Grammar:
         self.check(node, name)
         return node
 
-    def check(self, node: Node, wanted: Optional[str] = None) -> None:
-        """Whether the tree fits the grammar, under a class (the start class where none is named).
+    def check(self, node: Node, wanted: Optional[str] = None, nodes: int = TREE_NODES) -> None:
+        """Whether the tree fits the grammar, under a class (the start class where none is named), and has no more nodes than that.
 
         Raises TermFault with the first place, from the root down, and the reason: what the server's `7 fit` doesn't tell; and
         UnknownName where there is no such class to stand under.
         """
         if not isinstance(node, Node):
             raise TermFault("/", f"a tree is a Node, and not {type(node).__name__}")
-        if node.size > TREE_NODES:
-            raise TermFault("/", f"the tree has {node.size} nodes, and {TREE_NODES} are the limit")
+        if node.size > nodes:
+            raise TermFault("/", f"the tree has {node.size} nodes, and {nodes} are the limit")
         if node.depth > TREE_DEPTH:
             raise TermFault("/", f"the tree is {node.depth} deep, and {TREE_DEPTH} is the limit")
         wanted = self.start if wanted is None else self.class_named(wanted).name

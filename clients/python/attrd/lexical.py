@@ -12,7 +12,8 @@ LEAST_INT, GREATEST_INT = -2 ** 31, 2 ** 31 - 1
 GREATEST_VERSION = 2 ** 64 - 1
 LINE_BYTES = 65_535
 TOKEN_BYTES = 4_096
-TREE_NODES = 65_536
+# How many nodes a tree may have where nothing is said, and how many at most can be asked for (`--nodes`).
+TREE_NODES, MOST_NODES = 65_536, 16_777_216
 TREE_DEPTH = 512
 
 _ESCAPED = {"\\": "\\\\", '"': '\\"', "\n": "\\n", "\t": "\\t"}

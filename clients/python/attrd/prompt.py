@@ -117,17 +117,18 @@ class Prompt:
         self.completion = Completion(grammar, attributes, self._tree, self._where)
 
     @staticmethod
-    def start(grammar: str, tree: str, aspects: Sequence[str], program: str, faults: Sequence[str]) -> Prompt:
-        """Starts the program. Raises StartFault and AttrdError; a grammar that is refused is told by the program."""
+    def start(grammar: str, tree: str, aspects: Sequence[str], program: str, faults: Sequence[str],
+              nodes: Optional[int] = None) -> Prompt:
+        """Starts the program, with so many nodes for its tree where that is said. Raises StartFault and AttrdError; a grammar that is refused is told by the program."""
         texts = [read_file(it).decode("utf-8", "replace") for it in aspects]
-        server = start(grammar, tree, *aspects, program=program)
+        server = start(grammar, tree, *aspects, program=program, nodes=nodes)
         known, sources = Grammar.load(grammar), [Source(name, text) for name, text in zip(aspects, texts)]
         specification = Specification(Source(grammar, read_file(grammar).decode("utf-8")), sources)
         if not faults:
             return Prompt(server, known, specification, None)
         server.close()
         checks = diagnostics(known, texts, faults)
-        return Prompt(start(grammar, tree, *aspects, checks.aspect, program=program), known, specification, checks)
+        return Prompt(start(grammar, tree, *aspects, checks.aspect, program=program, nodes=nodes), known, specification, checks)
 
     def __enter__(self) -> Prompt:
         return self

@@ -15,11 +15,12 @@ from typing import FrozenSet, List, Optional, Union
 from .channel import Program, open_socket
 from .connection import Connection
 from .errors import AttrdError, ServerLost, ServerRestarted, StartFault, text_of
+from .lexical import MOST_NODES, TREE_NODES
 from .terms import Node, write_term
 from .versions import VersionWarning, misfit
 
-# How many values a program that runs long keeps, by `--keep`: six for each node of the largest tree.
-KEPT = 400_000
+# How many values a program that runs long keeps, by `--keep`: six for each node of the largest tree that it takes without `--nodes`.
+KEPT, KEPT_A_NODE = 400_000, 6
 HELP_SECONDS = 30.0
 _VERSION = re.compile(r"attrd (\S+)\s*\Z")
 _OPTION = re.compile(r"--[a-z]+(?:-[a-z]+)*")
@@ -65,10 +66,11 @@ def _put(folder: FilePath, source: Source) -> str:
 
 
 def start(grammar: Source, tree: Union[Source, Node], *aspects: Source, program: Union[str, "os.PathLike[str]"] = "attrd",
-          options: Optional[List[str]] = None) -> Server:
+          options: Optional[List[str]] = None, nodes: Optional[int] = None) -> Server:
     """Starts the program with pipes, and waits until it answers.
 
-    Files may be given by path or as a `Text`, the tree also as a Node. Raises StartFault where a file is refused or can't be read,
+    Files may be given by path or as a `Text`, the tree also as a Node. The tree may have as many nodes as `nodes` says, by
+    `--nodes`; 65,536 where nothing is given. Raises StartFault where a file is refused or can't be read,
     or the program ends in another way; AttrdError where it can't be started. A VersionWarning tells, once for each program, where
     its version isn't this library's.
     """
@@ -76,8 +78,9 @@ def start(grammar: Source, tree: Union[Source, Node], *aspects: Source, program:
     try:
         source = Text("tree.txt", write_term(tree)) if isinstance(tree, Node) else tree
         files = [_put(folder, it) for it in (grammar, source, *aspects)]
-        server = Server(_run([_path(program), *(options or []), "--", *files]))
-        server.files = files
+        sized = [] if nodes is None else ["--nodes", str(nodes)]
+        server = Server(_run([_path(program), *(options or []), *sized, "--", *files]))
+        server.files, server.nodes = files, server.nodes if nodes is None else nodes
         server.started_with = tree if isinstance(tree, Node) else None
         server.on_close(lambda: shutil.rmtree(folder, ignore_errors=True))
     except BaseException:
@@ -98,7 +101,7 @@ def known_options(program: Union[str, "os.PathLike[str]"]) -> FrozenSet[str]:
 
 
 def program_version(program: Union[str, "os.PathLike[str]"]) -> str:
-    """The version that the program tells, as 0.26. Raises AttrdError where it can't be started or tells none."""
+    """The version that the program tells, as 0.27. Raises AttrdError where it can't be started or tells none."""
     name = _path(program)
     found = _VERSION.match(_told(name, "--version"))
     if not found:
@@ -128,6 +131,21 @@ def _told(program: str, word: str) -> str:
 def gathering_options(known: FrozenSet[str]) -> List[str]:
     """The option by which a program sends the replies to lines that come together on together, where it knows it."""
     return ["--gather"] if "--gather" in known else []
+
+
+def nodes_of(known: FrozenSet[str]) -> int:
+    """How many nodes a tree may have at most where the program knows these options: 65,536, or what can be asked for by `--nodes`."""
+    return MOST_NODES if "--nodes" in known else TREE_NODES
+
+
+def sizing_options(known: FrozenSet[str], nodes: int = MOST_NODES) -> List[str]:
+    """The option by which the tree may have so many nodes, where the program knows it."""
+    return ["--nodes", str(nodes)] if "--nodes" in known else []
+
+
+def kept_for(nodes: int) -> int:
+    """How many values a program that runs long keeps, by `--keep`, of a tree of so many nodes."""
+    return max(KEPT, KEPT_A_NODE * nodes)
 
 
 def lasting_options(known: FrozenSet[str], values: int = KEPT) -> List[str]:
@@ -162,15 +180,17 @@ def start_fault(status: Optional[int], message: str) -> StartFault:
     return StartFault(status, message)
 
 
-def connect(path: Union[str, "os.PathLike[str]"], seconds: float = 0.0, known: Optional[int] = None) -> Connection:
+def connect(path: Union[str, "os.PathLike[str]"], seconds: float = 0.0, known: Optional[int] = None, nodes: int = TREE_NODES) -> Connection:
     """A connection to the socket at this path, which is waited for so long.
 
     The server serves one connection after the other: replies come when those before this one have ended. `known` is the last
-    version of an earlier connection: then the first reply is waited for. Raises AttrdError where no connection can be made, and
+    version of an earlier connection: then the first reply is waited for. `nodes` is how many nodes the server's tree may have, where
+    it was started with `--nodes`. Raises AttrdError where no connection can be made, and
     ServerRestarted where the tree has a version below `known`. Another server that has had as many edits since isn't told apart
     by that; but nothing of an earlier connection is sent to it, and `Document` reads the tree that is there.
     """
     connection = Connection(open_socket(path, seconds))
+    connection.nodes = nodes
     if known is not None:
         version = connection.send(0, "version").version()
         if version < known:

@@ -124,6 +124,78 @@ class Tutorial(unittest.TestCase):
         self.assertEqual(caught.exception.code, attrd.Code.STALE)
 
 
+class LongLists(unittest.TestCase):
+    """The elements of a list at the root are counted by sixteens."""
+
+    GRAMMAR = "Top ::= Left:Kind* <Name> Right:Kind* One:Kind [Maybe:Kind]; Kind ::= <Is:boolean> Kind*; Other : Kind;"
+    ASPECT = "aspect A { syn boolean Kind.isBad() = getIs(); }"
+
+    def started(self, grammar, tree, aspect, names):
+        found = diagnostics(Grammar.read(grammar), [aspect], names)
+        texts = [attrd.Text("a.jrag", aspect), found.aspect]
+        server = attrd.start(attrd.Text("a.ast", grammar), tree, *texts, program=PROGRAM)
+        self.addCleanup(server.close)
+        return found, server.session()
+
+    def test_counts_of_lists_of_many_lengths(self):
+        random, leaf = Random(6), attrd.Node("Kind", False, ())
+        found, session = self.started(self.GRAMMAR, attrd.Node("Top", (), "n", (), leaf, None), self.ASPECT, ["isBad"])
+        document = Document(session, Grammar.read(self.GRAMMAR))
+        for length in (0, 1, 16, 63, 64, 65, 79, 80, 81, 255, 256, 257, 300, 4096, 4097):
+            elements = [attrd.Node(random.choice(["Kind", "Other"]), random.random() < 0.1, (leaf,) * random.randrange(2)) for _ in range(length)]
+            first, last = elements[: random.choice([1, 16, length])], elements
+            document.update(attrd.Node("Top", first, "n", last, attrd.Node("Kind", True, ()), elements[-1] if elements else None))
+            wanted = sum(it.cells[0] for it in document.tree.all() if it.name != "Top")
+            self.assertEqual(found.total(document), attrd.Value(str(wanted)))
+        place = random.randrange(4097)
+        document.update(attrd.applied(document.grammar, document.tree, [attrd.Drop(attrd.Path.read(f"/Right:{place}"))]))
+        wanted = sum(it.cells[0] for it in document.tree.all() if it.name != "Top")
+        self.assertEqual(found.total(document), attrd.Value(str(wanted)))
+
+    def test_few_values_are_found_anew_where_one_element_of_many_has_another_count(self):
+        tree = attrd.Node("Top", (), "n", (attrd.Node("Kind", False, ()),) * 3000, attrd.Node("Kind", False, ()), None)
+        found = diagnostics(Grammar.read(self.GRAMMAR), [self.ASPECT], ["isBad"])
+        text = found.aspect.text
+        self.assertIn("inh lazy int Kind.faultCountOf16Right();", text)
+        self.assertIn("getNumRight() <= 4096 ? getRight(0).faultCountOf4096Right()", text)
+        works = []
+        for keys in (0, 1):
+            server = attrd.start(attrd.Text("a.ast", self.GRAMMAR), tree, attrd.Text("a.jrag", self.ASPECT), found.aspect, program=PROGRAM,
+                                 options=["--work"])
+            with server:
+                session = server.session()
+                self.assertEqual(session.ask("/", found.count), attrd.Value("0"))
+                for _ in range(keys):
+                    session.token("/Right:1700", "Is", True)
+                    self.assertEqual(session.ask("/", found.count), attrd.Value("1"))
+                server._channel.process.stdin.close()
+                works.append(int(server._channel.ended()[1].split()[1]))
+        self.assertLessEqual(works[1] - works[0], 6)
+
+    def test_a_list_in_which_a_root_may_stand_is_counted_as_others(self):
+        grammar, aspect = "Kind ::= <Is:boolean> Kind*;", self.ASPECT
+        tree = attrd.Node("Kind", True, (attrd.Node("Kind", True, ()),) * 40)
+        found, session = self.started(grammar, tree, aspect, ["isBad"])
+        self.assertNotIn("getNumKind()", found.aspect.text)
+        self.assertEqual(session.ask("/", found.count), attrd.Value("41"))
+
+    def test_roots_of_many_classes_and_roots_in_the_tree(self):
+        kinds = [attrd.Node("Kind", True, None)] * 70
+        grammar = "abstract Top ::= Kind*; A : Top ::= More:Kind*; B : Top; Kind ::= <Is:boolean> [Top];"
+        inner = attrd.Node("Kind", True, attrd.Node("B", kinds))
+        found, session = self.started(grammar, attrd.Node("A", [inner] * 3, kinds), self.ASPECT, ["isBad"])
+        self.assertEqual(session.ask("/", found.count), attrd.Value(str(3 * 71 + 70)))
+        grammar = "Top ::= Kind*; abstract Any; Kind : Any ::= <Is:boolean> [Top]; Pair : Any ::= Kind Second:Kind;"
+        found, session = self.started(grammar, attrd.Node("Top", kinds), self.ASPECT, ["isBad"])
+        self.assertEqual(session.ask("/", found.count), attrd.Value("70"))
+
+    def test_names_that_are_taken(self):
+        aspect = "aspect A { syn boolean Kind.isBad() = getIs(); syn int Kind.faultCountOf16Left() = 1; }"
+        tree = attrd.Node("Top", (attrd.Node("Kind", True, ()),) * 90, "n", (), attrd.Node("Kind", True, ()), None)
+        found, session = self.started(self.GRAMMAR, tree, aspect, ["isBad"])
+        self.assertEqual(session.ask("/", found.count), attrd.Value("91"))
+
+
 class Kinds(unittest.TestCase):
     def test_checks_of_each_kind(self):
         aspect = ("aspect A { inh boolean Num.isBad(); eq Program.getBlock().isBad() = true; syn int Stmt.count() = 2;"

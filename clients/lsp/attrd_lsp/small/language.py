@@ -11,7 +11,7 @@ from attrd import Node
 from ..language import Language, Listed
 from ..phrases import Phrase
 from ..protocol import Symbol
-from .syntax import KEYWORDS, is_name, read_class, read_front
+from .syntax import KEYWORDS, is_name, read_class, read_front, read_statement
 
 DATA = Path(__file__).resolve().parent.parent / "data"
 # What an editor tells beyond the tutorial.
@@ -49,6 +49,7 @@ def in_folder(folder: Path) -> Language:
         grammar=grammars[0],
         aspects=aspects,
         parse=read_class,
+        again={it: read_statement for it in ("Block", "Decl", "Show")},
         meaning={"Name": ("decl",), "Dot": ("decl",), "KindUse": ("kind",)},
         lookup={"Name": ("lookup",), "Block": ("local", "lookup"), "KindUse": ("lookupKind",)},
         hover={"Decl": "kind", "Expr": "kind", "KindUse": "kind"},

@@ -75,12 +75,23 @@ def read_front(text: str) -> List[Fault]:
     return reader.found_faults()
 
 
-class Reader(Scanner):
-    """Reads one class from its tokens, and collects faults."""
+def read_statement(text: str) -> Parsed:
+    """The statement, block or field that the text is, and the faults in the order of their places; it is None where there is none.
 
-    def __init__(self, text: str) -> None:
+    What nests half as deep as it may is a fault here: how deep the statement stands isn't known."""
+    reader = Reader(text, DEEPEST // 2)
+    found = reader.without_fault(reader.statement)
+    if reader.token.sort != "end":
+        reader.faults.append(reader.unexpected("the end").fault)
+    return Parsed(found[0] if found else None, reader.found_faults())
+
+
+class Reader(Scanner):
+    """Reads one class from its tokens, and collects faults. As many as `nested` braces and parentheses are open around it."""
+
+    def __init__(self, text: str, nested: int = 0) -> None:
         super().__init__(*tokens_of(TOKEN, text, KEYWORDS, wrong_token))
-        self.nested = 0
+        self.nested = nested
 
     def without_fault(self, read: Callable[[], Phrase]) -> List[Phrase]:
         """What is read, or nothing and a fault; then the rest of the statement is passed over."""
