@@ -35,7 +35,7 @@ help:
 	@echo "                     These three take PROGRAM=..; else ./attrd where it stands, else the program of make quick (2 minutes more)"
 	@echo "  make starve        a session with each keeper, with each request for memory refused in turn (a minute, behind its proof)"
 	@echo "  make tries         the examples of single tries of equations (a minute, behind its proof)"
-	@echo "  make bench         measures ./attrd (20 minutes, behind make build)"
+	@echo "  make bench         measures ./attrd (25 minutes and five GB, behind make build)"
 
 # The sample session, answered by ./attrd where it was built, else by a program that isn't proved. Whether ./attrd is proved is known
 # by its record, attrd.proved (tools/proved.py).
@@ -134,7 +134,8 @@ tries: tools python
 	@python3 tools/examples.py docs/TRIES.md
 
 # Speed, by the proved program, as ratios in one run; what the program takes at its limits; what evaluations, loading, lines and
-# edits cost where everything is kept, which fails where a bound doesn't hold; and a realistic program, beside Java.
+# edits cost where everything is kept, which fails where a bound doesn't hold; a realistic program, beside Java; and trees of up to
+# 2,400,000 nodes, which take five GB.
 bench: build
 	cd crates/tries && rt run < stdin -- data/calc.ast data/calc.jrag data/tree.txt > /dev/null
 	python3 bench/bench.py
@@ -142,7 +143,7 @@ bench: build
 	python3 bench/clients.py
 	python3 bench/editor.py
 	python3 bench/hub.py
-	@status=0; for it in evaluation in_flight kept cliff realistic; do python3 bench/$$it.py || status=1; done; exit $$status
+	@status=0; for it in evaluation in_flight kept cliff realistic sizes; do python3 bench/$$it.py || status=1; done; exit $$status
 
 tools:
 	@command -v rt > /dev/null || { echo "attrd is written in Rattle: install the Rattle kit, so that the command 'rt' is on the PATH."; exit 1; }

@@ -1,6 +1,6 @@
 #!/usr/bin/env python3
 """The language server in Neovim: from a change of the text to the diagnostics, what else an editor asks, and how long an edit waits
-beside a question of a second.
+beside a question of a second. Keys are typed without an editor, too: then the clock tells of the server and the program behind it alone.
 
     python3 bench/editor.py [PROGRAM] [NODES ..]
 
@@ -104,17 +104,87 @@ def place_in(lines: Sequence[str]) -> Tuple[int, int]:
     return line, lines[line].index("t4 = ") + len("t4 = ")
 
 
-def errors_in(editor: "Neovim") -> int:
-    """Puts STANDING errors into the file, all over it, and waits until they are told; their number."""
-    lines = editor.lines()
+def lines_to_err(lines: Sequence[str]) -> List[int]:
+    """Lines in which a use is made an error, STANDING of them all over a file; the one in its middle stays."""
     place, _ = place_in(lines)
     numbers = [it for it, line in enumerate(lines) if " = t" in line and it != place]
-    chosen = numbers[:: len(numbers) // STANDING][:STANDING]
+    return numbers[:: len(numbers) // STANDING][:STANDING]
+
+
+def errors_in(editor: "Neovim") -> int:
+    """Puts errors into the file, and waits until they are told; their number."""
+    lines = editor.lines()
+    chosen = lines_to_err(lines)
     for it in chosen:
         lines[it] = lines[it].replace(" = t", " = q", 1)
     editor.lua("vim.api.nvim_buf_set_lines(0, 0, -1, true, ...)", lines)
     editor.until(f"return #vim.diagnostic.get(0) == {len(chosen)}", seconds=300)
     return len(chosen)
+
+
+class Alone:
+    """A file in a language server of its own, without an editor."""
+
+    def __init__(self, nodes: int) -> None:
+        from lsp_support import Client, large_program
+
+        text = large_program(nodes)
+        self.client, self.lines, self.version = Client().__enter__(), text.split("\n"), 0
+        self.uri = "file:///large.small"
+        document = {"uri": self.uri, "languageId": "small", "version": 0, "text": text}
+        self.client.notify("textDocument/didOpen", {"textDocument": document})
+        self.told()
+
+    def told(self) -> int:
+        """How many diagnostics are told of the text as it is; they are waited for."""
+        while True:
+            told = self.client.note("textDocument/publishDiagnostics")
+            if told.get("version") == self.version:
+                return len(told["diagnostics"])
+
+    def change(self, *changes: Tuple[int, int, int, str]) -> int:
+        """Puts texts in the place of columns of lines; how many diagnostics are told then."""
+        self.version += 1
+        places = [({"line": line, "character": start}, {"line": line, "character": end}, text) for line, start, end, text in changes]
+        told = [{"range": {"start": start, "end": end}, "text": text} for start, end, text in places]
+        document = {"uri": self.uri, "version": self.version}
+        self.client.notify("textDocument/didChange", {"textDocument": document, "contentChanges": told})
+        return self.told()
+
+    def spent(self) -> float:
+        """The processor time of the server and the program behind it, in milliseconds."""
+        from lsp_support import children
+
+        server = self.client.process.pid
+        return sum(processor_time(it) for it in (server, *children(server))) / 1e6
+
+
+def without_editor(nodes: int) -> Dict[str, float]:
+    """The times of keys beside errors without an editor, in milliseconds: by the clock and of the processor, the median and the least."""
+    alone = Alone(nodes)
+    try:
+        chosen = lines_to_err(alone.lines)
+        columns = [alone.lines[it].index(" = t") + len(" = ") for it in chosen]
+        standing = alone.change(*((line, column, column + 1, "q") for line, column in zip(chosen, columns)))
+        assert standing == len(chosen), standing
+        line, column = place_in(alone.lines)
+        keys = {"a key that brings an error": (column, "q", 1), "a key that takes it away": (column + 1, "", 0)}
+        times: Dict[str, List[Tuple[float, float]]] = {it: [] for it in keys}
+        for _ in range(2 * RUNS):
+            for key, (end, text, more) in keys.items():
+                before, began = alone.spent(), time.perf_counter()
+                told = alone.change((line, column, end, text))
+                clock = (time.perf_counter() - began) * 1000
+                assert told == standing + more, told
+                time.sleep(0.002)
+                times[key].append((clock, alone.spent() - before))
+    finally:
+        alone.client.close()
+    found: Dict[str, float] = {}
+    for key, measured in times.items():
+        for what, spent in zip(("by the clock", "processor time"), zip(*measured)):
+            found[f"{key}, {what}, median"], found[f"{key}, {what}, least"] = statistics.median(spent), min(spent)
+    return found
 
 
 def changes(editor: "Neovim", standing: int) -> Dict[str, float]:
@@ -224,13 +294,18 @@ def main(words: Sequence[str]) -> None:
     sizes = numbers_in(words[1:], SIZES, __doc__)
     if shutil.which("nvim") is None:
         sys.exit("there is no nvim: the package neovim is missing (tools/editors.sh installs it)")
-    found = {nodes: in_neovim(nodes) for nodes in sizes}
-    heads = [f"{it:,} nodes" for it in sizes]
-    table("In Neovim, by the clock where nothing else is said", *heads, "The largest against the smallest")
+    told_by_sizes("In Neovim, by the clock where nothing else is said", {nodes: in_neovim(nodes) for nodes in sizes})
+    told_by_sizes(f"Without an editor, beside {STANDING} errors", {nodes: without_editor(nodes) for nodes in sizes})
+    beside(max(sizes), program)
+
+
+def told_by_sizes(title: str, found: Dict[int, Dict[str, float]]) -> None:
+    """A table of the times of files, by their sizes."""
+    sizes = list(found)
+    table(title, *(f"{it:,} nodes" for it in sizes), "The largest against the smallest")
     for what in found[sizes[0]]:
         times = [found[it][what] for it in sizes]
         row(what, *map(ms, times), ratio(times[-1], times[0]))
-    beside(max(sizes), program)
 
 
 if __name__ == "__main__":
