@@ -82,7 +82,7 @@ all_met rules test c k a e f g =
 -- sum -----------------------------------------------------------------------------------------------------------------
 
 total : Attribute
-total = record { name = codes "total"; class = 0; parameters = []; result = Int; is_lazy = false; is_inherited = false }
+total = record { name = codes "total"; class = 0; parameters = []; result = Int; is_lazy = false; is_inherited = false; start = None }
 
 sum_hierarchy : IsHierarchy sum_rules.classes
 unfolding chain

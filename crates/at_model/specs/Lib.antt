@@ -14,6 +14,7 @@ pub mod Support
 pub mod Nested
 pub mod Turning
 pub mod Alike
+pub mod of_fixpoints
 pub mod Samples
 pub mod Edits
 pub mod Touches

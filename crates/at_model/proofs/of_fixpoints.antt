@@ -1,0 +1,4 @@
+pub mod UniqueOutcomes
+pub mod ClosedOnce
+pub mod FixpointValues
+pub mod PlainForms

@@ -1,0 +1,7 @@
+pub mod Formulas
+pub mod Evaluations
+pub mod Fixpoints
+pub mod Resting
+pub mod Sets
+pub mod Circles
+pub mod Likeness
