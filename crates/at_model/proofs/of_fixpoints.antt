@@ -2,3 +2,11 @@ pub mod UniqueOutcomes
 pub mod ClosedOnce
 pub mod FixpointValues
 pub mod PlainForms
+pub mod Matching
+pub mod EndsAlike
+pub mod CarriedByFormulas
+pub mod CarriedSearches
+pub mod FormsAlike
+pub mod FormulasAlike
+pub mod StartsKept
+pub mod PlainRules

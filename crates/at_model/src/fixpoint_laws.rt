@@ -1,13 +1,19 @@
 //! Laws of outcomes where attributes are circular: each is the contract of a function that does nothing.
 
-ghost use Rattle.std.specs.Prelude.{Bool, Some, false, true, ◌≡◌, ◌↔◌};
+ghost use Rattle.std.specs.Prelude.{Bool, None, Option, Some, false, true, ◌≡◌, ◌↔◌, ℕ};
+ghost use Rattle.at_model.specs.Trees.{Tree};
 ghost use Rattle.at_model.specs.Paths.{Node};
-ghost use Rattle.at_model.specs.Run.{Contents, Instance, Truth, Value};
-ghost use Rattle.at_model.specs.Meaning.{Equations, Outcome};
+ghost use Rattle.at_model.specs.Run.{Contents, Instance, Location, Truth, Value};
+ghost use Rattle.at_model.specs.Rules.{Rules, start_of};
+ghost use Rattle.at_model.specs.Meaning.{Answer, Equations, Outcome, content, equations};
 ghost use Rattle.at_model.specs.Meaning as meaning;
-ghost use Rattle.at_model.specs.of_fixpoints.Circles.{Circular};
+ghost use Rattle.at_model.specs.Alike.{AnswerLike, InstanceLike, IsInjective, LocationLike, Names, OutcomeLike};
+ghost use Rattle.at_model.specs.of_fixpoints.Circles.{Answers, Circular};
+ghost use Rattle.at_model.specs.of_fixpoints.Evaluations.{forms};
 ghost use Rattle.at_model.specs.of_fixpoints.Fixpoints.{HasForm, HasValue, Holds};
 ghost use Rattle.at_model.specs.of_fixpoints.Formulas.{Formula, Forms};
+ghost use Rattle.at_model.specs.of_fixpoints.Likeness.{AlikeBelow, FormsLike};
+ghost use Rattle.at_model.specs.of_fixpoints.Resting.{Leads, Supports};
 ghost use Rattle.at_model.specs.of_fixpoints.Sets.{AreOfOneStart, IsFalseWhere, IsTrueWhere, IsWhere, plain_forms};
 
 /// An instance has at most one outcome, also where attributes are circular.
@@ -65,4 +71,71 @@ pub fn the_greatest_fixpoint()
         → ((i : Instance Node) (f : Formula Node) → HasForm look forms i f → set i ≡ true → IsTrueWhere (λ k. set k ≡ true) f)
         → (i : Instance Node) (v : Value Node) → forms.starts i.attribute ≡ Some true → HasValue look forms i v
         → set i ≡ true → v ≡ Truth true }
+{}
+
+/// Formulas that rules give are of instances with the start of their own.
+pub fn formulas_are_of_one_start()
+    ensures { (look : Contents Node) (rules : Rules) → AreOfOneStart look (forms rules) }
+{}
+
+/// Where no attribute of the rules is circular, their formulas are their equations.
+pub fn rules_without_circular_attributes()
+    ensures { (rules : Rules) → ((attribute : ℕ) → start_of rules attribute ≡ None) → forms rules ≡ plain_forms (equations rules) }
+{}
+
+/// Where two trees are alike at all that supports an instance, the instance that it is carried to has the outcome that its
+/// outcome is carried to, and no other, also where attributes are circular.
+pub fn carried_outcome_by_formulas()
+    ensures kept { (carry : Node → Option Node) → IsInjective carry → (before after : Contents Node) (here there : Forms Node)
+        → FormsLike (Names carry) here there → (i j : Instance Node) (o : Outcome Node) → InstanceLike (Names carry) i j
+        → AlikeBelow (Names carry) before after here i → Holds before here i o
+        → (p : Outcome Node) × Holds after there j p × OutcomeLike (Names carry) o p }
+    ensures no_others { (carry : Node → Option Node) → IsInjective carry → (before after : Contents Node) (here there : Forms Node)
+        → FormsLike (Names carry) here there → (i j : Instance Node) (p : Outcome Node) → InstanceLike (Names carry) i j
+        → AlikeBelow (Names carry) before after here i → Holds after there j p
+        → (o : Outcome Node) × Holds before here i o × OutcomeLike (Names carry) o p }
+{}
+
+/// So it is of the instances of a tree before and after an edit, by whatever rules: what isn't touched stays.
+pub fn carried_outcome_by_rules()
+    ensures kept { (carry : Node → Option Node) → IsInjective carry → (rules : Rules) (before after : Tree) (i j : Instance Node)
+        → InstanceLike (Names carry) i j → AlikeBelow (Names carry) (content before) (content after) (forms rules) i
+        → (o : Outcome Node) → Holds (content before) (forms rules) i o
+        → (p : Outcome Node) × Holds (content after) (forms rules) j p × OutcomeLike (Names carry) o p }
+    ensures no_others { (carry : Node → Option Node) → IsInjective carry → (rules : Rules) (before after : Tree) (i j : Instance Node)
+        → InstanceLike (Names carry) i j → AlikeBelow (Names carry) (content before) (content after) (forms rules) i
+        → (p : Outcome Node) → Holds (content after) (forms rules) j p
+        → (o : Outcome Node) × Holds (content before) (forms rules) i o × OutcomeLike (Names carry) o p }
+{}
+
+/// And a circle, too: each answer to the one is carried to an answer to the other.
+pub fn carried_answer_by_rules()
+    ensures { (carry : Node → Option Node) → IsInjective carry → (rules : Rules) (before after : Tree) (q k : Instance Node) (a : Answer Node)
+        → InstanceLike (Names carry) q k → AlikeBelow (Names carry) (content before) (content after) (forms rules) q
+        → Answers (content before) (forms rules) q a
+        → (b : Answer Node) × AnswerLike (Names carry) a b × Answers (content after) (forms rules) k b }
+{}
+
+/// And it leads to the instances that what it led to is carried to, and to no others.
+pub fn carried_demands_by_rules()
+    ensures kept { (carry : Node → Option Node) → IsInjective carry → (rules : Rules) (before after : Tree) (i j k : Instance Node)
+        → InstanceLike (Names carry) i j → AlikeBelow (Names carry) (content before) (content after) (forms rules) i
+        → Leads (content before) (forms rules) i k
+        → (m : Instance Node) × InstanceLike (Names carry) k m × Leads (content after) (forms rules) j m }
+    ensures no_others { (carry : Node → Option Node) → IsInjective carry → (rules : Rules) (before after : Tree) (i j m : Instance Node)
+        → InstanceLike (Names carry) i j → AlikeBelow (Names carry) (content before) (content after) (forms rules) i
+        → Leads (content after) (forms rules) j m
+        → (k : Instance Node) × InstanceLike (Names carry) k m × Leads (content before) (forms rules) i k }
+{}
+
+/// And it rests on the locations that those are carried to on which the instance rested, and on no others.
+pub fn carried_support_by_rules()
+    ensures kept { (carry : Node → Option Node) → IsInjective carry → (rules : Rules) (before after : Tree) (i j : Instance Node)
+        → InstanceLike (Names carry) i j → AlikeBelow (Names carry) (content before) (content after) (forms rules) i
+        → (l : Location Node) → Supports (content before) (forms rules) l i
+        → (m : Location Node) × LocationLike (Names carry) l m × Supports (content after) (forms rules) m j }
+    ensures no_others { (carry : Node → Option Node) → IsInjective carry → (rules : Rules) (before after : Tree) (i j : Instance Node)
+        → InstanceLike (Names carry) i j → AlikeBelow (Names carry) (content before) (content after) (forms rules) i
+        → (m : Location Node) → Supports (content after) (forms rules) m j
+        → (l : Location Node) × LocationLike (Names carry) l m × Supports (content before) (forms rules) l i }
 {}

@@ -60,15 +60,16 @@ Valued has None i v = has i (Known v)
 Valued has (Some b) i v =
     (Leaves has b (Asks i) × (v ≡ Truth (not b))) ⊎ ((¬ (Leaves has b (Asks i))) × (v ≡ Truth b))
 
+-- the outcome of an instance, where equations end so
+abbrev pub HoldsOver : {N : Type 0} → (Instance N → End N (Formula N) → Type 0) → Option Bool → Instance N → Outcome N → Type 0
+HoldsOver has start i (Finds v) = AreFormed has i × Valued (λ j f. has j (Made f)) start i v
+HoldsOver has start i (Faults k at) = AreEnded has i × Meets has [] (i ∷ []) k at
+
 -- the outcome of an instance, by demands that are nested less than this deep
 abbrev pub HoldsAt : {N : Type 0} → Contents N → Forms N → ℕ → Instance N → Outcome N → Type 0
 HoldsAt look forms zero i o = ⊥
-HoldsAt {N} look forms (suc n) i (Finds v) =
-    AreFormed (λ j e. Ends look (HoldsAt look forms n) j (forms.formula j) e) i
-    × Valued (λ j f. Ends look (HoldsAt look forms n) j (forms.formula j) (Made f)) (forms.starts i.attribute) i v
-HoldsAt look forms (suc n) i (Faults k at) =
-    AreEnded (λ j e. Ends look (HoldsAt look forms n) j (forms.formula j) e) i
-    × Meets (λ j e. Ends look (HoldsAt look forms n) j (forms.formula j) e) [] (i ∷ []) k at
+HoldsAt look forms (suc n) i o =
+    HoldsOver (λ j e. Ends look (HoldsAt look forms n) j (forms.formula j) e) (forms.starts i.attribute) i o
 
 -- how the equation of each instance ends, by demands that are nested less than this deep
 abbrev pub EndsAt : {N : Type 0} → Contents N → Forms N → ℕ → Instance N → End N (Formula N) → Type 0
