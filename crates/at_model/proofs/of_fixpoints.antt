@@ -10,3 +10,4 @@ pub mod FormsAlike
 pub mod FormulasAlike
 pub mod StartsKept
 pub mod PlainRules
+pub mod PlainAnswers

@@ -5,3 +5,4 @@ pub mod Resting
 pub mod Sets
 pub mod Circles
 pub mod Likeness
+pub mod FixpointSamples

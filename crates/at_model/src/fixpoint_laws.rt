@@ -7,6 +7,7 @@ ghost use Rattle.at_model.specs.Run.{Contents, Instance, Location, Truth, Value}
 ghost use Rattle.at_model.specs.Rules.{Rules, start_of};
 ghost use Rattle.at_model.specs.Meaning.{Answer, Equations, Outcome, content, equations};
 ghost use Rattle.at_model.specs.Meaning as meaning;
+ghost use Rattle.at_model.specs.Support as support;
 ghost use Rattle.at_model.specs.Alike.{AnswerLike, InstanceLike, IsInjective, LocationLike, Names, OutcomeLike};
 ghost use Rattle.at_model.specs.of_fixpoints.Circles.{Answers, Circular};
 ghost use Rattle.at_model.specs.of_fixpoints.Evaluations.{forms};
@@ -34,10 +35,17 @@ pub fn one_circle_by_formulas()
         → Circular look forms q j → Circular look forms q k → j ≡ k }
 {}
 
-/// Where no attribute is circular, outcomes are those of the equations alone.
+/// Where no attribute is circular, all is as it is by equations alone: outcomes and answers, what an instance leads to, and
+/// what it rests on.
 pub fn none_circular_none_changed()
-    ensures { (look : Contents Node) (equation : Equations Node) (i : Instance Node) (o : Outcome Node)
+    ensures outcomes { (look : Contents Node) (equation : Equations Node) (i : Instance Node) (o : Outcome Node)
         → (meaning.Holds look equation i o ↔ Holds look (plain_forms equation) i o) }
+    ensures answers { (look : Contents Node) (equation : Equations Node) (q : Instance Node) (a : Answer Node)
+        → (meaning.Answers look equation q a ↔ Answers look (plain_forms equation) q a) }
+    ensures demands { (look : Contents Node) (equation : Equations Node) (i j : Instance Node)
+        → (meaning.Leads look equation i j ↔ Leads look (plain_forms equation) i j) }
+    ensures support { (look : Contents Node) (equation : Equations Node) (l : Location Node) (i : Instance Node)
+        → (support.Supports look equation l i ↔ Supports look (plain_forms equation) l i) }
 {}
 
 /// Values are a fixpoint. An instance that starts from false and has a value is true exactly where its formula is true of

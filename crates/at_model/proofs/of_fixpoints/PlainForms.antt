@@ -38,7 +38,7 @@ ends_so look f G has i (Demands j k) o e =
     ends_demand look f G i j k o (f j) refl (has j) (λ v. ends_so look f G has i (k v) o) e
 
 -- what a plain equation ends with is a value
-plain_value : {N : Type 0} (look : Contents N) (G : Instance N → Outcome N → Type 0) (i : Instance N)
+pub plain_value : {N : Type 0} (look : Contents N) (G : Instance N → Outcome N → Type 0) (i : Instance N)
     (r : Run N (Value N)) (f : Formula N) → Ends look G i (r >>= λ v. Gives (Known v)) (Made f) →
     (v : Value N) × (f ≡ Known v)
 plain_value look G i (Gives a) f e = let q : f ≡ Known a = cc in (a, q)
