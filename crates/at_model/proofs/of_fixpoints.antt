@@ -11,3 +11,5 @@ pub mod FormulasAlike
 pub mod StartsKept
 pub mod PlainRules
 pub mod PlainAnswers
+pub mod Components
+pub mod RingCases
