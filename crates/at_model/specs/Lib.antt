@@ -14,10 +14,10 @@ pub mod Support
 pub mod Nested
 pub mod Turning
 pub mod Alike
-pub mod of_fixpoints
 pub mod Samples
 pub mod Edits
 pub mod Touches
+pub mod of_fixpoints
 pub mod Shaping
 pub mod Lines
 pub mod Replies

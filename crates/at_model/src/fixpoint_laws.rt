@@ -1,20 +1,21 @@
 //! Laws of outcomes where attributes are circular: each is the contract of a function that does nothing.
 
-ghost use Rattle.std.specs.Prelude.{Bool, None, Option, Some, false, true, ◌≡◌, ◌↔◌, ℕ};
-ghost use Rattle.at_model.specs.Trees.{Tree};
+ghost use Rattle.std.specs.Prelude.{Bool, None, Ok, Option, Some, false, nat_eq, true, ◌≡◌, ◌↔◌, ℕ};
+ghost use Rattle.at_model.specs.Trees.{Tree, conforms};
 ghost use Rattle.at_model.specs.Paths.{Node};
 ghost use Rattle.at_model.specs.Run.{Contents, Instance, Location, Truth, Value};
 ghost use Rattle.at_model.specs.Rules.{Rules, start_of};
 ghost use Rattle.at_model.specs.Meaning.{Answer, Equations, Outcome, content, equations};
 ghost use Rattle.at_model.specs.Meaning as meaning;
 ghost use Rattle.at_model.specs.Support as support;
-ghost use Rattle.at_model.specs.Alike.{AnswerLike, InstanceLike, IsInjective, LocationLike, Names, OutcomeLike};
+ghost use Rattle.at_model.specs.Alike.{AlikeAt, AnswerLike, InstanceLike, IsInjective, LocationLike, Names, OutcomeLike};
+ghost use Rattle.at_model.specs.Edits.{Edit, carried, edited};
 ghost use Rattle.at_model.specs.of_fixpoints.Circles.{Answers, Circular};
-ghost use Rattle.at_model.specs.of_fixpoints.Evaluations.{forms};
+ghost use Rattle.at_model.specs.of_fixpoints.Evaluations.{evaluation, forms};
 ghost use Rattle.at_model.specs.of_fixpoints.Fixpoints.{HasForm, HasValue, Holds};
 ghost use Rattle.at_model.specs.of_fixpoints.Formulas.{Formula, Forms};
 ghost use Rattle.at_model.specs.of_fixpoints.Likeness.{AlikeBelow, FormsLike};
-ghost use Rattle.at_model.specs.of_fixpoints.Resting.{Leads, Supports};
+ghost use Rattle.at_model.specs.of_fixpoints.Resting.{IsUntouched, Leads, Supports};
 ghost use Rattle.at_model.specs.of_fixpoints.Sets.{AreOfOneStart, IsFalseWhere, IsTrueWhere, IsWhere, plain_forms};
 
 /// An instance has at most one outcome, also where attributes are circular.
@@ -146,4 +147,63 @@ pub fn carried_support_by_rules()
         → InstanceLike (Names carry) i j → AlikeBelow (Names carry) (content before) (content after) (forms rules) i
         → (m : Location Node) → Supports (content after) (forms rules) m j
         → (l : Location Node) × LocationLike (Names carry) l m × Supports (content before) (forms rules) l i }
+{}
+
+/// An instance that rests on nothing that the edit touches has, under the paths to which its nodes are carried, the answer that
+/// its answer is carried to; it leads to the instances, and rests on the locations, that those are carried to that it led to and
+/// rested on, and to no others.
+pub fn what_is_not_touched_stays_by_formulas()
+    ensures answer { (rules : Rules) (t u : Tree) (e : Edit) (i j : Instance Node) (a : Answer Node) → conforms rules.classes t 0 ≡ true
+        → edited rules.classes t e ≡ Ok u → IsUntouched rules t e i → InstanceLike (Names (carried e)) i j
+        → Answers (content t) (forms rules) i a
+        → (b : Answer Node) × AnswerLike (Names (carried e)) a b × Answers (content u) (forms rules) j b }
+    ensures demands { (rules : Rules) (t u : Tree) (e : Edit) (i j k : Instance Node) → conforms rules.classes t 0 ≡ true
+        → edited rules.classes t e ≡ Ok u → IsUntouched rules t e i → InstanceLike (Names (carried e)) i j
+        → Leads (content t) (forms rules) i k
+        → (m : Instance Node) × InstanceLike (Names (carried e)) k m × Leads (content u) (forms rules) j m }
+    ensures no_other_demands { (rules : Rules) (t u : Tree) (e : Edit) (i j m : Instance Node) → conforms rules.classes t 0 ≡ true
+        → edited rules.classes t e ≡ Ok u → IsUntouched rules t e i → InstanceLike (Names (carried e)) i j
+        → Leads (content u) (forms rules) j m
+        → (k : Instance Node) × InstanceLike (Names (carried e)) k m × Leads (content t) (forms rules) i k }
+    ensures support { (rules : Rules) (t u : Tree) (e : Edit) (i j : Instance Node) (l : Location Node) → conforms rules.classes t 0 ≡ true
+        → edited rules.classes t e ≡ Ok u → IsUntouched rules t e i → InstanceLike (Names (carried e)) i j
+        → Supports (content t) (forms rules) l i
+        → (m : Location Node) × LocationLike (Names (carried e)) l m × Supports (content u) (forms rules) m j }
+    ensures no_other_support { (rules : Rules) (t u : Tree) (e : Edit) (i j : Instance Node) (m : Location Node) → conforms rules.classes t 0 ≡ true
+        → edited rules.classes t e ≡ Ok u → IsUntouched rules t e i → InstanceLike (Names (carried e)) i j
+        → Supports (content u) (forms rules) m j
+        → (l : Location Node) × LocationLike (Names (carried e)) l m × Supports (content t) (forms rules) l i }
+{}
+
+/// Over numbered nodes that stand for those of a tree, an instance has the answer that the instance for which it stands has over
+/// the paths; and its outcome, what it leads to, and what it rests on are so in both directions.
+pub fn numbers_and_paths_by_formulas()
+    ensures answer { (path : ℕ → Option Node) → IsInjective path → (rules : Rules) (t : Tree) (numbers : Contents ℕ)
+        → ((l : Location ℕ) → AlikeAt (Names path) numbers (content t) l) → (i : Instance ℕ) (j : Instance Node) (a : Answer ℕ)
+        → InstanceLike (Names path) i j → Answers numbers (evaluation rules nat_eq) i a
+        → (b : Answer Node) × AnswerLike (Names path) a b × Answers (content t) (forms rules) j b }
+    ensures outcome { (path : ℕ → Option Node) → IsInjective path → (rules : Rules) (t : Tree) (numbers : Contents ℕ)
+        → ((l : Location ℕ) → AlikeAt (Names path) numbers (content t) l) → (i : Instance ℕ) (j : Instance Node) (o : Outcome ℕ)
+        → InstanceLike (Names path) i j → Holds numbers (evaluation rules nat_eq) i o
+        → (p : Outcome Node) × Holds (content t) (forms rules) j p × OutcomeLike (Names path) o p }
+    ensures outcome_back { (path : ℕ → Option Node) → IsInjective path → (rules : Rules) (t : Tree) (numbers : Contents ℕ)
+        → ((l : Location ℕ) → AlikeAt (Names path) numbers (content t) l) → (i : Instance ℕ) (j : Instance Node) (p : Outcome Node)
+        → InstanceLike (Names path) i j → Holds (content t) (forms rules) j p
+        → (o : Outcome ℕ) × Holds numbers (evaluation rules nat_eq) i o × OutcomeLike (Names path) o p }
+    ensures leads { (path : ℕ → Option Node) → IsInjective path → (rules : Rules) (t : Tree) (numbers : Contents ℕ)
+        → ((l : Location ℕ) → AlikeAt (Names path) numbers (content t) l) → (i k : Instance ℕ) (j : Instance Node)
+        → InstanceLike (Names path) i j → Leads numbers (evaluation rules nat_eq) i k
+        → (m : Instance Node) × InstanceLike (Names path) k m × Leads (content t) (forms rules) j m }
+    ensures leads_back { (path : ℕ → Option Node) → IsInjective path → (rules : Rules) (t : Tree) (numbers : Contents ℕ)
+        → ((l : Location ℕ) → AlikeAt (Names path) numbers (content t) l) → (i : Instance ℕ) (j m : Instance Node)
+        → InstanceLike (Names path) i j → Leads (content t) (forms rules) j m
+        → (k : Instance ℕ) × InstanceLike (Names path) k m × Leads numbers (evaluation rules nat_eq) i k }
+    ensures support { (path : ℕ → Option Node) → IsInjective path → (rules : Rules) (t : Tree) (numbers : Contents ℕ)
+        → ((l : Location ℕ) → AlikeAt (Names path) numbers (content t) l) → (i : Instance ℕ) (j : Instance Node) (l : Location ℕ)
+        → InstanceLike (Names path) i j → Supports numbers (evaluation rules nat_eq) l i
+        → (m : Location Node) × LocationLike (Names path) l m × Supports (content t) (forms rules) m j }
+    ensures support_back { (path : ℕ → Option Node) → IsInjective path → (rules : Rules) (t : Tree) (numbers : Contents ℕ)
+        → ((l : Location ℕ) → AlikeAt (Names path) numbers (content t) l) → (i : Instance ℕ) (j : Instance Node) (m : Location Node)
+        → InstanceLike (Names path) i j → Supports (content t) (forms rules) m j
+        → (l : Location ℕ) × LocationLike (Names path) l m × Supports numbers (evaluation rules nat_eq) l i }
 {}
