@@ -13,3 +13,5 @@ pub mod PlainRules
 pub mod PlainAnswers
 pub mod Components
 pub mod RingCases
+pub mod TypedForms
+pub mod TypedFormulas

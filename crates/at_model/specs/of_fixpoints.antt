@@ -6,3 +6,4 @@ pub mod Sets
 pub mod Circles
 pub mod Likeness
 pub mod FixpointSamples
+pub mod FormKinds

@@ -5,14 +5,19 @@ ghost use Rattle.at_model.specs.Trees.{Tree, conforms};
 ghost use Rattle.at_model.specs.Paths.{Node};
 ghost use Rattle.at_model.specs.Run.{Contents, Instance, Location, Truth, Value};
 ghost use Rattle.at_model.specs.Rules.{Rules, start_of};
-ghost use Rattle.at_model.specs.Meaning.{Answer, Equations, Outcome, content, equations};
+ghost use Rattle.at_model.specs.Meaning.{Among, Answer, Equations, Outcome, content, equations};
 ghost use Rattle.at_model.specs.Meaning as meaning;
 ghost use Rattle.at_model.specs.Support as support;
 ghost use Rattle.at_model.specs.Alike.{AlikeAt, AnswerLike, InstanceLike, IsInjective, LocationLike, Names, OutcomeLike};
 ghost use Rattle.at_model.specs.Edits.{Edit, carried, edited};
+ghost use Rattle.at_model.specs.Asking.{IsWellFormed};
+ghost use Rattle.at_model.specs.TypedRuns.{IsOfItsKind, class_at};
+ghost use Rattle.at_model.specs.Instances.{instances};
+ghost use Rattle.at_model.specs.WellFormed.{AreWellFormed, IsTreeSound};
 ghost use Rattle.at_model.specs.of_fixpoints.Circles.{Answers, Circular};
 ghost use Rattle.at_model.specs.of_fixpoints.Evaluations.{evaluation, forms};
 ghost use Rattle.at_model.specs.of_fixpoints.Fixpoints.{HasForm, HasValue, Holds};
+ghost use Rattle.at_model.specs.of_fixpoints.FormKinds.{AreBoolean};
 ghost use Rattle.at_model.specs.of_fixpoints.Formulas.{Formula, Forms};
 ghost use Rattle.at_model.specs.of_fixpoints.Likeness.{AlikeBelow, FormsLike};
 ghost use Rattle.at_model.specs.of_fixpoints.Resting.{IsUntouched, Leads, Supports};
@@ -206,4 +211,16 @@ pub fn numbers_and_paths_by_formulas()
         → ((l : Location ℕ) → AlikeAt (Names path) numbers (content t) l) → (i : Instance ℕ) (j : Instance Node) (m : Location Node)
         → InstanceLike (Names path) i j → Supports (content t) (forms rules) m j
         → (l : Location ℕ) × LocationLike (Names path) l m × Supports numbers (evaluation rules nat_eq) l i }
+{}
+
+/// With well-formed rules whose circular attributes are boolean, over a sound tree: all that an instance leads to is well formed,
+/// and stands in the list of instances; and the value of an instance is of the kind of its attribute.
+pub fn formulas_keep_to_the_kinds()
+    ensures demanded { (rules : Rules) → AreWellFormed rules → AreBoolean rules → (t : Tree) → IsTreeSound rules.classes t
+        → (i j : Instance Node) → IsWellFormed rules t i → Leads (content t) (forms rules) i j → IsWellFormed rules t j }
+    ensures listed { (rules : Rules) → AreWellFormed rules → AreBoolean rules → (t : Tree) → IsTreeSound rules.classes t
+        → (i j : Instance Node) → IsWellFormed rules t i → Leads (content t) (forms rules) i j → Among j (instances rules t i.arguments) }
+    ensures value { (rules : Rules) → AreWellFormed rules → AreBoolean rules → (t : Tree) → IsTreeSound rules.classes t
+        → (i : Instance Node) (v : Value Node) → IsWellFormed rules t i → HasValue (content t) (forms rules) i v
+        → IsOfItsKind rules (class_at t) i v }
 {}

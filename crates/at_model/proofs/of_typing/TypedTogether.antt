@@ -99,7 +99,7 @@ module _ (rules : Rules) (ok : AreWellFormed rules) (t : Tree) (sound : IsTreeSo
       })
 
   module _ (vs : List (Value Node)) where
-    met : AreMet rules t (IsGiven rules t vs)
+    pub met : AreMet rules t (IsGiven rules t vs)
     met = record {
       lined = chained rules.classes ok.hierarchy;
       typed = ok.typed;
