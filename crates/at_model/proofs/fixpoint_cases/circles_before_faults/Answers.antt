@@ -1,4 +1,4 @@
-use Rattle.at_model.proofs.of_fixpoints.RingCases.{fa_circle, fk_circle, fc_circle}
+use Rattle.at_model.proofs.of_formulas.RingCases.{fa_circle, fk_circle, fc_circle}
 use Rattle.at_model.proofs.fixpoint_cases.circles_before_faults.Goals as goal
 
 pub returns-clause-fa : goal.returns-clause-fa

@@ -1,4 +1,4 @@
-use Rattle.at_model.proofs.of_fixpoints.RingCases.{not_circle, x_circle, y_circle, u_circle}
+use Rattle.at_model.proofs.of_formulas.RingCases.{not_circle, x_circle, y_circle, u_circle}
 use Rattle.at_model.proofs.fixpoint_cases.circles_that_no_fixpoint_answers.Goals as goal
 
 pub returns-clause-not : goal.returns-clause-not

@@ -1,4 +1,4 @@
-use Rattle.at_model.proofs.of_fixpoints.RingCases.{deep_faults, m_faults, n_faults, ga_faults, gx_faults}
+use Rattle.at_model.proofs.of_formulas.RingCases.{deep_faults, m_faults, n_faults, ga_faults, gx_faults}
 use Rattle.at_model.proofs.fixpoint_cases.faults_in_rings.Goals as goal
 
 pub returns-clause-deep : goal.returns-clause-deep

@@ -1,4 +1,4 @@
-use Rattle.at_model.proofs.of_fixpoints.RingCases.{twice_true, guard_true}
+use Rattle.at_model.proofs.of_formulas.RingCases.{twice_true, guard_true}
 use Rattle.at_model.proofs.fixpoint_cases.places_of_demands.Goals as goal
 
 pub returns-clause-twice : goal.returns-clause-twice

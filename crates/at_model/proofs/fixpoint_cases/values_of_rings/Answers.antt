@@ -1,4 +1,4 @@
-use Rattle.at_model.proofs.of_fixpoints.RingCases.{j_true, j_false, self_false, top_true}
+use Rattle.at_model.proofs.of_formulas.RingCases.{j_true, j_false, self_false, top_true}
 use Rattle.at_model.proofs.fixpoint_cases.values_of_rings.Goals as goal
 
 pub returns-clause-with_c : goal.returns-clause-with_c

@@ -1,5 +1,5 @@
 use Rattle.at_model.proofs.of_likeness.CarryingCircles.{names_agree}
-use Rattle.at_model.proofs.of_fixpoints.CarriedByFormulas.{outcome_there, outcome_back}
+use Rattle.at_model.proofs.of_formulas.CarriedByFormulas.{outcome_there, outcome_back}
 use Rattle.at_model.proofs.fixpoint_laws.carried_outcome_by_formulas.Goals as goal
 
 pub returns : goal.returns

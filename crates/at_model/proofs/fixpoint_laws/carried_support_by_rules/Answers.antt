@@ -1,8 +1,8 @@
 use Rattle.at_model.specs.Meaning.{content}
 use Rattle.at_model.specs.of_fixpoints.Evaluations.{forms}
 use Rattle.at_model.proofs.of_likeness.CarryingCircles.{names_agree}
-use Rattle.at_model.proofs.of_fixpoints.CarriedByFormulas.{supports_there, supports_back}
-use Rattle.at_model.proofs.of_fixpoints.FormulasAlike.{forms-like}
+use Rattle.at_model.proofs.of_formulas.CarriedByFormulas.{supports_there, supports_back}
+use Rattle.at_model.proofs.of_formulas.FormulasAlike.{forms-like}
 use Rattle.at_model.proofs.fixpoint_laws.carried_support_by_rules.Goals as goal
 
 pub returns : goal.returns

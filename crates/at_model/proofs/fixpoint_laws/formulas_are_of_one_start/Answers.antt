@@ -1,5 +1,5 @@
 use Rattle.at_model.specs.Paths.{node_eq}
-use Rattle.at_model.proofs.of_fixpoints.StartsKept.{of_one_start}
+use Rattle.at_model.proofs.of_formulas.StartsKept.{of_one_start}
 use Rattle.at_model.proofs.fixpoint_laws.formulas_are_of_one_start.Goals as goal
 
 pub returns : goal.returns

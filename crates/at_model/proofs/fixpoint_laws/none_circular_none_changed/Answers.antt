@@ -1,5 +1,5 @@
-use Rattle.at_model.proofs.of_fixpoints.PlainForms.{holds_on_all, holds_back_all}
-use Rattle.at_model.proofs.of_fixpoints.PlainAnswers.{answers_on, answers_off, leads_on, leads_off, supports_on, supports_off}
+use Rattle.at_model.proofs.of_formulas.PlainForms.{holds_on_all, holds_back_all}
+use Rattle.at_model.proofs.of_formulas.PlainAnswers.{answers_on, answers_off, leads_on, leads_off, supports_on, supports_off}
 use Rattle.at_model.proofs.fixpoint_laws.none_circular_none_changed.Goals as goal
 
 pub returns : goal.returns

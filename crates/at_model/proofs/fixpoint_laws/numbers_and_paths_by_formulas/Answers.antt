@@ -7,12 +7,13 @@ use Rattle.at_model.specs.of_fixpoints.Evaluations.{evaluation, forms}
 use Rattle.at_model.specs.of_fixpoints.Likeness.{FormsLike}
 use Rattle.at_model.proofs.Nodes.{same_like, nat_eq-is, node_eq-is}
 use Rattle.at_model.proofs.of_likeness.CarryingCircles.{names_agree}
-use Rattle.at_model.proofs.of_fixpoints.CarriedByFormulas.{outcome_there, outcome_back, leads_there, leads_back, supports_there, supports_back}
-use Rattle.at_model.proofs.of_fixpoints.CarriedSearches.{answer_there}
-use Rattle.at_model.proofs.of_fixpoints.FormulasAlike.{evaluation-like}
+use Rattle.at_model.proofs.of_formulas.CarriedByFormulas.{outcome_there, outcome_back, leads_there, leads_back, supports_there, supports_back}
+use Rattle.at_model.proofs.of_formulas.CarriedSearches.{answer_there}
+use Rattle.at_model.proofs.of_formulas.FormulasAlike.{evaluation-like}
 use Rattle.at_model.proofs.fixpoint_laws.numbers_and_paths_by_formulas.Goals as goal
 
-like : (path : ℕ → Option Node) → IsInjective path → (rules : Rules) → FormsLike (Names path) (evaluation rules nat_eq) (forms rules)
+like : (path : ℕ → Option Node) → IsInjective path → (rules : Rules) →
+    FormsLike (Names path) (evaluation rules nat_eq) (forms rules)
 like path one rules = evaluation-like rules nat_eq node_eq (same_like nat_eq node_eq nat_eq-is node_eq-is path one)
 
 pub returns-clause-answer : goal.returns-clause-answer

@@ -1,5 +1,5 @@
 use Rattle.at_model.specs.Paths.{node_eq}
-use Rattle.at_model.proofs.of_fixpoints.PlainRules.{rules_plain}
+use Rattle.at_model.proofs.of_formulas.PlainRules.{rules_plain}
 use Rattle.at_model.proofs.fixpoint_laws.rules_without_circular_attributes.Goals as goal
 
 pub returns : goal.returns

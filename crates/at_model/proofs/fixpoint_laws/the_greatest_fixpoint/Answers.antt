@@ -1,5 +1,5 @@
 use Rattle.std.specs.Prelude.{◌≡◌, true}
-use Rattle.at_model.proofs.of_fixpoints.FixpointValues.{greatest}
+use Rattle.at_model.proofs.of_formulas.FixpointValues.{greatest}
 use Rattle.at_model.proofs.fixpoint_laws.the_greatest_fixpoint.Goals as goal
 
 pub returns : goal.returns

@@ -1,5 +1,5 @@
 use Rattle.std.specs.Prelude.{◌≡◌, false, true}
-use Rattle.at_model.proofs.of_fixpoints.FixpointValues.{smallest}
+use Rattle.at_model.proofs.of_formulas.FixpointValues.{smallest}
 use Rattle.at_model.proofs.fixpoint_laws.the_least_fixpoint.Goals as goal
 
 pub returns : goal.returns

@@ -11,9 +11,9 @@ use Rattle.at_model.specs.of_fixpoints.Resting.{IsUntouched}
 use Rattle.at_model.specs.of_fixpoints.Likeness.{AlikeBelow, FormsLike}
 use Rattle.at_model.proofs.of_edits.Edited.{carried_apart, edited_alike}
 use Rattle.at_model.proofs.of_likeness.CarryingCircles.{Agrees, names_agree}
-use Rattle.at_model.proofs.of_fixpoints.CarriedByFormulas.{leads_there, leads_back, supports_there, supports_back}
-use Rattle.at_model.proofs.of_fixpoints.CarriedSearches.{answer_there}
-use Rattle.at_model.proofs.of_fixpoints.FormulasAlike.{forms-like}
+use Rattle.at_model.proofs.of_formulas.CarriedByFormulas.{leads_there, leads_back, supports_there, supports_back}
+use Rattle.at_model.proofs.of_formulas.CarriedSearches.{answer_there}
+use Rattle.at_model.proofs.of_formulas.FormulasAlike.{forms-like}
 use Rattle.at_model.proofs.fixpoint_laws.what_is_not_touched_stays_by_formulas.Goals as goal
 
 -- nodes are told apart in both trees
@@ -30,7 +30,8 @@ below rules t u e i ok is free l rests = edited_alike rules.classes t ok e u is 
 
 pub returns-clause-answer : goal.returns-clause-answer
 returns-clause-answer c = λ rules t u e i j a ok is free same h.
-    answer_there (agree e) (content t) (content u) (forms rules) (forms rules) (like rules e) i j a same (below rules t u e i ok is free) h
+    answer_there (agree e) (content t) (content u) (forms rules) (forms rules) (like rules e) i j a same
+    (below rules t u e i ok is free) h
 
 pub returns-clause-demands : goal.returns-clause-demands
 returns-clause-demands c = λ rules t u e i j k ok is free same h.
@@ -44,8 +45,10 @@ returns-clause-no_other_demands c = λ rules t u e i j m ok is free same h.
 
 pub returns-clause-support : goal.returns-clause-support
 returns-clause-support c = λ rules t u e i j l ok is free same h.
-    supports_there (agree e) (content t) (content u) (forms rules) (forms rules) (like rules e) i j l (same, below rules t u e i ok is free) h
+    supports_there (agree e) (content t) (content u) (forms rules) (forms rules) (like rules e) i j l
+    (same, below rules t u e i ok is free) h
 
 pub returns-clause-no_other_support : goal.returns-clause-no_other_support
 returns-clause-no_other_support c = λ rules t u e i j m ok is free same h.
-    supports_back (agree e) (content t) (content u) (forms rules) (forms rules) (like rules e) i j m (same, below rules t u e i ok is free) h
+    supports_back (agree e) (content t) (content u) (forms rules) (forms rules) (like rules e) i j m
+    (same, below rules t u e i ok is free) h

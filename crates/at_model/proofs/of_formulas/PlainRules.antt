@@ -15,7 +15,7 @@ plain r = r >>= λ v. Gives (Known v)
 
 past_one : {N : Type 0} (o : Option N) (r : Run N (Formula N)) (s : Run N (Value N)) → r ≡ plain s →
     ◌≡◌ {A = Run N (Formula N)} (elim o [ None ↦ r | Some n ↦ Looks (Is n) (λ c. r) ])
-        (plain (elim o [ None ↦ s | Some n ↦ Looks (Is n) (λ c. s) ]))
+    (plain (elim o [ None ↦ s | Some n ↦ Looks (Is n) (λ c. s) ]))
 past_one None r s e = e
 past_one (Some n) r s e = ap (λ z. Looks (Is n) (λ c. z)) e
 
@@ -33,7 +33,7 @@ body_plain rules same scope r s (Some b) e = refl
 above_at : {N : Type 0} (rules : Rules) (same : N → N → Bool) (name : List ℕ) (vs : List (Value N)) (height : ℕ)
     (n : N) →
     ((m : N) → by_inherited rules same None name vs height m ≡ plain
-        (equation.by_inherited rules same name vs height m)) → (o : Option (N × ℕ)) →
+    (equation.by_inherited rules same name vs height m)) → (o : Option (N × ℕ)) →
     ◌≡◌ {A = Run N (Formula N)} (elim o [
       | None ↦ Fails Null
       | Some p ↦ Looks (Is p.0)
@@ -48,8 +48,8 @@ above_at : {N : Type 0} (rules : Rules) (same : N → N → Bool) (name : List �
 above_at rules same name vs height n rest None = refl
 above_at rules same name vs height n rest (Some p) =
     ap (Looks (Is p.0)) (λ i c. body_plain rules same (record { this = p.0; names = vs; child = Some n })
-        (by_inherited rules same None name vs height p.0) (equation.by_inherited rules same name vs height p.0)
-        (inherited_equation rules c p.1 name) (rest p.0) i)
+    (by_inherited rules same None name vs height p.0) (equation.by_inherited rules same name vs height p.0)
+    (inherited_equation rules c p.1 name) (rest p.0) i)
 
 above_plain : {N : Type 0} (rules : Rules) (same : N → N → Bool) (name : List ℕ) (vs : List (Value N)) (height : ℕ)
     (n : N) →
@@ -64,29 +64,29 @@ which true r t s u e f = e
 which false r t s u e f = f
 
 module _ {N : Type 0} (rules : Rules) (same : N → N → Bool) (none : (attribute : ℕ) → start_of rules attribute ≡ None)
-    where
-  inherited_plain : (i : Instance N) (height : ℕ) →
-      by_inherited rules same (start_of rules i.attribute) (attribute_name rules i.attribute) i.arguments height
-      i.node
-      ≡ plain (equation.by_inherited rules same (attribute_name rules i.attribute) i.arguments height i.node)
-  inherited_plain i height =
-      subst (λ z. by_inherited rules same z (attribute_name rules i.attribute) i.arguments height i.node
-      ≡ plain (equation.by_inherited rules same (attribute_name rules i.attribute) i.arguments height i.node)) (sym
-          (none i.attribute)) (above_plain rules same (attribute_name rules i.attribute) i.arguments height i.node)
+  where
+    inherited_plain : (i : Instance N) (height : ℕ) →
+        by_inherited rules same (start_of rules i.attribute) (attribute_name rules i.attribute) i.arguments height
+        i.node
+        ≡ plain (equation.by_inherited rules same (attribute_name rules i.attribute) i.arguments height i.node)
+    inherited_plain i height =
+        subst (λ z. by_inherited rules same z (attribute_name rules i.attribute) i.arguments height i.node
+        ≡ plain (equation.by_inherited rules same (attribute_name rules i.attribute) i.arguments height i.node)) (sym
+        (none i.attribute)) (above_plain rules same (attribute_name rules i.attribute) i.arguments height i.node)
 
-  own_plain : (i : Instance N) (c : ℕ) → by_own rules same i c ≡ plain (equation.by_own rules same i c)
-  own_plain i c = subst
-      (λ z. by_equation rules same z (record { this = i.node; names = i.arguments; child = None }) (Fails Null)
-      (own_equation rules c i.attribute) ≡ plain (equation.by_own rules same i c)) (sym (none i.attribute))
-      (body_plain rules same (record { this = i.node; names = i.arguments; child = None }) (Fails Null) (Fails Null)
-          (own_equation rules c i.attribute) refl)
+    own_plain : (i : Instance N) (c : ℕ) → by_own rules same i c ≡ plain (equation.by_own rules same i c)
+    own_plain i c = subst
+        (λ z. by_equation rules same z (record { this = i.node; names = i.arguments; child = None }) (Fails Null)
+        (own_equation rules c i.attribute) ≡ plain (equation.by_own rules same i c)) (sym (none i.attribute))
+        (body_plain rules same (record { this = i.node; names = i.arguments; child = None }) (Fails Null) (Fails Null)
+        (own_equation rules c i.attribute) refl)
 
-  within_plain : (height : ℕ) (i : Instance N) →
-      evaluation_within height rules same i ≡ plain (equation.evaluation_within height rules same i)
-  within_plain height i =
-      ap (Looks (Is i.node))
-      (λ x c. past_plain i.arguments _ _
-      (which (is_inherited rules i.attribute) _ _ _ _ (inherited_plain i height) (own_plain i c)) x)
+    within_plain : (height : ℕ) (i : Instance N) →
+        evaluation_within height rules same i ≡ plain (equation.evaluation_within height rules same i)
+    within_plain height i =
+        ap (Looks (Is i.node))
+        (λ x c. past_plain i.arguments _ _
+        (which (is_inherited rules i.attribute) _ _ _ _ (inherited_plain i height) (own_plain i c)) x)
 
-  pub rules_plain : evaluation rules same ≡ plain_forms (λ i. equation.evaluation rules same i)
-  rules_plain = λ x. record { starts = λ a. none a x; formula = λ i. within_plain max_depth i x }
+    pub rules_plain : evaluation rules same ≡ plain_forms (λ i. equation.evaluation rules same i)
+    rules_plain = λ x. record { starts = λ a. none a x; formula = λ i. within_plain max_depth i x }

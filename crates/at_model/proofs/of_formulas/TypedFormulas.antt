@@ -28,7 +28,7 @@ use Rattle.at_model.specs.of_fixpoints.Fixpoints.{Made, Ends, Valued, HoldsAt, E
 use Rattle.at_model.specs.of_fixpoints.Resting.{Comes, Leads, stays, goes}
 use Rattle.at_model.specs.of_fixpoints.Evaluations.{formula_of, by_equation, by_inherited, by_own, evaluation_within, forms}
 use Rattle.at_model.specs.of_fixpoints.FormKinds.{AreBoolean, IsFormulaOf, IsOfItsForm, AreFormsTyped}
-use Rattle.at_model.proofs.of_fixpoints.TypedForms.{form_typed}
+use Rattle.at_model.proofs.of_formulas.TypedForms.{form_typed}
 
 module _ (rules : Rules) (t : Tree) (Allowed : Texts) (ok : AreMet rules t Allowed) (boolean : AreBoolean rules) where
   abbrev F : Kind → Formula Node → Type 0
@@ -40,22 +40,22 @@ module _ (rules : Rules) (t : Tree) (Allowed : Texts) (ok : AreMet rules t Allow
   body_typed : (s : ScopeKinds) (e : Expr) (k : Kind) (start : Option Bool) →
       ((b : Bool) → start ≡ Some b → k ≡ kind.Truth) → HasKind rules s e k → (scope : Scope Node) →
       AllByRecursion Allowed (literals e) → IsOfScopeKinds rules.classes (class_at t) Allowed s scope →
-          Typed (F k) (formula_of rules node_eq start e scope)
+      Typed (F k) (formula_of rules node_eq start e scope)
   body_typed s e k None of x scope said stands =
       then_typed rules (class_at t) Allowed (content t) (λ v. IsOfKind rules.classes (class_at t) v k) (F k)
-          (eval rules.classes node_eq e scope) (λ v. Gives (Known v))
+      (eval rules.classes node_eq e scope) (λ v. Gives (Known v))
       (typed rules ok.lined (class_at t) Allowed (content t) ok.contents node_eq s e k x scope said stands) (λ v z. z)
   body_typed s e k (Some b) of x scope said stands =
       let q = of b refl in
       subst (λ z. Typed (F z) (formula_of rules node_eq (Some b) e scope)) (sym q)
       (form_typed rules ok.lined (class_at t) Allowed (content t) ok.contents node_eq s e k q x b true scope said
-          stands)
+      stands)
 
   one_past : {A : Type 0} (Q : A → Type 0) (vs : List (Value Node)) (r : Run Node A) →
       (AllByRecursion (IsLocationThere rules.classes (class_at t)) (argument_classes vs) → Typed Q r →
-          Typed Q (past_arguments vs r)) → Typed Q r →
+      Typed Q (past_arguments vs r)) → Typed Q r →
       (o : Option Node) → AllByRecursion (IsLocationThere rules.classes (class_at t))
-          (elim o [ None ↦ argument_classes vs | Some n ↦ Is n ∷ argument_classes vs ]) →
+      (elim o [ None ↦ argument_classes vs | Some n ↦ Is n ∷ argument_classes vs ]) →
       Typed Q (elim o [ None ↦ past_arguments vs r | Some n ↦ Looks (Is n) (λ c. past_arguments vs r) ])
   one_past Q vs r rest h None all = rest all h
   one_past Q vs r rest h (Some n) (x, all) = (x, rest all h)
@@ -85,17 +85,20 @@ module _ (rules : Rules) (t : Tree) (Allowed : Texts) (ok : AreMet rules t Allow
         by_body None e = tt
         by_body (Some body) e =
             let (eq, (kinds, said), above, same, is) =
-                own_there rules (λ (e : OwnEquation). IsOwnTyped rules e × AllByRecursion Allowed (literals e.body))
-                (all_two (IsOwnTyped rules) (λ (e : OwnEquation). AllByRecursion Allowed (literals e.body)) rules.own
-                ok.typed.own ok.said.own) (content t (Is i.node)) i.attribute body e in
+            own_there rules (λ (e : OwnEquation). IsOwnTyped rules e × AllByRecursion Allowed (literals e.body))
+            (all_two (IsOwnTyped rules) (λ (e : OwnEquation). AllByRecursion Allowed (literals e.body)) rules.own
+            ok.typed.own ok.said.own) (content t (Is i.node)) i.attribute body e in
             let x = own_body rules eq kinds w.declaration (ap (slice_get rules.attributes) same ∙ w.attribute) in
             let here = ok.contents.class i.node w.class w.node in
             subst (λ z. Typed (F w.declaration.result)
-                (formula_of rules node_eq (start_of rules i.attribute) z scope)) is
+            (formula_of rules node_eq (start_of rules i.attribute) z scope)) is
             (body_typed (record { this = eq.class; names = w.declaration.parameters; has_index = false }) eq.body
-                w.declaration.result (start_of rules i.attribute) start_is x scope said
-            (record { this = (w.class, w.node, subst (λ c. is_sub rules.classes c eq.class ≡ true) here above);
-                names = w.arguments; child = tt }))
+            w.declaration.result (start_of rules i.attribute) start_is x scope said
+            (record {
+              this = (w.class, w.node, subst (λ c. is_sub rules.classes c eq.class ≡ true) here above);
+              names = w.arguments;
+              child = tt;
+            }))
 
     -- by an equation above the node n
     module _ (inherits : w.declaration.is_inherited ≡ true) where
@@ -103,28 +106,36 @@ module _ (rules : Rules) (t : Tree) (Allowed : Texts) (ok : AreMet rules t Allow
           IsSome (class_at t p) → Typed (F w.declaration.result) rest → (o : Option Expr) →
           inherited_equation rules (content t (Is p)) part (attribute_name rules i.attribute) ≡ o →
           Typed (F w.declaration.result)
-              (by_equation rules node_eq (start_of rules i.attribute)
-              (record { this = p; names = i.arguments; child = Some n }) rest o)
+          (by_equation rules node_eq (start_of rules i.attribute)
+          (record { this = p; names = i.arguments; child = Some n }) rest o)
       body_above n p part rest there up h None e = h
       body_above n p part rest there up h (Some body) e =
           let (eq, (kinds, said), above, named, is) =
-              inherited_there rules
-              (λ (e : InheritedEquation). IsInheritedTyped rules e × AllByRecursion Allowed (literals e.body))
-              (all_two (IsInheritedTyped rules) (λ (e : InheritedEquation). AllByRecursion Allowed (literals e.body))
-              rules.inherited ok.typed.inherited ok.said.inherited) (content t (Is p)) part (attribute_name rules
-              i.attribute) body e in
+          inherited_there rules
+          (λ (e : InheritedEquation). IsInheritedTyped rules e × AllByRecursion Allowed (literals e.body))
+          (all_two (IsInheritedTyped rules) (λ (e : InheritedEquation). AllByRecursion Allowed (literals e.body))
+          rules.inherited ok.typed.inherited ok.said.inherited) (content t (Is p)) part (attribute_name rules
+          i.attribute) body e in
           let same = subst (λ z. bytes_eq eq.name z ≡ true)
-              (declared_name rules i.attribute w.declaration w.attribute) named in
+          (declared_name rules i.attribute w.declaration w.attribute) named in
           let x = kinds.body i.attribute w.declaration (w.attribute, inherits, same) in
           let (c, f) = some_class (class_at t p) up in
           subst (λ z. Typed (F w.declaration.result)
-              (formula_of rules node_eq (start_of rules i.attribute) z
-              (record { this = p; names = i.arguments; child = Some n }))) is
+          (formula_of rules node_eq (start_of rules i.attribute) z
+          (record { this = p; names = i.arguments; child = Some n }))) is
           (body_typed (record { this = eq.class; names = w.declaration.parameters; has_index = is_for_list rules eq })
-              eq.body w.declaration.result (start_of rules i.attribute) start_is x
+          eq.body w.declaration.result (start_of rules i.attribute) start_is x
           (record { this = p; names = i.arguments; child = Some n }) said
-          (record { this = (c, f, subst (λ z. is_sub rules.classes z eq.class ≡ true)
-              (ok.contents.class p c f) above); names = w.arguments; child = there }))
+          (record {
+            this = (
+              c,
+              f,
+              subst (λ z. is_sub rules.classes z eq.class ≡ true)
+                  (ok.contents.class p c f) above,
+            );
+            names = w.arguments;
+            child = there;
+          }))
         where
           some_class : (o : Option ℕ) → IsSome o → (c : ℕ) × (o ≡ Some c)
           some_class None h = absurd cc
@@ -132,9 +143,9 @@ module _ (rules : Rules) (t : Tree) (Allowed : Texts) (ok : AreMet rules t Allow
 
       at_parent : (height : ℕ) (n : Node) → IsSome (tree_at t n) →
           ((m : Node) → IsSome (tree_at t m) →
-              Typed (F w.declaration.result)
-              (by_inherited rules node_eq (start_of rules i.attribute) (attribute_name rules i.attribute) i.arguments
-              height m)) →
+          Typed (F w.declaration.result)
+          (by_inherited rules node_eq (start_of rules i.attribute) (attribute_name rules i.attribute) i.arguments
+          height m)) →
           (o p : Option (Node × ℕ)) → UpLike t o p →
           Typed (F w.declaration.result) (elim o as (λ _. Run Node (Formula Node)) [
             | None ↦ Fails Null
@@ -142,14 +153,14 @@ module _ (rules : Rules) (t : Tree) (Allowed : Texts) (ok : AreMet rules t Allow
                 (λ c. by_equation rules node_eq (start_of rules i.attribute)
                 (record { this = p.0; names = i.arguments; child = Some n })
                 (by_inherited rules node_eq (start_of rules i.attribute) (attribute_name rules i.attribute)
-                    i.arguments height p.0) (inherited_equation rules c p.1 (attribute_name rules i.attribute)))
+                i.arguments height p.0) (inherited_equation rules c p.1 (attribute_name rules i.attribute)))
           ])
       at_parent height n there rest _ _ neither = tt
       at_parent height n there rest _ _ (both {a = p} ((same, up), part)) = (
         node_there t p.0 up,
         body_above n p.0 p.1 (by_inherited rules node_eq (start_of rules i.attribute)
             (attribute_name rules i.attribute) i.arguments height p.0)
-        (node_there t n there) (node_there t p.0 up) (rest p.0 up)
+            (node_there t n there) (node_there t p.0 up) (rest p.0 up)
             (inherited_equation rules (content t (Is p.0)) p.1 (attribute_name rules i.attribute)) refl,
       )
 
@@ -158,9 +169,11 @@ module _ (rules : Rules) (t : Tree) (Allowed : Texts) (ok : AreMet rules t Allow
           (by_inherited rules node_eq (start_of rules i.attribute) (attribute_name rules i.attribute) i.arguments
           height n)
       above_typed zero n there = tt
-      above_typed (suc height) n there =
-          (node_there t n there, at_parent height n there (above_typed height) (content t (Up n)) (content t (Up n))
-          (parent_within t n there))
+      above_typed (suc height) n there = (
+        node_there t n there,
+        at_parent height n there (above_typed height) (content t (Up n)) (content t (Up n))
+            (parent_within t n there),
+      )
 
     pick_typed : {A : Type 0} (Q : A → Type 0) (b c : Bool) (r s : Run Node A) → c ≡ b → (b ≡ true → Typed Q r) →
         (b ≡ false → Typed Q s) → Typed Q (elim c as (λ _. Run Node A) [ true ↦ r | false ↦ s ])
@@ -180,19 +193,19 @@ module _ (rules : Rules) (t : Tree) (Allowed : Texts) (ok : AreMet rules t Allow
       rw w.node refl,
       past_typed (IsOfItsForm rules (class_at t) Allowed i) i.arguments _
           (arguments_sought rules.classes (class_at t) Allowed i.arguments w.declaration.parameters w.arguments)
-      (pick_typed (IsOfItsForm rules (class_at t) Allowed i) w.declaration.is_inherited
+          (pick_typed (IsOfItsForm rules (class_at t) Allowed i) w.declaration.is_inherited
           (is_inherited rules i.attribute)
-      (by_inherited rules node_eq (start_of rules i.attribute) (attribute_name rules i.attribute) i.arguments
+          (by_inherited rules node_eq (start_of rules i.attribute) (attribute_name rules i.attribute) i.arguments
           max_depth i.node) (by_own rules node_eq i (content t (Is i.node)))
-      (declared_inherited rules i.attribute w.declaration w.declaration.is_inherited w.attribute refl)
-      (λ inherits. less_typed rules (class_at t) Allowed (content t) (F w.declaration.result)
+          (declared_inherited rules i.attribute w.declaration w.declaration.is_inherited w.attribute refl)
+          (λ inherits. less_typed rules (class_at t) Allowed (content t) (F w.declaration.result)
           (IsOfItsForm rules (class_at t) Allowed i)
-      (by_inherited rules node_eq (start_of rules i.attribute) (attribute_name rules i.attribute) i.arguments
+          (by_inherited rules node_eq (start_of rules i.attribute) (attribute_name rules i.attribute) i.arguments
           max_depth i.node) its_form
-      (above_typed inherits max_depth i.node (node_is_there (tree_at t i.node) w.class w.node)))
-      (λ own. less_typed rules (class_at t) Allowed (content t) (F w.declaration.result)
+          (above_typed inherits max_depth i.node (node_is_there (tree_at t i.node) w.class w.node)))
+          (λ own. less_typed rules (class_at t) Allowed (content t) (F w.declaration.result)
           (IsOfItsForm rules (class_at t) Allowed i)
-      (by_own rules node_eq i (content t (Is i.node))) its_form (own_typed own))),
+          (by_own rules node_eq i (content t (Is i.node))) its_form (own_typed own))),
     )
 
   pub forms_typed : AreFormsTyped rules (class_at t) Allowed (content t) (forms rules)
@@ -204,7 +217,7 @@ module _ {N : Type 0} (rules : Rules) (boolean : AreBoolean rules) (at : ClassAt
   ends_typed : {A : Type 0} (H : Instance N → Outcome N → Type 0) →
       ((j : Instance N) (v : Value N) → IsWellTyped rules at Allowed j → H j (Finds v) → IsOfItsKind rules at j v) →
       (i : Instance N) (Q : A → Type 0) (r : Run N A) (a : A) → IsTypedRun rules at Allowed look Q r →
-          Ends look H i r (Made a) → Q a
+      Ends look H i r (Made a) → Q a
   ends_typed H lower i Q (Gives b) a h e = let f : b ≡ a = cc in subst Q f h
   ends_typed H lower i Q (Fails x) a h e = absurd cc
   ends_typed H lower i Q (Looks l k) a (s, h) e = ends_typed H lower i Q (k (look l)) a h e
@@ -215,7 +228,7 @@ module _ {N : Type 0} (rules : Rules) (boolean : AreBoolean rules) (at : ClassAt
   reached_typed : {A : Type 0} (Has : Instance N → Value N → Type 0) →
       ((j : Instance N) (v : Value N) → IsWellTyped rules at Allowed j → Has j v → IsOfItsKind rules at j v) →
       (Q : A → Type 0) (r : Run N A) (m : Instance N) → IsTypedRun rules at Allowed look Q r → Reaches look Has r m →
-          IsWellTyped rules at Allowed m
+      IsWellTyped rules at Allowed m
   reached_typed Has kinds Q (Gives a) m h x = absurd x
   reached_typed Has kinds Q (Fails f) m h x = absurd x
   reached_typed Has kinds Q (Looks l k) m (s, h) x = reached_typed Has kinds Q (k (look l)) m h x
@@ -253,7 +266,7 @@ module _ {N : Type 0} (rules : Rules) (boolean : AreBoolean rules) (at : ClassAt
     value_at (suc n) i v w (c, x) =
         by_start (λ j f. EndsAt look forms n j (Made f)) i v (forms.starts i.attribute) (starts i.attribute)
         (λ u e. ends_typed (HoldsAt look forms n) (value_at n) i (IsOfItsForm rules at Allowed i) (forms.formula i)
-            (Known u) (typed i w) e) x
+        (Known u) (typed i w) e) x
 
     pub value_typed : (i : Instance N) (v : Value N) → IsWellTyped rules at Allowed i → HasValue look forms i v →
         IsOfItsKind rules at i v
@@ -266,8 +279,8 @@ module _ {N : Type 0} (rules : Rules) (boolean : AreBoolean rules) (at : ClassAt
         (typed i w) x
     comes_typed i j w (inr (f, (n, x), a)) =
         atom_typed w.declaration.result f j
-            (ends_typed (HoldsAt look forms n) (value_at n) i (IsOfItsForm rules at Allowed i) (forms.formula i) f
-            (typed i w) x w.declaration w.attribute) a
+        (ends_typed (HoldsAt look forms n) (value_at n) i (IsOfItsForm rules at Allowed i) (forms.formula i) f
+        (typed i w) x w.declaration w.attribute) a
 
     pub leads_typed : (i j : Instance N) → IsWellTyped rules at Allowed i → Leads look forms i j →
         IsWellTyped rules at Allowed j

@@ -14,7 +14,7 @@ use Rattle.at_model.specs.of_fixpoints.Fixpoints.{HoldsAt, Holds, HasValue, HasF
 use Rattle.at_model.specs.of_fixpoints.Resting.{Comes, Leads, stays, goes, Supports}
 use Rattle.at_model.specs.of_fixpoints.Circles.{HasNone, WantsNone, Closes, back, again, formed, spoilt, comes_back, deeper, Circular, Answers}
 use Rattle.at_model.specs.of_fixpoints.Sets.{plain_forms}
-use Rattle.at_model.proofs.of_fixpoints.PlainForms.{holds_on_all, holds_back_all, plain_value}
+use Rattle.at_model.proofs.of_formulas.PlainForms.{holds_on_all, holds_back_all, plain_value}
 
 reaches_on : {N : Type 0} (look : Contents N) (Has Had : Instance N → Value N → Type 0) →
     ((i : Instance N) (v : Value N) → Has i v → Had i v) → (r : Run N (Value N)) (j : Instance N) →
@@ -89,15 +89,21 @@ module _ {N : Type 0} (look : Contents N) (equation : Equations N) where
 
   pub supports_on : (l : Location N) (i : Instance N) → support.Supports look equation l i →
       Supports look (plain_forms equation) l i
-  supports_on l i (j, p, x) =
-      (j, leads_on i j p, sees_on look (meaning.HasValue look equation) (HasValue look (plain_forms equation))
-      value_on (equation j) l x)
+  supports_on l i (j, p, x) = (
+    j,
+    leads_on i j p,
+    sees_on look (meaning.HasValue look equation) (HasValue look (plain_forms equation))
+        value_on (equation j) l x,
+  )
 
   pub supports_off : (l : Location N) (i : Instance N) → Supports look (plain_forms equation) l i →
       support.Supports look equation l i
-  supports_off l i (j, p, x) =
-      (j, leads_off i j p, sees_off look (meaning.HasValue look equation) (HasValue look (plain_forms equation))
-      value_off (equation j) l x)
+  supports_off l i (j, p, x) = (
+    j,
+    leads_off i j p,
+    sees_off look (meaning.HasValue look equation) (HasValue look (plain_forms equation))
+        value_off (equation j) l x,
+  )
 
   -- what has no outcome by equations has none
   none_on : (j : Instance N) → ((n : ℕ) → Settles look equation n j → ⊥) → HasNone look (plain_forms equation) j
@@ -105,9 +111,11 @@ module _ {N : Type 0} (look : Contents N) (equation : Equations N) where
 
   wants_on : (i j : Instance N) → meaning.Comes look equation i j → ((n : ℕ) → Settles look equation n j → ⊥) →
       WantsNone look (plain_forms equation) i j
-  wants_on i j c none =
-      (reaches_on look (meaning.HasValue look equation) (HasValue look (plain_forms equation)) value_on
-      (equation i) j c, none_on j none)
+  wants_on i j c none = (
+    reaches_on look (meaning.HasValue look equation) (HasValue look (plain_forms equation)) value_on
+        (equation i) j c,
+    none_on j none,
+  )
 
   -- one in front stands behind
   moved : (i m j : Instance N) (ms under : List (Instance N)) → Among j (i ∷ (m ∷ (ms ++ under))) →
@@ -123,7 +131,7 @@ module _ {N : Type 0} (look : Contents N) (equation : Equations N) where
   walk_closes : (under : List (Instance N)) (i : Instance N) (is : List (Instance N)) (j : Instance N) →
       ((n : ℕ) → Settles look equation n j → ⊥) →
       Distinct (i ∷ is) → ((k : Instance N) → Among k (i ∷ is) → Among k under → ⊥) → Walks look equation i is j →
-          Among j (i ∷ (is ++ under)) →
+      Among j (i ∷ (is ++ under)) →
       Closes look (plain_forms equation) under [] (i ∷ []) j
   walk_closes under i [] j none d apart w a =
       comes_back i j (λ o. apart i (inl refl) o.0) (λ z. z) (wants_on i j w none) a
@@ -132,12 +140,12 @@ module _ {N : Type 0} (look : Contents N) (equation : Equations N) where
       (λ z. elim z [ inl e ↦ x (inl (sym e)) | inr u ↦ apart m (inr (inl refl)) u ])
       (walk_closes (i ∷ under) m ms j none d
       (λ k h g. elim g [ inl e ↦ x (subst (λ z. Among z (m ∷ ms)) e h) | inr u ↦ apart k (inr h) u ]) w
-          (moved i m j ms under a))
+      (moved i m j ms under a))
 
   pub circle_on : (q j : Instance N) → meaning.Circular look equation q j → Circular look (plain_forms equation) q j
   circle_on q j (is, d, w, a) =
       walk_closes [] q is j (circle_has_none look equation q j (is, d, w, a)) d (λ k h g. g) w
-          (subst (λ z. Among j (q ∷ z)) (sym (append-nil is)) a)
+      (subst (λ z. Among j (q ∷ z)) (sym (append-nil is)) a)
 
   -- and one that stands behind stands in front
   put_back : (i k j : Instance N) (ks under : List (Instance N)) → Among j (k ∷ (ks ++ (i ∷ under))) →
@@ -157,13 +165,13 @@ module _ {N : Type 0} (look : Contents N) (equation : Equations N) where
   closes_walk : (under : List (Instance N)) (i j : Instance N) → (Among i under → ⊥) →
       Closes look (plain_forms equation) under [] (i ∷ []) j →
       (is : List (Instance N)) × Distinct (i ∷ is) × ((k : Instance N) → Among k is → Among k under → ⊥)
-          × Walks look equation i is j × Among j (i ∷ (is ++ under))
+      × Walks look equation i is j × Among j (i ∷ (is ++ under))
   closes_walk under _ _ apart (back i o) = absurd (apart o.0)
   closes_walk under _ j apart (again i o a x) = absurd a
   closes_walk under _ j apart (formed i f o a (n, e) x) =
       let (v, q) = plain_value look (HoldsAt look (plain_forms equation) n) i (equation i) f e in
       let y : Closes look (plain_forms equation) under (i ∷ []) [] j =
-          subst (λ z. Closes look (plain_forms equation) under (i ∷ []) (atoms z ++ []) j) q x in
+      subst (λ z. Closes look (plain_forms equation) under (i ∷ []) (atoms z ++ []) j) q x in
       absurd (elim y [ ])
   closes_walk under _ j apart (spoilt i at k o a e x) = absurd (elim x [ ])
   closes_walk under _ _ apart (comes_back i k o a w m) = ([], (λ z. z, tt), (λ b h g. h), comes_by i k w, m)
@@ -179,7 +187,7 @@ module _ {N : Type 0} (look : Contents N) (equation : Equations N) where
   pub circle_off : (q j : Instance N) → Circular look (plain_forms equation) q j → meaning.Circular look equation q j
   circle_off q j x =
       let (is, d, p, w, h) = closes_walk [] q j (λ z. z) x in
-          (is, d, w, subst (λ z. Among j (q ∷ z)) (append-nil is) h)
+      (is, d, w, subst (λ z. Among j (q ∷ z)) (append-nil is) h)
 
   -- answers are the same
   pub answers_on : (q : Instance N) (a : Answer N) → meaning.Answers look equation q a →

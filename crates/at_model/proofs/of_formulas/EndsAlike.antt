@@ -67,7 +67,7 @@ module _ {N M A B : Type 0} (R : N → M → Type 0) (Q : A → B → Type 0) (l
       let (p, g, s) = c j h (Finds v) (inl refl) u y in
       let (w, q, z) = found_like v s refl in
       let (e, f, l) = ends_there i k t (step v w z) (λ n m. a n (v, has j v y, m))
-          (λ b b' o m. c b b' o (inr (v, has j v y, m))) d x in
+      (λ b b' o m. c b b' o (inr (v, has j v y, m))) d x in
       (e, inl (w, subst (G h) q g, f), l)
   ends_there i k t (demands {i = j} {j = h} u step) a c d (inr (f, at, y, x)) =
       let (p, g, s) = c j h (Faults f at) (inl refl) u y in
@@ -86,7 +86,7 @@ module _ {N M A B : Type 0} (R : N → M → Type 0) (Q : A → B → Type 0) (l
       let (v, q, z) = found_back w s refl in
       let g' : H j (Finds v) = subst (H j) q g in
       let (d, f, l) = ends_back i k t (step v w z) (λ n m. a n (v, has j v g', m))
-          (λ b b' o m. c b b' o (inr (v, has j v g', m))) e x in
+      (λ b b' o m. c b b' o (inr (v, has j v g', m))) e x in
       (d, inl (v, g', f), l)
   ends_back i k t (demands {i = j} {j = h} u step) a c e (inr (f, at, y, x)) =
       let (p, g, s) = c j h (Faults f at) (inl refl) u y in

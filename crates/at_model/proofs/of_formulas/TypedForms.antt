@@ -47,14 +47,14 @@ module _ {N : Type 0} (rules : Rules) (lined : AreChained rules.classes) (at : C
   fold_of p test P [] g h = tt
   fold_of p test P (n ∷ ns) g (h, hs) =
       then_typed rules at Allowed look F F (test n) _ (g n h)
-          (λ f x. either_typed rules at Allowed look F (is_surely p f) (Gives f) _ x
+      (λ f x. either_typed rules at Allowed look F (is_surely p f) (Gives f) _ x
       (then_typed rules at Allowed look F F (fold_form p test ns) _ (fold_of p test P ns g hs)
-          (λ k y. joined_of (not p) f k x y)))
+      (λ k y. joined_of (not p) f k x y)))
 
   sides_of : (c : Bool) (r s : Run N (Formula N)) → Typed F r → Typed F s → Typed F (two_sides c r s)
   sides_of c r s g h =
       then_typed rules at Allowed look F F r _ g
-          (λ f x. either_typed rules at Allowed look F (is_surely (not c) f) (Gives f) _ x
+      (λ f x. either_typed rules at Allowed look F (is_surely (not c) f) (Gives f) _ x
       (then_typed rules at Allowed look F F s _ h (λ k y. joined_of c f k x y)))
 
   one_declaration : (a : ℕ) (d e : Attribute) → slice_get rules.attributes a ≡ Some d →
@@ -66,7 +66,7 @@ module _ {N : Type 0} (rules : Rules) (lined : AreChained rules.classes) (at : C
       Typed F (demanded (start_of rules) b p i)
   asked_of b p i d w e k =
       either_typed rules at Allowed look F (p && starts_from b (start_of rules i.attribute)) (Gives (Asks i))
-          (Demands i (λ v. Gives (Known (turned p v))))
+      (Demands i (λ v. Gives (Known (turned p v))))
       (w, λ c f. subst (λ (z : Attribute). z.result ≡ kind.Truth) (one_declaration i.attribute d c e f) k)
       (w, λ v its. turned_of p v (subst (λ z. IsOfKind rules.classes at v z) k (its d e)))
 
@@ -77,9 +77,9 @@ module _ {N : Type 0} (rules : Rules) (lined : AreChained rules.classes) (at : C
       Typed F (eval rules.classes same e scope >>= λ v. Gives (Known (turned p v)))
   plain s e k kk x p scope h i =
       then_typed rules at Allowed look (λ v. IsOfKind rules.classes at v k) F (eval rules.classes same e scope)
-          (λ v. Gives (Known (turned p v)))
+      (λ v. Gives (Known (turned p v)))
       (typed rules lined at Allowed look contents same s e k x scope h i)
-          (λ v z. turned_of p v (subst (λ z. IsOfKind rules.classes at v z) kk z))
+      (λ v z. turned_of p v (subst (λ z. IsOfKind rules.classes at v z) kk z))
 
   pub form_typed : (s : ScopeKinds) (e : Expr) (k : Kind) → k ≡ kind.Truth → HasKind rules s e k →
       (b p : Bool) (scope : Scope N) → AllByRecursion Allowed (literals e) →
@@ -112,22 +112,22 @@ module _ {N : Type 0} (rules : Rules) (lined : AreChained rules.classes) (at : C
       plain s (Differ a c) k kk (has.differ l m alike x y) p scope h i
   form_typed s _ k kk (has.and {a = a} {b = c} x y) b p scope h i =
       sides_of p (form rules.classes same (start_of rules) b p a scope)
-          (form rules.classes same (start_of rules) b p c scope)
+      (form rules.classes same (start_of rules) b p c scope)
       (form_typed s a kind.Truth refl x b p scope (both_all Allowed (literals a) (literals c) h).0 i)
-          (form_typed s c kind.Truth refl y b p scope (both_all Allowed (literals a) (literals c) h).1 i)
+      (form_typed s c kind.Truth refl y b p scope (both_all Allowed (literals a) (literals c) h).1 i)
   form_typed s _ k kk (has.or {a = a} {b = c} x y) b p scope h i =
       sides_of (not p) (form rules.classes same (start_of rules) b p a scope)
-          (form rules.classes same (start_of rules) b p c scope)
+      (form rules.classes same (start_of rules) b p c scope)
       (form_typed s a kind.Truth refl x b p scope (both_all Allowed (literals a) (literals c) h).0 i)
-          (form_typed s c kind.Truth refl y b p scope (both_all Allowed (literals a) (literals c) h).1 i)
+      (form_typed s c kind.Truth refl y b p scope (both_all Allowed (literals a) (literals c) h).1 i)
   form_typed s _ k kk (has.choose {c = d} {a = a} {b = c} l x y z) b p scope h i =
       let (hd, hac) = both_all Allowed (literals d) (literals a ++ literals c) h in
       let (ha, hc) = both_all Allowed (literals a) (literals c) hac in
       then_typed rules at Allowed look (λ v. IsOfKind rules.classes at v kind.Truth) F
-          (eval rules.classes same d scope) _
+      (eval rules.classes same d scope) _
       (typed rules lined at Allowed look contents same s d kind.Truth x scope hd i)
       (λ v _. either_typed rules at Allowed look F (truth_of v) _ _ (form_typed s a l kk y b p scope ha i)
-          (form_typed s c l kk z b p scope hc i))
+      (form_typed s c l kk z b p scope hc i))
   form_typed s _ k kk (has.equals {a = a} {b = c} x y) b p scope h i =
       plain s (Equals a c) k kk (has.equals x y) p scope h i
   form_typed s _ k kk (has.instance_of {a = a} c class there x) b p scope h i =
@@ -147,28 +147,35 @@ module _ {N : Type 0} (rules : Rules) (lined : AreChained rules.classes) (at : C
   form_typed s _ k kk (has.call {a = a} {es = es} c attribute d e sub x ys) b p scope h i =
       let (ha, hes) = both_all Allowed (literals a) (all_literals es) h in
       then_typed rules at Allowed look (λ v. IsOfKind rules.classes at v (kind.Class c)) F
-          (eval rules.classes same a scope) _
+      (eval rules.classes same a scope) _
       (typed rules lined at Allowed look contents same s a (kind.Class c) x scope ha i) (λ v z.
       then_typed rules at Allowed look (λ vs. AreArguments rules.classes at Allowed vs d.parameters) F
-          (eval_all rules.classes same es scope) _
+      (eval_all rules.classes same es scope) _
       (all_typed rules lined at Allowed look contents same s es d.parameters ys scope hes i) (λ vs u.
       of_node rules lined at Allowed look contents same F c v
-          (λ n. demanded (start_of rules) b p (record { node = n; attribute = attribute; arguments = vs })) z
-          (λ n y there below.
+      (λ n. demanded (start_of rules) b p (record { node = n; attribute = attribute; arguments = vs })) z
+      (λ n y there below.
       asked_of b p (record { node = n; attribute = attribute; arguments = vs }) d
-      (record { class = y; declaration = d; node = there; attribute = e; declared =
-          sub_sub rules.classes lined y c d.class below sub; arguments = u }) e kk)))
+      (record {
+        class = y;
+        declaration = d;
+        node = there;
+        attribute = e;
+        declared =
+            sub_sub rules.classes lined y c d.class below sub;
+        arguments = u;
+      }) e kk)))
   form_typed s _ k kk (has.exists {a = a} {e = f} c part d e x y) b p scope h i =
       let (ha, hf) = both_all Allowed (literals a) (literals f) h in
       then_typed rules at Allowed look (λ v. IsOfKind rules.classes at v (kind.Class c)) F
-          (eval rules.classes same a scope) _
+      (eval rules.classes same a scope) _
       (typed rules lined at Allowed look contents same s a (kind.Class c) x scope ha i) (λ v z.
       then_typed rules at Allowed look (AllByRecursion (λ m. IsNodeOf rules.classes at m d)) F (elements_of part v) _
       (elements_typed rules lined at Allowed look contents same c part d v e z) (λ ns all.
       fold_of p (λ n. form rules.classes same (start_of rules) b p f (bound scope n))
-          (λ m. IsNodeOf rules.classes at m d) ns
+      (λ m. IsNodeOf rules.classes at m d) ns
       (λ n there. form_typed (bound_kinds s d) f kind.Truth refl y b p (bound scope n) hf
-          (bound_scope rules lined at Allowed look contents same s scope n d i there)) all))
+      (bound_scope rules lined at Allowed look contents same s scope n d i there)) all))
   form_typed s _ k kk (has.first {a = a} {e = f} c part d e x y) b p scope h i =
       plain s (First a part f) k kk (has.first c part d e x y) p scope h i
   form_typed s _ k kk (has.sum {a = a} {e = f} c part d e x y) b p scope h i =

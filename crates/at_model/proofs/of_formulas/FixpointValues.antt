@@ -9,7 +9,7 @@ use Rattle.at_model.specs.of_fixpoints.Formulas.{Formula, Known, Asks, Both, Eit
 use Rattle.at_model.specs.of_fixpoints.Fixpoints.{Made, LeadsOver, stays, goes, AreFormed, Leaves, known, asks, true_both, true_left, true_right, false_left, false_right, false_both, Valued, EndsAt, Holds, HasValue, HasForm}
 use Rattle.at_model.specs.of_fixpoints.Sets.{IsWhere, AreOfOneStart}
 use Rattle.at_model.specs.of_fixpoints.Sets as so
-use Rattle.at_model.proofs.of_fixpoints.UniqueOutcomes.{once, ends_at, leaves_over, closed, itself}
+use Rattle.at_model.proofs.of_formulas.UniqueOutcomes.{once, ends_at, leaves_over, closed, itself}
 
 -- a derivation shows whatever is closed under the formulas
 pub shown : {N : Type 0} (has : Instance N → Formula N → Type 0) (P : Instance N → Type 0) (b : Bool) →
@@ -189,7 +189,7 @@ module _ {N : Type 0} (look : Contents N) (forms : Forms N) where
   within n b j c e (zero, x) = absurd x
   within n b j c e (suc m, (d, v)) =
       leaves_over (EndsAt look forms m) (EndsAt look forms n) (ends_at look forms m n)
-          (LeadsOver (EndsAt look forms n) j)
+      (LeadsOver (EndsAt look forms n) j)
       (closed (EndsAt look forms n) j c) b (Asks j)
       (left_it (FormedAt m) b j (forms.starts j.attribute) (Truth (not b)) e refl v) (itself (EndsAt look forms n) j)
 
@@ -238,15 +238,14 @@ module _ {N : Type 0} (look : Contents N) (forms : Forms N) where
       let (g, y) = c i (stays i) in
       let q : Made f ≡ Made g = ends_at look forms m n i (Made f) (Made g) a y in let q' : g ≡ f = cc in
       let l = leaves_by (FormedAt n) b (not b) f refl
-          (more_so (λ k. HasValue look forms k (Truth (not b))) (λ j. Leaves (FormedAt n) b (Asks j)) (not b) f
-          (λ j h u. within n b j (formed_there n i j g y (subst (λ w. Among j (atoms w)) (sym q') h) c)
-          (same i j f (m, a) h ∙ e) u) t) in
-      (
+      (more_so (λ k. HasValue look forms k (Truth (not b))) (λ j. Leaves (FormedAt n) b (Asks j)) (not b) f
+      (λ j h u. within n b j (formed_there n i j g y (subst (λ w. Among j (atoms w)) (sym q') h) c)
+      (same i j f (m, a) h ∙ e) u) t) in (
         suc n,
         (
           c,
           has_left (FormedAt n) b i (forms.starts i.attribute) e
-          (asks b i f (subst (λ w. FormedAt n i w) q' y) l),
+              (asks b i f (subst (λ w. FormedAt n i w) q' y) l),
         ),
       )
 
@@ -257,8 +256,14 @@ module _ {N : Type 0} (look : Contents N) (forms : Forms N) where
   by_start n b i v None e c is w = absurd cc
   by_start n b i v (Some d) e c is (inl (x, p)) =
       let q : d ≡ b = cc in
-      inr (suc n, (c, has_left (FormedAt n) b i (forms.starts i.attribute) (sym is ∙ e)
-      (subst (λ z. Leaves (FormedAt n) z (Asks i)) q x)))
+      inr (
+        suc n,
+        (
+          c,
+          has_left (FormedAt n) b i (forms.starts i.attribute) (sym is ∙ e)
+              (subst (λ z. Leaves (FormedAt n) z (Asks i)) q x),
+        ),
+      )
   by_start n b i v (Some d) e c is (inr (x, p)) = let q : d ≡ b = cc in inl (p ∙ ap Truth q)
 
   either_value : (b : Bool) (i : Instance N) (v : Value N) → forms.starts i.attribute ≡ Some b →
@@ -296,7 +301,7 @@ module _ {N : Type 0} (look : Contents N) (forms : Forms N) where
   pub greatest : (In : Instance N → Type 0) (b : Bool) →
       ((i : Instance N) (f : Formula N) → HasForm look forms i f → In i → IsWhere In b f) →
       (i : Instance N) (v : Value N) → forms.starts i.attribute ≡ Some b → HasValue look forms i v → In i →
-          v ≡ Truth b
+      v ≡ Truth b
   greatest In b stands i v e h x = elim (either_value b i v e h) [
     | inl p ↦ p
     | inr l ↦ absurd (smallest (λ k. In k → ⊥) b

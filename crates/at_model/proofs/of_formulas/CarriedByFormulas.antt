@@ -11,8 +11,8 @@ use Rattle.at_model.specs.of_fixpoints.Formulas.{Formula, atoms, Forms}
 use Rattle.at_model.specs.of_fixpoints.Fixpoints.{End, Made, Spoilt, HoldsOver, HoldsAt, EndsAt, Holds, HasValue, HasForm, EndsSo}
 use Rattle.at_model.specs.of_fixpoints.Resting.{Comes, Leads, stays, goes, Supports}
 use Rattle.at_model.specs.of_fixpoints.Likeness.{FormulaLike, known_like, asks_like, both_like, either_like, FormsLike, AlikeBelow}
-use Rattle.at_model.proofs.of_fixpoints.EndsAlike.{EndLike, made, spoils, found_like, found_back, ends_there, ends_back, reached_there, reached_back, seen_there, seen_back}
-use Rattle.at_model.proofs.of_fixpoints.Matching.{Matches, knows, wants, joins, chooses, EndMatches, makes, spoils as spoils_there, OutcomeMatches, finds, faults, flip, AreMatched, turned, settled_on, formed_on, atoms_match, match_of}
+use Rattle.at_model.proofs.of_formulas.EndsAlike.{EndLike, made, spoils, found_like, found_back, ends_there, ends_back, reached_there, reached_back, seen_there, seen_back}
+use Rattle.at_model.proofs.of_formulas.Matching.{Matches, knows, wants, joins, chooses, EndMatches, makes, spoils as spoils_there, OutcomeMatches, finds, faults, flip, AreMatched, turned, settled_on, formed_on, atoms_match, match_of}
 
 truth_on : {N M : Type 0} {R : N → M → Type 0} {v : Value N} (b : Bool) (w : Value M) → v ≡ Truth b →
     ValueLike R v w → w ≡ Truth b
@@ -81,8 +81,8 @@ module _ {N M : Type 0} {R : N → M → Type 0} (agree : Agrees R) (look : Cont
       (e : End M (Formula M)) × EndsAt also other n k e × EndMatches IsCarried (InstanceLike R) (ValueLike R) d e
   end_on n on j k d (t, a) x =
       let (e, y, l) = ends_there R (FormulaLike R) look also (HasValue look forms) (HoldsAt look forms n)
-          (HoldsAt also other n) (has_at n) j k t (like.formulas j k t)
-          (λ l h. a l (j, stays j, h)) (λ i h o r u. on i h o (carried_next j i h a (inl r) u)) d x in
+      (HoldsAt also other n) (has_at n) j k t (like.formulas j k t)
+      (λ l h. a l (j, stays j, h)) (λ i h o r u. on i h o (carried_next j i h a (inl r) u)) d x in
       (e, y, end_matched n j d e a x l)
 
   end_back : (n : ℕ) → BackAt n → (j : Instance N) (k : Instance M) (e : End M (Formula M)) → IsCarried j k →
@@ -90,8 +90,8 @@ module _ {N M : Type 0} {R : N → M → Type 0} (agree : Agrees R) (look : Cont
       (d : End N (Formula N)) × EndsAt look forms n j d × EndMatches IsCarried (InstanceLike R) (ValueLike R) d e
   end_back n back j k e (t, a) x =
       let (d, y, l) = ends_back R (FormulaLike R) look also (HasValue look forms) (HoldsAt look forms n)
-          (HoldsAt also other n) (has_at n) j k t (like.formulas j k t)
-          (λ l h. a l (j, stays j, h)) (λ i h o r u. back i h o (carried_next j i h a (inl r) u)) e x in
+      (HoldsAt also other n) (has_at n) j k t (like.formulas j k t)
+      (λ l h. a l (j, stays j, h)) (λ i h o r u. back i h o (carried_next j i h a (inl r) u)) e x in
       (d, y, end_matched n j d e a y l)
 
   matched_at : (n : ℕ) → OnAt n → BackAt n → AreMatched IsCarried (InstanceLike R) (ValueLike R) (EndsAt look forms n)
@@ -115,16 +115,16 @@ module _ {N M : Type 0} {R : N → M → Type 0} (agree : Agrees R) (look : Cont
       (EndsAt also other n) → OnAt (suc n)
   on_next n m j k o s h =
       let (p, y, l) = settled_on IsCarried (InstanceLike R) (ValueLike R) (EndsAt look forms n)
-          (EndsAt also other n) m j k (forms.starts j.attribute) o s h in
+      (EndsAt also other n) m j k (forms.starts j.attribute) o s h in
       (p, subst (λ z. HoldsOver (EndsAt also other n) z k p) (same_start j k s.0) y, like_of l)
 
   back_next : (n : ℕ) → AreMatched IsCarried (InstanceLike R) (ValueLike R) (EndsAt look forms n)
       (EndsAt also other n) → BackAt (suc n)
   back_next n m j k p s h =
       let (o, y, l) = settled_on (flip IsCarried) (flip (InstanceLike R)) (flip (ValueLike R)) (EndsAt also other n)
-          (EndsAt look forms n)
-          (turned IsCarried (InstanceLike R) (ValueLike R) (EndsAt look forms n) (EndsAt also other n) m) k j
-              (other.starts k.attribute) p s h in
+      (EndsAt look forms n)
+      (turned IsCarried (InstanceLike R) (ValueLike R) (EndsAt look forms n) (EndsAt also other n) m) k j
+      (other.starts k.attribute) p s h in
       (o, subst (λ z. HoldsOver (EndsAt look forms n) z j o) (sym (same_start j k s.0)) y, like_back_of l)
 
   both_ways : (n : ℕ) → OnAt n × BackAt n
@@ -170,9 +170,9 @@ module _ {N M : Type 0} {R : N → M → Type 0} (agree : Agrees R) (look : Cont
       (f : Formula N) × HasForm look forms i f × Matches (flip IsCarried) (flip (ValueLike R)) g f
   form_back i k g s (n, x) =
       let (f, y, l) = formed_on (flip IsCarried) (flip (InstanceLike R)) (flip (ValueLike R)) (EndsAt also other n)
-          (EndsAt look forms n)
-          (turned IsCarried (InstanceLike R) (ValueLike R) (EndsAt look forms n) (EndsAt also other n)
-              (all_matched n)) k i g s x in
+      (EndsAt look forms n)
+      (turned IsCarried (InstanceLike R) (ValueLike R) (EndsAt look forms n) (EndsAt also other n)
+      (all_matched n)) k i g s x in
       (f, (n, y), l)
 
   -- an evaluation reaches like instances
@@ -181,8 +181,8 @@ module _ {N M : Type 0} {R : N → M → Type 0} (agree : Agrees R) (look : Cont
       (h : Instance M) × IsCarried j h × Reaches also (HasValue also other) (other.formula k) h
   reaches_there i j k (t, a) x =
       let (h, u, y) = reached_there R (FormulaLike R) look also (HasValue look forms) (HasValue also other)
-          (like.formulas i k t)
-          (λ l h. a l (i, stays i, h)) (λ b d v r u. value_there b d v (carried_next i b d a (inl r) u)) j x in
+      (like.formulas i k t)
+      (λ l h. a l (i, stays i, h)) (λ b d v r u. value_there b d v (carried_next i b d a (inl r) u)) j x in
       (h, carried_next i j h a (inl x) u, y)
 
   reaches_back : (i : Instance N) (k h : Instance M) → IsCarried i k →
@@ -190,8 +190,8 @@ module _ {N M : Type 0} {R : N → M → Type 0} (agree : Agrees R) (look : Cont
       (j : Instance N) × IsCarried j h × Reaches look (HasValue look forms) (forms.formula i) j
   reaches_back i k h (t, a) x =
       let (j, u, y) = reached_back R (FormulaLike R) look also (HasValue look forms) (HasValue also other)
-          (like.formulas i k t)
-          (λ l h. a l (i, stays i, h)) (λ b d v r u. value_back b d v (carried_next i b d a (inl r) u)) h x in
+      (like.formulas i k t)
+      (λ l h. a l (i, stays i, h)) (λ b d v r u. value_back b d v (carried_next i b d a (inl r) u)) h x in
       (j, carried_next i j h a (inl y) u, y)
 
   -- an instance comes to like instances
@@ -234,8 +234,8 @@ module _ {N M : Type 0} {R : N → M → Type 0} (agree : Agrees R) (look : Cont
   supports_there i k l s (j, p, x) =
       let (h, (t, a), q) = leads_there i j k s p in
       let (m, u, y) = seen_there R (FormulaLike R) look also (HasValue look forms) (HasValue also other)
-          (like.formulas j h t)
-          (λ n z. a n (j, stays j, z)) (λ b d v r u. value_there b d v (carried_next j b d a (inl r) u)) l x in
+      (like.formulas j h t)
+      (λ n z. a n (j, stays j, z)) (λ b d v r u. value_there b d v (carried_next j b d a (inl r) u)) l x in
       (m, u, (h, q, y))
 
   pub supports_back : (i : Instance N) (k : Instance M) (m : Location M) → IsCarried i k → Supports also other m k →
@@ -243,6 +243,6 @@ module _ {N M : Type 0} {R : N → M → Type 0} (agree : Agrees R) (look : Cont
   supports_back i k m s (h, p, x) =
       let (j, (t, a), q) = leads_back i k h s p in
       let (l, u, y) = seen_back R (FormulaLike R) look also (HasValue look forms) (HasValue also other)
-          (like.formulas j h t)
-          (λ n z. a n (j, stays j, z)) (λ b d v r u. value_back b d v (carried_next j b d a (inl r) u)) m x in
+      (like.formulas j h t)
+      (λ n z. a n (j, stays j, z)) (λ b d v r u. value_back b d v (carried_next j b d a (inl r) u)) m x in
       (l, u, (j, q, y))

@@ -79,8 +79,10 @@ asked_start : {N : Type 0} (starts : Starts) (b p s : Bool) (i : Instance N) →
     starts_from b (starts i.attribute) ≡ s →
     GivesOnly (StartFrom starts b) (cond (p && s) (Gives (Asks i)) (Demands i (λ v. Gives (Known (turned p v)))))
 asked_start starts b true true i e =
-    λ k h. elim h [ inl r ↦ subst (λ z. starts z.attribute ≡ Some b) (sym r) (started b (starts i.attribute) e)
-    | inr u ↦ absurd u ]
+    λ k h. elim h [
+      | inl r ↦ subst (λ z. starts z.attribute ≡ Some b) (sym r) (started b (starts i.attribute) e)
+      | inr u ↦ absurd u
+    ]
 asked_start starts b true false i e = λ v k h. absurd h
 asked_start starts b false s i e = λ v k h. absurd h
 
@@ -90,16 +92,16 @@ fold_start : {N : Type 0} (starts : Starts) (b p : Bool) (test : N → Run N (Fo
 fold_start starts b p test g [] = λ k h. absurd h
 fold_start starts b p test g (n ∷ ns) =
     and_then (StartFrom starts b) (StartFrom starts b) (test n) _ (g n)
-        (λ f x. cond_only (StartFrom starts b) (is_surely p f) (Gives f) _ x
+    (λ f x. cond_only (StartFrom starts b) (is_surely p f) (Gives f) _ x
     (and_then (StartFrom starts b) (StartFrom starts b) (fold_form p test ns) _ (fold_start starts b p test g ns)
-        (λ h y. joined_start starts b (not p) f h x y)))
+    (λ h y. joined_start starts b (not p) f h x y)))
 
 sides_start : {N : Type 0} (starts : Starts) (b c : Bool) (r s : Run N (Formula N)) →
     GivesOnly (StartFrom starts b) r → GivesOnly (StartFrom starts b) s →
     GivesOnly (StartFrom starts b) (two_sides c r s)
 sides_start starts b c r s g h =
     and_then (StartFrom starts b) (StartFrom starts b) r _ g
-        (λ f x. cond_only (StartFrom starts b) (is_surely (not c) f) (Gives f) _ x
+    (λ f x. cond_only (StartFrom starts b) (is_surely (not c) f) (Gives f) _ x
     (and_then (StartFrom starts b) (StartFrom starts b) s _ h (λ k y. joined_start starts b c f k x y)))
 
 form_start : {N : Type 0} (classes : Classes) (same : N → N → Bool) (starts : Starts) (b p : Bool) (e : Expr)
@@ -113,17 +115,17 @@ form_start classes same starts b p (Or e f) scope =
     (form_start classes same starts b p f scope)
 form_start classes same starts b p (Choose c e f) scope =
     then_only (StartFrom starts b) (eval classes same c scope) _
-        (λ v. cond_only (StartFrom starts b) (truth_of v) _ _ (form_start classes same starts b p e scope)
-        (form_start classes same starts b p f scope))
+    (λ v. cond_only (StartFrom starts b) (truth_of v) _ _ (form_start classes same starts b p e scope)
+    (form_start classes same starts b p f scope))
 form_start classes same starts b p (Call e attribute es) scope =
     then_only (StartFrom starts b) (eval classes same e scope) _
-        (λ v. then_only (StartFrom starts b) (eval_all classes same es scope) _
-        (λ vs. then_only (StartFrom starts b) (node_of v) _ (λ n.
+    (λ v. then_only (StartFrom starts b) (eval_all classes same es scope) _
+    (λ vs. then_only (StartFrom starts b) (node_of v) _ (λ n.
     asked_start starts b p (starts_from b (starts attribute))
-        (record { node = n; attribute = attribute; arguments = vs }) refl)))
+    (record { node = n; attribute = attribute; arguments = vs }) refl)))
 form_start classes same starts b p (Exists e part f) scope =
     then_only (StartFrom starts b) (eval classes same e scope) _
-        (λ v. then_only (StartFrom starts b) (elements_of part v) _ (λ ns.
+    (λ v. then_only (StartFrom starts b) (elements_of part v) _ (λ ns.
     fold_start starts b p _ (λ n. form_start classes same starts b p f (bound scope n)) ns))
 form_start classes same starts b p e scope =
     then_only (StartFrom starts b) (eval classes same e scope) (λ v. Gives (Known (turned p v))) (λ v k h. absurd h)
@@ -144,7 +146,7 @@ body_start rules same (Some b) scope r (Some e) g = form_start rules.classes sam
 above_at : {N : Type 0} (rules : Rules) (same : N → N → Bool) (start : Option Bool) (name : List ℕ)
     (vs : List (Value N)) (height : ℕ) (n : N) →
     ((m : N) → GivesOnly (OfStart (start_of rules) start) (by_inherited rules same start name vs height m)) →
-        (c : Option (N × ℕ)) →
+    (c : Option (N × ℕ)) →
     GivesOnly (OfStart (start_of rules) start) (elim c as (λ _. Run N (Formula N)) [
       | None ↦ Fails Null
       | Some p ↦ Looks (Is p.0)
@@ -154,7 +156,7 @@ above_at : {N : Type 0} (rules : Rules) (same : N → N → Bool) (start : Optio
 above_at rules same start name vs height n rest None = tt
 above_at rules same start name vs height n rest (Some p) = λ d.
     body_start rules same start (record { this = p.0; names = vs; child = Some n })
-        (by_inherited rules same start name vs height p.0) (inherited_equation rules d p.1 name) (rest p.0)
+    (by_inherited rules same start name vs height p.0) (inherited_equation rules d p.1 name) (rest p.0)
 
 above_start : {N : Type 0} (rules : Rules) (same : N → N → Bool) (start : Option Bool) (name : List ℕ)
     (vs : List (Value N)) (height : ℕ) (n : N) →
@@ -184,13 +186,13 @@ evaluation_start height rules same i =
     λ c. past_start (OfStart (start_of rules) (start_of rules i.attribute)) i.arguments _
     (which_start (OfStart (start_of rules) (start_of rules i.attribute)) (is_inherited rules i.attribute)
     (by_inherited rules same (start_of rules i.attribute) (attribute_name rules i.attribute) i.arguments height
-        i.node) (by_own rules same i c)
+    i.node) (by_own rules same i c)
     (above_start rules same (start_of rules i.attribute) (attribute_name rules i.attribute) i.arguments height i.node)
     (body_start rules same (start_of rules i.attribute) (record { this = i.node; names = i.arguments; child = None })
-        (Fails Null) (own_equation rules c i.attribute) tt))
+    (Fails Null) (own_equation rules c i.attribute) tt))
 
 pub of_one_start : {N : Type 0} (look : Contents N) (rules : Rules) (same : N → N → Bool) →
     AreOfOneStart look (evaluation rules same)
 of_one_start look rules same i k f (n, e) h =
     ends_only look (HoldsAt look (evaluation rules same) n) (OfStart (start_of rules) (start_of rules i.attribute)) i
-        (evaluation_within max_depth rules same i) f (evaluation_start max_depth rules same i) e k h
+    (evaluation_within max_depth rules same i) f (evaluation_start max_depth rules same i) e k h

@@ -44,7 +44,7 @@ ends_by look forms m n one j d e f g =
 -- a search goes one way
 pub meets_once : {N : Type 0} (E F : Ending N) → OneEnd E F →
     (seen todo : List (Instance N)) (k l : FaultKind) (a b : Instance N) → Meets E seen todo k a →
-        Meets F seen todo l b → (k ≡ l) × (a ≡ b)
+    Meets F seen todo l b → (k ≡ l) × (a ≡ b)
 meets_once E F one seen [] k l a b x y = absurd (elim x [ ])
 meets_once E F one seen (i ∷ todo) k l a b (again _ h x) (again _ g y) = meets_once E F one seen todo k l a b x y
 meets_once E F one seen (i ∷ todo) k l a b (again _ h x) (formed _ f n g y) = absurd (n h)
@@ -53,7 +53,7 @@ meets_once E F one seen (i ∷ todo) k l a b (formed _ f n h x) (again _ g y) = 
 meets_once E F one seen (i ∷ todo) k l a b (formed _ f n h x) (formed _ g m c y) =
     let q : Made f ≡ Made g = one i (Made f) (Made g) h c in let q' : f ≡ g = cc in
     meets_once E F one (i ∷ seen) (atoms g ++ todo) k l a b
-        (subst (λ z. Meets E (i ∷ seen) (atoms z ++ todo) k a) q' x) y
+    (subst (λ z. Meets E (i ∷ seen) (atoms z ++ todo) k a) q' x) y
 meets_once E F one seen (i ∷ todo) k l a b (formed _ f n h x) (spoilt _ m g) = let q : Made f ≡ Spoilt l b =
     one i (Made f) (Spoilt l b) h g in absurd cc
 meets_once E F one seen (i ∷ todo) k l a b (spoilt _ n h) (again _ g y) = absurd (n g)
@@ -78,15 +78,15 @@ closed E i c j l = let (f, h) = c j l in (f, h, λ k a. one_further E i j k f h 
 -- from within what is closed no search meets a fault
 pub none_met : {N : Type 0} (E F : Ending N) → OneEnd E F →
     (P : Instance N → Type 0) → IsClosed F P → (seen todo : List (Instance N)) (k : FaultKind) (a : Instance N) →
-        ((j : Instance N) → Among j todo → P j) → Meets E seen todo k a → ⊥
+    ((j : Instance N) → Among j todo → P j) → Meets E seen todo k a → ⊥
 none_met E F one P c seen [] k a m x = absurd (elim x [ ])
 none_met E F one P c seen (i ∷ todo) k a m (again _ h x) = none_met E F one P c seen todo k a (λ j n. m j (inr n)) x
 none_met E F one P c seen (i ∷ todo) k a m (formed _ f n h x) =
     let (g, y, d) = c i (m i (inl refl)) in
     let q : Made f ≡ Made g = one i (Made f) (Made g) h y in let q' : f ≡ g = cc in
     none_met E F one P c (i ∷ seen) (atoms f ++ todo) k a
-        (λ j n. elim (either_among j (atoms f) todo n)
-        [ inl u ↦ d j (subst (λ z. Among j (atoms z)) q' u) | inr u ↦ m j (inr u) ]) x
+    (λ j n. elim (either_among j (atoms f) todo n)
+    [ inl u ↦ d j (subst (λ z. Among j (atoms z)) q' u) | inr u ↦ m j (inr u) ]) x
 none_met E F one P c seen (i ∷ todo) k a m (spoilt _ n h) =
     let (g, y, d) = c i (m i (inl refl)) in
     let q : Spoilt k a ≡ Made g = one i (Spoilt k a) (Made g) h y in absurd cc
@@ -100,7 +100,7 @@ leaves_over E F one P c _ _ (asks b i f h x) m =
     let (g, y, n) = c i (m i (inl refl)) in
     let q : Made f ≡ Made g = one i (Made f) (Made g) h y in let q' : f ≡ g = cc in
     asks b i f (subst (λ z. F i (Made z)) (sym q') y)
-        (leaves_over E F one P c b f x (λ k a. n k (subst (λ z. Among k (atoms z)) q' a)))
+    (leaves_over E F one P c b f x (λ k a. n k (subst (λ z. Among k (atoms z)) q' a)))
 leaves_over E F one P c _ _ (true_both {f} {g} x y) m =
     true_both (leaves_over E F one P c false f x (λ k a. m k (front_among k (atoms f) (atoms g) a)))
     (leaves_over E F one P c false g y (λ k a. m k (back_among k (atoms f) (atoms g) a)))
@@ -141,19 +141,19 @@ once_at look forms zero n i o p x y = absurd x
 once_at look forms (suc m) zero i o p x y = absurd y
 once_at look forms (suc m) (suc n) i (Finds v) (Finds w) (s, x) (t, y) =
     let q : v ≡ w = valued_once (EndsAt look forms m) (EndsAt look forms n)
-        (ends_by look forms m n (once_at look forms m n)) i (forms.starts i.attribute) v w s t x y in cc
+    (ends_by look forms m n (once_at look forms m n)) i (forms.starts i.attribute) v w s t x y in cc
 once_at look forms (suc m) (suc n) i (Finds v) (Faults k at) (s, x) (r, t) =
     absurd (none_met (EndsAt look forms n) (EndsAt look forms m)
-        (turned_round (EndsAt look forms m) (EndsAt look forms n) (ends_by look forms m n (once_at look forms m n)))
-        (LeadsOver (EndsAt look forms m) i) (closed (EndsAt look forms m) i s) [] (i ∷ []) k at
+    (turned_round (EndsAt look forms m) (EndsAt look forms n) (ends_by look forms m n (once_at look forms m n)))
+    (LeadsOver (EndsAt look forms m) i) (closed (EndsAt look forms m) i s) [] (i ∷ []) k at
     (itself (EndsAt look forms m) i) t)
 once_at look forms (suc m) (suc n) i (Faults k at) (Finds w) (r, s) (t, y) =
     absurd (none_met (EndsAt look forms m) (EndsAt look forms n) (ends_by look forms m n (once_at look forms m n))
-        (LeadsOver (EndsAt look forms n) i) (closed (EndsAt look forms n) i t) [] (i ∷ []) k at
+    (LeadsOver (EndsAt look forms n) i) (closed (EndsAt look forms n) i t) [] (i ∷ []) k at
     (itself (EndsAt look forms n) i) s)
 once_at look forms (suc m) (suc n) i (Faults k at) (Faults l to) (c, s) (d, t) =
     let q = meets_once (EndsAt look forms m) (EndsAt look forms n) (ends_by look forms m n (once_at look forms m n))
-        [] (i ∷ []) k l at to s t in let q' = q.0 in let q'' = q.1 in cc
+    [] (i ∷ []) k l at to s t in let q' = q.0 in let q'' = q.1 in cc
 
 pub ends_at : {N : Type 0} (look : Contents N) (forms : Forms N) (m n : ℕ) (j : Instance N)
     (d e : End N (Formula N)) →

@@ -8,8 +8,8 @@ use Rattle.at_model.proofs.Reached.{front_among, back_among}
 use Rattle.at_model.specs.of_fixpoints.Formulas.{Formula, Known, Asks, Both, Either, atoms, Forms}
 use Rattle.at_model.specs.of_fixpoints.Fixpoints.{End, Made, Spoilt, Ends, LeadsOver, stays, goes, AreFormed, AreEnded, Leaves, known, asks, true_both, true_left, true_right, false_left, false_right, false_both, HoldsAt, EndsAt}
 use Rattle.at_model.specs.of_fixpoints.Circles.{HasNone}
-use Rattle.at_model.proofs.of_fixpoints.UniqueOutcomes.{Ending, OneEnd}
-use Rattle.at_model.proofs.of_fixpoints.ClosedOnce.{ended}
+use Rattle.at_model.proofs.of_formulas.UniqueOutcomes.{Ending, OneEnd}
+use Rattle.at_model.proofs.of_formulas.ClosedOnce.{ended}
 
 -- each of them is one of these
 abbrev pub AllAmong : {A : Type 0} → List A → List A → Type 0
@@ -106,7 +106,7 @@ module _ {N : Type 0} (E : Ending N) (one : OneEnd E E) (all : List (Instance N)
       let (d, z, n) = form_of E all all i l (m i (inl refl)) in
       let u : Made d ≡ Made f = one i (Made d) (Made f) z h in let v : d ≡ f = cc in
       none_leaves b l s f (λ k a. pick (atoms f) all k (subst (λ z. AllAmong (atoms z) all) v n) a)
-          (subst (λ z. stays_at b z ≡ true) r t) x
+      (subst (λ z. stays_at b z ≡ true) r t) x
   none_leaves _ l s _ m e (true_both {f} {g} x y) = elim (either_true (stays_at false f) (stays_at false g) e) [
     | inl t ↦ none_leaves false l s f (λ k a. m k (front_among k (atoms f) (atoms g) a)) t x
     | inr t ↦ none_leaves false l s g (λ k a. m k (back_among k (atoms f) (atoms g) a)) t y
@@ -149,16 +149,16 @@ abbrev pub LostIn : {N : Type 0} → Contents N → Forms N → List (Instance N
 LostIn look forms all [] = Unit {0}
 LostIn {N} look forms all (j ∷ js) =
     ((m k : Instance N) × ((n : ℕ) → LeadsOver (EndsAt look forms n) j m) × Wants look (forms.formula m) k
-        × Among k all) × LostIn look forms all js
+    × Among k all) × LostIn look forms all js
 
 lost_of : {N : Type 0} (look : Contents N) (forms : Forms N) (all js : List (Instance N)) (j : Instance N) →
     LostIn look forms all js → Among j js →
     (m k : Instance N) × ((n : ℕ) → LeadsOver (EndsAt look forms n) j m) × Wants look (forms.formula m) k
-        × Among k all
+    × Among k all
 lost_of look forms all [] j l h = absurd h
 lost_of {N} look forms all (i ∷ js) j (x, l) (inl q) =
     subst (λ z. (m k : Instance N) × ((n : ℕ) → LeadsOver (EndsAt look forms n) z m) × Wants look (forms.formula m) k
-        × Among k all) (sym q) x
+    × Among k all) (sym q) x
 lost_of look forms all (i ∷ js) j (x, l) (inr h) = lost_of look forms all js j l h
 
 lost_at : {N : Type 0} (look : Contents N) (forms : Forms N) (all : List (Instance N)) → LostIn look forms all all →

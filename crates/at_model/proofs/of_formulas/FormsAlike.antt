@@ -64,17 +64,17 @@ demanded-like : {N M : Type 0} {R : N → M → Type 0} (starts : Starts) (b p :
     InstanceLike R i j → RunLike R (FormulaLike R) (demanded starts b p i) (demanded starts b p j)
 demanded-like starts b p i j t =
     cond-like (p && starts_from b (starts i.attribute)) (p && starts_from b (starts j.attribute))
-        (ap (λ a. p && starts_from b (starts a)) t.attribute)
+    (ap (λ a. p && starts_from b (starts a)) t.attribute)
     (gives (asks_like t)) (demands t (λ v w s. gives (known_like (turned-like p s))))
 
 fold_form-like : {N M : Type 0} {R : N → M → Type 0} (p : Bool) (test : N → Run N (Formula N))
     (other : M → Run M (Formula M)) → ((m : N) (n : M) → R m n → RunLike R (FormulaLike R) (test m) (other n)) →
     {ms : List N} {ns : List M} → ListLike R ms ns →
-        RunLike R (FormulaLike R) (fold_form p test ms) (fold_form p other ns)
+    RunLike R (FormulaLike R) (fold_form p test ms) (fold_form p other ns)
 fold_form-like p test other s end = gives (known_like (truth (not p)))
 fold_form-like p test other s (more r rs) =
     then-like (s _ _ r) (λ f g e. cond-like (is_surely p f) (is_surely p g) (surely-like p e) (gives e)
-        (then-like (fold_form-like p test other s rs) (λ h k d. gives (joined-like (not p) e d))))
+    (then-like (fold_form-like p test other s rs) (λ h k d. gives (joined-like (not p) e d))))
 
 two_sides-like : {N M : Type 0} {R : N → M → Type 0} (b : Bool) {r s : Run N (Formula N)} {x y : Run M (Formula M)} →
     RunLike R (FormulaLike R) r x → RunLike R (FormulaLike R) s y →
@@ -93,17 +93,17 @@ form-like classes s starts b p (Or e d) f g t =
     two_sides-like (not p) (form-like classes s starts b p e f g t) (form-like classes s starts b p d f g t)
 form-like classes s starts b p (Choose c e d) f g t =
     then-like (eval-like classes s c f g t)
-        (λ v w q. cond-like (truth_of v) (truth_of w) (truth_of-like q) (form-like classes s starts b p e f g t)
-        (form-like classes s starts b p d f g t))
+    (λ v w q. cond-like (truth_of v) (truth_of w) (truth_of-like q) (form-like classes s starts b p e f g t)
+    (form-like classes s starts b p d f g t))
 form-like classes s starts b p (Call e attribute es) f g t =
     then-like (eval-like classes s e f g t)
-        (λ v w q. then-like (eval_all-like classes s es f g t) (λ vs ws qs. then-like (node_of-like q) (λ m n r.
+    (λ v w q. then-like (eval_all-like classes s es f g t) (λ vs ws qs. then-like (node_of-like q) (λ m n r.
     demanded-like starts b p (record { node = m; attribute = attribute; arguments = vs })
-        (record { node = n; attribute = attribute; arguments = ws })
-        (record { node = r; attribute = refl; arguments = qs }))))
+    (record { node = n; attribute = attribute; arguments = ws })
+    (record { node = r; attribute = refl; arguments = qs }))))
 form-like classes s starts b p (Exists e part d) f g t =
     then-like (eval-like classes s e f g t) (λ v w q. then-like (elements_of-like part q) (λ ms ns rs.
     fold_form-like p (λ m. form classes _ starts b p d (bound f m)) (λ n. form classes _ starts b p d (bound g n))
-        (λ m n r. form-like classes s starts b p d (bound f m) (bound g n) (bound-like t m n r)) rs))
+    (λ m n r. form-like classes s starts b p d (bound f m) (bound g n) (bound-like t m n r)) rs))
 form-like classes s starts b p e f g t =
     then-like (eval-like classes s e f g t) (λ v w q. gives (known_like (turned-like p q)))

@@ -5,7 +5,7 @@ use Rattle.at_model.specs.Meaning.{Outcome, Finds, Faults, Among, Reaches}
 use Rattle.at_model.specs.of_fixpoints.Formulas.{Formula, atoms, Forms}
 use Rattle.at_model.specs.of_fixpoints.Fixpoints.{End, Made, Spoilt, Ends, LeadsOver, stays, AreEnded, HoldsAt, EndsAt, Holds, HasValue, EndsSo}
 use Rattle.at_model.specs.of_fixpoints.Circles.{HasNone, Closes, back, again, formed, spoilt, comes_back, deeper, Circular}
-use Rattle.at_model.proofs.of_fixpoints.UniqueOutcomes.{once, once_at, ends_at, one_further}
+use Rattle.at_model.proofs.of_formulas.UniqueOutcomes.{once, once_at, ends_at, one_further}
 use Rattle.at_model.proofs.Reached.{either_among}
 
 -- the instance has an outcome at this depth
@@ -39,7 +39,7 @@ ended look forms n i (Faults k at, (c, x)) j l = c j l
 none_closes : {N : Type 0} (look : Contents N) (forms : Forms N) (n : ℕ) (q : Instance N) →
     AreEnded (EndsAt look forms n) q →
     (seen todo : List (Instance N)) (j : Instance N) →
-        ((k : Instance N) → Among k todo → LeadsOver (EndsAt look forms n) q k) → Closes look forms [] seen todo j → ⊥
+    ((k : Instance N) → Among k todo → LeadsOver (EndsAt look forms n) q k) → Closes look forms [] seen todo j → ⊥
 none_closes look forms n q c seen [] j all x = absurd (elim x [ ])
 none_closes look forms n q c seen (i ∷ todo) j all (back _ (h, g)) = absurd h
 none_closes look forms n q c seen (i ∷ todo) j all (again _ o h x) =
@@ -56,10 +56,10 @@ none_closes look forms n q c seen (i ∷ todo) j all (spoilt _ at k o h y x) =
     none_closes look forms n q c (i ∷ seen) todo j (λ k a. all k (inr a)) x
 none_closes look forms n q c seen (i ∷ todo) j all (comes_back _ k o h (r, none) m) =
     let (e, z) = c i (all i (inl refl)) in let (p, g) = ends_lower look forms n i (forms.formula i) e k z r in
-        none p (n, g)
+    none p (n, g)
 none_closes look forms n q c seen (i ∷ todo) j all (deeper _ k o h (r, none) m x) =
     let (e, z) = c i (all i (inl refl)) in let (p, g) = ends_lower look forms n i (forms.formula i) e k z r in
-        none p (n, g)
+    none p (n, g)
 
 -- no instance has both an outcome and a circle
 pub not_both : {N : Type 0} (look : Contents N) (forms : Forms N) (q j : Instance N) (o : Outcome N) →
@@ -67,8 +67,10 @@ pub not_both : {N : Type 0} (look : Contents N) (forms : Forms N) (q j : Instanc
 not_both look forms q j o (zero, h) x = h
 not_both look forms q j o (suc n, h) x =
     none_closes look forms n q (ended look forms n q (o, h)) [] (q ∷ []) j
-        (λ k a. elim a [ inl r ↦ subst (λ z. LeadsOver (EndsAt look forms n) q z) (sym r) (stays q) | inr u ↦ absurd u
-        ]) x
+    (λ k a. elim a [
+      | inl r ↦ subst (λ z. LeadsOver (EndsAt look forms n) q z) (sym r) (stays q)
+      | inr u ↦ absurd u
+    ]) x
 
 -- the first demand without an outcome is one
 first_unique : {N A : Type 0} (look : Contents N) (forms : Forms N) (r : Run N A) (i j : Instance N) →
@@ -118,7 +120,7 @@ closes_once look forms under seen (i ∷ todo) j k (formed _ f o a e x) (again _
 closes_once look forms under seen (i ∷ todo) j k (formed _ f o a (c, e) x) (formed _ g p b (d, h) y) =
     let q : Made f ≡ Made g = ends_at look forms c d i (Made f) (Made g) e h in let q' : f ≡ g = cc in
     closes_once look forms under (i ∷ seen) (atoms g ++ todo) j k
-        (subst (λ z. Closes look forms under (i ∷ seen) (atoms z ++ todo) j) q' x) y
+    (subst (λ z. Closes look forms under (i ∷ seen) (atoms z ++ todo) j) q' x) y
 closes_once look forms under seen (i ∷ todo) j k (formed _ f o a (c, e) x) (spoilt _ at l p b (d, h) y) =
     let q : Made f ≡ Spoilt l at = ends_at look forms c d i (Made f) (Spoilt l at) e h in absurd cc
 closes_once look forms under seen (i ∷ todo) j k (formed _ f o a e x) (comes_back _ l p b (r, n) m) =
@@ -145,7 +147,7 @@ closes_once look forms under seen (i ∷ todo) j k (comes_back _ l o a (r, n) m)
     first_unique look forms (forms.formula i) l c (no_settling look forms l n) (no_settling look forms c d) r s
 closes_once look forms under seen (i ∷ todo) j k (comes_back _ l o a (r, n) m) (deeper _ c p b (s, d) e y) =
     let q : l ≡ c = first_unique look forms (forms.formula i) l c (no_settling look forms l n)
-        (no_settling look forms c d) r s in absurd (e (subst (λ z. Among z (i ∷ (seen ++ under))) q m))
+    (no_settling look forms c d) r s in absurd (e (subst (λ z. Among z (i ∷ (seen ++ under))) q m))
 closes_once look forms under seen (i ∷ todo) j k (deeper _ l o a (r, n) m x) (back _ g) = absurd (o g)
 closes_once look forms under seen (i ∷ todo) j k (deeper _ l o a (r, n) m x) (again _ p b y) = absurd (a b)
 closes_once look forms under seen (i ∷ todo) j k (deeper _ l o a (r, n) m x) (formed _ f p b e y) =
@@ -154,12 +156,12 @@ closes_once look forms under seen (i ∷ todo) j k (deeper _ l o a (r, n) m x) (
     absurd (not_ended look forms i l (no_settling look forms l n) r (Spoilt c at) e)
 closes_once look forms under seen (i ∷ todo) j k (deeper _ l o a (r, n) m x) (comes_back _ c p b (s, d) e) =
     let q : l ≡ c = first_unique look forms (forms.formula i) l c (no_settling look forms l n)
-        (no_settling look forms c d) r s in absurd (m (subst (λ z. Among z (i ∷ (seen ++ under))) (sym q) e))
+    (no_settling look forms c d) r s in absurd (m (subst (λ z. Among z (i ∷ (seen ++ under))) (sym q) e))
 closes_once look forms under seen (i ∷ todo) j k (deeper _ l o a (r, n) m x) (deeper _ c p b (s, d) e y) =
     let q : l ≡ c = first_unique look forms (forms.formula i) l c (no_settling look forms l n)
-        (no_settling look forms c d) r s in
+    (no_settling look forms c d) r s in
     closes_once look forms (i ∷ (seen ++ under)) [] (c ∷ []) j k
-        (subst (λ z. Closes look forms (i ∷ (seen ++ under)) [] (z ∷ []) j) q x) y
+    (subst (λ z. Closes look forms (i ∷ (seen ++ under)) [] (z ∷ []) j) q x) y
 
 pub closes_at_one : {N : Type 0} (look : Contents N) (forms : Forms N) (q j k : Instance N) →
     Circular look forms q j → Circular look forms q k → j ≡ k

@@ -18,9 +18,9 @@ ends_demand : {N : Type 0} (look : Contents N) (f : Instance N → Option (Outco
     (p : Option (Outcome N)) → f j ≡ p →
     ((q : Outcome N) → p ≡ Some q → G j q) →
     ((v : Value N) → settled f i (tried look (λ j. value_in (f j)) (k v)) ≡ Some o →
-        Ends look G i (k v >>= λ v. Gives (Known v)) (end_of o)) →
+    Ends look G i (k v >>= λ v. Gives (Known v)) (end_of o)) →
     settled f i (elim (value_in p) [ None ↦ Needs j | Some v ↦ tried look (λ j. value_in (f j)) (k v) ]) ≡ Some o →
-        Ends look G i (Demands j k >>= λ v. Gives (Known v)) (end_of o)
+    Ends look G i (Demands j k >>= λ v. Gives (Known v)) (end_of o)
 ends_demand look f G i j k o None is has step e = absurd cc
 ends_demand look f G i j k o (Some (Finds v)) is has step e = inl (v, has (Finds v) refl, step v e)
 ends_demand look f G i j k o (Some (Faults x at)) is has step e = let q : Faults x at ≡ o = cc in
@@ -29,8 +29,8 @@ ends_demand look f G i j k o (Some (Faults x at)) is has step e = let q : Faults
 ends_so : {N : Type 0} (look : Contents N) (f : Instance N → Option (Outcome N)) (G : Instance N → Outcome N → Type 0)
     → ((j : Instance N) (q : Outcome N) → f j ≡ Some q → G j q) →
     (i : Instance N) (r : Run N (Value N)) (o : Outcome N) →
-        settled f i (tried look (λ j. value_in (f j)) r) ≡ Some o →
-        Ends look G i (r >>= λ v. Gives (Known v)) (end_of o)
+    settled f i (tried look (λ j. value_in (f j)) r) ≡ Some o →
+    Ends look G i (r >>= λ v. Gives (Known v)) (end_of o)
 ends_so look f G has i (Gives a) o e = let q : Finds a ≡ o = cc in ap end_of q
 ends_so look f G has i (Fails x) o e = let q : Faults x i ≡ o = cc in ap end_of q
 ends_so look f G has i (Looks l k) o e = ends_so look f G has i (k (look l)) o e
@@ -59,20 +59,24 @@ pub holds_on : {N : Type 0} (look : Contents N) (equation : Equations N) (n : �
 holds_on look equation zero i o e = absurd cc
 holds_on look equation (suc n) i (Finds v) e =
     let x = ends_so look (outcome_at look equation n) (HoldsAt look (plain_forms equation) n)
-        (holds_on look equation n) i (equation i) (Finds v) e in
-    (λ j l. subst (λ z. (f : Formula _) × EndsAt look (plain_forms equation) n z (Made f))
-        (plain_alone look equation n i j l) (Known v, x), x)
+    (holds_on look equation n) i (equation i) (Finds v) e in (
+      λ j l. subst (λ z. (f : Formula _) × EndsAt look (plain_forms equation) n z (Made f))
+          (plain_alone look equation n i j l) (Known v, x),
+      x,
+    )
 holds_on look equation (suc n) i (Faults k at) e =
     let x = ends_so look (outcome_at look equation n) (HoldsAt look (plain_forms equation) n)
-        (holds_on look equation n) i (equation i) (Faults k at) e in
-    (λ j l. subst (λ z. (e : End _ (Formula _)) × EndsAt look (plain_forms equation) n z e)
-        (plain_alone look equation n i j l) (Spoilt k at, x), spoilt i (λ h. h) x)
+    (holds_on look equation n) i (equation i) (Faults k at) e in (
+      λ j l. subst (λ z. (e : End _ (Formula _)) × EndsAt look (plain_forms equation) n z e)
+          (plain_alone look equation n i j l) (Spoilt k at, x),
+      spoilt i (λ h. h) x,
+    )
 
 -- and what ends so is settled
 settles_so : {N : Type 0} (look : Contents N) (f : Instance N → Option (Outcome N))
     (G : Instance N → Outcome N → Type 0) → ((j : Instance N) (q : Outcome N) → G j q → f j ≡ Some q) →
     (i : Instance N) (r : Run N (Value N)) (o : Outcome N) → Ends look G i (r >>= λ v. Gives (Known v)) (end_of o) →
-        settled f i (tried look (λ j. value_in (f j)) r) ≡ Some o
+    settled f i (tried look (λ j. value_in (f j)) r) ≡ Some o
 settles_so look f G has i (Gives a) (Finds v) e = let q : Known a ≡ Known v = cc in let r : a ≡ v = cc in cc
 settles_so look f G has i (Gives a) (Faults x at) e = absurd cc
 settles_so look f G has i (Fails x) (Finds v) e = absurd cc
@@ -99,7 +103,7 @@ holds_back look equation (suc n) i (Faults k at) (c, again _ h x) = absurd h
 holds_back look equation (suc n) i (Faults k at) (c, formed _ f h y x) =
     let (v, q) = plain_value look (HoldsAt look (plain_forms equation) n) i (equation i) f y in
     let x' : Meets (EndsAt look (plain_forms equation) n) (i ∷ []) [] k at =
-        subst (λ z. Meets (EndsAt look (plain_forms equation) n) (i ∷ []) (atoms z ++ []) k at) q x in
+    subst (λ z. Meets (EndsAt look (plain_forms equation) n) (i ∷ []) (atoms z ++ []) k at) q x in
     absurd (elim x' [ ])
 holds_back look equation (suc n) i (Faults k at) (c, spoilt _ h x) =
     settles_so look (outcome_at look equation n) (HoldsAt look (plain_forms equation) n) (holds_back look equation n)

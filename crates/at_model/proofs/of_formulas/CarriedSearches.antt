@@ -10,8 +10,8 @@ use Rattle.at_model.specs.of_fixpoints.Formulas.{Forms, atoms}
 use Rattle.at_model.specs.of_fixpoints.Fixpoints.{Made, Spoilt, HasForm, EndsSo}
 use Rattle.at_model.specs.of_fixpoints.Likeness.{FormsLike, AlikeBelow}
 use Rattle.at_model.specs.of_fixpoints.Circles.{HasNone, IsOpen, WantsNone, Closes, back, again, formed, spoilt, comes_back, deeper, Circular, Answers}
-use Rattle.at_model.proofs.of_fixpoints.Matching.{joined_lists, atoms_match, spoilt_on}
-use Rattle.at_model.proofs.of_fixpoints.CarriedByFormulas.{IsCarried, outcome_there, outcome_back, ends_so_there, form_there, reaches_there}
+use Rattle.at_model.proofs.of_formulas.Matching.{joined_lists, atoms_match, spoilt_on}
+use Rattle.at_model.proofs.of_formulas.CarriedByFormulas.{IsCarried, outcome_there, outcome_back, ends_so_there, form_there, reaches_there}
 
 module _ {N M : Type 0} {R : N → M → Type 0} (agree : Agrees R) (look : Contents N) (also : Contents M)
     (forms : Forms N) (other : Forms M) (like : FormsLike R forms other) where
@@ -41,7 +41,7 @@ module _ {N M : Type 0} {R : N → M → Type 0} (agree : Agrees R) (look : Cont
   closes_there : (under seen todo : List (Instance N)) (below met ahead : List (Instance M)) (j : Instance N) →
       ListLike (InstanceLike R) under below → ListLike (InstanceLike R) seen met → ListLike Pair todo ahead →
       Closes look forms under seen todo j →
-          (h : Instance M) × InstanceLike R j h × Closes also other below met ahead h
+      (h : Instance M) × InstanceLike R j h × Closes also other below met ahead h
   closes_there under seen _ below met _ j u s end x = absurd (elim x [ ])
   closes_there under seen _ below met _ _ u s (more {a = i} {b = k} t ts) (back _ o) =
       (k, t.0, back k (open_there under below u i k t o))
@@ -52,42 +52,42 @@ module _ {N M : Type 0} {R : N → M → Type 0} (agree : Agrees R) (look : Cont
       (formed _ f o a e x) =
       let (g, d, m) = form_there agree look also forms other like i k f t e in
       let (h, l, y) = closes_there under (i ∷ seen) (atoms f ++ todo) below (k ∷ met) (atoms g ++ ahead) j u
-          (more t.0 s)
-          (joined_lists (atoms_match m) ts) x in
-      (h, l, formed k g (λ z. o (open_back under below u i k t z))
-          (λ z. a (among-back (instance-agrees agree) s i k t.0 z)) d y)
+      (more t.0 s)
+      (joined_lists (atoms_match m) ts) x in (
+        h,
+        l,
+        formed k g (λ z. o (open_back under below u i k t z))
+            (λ z. a (among-back (instance-agrees agree) s i k t.0 z)) d y,
+      )
   closes_there under seen _ below met _ j u s (more {a = i} {b = k} {as' = todo} {bs = ahead} t ts)
       (spoilt _ at c o a e x) =
       let (d, y, m) = ends_so_there agree look also forms other like i k (Spoilt c at) t e in
       let (to, q, v) = spoilt_on c at m refl in
-      let (h, l, z) = closes_there under (i ∷ seen) todo below (k ∷ met) ahead j u (more t.0 s) ts x in
-      (
+      let (h, l, z) = closes_there under (i ∷ seen) todo below (k ∷ met) ahead j u (more t.0 s) ts x in (
         h,
         l,
         spoilt k to c (λ z. o (open_back under below u i k t z))
             (λ z. a (among-back (instance-agrees agree) s i k t.0 z))
-        (subst (λ z. EndsSo also other k z) q y) z,
+            (subst (λ z. EndsSo also other k z) q y) z,
       )
   closes_there under seen _ below met _ j u s (more {a = i} {b = k} t ts) (comes_back _ _ o a w m) =
-      let (h, p, v) = wants_there i j k t w in
-      (
+      let (h, p, v) = wants_there i j k t w in (
         h,
         p.0,
         comes_back k h (λ z. o (open_back under below u i k t z))
             (λ z. a (among-back (instance-agrees agree) s i k t.0 z)) v
-        (among-like (instance-agrees agree) (more t.0 (joined_lists s u)) j h p.0 m),
+            (among-like (instance-agrees agree) (more t.0 (joined_lists s u)) j h p.0 m),
       )
   closes_there under seen _ below met _ j u s (more {a = i} {b = k} t ts) (deeper _ n o a w m x) =
       let (h, p, v) = wants_there i n k t w in
       let line = more t.0 (joined_lists s u) in
       let (e, l, y) = closes_there (i ∷ (seen ++ under)) [] (n ∷ []) (k ∷ (met ++ below)) [] (h ∷ []) j line end
-          (more p end) x in
-      (
+      (more p end) x in (
         e,
         l,
         deeper k h (λ z. o (open_back under below u i k t z))
             (λ z. a (among-back (instance-agrees agree) s i k t.0 z)) v
-        (λ z. m (among-back (instance-agrees agree) line n h p.0 z)) y,
+            (λ z. m (among-back (instance-agrees agree) line n h p.0 z)) y,
       )
 
   pub circle_there : (q j : Instance N) (k : Instance M) → InstanceLike R q k → AlikeBelow R look also forms q →

@@ -7,7 +7,7 @@ use Rattle.at_model.specs.Alike.{ListLike, end, more}
 use Rattle.at_model.proofs.of_likeness.CarryingCircles.{Agrees, among-like, among-back}
 use Rattle.at_model.specs.of_fixpoints.Formulas.{Formula, Known, Asks, Both, Either, atoms}
 use Rattle.at_model.specs.of_fixpoints.Fixpoints.{End, Made, Spoilt, LeadsOver, stays, goes, AreFormed, AreEnded, Meets, again, formed, spoilt, Leaves, known, asks, true_both, true_left, true_right, false_left, false_right, false_both, Valued, HoldsOver}
-use Rattle.at_model.proofs.of_fixpoints.UniqueOutcomes.{Ending, one_further}
+use Rattle.at_model.proofs.of_formulas.UniqueOutcomes.{Ending, one_further}
 
 -- the same formula, of matching instances and values
 pub data Matches {N M : Type 0} (S : Instance N → Instance M → Type 0) (V : Value N → Value M → Type 0) :
@@ -167,7 +167,7 @@ module _ {N M : Type 0} (S T : Instance N → Instance M → Type 0) (V : Value 
   meets_on seen _ also _ k at s (more {a = i} {b = j} {as' = todo} {bs = ahead} t ts) (formed _ f n h x) =
       let (g, y, m) = formed_on i j f t h in
       let (b, w, z) = meets_on (i ∷ seen) (atoms f ++ todo) (j ∷ also) (atoms g ++ ahead) k at
-          (more (are.same i j t) s) (joined_lists (atoms_match m) ts) x in
+      (more (are.same i j t) s) (joined_lists (atoms_match m) ts) x in
       (b, w, formed j g (λ c. n (among-back are.apart s i j (are.same i j t) c)) y z)
   meets_on seen _ also _ k at s (more {a = i} {b = j} t ts) (spoilt _ n h) =
       let (e, y, l) = are.there i j (Spoilt k at) t h in
@@ -206,8 +206,10 @@ module _ {N M : Type 0} (S T : Instance N → Instance M → Type 0) (V : Value 
   )
   valued_on i j (Some b) v s (inr (x, p)) = (
     Truth b,
-    inr ((λ y. x (leaves_on (flip S) (flip T) (flip V) F E (turned S T V E F are) b (Asks j) (Asks i) (wants s) y)),
-        refl),
+    inr (
+      (λ y. x (leaves_on (flip S) (flip T) (flip V) F E (turned S T V E F are) b (Asks j) (Asks i) (wants s) y)),
+      refl,
+    ),
     subst (λ z. V z (Truth b)) (sym p) (are.truth b),
   )
 
