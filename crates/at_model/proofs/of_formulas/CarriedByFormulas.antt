@@ -1,14 +1,14 @@
 -- Where two trees are alike at all that supports an instance, it has a like outcome in both, leads to like instances,
 -- and rests
 -- on like locations, also where attributes are circular.
-use Rattle.std.proofs.Common.{◌≡◌, ℕ, zero, suc, Bool, Option, inl, inr, refl, sym, ◌∙◌, subst, ap}
+use Rattle.std.proofs.Common.{◌≡◌, ℕ, zero, suc, Bool, inl, inr, refl, sym, ◌∙◌, subst, ap}
 use Rattle.at_model.specs.Run.{Value, Truth, Contents, Location, Instance}
 use Rattle.at_model.specs.Meaning.{Outcome, Finds, Among, Reaches}
 use Rattle.at_model.specs.Alike.{ValueLike, truth, InstanceLike, LocationLike, OutcomeLike, find, fault}
 use Rattle.at_model.proofs.Reached.{front_among, back_among}
 use Rattle.at_model.proofs.of_likeness.CarryingCircles.{Agrees, instance-agrees}
 use Rattle.at_model.specs.of_fixpoints.Formulas.{Formula, atoms, Forms}
-use Rattle.at_model.specs.of_fixpoints.Fixpoints.{End, Made, Spoilt, HoldsOver, HoldsAt, EndsAt, Holds, HasValue, HasForm, EndsSo}
+use Rattle.at_model.specs.of_fixpoints.Fixpoints.{End, HoldsOver, HoldsAt, EndsAt, Holds, HasValue, HasForm, EndsSo}
 use Rattle.at_model.specs.of_fixpoints.Resting.{Comes, Leads, stays, goes, Supports}
 use Rattle.at_model.specs.of_fixpoints.Likeness.{FormulaLike, known_like, asks_like, both_like, either_like, FormsLike, AlikeBelow}
 use Rattle.at_model.proofs.of_formulas.EndsAlike.{EndLike, made, spoils, found_like, found_back, ends_there, ends_back, reached_there, reached_back, seen_there, seen_back}

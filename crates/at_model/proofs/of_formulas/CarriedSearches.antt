@@ -3,11 +3,11 @@
 -- circular; and so is an answer.
 use Rattle.std.proofs.Common.{List, [], ◌∷◌, ◌++◌, refl, subst}
 use Rattle.at_model.specs.Run.{Contents, Instance}
-use Rattle.at_model.specs.Meaning.{Among, Answer, Outcomes, Circle}
-use Rattle.at_model.specs.Alike.{ListLike, end, more, ValueLike, InstanceLike, AnswerLike, outcome, circle}
+use Rattle.at_model.specs.Meaning.{Answer, Outcomes, Circle}
+use Rattle.at_model.specs.Alike.{ListLike, end, more, InstanceLike, AnswerLike, outcome, circle}
 use Rattle.at_model.proofs.of_likeness.CarryingCircles.{Agrees, instance-agrees, among-like, among-back}
 use Rattle.at_model.specs.of_fixpoints.Formulas.{Forms, atoms}
-use Rattle.at_model.specs.of_fixpoints.Fixpoints.{Made, Spoilt, HasForm, EndsSo}
+use Rattle.at_model.specs.of_fixpoints.Fixpoints.{Spoilt, EndsSo}
 use Rattle.at_model.specs.of_fixpoints.Likeness.{FormsLike, AlikeBelow}
 use Rattle.at_model.specs.of_fixpoints.Circles.{HasNone, IsOpen, WantsNone, Closes, back, again, formed, spoilt, comes_back, deeper, Circular, Answers}
 use Rattle.at_model.proofs.of_formulas.Matching.{joined_lists, atoms_match, spoilt_on}

@@ -1,6 +1,6 @@
 -- A component by its list: each of its instances has a formula over the list, or an equation that ends.
-use Rattle.std.proofs.Common.{◌≡◌, ℕ, zero, suc, Bool, true, false, not, ◌&&◌, ◌||◌, List, [], ◌∷◌, ◌++◌, inl, inr, refl, sym, subst}
-use Rattle.at_model.specs.Run.{Value, Truth, Contents, Instance, Run, Gives, Fails, Looks, Demands}
+use Rattle.std.proofs.Common.{◌≡◌, ℕ, zero, suc, Bool, true, false, not, ◌&&◌, ◌||◌, List, [], ◌∷◌, inl, inr, refl, sym, subst}
+use Rattle.at_model.specs.Run.{Contents, Instance, Run, Gives, Fails, Looks, Demands}
 use Rattle.at_model.specs.Bodies.{truth_of, bool_eq}
 use Rattle.at_model.specs.Meaning.{Outcome, Finds, Faults, Among}
 use Rattle.at_model.proofs.Options.{both, either_true}

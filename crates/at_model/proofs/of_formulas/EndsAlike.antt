@@ -1,5 +1,5 @@
 -- Evaluations that go alike end alike over two trees, reach like instances and look at like locations.
-use Rattle.std.proofs.Common.{◌≡◌, ℕ, inl, inr, refl, sym, subst, ap}
+use Rattle.std.proofs.Common.{◌≡◌, inl, inr, refl, subst, ap}
 use Rattle.at_model.specs.Run.{Value, Location, FaultKind, Run, Contents, Instance}
 use Rattle.at_model.specs.Meaning.{Outcome, Finds, Faults, Reaches}
 use Rattle.at_model.specs.Support.{Sees}

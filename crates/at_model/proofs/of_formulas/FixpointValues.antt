@@ -6,7 +6,7 @@ use Rattle.at_model.specs.Run.{Value, Truth, Contents, Instance}
 use Rattle.at_model.specs.Meaning.{Finds, Among}
 use Rattle.at_model.proofs.Reached.{front_among, back_among}
 use Rattle.at_model.specs.of_fixpoints.Formulas.{Formula, Known, Asks, Both, Either, atoms, Forms}
-use Rattle.at_model.specs.of_fixpoints.Fixpoints.{Made, LeadsOver, stays, goes, AreFormed, Leaves, known, asks, true_both, true_left, true_right, false_left, false_right, false_both, Valued, EndsAt, Holds, HasValue, HasForm}
+use Rattle.at_model.specs.of_fixpoints.Fixpoints.{Made, LeadsOver, stays, goes, AreFormed, Leaves, known, asks, true_both, true_left, true_right, false_left, false_right, false_both, Valued, EndsAt, HasValue, HasForm}
 use Rattle.at_model.specs.of_fixpoints.Sets.{IsWhere, AreOfOneStart}
 use Rattle.at_model.specs.of_fixpoints.Sets as so
 use Rattle.at_model.proofs.of_formulas.UniqueOutcomes.{once, ends_at, leaves_over, closed, itself}

@@ -1,13 +1,13 @@
 -- Where equations end alike in two trees, and so do those of all instances to which their formulas lead, outcomes are
 -- alike.
-use Rattle.std.proofs.Common.{◌≡◌, ℕ, Bool, true, false, not, List, [], ◌∷◌, ◌++◌, Option, Some, None, inl, inr, refl, sym, subst, ap}
+use Rattle.std.proofs.Common.{◌≡◌, Bool, true, false, not, List, [], ◌∷◌, ◌++◌, Option, Some, None, inl, inr, refl, sym, subst, ap}
 use Rattle.at_model.specs.Run.{Value, Truth, Instance, FaultKind}
 use Rattle.at_model.specs.Meaning.{Outcome, Finds, Faults, Among}
 use Rattle.at_model.specs.Alike.{ListLike, end, more}
 use Rattle.at_model.proofs.of_likeness.CarryingCircles.{Agrees, among-like, among-back}
 use Rattle.at_model.specs.of_fixpoints.Formulas.{Formula, Known, Asks, Both, Either, atoms}
 use Rattle.at_model.specs.of_fixpoints.Fixpoints.{End, Made, Spoilt, LeadsOver, stays, goes, AreFormed, AreEnded, Meets, again, formed, spoilt, Leaves, known, asks, true_both, true_left, true_right, false_left, false_right, false_both, Valued, HoldsOver}
-use Rattle.at_model.proofs.of_formulas.UniqueOutcomes.{Ending, one_further}
+use Rattle.at_model.proofs.of_formulas.UniqueOutcomes.{Ending}
 
 -- the same formula, of matching instances and values
 pub data Matches {N M : Type 0} (S : Instance N → Instance M → Type 0) (V : Value N → Value M → Type 0) :

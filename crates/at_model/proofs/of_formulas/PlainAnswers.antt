@@ -1,6 +1,6 @@
 -- Where no attribute is circular, answers are what they are by equations alone, and so is what an instance leads to
 -- and rests on.
-use Rattle.std.proofs.Common.{◌≡◌, ◌⊎◌, ℕ, List, [], ◌∷◌, ◌++◌, inl, inr, refl, sym, subst, append-nil}
+use Rattle.std.proofs.Common.{ℕ, List, [], ◌∷◌, ◌++◌, inl, inr, refl, sym, subst, append-nil}
 use Rattle.at_model.specs.Run.{Value, Location, Run, Gives, Fails, Looks, Demands, Contents, Instance, ◌>>=◌}
 use Rattle.at_model.specs.Meaning.{Outcome, Finds, Equations, Reaches, Walks, Among, Distinct, Answer, Outcomes, Circle}
 use Rattle.at_model.specs.Meaning as meaning
@@ -9,8 +9,8 @@ use Rattle.at_model.specs.Support as support
 use Rattle.at_model.proofs.Outcomes.{Settles, none_before, circle_has_none}
 use Rattle.at_model.proofs.Reached.{front_among, back_among, either_among}
 use Rattle.at_model.proofs.of_likeness.Carrying.{first_led}
-use Rattle.at_model.specs.of_fixpoints.Formulas.{Formula, Known, atoms, Forms}
-use Rattle.at_model.specs.of_fixpoints.Fixpoints.{HoldsAt, Holds, HasValue, HasForm}
+use Rattle.at_model.specs.of_fixpoints.Formulas.{Known, atoms}
+use Rattle.at_model.specs.of_fixpoints.Fixpoints.{HoldsAt, HasValue}
 use Rattle.at_model.specs.of_fixpoints.Resting.{Comes, Leads, stays, goes, Supports}
 use Rattle.at_model.specs.of_fixpoints.Circles.{HasNone, WantsNone, Closes, back, again, formed, spoilt, comes_back, deeper, Circular, Answers}
 use Rattle.at_model.specs.of_fixpoints.Sets.{plain_forms}

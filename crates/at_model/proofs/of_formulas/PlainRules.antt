@@ -1,13 +1,13 @@
 -- Rules without circular attributes have the equations that they have without any formula.
-use Rattle.std.proofs.Common.{◌≡◌, ℕ, zero, suc, Bool, true, false, List, [], ◌∷◌, Option, Some, None, refl, ap, ◌∙◌, subst, sym}
+use Rattle.std.proofs.Common.{◌≡◌, ℕ, zero, suc, Bool, true, false, List, [], ◌∷◌, Option, Some, None, refl, ap, subst, sym}
 use Rattle.at_model.specs.Terms.{max_depth}
 use Rattle.at_model.specs.Run.{Value, Instance, Run, Gives, Fails, Looks, Null, Is, Up, ◌>>=◌}
 use Rattle.at_model.specs.Bodies.{Expr, Scope, ref_of}
 use Rattle.at_model.specs.Rules.{Rules, past_arguments, inherited_equation, own_equation, is_inherited, attribute_name, start_of}
 use Rattle.at_model.specs.Rules as equation
-use Rattle.at_model.specs.of_fixpoints.Formulas.{Formula, Known, Forms}
+use Rattle.at_model.specs.of_fixpoints.Formulas.{Formula, Known}
 use Rattle.at_model.specs.of_fixpoints.Evaluations.{by_equation, by_inherited, by_own, evaluation_within, evaluation}
-use Rattle.at_model.specs.of_fixpoints.Sets.{none_circular, plain_forms}
+use Rattle.at_model.specs.of_fixpoints.Sets.{plain_forms}
 
 -- an evaluation to a value, as one to a formula
 abbrev pub plain : {N : Type 0} → Run N (Value N) → Run N (Formula N)

@@ -1,13 +1,13 @@
 -- The worked cases of circular attributes.
-use Rattle.std.proofs.Common.{◌≡◌, ℕ, Bool, true, false, List, [], ◌∷◌, ◌++◌, inl, inr, refl, sym, subst, nat_eq}
+use Rattle.std.proofs.Common.{◌≡◌, ℕ, Bool, true, false, List, [], ◌∷◌, inl, inr, refl, sym, subst, nat_eq}
 use Rattle.at_model.specs.Classes.{chain}
 use Rattle.at_model.specs.Run.{Truth, Instance, Zero, Absent}
 use Rattle.at_model.specs.Paths.{Node, node_eq}
 use Rattle.at_model.specs.Meaning.{Among, Outcomes, Faults, Circle, content}
 use Rattle.at_model.specs.Samples.{root, of_node}
 use Rattle.at_model.proofs.Apart.{apart}
-use Rattle.at_model.specs.of_fixpoints.Formulas.{Formula, Known, Asks, Both, Either}
-use Rattle.at_model.specs.of_fixpoints.Fixpoints.{Made, Spoilt, LeadsOver, stays, goes, Meets, again, formed, spoilt, known, asks, true_right, EndsAt, HasValue}
+use Rattle.at_model.specs.of_fixpoints.Formulas.{Known, Asks, Either}
+use Rattle.at_model.specs.of_fixpoints.Fixpoints.{Made, Spoilt, stays, goes, again, formed, spoilt, known, asks, true_right, EndsAt}
 use Rattle.at_model.specs.of_fixpoints.Circles.{HasNone, IsOpen, WantsNone, Closes, back, comes_back, deeper}
 use Rattle.at_model.specs.of_fixpoints.Circles as search
 use Rattle.at_model.specs.of_fixpoints.Evaluations.{forms}

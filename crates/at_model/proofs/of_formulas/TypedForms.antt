@@ -2,7 +2,7 @@
 use Rattle.std.proofs.Common.{◌≡◌, ℕ, Bool, true, false, cond, not, ◌&&◌, List, [], ◌∷◌, ◌++◌, Some, refl, sym, ◌∙◌, subst}
 use Rattle.std.specs.List.{slice_get, AllByRecursion}
 use Rattle.at_model.specs.Run.{Value, Instance, Contents, Run, Gives, Demands, ◌>>=◌}
-use Rattle.at_model.specs.Bodies.{Expr, Exprs, IntLiteral, TruthLiteral, TextLiteral, NullLiteral, This, Name, IndexName, Negate, Not, Arithmetic, Compare, Join, JoinInt, Same, Differ, And, Or, Choose, Equals, InstanceOf, CastTo, Child, Element, Count, Has, TokenOf, Call, Exists, First, Sum, Scope, bound, truth_of, node_of, elements_of, eval, eval_all}
+use Rattle.at_model.specs.Bodies.{Expr, IntLiteral, TruthLiteral, TextLiteral, NullLiteral, This, Name, IndexName, Negate, Arithmetic, Compare, Join, JoinInt, Same, Differ, Equals, InstanceOf, CastTo, Child, Element, Count, Has, TokenOf, First, Sum, Scope, bound, truth_of, elements_of, eval, eval_all}
 use Rattle.at_model.specs.Rules.{Rules, Kind, Attribute, start_of}
 use Rattle.at_model.specs.Rules as kind
 use Rattle.at_model.specs.Kinds.{ScopeKinds, HasKind, bound_kinds}
@@ -12,7 +12,7 @@ use Rattle.at_model.specs.Instances.{literals, all_literals}
 use Rattle.at_model.proofs.Below.{AreChained, sub_sub}
 use Rattle.at_model.proofs.Everywhere.{both_all}
 use Rattle.at_model.proofs.of_typing.TypedSteps.{then_typed, either_typed}
-use Rattle.at_model.proofs.of_typing.TypedExpressions.{of_node, elements_typed, says_left, says_right, bound_scope, typed, all_typed}
+use Rattle.at_model.proofs.of_typing.TypedExpressions.{of_node, elements_typed, bound_scope, typed, all_typed}
 use Rattle.at_model.specs.of_fixpoints.Formulas.{Formula, Known, Asks, Both, Either, is_surely, is_known_as, joined, turned, starts_from, demanded, fold_form, two_sides, form}
 use Rattle.at_model.specs.of_fixpoints.FormKinds.{IsFormulaOf}
 

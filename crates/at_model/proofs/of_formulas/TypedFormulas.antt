@@ -1,5 +1,5 @@
 -- With accepted rules each equation has a typed formula; what is led to is well typed, and values have their kinds.
-use Rattle.std.proofs.Common.{◌≡◌, ℕ, zero, suc, Bool, true, false, not, List, [], ◌∷◌, ◌++◌, Option, Some, None, inl, inr, refl, sym, ap, ◌∙◌, subst}
+use Rattle.std.proofs.Common.{◌≡◌, ℕ, zero, suc, Bool, true, false, not, List, [], ◌∷◌, Option, Some, None, inl, inr, refl, sym, ap, ◌∙◌, subst}
 use Rattle.std.specs.Prelude.{IsSome, option_map}
 use Rattle.std.specs.List.{slice_get, AllByRecursion}
 use Rattle.std.specs.Str.{bytes_eq}
@@ -7,13 +7,13 @@ use Rattle.at_model.specs.Classes.{is_sub}
 use Rattle.at_model.specs.Trees.{Tree, class_of}
 use Rattle.at_model.specs.Terms.{max_depth}
 use Rattle.at_model.specs.Paths.{Node, node_eq, tree_at}
-use Rattle.at_model.specs.Run.{Value, Truth, Instance, Location, Contents, Run, Gives, Fails, Looks, Demands, Null, Is, Up, ◌>>=◌}
+use Rattle.at_model.specs.Run.{Value, Truth, Instance, Contents, Run, Gives, Fails, Looks, Demands, Null, Is, Up}
 use Rattle.at_model.specs.Bodies.{Expr, Scope, eval, ref_of}
 use Rattle.at_model.specs.Rules.{Rules, Kind, Attribute, OwnEquation, InheritedEquation, past_arguments, own_equation, inherited_equation, attribute_name, is_inherited, start_of}
 use Rattle.at_model.specs.Rules as kind
-use Rattle.at_model.specs.Meaning.{Outcome, Finds, Faults, Among, Reaches, content}
+use Rattle.at_model.specs.Meaning.{Outcome, Finds, Among, Reaches, content}
 use Rattle.at_model.specs.Support.{argument_classes}
-use Rattle.at_model.specs.Alike.{OptionLike, neither, both}
+use Rattle.at_model.specs.Alike.{neither, both}
 use Rattle.at_model.specs.Kinds.{ScopeKinds, HasKind, IsOwnTyped, IsInheritedTyped, is_for_list}
 use Rattle.at_model.specs.TypedRuns.{ClassAt, Texts, IsTypedRun, class_at, IsOfKind, IsWellTyped, IsOfItsKind, IsLocationThere, IsOfScopeKinds}
 use Rattle.at_model.specs.Instances.{literals}

@@ -3,7 +3,7 @@ use Rattle.std.specs.Prelude.{List, [], ◌∷◌, ◌++◌}
 use Rattle.at_model.specs.Run.{Instance, Contents, FaultKind}
 use Rattle.at_model.specs.Meaning.{Outcome, Among, Reaches, Answer, Outcomes, Circle}
 use Rattle.at_model.specs.of_fixpoints.Formulas.{Formula, atoms, Forms}
-use Rattle.at_model.specs.of_fixpoints.Fixpoints.{Made, Spoilt, Holds, HasValue, HasForm, EndsSo}
+use Rattle.at_model.specs.of_fixpoints.Fixpoints.{Spoilt, Holds, HasValue, HasForm, EndsSo}
 
 -- it has no outcome
 abbrev pub HasNone : {N : Type 0} → Contents N → Forms N → Instance N → Type 0

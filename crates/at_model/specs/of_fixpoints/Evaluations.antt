@@ -1,6 +1,5 @@
 -- How an instance is evaluated to its formula, by its equation.
 use Rattle.std.specs.Prelude.{ℕ, zero, suc, Bool, true, false, List, Option, Some, None}
-use Rattle.at_model.specs.Classes.{Classes}
 use Rattle.at_model.specs.Terms.{max_depth}
 use Rattle.at_model.specs.Paths.{Node, node_eq}
 use Rattle.at_model.specs.Run.{Value, Instance, Is, Up, Null, Run, Gives, Fails, Looks, ◌>>=◌}
