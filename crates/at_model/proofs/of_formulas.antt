@@ -15,3 +15,5 @@ pub mod Components
 pub mod RingCases
 pub mod TypedForms
 pub mod TypedFormulas
+pub mod Heights
+pub mod Solved

@@ -1,6 +1,6 @@
 //! Laws of outcomes where attributes are circular: each is the contract of a function that does nothing.
 
-ghost use Rattle.std.specs.Prelude.{Bool, None, Ok, Option, Some, false, nat_eq, true, ◌≡◌, ◌↔◌, ℕ};
+ghost use Rattle.std.specs.Prelude.{Bool, List, None, Ok, Option, Some, false, nat_eq, true, ◌+◌, ◌≡◌, ◌↔◌, ℕ};
 ghost use Rattle.at_model.specs.Trees.{Tree, conforms};
 ghost use Rattle.at_model.specs.Paths.{Node};
 ghost use Rattle.at_model.specs.Run.{Contents, Instance, Location, Truth, Value};
@@ -16,12 +16,12 @@ ghost use Rattle.at_model.specs.Instances.{instances};
 ghost use Rattle.at_model.specs.WellFormed.{AreWellFormed, IsTreeSound};
 ghost use Rattle.at_model.specs.of_fixpoints.Circles.{Answers, Circular};
 ghost use Rattle.at_model.specs.of_fixpoints.Evaluations.{evaluation, forms};
-ghost use Rattle.at_model.specs.of_fixpoints.Fixpoints.{HasForm, HasValue, Holds};
+ghost use Rattle.at_model.specs.of_fixpoints.Fixpoints.{HasForm, HasValue, Holds, HoldsAt};
 ghost use Rattle.at_model.specs.of_fixpoints.FormKinds.{AreBoolean};
 ghost use Rattle.at_model.specs.of_fixpoints.Formulas.{Formula, Forms};
 ghost use Rattle.at_model.specs.of_fixpoints.Likeness.{AlikeBelow, FormsLike};
 ghost use Rattle.at_model.specs.of_fixpoints.Resting.{IsUntouched, Leads, Supports};
-ghost use Rattle.at_model.specs.of_fixpoints.Sets.{AreOfOneStart, IsFalseWhere, IsTrueWhere, IsWhere, plain_forms};
+ghost use Rattle.at_model.specs.of_fixpoints.Sets.{AreOfOneStart, IsComponent, IsFalseWhere, IsTrueWhere, IsWhere, plain_forms};
 
 /// An instance has at most one outcome, also where attributes are circular.
 pub fn one_outcome_by_formulas()
@@ -85,6 +85,19 @@ pub fn the_greatest_fixpoint()
         → ((i : Instance Node) (f : Formula Node) → HasForm look forms i f → set i ≡ true → IsTrueWhere (λ k. set k ≡ true) f)
         → (i : Instance Node) (v : Value Node) → forms.starts i.attribute ≡ Some true → HasValue look forms i v
         → set i ≡ true → v ≡ Truth true }
+{}
+
+/// Each circular instance of a component has a value: where each instance of a list has a formula, of instances of the list.
+pub fn a_component_has_values()
+    ensures { (look : Contents Node) (forms : Forms Node) (all : List (Instance Node)) → IsComponent look forms all
+        → (j : Instance Node) (start : Bool) → Among j all → forms.starts j.attribute ≡ Some start
+        → (v : Value Node) × HasValue look forms j v }
+{}
+
+/// What holds by demands that are nested less than so deep holds by demands that may be nested deeper.
+pub fn more_depth()
+    ensures { (look : Contents Node) (forms : Forms Node) (n more : ℕ) (i : Instance Node) (o : Outcome Node)
+        → HoldsAt look forms n i o → HoldsAt look forms (n + more) i o }
 {}
 
 /// Formulas that rules give are of instances with the start of their own.

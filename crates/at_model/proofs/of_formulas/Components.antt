@@ -16,7 +16,7 @@ abbrev pub AllAmong : {A : Type 0} → List A → List A → Type 0
 AllAmong [] bs = Unit {0}
 AllAmong (a ∷ as') bs = Among a bs × AllAmong as' bs
 
-pick : {A : Type 0} (as' bs : List A) (a : A) → AllAmong as' bs → Among a as' → Among a bs
+pub pick : {A : Type 0} (as' bs : List A) (a : A) → AllAmong as' bs → Among a as' → Among a bs
 pick [] bs a all h = absurd h
 pick (b ∷ as') bs a (x, all) (inl e) = subst (λ z. Among z bs) (sym e) x
 pick (b ∷ as') bs a (x, all) (inr h) = pick as' bs a all h

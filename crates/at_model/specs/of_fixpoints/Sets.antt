@@ -1,5 +1,5 @@
 -- What is said of fixpoints as sets of instances.
-use Rattle.std.specs.Prelude.{◌≡◌, Bool, true, false, None}
+use Rattle.std.specs.Prelude.{◌≡◌, Bool, true, false, List, None}
 use Rattle.at_model.specs.Run.{Truth, Instance, Contents, Gives, ◌>>=◌}
 use Rattle.at_model.specs.Meaning.{Equations, Among}
 use Rattle.at_model.specs.of_fixpoints.Formulas.{Formula, Known, Asks, Both, Either, atoms, Starts, Forms}
@@ -28,6 +28,11 @@ IsFalseWhere P f = IsWhere P false f
 abbrev pub AreOfOneStart : {N : Type 0} → Contents N → Forms N → Type 0
 AreOfOneStart {N} look forms = (i k : Instance N) (f : Formula N) → HasForm look forms i f → Among k (atoms f)
     → forms.starts k.attribute ≡ forms.starts i.attribute
+
+-- each of these instances has a formula, of instances that are among these
+abbrev pub IsComponent : {N : Type 0} → Contents N → Forms N → List (Instance N) → Type 0
+IsComponent {N} look forms all = (j : Instance N) → Among j all
+    → (f : Formula N) × HasForm look forms j f × ((k : Instance N) → Among k (atoms f) → Among k all)
 
 -- no attribute is circular
 abbrev pub none_circular : Starts
