@@ -17,3 +17,5 @@ pub mod TypedForms
 pub mod TypedFormulas
 pub mod Heights
 pub mod Solved
+pub mod Closure
+pub mod FormulasTogether

@@ -226,6 +226,14 @@ pub fn numbers_and_paths_by_formulas()
         → (l : Location ℕ) × LocationLike (Names path) l m × Supports numbers (evaluation rules nat_eq) l i }
 {}
 
+/// With well-formed rules whose circular attributes are boolean, over a sound tree: an instance that has a value leads to
+/// instances that have values alone.
+pub fn values_spread_along_formulas()
+    ensures { (rules : Rules) → AreWellFormed rules → AreBoolean rules → (t : Tree) → IsTreeSound rules.classes t
+        → (i j : Instance Node) (v : Value Node) → IsWellFormed rules t i → HasValue (content t) (forms rules) i v
+        → Leads (content t) (forms rules) i j → (w : Value Node) × HasValue (content t) (forms rules) j w }
+{}
+
 /// With well-formed rules whose circular attributes are boolean, over a sound tree: all that an instance leads to is well formed,
 /// and stands in the list of instances; and the value of an instance is of the kind of its attribute.
 pub fn formulas_keep_to_the_kinds()

@@ -30,7 +30,8 @@ ends_lower look forms n i (Demands m k) e j (inr (f, at, h, x)) (inr (w, (d, g),
     let q : Finds w ≡ Faults f at = once_at look forms d n m (Finds w) (Faults f at) g h in absurd cc
 
 -- all to which formulas lead from an instance with an outcome ends one deep less
-pub ended : {N : Type 0} (look : Contents N) (forms : Forms N) (n : ℕ) (i : Instance N) → Settles look forms (suc n) i →
+pub ended : {N : Type 0} (look : Contents N) (forms : Forms N) (n : ℕ) (i : Instance N) →
+    Settles look forms (suc n) i →
     AreEnded (EndsAt look forms n) i
 ended look forms n i (Finds v, (c, x)) j l = let (f, h) = c j l in (Made f, h)
 ended look forms n i (Faults k at, (c, x)) j l = c j l

@@ -43,7 +43,7 @@ end_of {N} E all (k ∷ js) j (x, l) (inl q) =
     subst (λ z. (e : End N (Formula N)) × E z e × AllAmong (asked_in e) all) (sym q) x
 end_of E all (k ∷ js) j (x, l) (inr h) = end_of E all js j l h
 
-all_end : {N : Type 0} (E : Ending N) (all js : List (Instance N)) → FormedIn E all js → EndIn E all js
+pub all_end : {N : Type 0} (E : Ending N) (all js : List (Instance N)) → FormedIn E all js → EndIn E all js
 all_end E all [] l = tt
 all_end E all (j ∷ js) ((f, x, m), l) = ((Made f, x, m), all_end E all js l)
 
@@ -82,7 +82,7 @@ not_other false e = cc
 
 module _ {N : Type 0} (E : Ending N) (one : OneEnd E E) (all : List (Instance N)) where
   -- formulas lead to instances of the list alone
-  led_within : EndIn E all all → (i k : Instance N) → Among i all → LeadsOver E i k → Among k all
+  pub led_within : EndIn E all all → (i k : Instance N) → Among i all → LeadsOver E i k → Among k all
   led_within l _ k h (stays i) = h
   led_within l _ k h (goes i j _ f x a r) =
       let (e, y, m) = end_of E all all i l h in

@@ -166,7 +166,7 @@ module _ {N : Type 0} (look : Contents N) (forms : Forms N) where
       (m + n, ((f, ends_higher look forms m n j (Made f) x, all_among (atoms f) all c),
           subst (λ z. FormedIn (EndsAt look forms z) all js) q (formed_higher n m all js l)))
 
-  valued_by : (n : ℕ) (j : Instance N) (b : Bool) (start : Option Bool) → start ≡ Some b →
+  pub valued_by : (n : ℕ) (j : Instance N) (b : Bool) (start : Option Bool) → start ≡ Some b →
       Leaves (λ j f. EndsAt look forms n j (Made f)) b (Asks j) ⊎
       (Leaves (λ j f. EndsAt look forms n j (Made f)) b (Asks j) → ⊥) →
       (v : Value N) × Valued (λ j f. EndsAt look forms n j (Made f)) start j v

@@ -1,5 +1,5 @@
 -- The instances of a formula start from the value from which its instance starts.
-use Rattle.std.proofs.Common.{◌≡◌, ℕ, zero, suc, Bool, true, false, ◌&&◌, cond, not, List, [], ◌∷◌, ◌++◌, Option, Some, None, inl, inr, refl, sym, subst}
+use Rattle.std.proofs.Common.{◌≡◌, ℕ, zero, suc, Bool, true, false, ◌&&◌, cond, not, List, [], ◌∷◌, ◌++◌, Option, Some, None, inl, inr, refl, sym, subst, ◌∙◌}
 use Rattle.at_model.specs.Classes.{Classes}
 use Rattle.at_model.specs.Run.{Value, Run, Gives, Fails, Looks, Demands, Null, Is, Contents, Instance, ◌>>=◌}
 use Rattle.at_model.specs.Bodies.{Expr, Not, And, Or, Choose, Call, Exists, Scope, bound, truth_of, ref_of, node_of, elements_of, eval, eval_all}
@@ -8,7 +8,7 @@ use Rattle.at_model.specs.Rules.{Rules, past_arguments, own_equation, inherited_
 use Rattle.at_model.specs.Terms.{max_depth}
 use Rattle.at_model.proofs.Reached.{either_among}
 use Rattle.at_model.specs.of_fixpoints.Formulas.{Formula, Known, Asks, Both, Either, atoms, is_surely, is_known_as, joined, turned, Starts, starts_from, fold_form, two_sides, form}
-use Rattle.at_model.specs.of_fixpoints.Fixpoints.{Made, Ends, HoldsAt}
+use Rattle.at_model.specs.of_fixpoints.Fixpoints.{Made, Ends, HoldsAt, HasForm}
 use Rattle.at_model.specs.of_fixpoints.Sets.{AreOfOneStart}
 use Rattle.at_model.specs.of_fixpoints.Evaluations.{by_equation, by_inherited, by_own, evaluation_within, evaluation}
 
@@ -32,6 +32,12 @@ and_then Q P (Gives a) k q h = h a q
 and_then Q P (Fails f) k q h = tt
 and_then Q P (Looks l g) k q h = λ c. and_then Q P (g c) k (q c) h
 and_then Q P (Demands j g) k q h = λ v. and_then Q P (g v) k (q v) h
+
+less_only : {N A : Type 0} (Q P : A → Type 0) (r : Run N A) → ((a : A) → Q a → P a) → GivesOnly Q r → GivesOnly P r
+less_only Q P (Gives a) h g = h a g
+less_only Q P (Fails f) h g = tt
+less_only Q P (Looks l k) h g = λ c. less_only Q P (k c) h (g c)
+less_only Q P (Demands j k) h g = λ v. less_only Q P (k v) h (g v)
 
 ends_only : {N A : Type 0} (look : Contents N) (Has : Instance N → Outcome N → Type 0) (P : A → Type 0)
     (i : Instance N) (r : Run N A) (a : A) → GivesOnly P r → Ends look Has i r (Made a) → P a
@@ -132,7 +138,8 @@ form_start classes same starts b p e scope =
 
 -- of all starts that an attribute may have
 abbrev OfStart : {N : Type 0} → Starts → Option Bool → Formula N → Type 0
-OfStart {N} starts start f = (k : Instance N) → Among k (atoms f) → starts k.attribute ≡ start
+OfStart {N} starts start f =
+    (k : Instance N) → Among k (atoms f) → (starts k.attribute ≡ start) × ((b : Bool) × (start ≡ Some b))
 
 body_start : {N : Type 0} (rules : Rules) (same : N → N → Bool) (start : Option Bool) (scope : Scope N)
     (r : Run N (Formula N)) (o : Option Expr) → GivesOnly (OfStart (start_of rules) start) r →
@@ -141,7 +148,10 @@ body_start rules same start scope r None g = g
 body_start rules same None scope r (Some e) g =
     then_only (OfStart (start_of rules) None) (eval rules.classes same e scope) (λ v. Gives (Known v))
     (λ v k h. absurd h)
-body_start rules same (Some b) scope r (Some e) g = form_start rules.classes same (start_of rules) b true e scope
+body_start rules same (Some b) scope r (Some e) g =
+    less_only (StartFrom (start_of rules) b) (OfStart (start_of rules) (Some b))
+    (form rules.classes same (start_of rules) b true e scope) (λ f h k a. (h k a, (b, refl)))
+    (form_start rules.classes same (start_of rules) b true e scope)
 
 above_at : {N : Type 0} (rules : Rules) (same : N → N → Bool) (start : Option Bool) (name : List ℕ)
     (vs : List (Value N)) (height : ℕ) (n : N) →
@@ -191,8 +201,20 @@ evaluation_start height rules same i =
     (body_start rules same (start_of rules i.attribute) (record { this = i.node; names = i.arguments; child = None })
     (Fails Null) (own_equation rules c i.attribute) tt))
 
-pub of_one_start : {N : Type 0} (look : Contents N) (rules : Rules) (same : N → N → Bool) →
-    AreOfOneStart look (evaluation rules same)
-of_one_start look rules same i k f (n, e) h =
+of_start : {N : Type 0} (look : Contents N) (rules : Rules) (same : N → N → Bool) (i k : Instance N) (f : Formula N) →
+    HasForm look (evaluation rules same) i f → Among k (atoms f) →
+    (start_of rules k.attribute ≡ start_of rules i.attribute) × ((b : Bool) × (start_of rules i.attribute ≡ Some b))
+of_start look rules same i k f (n, e) h =
     ends_only look (HoldsAt look (evaluation rules same) n) (OfStart (start_of rules) (start_of rules i.attribute)) i
     (evaluation_within max_depth rules same i) f (evaluation_start max_depth rules same i) e k h
+
+pub of_one_start : {N : Type 0} (look : Contents N) (rules : Rules) (same : N → N → Bool) →
+    AreOfOneStart look (evaluation rules same)
+of_one_start look rules same i k f x h = (of_start look rules same i k f x h).0
+
+-- the instances of a formula are circular
+pub circular_asked : {N : Type 0} (look : Contents N) (rules : Rules) (same : N → N → Bool) (i k : Instance N)
+    (f : Formula N) → HasForm look (evaluation rules same) i f → Among k (atoms f) →
+    (b : Bool) × (start_of rules k.attribute ≡ Some b)
+circular_asked look rules same i k f x h =
+    let (e, (b, q)) = of_start look rules same i k f x h in (b, e ∙ q)
