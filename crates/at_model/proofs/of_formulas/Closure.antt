@@ -1,13 +1,13 @@
 -- All to which formulas lead from an instance is a list, where it stands in one; so what has a value leads to values
 -- alone.
-use Rattle.std.proofs.Common.{◌≡◌, ◌⊎◌, ℕ, zero, suc, Bool, List, [], ◌∷◌, ◌++◌, Option, Some, inl, inr, refl, sym, subst, ap, ◌∙◌}
+use Rattle.std.proofs.Common.{◌≡◌, ◌⊎◌, ℕ, zero, suc, Bool, List, [], ◌∷◌, Some, inl, inr, refl, sym, subst, ap, ◌∙◌}
 use Rattle.at_model.specs.Run.{Value, Run, Gives, Fails, Looks, Demands, Contents, Instance}
-use Rattle.at_model.specs.Meaning.{Outcome, Finds, Faults, Among, Reaches}
+use Rattle.at_model.specs.Meaning.{Finds, Among, Reaches}
 use Rattle.at_model.specs.of_fixpoints.Formulas.{Formula, atoms, Forms}
 use Rattle.at_model.specs.of_fixpoints.Fixpoints.{Made, Ends, LeadsOver, stays, goes, AreFormed, HoldsAt, EndsAt, HasValue, HasForm}
 use Rattle.at_model.specs.of_fixpoints.Resting.{Comes, Leads}
 use Rattle.at_model.specs.of_fixpoints.Resting as led
-use Rattle.at_model.proofs.of_formulas.UniqueOutcomes.{Ending, OneEnd, once_at, ends_at, one_further}
+use Rattle.at_model.proofs.of_formulas.UniqueOutcomes.{Ending, once_at, ends_at, one_further}
 use Rattle.at_model.proofs.of_formulas.Components.{AllAmong, FormedIn, all_end, led_within, are_formed}
 use Rattle.at_model.proofs.of_formulas.Solved.{decided, valued_by}
 
@@ -81,9 +81,9 @@ module _ {N : Type 0} (E : Ending N) (i : Instance N) (formed : AreFormed E i) (
   whole_or_more p = elim
       (all_or_more p (i ∷ [])
       (λ k a. elim a [ inl e ↦ subst (λ z. LeadsOver E i z) (sym e) (stays i) | inr u ↦ absurd u ])) [
-    | inr b ↦ inr b
-    | inl (a, u) ↦ elim (closed_or_more p all p) [ inl l ↦ inl (reached all p, l, a) | inr b ↦ inr b ]
-  ]
+        | inr b ↦ inr b
+        | inl (a, u) ↦ elim (closed_or_more p all p) [ inl l ↦ inl (reached all p, l, a) | inr b ↦ inr b ]
+      ]
 
   steps : (n : ℕ) (p : Part all) → opens all p ≡ n → Closed
   steps zero p e = elim
@@ -117,8 +117,8 @@ module _ {N : Type 0} (look : Contents N) (forms : Forms N)
     (circular : (i k : Instance N) (f : Formula N) → HasForm look forms i f → Among k (atoms f) →
     (b : Bool) × (forms.starts k.attribute ≡ Some b)) (Listed : Instance N → Type 0)
     (list : (i : Instance N) → Listed i →
-        (all : List (Instance N)) × ((k : Instance N) → Leads look forms i k → Among k all)) (goes_on :
-        (i j : Instance N) → Listed i → Comes look forms i j → Listed j) where
+    (all : List (Instance N)) × ((k : Instance N) → Leads look forms i k → Among k all)) (goes_on :
+    (i j : Instance N) → Listed i → Comes look forms i j → Listed j) where
   -- an instance of a formula of one that has a value has one
   atom_valued : (n : ℕ) (i j : Instance N) → Listed i → AreFormed (EndsAt look forms n) i → (f : Formula N) →
       HasForm look forms i f → Among j (atoms f) → (v : Value N) × HasValue look forms j v
@@ -128,11 +128,11 @@ module _ {N : Type 0} (look : Contents N) (forms : Forms N)
       let (g, y) = c i (stays i) in
       let q : Made f ≡ Made g = ends_at look forms m n i (Made f) (Made g) x y in let q' : f ≡ g = cc in
       let there = led_within (EndsAt look forms n) (ends_at look forms n n) whole
-          (all_end (EndsAt look forms n) whole whole l) i j h
-          (goes i j j g y (subst (λ z. Among j (atoms z)) q' a) (stays j)) in
+      (all_end (EndsAt look forms n) whole whole l) i j h
+      (goes i j j g y (subst (λ z. Among j (atoms z)) q' a) (stays j)) in
       let (b, e) = circular i j f (m, x) a in
       let (v, z) = valued_by look forms n j b (forms.starts j.attribute) e
-          (decided (EndsAt look forms n) (ends_at look forms n n) whole b l j there) in
+      (decided (EndsAt look forms n) (ends_at look forms n n) whole b l j there) in
       (v, (suc n, (are_formed (EndsAt look forms n) (ends_at look forms n n) whole l j there, z)))
 
   comes_valued : (i j : Instance N) (v : Value N) → Listed i → HasValue look forms i v → Comes look forms i j →

@@ -45,7 +45,7 @@ module _ (rules : Rules) (ok : AreWellFormed rules) (boolean : AreBoolean rules)
   pub value_of_kind : (v : Value Node) → HasValue (content t) (forms rules) i v → IsOfItsKind rules (class_at t) i v
   value_of_kind v h =
       value_typed rules boolean (class_at t) (IsGiven rules t i.arguments) (content t) (forms rules)
-          (λ a. refl) all_typed i v
+      (λ a. refl) all_typed i v
       (typed_of_formed rules t i formed) h
 
 pub spread : (rules : Rules) → AreWellFormed rules → AreBoolean rules → (t : Tree) → IsTreeSound rules.classes t →

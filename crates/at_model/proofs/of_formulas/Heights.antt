@@ -1,12 +1,12 @@
 -- What holds at a depth holds at a greater one.
-use Rattle.std.proofs.Common.{◌≡◌, ℕ, zero, suc, ◌+◌, Bool, [], ◌∷◌, ◌++◌, inl, inr, refl, sym, ◌∙◌, subst, ap, arith}
-use Rattle.at_model.specs.Run.{Value, Truth, Run, Gives, Fails, Looks, Demands, Contents, Instance}
+use Rattle.std.proofs.Common.{◌≡◌, ℕ, zero, suc, ◌+◌, inl, inr, refl, sym, ◌∙◌, subst, ap, arith}
+use Rattle.at_model.specs.Run.{Value, Run, Gives, Fails, Looks, Demands, Contents, Instance}
 use Rattle.at_model.specs.Meaning.{Outcome, Finds, Faults, Among}
 use Rattle.at_model.proofs.Reached.{front_among, back_among}
 use Rattle.at_model.proofs.of_likeness.CarryingCircles.{Agrees}
 use Rattle.at_model.specs.of_fixpoints.Formulas.{Formula, Known, Asks, Both, Either, atoms, Forms}
-use Rattle.at_model.specs.of_fixpoints.Fixpoints.{End, Made, Spoilt, Ends, LeadsOver, stays, goes, AreEnded, HoldsAt, EndsAt}
-use Rattle.at_model.proofs.of_formulas.UniqueOutcomes.{Ending, ends_at}
+use Rattle.at_model.specs.of_fixpoints.Fixpoints.{End, Made, Spoilt, Ends, stays, goes, AreEnded, HoldsAt, EndsAt}
+use Rattle.at_model.proofs.of_formulas.UniqueOutcomes.{ends_at}
 use Rattle.at_model.proofs.of_formulas.ClosedOnce.{ended}
 use Rattle.at_model.proofs.of_formulas.Matching.{Matches, knows, wants, joins, chooses, EndMatches, makes, spoils, OutcomeMatches, finds, faults, AreMatched, settled_on}
 
@@ -76,7 +76,7 @@ module _ {N : Type 0} (look : Contents N) (forms : Forms N) (n m : ℕ)
   raised : (i : Instance N) (o : Outcome N) → HoldsAt look forms (suc n) i o → HoldsAt look forms (suc m) i o
   raised i o h =
       let (p, y, l) = settled_on Stays Same Equal (EndsAt look forms n) (EndsAt look forms m) raised_matched i i
-          (forms.starts i.attribute) o (refl, ended look forms n i (o, h)) h in
+      (forms.starts i.attribute) o (refl, ended look forms n i (o, h)) h in
       subst (λ z. HoldsAt look forms (suc m) i z) (sym (same_outcome o p l)) y
 
 pub higher : {N : Type 0} (look : Contents N) (forms : Forms N) (n d : ℕ) (i : Instance N) (o : Outcome N) →

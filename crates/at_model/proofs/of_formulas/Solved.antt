@@ -1,8 +1,8 @@
 -- A component whose list is known is solved by rounds: each of its instances leaves the start, or it is known that it
 -- doesn't.
-use Rattle.std.proofs.Common.{◌≡◌, ◌⊎◌, ℕ, zero, suc, ◌+◌, Bool, true, false, not, List, [], ◌∷◌, ◌++◌, Option, Some, inl, inr, refl, sym, subst, ap, ◌∙◌, arith}
+use Rattle.std.proofs.Common.{◌≡◌, ◌⊎◌, ℕ, zero, suc, ◌+◌, Bool, true, false, not, List, [], ◌∷◌, Option, Some, inl, inr, refl, sym, subst, ap, ◌∙◌, arith}
 use Rattle.at_model.specs.Run.{Value, Int, Truth, Text, Ref, Contents, Instance}
-use Rattle.at_model.specs.Meaning.{Finds, Among}
+use Rattle.at_model.specs.Meaning.{Among}
 use Rattle.at_model.proofs.Reached.{front_among, back_among}
 use Rattle.at_model.specs.of_fixpoints.Formulas.{Formula, Known, Asks, Both, Either, atoms, Forms}
 use Rattle.at_model.specs.of_fixpoints.Fixpoints.{Made, Leaves, known, asks, true_both, true_left, true_right, false_left, false_right, false_both, Valued, EndsAt, HasValue, HasForm}
@@ -102,15 +102,15 @@ module _ {N : Type 0} (E : Ending N) where
     round p (j ∷ js) (inl x, q) (f, l) = elim (round p js q l) [ inl (r, e) ↦ inl ((inl x, r), e) | inr h ↦ inr h ]
     round p (j ∷ js) (inr u, q) ((f, y, m), l) =
         elim (decide b (OpenIn b all p) f (λ k h. found_or b all p k (pick (atoms f) all k m h))) [
-      | inl x ↦ inl ((inl (asks b j f y x), q), refl)
-      | inr n ↦ elim (round p js q l) [
-          | inl (r, e) ↦ inl ((inr u, r), ap suc e)
-          | inr h ↦ inr (λ k o. elim o [
+          | inl x ↦ inl ((inl (asks b j f y x), q), refl)
+          | inr n ↦ elim (round p js q l) [
+            | inl (r, e) ↦ inl ((inr u, r), ap suc e)
+            | inr h ↦ inr (λ k o. elim o [
               | inl e ↦ subst (λ z. (f : Formula N) × E z (Made f) × NotBy b (OpenIn b all p) f) (sym e) (f, y, n)
               | inr a ↦ h k a
             ])
+          ]
         ]
-    ]
 
     rounds : (n : ℕ) (p : Part b all) → opens b all p ≡ n → FormedIn E all all → (r : Part b all) × AreDone r all r
     rounds zero p e l = elim
@@ -162,17 +162,23 @@ module _ {N : Type 0} (look : Contents N) (forms : Forms N) where
   one_depth all (j ∷ js) h =
       let (f, (m, x), c) = h j (inl refl) in
       let (n, l) = one_depth all js (λ k a. h k (inr a)) in
-      let q : n + m ≡ m + n = omega arith in
-      (m + n, ((f, ends_higher look forms m n j (Made f) x, all_among (atoms f) all c),
-          subst (λ z. FormedIn (EndsAt look forms z) all js) q (formed_higher n m all js l)))
+      let q : n + m ≡ m + n = omega arith in (
+        m + n,
+        (
+          (f, ends_higher look forms m n j (Made f) x, all_among (atoms f) all c),
+          subst (λ z. FormedIn (EndsAt look forms z) all js) q (formed_higher n m all js l),
+        ),
+      )
 
   pub valued_by : (n : ℕ) (j : Instance N) (b : Bool) (start : Option Bool) → start ≡ Some b →
       Leaves (λ j f. EndsAt look forms n j (Made f)) b (Asks j) ⊎
       (Leaves (λ j f. EndsAt look forms n j (Made f)) b (Asks j) → ⊥) →
       (v : Value N) × Valued (λ j f. EndsAt look forms n j (Made f)) start j v
-  valued_by n j b start e (inl x) =
-      (Truth (not b), subst (λ z. Valued (λ j f. EndsAt look forms n j (Made f)) z j (Truth (not b))) (sym e)
-      (inl (x, refl)))
+  valued_by n j b start e (inl x) = (
+    Truth (not b),
+    subst (λ z. Valued (λ j f. EndsAt look forms n j (Made f)) z j (Truth (not b))) (sym e)
+        (inl (x, refl)),
+  )
   valued_by n j b start e (inr x) =
       (Truth b, subst (λ z. Valued (λ j f. EndsAt look forms n j (Made f)) z j (Truth b)) (sym e) (inr (x, refl)))
 
@@ -182,5 +188,5 @@ module _ {N : Type 0} (look : Contents N) (forms : Forms N) where
   component_valued all whole j b a e =
       let (n, l) = one_depth all all whole in
       let (v, x) = valued_by n j b (forms.starts j.attribute) e
-          (decided (EndsAt look forms n) (ends_at look forms n n) all b l j a) in
+      (decided (EndsAt look forms n) (ends_at look forms n n) all b l j a) in
       (v, (suc n, (are_formed (EndsAt look forms n) (ends_at look forms n n) all l j a, x)))
