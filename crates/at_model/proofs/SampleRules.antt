@@ -6,6 +6,7 @@ use Rattle.std.specs.Str.{IsUtf8, bytes_eq}
 use Rattle.std.proofs.lemmas.Option.{slice_get_within}
 use Rattle.std.proofs.lemmas.Bool.Decides.{nat_tests}
 use lib.Chars.{codes}
+use Rattle.at_model.proofs.of_formulas.PlainAnswered.{plain_starts, plain_boolean}
 use Rattle.at_model.specs.Bodies.{Expr, This, TextLiteral, IntLiteral, no_exprs, expr}
 use Rattle.at_model.specs.Bodies as body
 use Rattle.at_model.specs.Classes.{Classes, Class, chain, parent_of, class_in, parts, is_sub, is_concrete, fits}
@@ -115,7 +116,7 @@ sum_complete = record {
 }
 
 pub sum_well_formed : AreWellFormed sum_rules
-sum_well_formed = record { hierarchy = sum_hierarchy; typed = sum_typed; complete = sum_complete }
+sum_well_formed = record { hierarchy = sum_hierarchy; typed = sum_typed; complete = sum_complete; boolean = plain_boolean sum_rules (plain_starts sum_rules refl) }
 
 pub sum_tree_sound : IsTreeSound sum_rules.classes sum_tree
 unfolding chain
@@ -400,7 +401,7 @@ calc_complete = record {
 }
 
 pub calc_well_formed : AreWellFormed calc
-calc_well_formed = record { hierarchy = calc_hierarchy; typed = calc_typed; complete = calc_complete }
+calc_well_formed = record { hierarchy = calc_hierarchy; typed = calc_typed; complete = calc_complete; boolean = plain_boolean calc (plain_starts calc refl) }
 
 x_is_text : IsUtf8 (codes "x")
 x_is_text = low_utf8 (codes "x") refl

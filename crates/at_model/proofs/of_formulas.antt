@@ -19,3 +19,4 @@ pub mod Heights
 pub mod Solved
 pub mod Closure
 pub mod FormulasTogether
+pub mod PlainAnswered

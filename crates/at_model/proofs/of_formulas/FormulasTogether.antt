@@ -1,5 +1,5 @@
 -- With well-formed rules, over a sound tree: what formulas lead to is well formed and listed.
-use Rattle.std.proofs.Common.{refl}
+use Rattle.std.proofs.Common.{◌≡◌, refl}
 use Rattle.at_model.specs.Paths.{Node}
 use Rattle.at_model.specs.Run.{Value, Instance}
 use Rattle.at_model.specs.Trees.{Tree}
@@ -12,6 +12,10 @@ use Rattle.at_model.specs.WellFormed.{AreWellFormed, IsTreeSound}
 use Rattle.at_model.specs.of_fixpoints.Evaluations.{forms}
 use Rattle.at_model.specs.of_fixpoints.Resting.{Leads}
 use Rattle.at_model.specs.of_fixpoints.FormKinds.{AreBoolean, AreFormsTyped}
+use Rattle.at_model.specs.Lines.{Line}
+use Rattle.at_model.specs.Machine.{State, Asks, AnswersIn, verdict}
+use Rattle.at_model.specs.Meaning.{Outcomes, Finds}
+use Rattle.at_model.proofs.of_machines.WellAsked.{well_asked}
 use Rattle.at_model.proofs.Listed.{instance_listed}
 use Rattle.at_model.proofs.of_typing.TypedQuestions.{typed_of_formed, formed_of_typed}
 use Rattle.at_model.proofs.of_typing.TypedTogether.{met}
@@ -55,3 +59,10 @@ spread rules ok boolean t sound i j v formed h l =
     leads_valued (content t) (forms rules) (circular_asked (content t) rules node_eq) (IsWellFormed rules t)
     (λ m f. (instances rules t m.arguments, listed rules ok boolean t sound m f))
     (λ m k f c. demanded rules ok boolean t sound m f k (goes m k k c (stays k))) i j v formed h l
+
+-- what a line is told is of its kind
+pub told_of_kind : (rules : Rules) → AreWellFormed rules → (s : State) → IsTreeSound rules.classes s.tree → (l : Line)
+    (q : Instance Node) (v : Value Node) → verdict rules s l ≡ Asks q → AnswersIn rules s.tree q (Outcomes (Finds v)) →
+    IsOfItsKind rules (class_at s.tree) q v
+told_of_kind rules ok s sound l q v asks has =
+    value_of_kind rules ok ok.boolean s.tree sound q (well_asked rules s l q asks) v has
