@@ -6,7 +6,6 @@ use Rattle.std.specs.Str.{IsUtf8, bytes_eq}
 use Rattle.std.proofs.lemmas.Option.{slice_get_within}
 use Rattle.std.proofs.lemmas.Bool.Decides.{nat_tests}
 use lib.Chars.{codes}
-use Rattle.at_model.proofs.of_formulas.PlainAnswered.{plain_starts, plain_boolean}
 use Rattle.at_model.specs.Bodies.{Expr, This, TextLiteral, IntLiteral, no_exprs, expr}
 use Rattle.at_model.specs.Bodies as body
 use Rattle.at_model.specs.Classes.{Classes, Class, chain, parent_of, class_in, parts, is_sub, is_concrete, fits}
@@ -102,7 +101,7 @@ sum_synthesized k a e = found (λ (a : Attribute). a.is_inherited ≡ false) sum
 sum_typed : AreTyped sum_rules
 unfolding chain total
 sum_typed = record {
-  attributes = (record { class = omega arith; result = tt; parameters = tt; few = omega arith }, tt);
+  attributes = (record { class = omega arith; result = tt; parameters = tt; few = omega arith; boolean = λ b e. absurd cc }, tt);
   alike = λ j k a b e f inherited. absurd (not_inherited a (sum_synthesized j a e) inherited);
   own = (record { declaration = total; attribute = refl; synthesized = refl; declared = refl; body = sum_body }, tt);
   inherited = tt;
@@ -116,7 +115,7 @@ sum_complete = record {
 }
 
 pub sum_well_formed : AreWellFormed sum_rules
-sum_well_formed = record { hierarchy = sum_hierarchy; typed = sum_typed; complete = sum_complete; boolean = plain_boolean sum_rules (plain_starts sum_rules refl) }
+sum_well_formed = record { hierarchy = sum_hierarchy; typed = sum_typed; complete = sum_complete }
 
 pub sum_tree_sound : IsTreeSound sum_rules.classes sum_tree
 unfolding chain
@@ -340,7 +339,7 @@ inherited_typed = (
 
 declarations_typed : AllByRecursion (IsDeclarationTyped calc_classes) calc_attributes
 declarations_typed =
-    (record { class = omega arith; result = omega arith; parameters = (tt, tt); few = omega arith }, (record { class = omega arith; result = omega arith; parameters = (tt, tt); few = omega arith }, (record { class = omega arith; result = omega arith; parameters = (tt, tt); few = omega arith }, (record { class = omega arith; result = tt; parameters = (tt, tt); few = omega arith }, (record { class = omega arith; result = omega arith; parameters = tt; few = omega arith }, (record { class = omega arith; result = tt; parameters = tt; few = omega arith }, (record { class = omega arith; result = tt; parameters = tt; few = omega arith }, (record { class = omega arith; result = tt; parameters = tt; few = omega arith }, (record { class = omega arith; result = tt; parameters = tt; few = omega arith }, (record { class = omega arith; result = tt; parameters = tt; few = omega arith }, (record { class = omega arith; result = tt; parameters = tt; few = omega arith }, (record { class = omega arith; result = tt; parameters = tt; few = omega arith }, (record { class = omega arith; result = tt; parameters = tt; few = omega arith }, (record { class = omega arith; result = tt; parameters = tt; few = omega arith }, (record { class = omega arith; result = tt; parameters = tt; few = omega arith }, (record { class = omega arith; result = tt; parameters = tt; few = omega arith }, (record { class = omega arith; result = tt; parameters = tt; few = omega arith }, tt)))))))))))))))))
+    (record { class = omega arith; result = omega arith; parameters = (tt, tt); few = omega arith; boolean = λ b e. absurd cc }, (record { class = omega arith; result = omega arith; parameters = (tt, tt); few = omega arith; boolean = λ b e. absurd cc }, (record { class = omega arith; result = omega arith; parameters = (tt, tt); few = omega arith; boolean = λ b e. absurd cc }, (record { class = omega arith; result = tt; parameters = (tt, tt); few = omega arith; boolean = λ b e. absurd cc }, (record { class = omega arith; result = omega arith; parameters = tt; few = omega arith; boolean = λ b e. absurd cc }, (record { class = omega arith; result = tt; parameters = tt; few = omega arith; boolean = λ b e. absurd cc }, (record { class = omega arith; result = tt; parameters = tt; few = omega arith; boolean = λ b e. absurd cc }, (record { class = omega arith; result = tt; parameters = tt; few = omega arith; boolean = λ b e. absurd cc }, (record { class = omega arith; result = tt; parameters = tt; few = omega arith; boolean = λ b e. absurd cc }, (record { class = omega arith; result = tt; parameters = tt; few = omega arith; boolean = λ b e. absurd cc }, (record { class = omega arith; result = tt; parameters = tt; few = omega arith; boolean = λ b e. absurd cc }, (record { class = omega arith; result = tt; parameters = tt; few = omega arith; boolean = λ b e. absurd cc }, (record { class = omega arith; result = tt; parameters = tt; few = omega arith; boolean = λ b e. absurd cc }, (record { class = omega arith; result = tt; parameters = tt; few = omega arith; boolean = λ b e. absurd cc }, (record { class = omega arith; result = tt; parameters = tt; few = omega arith; boolean = λ b e. absurd cc }, (record { class = omega arith; result = tt; parameters = tt; few = omega arith; boolean = λ b e. absurd cc }, (record { class = omega arith; result = tt; parameters = tt; few = omega arith; boolean = λ b e. absurd cc }, tt)))))))))))))))))
 
 -- the same parameters and the same result
 abbrev IsSigned : Attribute → Attribute → Type 0
@@ -401,7 +400,7 @@ calc_complete = record {
 }
 
 pub calc_well_formed : AreWellFormed calc
-calc_well_formed = record { hierarchy = calc_hierarchy; typed = calc_typed; complete = calc_complete; boolean = plain_boolean calc (plain_starts calc refl) }
+calc_well_formed = record { hierarchy = calc_hierarchy; typed = calc_typed; complete = calc_complete }
 
 x_is_text : IsUtf8 (codes "x")
 x_is_text = low_utf8 (codes "x") refl

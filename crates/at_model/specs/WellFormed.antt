@@ -8,20 +8,17 @@ use Rattle.at_model.specs.Edits.{is_within_limits}
 use Rattle.at_model.specs.Enduring.{AreTokens}
 use Rattle.at_model.specs.Rules.{Rules, AreComplete}
 use Rattle.at_model.specs.Kinds.{AreTyped}
-use Rattle.at_model.specs.of_fixpoints.FormKinds.{AreBoolean}
 
 -- each superclass is there, and no class is above itself
 pub record IsHierarchy (classes : Classes) : Type 0 where
   pub parents : (c : ℕ) → IfSome (parent_of classes c) (λ b. b < length classes)
   pub no_circle : (c : ℕ) → c < length classes → list_any (nat_eq c) (above classes c) ≡ false
 
--- the classes are a hierarchy, each equation has the kind of its attribute, no equation is missing, and circular attributes are
--- boolean
+-- the classes are a hierarchy, each equation has the kind of its attribute, and no equation is missing
 pub record AreWellFormed (rules : Rules) : Type 0 where
   pub hierarchy : IsHierarchy rules.classes
   pub typed : AreTyped rules
   pub complete : AreComplete rules
-  pub boolean : AreBoolean rules
 
 -- the tree conforms to the start class, is within the limits, and its tokens can be written
 pub record IsTreeSound (classes : Classes) (t : Tree) : Type 0 where

@@ -17,7 +17,6 @@ ghost use Rattle.at_model.specs.WellFormed.{AreWellFormed, IsTreeSound};
 ghost use Rattle.at_model.specs.of_fixpoints.Circles.{Answers, Circular};
 ghost use Rattle.at_model.specs.of_fixpoints.Evaluations.{evaluation, forms};
 ghost use Rattle.at_model.specs.of_fixpoints.Fixpoints.{HasForm, HasValue, Holds, HoldsAt};
-ghost use Rattle.at_model.specs.of_fixpoints.FormKinds.{AreBoolean};
 ghost use Rattle.at_model.specs.of_fixpoints.Formulas.{Formula, Forms};
 ghost use Rattle.at_model.specs.of_fixpoints.Likeness.{AlikeBelow, FormsLike};
 ghost use Rattle.at_model.specs.of_fixpoints.Resting.{IsUntouched, Leads, Supports};
@@ -226,22 +225,21 @@ pub fn numbers_and_paths_by_formulas()
         → (l : Location ℕ) × LocationLike (Names path) l m × Supports numbers (evaluation rules nat_eq) l i }
 {}
 
-/// With well-formed rules whose circular attributes are boolean, over a sound tree: an instance that has a value leads to
-/// instances that have values alone.
+/// With well-formed rules, over a sound tree: an instance that has a value leads to instances that have values alone.
 pub fn values_spread_along_formulas()
-    ensures { (rules : Rules) → AreWellFormed rules → AreBoolean rules → (t : Tree) → IsTreeSound rules.classes t
+    ensures { (rules : Rules) → AreWellFormed rules → (t : Tree) → IsTreeSound rules.classes t
         → (i j : Instance Node) (v : Value Node) → IsWellFormed rules t i → HasValue (content t) (forms rules) i v
         → Leads (content t) (forms rules) i j → (w : Value Node) × HasValue (content t) (forms rules) j w }
 {}
 
-/// With well-formed rules whose circular attributes are boolean, over a sound tree: all that an instance leads to is well formed,
-/// and stands in the list of instances; and the value of an instance is of the kind of its attribute.
+/// With well-formed rules, over a sound tree: all that an instance leads to is well formed, and stands in the list of instances;
+/// and the value of an instance is of the kind of its attribute.
 pub fn formulas_keep_to_the_kinds()
-    ensures demanded { (rules : Rules) → AreWellFormed rules → AreBoolean rules → (t : Tree) → IsTreeSound rules.classes t
+    ensures demanded { (rules : Rules) → AreWellFormed rules → (t : Tree) → IsTreeSound rules.classes t
         → (i j : Instance Node) → IsWellFormed rules t i → Leads (content t) (forms rules) i j → IsWellFormed rules t j }
-    ensures listed { (rules : Rules) → AreWellFormed rules → AreBoolean rules → (t : Tree) → IsTreeSound rules.classes t
+    ensures listed { (rules : Rules) → AreWellFormed rules → (t : Tree) → IsTreeSound rules.classes t
         → (i j : Instance Node) → IsWellFormed rules t i → Leads (content t) (forms rules) i j → Among j (instances rules t i.arguments) }
-    ensures value { (rules : Rules) → AreWellFormed rules → AreBoolean rules → (t : Tree) → IsTreeSound rules.classes t
+    ensures value { (rules : Rules) → AreWellFormed rules → (t : Tree) → IsTreeSound rules.classes t
         → (i : Instance Node) (v : Value Node) → IsWellFormed rules t i → HasValue (content t) (forms rules) i v
         → IsOfItsKind rules (class_at t) i v }
 {}

@@ -1,5 +1,5 @@
 -- Rules without circular attributes, as a test; and their answers, which are those of their equations.
-use Rattle.std.proofs.Common.{◌≡◌, ℕ, zero, suc, Bool, true, false, List, [], ◌∷◌, Option, Some, None, refl, sym, ◌∙◌, subst}
+use Rattle.std.proofs.Common.{◌≡◌, ℕ, zero, suc, Bool, true, false, List, [], ◌∷◌, map, Option, Some, None, refl, sym, ◌∙◌, subst}
 use Rattle.std.specs.List.{slice_get}
 use Rattle.std.specs.Prelude.{◌&&◌}
 use Rattle.at_model.specs.Paths.{Node, node_eq}
@@ -9,7 +9,6 @@ use Rattle.at_model.specs.Meaning.{Answer, equations}
 use Rattle.at_model.specs.Meaning as meaning
 use Rattle.at_model.specs.of_fixpoints.Circles.{Answers}
 use Rattle.at_model.specs.of_fixpoints.Evaluations.{forms}
-use Rattle.at_model.specs.of_fixpoints.FormKinds.{AreBoolean}
 use Rattle.at_model.proofs.Options.{both}
 use Rattle.at_model.proofs.of_formulas.PlainRules.{rules_plain}
 use Rattle.at_model.proofs.of_formulas.PlainAnswers.{answers_on}
@@ -35,8 +34,12 @@ plain_at (a ∷ as') (suc n) e = plain_at as' n (both (has_none a.start) (all_pl
 pub plain_starts : (rules : Rules) → all_plain rules.attributes ≡ true → (attribute : ℕ) → start_of rules attribute ≡ None
 plain_starts rules e attribute = plain_at rules.attributes attribute e
 
-pub plain_boolean : (rules : Rules) → ((attribute : ℕ) → start_of rules attribute ≡ None) → AreBoolean rules
-plain_boolean rules none attribute b d e f = let q : Some b ≡ None = sym e ∙ none attribute in absurd cc
+-- so it is where each attribute comes from something, with no start
+pub mapped_plain : {A : Type 0} (f : A → Attribute) → ((a : A) → (f a).start ≡ None) → (as' : List A) (n : ℕ) →
+    elim (slice_get (map f as') n) as (λ _. Option Bool) [ None ↦ None | Some a ↦ a.start ] ≡ None
+mapped_plain f none [] n = refl
+mapped_plain f none (a ∷ as') zero = none a
+mapped_plain f none (a ∷ as') (suc n) = mapped_plain f none as' n
 
 -- an answer by the equations is one
 pub answered : (rules : Rules) → ((attribute : ℕ) → start_of rules attribute ≡ None) → (look : Contents Node) (q : Instance Node) (a : Answer Node) →
