@@ -35,7 +35,11 @@ IsUpTo most n = (1 ≤ n) × (n ≤ most)
 -- it can be served: there is an aspect file, and the numbers of connections, of turns and of values to be kept are in range
 abbrev pub IsUsable : Options → Type 0
 IsUsable o = (0 < length o.aspects.items) × IsUpTo max_connections o.connections × IsUpTo max_slice o.slice
-    × IfSome o.keep (IsUpTo max_keep) × IfSome o.nodes (IsUpTo max_nodes_asked)
+    × IfSome o.keep (IsUpTo max_keep)
+
+-- and so is that of nodes, where one is asked for
+abbrev pub IsSized : Options → Type 0
+IsSized o = IfSome o.nodes (IsUpTo max_nodes_asked)
 
 -- no bound is asked for where what an edit may have changed is kept
 abbrev pub IsApart : Options → Type 0

@@ -5,7 +5,7 @@ ghost use Rattle.clap.specs.Walk.{texts};
 ghost use Rattle.clap.specs.Words.{all_of, app_of, first_of, kind_of, matches_of, one_of, rule_of, takes};
 ghost use Rattle.clap.specs.declared.error.ErrorKind.TheVariants.{OutOfMemory};
 ghost use Rattle.attrd.specs.CommandLine.{command_line, rule, with_words};
-ghost use Rattle.attrd.specs.Options.{Asks, HasValues, IsApart, IsFlag, IsUsable, IsWhole, SpellsUpTo};
+ghost use Rattle.attrd.specs.Options.{Asks, HasValues, IsApart, IsFlag, IsSized, IsUsable, IsWhole, SpellsUpTo};
 ghost use Rattle.attrd.specs.Options.{are_both, is_set, max_connections, max_keep, max_nodes_asked, max_slice, number, number_asked, rows_found};
 ghost use Rattle.attrd.specs.declared.options.WordsFault.TheVariants.{Memory};
 
@@ -175,6 +175,7 @@ const WORDS: &[Word] = &[
 /// version; `Memory` for want of memory.
 pub fn options<'a>(alloc: Global, words: &'a [&'a str]) -> Result<Options, WordsFault>
     ensures usable { IfOk result IsUsable }
+    ensures sized { IfOk result IsSized }
     ensures apart { IfOk result IsApart }
     ensures asked { IfOk result (Asks (texts words.entry.now)) }
     ensures refused { IfErr result (λ e. takes command_line (texts words.entry.now) ≡ true
