@@ -154,23 +154,6 @@ fn a_class_and_what_is_read_next_are_two_locations(rt: HostRuntime) -> Result<()
 }
 
 #[test]
-fn a_location_that_is_read_again_counts_once(rt: HostRuntime) -> Result<(), Fail> {
-    let alloc = rt.alloc();
-    let (one, other) = (own(0), Loc::Tok(numbered(0), 1));
-    let mut keeper = KeepRecorded::new(alloc);
-    for node in 0..3 {
-        let reads = [one, one, other, one];
-        put_new(&mut keeper, inst(node), Some(Value::Int(7)), &reads, &[])?;
-    }
-    assert_eq!(rt; keeper.stored(), 6);
-    flush(&mut keeper, 1);
-    assert_eq!(rt; keeper.len(), 3);
-    flush(&mut keeper, 0);
-    assert_eq!(rt; keeper.len(), 0);
-    Ok(())
-}
-
-#[test]
 fn links_follow_their_entries(rt: HostRuntime) -> Result<(), Fail> {
     let alloc = rt.alloc();
     let mut keeper = recorded(alloc, &[&[], &[0], &[], &[2]])?;
