@@ -82,7 +82,7 @@ all_met rules test c k a e f g =
 -- sum -----------------------------------------------------------------------------------------------------------------
 
 total : Attribute
-total = record { name = codes "total"; class = 0; parameters = []; result = Int; is_lazy = false; is_inherited = false }
+total = record { name = codes "total"; class = 0; parameters = []; result = Int; is_lazy = false; is_inherited = false; start = None }
 
 sum_hierarchy : IsHierarchy sum_rules.classes
 unfolding chain
@@ -101,7 +101,7 @@ sum_synthesized k a e = found (λ (a : Attribute). a.is_inherited ≡ false) sum
 sum_typed : AreTyped sum_rules
 unfolding chain total
 sum_typed = record {
-  attributes = (record { class = omega arith; result = tt; parameters = tt; few = omega arith }, tt);
+  attributes = (record { class = omega arith; result = tt; parameters = tt; few = omega arith; boolean = λ b e. absurd cc }, tt);
   alike = λ j k a b e f inherited. absurd (not_inherited a (sum_synthesized j a e) inherited);
   own = (record { declaration = total; attribute = refl; synthesized = refl; declared = refl; body = sum_body }, tt);
   inherited = tt;
@@ -339,7 +339,7 @@ inherited_typed = (
 
 declarations_typed : AllByRecursion (IsDeclarationTyped calc_classes) calc_attributes
 declarations_typed =
-    (record { class = omega arith; result = omega arith; parameters = (tt, tt); few = omega arith }, (record { class = omega arith; result = omega arith; parameters = (tt, tt); few = omega arith }, (record { class = omega arith; result = omega arith; parameters = (tt, tt); few = omega arith }, (record { class = omega arith; result = tt; parameters = (tt, tt); few = omega arith }, (record { class = omega arith; result = omega arith; parameters = tt; few = omega arith }, (record { class = omega arith; result = tt; parameters = tt; few = omega arith }, (record { class = omega arith; result = tt; parameters = tt; few = omega arith }, (record { class = omega arith; result = tt; parameters = tt; few = omega arith }, (record { class = omega arith; result = tt; parameters = tt; few = omega arith }, (record { class = omega arith; result = tt; parameters = tt; few = omega arith }, (record { class = omega arith; result = tt; parameters = tt; few = omega arith }, (record { class = omega arith; result = tt; parameters = tt; few = omega arith }, (record { class = omega arith; result = tt; parameters = tt; few = omega arith }, (record { class = omega arith; result = tt; parameters = tt; few = omega arith }, (record { class = omega arith; result = tt; parameters = tt; few = omega arith }, (record { class = omega arith; result = tt; parameters = tt; few = omega arith }, (record { class = omega arith; result = tt; parameters = tt; few = omega arith }, tt)))))))))))))))))
+    (record { class = omega arith; result = omega arith; parameters = (tt, tt); few = omega arith; boolean = λ b e. absurd cc }, (record { class = omega arith; result = omega arith; parameters = (tt, tt); few = omega arith; boolean = λ b e. absurd cc }, (record { class = omega arith; result = omega arith; parameters = (tt, tt); few = omega arith; boolean = λ b e. absurd cc }, (record { class = omega arith; result = tt; parameters = (tt, tt); few = omega arith; boolean = λ b e. absurd cc }, (record { class = omega arith; result = omega arith; parameters = tt; few = omega arith; boolean = λ b e. absurd cc }, (record { class = omega arith; result = tt; parameters = tt; few = omega arith; boolean = λ b e. absurd cc }, (record { class = omega arith; result = tt; parameters = tt; few = omega arith; boolean = λ b e. absurd cc }, (record { class = omega arith; result = tt; parameters = tt; few = omega arith; boolean = λ b e. absurd cc }, (record { class = omega arith; result = tt; parameters = tt; few = omega arith; boolean = λ b e. absurd cc }, (record { class = omega arith; result = tt; parameters = tt; few = omega arith; boolean = λ b e. absurd cc }, (record { class = omega arith; result = tt; parameters = tt; few = omega arith; boolean = λ b e. absurd cc }, (record { class = omega arith; result = tt; parameters = tt; few = omega arith; boolean = λ b e. absurd cc }, (record { class = omega arith; result = tt; parameters = tt; few = omega arith; boolean = λ b e. absurd cc }, (record { class = omega arith; result = tt; parameters = tt; few = omega arith; boolean = λ b e. absurd cc }, (record { class = omega arith; result = tt; parameters = tt; few = omega arith; boolean = λ b e. absurd cc }, (record { class = omega arith; result = tt; parameters = tt; few = omega arith; boolean = λ b e. absurd cc }, (record { class = omega arith; result = tt; parameters = tt; few = omega arith; boolean = λ b e. absurd cc }, tt)))))))))))))))))
 
 -- the same parameters and the same result
 abbrev IsSigned : Attribute → Attribute → Type 0

@@ -52,7 +52,7 @@ children_within t n part (Some u) e = each_child t n part 0 (children_at u part)
 abbrev pub UpLike : Tree → Option (Node × ℕ) → Option (Node × ℕ) → Type 0
 UpLike t c d = OptionLike (λ (p : Node × ℕ) (q : Node × ℕ). Within t p.0 q.0 × (p.1 ≡ q.1)) c d
 
-parent_within : (t : Tree) (n : Node) → IsThere t n → UpLike t (content t (Up n)) (content t (Up n))
+pub parent_within : (t : Tree) (n : Node) → IsThere t n → UpLike t (content t (Up n)) (content t (Up n))
 parent_within t n h = elim (snoc n) [
   | inl e ↦ subst (λ z. UpLike t (content t (Up z)) (content t (Up z))) (sym e) neither
   | inr (m, s, e) ↦

@@ -17,6 +17,7 @@ pub mod Alike
 pub mod Samples
 pub mod Edits
 pub mod Touches
+pub mod of_fixpoints
 pub mod Shaping
 pub mod Lines
 pub mod Replies

@@ -16,8 +16,8 @@ pub data Kind : Type 0 where
   Text : Kind
   Class : (class : ℕ) → Kind
 
--- A declaration: syn or inh, with or without lazy, then the result, the class and the name, and the parameters. One name may
--- be declared for several classes, none of which is above another one.
+-- A declaration: syn or inh, with or without lazy, then the result, the class and the name, and the parameters; and the value
+-- from which it starts, where it is circular. One name may be declared for several classes, none of which is above another one.
 pub record Attribute : Type 0 where
   pub name : List ℕ
   pub class : ℕ
@@ -25,6 +25,7 @@ pub record Attribute : Type 0 where
   pub result : Kind
   pub is_lazy : Bool
   pub is_inherited : Bool
+  pub start : Option Bool
 
 -- eq C.a(..) = E, or the body of a declaration; the attribute is the position of its declaration
 pub record OwnEquation : Type 0 where
@@ -108,6 +109,10 @@ is_inherited rules attribute = elim (slice_get rules.attributes attribute) [ Non
 -- whether the values of the attribute are kept (JastAdd2 reference manual, "Caching")
 abbrev pub is_lazy : Rules → ℕ → Bool
 is_lazy rules attribute = elim (slice_get rules.attributes attribute) [ None ↦ false | Some a ↦ a.is_lazy ]
+
+-- the value from which the attribute starts, where it is circular
+abbrev pub start_of : Rules → ℕ → Option Bool
+start_of rules attribute = elim (slice_get rules.attributes attribute) [ None ↦ None | Some a ↦ a.start ]
 
 -- the classes of the nodes among the arguments are looked at, and then it goes on
 abbrev pub past_arguments : {N A : Type 0} → List (Value N) → Run N A → Run N A

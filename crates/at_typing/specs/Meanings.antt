@@ -90,6 +90,7 @@ attribute d c result params = record {
   result = kind_view result;
   is_lazy = is_lazy d.decl.form;
   is_inherited = is_inherited d.decl.form;
+  start = None;
 }
 
 abbrev pub attribute_with : Classes → Located → Kind → ℕ → Judgement Attribute

@@ -54,12 +54,12 @@ instance-agrees f i j i' j' r s =
       λ e. same_parts i j (n.1 (ap (λ x. x.node) e)) (r.attribute ∙ ap (λ x. x.attribute) e ∙ sym s.attribute) (a.1 (ap (λ x. x.arguments) e)),
     )
 
-among-like : {A B : Type 0} {R : A → B → Type 0} → Agrees R → {as' : List A} {bs : List B} → ListLike R as' bs → (a : A) (b : B) → R a b → Among a as' → Among b bs
+pub among-like : {A B : Type 0} {R : A → B → Type 0} → Agrees R → {as' : List A} {bs : List B} → ListLike R as' bs → (a : A) (b : B) → R a b → Among a as' → Among b bs
 among-like f end a b r h = absurd h
 among-like f (more {a = c} {b = d} s ss) a b r (inl e) = inl ((f a c b d r s).0 e)
 among-like f (more s ss) a b r (inr h) = inr (among-like f ss a b r h)
 
-among-back : {A B : Type 0} {R : A → B → Type 0} → Agrees R → {as' : List A} {bs : List B} → ListLike R as' bs → (a : A) (b : B) → R a b → Among b bs → Among a as'
+pub among-back : {A B : Type 0} {R : A → B → Type 0} → Agrees R → {as' : List A} {bs : List B} → ListLike R as' bs → (a : A) (b : B) → R a b → Among b bs → Among a as'
 among-back f end a b r h = absurd h
 among-back f (more {a = c} {b = d} s ss) a b r (inl e) = inl ((f a c b d r s).1 e)
 among-back f (more s ss) a b r (inr h) = inr (among-back f ss a b r h)

@@ -7,7 +7,10 @@ use Rattle.std.specs.List.{AllByRecursion}
 use Rattle.at_model.specs.Run.{Instance}
 use Rattle.at_model.specs.Paths.{Node}
 use Rattle.at_model.specs.Rules.{Rules}
-use Rattle.at_model.specs.Meaning.{Answer}
+use Rattle.at_model.specs.Meaning.{Answer, Answers, content, equations}
+use Rattle.at_model.specs.Trees.{Tree}
+use Rattle.at_model.proofs.Options.{both}
+use Rattle.at_model.proofs.of_formulas.PlainAnswered.{all_plain, plain_starts, answered}
 use Rattle.at_model.specs.Lines.{Line, line_text, Spells, IsSessionOf}
 use Rattle.at_model.specs.Replies.{Reply, Form, Done, Opened, Shows, Refused, Memory, reply_text}
 use Rattle.at_model.specs.Replies as code
@@ -95,15 +98,22 @@ says_told rules s (Asks q) h = absurd (cc)
 says_told rules s (Posts q) h = refl
 says_told rules s (Waits number) h = absurd (cc)
 
+-- an answer by equations, where the rules have no circular attribute
+pub answer_by : (rules : Rules) → all_plain rules.attributes ≡ true → (t : Tree) (q : Instance Node) (a : Answer Node) →
+    Answers (content t) (equations rules) q a → AnswersIn rules t q a
+answer_by rules plain t q a h = answered rules (plain_starts rules plain) (content t) q a h
+
 -- a line that is no question, and a question with its answer
 pub line : {rules : Rules} {old : State} {e : Exchange} {rest : List Exchange} (l : Line) → is_plain_line l ≡ true → line_text l ≡ e.line → asks (verdict rules old l) ≡ false
     → reply_text (reply_to l (told old (verdict rules old l))) ≡ e.reply ++ 10 ∷ [] → Plays rules (turned (after old (verdict rules old l))) rest → Plays rules old (e ∷ rest)
 line {rules} {old} {e} {rest} l plain is told_so reply goes = quiet rules old l e (told old (verdict rules old l)) rest plain is reply (says_told rules old (verdict rules old l) told_so) goes
 
-pub question : {rules : Rules} {old : State} {e : Exchange} {rest : List Exchange} {q : Instance Node} (l : Line) (a : Answer Node) → is_plain_line l ≡ true → line_text l ≡ e.line → verdict rules old l ≡ Asks q
-    → AnswersIn rules old.tree q a → reply_text (reply_to l (answer_form rules old.tree a)) ≡ e.reply ++ 10 ∷ [] → Plays rules (turned old) rest → Plays rules old (e ∷ rest)
-question {rules} {old} {e} {rest} {q} l a plain is asked answered reply goes = quiet rules old l e (answer_form rules old.tree a) rest plain is reply
-    (subst (λ v. Says rules old v (answer_form rules old.tree a)) (sym asked) (a, answered, refl))
+pub question : {rules : Rules} {old : State} {e : Exchange} {rest : List Exchange} {q : Instance Node} (l : Line) (a : Answer Node) → (is_plain_line l && all_plain rules.attributes) ≡ true → line_text l ≡ e.line → verdict rules old l ≡ Asks q
+    → Answers (content old.tree) (equations rules) q a → reply_text (reply_to l (answer_form rules old.tree a)) ≡ e.reply ++ 10 ∷ [] → Plays rules (turned old) rest → Plays rules old (e ∷ rest)
+question {rules} {old} {e} {rest} {q} l a plain is asked answered reply goes =
+    let (plain_line, plain_rules) = both (is_plain_line l) (all_plain rules.attributes) plain in
+    quiet rules old l e (answer_form rules old.tree a) rest plain_line is reply
+    (subst (λ v. Says rules old v (answer_form rules old.tree a)) (sym asked) (a, answer_by rules plain_rules old.tree q a answered, refl))
     (subst (λ v. Plays rules (turned (after old v)) rest) (sym asked) goes)
 
 -- a test, which computes, that each of the lines is no question and gets its reply
@@ -165,15 +175,20 @@ answering {rules} {old} {e} {rest} l q form plain line told_so first found answe
 asked_form : (rules : Rules) (s : State) (q : Posted) (i : Instance Node) (a : Answer Node) → verdict rules (seen_by q s) (line_of q) ≡ Asks i → AnswersIn rules s.tree i a → AnswersPosted rules s q (answer_form rules s.tree a)
 asked_form rules s q i a asked answered = subst (λ v. Says rules (seen_by q s) v (answer_form rules s.tree a)) (sym asked) (a, answered, refl)
 
-pub waiting_for : {rules : Rules} {old : State} {e : Exchange} {rest : List Exchange} {i : Instance Node} (l : Line) (q : Posted) (a : Answer Node) → is_plain_line l ≡ true → line_text l ≡ e.line → verdict rules old l ≡ Waits q.number → numbered old q.number ≡ Some q
-    → verdict rules (seen_by q old) (line_of q) ≡ Asks i → AnswersIn rules old.tree i a → reply_text (done_reply old q (answer_form rules old.tree a)) ≡ e.reply ++ 10 ∷ [] → Plays rules (turned (without q.number old)) rest → Plays rules old (e ∷ rest)
-waiting_for {rules} {old} {e} {rest} {i} l q a plain line is found asked answered reply goes = waiting {rules = rules} {old = old} {e = e} {rest = rest} l q (answer_form rules old.tree a) plain line is found (asked_form rules old q i a asked answered) reply goes
+pub waiting_for : {rules : Rules} {old : State} {e : Exchange} {rest : List Exchange} {i : Instance Node} (l : Line) (q : Posted) (a : Answer Node) → (is_plain_line l && all_plain rules.attributes) ≡ true → line_text l ≡ e.line → verdict rules old l ≡ Waits q.number → numbered old q.number ≡ Some q
+    → verdict rules (seen_by q old) (line_of q) ≡ Asks i → Answers (content old.tree) (equations rules) i a → reply_text (done_reply old q (answer_form rules old.tree a)) ≡ e.reply ++ 10 ∷ [] → Plays rules (turned (without q.number old)) rest → Plays rules old (e ∷ rest)
+waiting_for {rules} {old} {e} {rest} {i} l q a plain line is found asked answered reply goes =
+    let (plain_line, plain_rules) = both (is_plain_line l) (all_plain rules.attributes) plain in
+    waiting {rules = rules} {old = old} {e = e} {rest = rest} l q (answer_form rules old.tree a) plain_line line is found
+    (asked_form rules old q i a asked (answer_by rules plain_rules old.tree i a answered)) reply goes
 
-pub answering_with : {rules : Rules} {old : State} {e : Exchange} {rest : List Exchange} {i : Instance Node} (l : Line) (q : Posted) (a : Answer Node) → is_plain_line l ≡ true → line_text l ≡ e.line → asks (verdict rules old l) ≡ false
+pub answering_with : {rules : Rules} {old : State} {e : Exchange} {rest : List Exchange} {i : Instance Node} (l : Line) (q : Posted) (a : Answer Node) → (is_plain_line l && all_plain rules.attributes) ≡ true → line_text l ≡ e.line → asks (verdict rules old l) ≡ false
     → first_of (after old (verdict rules old l)).posted ≡ Some q → numbered (after old (verdict rules old l)) q.number ≡ Some q
-    → verdict rules (seen_by q (after old (verdict rules old l))) (line_of q) ≡ Asks i → AnswersIn rules (after old (verdict rules old l)).tree i a
+    → verdict rules (seen_by q (after old (verdict rules old l))) (line_of q) ≡ Asks i → Answers (content (after old (verdict rules old l)).tree) (equations rules) i a
     → reply_text (reply_to l (told old (verdict rules old l))) ++ reply_text (done_reply (after old (verdict rules old l)) q (answer_form rules (after old (verdict rules old l)).tree a)) ≡ e.reply ++ 10 ∷ []
     → Plays rules (without q.number (after old (verdict rules old l))) rest → Plays rules old (e ∷ rest)
 answering_with {rules} {old} {e} {rest} {i} l q a plain line told_so first found asked answered reply goes =
     let mid = after old (verdict rules old l) in
-    answering {rules = rules} {old = old} {e = e} {rest = rest} l q (answer_form rules mid.tree a) plain line told_so first found (asked_form rules mid q i a asked answered) reply goes
+    let (plain_line, plain_rules) = both (is_plain_line l) (all_plain rules.attributes) plain in
+    answering {rules = rules} {old = old} {e = e} {rest = rest} l q (answer_form rules mid.tree a) plain_line line told_so first found
+    (asked_form rules mid q i a asked (answer_by rules plain_rules mid.tree i a answered)) reply goes

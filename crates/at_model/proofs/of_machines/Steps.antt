@@ -8,17 +8,19 @@ use Rattle.at_model.specs.Meaning.{Answer, Outcomes, Circle, content, equations}
 use Rattle.at_model.specs.Lines.{Line}
 use Rattle.at_model.specs.Replies.{Reply, Form, Refused, Code}
 use Rattle.at_model.specs.Machine.{State, Verdict, Refuses, Tells, Leaves, Edits, Asks, Posts, Waits, AnswersIn, Says, after, Step, answer_form, verdict}
-use Rattle.at_model.proofs.Outcomes.{once, not_both, closes_at_one}
+use Rattle.at_model.specs.of_fixpoints.Evaluations.{forms}
+use Rattle.at_model.proofs.of_formulas.UniqueOutcomes.{once}
+use Rattle.at_model.proofs.of_formulas.ClosedOnce.{not_both, closes_at_one}
 
 -- each instance has at most one answer
 abbrev pub AnswersOnce : Rules → Type 0
 AnswersOnce rules = (t : Tree) (q : Instance Node) (a b : Answer Node) → AnswersIn rules t q a → AnswersIn rules t q b → a ≡ b
 
 pub answers_once : (rules : Rules) → AnswersOnce rules
-answers_once rules t q (Outcomes o) (Outcomes p) h k = ap Outcomes (once (content t) (equations rules) q o p h k)
-answers_once rules t q (Outcomes o) (Circle j) h k = absurd (not_both (content t) (equations rules) q j o h k)
-answers_once rules t q (Circle j) (Outcomes o) h k = absurd (not_both (content t) (equations rules) q j o k h)
-answers_once rules t q (Circle i) (Circle j) h k = ap Circle (closes_at_one (content t) (equations rules) q i j h k)
+answers_once rules t q (Outcomes o) (Outcomes p) h k = ap Outcomes (once (content t) (forms rules) q o p h k)
+answers_once rules t q (Outcomes o) (Circle j) h k = absurd (not_both (content t) (forms rules) q j o h k)
+answers_once rules t q (Circle j) (Outcomes o) h k = absurd (not_both (content t) (forms rules) q j o k h)
+answers_once rules t q (Circle i) (Circle j) h k = ap Circle (closes_at_one (content t) (forms rules) q i j h k)
 
 pub says_once : (rules : Rules) → AnswersOnce rules → (old : State) (v : Verdict) (form told : Form) →
     Says rules old v form → Says rules old v told → form ≡ told

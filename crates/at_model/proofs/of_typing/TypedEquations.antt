@@ -59,7 +59,7 @@ each_among [] = tt
 each_among (x ∷ xs) = (or_left (nat_eq x x) _ (same_nat x), all_more (λ n. list_any (nat_eq n) xs ≡ true) (λ n. list_any (nat_eq n) (x ∷ xs) ≡ true) xs (λ n h. or_right (nat_eq n x) _ h) (each_among xs))
 
 -- the own equation that is found stands at the class or above it
-own_there : (rules : Rules) (P : OwnEquation → Type 0) → AllByRecursion P rules.own → (c attribute : ℕ) (body : Expr) → own_equation rules c attribute ≡ Some body →
+pub own_there : (rules : Rules) (P : OwnEquation → Type 0) → AllByRecursion P rules.own → (c attribute : ℕ) (body : Expr) → own_equation rules c attribute ≡ Some body →
     (e : OwnEquation) × P e × (is_sub rules.classes c e.class ≡ true) × (e.attribute ≡ attribute) × (e.body ≡ body)
 own_there rules P all c attribute body h =
     let (b, sub, g) = answered (λ b. is_sub rules.classes c b ≡ true) (own_in rules attribute) (chain rules.classes c) body (each_among (chain rules.classes c)) h in
@@ -78,7 +78,7 @@ inherited_there_in rules P all c b part name body sub h =
     (e, p, subst (λ z. is_sub rules.classes c z ≡ true) (sym (nat_same e.class b x)) sub, z, k)
 
 -- and so does the inherited one
-inherited_there : (rules : Rules) (P : InheritedEquation → Type 0) → AllByRecursion P rules.inherited → (c part : ℕ) (name : List ℕ) (body : Expr) → inherited_equation rules c part name ≡ Some body →
+pub inherited_there : (rules : Rules) (P : InheritedEquation → Type 0) → AllByRecursion P rules.inherited → (c part : ℕ) (name : List ℕ) (body : Expr) → inherited_equation rules c part name ≡ Some body →
     (e : InheritedEquation) × P e × (is_sub rules.classes c e.class ≡ true) × (bytes_eq e.name name ≡ true) × (e.body ≡ body)
 inherited_there rules P all c part name body h =
     let (b, sub, g) = answered (λ b. is_sub rules.classes c b ≡ true) (λ b. option_or (inherited_in rules name (Some part) b) (inherited_in rules name None b)) (chain rules.classes c) body (each_among (chain rules.classes c)) h in
@@ -112,7 +112,7 @@ up_to_all {A} {B} P f (x ∷ xs) (h, hs) = (h, stop (f x) (up_to_all P f xs hs))
     stop None g = g
     stop (Some b) g = tt
 
-node_there : (t : Tree) (n : Node) → IsSome (tree_at t n) → IsSome (class_at t n)
+pub node_there : (t : Tree) (n : Node) → IsSome (tree_at t n) → IsSome (class_at t n)
 node_there t n h = by_tree (tree_at t n) h
   where
     by_tree : (o : Option Tree) → IsSome o → IsSome (option_map class_of o)
@@ -123,7 +123,7 @@ steps_sought : (classes : Classes) (t : Tree) (ps : List (Node × (ℕ × ℕ)))
 steps_sought classes t [] h = tt
 steps_sought classes t (p ∷ ps) ((a, b), hs) = (node_there t (p.0 ++ p.1 ∷ []) b, (node_there t p.0 a, steps_sought classes t ps hs))
 
-arguments_sought : (classes : Classes) (at : ClassAt Node) (Allowed : Texts) (vs : List (Value Node)) (ks : List Kind) → AreArguments classes at Allowed vs ks → AllByRecursion (IsLocationThere classes at) (argument_classes vs)
+pub arguments_sought : (classes : Classes) (at : ClassAt Node) (Allowed : Texts) (vs : List (Value Node)) (ks : List Kind) → AreArguments classes at Allowed vs ks → AllByRecursion (IsLocationThere classes at) (argument_classes vs)
 arguments_sought classes at Allowed [] ks h = tt
 arguments_sought classes at Allowed (v ∷ vs) [] h = absurd h
 arguments_sought classes at Allowed (v ∷ vs) (k ∷ ks) (h, s, hs) = one v k h (arguments_sought classes at Allowed vs ks hs)
@@ -138,16 +138,16 @@ arguments_sought classes at Allowed (v ∷ vs) (k ∷ ks) (h, s, hs) = one v k h
     one (Ref (Some n)) kind.Truth h g = absurd h
     one (Ref (Some n)) kind.Text h g = absurd h
 
-declared_inherited : (rules : Rules) (attribute : ℕ) (d : Attribute) (b : Bool) → slice_get rules.attributes attribute ≡ Some d → d.is_inherited ≡ b → is_inherited rules attribute ≡ b
+pub declared_inherited : (rules : Rules) (attribute : ℕ) (d : Attribute) (b : Bool) → slice_get rules.attributes attribute ≡ Some d → d.is_inherited ≡ b → is_inherited rules attribute ≡ b
 declared_inherited rules attribute d b e f = rw (e, is_inherited) f
 
-declared_name : (rules : Rules) (attribute : ℕ) (d : Attribute) → slice_get rules.attributes attribute ≡ Some d → attribute_name rules attribute ≡ d.name
+pub declared_name : (rules : Rules) (attribute : ℕ) (d : Attribute) → slice_get rules.attributes attribute ≡ Some d → attribute_name rules attribute ≡ d.name
 declared_name rules attribute d e = rw (e, attribute_name) refl
 
 pub one_declaration : (d e : Attribute) (o : Option Attribute) → o ≡ Some d → o ≡ Some e → d ≡ e
 one_declaration d e o f g = let h : Some d ≡ Some e = sym f ∙ g in cc
 
-own_body : (rules : Rules) (e : OwnEquation) → IsOwnTyped rules e → (a : Attribute) → slice_get rules.attributes e.attribute ≡ Some a → HasKind rules (record { this = e.class; names = a.parameters; has_index = false }) e.body a.result
+pub own_body : (rules : Rules) (e : OwnEquation) → IsOwnTyped rules e → (a : Attribute) → slice_get rules.attributes e.attribute ≡ Some a → HasKind rules (record { this = e.class; names = a.parameters; has_index = false }) e.body a.result
 own_body rules e h a f = subst (λ (z : Attribute). HasKind rules (record { this = e.class; names = z.parameters; has_index = false }) e.body z.result) (one_declaration h.declaration a (slice_get rules.attributes e.attribute) h.attribute f) h.body
 
 -- what the equations need

@@ -66,7 +66,7 @@ module _ {N : Type 0} (rules : Rules) (lined : AreChained rules.classes) (at : C
   ref_there c (Ref n) h = h
 
   -- a node of a class, then what is asked of it
-  of_node : {A : Type 0} (Q : A → Type 0) (c : ℕ) (v : Value N) (k : N → Run N A) → Is' (kind.Class c) v → ((n : N) (d : ℕ) → at n ≡ Some d → is_sub rules.classes d c ≡ true → Typed Q (k n)) → Typed Q (node_of v >>= k)
+  pub of_node : {A : Type 0} (Q : A → Type 0) (c : ℕ) (v : Value N) (k : N → Run N A) → Is' (kind.Class c) v → ((n : N) (d : ℕ) → at n ≡ Some d → is_sub rules.classes d c ≡ true → Typed Q (k n)) → Typed Q (node_of v >>= k)
   of_node Q c v k h g = then_typed rules at Allowed look (λ n. IsNodeOf rules.classes at n c) Q (node_of v) k (node_typed c v h) (λ n there. g n there.0 there.1 there.2)
 
   slot_sought : (n : N) (d c part b : ℕ) → at n ≡ Some d → is_sub rules.classes d c ≡ true → class_of_part rules.classes c part ≡ Some b → IsLocationThere rules.classes at (Slot n part)
@@ -122,7 +122,7 @@ module _ {N : Type 0} (rules : Rules) (lined : AreChained rules.classes) (at : C
       let shape = shape_below rules.classes lined d c part (Token k) sub e in
       ((k, ap (option_and_then (λ c. shape_of_part rules.classes c part)) there ∙ shape), (contents.token n d part k there shape, contents.said n part)))
 
-  elements_typed : (c part b : ℕ) (v : Value N) → shape_of_part rules.classes c part ≡ Some (Many b) → Is' (kind.Class c) v → Typed (AllByRecursion (λ m. IsNodeOf rules.classes at m b)) (elements_of part v)
+  pub elements_typed : (c part b : ℕ) (v : Value N) → shape_of_part rules.classes c part ≡ Some (Many b) → Is' (kind.Class c) v → Typed (AllByRecursion (λ m. IsNodeOf rules.classes at m b)) (elements_of part v)
   elements_typed c part b v e h =
       let asked = many_asked c part b (Many b) e refl in
       of_node (AllByRecursion (λ m. IsNodeOf rules.classes at m b)) c v _ h (λ n d there sub. (slot_sought n d c part b there sub asked, slot_fits n d c part b there sub asked))
@@ -214,13 +214,13 @@ module _ {N : Type 0} (rules : Rules) (lined : AreChained rules.classes) (at : C
   abbrev Says : Expr → Type 0
   Says e = AllByRecursion Allowed (literals e)
 
-  bound_scope : (s : ScopeKinds) (scope : Scope N) (n : N) (b : ℕ) → Scopes s scope → IsNodeOf rules.classes at n b → Scopes (bound_kinds s b) (bound scope n)
+  pub bound_scope : (s : ScopeKinds) (scope : Scope N) (n : N) (b : ℕ) → Scopes s scope → IsNodeOf rules.classes at n b → Scopes (bound_kinds s b) (bound scope n)
   bound_scope s scope n b h there = record { this = h.this; names = (there, tt, h.names); child = h.child }
 
-  says_left : (a b : Expr) → AllByRecursion Allowed (literals a ++ literals b) → Says a
+  pub says_left : (a b : Expr) → AllByRecursion Allowed (literals a ++ literals b) → Says a
   says_left a b h = (both_all Allowed (literals a) (literals b) h).0
 
-  says_right : (a b : Expr) → AllByRecursion Allowed (literals a ++ literals b) → Says b
+  pub says_right : (a b : Expr) → AllByRecursion Allowed (literals a ++ literals b) → Says b
   says_right a b h = (both_all Allowed (literals a) (literals b) h).1
 
   -- first one part, then what is done with its value

@@ -24,7 +24,7 @@ use Rattle.at_model.specs.WellFormed.{IsHierarchy, AreWellFormed, IsTreeSound}
 use Rattle.at_model.specs.Declarations.{above}
 use Rattle.at_model.specs.Enduring.{AreTokens}
 use Rattle.at_model.specs.Lines.{Line}
-use Rattle.at_model.specs.Machine.{State, IsSound, Asks, AnswersIn, verdict}
+use Rattle.at_model.specs.Machine.{State, IsSound}
 use Rattle.at_model.proofs.of_likeness.EquationsAlike.{evaluation-like}
 use Rattle.at_model.proofs.Nodes.{same_like, nat_eq-is, node_eq-is}
 use Rattle.at_model.proofs.Options.{both}
@@ -99,7 +99,7 @@ module _ (rules : Rules) (ok : AreWellFormed rules) (t : Tree) (sound : IsTreeSo
       })
 
   module _ (vs : List (Value Node)) where
-    met : AreMet rules t (IsGiven rules t vs)
+    pub met : AreMet rules t (IsGiven rules t vs)
     met = record {
       lined = chained rules.classes ok.hierarchy;
       typed = ok.typed;
@@ -152,6 +152,3 @@ module _ (rules : Rules) (ok : AreWellFormed rules) (t : Tree) (sound : IsTreeSo
     evaluated_by_numbers i j r w =
         typed_back rules path (class_at t) (IsGiven rules t j.arguments) (IsOfItsKind rules (class_numbered path (class_at t)) i) (IsOfItsKind rules (class_at t) j) (ValueLike (Names path)) numbers (content t) alike (λ v u like h. kind_back i j v u r.attribute like h)
         (evaluation rules nat_eq i) (equations rules j) (evaluation-like rules nat_eq node_eq (same_like nat_eq node_eq nat_eq-is node_eq-is path injective) i j r) (evaluated j.arguments j (typed_of_formed rules t j w))
-
-pub told_of_kind : (rules : Rules) → AreWellFormed rules → (s : State) → IsTreeSound rules.classes s.tree → (l : Line) (q : Instance Node) (v : Value Node) → verdict rules s l ≡ Asks q → AnswersIn rules s.tree q (Outcomes (Finds v)) → IsOfItsKind rules (class_at s.tree) q v
-told_of_kind rules ok s sound l q v asks has = value_of_kind rules ok s.tree sound q (well_asked rules s l q asks) v has

@@ -131,7 +131,7 @@ attribute_right classes d result =
     then_holds (ArePassed classes 0 (params_in d.decl.form).items) (IsOfWord classes d result) (λ params. Is (attribute d c k params)) (params_named classes 0 (params_in d.decl.form).items) (params_named_right classes 0 (params_in d.decl.form).items) (λ ks passed.
     record {
       declared = λ words. record { class = class; parameters = passed.named words; result = named.known (first_unless (is_some (known_kind classes result.kind)) words result.kind) };
-      typed = record { class = class_there classes (class_text d) c class; result = named.there; parameters = passed.passed; few = few_parameters (length (map kind_view ks)) (passed.few (within max_parameters)) };
+      typed = record { class = class_there classes (class_text d) c class; result = named.there; parameters = passed.passed; few = few_parameters (length (map kind_view ks)) (passed.few (within max_parameters)); boolean = λ b e. absurd cc };
       same_name = refl;
       inherits = refl;
     })))

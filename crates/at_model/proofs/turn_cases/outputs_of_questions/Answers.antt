@@ -7,10 +7,10 @@ use Rattle.at_model.specs.Replies.{Reply, Form, Opened, Shows, Plain, Memory}
 use Rattle.at_model.specs.Run.{Int}
 use Rattle.at_model.specs.Meaning.{Outcomes, Finds}
 use Rattle.at_model.specs.Machine.{State, Posted, Turns, answers, runs_out, telling, spent, next, end, Outputs, done_reply}
-use Rattle.at_model.specs.Samples.{calc}
+use Rattle.at_model.specs.Samples.{calc, of_node, printed}
 use Rattle.at_model.specs.SampleLines.{opened, says}
 use Rattle.at_model.specs.SampleSessions.{posting, value_posted, with_questions}
-use Rattle.at_model.proofs.of_machines.Played.{serves_line, silent_turn, reply_to}
+use Rattle.at_model.proofs.of_machines.Played.{answer_by, serves_line, silent_turn, reply_to}
 use Rattle.at_model.proofs.turn_cases.outputs_of_questions.Goals as goal
 
 -- the question, after the turn that answered nothing
@@ -43,7 +43,8 @@ unfolding chain digits reserved_words
 returns-clause-answered c =
     let form : Form = Shows (Plain (tree.Int (pos 3))) in
     let said : Bool × Reply = (false, done_reply waited waiting form) in
-    record { told = (false, reply_to (says posting) (Opened 1)) ∷ said ∷ []; outputs = line_and_turn said (answers waiting form refl (Outcomes (Finds (Int (pos 3))), (9, refl), refl)); names = refl; text_is = refl }
+    record { told = (false, reply_to (says posting) (Opened 1)) ∷ said ∷ []; outputs = line_and_turn said (answers waiting form refl
+    (Outcomes (Finds (Int (pos 3))), answer_by calc refl waited.tree (of_node (printed 1) 5) (Outcomes (Finds (Int (pos 3)))) (9, refl), refl)); names = refl; text_is = refl }
 
 pub returns-clause-memory : goal.returns-clause-memory
 unfolding chain digits reserved_words
