@@ -43,8 +43,13 @@ unfolding chain digits reserved_words
 returns-clause-answered c =
     let form : Form = Shows (Plain (tree.Int (pos 3))) in
     let said : Bool × Reply = (false, done_reply waited waiting form) in
-    record { told = (false, reply_to (says posting) (Opened 1)) ∷ said ∷ []; outputs = line_and_turn said (answers waiting form refl
-    (Outcomes (Finds (Int (pos 3))), answer_by calc refl waited.tree (of_node (printed 1) 5) (Outcomes (Finds (Int (pos 3)))) (9, refl), refl)); names = refl; text_is = refl }
+    record {
+      told = (false, reply_to (says posting) (Opened 1)) ∷ said ∷ [];
+      outputs = line_and_turn said (answers waiting form refl
+          (Outcomes (Finds (Int (pos 3))), answer_by calc refl waited.tree (of_node (printed 1) 5) (Outcomes (Finds (Int (pos 3)))) (9, refl), refl));
+      names = refl;
+      text_is = refl;
+    }
 
 pub returns-clause-memory : goal.returns-clause-memory
 unfolding chain digits reserved_words
