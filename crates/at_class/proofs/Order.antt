@@ -45,12 +45,12 @@ unfolding first_fault
 no_fault ds a b c d e f h = rw (a, b, c, d, e, f, h) refl
 
 -- a grammar without a fault breaks none of these rules
-pub none_broken : (ds : Declarations) → first_fault ds ≡ None → (superclass_circle ds ≡ None) × (component_twice ds ≡ None)
+pub none_broken : (ds : Declarations) → first_fault ds ≡ None → (superclass_circle ds ≡ None) × (component_twice ds ≡ None) × (class_twice ds ≡ None)
 unfolding first_fault
 none_broken ds e = by (no_class ds) (class_twice ds) (unknown_class ds) (superclass_circle ds) (token_kind ds) (component_twice ds) e
   where
-    by : (a b c d t p : Option Place) → first_of (coded NoClass a ∷ coded ClassTwice b ∷ coded UnknownClass c ∷ coded SuperclassCircle d ∷ coded TokenKindCode t ∷ coded ComponentTwice p ∷ coded Limit (over_limit ds) ∷ []) ≡ None → (d ≡ None) × (p ≡ None)
-    by None None None None None None e = (refl, refl)
+    by : (a b c d t p : Option Place) → first_of (coded NoClass a ∷ coded ClassTwice b ∷ coded UnknownClass c ∷ coded SuperclassCircle d ∷ coded TokenKindCode t ∷ coded ComponentTwice p ∷ coded Limit (over_limit ds) ∷ []) ≡ None → (d ≡ None) × (p ≡ None) × (b ≡ None)
+    by None None None None None None e = (refl, refl, refl)
     by None None None None None (Some p) e = absurd cc
     by None None None None (Some t) p e = absurd cc
     by None None None (Some d) t p e = absurd cc

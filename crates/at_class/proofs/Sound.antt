@@ -6,7 +6,7 @@ use Rattle.std.proofs.lemmas.Str.{IsUtf8-string_bytes}
 use Rattle.std.specs.Option.{option_or}
 use Rattle.std.proofs.lemmas.List.{length-map, get_or-map}
 use Rattle.std.proofs.lemmas.Option.{slice_get-get_or, slice_get-map}
-use Rattle.at_model.specs.Classes.{Class, AreSound, IsClassSound, IsComponentSound, IsShapeWithin, TokenKind, class_of_name, name_of}
+use Rattle.at_model.specs.Classes.{AreNamedApart, Class, AreSound, IsClassSound, IsComponentSound, IsShapeWithin, TokenKind, class_of_name, name_of}
 use Rattle.at_model.specs.Names.{IsName}
 use Rattle.at_model.specs.Declarations.{Declarations, Declaration, PartDeclaration, Form, One, Many, Maybe, Tok, Place, AreNamed, IsDeclarationNamed, class_named, class_by, component_by, shape_in, classes_of, class_twice, first_given, is_predefined}
 use Rattle.at_class.proofs.Firsts.{twice_test}
@@ -108,6 +108,17 @@ name_of-class : (ds : Declarations) (named : List ℕ → Option ℕ) (c : ℕ) 
 name_of-class ds named c e less =
     ap (λ o. elim o [ None ↦ [] | Some k ↦ k.name ]) (slice_get-map (class_by named) ds c ∙ ap (option_map (class_by named)) (slice_get-get_or ds c e less))
 
+-- each class is the first one of its name
+pub classes_apart : (ds : Declarations) → class_twice ds ≡ None → AreNamedApart (classes_of ds)
+unfolding classes_of
+classes_apart ds none c less =
+    let f : Declaration → Class = class_by (class_named ds) in
+    let l : c < length ds = subst (λ n. c < n) (length-map ds f) less in
+    let spare : Declaration = record { name = []; is_abstract = false; parent = None; parts = []; at = (0, 0) } in
+    ap (class_of_name (map f ds)) (name_of-class ds (class_named ds) c spare l)
+    ∙ position-map (λ k. bytes_eq (get_or ds c spare).name k.name) f ds
+    ∙ named_apart ds c spare none l
+
 pub classes_sound : (ds : Declarations) → 0 < length ds → AreNamed ds → All AreTexts ds → class_twice ds ≡ None → AreSound (classes_of ds)
 unfolding classes_of
 classes_sound ds some named texts none =
@@ -119,11 +130,7 @@ classes_sound ds some named texts none =
           let l : k < length ds = subst (λ n. k < n) len less in
           subst (λ n. IsClassSound n (get_or (map f ds) k x)) (sym len)
           (subst (IsClassSound (length ds)) (sym (get_or-map f ds k spare x l)) (class_sound ds (get_or ds k spare) some (named k spare l) (texts k spare l)));
-      distinct = λ c less.
-          let l : c < length ds = subst (λ n. c < n) len less in
-          ap (class_of_name (map f ds)) (name_of-class ds (class_named ds) c spare l)
-          ∙ position-map (λ k. bytes_eq (get_or ds c spare).name k.name) f ds
-          ∙ named_apart ds c spare none l;
+      distinct = classes_apart ds none;
     }
   where
     spare : Declaration

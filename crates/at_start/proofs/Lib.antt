@@ -5,3 +5,5 @@ mod Ruled
 mod Started
 mod RulesTyped
 mod WholeLemmas
+mod OneMeaning
+mod OneOutput

@@ -39,11 +39,16 @@ is_term_file text inner t (inl e) is same = (is, inr (e ∙ ap (λ x. x ++ 10 �
 is_term_file text inner t (inr h) is same = (is, inl (h.0 ∙ sym same))
 
 -- the term of the file is the term of the inner text
-inner_term : (text inner : List ℕ) (t : Term) → IsWithoutNewline text inner → IsTermFile text t → term_text t ≡ inner
+pub inner_term : (text inner : List ℕ) (t : Term) → IsWithoutNewline text inner → IsTermFile text t → term_text t ≡ inner
 inner_term text inner t (inl e) (is, inl same) = absurd (no_newline t inner (sym same ∙ e))
 inner_term text inner t (inl e) (is, inr same) = append_cancel_right (term_text t) inner (10 ∷ []) (sym same ∙ e)
 inner_term text inner t (inr h) (is, inl same) = sym same ∙ h.0
 inner_term text inner t (inr h) (is, inr same) = absurd (h.1 (term_text t) same)
+
+-- and the text of a term is what stands without the newline in its file
+pub without_newline : (text : List ℕ) (t : Term) → IsTermFile text t → IsWithoutNewline text (term_text t)
+without_newline text t (is, inl same) = inr (same, λ front e. no_newline t front (sym same ∙ e))
+without_newline text t (is, inr same) = inl same
 
 -- the tree that is read of the inner text is that of the file
 pub is_tree_file : (classes : Classes) (text inner : List ℕ) (b : ℕ) (u : Tree) → IsWithoutNewline text inner → IsReadAs classes inner b u → IsTermFile text (term_of classes u)

@@ -1,5 +1,6 @@
 -- The whole: from the bytes of the files, and those of the lines, to the bytes that are written.
-use Rattle.std.specs.Prelude.{◌≡◌, ℕ, Bool, List, Option, Result, Ok, Err}
+use Rattle.std.specs.Prelude.{◌≡◌, ℕ, Bool, false, List, Option, Result, Ok, Err}
+use Rattle.std.specs.List.{AllByRecursion}
 use Rattle.at_model.specs.Classes.{Classes}
 use Rattle.at_model.specs.Trees.{Tree}
 use Rattle.at_model.specs.Rules.{Rules}
@@ -64,3 +65,7 @@ pub record MeansOutput (files : Files) (slice : ℕ) (input output : List ℕ) :
   pub new : State
   pub outputs : Outputs rules slice (opening files.nodes opened) input told new
   pub text : output ≡ text_of told
+
+-- none of this is told for want of memory
+abbrev pub IsWithinMemory : List (Bool × Reply) → Type 0
+IsWithinMemory told = AllByRecursion (λ (x : Bool × Reply). x.0 ≡ false) told

@@ -1,8 +1,9 @@
-//! The law over the whole.
+//! The laws over the whole: each is the contract of a function that does nothing.
 
 ghost use Rattle.std.specs.Prelude.{◌≡◌, ℕ, List, [], Option, Some, Ok};
+ghost use Rattle.at_model.specs.Effects.{PostNothing};
 ghost use Rattle.at_engine.specs.declared.stream.desk.Report.{Report};
-ghost use Rattle.at_start.specs.Whole.{Answers, MeansOutput};
+ghost use Rattle.at_start.specs.Whole.{Answers, IsWithinMemory, MeansOutput};
 ghost use Rattle.at_start.specs.declared.files.Files.{Files};
 
 /// From the bytes of the files and of the lines to the bytes written: where all bytes of the lines are known, and those that
@@ -11,4 +12,12 @@ pub fn whole()
     ensures { (files : Files) (slice : ℕ) (report : Report) (input : List ℕ) (left after : Option (List ℕ))
         → Answers files slice (Ok report) (Some input) left (Some []) after
         → (output : List ℕ) × (after ≡ Some output) × MeansOutput files slice input output }
+{}
+
+/// Any two outputs that files mean for the same bytes are equal, where no line posts a question and nothing is told for want of
+/// memory, however many turns may follow each line.
+pub fn one_output()
+    ensures { (files : Files) (slice other_slice : ℕ) (input one other : List ℕ)
+        (a : MeansOutput files slice input one) (b : MeansOutput files other_slice input other)
+        → PostNothing input → IsWithinMemory a.told → IsWithinMemory b.told → one ≡ other }
 {}

@@ -146,7 +146,7 @@ plainly_once rules old _ _ _ new other (served {mid = mid} {line = line} {rest =
     let goes_on = plainly_once rules mid rest more more' new other goes (subst (λ x. Plainly rules x rest more' other) (sym both.0) goes') tails in
     (λ i. both.1 i ∷ goes_on.0 i, goes_on.1)
 
-output_plain : (rules : Rules) (slice : ℕ) (old : State) (bytes : List ℕ) (told : List (Bool × Reply)) (new : State) → old.posted ≡ [] → PostNothing bytes → Outputs rules slice old bytes told new → Plainly rules old (lines bytes) told new
+pub output_plain : (rules : Rules) (slice : ℕ) (old : State) (bytes : List ℕ) (told : List (Bool × Reply)) (new : State) → old.posted ≡ [] → PostNothing bytes → Outputs rules slice old bytes told new → Plainly rules old (lines bytes) told new
 output_plain rules slice old bytes told new none no_post h =
     let goes = plainly rules slice old (lines bytes) h.front h.mid none no_post h.runs in
     let (nothing, same) = none_given rules h.turns h.mid h.back new (plainly_ends rules old (lines bytes) h.front h.mid goes) h.drained in

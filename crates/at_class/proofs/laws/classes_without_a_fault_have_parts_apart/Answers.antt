@@ -7,5 +7,5 @@ use Rattle.at_class.proofs.laws.classes_without_a_fault_have_parts_apart.Goals a
 
 pub returns : goal.returns
 returns c ds sound none =
-    let (circle, twice) = none_broken ds none in
+    let (circle, twice, classes) = none_broken ds none in
     parts_apart ds (led (classes_of ds) (hierarchy ds sound circle) sound.some) twice
