@@ -7,3 +7,4 @@ pub mod ReplyView
 pub mod Writable
 pub mod Laws
 pub mod Again
+pub mod Appending
