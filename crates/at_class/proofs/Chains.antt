@@ -1,7 +1,5 @@
 -- Ways up from class to superclass, one step at a time.
 use Rattle.std.proofs.Common.{◌≡◌, ℕ, ◌+◌, ◌-◌, ◌<◌, ◌≤◌, [], ◌∷◌, refl, ap, ◌∙◌, arith, Option, Some, None, suc, zero}
-use Rattle.std.specs.Prelude.{true, false, nat_eq}
-use Rattle.std.specs.List.{list_any}
 use Rattle.at_model.specs.Classes.{Classes, chain_within, parent_of}
 
 -- what is left of the way after one step
@@ -18,10 +16,3 @@ chain_within-end classes n i from most =
 pub chain_within-none : (classes : Classes) (m : ℕ) → chain_within m classes None ≡ []
 chain_within-none classes zero = refl
 chain_within-none classes (suc m) = refl
-
--- it isn't this class
-pub climbs_on : (classes : Classes) (n i c to : ℕ) → i < n → nat_eq to c ≡ false → list_any (nat_eq to) (chain_within (n - i) classes (Some c)) ≡ list_any (nat_eq to) (chain_within (n - (i + 1)) classes (parent_of classes c))
-climbs_on classes n i c to less other = ap (list_any (nat_eq to)) (chain_within-step classes n i c less) ∙ rw other refl
-
-pub climbs_there : (classes : Classes) (n i c to : ℕ) → i < n → nat_eq to c ≡ true → list_any (nat_eq to) (chain_within (n - i) classes (Some c)) ≡ true
-climbs_there classes n i c to less same = ap (list_any (nat_eq to)) (chain_within-step classes n i c less) ∙ rw same refl

@@ -13,3 +13,4 @@ pub mod Numbered
 pub mod Places
 pub mod Apart
 pub mod PartsTested
+pub mod FirstUpward

@@ -8,3 +8,4 @@ pub mod Checks
 pub mod Rules
 pub mod Intervals
 pub mod Table
+pub mod Upward

@@ -48,11 +48,12 @@ impl Model for ClassTable {
 
 impl ClassTable {
     ghost use Rattle.std.specs.Prelude.{◌≡◌, ◌<◌, ◌≤◌, IfOk, IfErr, IfSome, IsTrue, None, length, map, not};
-    ghost use Rattle.at_model.specs.Classes.{AreSound, class_of_name, fits, name_of, is_concrete, is_sub, parent_of, parts};
+    ghost use Rattle.at_model.specs.Classes.{AreSound, chain, class_of_name, fits, name_of, is_concrete, is_sub, parent_of, parts};
     ghost use Rattle.at_model.specs.WellFormed.{IsHierarchy};
     ghost use Rattle.at_model.specs.Declarations.{AreNamed, classes_of, first_fault};
     ghost use Rattle.at_model.specs.Paths.{ArePartsApart, part_named};
     ghost use Rattle.at_class.specs.View.{part_view};
+    ghost use Rattle.at_class.specs.Upward.{AnswersFirst};
     ghost use Rattle.at_class.specs.Grammar.{grammar_view};
     ghost use Rattle.at_class.specs.Faults.{IsRefusedFor};
 
@@ -121,6 +122,26 @@ impl ClassTable {
         self.entries.get(class.index())?.parent
     }
 
+    /// What the first class upward answers that has an answer, from this one on.
+    pub fn first_upward<T, F: Fn(ClassId) -> Option<T>>(
+        &self,
+        class: ClassId,
+        answer: F,
+    ) -> Option<T>
+        requires { F.IsAlwaysCallable answer }
+        ensures { AnswersFirst (F.post answer) (chain self.now class) result }
+    {
+        let mut next = Some(class);
+        for step in 0..self.len() {
+            let Some(met) = next else { return None };
+            if let Some(found) = answer(met) {
+                return Some(found);
+            }
+            next = self.parent(met);
+        }
+        None
+    }
+
     /// Whether the class is the other one or below it.
     pub fn is_sub(&self, class: ClassId, above: ClassId) -> bool
         ensures { result ≡ is_sub self.now class above }
@@ -136,15 +157,8 @@ impl ClassTable {
     fn climbs_to(&self, class: ClassId, above: ClassId) -> bool
         ensures { result ≡ is_sub self.now class above }
     {
-        let mut next = Some(class);
-        for step in 0..self.len() {
-            let Some(met) = next else { return false };
-            if above == met {
-                return true;
-            }
-            next = self.parent(met);
-        }
-        false
+        self.first_upward(class, |met| (above == met).then_some(()))
+            .is_some()
     }
 
     /// Whether a tree of the class may stand where the other class is asked: the class is not abstract, and is that one or below it.

@@ -1,12 +1,11 @@
 -- What a map finds by a key is what the definitions find in the list of its entries.
-use Rattle.std.proofs.Common.{◌≡◌, ℕ, ◌+◌, ◌-◌, ◌<◌, List, [], ◌∷◌, map, refl, ap, sym, ◌∙◌, arith, Option, Some, None, suc, zero, true≢false}
+use Rattle.std.proofs.Common.{◌≡◌, ℕ, List, [], ◌∷◌, map, refl, sym, ◌∙◌, Option, Some, None, true≢false}
 use Rattle.std.specs.Prelude.{Bool, true, false, ◌&&◌, cond, nat_eq, find, option_map}
 use Rattle.std.specs.Map.{lookup}
-use Rattle.std.specs.Option.{option_or, option_copied}
+use Rattle.std.specs.Option.{option_copied}
 use Rattle.std.specs.Borrow.{Bor}
 use Rattle.std.proofs.lemmas.Bool.{eq-eqb, eqb-true}
-use Rattle.at_model.specs.Classes.{Classes, chain_within, parent_of}
-use Rattle.at_model.specs.Rules.{OwnEquation, first_answer}
+use Rattle.at_model.specs.Rules.{OwnEquation}
 use Rattle.at_rules.specs.declared.body.Body.{Body}
 use Rattle.at_rules.specs.Bodies.{body_view}
 use Rattle.at_rules.specs.RulesView.{own_view}
@@ -38,23 +37,3 @@ own_keyed i j c a p q es = rw (p, q) (own_found c a es)
 pub seen : (o : Option (Bor Body)) → option_map (λ (b : Bor Body). body_view b.now) o ≡ option_map body_view (option_copied o)
 seen None = refl
 seen (Some b) = refl
-
--- the first answer on what is left of a chain after one step
-pub answer_here : {B : Type 0} (f : ℕ → Option B) (classes : Classes) (n i c : ℕ) (b : B) → i < n → f c ≡ Some b → first_answer f (chain_within (n - i) classes (Some c)) ≡ Some b
-answer_here f classes n i c b less here =
-    let more : n - i ≡ suc (n - (i + 1)) = omega arith in
-    ap (λ m. first_answer f (chain_within m classes (Some c))) more ∙ ap (λ o. option_or o (first_answer f (chain_within (n - (i + 1)) classes (parent_of classes c)))) here
-
-pub answer_above : {B : Type 0} (f : ℕ → Option B) (classes : Classes) (n i c : ℕ) → i < n → f c ≡ None → first_answer f (chain_within (n - i) classes (Some c)) ≡ first_answer f (chain_within (n - (i + 1)) classes (parent_of classes c))
-answer_above f classes n i c less none =
-    let more : n - i ≡ suc (n - (i + 1)) = omega arith in
-    ap (λ m. first_answer f (chain_within m classes (Some c))) more ∙ ap (λ o. option_or o (first_answer f (chain_within (n - (i + 1)) classes (parent_of classes c)))) none
-
-pub no_answer : {B : Type 0} (f : ℕ → Option B) (classes : Classes) (n : ℕ) → first_answer f (chain_within n classes None) ≡ None
-no_answer f classes zero = refl
-no_answer f classes (suc n) = refl
-
-pub answer_ends : {B : Type 0} (f : ℕ → Option B) (classes : Classes) (n i : ℕ) (from : Option ℕ) → i ≡ n → first_answer f (chain_within (n - i) classes from) ≡ None
-answer_ends f classes n i from end =
-    let none : n - i ≡ 0 = omega arith in
-    ap (λ m. first_answer f (chain_within m classes from)) none

@@ -263,15 +263,8 @@ impl Rules {
     fn own_above(&self, class: ClassId, attribute: AttrId) -> Option<&Body>
         ensures { option_map (λ b. body_view b.now) result ≡ own_equation self.now class attribute }
     {
-        let mut next = Some(class);
-        for step in 0..self.classes.len() {
-            let Some(class) = next else { return None };
-            if let Some(body) = self.own_in(class, attribute) {
-                return Some(body);
-            }
-            next = self.classes.parent(class);
-        }
-        None
+        self.classes
+            .first_upward(class, |above| self.own_in(above, attribute))
     }
 
     /// The body of the equation that the class itself has for the attribute.
@@ -430,15 +423,7 @@ fn inherited_above<'a>(
 ) -> Option<&'a Body>
     ensures { option_map (λ b. body_view b.now) result ≡ first_answer (numbered_in inherited.now.entries name part) (chain classes.now class) }
 {
-    let mut next = Some(class);
-    for step in 0..classes.len() {
-        let Some(class) = next else { return None };
-        if let Some(body) = inherited_in(inherited, class, part, name) {
-            return Some(body);
-        }
-        next = classes.parent(class);
-    }
-    None
+    classes.first_upward(class, |above| inherited_in(inherited, above, part, name))
 }
 
 /// The body of the equation that the class itself has for the name and the component, or for the name and
