@@ -1,6 +1,6 @@
 -- What an engine serves.
-use Rattle.std.specs.Prelude.{ℕ, List, None}
-use Rattle.at_model.specs.Rules.{Rules}
+use Rattle.std.specs.Prelude.{◌≡◌, ℕ, List, None}
+use Rattle.at_model.specs.Rules.{Rules, start_of}
 use Rattle.at_model.specs.Enduring.{AreTokens}
 use Rattle.at_model.specs.Machine.{State}
 use Rattle.at_model.specs.WellFormed.{AreWellFormed}
@@ -39,9 +39,15 @@ abbrev pub IsHeld : {K : Type 0} → (contents : K → Entries) (memories : K �
 IsHeld contents memories e =
     IsSoundWith e.rules e.store (marks_of e) e.posts (contents e.demand.keeper) (memories e.demand.keeper)
 
--- The rules are well formed, and each token of the tree can be written, so that evaluations keep to the kinds.
+-- no attribute is circular
+abbrev pub HasNoneCircular : Rules → Type 0
+HasNoneCircular rules = (attribute : ℕ) → start_of rules attribute ≡ None
+
+-- The rules are well formed, and each token of the tree can be written, so that evaluations keep to the kinds. With none
+-- circular the formulas answer what the equations do.
 pub record IsTyped (rules : Rules) (s : State) : Type 0 where
   pub formed : AreWellFormed rules
+  pub none_circular : HasNoneCircular rules
   pub tokens : AreTokens s.tree
 
 -- where it remembers that the last question was asked is there

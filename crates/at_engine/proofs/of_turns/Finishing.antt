@@ -18,7 +18,7 @@ use Rattle.at_cache.specs.Traced.{Memories}
 use Rattle.at_demand.specs.Turns.{under_way}
 use Rattle.at_demand.specs.declared.demand.Demand.{Demand}
 use Rattle.at_demand.specs.declared.question.Question.{Question}
-use Rattle.at_engine.specs.Engines.{marks_of, rules_of, state_of, IsHeld, IsSound, IsTyped, Knows}
+use Rattle.at_engine.specs.Engines.{HasNoneCircular, marks_of, rules_of, state_of, IsHeld, IsSound, IsTyped, Knows}
 use Rattle.at_engine.specs.Holding.{state_in, IsSoundWith}
 use Rattle.at_engine.specs.Posted.{came_to, posted_view, turns_given}
 use Rattle.at_engine.specs.Keeping.{IsSpare}
@@ -50,6 +50,7 @@ removed_anew (x ∷ xs) (suc i) a = ap (λ l. x ∷ l) (removed_anew xs i a)
 pub typed_rest : {K : Type 0} (e m : Engine K) → m ≡ record e { demand = m.demand; posts = m.posts } → IsTyped (rules_of e) (state_of e) → IsTyped (rules_of m) (state_of m)
 typed_rest {K} e m rest h = record {
   formed = subst AreWellFormed (sym (ap (λ (x : Engine K). x.rules) rest)) h.formed;
+  none_circular = subst HasNoneCircular (sym (ap (λ (x : Engine K). x.rules) rest)) h.none_circular;
   tokens = subst (λ (s : Shown). AreTokens (tree s)) (sym (ap (λ (x : Engine K). x.store) rest)) h.tokens;
 }
 
@@ -63,6 +64,7 @@ rest_end {K} e m n rest tells =
 pub typed_end : {K : Type 0} (m n : Engine K) → n ≡ record m { posts = record n.posts { count = m.posts.count } } → IsTyped (rules_of m) (state_of m) → IsTyped (rules_of n) (state_of n)
 typed_end {K} m n rest h = record {
   formed = subst AreWellFormed (sym (ap (λ (x : Engine K). x.rules) rest)) h.formed;
+  none_circular = subst HasNoneCircular (sym (ap (λ (x : Engine K). x.rules) rest)) h.none_circular;
   tokens = subst (λ (s : Shown). AreTokens (tree s)) (sym (ap (λ (x : Engine K). x.store) rest)) h.tokens;
 }
 

@@ -24,7 +24,7 @@ use Rattle.at_demand.specs.Turns.{AreTurns, IsSparingTurns, IsStanding, under_wa
 use Rattle.at_demand.specs.declared.answer.Answer.{Answer as AnswerCode}
 use Rattle.at_demand.specs.declared.demand.Demand.{Demand}
 use Rattle.at_demand.specs.declared.question.Question.{Question}
-use Rattle.at_engine.specs.Engines.{marks_of, rules_of, state_of, IsHeld, IsTyped}
+use Rattle.at_engine.specs.Engines.{HasNoneCircular, marks_of, rules_of, state_of, IsHeld, IsTyped}
 use Rattle.at_engine.specs.Holding.{HasBegun, IsBegunFor, IsPostedOn, IsSoundWith, words_verdict}
 use Rattle.at_engine.specs.Keeping.{IsSpare, IsSpareWith, IsSparingOn}
 use Rattle.at_engine.specs.Posted.{came_to, posted_view}
@@ -262,20 +262,20 @@ module _ {K : Type 0} (exact : Bool) (kept : K → Entries) (memories : K
           (answer_view a) h.each)
 
       -- it is told
-      pub told : {E E' : Type 0} (a : AnswerCode)
+      pub told : {E E' : Type 0} → HasNoneCircular (rules_of e) → (a : AnswerCode)
           (h : HasTurnedUpTo {E = E'} exact (rules_of e) e.store limit entries grown (memories e.demand.keeper)
           (memories d.keeper) q later (Ok (turns, Some a)))
           (f : Form) → ((x : Answer Node) → AnswerLike (Names (path e.store)) (answer_view a) x
           → IsToldAs (rules_of e) (tree e.store) x f)
           → Attends exact kept memories e (record e { posts = t; demand = d }) position
           (λ p. HasGone {E = E} exact kept limit e (record e { posts = t; demand = d }) position p (Ok (turns, Some f)))
-      told {E} {E'} a h f tells =
+      told {E} {E'} none a h f tells =
           let new : Engine K = record e { posts = t; demand = d } in
           let (given, counts, each) = h.each in
           let v = posted_view (path e.store) it.posted in
           let has = answers_by_turns (rules_of e) e.store entries q b.begun.standing given grown (under_way later)
           (answer_view a) each in
-          let (x, like, answers) = answer_named (rules_of e) e.store it.held.idle asked_for b.begun.named
+          let (x, like, answers) = answer_named (rules_of e) none e.store it.held.idle asked_for b.begun.named
           (answer_view a) b.begun.like has in
           let is = tells x like in
           let said : IsAnswerTo (rules_of e) (state_of e) v f = record {

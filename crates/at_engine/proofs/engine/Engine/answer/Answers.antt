@@ -19,7 +19,7 @@ returns g c q like =
     let k = g.K.Keeper.contents in
     let new = record e { demand = c.answer.new.self } in
     let a = c.answer.ensures.answered in
-    let (b, alike, answers) = answer_named (rules_of e) e.store held.idle _ q (answer_view c.in_ok-answer.answer) like c.in_ok-answer.ensures.answered.answers in
+    let (b, alike, answers) = answer_named (rules_of e) c.requires.sound.typed.none_circular e.store held.idle _ q (answer_view c.in_ok-answer.answer) like c.in_ok-answer.ensures.answered.answers in
     record {
       obeys = IfOk-weaker c.told.result _ _ (λ f told. asks (rules_of e) (state_of e) (Asks q) q b f refl answers told) (c.told.ensures b alike);
       err = on_err c.told.result _ refl;

@@ -128,7 +128,7 @@ returns-in_ok-told-in-Some g c =
     let h = subst (λ (a : Option AnswerCode). HasTurnedUpTo {E = AllocError} x (rules_of e) e.store c.args.limit
     (k e.demand.keeper) (k d.keeper)
     (m e.demand.keeper) (m d.keeper) q p (Ok (c.in_ok-turns.turns, a))) c.in-Some.is c.in_ok-turns.ensures in
-    told x k m e i c.args.limit o t it q b s d p c.in_ok-turns.turns c.in-Some.answer h c.in_ok-told-in-Some.field-0
+    told x k m e i c.args.limit o t it q b s d p c.in_ok-turns.turns c.requires.ready.typed.none_circular c.in-Some.answer h c.in_ok-told-in-Some.field-0
     (λ a like. c.in_ok-told-in-Some.ensures a like)
 
 pub returns-in-None : goal.returns-in-None
