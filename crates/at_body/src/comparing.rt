@@ -217,7 +217,7 @@ pub fn token_text(store: &Store, node: Node, part: usize) -> Option<&str>
     ensures { IfSome result (λ text. IsToken (contents store.now) node part text.now) }
 {
     match store.token(node, part) {
-        Token::Str(text) => Some(text.as_str()),
+        Token::Str(text, _) => Some(text),
         Token::Int(_) | Token::Bool(_) => None,
     }
 }

@@ -159,7 +159,7 @@ impl Value {
         ensures { IfOk result (λ v. value_view v ≡ value_of (lent_view token.entry)) }
     {
         match token {
-            Token::Str(text) => Ok(Value::Text(text.clone()?)),
+            Token::Str(text, alloc) => Ok(Value::Text(String::from_str(alloc, text)?)),
             Token::Int(n) => Ok(Value::Int(n)),
             Token::Bool(b) => Ok(Value::Bool(b)),
         }

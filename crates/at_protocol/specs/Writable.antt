@@ -30,6 +30,7 @@ IsWritable (form.Open number) = ⊤
 -- it shows no path, no text and no term
 abbrev pub IsTokenShort : TokVal → Type 0
 IsTokenShort (value.Str text) = ⊥
+IsTokenShort (value.Short text alloc) = ⊥
 IsTokenShort (value.Int n) = ⊤
 IsTokenShort (value.Bool b) = ⊤
 

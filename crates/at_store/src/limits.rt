@@ -128,6 +128,7 @@ pub(crate) fn is_long(value: &TokVal) -> bool
 {
     match value {
         TokVal::Str(text) => text.len() > MAX_TOKEN,
+        TokVal::Short(text, _) => text.len() > MAX_TOKEN,
         _ => false,
     }
 }

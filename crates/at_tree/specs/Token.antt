@@ -6,5 +6,6 @@ use Rattle.at_tree.specs.declared.token.TokVal.TheVariants as value
 
 abbrev pub token_view : TokVal → Token
 token_view (value.Str text) = Text (string_bytes text)
+token_view (value.Short text alloc) = Text text.bytes
 token_view (value.Int n) = Int n
 token_view (value.Bool b) = Truth b

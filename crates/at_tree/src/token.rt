@@ -1,18 +1,43 @@
 //! The values of tokens.
+ghost use Rattle.std.specs.Prelude.{◌≡◌, IfSome};
 
+use arrayvec::ArrayString;
 use std::alloc::{AllocError, Global};
 
-/// The value of a token: a text, a number or a truth value.
+/// A text of at most sixteen bytes, which lies in the value itself.
+pub type ShortText = ArrayString<16>;
+
+/// The value of a token: a text, a number or a truth value. A short text takes no memory of its own, and no more room in the value
+/// than another one; it stands with the allocator that copies of it take their memory from.
 #[derive(Drop)]
 pub enum TokVal {
     Str(String),
+    Short(ShortText, Global),
     Int(i32),
     Bool(bool),
 }
 
+/// The text in a short one; none where it is too long for that.
+fn shortened(text: &str) -> Option<ShortText>
+    ensures { IfSome result (λ short. short.bytes ≡ text.now) }
+{
+    ShortText::from(text).ok()
+}
+
 impl TokVal {
-    ghost use Rattle.std.specs.Prelude.{◌≡◌, IfOk};
+    ghost use Rattle.std.specs.Prelude.{◌≡◌, IfOk, string_bytes};
+    ghost use Rattle.at_model.specs.Trees.{Text};
     ghost use Rattle.at_tree.specs.Token.{token_view};
+
+    /// The text as a value, whose memory is given back where the text is short.
+    pub fn of_text(alloc: Global, text: String) -> TokVal
+        ensures { token_view result ≡ Text (string_bytes text) }
+    {
+        match shortened(text.as_str()) {
+            Some(short) => TokVal::Short(short, alloc),
+            None => TokVal::Str(text),
+        }
+    }
 
     /// The same value once more, or want of memory.
     pub fn copied(&self, alloc: Global) -> Result<TokVal, AllocError>
@@ -20,6 +45,7 @@ impl TokVal {
     {
         match self {
             TokVal::Str(text) => Ok(TokVal::Str(String::from_str(alloc, text.as_str())?)),
+            TokVal::Short(text, alloc) => Ok(TokVal::Short(*text, *alloc)),
             TokVal::Int(n) => Ok(TokVal::Int(*n)),
             TokVal::Bool(b) => Ok(TokVal::Bool(*b)),
         }

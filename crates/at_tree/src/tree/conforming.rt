@@ -14,6 +14,7 @@ pub fn is_of_kind(value: &TokVal, kind: TokenKind) -> bool
 {
     match value {
         TokVal::Str(_) => kind == TokenKind::Str,
+        TokVal::Short(_, _) => kind == TokenKind::Str,
         TokVal::Int(_) => kind == TokenKind::Int,
         TokVal::Bool(_) => kind == TokenKind::Bool,
     }

@@ -149,5 +149,6 @@ fn take_list(
         trees.push(tree)?;
     }
     take(front, ']')?;
+    trees.shrink_to_fit();
     Ok(trees)
 }

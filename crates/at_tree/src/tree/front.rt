@@ -87,7 +87,7 @@ pub(crate) fn take_value(
     ensures taken { IfOk result (λ v. front.old.rest.now ≡ token_text (token_view v) ++ front.new.rest.now) }
 {
     match kind {
-        TokenKind::Str => Ok(TokVal::Str(take_text(alloc, front)?)),
+        TokenKind::Str => Ok(TokVal::of_text(alloc, take_text(alloc, front)?)),
         TokenKind::Int => Ok(TokVal::Int(take_int(front)?)),
         TokenKind::Bool => Ok(TokVal::Bool(take_truth(front)?)),
     }

@@ -64,6 +64,7 @@ pub fn append_value(value: &TokVal, out: &mut Vec<u8>) -> Result<(), AllocError>
 {
     match value {
         TokVal::Str(text) => write_quoted(text.as_str(), out),
+        TokVal::Short(text, _) => write_quoted(text.as_str(), out),
         TokVal::Int(n) => write_int(i64::from(*n), out),
         TokVal::Bool(true) => out.extend_from_slice(b"true"),
         TokVal::Bool(false) => out.extend_from_slice(b"false"),

@@ -1,8 +1,9 @@
 use Rattle.std.proofs.Common.{◌+◌, ◌∙◌, [], ◌∷◌, ◌++◌, ap, sym, arith, map, refl, subst}
 use Rattle.std.proofs.lemmas.List.{map-append}
 use Rattle.at_class.specs.View.{part_view}
-use Rattle.at_model.specs.Classes.{Maybe}
-use Rattle.at_model.specs.Trees.{Cell, to_cells}
+use Rattle.at_model.specs.Classes.{Many, Maybe}
+use Rattle.at_model.specs.Trees as tree
+use Rattle.at_model.specs.Trees.{Cell, to_cells, to_trees}
 use Rattle.at_tree.specs.TreeView.{tree_view, cell_view}
 use Rattle.at_tree.specs.Fronts.{IsCellFront}
 use Rattle.at_tree.proofs.Made.{made_tree, made_empty, made_filled}
@@ -62,5 +63,7 @@ take_list-loop-alloc-smaller t c = shorter c.args.classes.now c.loop-alloc.front
 
 pub take_list-returns : goal.take_list-returns
 take_list-returns t c =
-    whole_list c.args.classes.now c.args.front.now.rest.now c.loop-alloc.front.rest.now _ c.args.under c.args.levels (map tree_view c.loop-alloc.trees.items) c.loop-alloc.invariant
-    (sym (c.loop-alloc-test.ensures.stays refl) ∙ c.in_ok-take-2.ensures)
+    subst (λ ts. IsCellFront c.args.classes.now c.args.front.now.rest.now c.take-2.new.front.rest.now (Many c.args.under) c.args.levels (tree.Many (to_trees ts)))
+    (sym (ap (map tree_view) c.shrink_to_fit.ensures.items))
+    (whole_list c.args.classes.now c.args.front.now.rest.now c.loop-alloc.front.rest.now _ c.args.under c.args.levels (map tree_view c.loop-alloc.trees.items) c.loop-alloc.invariant
+    (sym (c.loop-alloc-test.ensures.stays refl) ∙ c.in_ok-take-2.ensures))
