@@ -2,7 +2,8 @@
 //!
 //! **Its specs:** `View` is what a table stands for in `at_model`, `Grammar` what a grammar that was read declares,
 //! `Faults` which fault a refusal says; `Rules` and `Checks` say each rule as its check looks at it, `Climbs`,
-//! `Ways` and `Taken` what is known on the way, `Intervals` what the numbers of classes tell, `Table` what a table holds.
+//! `Ways` and `Taken` what is known on the way, `Intervals` what the numbers of classes tell, `Upward` what is found on the way up
+//! from a class, `Table` what a table holds.
 //!
 //! **Where to begin:** `ClassTable::build` in `table.rt`; `checks.rt` has the rules in the order of their codes.
 //!

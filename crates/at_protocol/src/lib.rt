@@ -2,8 +2,8 @@
 //!
 //! **Its specs:** `LineView` and `ReplyView` are what lines and replies stand for, `Commands`, `Calls` and `Words`
 //! the texts of their parts; `Faults` says what is answered of bytes that are no line, `Writable` which replies can
-//! be written, and which need little room; `Laws` what bytes say of the line that they spell; `Again` what stands
-//! before the attribute of a question.
+//! be written, and which need little room, `Appending` what a part of a reply puts behind the bytes that are there; `Laws`
+//! what bytes say of the line that they spell; `Again` what stands before the attribute of a question.
 //!
 //! **Where to begin:** `line/commands.rt` reads the commands, `reply.rt` writes replies.
 //!
