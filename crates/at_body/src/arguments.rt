@@ -15,6 +15,7 @@ pub struct Arguments {
 
 /// One call, where each exit that lets them go would else have a case for each field.
 impl Drop for Arguments {
+    #[inline(always)]
     fn drop(self) {
         let Arguments { shared: _ } = self;
     }

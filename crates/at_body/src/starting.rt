@@ -173,6 +173,7 @@ impl<'a> Trial<'a> {
 }
 
 /// Looks at the classes of the nodes among the arguments.
+#[inline(always)]
 pub fn look_at(arguments: &[Value], reads: &mut Reads) -> Result<(), AllocError>
     ensures { OnOk result (reads.new ≡ reads.old ++ argument_classes (map value_view arguments.now)) }
 {

@@ -31,7 +31,7 @@ pub fn slots_of(alloc: Global, entries: &Table, uses: &[Inst]) -> Result<Links, 
     ensures covers { IfOk result (λ slots. AreOf entries.now uses.now slots.items) }
     ensures theirs { IfOk result (λ slots. AreTheirs entries.now uses.now slots.items) }
 {
-    let mut slots = Links::new(alloc);
+    let mut slots = Links::with_capacity(alloc, uses.len())?;
     for used in uses {
         if let Some(entry) = entries.entries.get(used) {
             slots.push(entry.slot)?;

@@ -257,6 +257,7 @@ impl Rules {
 
     /// The body of the equation that nodes of the class have for an attribute of their own: that of the first
     /// class upward that has one.
+    #[inline(always)]
     pub fn own_body(&self, class: ClassId, attribute: AttrId) -> Option<&Body>
         ensures { option_map (λ b. body_view b.now) result ≡ own_equation self.now class attribute }
     {

@@ -10,10 +10,10 @@ use Rattle.at_cache.proofs.putting.slots_of.Goals.{in-Some+in_ok-push, in_defaul
 
 pub loop-used-init : goal.loop-used-init
 loop-used-init c = record {
-  taken = subst (AreTaken (memory_of c.args.entries.now)) (sym c.new-slots.ensures.items)
+  taken = subst (AreTaken (memory_of c.args.entries.now)) (sym c.in_ok-slots.ensures.items)
       (λ s d. absurd (omega (arith, d.1)));
-  covers = subst (AreOf c.args.entries.now []) (sym c.new-slots.ensures.items) (λ lists puts l. refl);
-  theirs = subst (AreTheirs c.args.entries.now []) (sym c.new-slots.ensures.items) (λ all. refl);
+  covers = subst (AreOf c.args.entries.now []) (sym c.in_ok-slots.ensures.items) (λ lists puts l. refl);
+  theirs = subst (AreTheirs c.args.entries.now []) (sym c.in_ok-slots.ensures.items) (λ all. refl);
 }
 
 pub loop-used-preserved : goal.loop-used-preserved
