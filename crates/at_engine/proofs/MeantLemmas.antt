@@ -40,25 +40,23 @@ module _ (rules : Rules) (s : Shown) (marks : List Mark) (session : ℕ) (c : Co
   told_meant obstacle.Memory h value told version posts = absurd told
 
 -- a command that is none of the others edits the tree
-pub is_edit : (c : CommandValue) → ((place : Place) (name : Bor (List ℕ)) (arguments : Vec Argument Global) → c ≡ command.Ask place name arguments → ⊥)
-    → ((place : Place) → c ≡ command.Show place → ⊥) → ((name : Bor (List ℕ)) (place : Place) → c ≡ command.Mark name place → ⊥)
+pub is_edit : (c : CommandValue) → ((place : Place) → c ≡ command.Show place → ⊥) → ((name : Bor (List ℕ)) (place : Place) → c ≡ command.Mark name place → ⊥)
     → ((name : Bor (List ℕ)) → c ≡ command.Unmark name → ⊥) → ((name : Bor (List ℕ)) → c ≡ command.Where name → ⊥) → (c ≡ command.Version → ⊥)
     → ((place : Place) (name : Bor (List ℕ)) (arguments : Vec Argument Global) → c ≡ command.Post place name arguments → ⊥)
     → ((number : ℕ) → c ≡ command.Wait number → ⊥) → IsEdit (command_view c)
-is_edit (command.Set place t) ask show mark unmark where' version post wait = tt
-is_edit (command.Put place part t) ask show mark unmark where' version post wait = tt
-is_edit (command.Drop place) ask show mark unmark where' version post wait = tt
-is_edit (command.Insert place part index t) ask show mark unmark where' version post wait = tt
-is_edit (command.Token place part v) ask show mark unmark where' version post wait = tt
-is_edit (command.Move place to part index) ask show mark unmark where' version post wait = tt
-is_edit (command.Ask place name arguments) ask show mark unmark where' version post wait = ask place name arguments refl
-is_edit (command.Show place) ask show mark unmark where' version post wait = show place refl
-is_edit (command.Mark name place) ask show mark unmark where' version post wait = mark name place refl
-is_edit (command.Unmark name) ask show mark unmark where' version post wait = unmark name refl
-is_edit (command.Where name) ask show mark unmark where' version post wait = where' name refl
-is_edit command.Version ask show mark unmark where' version post wait = version refl
-is_edit (command.Post place name arguments) ask show mark unmark where' version post wait = post place name arguments refl
-is_edit (command.Wait number) ask show mark unmark where' version post wait = wait number refl
+is_edit (command.Set place t) show mark unmark where' version post wait = tt
+is_edit (command.Put place part t) show mark unmark where' version post wait = tt
+is_edit (command.Drop place) show mark unmark where' version post wait = tt
+is_edit (command.Insert place part index t) show mark unmark where' version post wait = tt
+is_edit (command.Token place part v) show mark unmark where' version post wait = tt
+is_edit (command.Move place to part index) show mark unmark where' version post wait = tt
+is_edit (command.Show place) show mark unmark where' version post wait = show place refl
+is_edit (command.Mark name place) show mark unmark where' version post wait = mark name place refl
+is_edit (command.Unmark name) show mark unmark where' version post wait = unmark name refl
+is_edit (command.Where name) show mark unmark where' version post wait = where' name refl
+is_edit command.Version show mark unmark where' version post wait = version refl
+is_edit (command.Post place name arguments) show mark unmark where' version post wait = post place name arguments refl
+is_edit (command.Wait number) show mark unmark where' version post wait = wait number refl
 
 -- there are no other edits
 pub no_other_edit : (c : CommandValue) → IsEdit (command_view c) → ((place : Place) (t : Term) → c ≡ command.Set place t → ⊥)
@@ -72,7 +70,6 @@ no_other_edit (command.Drop place) is set put drop insert token move = drop plac
 no_other_edit (command.Insert place part index t) is set put drop insert token move = insert place part index t refl
 no_other_edit (command.Token place part v) is set put drop insert token move = token place part v refl
 no_other_edit (command.Move place to part index) is set put drop insert token move = move place to part index refl
-no_other_edit (command.Ask place name arguments) is set put drop insert token move = is
 no_other_edit (command.Show place) is set put drop insert token move = is
 no_other_edit (command.Mark name place) is set put drop insert token move = is
 no_other_edit (command.Unmark name) is set put drop insert token move = is

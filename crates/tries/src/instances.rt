@@ -6,7 +6,7 @@ ghost use Rattle.std.specs.List.{AllByRecursion};
 ghost use Rattle.at_model.specs.Instances.{AnyText};
 ghost use Rattle.at_model.specs.Classes.{Classes};
 ghost use Rattle.at_model.specs.Lines.{IsCommand};
-ghost use Rattle.at_protocol.specs.LineView.{command_view};
+ghost use Rattle.at_protocol.specs.LineView.{request_view};
 ghost use Rattle.at_model.specs.Rules.{Class, Int, Text, Truth};
 ghost use Rattle.at_model.specs.TypedRuns.{AreArguments, ClassAt, IsNodeOf, IsOfKind};
 ghost use Rattle.at_rules.specs.Bodies.{kind_view};
@@ -17,7 +17,7 @@ use crate::files::World;
 use crate::refusal::Refusal;
 use at_body::{Arguments, Inst, Value};
 use at_class::ClassId;
-use at_protocol::line::{Argument, Command, LineFault, Place, read_line};
+use at_protocol::line::{Argument, LineFault, Place, Request, read_line};
 use at_rules::Kind;
 use at_store::Node;
 use at_text::decimal::read_int;
@@ -33,12 +33,12 @@ pub fn instance(world: &World, call: &str) -> Result<Inst, Refusal>
     ensures { IfOk result (IsTyped world.now) }
 {
     let line = line_of(world, "0 ask ", call, "")?;
-    let command = command(world, line.as_str())?;
-    let Command::Ask {
+    let request = request(world, line.as_str())?;
+    let Request::Ask {
         place,
         attribute,
         arguments,
-    } = &*command
+    } = &*request
     else {
         return Err(Refusal::Line);
     };
@@ -78,8 +78,8 @@ fn value(world: &World, text: &str) -> Result<Value, Refusal>
         return Ok(Value::Int(number));
     }
     let line = line_of(world, "0 ask / v(", text, ")")?;
-    let command = command(world, line.as_str())?;
-    let Command::Ask { arguments, .. } = &*command else {
+    let request = request(world, line.as_str())?;
+    let Request::Ask { arguments, .. } = &*request else {
         return Err(Refusal::Line);
     };
     match arguments.as_slice() {
@@ -96,12 +96,12 @@ fn line_of(world: &World, front: &str, text: &str, back: &str) -> Result<String,
     Ok(line)
 }
 
-/// The command of the line; in a box, which each exit lets go by one call.
-fn command<'a>(world: &World, line: &'a str) -> Result<Box<Command<'a>>, Refusal>
-    ensures { IfOk result (λ c. IsCommand (command_view c.value)) }
+/// What the line asks or tells; in a box, which each exit lets go by one call.
+fn request<'a>(world: &World, line: &'a str) -> Result<Box<Request<'a>>, Refusal>
+    ensures { IfOk result (λ r. IsCommand (request_view r.value)) }
 {
     match read_line(world.alloc, line.as_bytes()) {
-        Ok(line) => Ok(Box::new(world.alloc, line.command)?),
+        Ok(line) => Ok(Box::new(world.alloc, line.request)?),
         Err(LineFault::Syntax { .. }) => Err(Refusal::Line),
         Err(LineFault::Memory { .. }) => Err(Refusal::Memory),
     }

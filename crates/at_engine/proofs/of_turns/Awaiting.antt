@@ -1,16 +1,15 @@
 -- Each command that doesn't wait is obeyed at once.
-use Rattle.std.proofs.Common.{◌≡◌, ℕ, ◌+◌, Bool, if◌then◌else◌, true, false, nat_eq, nat_le, List, [], ◌∷◌, ◌++◌, count_by, map, Option, Some, None, option_and_then, Result, Ok, Err, refl}
+use Rattle.std.proofs.Common.{◌≡◌, ℕ, ◌+◌, Bool, if◌then◌else◌, true, false, nat_eq, nat_le, List, [], ◌∷◌, ◌++◌, count_by, Option, Some, None, option_and_then, Result, Ok, Err, refl}
 use Rattle.at_model.specs.Classes.{Shape}
 use Rattle.at_model.specs.Trees.{Tree, class_of}
 use Rattle.at_model.specs.Terms.{Term, term_of}
 use Rattle.at_model.specs.Paths.{Node, part_named, tree_at}
-use Rattle.at_model.specs.Rules.{Rules, attribute_named}
-use Rattle.at_model.specs.Run.{Value}
+use Rattle.at_model.specs.Rules.{Rules}
 use Rattle.at_model.specs.Shaping.{names_classes, shaped}
 use Rattle.at_model.specs.Edits.{Edit, Refusal, class_asked, edited_within, list_class, optional_class, shape_at, token_kind}
 use Rattle.at_model.specs.Edits as edit
 use Rattle.at_model.specs.Lines.{Argument, Place, Post, last_post, last_version}
-use Rattle.at_model.specs.Machine.{State, Verdict, Asks, Edits, Leaves, Posted, Posts, Refuses, Tells, at_node, changed, code_of, each, fit_parameters, is_marked, marked, marks_named, marks_used, max_marks, max_posted, node_named, obeyed, parameters_of, path_to, questioned, value_named, with_component, with_mark, with_tree}
+use Rattle.at_model.specs.Machine.{State, Verdict, Edits, Leaves, Posted, Posts, Refuses, Tells, at_node, changed, code_of, is_marked, marked, marks_named, marks_used, max_marks, max_posted, node_named, obeyed, path_to, with_component, with_mark, with_tree}
 use Rattle.at_model.specs.Replies.{At, Written}
 use Rattle.at_model.specs.Replies as code
 use Rattle.at_tree.specs.Token.{token_view}
@@ -58,24 +57,6 @@ module _ (rules : Rules) (s : State) (session : ℕ) where
       by (Ok t) true = tt
       by (Ok t) false = tt
 
-  at_question : (n : Node) (name : List ℕ) (vs : List (Value Node)) → IsAtOnce (questioned rules s.tree n name vs)
-  at_question n name vs = by (option_and_then (λ u. attribute_named rules (class_of u) name) (tree_at s.tree n))
-    where
-      fitting : (attribute : ℕ) (b : Bool) → IsAtOnce (if b then Asks (record { node = n; attribute = attribute; arguments = vs }) else Refuses code.Arguments)
-      fitting attribute true = tt
-      fitting attribute false = tt
-
-      by : (o : Option ℕ) → IsAtOnce (elim o as (λ _. Verdict) [
-        | None ↦ Refuses code.Attribute
-        | Some attribute ↦ if fit_parameters rules.classes s.tree (parameters_of rules attribute) vs then Asks (record { node = n; attribute = attribute; arguments = vs }) else Refuses code.Arguments
-      ])
-      by None = tt
-      by (Some attribute) = fitting attribute (fit_parameters rules.classes s.tree (parameters_of rules attribute) vs)
-
-  at_values : (n : Node) (name : List ℕ) (o : Option (List (Value Node))) → IsAtOnce (elim o as (λ _. Verdict) [ None ↦ Refuses code.Path | Some vs ↦ questioned rules s.tree n name vs ])
-  at_values n name None = tt
-  at_values n name (Some vs) = at_question n name vs
-
   at_name : (name : List ℕ) (n : Node) → IsAtOnce (with_mark s session name n)
   at_name name n = by (is_marked s.marks session name) (nat_le max_marks (count_by (λ m. nat_eq session m.session) s.marks))
     where
@@ -104,7 +85,6 @@ module _ (rules : Rules) (s : State) (session : ℕ) where
   at_mark (Some n) = tt
 
   pub at_once : (c : Command) → ((number : ℕ) → c ≡ command.Wait number → ⊥) → IsAtOnce (obeyed rules s session (command_view c))
-  at_once (command.Ask place name arguments) other = at_place (place_view place) _ (λ n. at_values n name.now (each (map (value_named rules.classes s session) (arguments_view arguments.items))))
   at_once (command.Set place t) other = at_place (place_view place) _ (λ n. at_tree (term_view t) (class_asked rules.classes s.tree n) _ (λ u. at_edit (edit.Set n u)))
   at_once (command.Put place part t) other = at_place (place_view place) _ (λ n. at_part n part.now optional_class _ (λ p b. at_tree (term_view t) (Some b) _ (λ u. at_edit (edit.Put n p u))))
   at_once (command.Drop place) other = at_place (place_view place) _ (λ n. at_edit (edit.Drop n))

@@ -46,27 +46,9 @@ impl<K: Keeper> Engine<K> {
     ghost use Rattle.at_engine.specs.Commanding.{Commands, Fulfils};
     ghost use Rattle.at_engine.specs.Engines.{rules_of, state_by, state_of};
     ghost use Rattle.at_engine.specs.Naming.{IsNumberOf};
-    ghost use Rattle.at_engine.specs.Asking.{CanAsk, CanAskOf, CanEvaluate, CanLookUp, IsAskedBy};
+    ghost use Rattle.at_engine.specs.Asking.{CanAskOf, CanEvaluate, CanLookUp, IsAskedBy};
 
     /// What the attribute of the node is, or why there is no answer.
-    pub(super) fn ask(
-        &mut self,
-        session: u16,
-        place: &Place<'_>,
-        attribute: &str,
-        arguments: &[Argument<'_>],
-    ) -> Result<Form, AllocError>
-        requires { CanAsk K.contents K.memories self.old attribute.now }
-        ensures { Commands K.exact K.contents K.memories self.old session
-            (Ask (place_view place.now) attribute.now (arguments_view arguments.now)) result self.new }
-    {
-        match self.view().node_named(session, place) {
-            Some(node) => self.ask_of(session, node, attribute, arguments),
-            None => Ok(Form::Refused(Refusal::Path)),
-        }
-    }
-
-    /// The same of a node that was found.
     #[inline(always)]
     pub(super) fn ask_of(
         &mut self,

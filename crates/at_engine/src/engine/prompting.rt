@@ -5,7 +5,7 @@ ghost use Rattle.at_engine.specs.Engines.{IsHeld};
 use super::Engine;
 use super::asking::Asked;
 use at_cache::Keeper;
-use at_protocol::line::{Command, Line, read_line};
+use at_protocol::line::{Command, Line, Request, read_line};
 use std::alloc::AllocError;
 
 /// Whether the line is answered as it stands: it asks for nothing that isn't kept, and doesn't wait.
@@ -28,14 +28,14 @@ pub(crate) fn is_prompt<K: Keeper>(engine: &Engine<K>, line: &[u8]) -> bool
             Line {
                 session,
                 expected: _,
-                command: Command::Ask {
+                request: Request::Ask {
                     place,
                     attribute,
                     arguments,
                 },
             },
         ) => is_at_hand(engine, view.asked(session, &place, attribute, &arguments)),
-        Ok(line) => !matches!(line.command, Command::Wait { .. }),
+        Ok(line) => !matches!(line.request, Request::Command(Command::Wait { .. })),
         Err(_) => true,
     }
 }

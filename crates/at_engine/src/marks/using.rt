@@ -15,11 +15,6 @@ pub fn has_used<M: Lookup>(marks: &M, session: u16, command: &Command<'_>) -> bo
     ensures { result ≡ list_all (has_mark (M.marks marks.now) session) (marks_used (command_view command.now)) }
 {
     match command {
-        Command::Ask {
-            place,
-            attribute: _,
-            arguments,
-        } => has_asked(marks, session, place, arguments),
         Command::Post {
             place,
             attribute: _,

@@ -7,8 +7,8 @@ use Rattle.at_model.specs.TypedRuns.{AreArguments}
 use Rattle.at_model.proofs.of_texts.Words.{name_filled}
 use Rattle.at_body.specs.Values.{value_view}
 use Rattle.at_body.specs.declared.value.Value.{Value}
-use Rattle.at_protocol.specs.LineView.{command_view}
-use Rattle.at_protocol.specs.declared.line.Command.{Command}
+use Rattle.at_protocol.specs.LineView.{request_view}
+use Rattle.at_protocol.specs.declared.line.Request.{Request}
 use Rattle.tries.specs.Worlds.{classes_at, IsTyped}
 use Rattle.tries.proofs.Fitted.{well_typed}
 use Rattle.tries.proofs.WorldsLemmas.{class_of_there}
@@ -17,7 +17,7 @@ use Rattle.tries.proofs.instances.instance.Goals as goal
 pub returns : goal.returns
 returns c =
     let w = c.args.world.now in
-    let asked = subst (λ (x : Command). IsCommand (command_view x)) (sym c.deref.ensures ∙ c.in-Ask.is) c.in_ok-command.ensures in
+    let asked = subst (λ (x : Request). IsCommand (request_view x)) (sym c.deref.ensures ∙ c.in-Ask.is) c.in_ok-request.ensures in
     let there = class_of_there w.store c.in_ok-node.node c.in_ok-node.ensures ∙ ap Some (sym c.class-class.ensures) in
     let named = sym (c.in-Some.ensures.named (name_filled c.in-Ask.attribute.now asked.1.0)) in
     let by_kinds = subst (λ (ks : List Kind). AreArguments w.rules.classes (classes_at w) AnyText (map value_view c.as_slice.result.now) ks) c.params.ensures (c.if-not-are_of.ensures refl) in

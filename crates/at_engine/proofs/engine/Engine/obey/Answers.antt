@@ -3,7 +3,7 @@ use Rattle.std.specs.declared.alloc.AllocError.{AllocError}
 use Rattle.std.proofs.lemmas.Option.{slice_get_within}
 use Rattle.std.proofs.lemmas.Result.{IfOk-weaker}
 use Rattle.at_model.specs.Machine.{obeyed, verdict}
-use Rattle.at_protocol.specs.LineView.{line_view}
+use Rattle.at_protocol.specs.LineView.{command_view, line_with}
 use Rattle.at_protocol.specs.declared.reply.Form.{Form}
 use Rattle.at_protocol.specs.declared.reply.Form.TheVariants as form
 use Rattle.at_store.specs.Shown.{path}
@@ -20,15 +20,15 @@ pub returns-in-Some-clause-hears : goal.returns-in-Some-clause-hears
 returns-in-Some-clause-hears g c =
     let e = c.args.self.now in
     let is = c.at_once.ensures.form in
-    heard_at_once (rules_of e) (state_of e) (state_of e) (line_view c.args.line) c.at_once.result (Ok (form.Refused c.in-Some.refusal)) c.at_once.ensures.session c.at_once.ensures.done is (c.in-Some.ensures (line_view c.args.line) refl (sym c.has_used-is_marked.ensures)) tt
+    heard_at_once (rules_of e) (state_of e) (state_of e) (line_with c.args.session c.args.expected (command_view c.args.command.now)) c.at_once.result (Ok (form.Refused c.in-Some.refusal)) c.at_once.ensures.session c.at_once.ensures.done is (c.in-Some.ensures (line_with c.args.session c.args.expected (command_view c.args.command.now)) refl (sym c.has_used-is_marked.ensures)) tt
 
 pub returns-in-Some-clause-spares : goal.returns-in-Some-clause-spares
 returns-in-Some-clause-spares g c exact spare =
     let e = c.args.self.now in
     let k = g.K.Keeper.contents in
-    let v = verdict (rules_of e) (state_of e) (line_view c.args.line) in
+    let v = verdict (rules_of e) (state_of e) (line_with c.args.session c.args.expected (command_view c.args.command.now)) in
     let is = c.at_once.ensures.form in
-    let all : SparesVerdict {T = Form} {E = AllocError} k v (Ok (form.Refused c.in-Some.refusal)) e e = at_once_spares {E = AllocError} k e e v (Ok (form.Refused c.in-Some.refusal)) (refused_spares k e v spare c.in-Some.refusal (c.in-Some.ensures (line_view c.args.line) refl (sym c.has_used-is_marked.ensures))) in
+    let all : SparesVerdict {T = Form} {E = AllocError} k v (Ok (form.Refused c.in-Some.refusal)) e e = at_once_spares {E = AllocError} k e e v (Ok (form.Refused c.in-Some.refusal)) (refused_spares k e v spare c.in-Some.refusal (c.in-Some.ensures (line_with c.args.session c.args.expected (command_view c.args.command.now)) refl (sym c.has_used-is_marked.ensures))) in
     subst (λ (x : Result Form AllocError). SparesVerdict k v x e e) (sym is) all
 
 pub wait-requires : goal.wait-requires
@@ -42,30 +42,30 @@ pub returns-in-Some-awaited-clause-hears : goal.returns-in-Some-awaited-clause-h
 returns-in-Some-awaited-clause-hears g c =
     let e = c.args.self.now in
     let q = c.in-Some-awaited.ensures.question in
-    by_turns (posted_view (path e.store) q) ((c.in_default.ensures (line_view c.args.line) refl
+    by_turns (posted_view (path e.store) q) ((c.in_default.ensures (line_with c.args.session c.args.expected (command_view c.args.command.now)) refl
     (sym c.has_used-is_marked.ensures)) ∙ c.in-Some-awaited.ensures.waits)
     (c.wait.ensures.done q c.in-Some-awaited.ensures.there).0
 
 pub returns-in-Some-awaited-clause-spares : goal.returns-in-Some-awaited-clause-spares
 returns-in-Some-awaited-clause-spares g c exact spare =
     let e = c.args.self.now in
-    let v = verdict (rules_of e) (state_of e) (line_view c.args.line) in
-    waited_spares g.K.Keeper.contents e c.wait.new.self v c.wait.result.form c.in-Some-awaited.ensures.question.number ((c.in_default.ensures (line_view c.args.line) refl (sym c.has_used-is_marked.ensures)) ∙ c.in-Some-awaited.ensures.waits) (c.wait.ensures.spare exact spare)
+    let v = verdict (rules_of e) (state_of e) (line_with c.args.session c.args.expected (command_view c.args.command.now)) in
+    waited_spares g.K.Keeper.contents e c.wait.new.self v c.wait.result.form c.in-Some-awaited.ensures.question.number ((c.in_default.ensures (line_with c.args.session c.args.expected (command_view c.args.command.now)) refl (sym c.has_used-is_marked.ensures)) ∙ c.in-Some-awaited.ensures.waits) (c.wait.ensures.spare exact spare)
 
-pub returns-clause-hears : goal.returns-clause-hears
-returns-clause-hears g c =
+pub returns-in-None-clause-hears : goal.returns-in-None-clause-hears
+returns-in-None-clause-hears g c =
     let e = c.args.self.now in
-    let l = line_view c.args.line in
+    let l = line_with c.args.session c.args.expected (command_view c.args.command.now) in
     let v = verdict (rules_of e) (state_of e) l in
     let o = obeyed (rules_of e) (state_of e) l.session l.command in
     heard_at_once (rules_of e) (state_of e) (state_of c.command.new.self) l c.at_once-in-None.result c.command.result c.at_once-in-None.ensures.session c.at_once-in-None.ensures.done c.at_once-in-None.ensures.form
-    (IfOk-weaker c.command.result _ _ (λ f told. as_verdict (rules_of e) (state_of e) v o f (state_of c.command.new.self) (c.in_default.ensures (line_view c.args.line) refl (sym c.has_used-is_marked.ensures)) told) c.command.ensures.obeys) c.command.ensures.err
+    (IfOk-weaker c.command.result _ _ (λ f told. as_verdict (rules_of e) (state_of e) v o f (state_of c.command.new.self) (c.in_default.ensures (line_with c.args.session c.args.expected (command_view c.args.command.now)) refl (sym c.has_used-is_marked.ensures)) told) c.command.ensures.obeys) c.command.ensures.err
 
-pub returns-clause-spares : goal.returns-clause-spares
-returns-clause-spares g c exact spare =
+pub returns-in-None-clause-spares : goal.returns-in-None-clause-spares
+returns-in-None-clause-spares g c exact spare =
     let e = c.args.self.now in
     let k = g.K.Keeper.contents in
-    let l = line_view c.args.line in
+    let l = line_with c.args.session c.args.expected (command_view c.args.command.now) in
     let v = verdict (rules_of e) (state_of e) l in
-    let all = at_once_spares k e c.command.new.self v c.command.result (turned_spares k e c.command.new.self v (obeyed (rules_of e) (state_of e) l.session l.command) c.command.result (c.in_default.ensures (line_view c.args.line) refl (sym c.has_used-is_marked.ensures)) (c.command.ensures.spares exact spare)) in
+    let all = at_once_spares k e c.command.new.self v c.command.result (turned_spares k e c.command.new.self v (obeyed (rules_of e) (state_of e) l.session l.command) c.command.result (c.in_default.ensures (line_with c.args.session c.args.expected (command_view c.args.command.now)) refl (sym c.has_used-is_marked.ensures)) (c.command.ensures.spares exact spare)) in
     subst (λ (x : Result Form AllocError). SparesVerdict k v x e c.command.new.self) (sym c.at_once-in-None.ensures.form) all

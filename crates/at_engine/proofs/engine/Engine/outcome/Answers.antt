@@ -1,14 +1,15 @@
-use Rattle.std.proofs.Common.{◌≡◌, List, Result, Ok, Err, subst, sym}
+use Rattle.std.proofs.Common.{◌≡◌, List, Result, Ok, Err, ap, subst, sym}
 use Rattle.std.specs.Allocator.{alloc_error}
 use Rattle.std.specs.declared.alloc.AllocError.{AllocError}
-use Rattle.at_model.specs.Lines.{Ask, Command as CommandOf, From_root, Line}
+use Rattle.at_model.specs.Lines.{Ask, Command as CommandOf, From_root, IsCommand, Line, Spells}
 use Rattle.at_model.specs.Machine.{runs_out, verdict}
 use Rattle.at_protocol.specs.Again.{bare_question}
 use Rattle.at_protocol.specs.Faults.{Refuses}
-use Rattle.at_protocol.specs.LineView.{arguments_view, command_view, line_view, place_view}
+use Rattle.at_protocol.specs.LineView.{arguments_view, command_view, line_view, line_with, place_view, request_view}
 use Rattle.at_protocol.specs.declared.line.Argument.{Argument}
 use Rattle.at_protocol.specs.declared.line.Command.{Command}
-use Rattle.at_protocol.specs.declared.line.Command.TheVariants as command
+use Rattle.at_protocol.specs.declared.line.Request.{Request}
+use Rattle.at_protocol.specs.declared.line.Request.TheVariants as request
 use Rattle.at_protocol.specs.declared.line.Line.{Line as LineValue}
 use Rattle.at_protocol.specs.declared.line.LineFault.TheVariants.{Memory, Syntax}
 use Rattle.at_protocol.specs.declared.reply.Form.{Form}
@@ -63,12 +64,30 @@ returns-in-Some-clause-stays g c =
     let done = c.ask_of-form.ensures (From_root steps) number in
     done.stays
 
-pub returns-in-Ok-clause-gets : goal.returns-in-Ok-clause-gets
-returns-in-Ok-clause-gets g c = got (rules_of c.args.self.now) (state_of c.args.self.now) (state_of c.obey.new.self) c.args.line.now (line_view c.in-Ok.line) c.in-Ok.ensures.found c.obey.result c.obey.ensures.hears
+-- the line that was read is that of this command
+is_told : (l : LineValue) (c : Command) → l.request ≡ request.Command c → line_view l ≡ line_with l.session l.expected (command_view c)
+is_told l c is = ap (λ r. line_with l.session l.expected (request_view r)) is
 
-pub returns-in-Ok-clause-spares : goal.returns-in-Ok-clause-spares
-returns-in-Ok-clause-spares g c exact spare =
-    line_spares g.K.Keeper.contents c.args.self.now c.obey.new.self c.args.line.now (line_view c.in-Ok.line) c.obey.result c.in-Ok.ensures.found c.obey.ensures.hears (c.obey.ensures.spares exact spare)
+pub obey-requires-clause-is_command : goal.obey-requires-clause-is_command
+obey-requires-clause-is_command g c =
+    let q = c.in-Ok-Command in
+    let is : q.field-0.request ≡ request.Command q.command = cc in
+    subst (λ (l : Line). IsCommand l.command) (is_told q.field-0 q.command is) q.ensures.found.is_line.command
+
+pub returns-in-Ok-Command-clause-gets : goal.returns-in-Ok-Command-clause-gets
+returns-in-Ok-Command-clause-gets g c =
+    let e = c.args.self.now in
+    let q = c.in-Ok-Command in
+    let is : q.field-0.request ≡ request.Command q.command = cc in
+    let spelled = subst (Spells c.args.line.now) (is_told q.field-0 q.command is) q.ensures.found in
+    got (rules_of e) (state_of e) (state_of c.obey.new.self) c.args.line.now _ spelled c.obey.result c.obey.ensures.hears
+
+pub returns-in-Ok-Command-clause-spares : goal.returns-in-Ok-Command-clause-spares
+returns-in-Ok-Command-clause-spares g c exact spare =
+    let q = c.in-Ok-Command in
+    let is : q.field-0.request ≡ request.Command q.command = cc in
+    let spelled = subst (Spells c.args.line.now) (is_told q.field-0 q.command is) q.ensures.found in
+    line_spares g.K.Keeper.contents c.args.self.now c.obey.new.self c.args.line.now _ c.obey.result spelled c.obey.ensures.hears (c.obey.ensures.spares exact spare)
 
 pub returns-in-Ok-Ask-clause-gets : goal.returns-in-Ok-Ask-clause-gets
 returns-in-Ok-Ask-clause-gets g c =
@@ -76,9 +95,9 @@ returns-in-Ok-Ask-clause-gets g c =
     let k = g.K.Keeper.contents in
     let q = c.in-Ok-Ask in
     let new = c.question.new.self in
-    let is : q.field-0.command ≡ command.Ask q.place q.attribute q.arguments = cc in
+    let is : q.field-0.request ≡ request.Ask q.place q.attribute q.arguments = cc in
     let Listed : List Argument → Type 0 = λ arguments. Fulfils g.K.Keeper.exact k g.K.Keeper.memories e (verdict (rules_of e) (state_of e) (line_of q.field-0 (Ask (place_view q.place) q.attribute.now (arguments_view arguments)))) c.question.result new in
-    let Done : Command → Type 0 = λ words. Fulfils g.K.Keeper.exact k g.K.Keeper.memories e (verdict (rules_of e) (state_of e) (line_of q.field-0 (command_view words))) c.question.result new in
+    let Done : Request → Type 0 = λ words. Fulfils g.K.Keeper.exact k g.K.Keeper.memories e (verdict (rules_of e) (state_of e) (line_of q.field-0 (request_view words))) c.question.result new in
     let done = subst Done (sym is) (subst Listed c.deref.ensures.value c.question.ensures) in
     let told = c.at_once-in-Ok-Ask.result in
     let hears = heard_at_once (rules_of e) (state_of e) (state_of new) (line_view q.field-0) told c.question.result c.at_once-in-Ok-Ask.ensures.session c.at_once-in-Ok-Ask.ensures.done c.at_once-in-Ok-Ask.ensures.form done.obeys done.err in
@@ -90,9 +109,9 @@ returns-in-Ok-Ask-clause-spares g c exact spare =
     let k = g.K.Keeper.contents in
     let q = c.in-Ok-Ask in
     let new = c.question.new.self in
-    let is : q.field-0.command ≡ command.Ask q.place q.attribute q.arguments = cc in
+    let is : q.field-0.request ≡ request.Ask q.place q.attribute q.arguments = cc in
     let Listed : List Argument → Type 0 = λ arguments. Fulfils g.K.Keeper.exact k g.K.Keeper.memories e (verdict (rules_of e) (state_of e) (line_of q.field-0 (Ask (place_view q.place) q.attribute.now (arguments_view arguments)))) c.question.result new in
-    let Done : Command → Type 0 = λ words. Fulfils g.K.Keeper.exact k g.K.Keeper.memories e (verdict (rules_of e) (state_of e) (line_of q.field-0 (command_view words))) c.question.result new in
+    let Done : Request → Type 0 = λ words. Fulfils g.K.Keeper.exact k g.K.Keeper.memories e (verdict (rules_of e) (state_of e) (line_of q.field-0 (request_view words))) c.question.result new in
     let done = subst Done (sym is) (subst Listed c.deref.ensures.value c.question.ensures) in
     let told = c.at_once-in-Ok-Ask.result in
     let hears = heard_at_once (rules_of e) (state_of e) (state_of new) (line_view q.field-0) told c.question.result c.at_once-in-Ok-Ask.ensures.session c.at_once-in-Ok-Ask.ensures.done c.at_once-in-Ok-Ask.ensures.form done.obeys done.err in

@@ -7,15 +7,10 @@ use Rattle.at_protocol.specs.declared.line.Argument.{Argument}
 use Rattle.at_engine.specs.Marks.{has_mark}
 use Rattle.at_engine.proofs.marks.using.has_used.Goals as goal
 
-pub returns-in-Ask : goal.returns-in-Ask
-returns-in-Ask g c =
-    let p = has_mark (g.M.Lookup.marks c.args.marks.now) c.args.session in
-    rw c.in-Ask.is (c.has_asked.ensures ∙ ap (λ (l : List Argument). list_all p (marks_in (place_view c.in-Ask.place) ++ flat_map marks_in_argument (arguments_view l))) c.deref.ensures.value)
-
 pub returns-in-Post : goal.returns-in-Post
 returns-in-Post g c =
     let p = has_mark (g.M.Lookup.marks c.args.marks.now) c.args.session in
-    rw c.in-Post.is (c.has_asked-in-Post.ensures ∙ ap (λ (l : List Argument). list_all p (marks_in (place_view c.in-Post.place) ++ flat_map marks_in_argument (arguments_view l))) c.deref-in-Post.ensures.value)
+    rw c.in-Post.is (c.has_asked.ensures ∙ ap (λ (l : List Argument). list_all p (marks_in (place_view c.in-Post.place) ++ flat_map marks_in_argument (arguments_view l))) c.deref.ensures.value)
 
 pub returns-in-Set : goal.returns-in-Set
 returns-in-Set g c = rw c.in-Set.is c.has_in.ensures
