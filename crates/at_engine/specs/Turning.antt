@@ -46,6 +46,19 @@ pub record Reopens (position : ℕ) (old new : Posts) (p : Posted) (o : Option Q
   pub count : new.count ≡ old.count
   pub items : new.items.items ≡ slice_set old.items.items position (record p { question = o })
 
+-- What was done for the question at the position was taken out of it, and all else is as it was; where no question stands
+-- there, all is.
+pub record TakesOut (position : ℕ) (old new : Posts) (taken : Option Question) : Type 0 where
+  pub count : new.count ≡ old.count
+  pub there : (p : Posted) → StandsAt old.items.items position p → (taken ≡ p.question) × Reopens position old new p None
+  pub none : slice_get old.items.items position ≡ None → (taken ≡ None) × (new.items.items ≡ old.items.items)
+
+-- The question at the position has that done for it, and all else is as it was; where no question stands there, all is.
+pub record PutsBack (position : ℕ) (old new : Posts) (q : Question) : Type 0 where
+  pub count : new.count ≡ old.count
+  pub there : (p : Posted) → StandsAt old.items.items position p → Reopens position old new p (Some q)
+  pub none : slice_get old.items.items position ≡ None → new.items.items ≡ old.items.items
+
 -- what is done for the question: that which was, or what there is of a question for the instance
 pub record IsBegun (rules : Rules) (s : Shown) (entries : Entries) (p : Posted) (o : Option Question) (q : Question) : Type 0 where
   pub begun : IsBegunFor rules s entries p q

@@ -78,7 +78,7 @@ pub struct Posts {
 }
 
 impl Posts {
-    ghost use Rattle.at_engine.specs.Turning.{Reopens};
+    ghost use Rattle.at_engine.specs.Turning.{PutsBack, TakesOut};
 
     /// None, and none was posted.
     pub fn new(alloc: Global) -> Posts
@@ -157,10 +157,9 @@ impl Posts {
         &self.items[position]
     }
 
-    /// What was done for the question at the position, which has nothing of it any more.
+    /// What was done for the question at the position, which has nothing of it any more; nothing where none stands there.
     pub fn take(&mut self, position: usize) -> Option<Question>
-        ensures { (self.new.count ≡ self.old.count) × ((p : Posted) → slice_get self.old.items.items position ≡ Some p
-            → (result ≡ p.question) × Reopens position self.old self.new p None) }
+        ensures { TakesOut position self.old self.new result }
     {
         match self.items.get_mut(position) {
             Some(posted) => posted.question.take(),
@@ -168,10 +167,9 @@ impl Posts {
         }
     }
 
-    /// The question at the position has come so far.
+    /// The question at the position has come so far; nothing changes where none stands there.
     pub fn keep(&mut self, position: usize, question: Question)
-        ensures { (self.new.count ≡ self.old.count) × ((p : Posted) → slice_get self.old.items.items position ≡ Some p
-            → Reopens position self.old self.new p (Some question)) }
+        ensures { PutsBack position self.old self.new question }
     {
         if let Some(posted) = self.items.get_mut(position) {
             posted.question = Some(question);

@@ -29,7 +29,7 @@ use Rattle.at_engine.specs.Holding.{HasBegun, IsBegunFor, IsPostedOn, IsSoundWit
 use Rattle.at_engine.specs.Keeping.{IsSpare, IsSpareWith, IsSparingOn}
 use Rattle.at_engine.specs.Posted.{came_to, posted_view}
 use Rattle.at_engine.specs.Telling.{IsAnswerTo, IsToldAs}
-use Rattle.at_engine.specs.Turning.{Attends, Begins, BeginsSparing, BreaksOffIn, Came, CanAnswer, CountsTurns, HasGone, HasTurnedUpTo, IsBegun, Reopens, StandsAt}
+use Rattle.at_engine.specs.Turning.{Attends, Begins, BeginsSparing, BreaksOffIn, Came, CanAnswer, CountsTurns, HasGone, HasTurnedUpTo, IsBegun, Reopens, TakesOut, StandsAt}
 use Rattle.at_engine.specs.declared.engine.Engine.{Engine}
 use Rattle.at_engine.specs.declared.engine.turning.Begun.{Begun}
 use Rattle.at_engine.specs.declared.engine.turning.Begun.TheVariants as begun
@@ -56,12 +56,11 @@ pub record Taken {K : Type 0} (kept : K → Entries) (memories : K
 pub taken : {K : Type 0} (kept : K → Entries) (memories : K → Memories) (e : Engine K) → IsHeld kept memories e
     → (position : ℕ)
     → position < length e.posts.items.items → (o : Option Question) (t : Posts)
-    → (t.count ≡ e.posts.count) × ((p : Posted) → slice_get e.posts.items.items position ≡ Some p
-    → (o ≡ p.question) × Reopens position e.posts t p None)
+    → TakesOut position e.posts t o
     → Taken kept memories e position o t
 taken kept memories e held position within o t took =
     let (p, there) = there_at e.posts.items.items position within in
-    let at = took.1 p there in
+    let at = took.there p there in
     record { posted = p; there = there; same = at.0; opens = at.1; held = held }
 
 module _ {K : Type 0} (exact : Bool) (kept : K → Entries) (memories : K

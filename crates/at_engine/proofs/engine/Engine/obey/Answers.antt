@@ -52,8 +52,8 @@ returns-in-Some-awaited-clause-spares g c exact spare =
     let v = verdict (rules_of e) (state_of e) (line_with c.args.session c.args.expected (command_view c.args.command.now)) in
     waited_spares g.K.Keeper.contents e c.wait.new.self v c.wait.result.form c.in-Some-awaited.ensures.question.number ((c.in_default.ensures (line_with c.args.session c.args.expected (command_view c.args.command.now)) refl (sym c.has_used-is_marked.ensures)) ∙ c.in-Some-awaited.ensures.waits) (c.wait.ensures.spare exact spare)
 
-pub returns-clause-hears : goal.returns-clause-hears
-returns-clause-hears g c =
+pub returns-in-None-clause-hears : goal.returns-in-None-clause-hears
+returns-in-None-clause-hears g c =
     let e = c.args.self.now in
     let l = line_with c.args.session c.args.expected (command_view c.args.command.now) in
     let v = verdict (rules_of e) (state_of e) l in
@@ -61,8 +61,8 @@ returns-clause-hears g c =
     heard_at_once (rules_of e) (state_of e) (state_of c.command.new.self) l c.at_once-in-None.result c.command.result c.at_once-in-None.ensures.session c.at_once-in-None.ensures.done c.at_once-in-None.ensures.form
     (IfOk-weaker c.command.result _ _ (λ f told. as_verdict (rules_of e) (state_of e) v o f (state_of c.command.new.self) (c.in_default.ensures (line_with c.args.session c.args.expected (command_view c.args.command.now)) refl (sym c.has_used-is_marked.ensures)) told) c.command.ensures.obeys) c.command.ensures.err
 
-pub returns-clause-spares : goal.returns-clause-spares
-returns-clause-spares g c exact spare =
+pub returns-in-None-clause-spares : goal.returns-in-None-clause-spares
+returns-in-None-clause-spares g c exact spare =
     let e = c.args.self.now in
     let k = g.K.Keeper.contents in
     let l = line_with c.args.session c.args.expected (command_view c.args.command.now) in
