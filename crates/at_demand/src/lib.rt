@@ -18,6 +18,7 @@
 #![tactic(auto)]
 
 mod answer;
+mod basis;
 mod demand;
 mod direct;
 mod evaluation;
