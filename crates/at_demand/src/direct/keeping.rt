@@ -101,8 +101,8 @@ impl Direct {
         needed: &Inst,
     ) -> Result<Option<Value>, AllocError>
         requires { AreKnown basis.now.rules.now (contents basis.now.store.now) (K.contents keeper.now) self.now.found.entries }
-        ensures { IfOk result (HasRecalled basis.now.rules.now (contents basis.now.store.now) (known_by (K.contents keeper.now) self.now.found.entries) level.old
-            level.new needed.now) }
+        ensures { IfOk result (HasRecalled basis.now.rules.now (contents basis.now.store.now) (known_by (K.contents keeper.now) self.now.found.entries)
+            level.old level.new needed.now) }
     {
         let Some(value) = self.value_of(keeper, basis.rules, needed)? else {
             return Ok(None);
