@@ -17,3 +17,4 @@ pub mod Keeping
 pub mod Inner
 pub mod InParts
 pub mod Traces
+pub mod OneProof

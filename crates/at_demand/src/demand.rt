@@ -15,7 +15,8 @@ ghost use Rattle.at_demand.specs.Keeping.{HasPlaced, KeepsWhereLazy, Shares};
 ghost use Rattle.at_demand.specs.Answered.{HasAnswered};
 ghost use Rattle.at_model.specs.Rules.{is_lazy};
 ghost use Rattle.at_demand.specs.Sparing.{AreSpare, Counts, HasWorthy};
-ghost use Rattle.at_demand.specs.Inner.{AreKnown, Gains};
+ghost use Rattle.at_demand.specs.Inner.{Gains};
+ghost use Rattle.at_demand.specs.InParts.{IsHeld, held};
 ghost use Rattle.at_demand.specs.Right.{IsThere};
 ghost use Rattle.at_demand.specs.Traces.{AreJustified, AreOfTree, StayJustified};
 ghost use Rattle.at_cache.specs.Traced.{FlushesTraces, StayTraced};
@@ -24,6 +25,7 @@ mod shared;
 mod turning;
 
 use crate::answer::Answer;
+use crate::basis::Basis;
 use crate::direct::Direct;
 use crate::evaluation::Find;
 use crate::sharing::Sharing;
@@ -127,8 +129,7 @@ impl<K: Keeper> Demand<K> {
         inst: &Inst,
     ) -> Result<Option<Value>, AllocError>
         requires idle { IsIdle store.now }
-        requires known { AreKnown rules.now (contents store.now) (K.contents self.old.keeper) [] }
-        requires justified { AreJustified rules.now (contents store.now) (K.memories self.old.keeper) }
+        requires held { IsHeld rules.now (contents store.now) (held (K.contents self.old.keeper) (K.memories self.old.keeper) [] self.old.work) }
         ensures value { IfOk result (λ o. IfSome o (λ v. HasValue (contents store.now) (meaning rules.now) inst.now (value_view v))) }
         ensures all { IsTrue K.exact → AreSpare rules.now (contents store.now) (K.contents self.old.keeper)
             → IfOk result (λ o. IfSome o (λ v. HasWorthy rules.now (contents store.now) inst.now (K.contents self.new.keeper))) }
@@ -136,7 +137,7 @@ impl<K: Keeper> Demand<K> {
         ensures traces { StayJustified rules.now store.now inst.now (K.memories self.old.keeper) (K.memories self.new.keeper) }
     {
         let mut direct = Direct::new(self.alloc, self.work);
-        let told = direct.answer(&mut self.keeper, rules, store, inst);
+        let told = direct.answer(&mut self.keeper, &Basis { rules, store }, inst);
         self.work = direct.work;
         match told {
             Ok(value) => Ok(Some(value)),

@@ -5,7 +5,7 @@
 ghost use Rattle.std.specs.Prelude.{◌≡◌, ◌<◌, ◌≤◌, ◌^◌, [], IfOk, OnOk, IsTrue, drop, false, length, map, take, true};
 ghost use Rattle.at_model.specs.Meaning.{HasValue};
 ghost use Rattle.at_model.specs.Rules.{is_lazy};
-ghost use Rattle.at_store.specs.Shown.{IsIdle, contents};
+ghost use Rattle.at_store.specs.Shown.{contents};
 ghost use Rattle.at_rules.specs.Bodies.{bodies_view, body_view};
 ghost use Rattle.at_body.specs.Comparing.{IsComparison};
 ghost use Rattle.at_body.specs.Rest.{ev, ev_all, over};
@@ -13,19 +13,20 @@ ghost use Rattle.at_body.specs.Values.{value_view};
 ghost use Rattle.at_apply.specs.Parts.{call_of, either_of, fold_of, one_of, two_of};
 ghost use Rattle.at_apply.specs.Place.{place_at};
 ghost use Rattle.at_demand.specs.Known.{meaning};
-ghost use Rattle.at_demand.specs.Inner.{AreKnown, Gains, HasRecalled, HasTold, known_by};
+ghost use Rattle.at_demand.specs.Inner.{Gains, HasRecalled, HasTold, known_by};
 ghost use Rattle.at_demand.specs.InParts.{HasCome, HasGained, IsHeld, held};
 ghost use Rattle.at_demand.specs.Sparing.{AreSpare, HasWorthy};
-ghost use Rattle.at_demand.specs.Traces.{AreJustified, StayJustified};
+ghost use Rattle.at_demand.specs.Traces.{StayJustified};
 
+use crate::basis::Basis;
 use at_apply::{
     Form, Here, Next, Stop, begin, chosen, compare, form_of, node_of, settle, truth_in, with_one,
     with_two,
 };
 use at_body::{Arguments, Binary, Fold, Inst, Reads, Unary, Value, come_to};
 use at_cache::Keeper;
-use at_rules::{AttrId, Body, Rules};
-use at_store::{Loc, Node, Store};
+use at_rules::{AttrId, Body};
+use at_store::{Loc, Node};
 use indexmap::IndexMap;
 use keeping::{few_of, is_small};
 use std::alloc::{AllocError, Global};
@@ -119,23 +120,21 @@ impl Direct {
     pub fn answer<K: Keeper>(
         &mut self,
         keeper: &mut K,
-        rules: &Rules,
-        store: &Store,
+        basis: &Basis<'_>,
         inst: &Inst,
     ) -> Result<Value, Stop>
-        requires idle { IsIdle store.now }
-        requires known { AreKnown rules.now (contents store.now) (K.contents keeper.old) self.old.found.entries }
-        requires justified { AreJustified rules.now (contents store.now) (K.memories keeper.old) }
-        ensures value { IfOk result (λ v. HasValue (contents store.now) (meaning rules.now) inst.now (value_view v)) }
-        ensures all { IsTrue K.exact → AreSpare rules.now (contents store.now) (K.contents keeper.old)
-            → IfOk result (λ v. HasWorthy rules.now (contents store.now) inst.now (K.contents keeper.new)) }
-        ensures gains { Gains rules.now store.now K.exact inst.now (K.contents keeper.old) (K.contents keeper.new) self.old.found.entries
+        requires { IsHeld basis.now.rules.now (contents basis.now.store.now)
+            (held (K.contents keeper.old) (K.memories keeper.old) self.old.found.entries self.old.work) }
+        ensures value { IfOk result (λ v. HasValue (contents basis.now.store.now) (meaning basis.now.rules.now) inst.now (value_view v)) }
+        ensures all { IsTrue K.exact → AreSpare basis.now.rules.now (contents basis.now.store.now) (K.contents keeper.old)
+            → IfOk result (λ v. HasWorthy basis.now.rules.now (contents basis.now.store.now) inst.now (K.contents keeper.new)) }
+        ensures gains { Gains basis.now.rules.now basis.now.store.now K.exact inst.now (K.contents keeper.old) (K.contents keeper.new) self.old.found.entries
             self.new.found.entries self.old.work self.new.work }
-        ensures traces { StayJustified rules.now store.now inst.now (K.memories keeper.old) (K.memories keeper.new) }
+        ensures traces { StayJustified basis.now.rules.now basis.now.store.now inst.now (K.memories keeper.old) (K.memories keeper.new) }
     {
         let mut asks = self.level();
         let needed = inst.copy(self.alloc)?;
-        self.told(keeper, rules, store, &mut asks, needed, DEPTH)
+        self.told(keeper, basis, &mut asks, needed, DEPTH)
     }
 
     // The level of an evaluation that ended, emptied, or a fresh one.
@@ -159,29 +158,27 @@ impl Direct {
     fn told<K: Keeper>(
         &mut self,
         keeper: &mut K,
-        rules: &Rules,
-        store: &Store,
+        basis: &Basis<'_>,
         level: &mut Level,
         needed: Inst,
         above: usize,
     ) -> Result<Value, Stop>
-        requires idle { IsIdle store.now }
-        requires known { AreKnown rules.now (contents store.now) (K.contents keeper.old) self.old.found.entries }
-        requires justified { AreJustified rules.now (contents store.now) (K.memories keeper.old) }
-        ensures told { IfOk result (λ v. HasTold rules.now (contents store.now) (known_by (K.contents keeper.new) self.new.found.entries)
+        requires { IsHeld basis.now.rules.now (contents basis.now.store.now)
+            (held (K.contents keeper.old) (K.memories keeper.old) self.old.found.entries self.old.work) }
+        ensures told { IfOk result (λ v. HasTold basis.now.rules.now (contents basis.now.store.now) (known_by (K.contents keeper.new) self.new.found.entries)
             level.old level.new needed (value_view v)) }
-        ensures gains { Gains rules.now store.now K.exact needed (K.contents keeper.old) (K.contents keeper.new) self.old.found.entries
+        ensures gains { Gains basis.now.rules.now basis.now.store.now K.exact needed (K.contents keeper.old) (K.contents keeper.new) self.old.found.entries
             self.new.found.entries self.old.work self.new.work }
-        ensures traces { StayJustified rules.now store.now needed (K.memories keeper.old) (K.memories keeper.new) }
+        ensures traces { StayJustified basis.now.rules.now basis.now.store.now needed (K.memories keeper.old) (K.memories keeper.new) }
     {
-        let recalled = self.recall(keeper, rules, store, level, &needed)?;
+        let recalled = self.recall(keeper, basis, level, &needed)?;
         if let Some(value) = recalled {
             return Ok(value);
         }
-        if rules.is_lazy(needed.attribute()) {
-            return self.lazily(keeper, rules, store, level, needed, above);
+        if basis.rules.is_lazy(needed.attribute()) {
+            return self.lazily(keeper, basis, level, needed, above);
         }
-        self.inner(keeper, rules, store, level, needed, above)
+        self.inner(keeper, basis, level, needed, above)
     }
 
     // The value of an instance that isn't known and isn't lazy, in the evaluation that asks. Where that looks at many locations it is remembered.
@@ -189,30 +186,28 @@ impl Direct {
     fn inner<K: Keeper>(
         &mut self,
         keeper: &mut K,
-        rules: &Rules,
-        store: &Store,
+        basis: &Basis<'_>,
         level: &mut Level,
         needed: Inst,
         above: usize,
     ) -> Result<Value, Stop>
-        requires lazy { is_lazy rules.now needed.attribute ≡ false }
-        requires idle { IsIdle store.now }
-        requires known { AreKnown rules.now (contents store.now) (K.contents keeper.old) self.old.found.entries }
-        requires justified { AreJustified rules.now (contents store.now) (K.memories keeper.old) }
-        ensures told { IfOk result (λ v. HasTold rules.now (contents store.now) (known_by (K.contents keeper.new) self.new.found.entries)
+        requires lazy { is_lazy basis.now.rules.now needed.attribute ≡ false }
+        requires held { IsHeld basis.now.rules.now (contents basis.now.store.now)
+            (held (K.contents keeper.old) (K.memories keeper.old) self.old.found.entries self.old.work) }
+        ensures told { IfOk result (λ v. HasTold basis.now.rules.now (contents basis.now.store.now) (known_by (K.contents keeper.new) self.new.found.entries)
             level.old level.new needed (value_view v)) }
-        ensures gains { Gains rules.now store.now K.exact needed (K.contents keeper.old) (K.contents keeper.new) self.old.found.entries
+        ensures gains { Gains basis.now.rules.now basis.now.store.now K.exact needed (K.contents keeper.old) (K.contents keeper.new) self.old.found.entries
             self.new.found.entries self.old.work self.new.work }
-        ensures traces { StayJustified rules.now store.now needed (K.memories keeper.old) (K.memories keeper.new) }
+        ensures traces { StayJustified basis.now.rules.now basis.now.store.now needed (K.memories keeper.old) (K.memories keeper.new) }
     {
         let reads = level.reads.len();
         let uses = level.uses.len();
-        let value = self.evaluate(keeper, rules, store, level, &needed, above)?;
-        if is_small(store, level.reads.as_slice(), reads, few_of(keeper)) {
+        let value = self.evaluate(keeper, basis, level, &needed, above)?;
+        if is_small(basis, level.reads.as_slice(), reads, few_of(keeper)) {
             return Ok(value);
         }
         let below = level.split_off(reads, uses)?;
-        self.remember(keeper, rules, store, level, &below, needed, &value)?;
+        self.remember(keeper, basis, level, &below, needed, &value)?;
         Ok(value)
     }
 
@@ -221,26 +216,24 @@ impl Direct {
     fn lazily<K: Keeper>(
         &mut self,
         keeper: &mut K,
-        rules: &Rules,
-        store: &Store,
+        basis: &Basis<'_>,
         level: &mut Level,
         needed: Inst,
         above: usize,
     ) -> Result<Value, Stop>
-        requires lazy { is_lazy rules.now needed.attribute ≡ true }
-        requires idle { IsIdle store.now }
-        requires known { AreKnown rules.now (contents store.now) (K.contents keeper.old) self.old.found.entries }
-        requires justified { AreJustified rules.now (contents store.now) (K.memories keeper.old) }
-        ensures told { IfOk result (λ v. HasTold rules.now (contents store.now) (known_by (K.contents keeper.new) self.new.found.entries)
+        requires lazy { is_lazy basis.now.rules.now needed.attribute ≡ true }
+        requires held { IsHeld basis.now.rules.now (contents basis.now.store.now)
+            (held (K.contents keeper.old) (K.memories keeper.old) self.old.found.entries self.old.work) }
+        ensures told { IfOk result (λ v. HasTold basis.now.rules.now (contents basis.now.store.now) (known_by (K.contents keeper.new) self.new.found.entries)
             level.old level.new needed (value_view v)) }
-        ensures gains { Gains rules.now store.now K.exact needed (K.contents keeper.old) (K.contents keeper.new) self.old.found.entries
+        ensures gains { Gains basis.now.rules.now basis.now.store.now K.exact needed (K.contents keeper.old) (K.contents keeper.new) self.old.found.entries
             self.new.found.entries self.old.work self.new.work }
-        ensures traces { StayJustified rules.now store.now needed (K.memories keeper.old) (K.memories keeper.new) }
+        ensures traces { StayJustified basis.now.rules.now basis.now.store.now needed (K.memories keeper.old) (K.memories keeper.new) }
     {
-        let verified = self.verify(keeper, rules, store, level, &needed, above)?;
+        let verified = self.verify(keeper, basis, level, &needed, above)?;
         match verified {
             Some(value) => Ok(value),
-            None => self.afresh(keeper, rules, store, level, needed, above),
+            None => self.afresh(keeper, basis, level, needed, above),
         }
     }
 
@@ -250,31 +243,29 @@ impl Direct {
     fn verify<K: Keeper>(
         &mut self,
         keeper: &mut K,
-        rules: &Rules,
-        store: &Store,
+        basis: &Basis<'_>,
         level: &mut Level,
         needed: &Inst,
         above: usize,
     ) -> Result<Option<Value>, Stop>
-        requires idle { IsIdle store.now }
-        requires known { AreKnown rules.now (contents store.now) (K.contents keeper.old) self.old.found.entries }
-        requires justified { AreJustified rules.now (contents store.now) (K.memories keeper.old) }
-        ensures recalled { IfOk result (HasRecalled rules.now (contents store.now) (known_by (K.contents keeper.new) self.new.found.entries)
+        requires { IsHeld basis.now.rules.now (contents basis.now.store.now)
+            (held (K.contents keeper.old) (K.memories keeper.old) self.old.found.entries self.old.work) }
+        ensures recalled { IfOk result (HasRecalled basis.now.rules.now (contents basis.now.store.now) (known_by (K.contents keeper.new) self.new.found.entries)
             level.old level.new needed.now) }
-        ensures gains { Gains rules.now store.now K.exact needed.now (K.contents keeper.old) (K.contents keeper.new) self.old.found.entries
+        ensures gains { Gains basis.now.rules.now basis.now.store.now K.exact needed.now (K.contents keeper.old) (K.contents keeper.new) self.old.found.entries
             self.new.found.entries self.old.work self.new.work }
-        ensures traces { StayJustified rules.now store.now needed.now (K.memories keeper.old) (K.memories keeper.new) }
+        ensures traces { StayJustified basis.now.rules.now basis.now.store.now needed.now (K.memories keeper.old) (K.memories keeper.new) }
     {
         for _ in 0..IN_THE_WAY {
-            let again = self.keep_again(keeper, rules, store, level, needed)?;
+            let again = self.keep_again(keeper, basis, level, needed)?;
             if let Some(value) = again {
                 return Ok(Some(value));
             }
-            let Some(other) = self.in_the_way(keeper, rules, store, needed)? else {
+            let Some(other) = self.in_the_way(keeper, basis, needed)? else {
                 return Ok(None);
             };
             let mut aside = self.level();
-            self.afresh(keeper, rules, store, &mut aside, other, above)?;
+            self.afresh(keeper, basis, &mut aside, other, above)?;
             self.spare.push(aside)?;
         }
         Ok(None)
@@ -285,25 +276,23 @@ impl Direct {
     fn afresh<K: Keeper>(
         &mut self,
         keeper: &mut K,
-        rules: &Rules,
-        store: &Store,
+        basis: &Basis<'_>,
         level: &mut Level,
         needed: Inst,
         above: usize,
     ) -> Result<Value, Stop>
-        requires lazy { is_lazy rules.now needed.attribute ≡ true }
-        requires idle { IsIdle store.now }
-        requires known { AreKnown rules.now (contents store.now) (K.contents keeper.old) self.old.found.entries }
-        requires justified { AreJustified rules.now (contents store.now) (K.memories keeper.old) }
-        ensures told { IfOk result (λ v. HasTold rules.now (contents store.now) (known_by (K.contents keeper.new) self.new.found.entries)
+        requires lazy { is_lazy basis.now.rules.now needed.attribute ≡ true }
+        requires held { IsHeld basis.now.rules.now (contents basis.now.store.now)
+            (held (K.contents keeper.old) (K.memories keeper.old) self.old.found.entries self.old.work) }
+        ensures told { IfOk result (λ v. HasTold basis.now.rules.now (contents basis.now.store.now) (known_by (K.contents keeper.new) self.new.found.entries)
             level.old level.new needed (value_view v)) }
-        ensures gains { Gains rules.now store.now K.exact needed (K.contents keeper.old) (K.contents keeper.new) self.old.found.entries
+        ensures gains { Gains basis.now.rules.now basis.now.store.now K.exact needed (K.contents keeper.old) (K.contents keeper.new) self.old.found.entries
             self.new.found.entries self.old.work self.new.work }
-        ensures traces { StayJustified rules.now store.now needed (K.memories keeper.old) (K.memories keeper.new) }
+        ensures traces { StayJustified basis.now.rules.now basis.now.store.now needed (K.memories keeper.old) (K.memories keeper.new) }
     {
         let mut below = self.level();
-        let value = self.evaluate(keeper, rules, store, &mut below, &needed, above)?;
-        self.keep(keeper, rules, store, level, &below, needed, &value)?;
+        let value = self.evaluate(keeper, basis, &mut below, &needed, above)?;
+        self.keep(keeper, basis, level, &below, needed, &value)?;
         self.spare.push(below)?;
         Ok(value)
     }
@@ -314,24 +303,22 @@ impl Direct {
     fn evaluate<K: Keeper>(
         &mut self,
         keeper: &mut K,
-        rules: &Rules,
-        store: &Store,
+        basis: &Basis<'_>,
         level: &mut Level,
         inst: &Inst,
         above: usize,
     ) -> Result<Value, Stop>
-        requires idle { IsIdle store.now }
-        requires known { AreKnown rules.now (contents store.now) (K.contents keeper.old) self.old.found.entries }
-        requires justified { AreJustified rules.now (contents store.now) (K.memories keeper.old) }
-        ensures come { IfOk result (λ v. HasCome rules.now (contents store.now)
+        requires { IsHeld basis.now.rules.now (contents basis.now.store.now)
+            (held (K.contents keeper.old) (K.memories keeper.old) self.old.found.entries self.old.work) }
+        ensures come { IfOk result (λ v. HasCome basis.now.rules.now (contents basis.now.store.now)
             (held (K.contents keeper.new) (K.memories keeper.new) self.new.found.entries self.new.work)
-            level.old level.new (meaning rules.now inst.now) (value_view v)) }
-        ensures gains { Gains rules.now store.now K.exact inst.now (K.contents keeper.old) (K.contents keeper.new) self.old.found.entries
+            level.old level.new (meaning basis.now.rules.now inst.now) (value_view v)) }
+        ensures gains { Gains basis.now.rules.now basis.now.store.now K.exact inst.now (K.contents keeper.old) (K.contents keeper.new) self.old.found.entries
             self.new.found.entries self.old.work self.new.work }
-        ensures traces { StayJustified rules.now store.now inst.now (K.memories keeper.old) (K.memories keeper.new) }
+        ensures traces { StayJustified basis.now.rules.now basis.now.store.now inst.now (K.memories keeper.old) (K.memories keeper.new) }
     {
-        let begun = begin(self.alloc, rules, store, &mut level.reads, inst)?;
-        self.value(keeper, rules, store, level, &begun.0, begun.1, above)
+        let begun = begin(self.alloc, basis.rules, basis.store, &mut level.reads, inst)?;
+        self.value(keeper, basis, level, &begun.0, begun.1, above)
     }
 
     // The value of an expression.
@@ -339,20 +326,19 @@ impl Direct {
     fn value<K: Keeper>(
         &mut self,
         keeper: &mut K,
-        rules: &Rules,
-        store: &Store,
+        basis: &Basis<'_>,
         level: &mut Level,
         here: &Here,
         body: &Body,
         above: usize,
     ) -> Result<Value, Stop>
-        requires idle { IsIdle store.now }
-        requires held { IsHeld rules.now (contents store.now)
+        requires { IsHeld basis.now.rules.now (contents basis.now.store.now)
             (held (K.contents keeper.old) (K.memories keeper.old) self.old.found.entries self.old.work) }
-        ensures come { IfOk result (λ v. HasCome rules.now (contents store.now)
+        ensures come { IfOk result (λ v. HasCome basis.now.rules.now (contents basis.now.store.now)
             (held (K.contents keeper.new) (K.memories keeper.new) self.new.found.entries self.new.work)
-            level.old level.new (ev rules.now.classes (body_view body.now) (place_at here.now)) (value_view v)) }
-        ensures gains { HasGained rules.now store.now K.exact (ev rules.now.classes (body_view body.now) (place_at here.now))
+            level.old level.new (ev basis.now.rules.now.classes (body_view body.now) (place_at here.now)) (value_view v)) }
+        ensures gains { HasGained basis.now.rules.now basis.now.store.now K.exact
+            (ev basis.now.rules.now.classes (body_view body.now) (place_at here.now))
             (held (K.contents keeper.old) (K.memories keeper.old) self.old.found.entries self.old.work)
             (held (K.contents keeper.new) (K.memories keeper.new) self.new.found.entries self.new.work) }
     {
@@ -361,25 +347,21 @@ impl Direct {
         }
         let left = above - 1;
         match form_of(body) {
-            Form::One(unary, a) => self.one(keeper, rules, store, level, here, unary, a, left),
-            Form::Two(binary, a, b) => {
-                self.two(keeper, rules, store, level, here, binary, a, b, left)
-            }
+            Form::One(unary, a) => self.one(keeper, basis, level, here, unary, a, left),
+            Form::Two(binary, a, b) => { self.two(keeper, basis, level, here, binary, a, b, left) }
             Form::Compared(comparison, a, b) => {
-                self.compared(keeper, rules, store, level, here, comparison, a, b, left)
+                self.compared(keeper, basis, level, here, comparison, a, b, left)
             }
             Form::Either(test, yes, no) => {
-                self.either(keeper, rules, store, level, here, test, yes, no, left)
+                self.either(keeper, basis, level, here, test, yes, no, left)
             }
             Form::Call(receiver, attribute, passed) => self.call(
-                keeper, rules, store, level, here, receiver, attribute, passed, left,
+                keeper, basis, level, here, receiver, attribute, passed, left,
             ),
             Form::Over(fold, of, part, each) => {
-                self.over(
-                    keeper, rules, store, level, here, fold, of, part, each, left,
-                )
+                self.over(keeper, basis, level, here, fold, of, part, each, left)
             }
-            Form::Plain => here.value(store, &mut level.reads, body),
+            Form::Plain => here.value(basis.store, &mut level.reads, body),
         }
     }
 
@@ -389,26 +371,25 @@ impl Direct {
     fn one<K: Keeper>(
         &mut self,
         keeper: &mut K,
-        rules: &Rules,
-        store: &Store,
+        basis: &Basis<'_>,
         level: &mut Level,
         here: &Here,
         unary: Unary,
         operand: &Body,
         above: usize,
     ) -> Result<Value, Stop>
-        requires idle { IsIdle store.now }
-        requires held { IsHeld rules.now (contents store.now)
+        requires { IsHeld basis.now.rules.now (contents basis.now.store.now)
             (held (K.contents keeper.old) (K.memories keeper.old) self.old.found.entries self.old.work) }
-        ensures come { IfOk result (λ v. HasCome rules.now (contents store.now)
+        ensures come { IfOk result (λ v. HasCome basis.now.rules.now (contents basis.now.store.now)
             (held (K.contents keeper.new) (K.memories keeper.new) self.new.found.entries self.new.work)
-            level.old level.new (one_of rules.now.classes (place_at here.now) unary operand.now) (value_view v)) }
-        ensures gains { HasGained rules.now store.now K.exact (one_of rules.now.classes (place_at here.now) unary operand.now)
+            level.old level.new (one_of basis.now.rules.now.classes (place_at here.now) unary operand.now) (value_view v)) }
+        ensures gains { HasGained basis.now.rules.now basis.now.store.now K.exact
+            (one_of basis.now.rules.now.classes (place_at here.now) unary operand.now)
             (held (K.contents keeper.old) (K.memories keeper.old) self.old.found.entries self.old.work)
             (held (K.contents keeper.new) (K.memories keeper.new) self.new.found.entries self.new.work) }
     {
-        let value = self.value(keeper, rules, store, level, here, operand, above)?;
-        with_one(rules, store, &mut level.reads, unary, &value)
+        let value = self.value(keeper, basis, level, here, operand, above)?;
+        with_one(basis.rules, basis.store, &mut level.reads, unary, &value)
     }
 
     // What is done with the values of two operands.
@@ -417,8 +398,7 @@ impl Direct {
     fn two<K: Keeper>(
         &mut self,
         keeper: &mut K,
-        rules: &Rules,
-        store: &Store,
+        basis: &Basis<'_>,
         level: &mut Level,
         here: &Here,
         binary: Binary,
@@ -426,19 +406,19 @@ impl Direct {
         right: &Body,
         above: usize,
     ) -> Result<Value, Stop>
-        requires idle { IsIdle store.now }
-        requires held { IsHeld rules.now (contents store.now)
+        requires { IsHeld basis.now.rules.now (contents basis.now.store.now)
             (held (K.contents keeper.old) (K.memories keeper.old) self.old.found.entries self.old.work) }
-        ensures come { IfOk result (λ v. HasCome rules.now (contents store.now)
+        ensures come { IfOk result (λ v. HasCome basis.now.rules.now (contents basis.now.store.now)
             (held (K.contents keeper.new) (K.memories keeper.new) self.new.found.entries self.new.work)
-            level.old level.new (two_of rules.now.classes (place_at here.now) binary left.now right.now) (value_view v)) }
-        ensures gains { HasGained rules.now store.now K.exact (two_of rules.now.classes (place_at here.now) binary left.now right.now)
+            level.old level.new (two_of basis.now.rules.now.classes (place_at here.now) binary left.now right.now) (value_view v)) }
+        ensures gains { HasGained basis.now.rules.now basis.now.store.now K.exact
+            (two_of basis.now.rules.now.classes (place_at here.now) binary left.now right.now)
             (held (K.contents keeper.old) (K.memories keeper.old) self.old.found.entries self.old.work)
             (held (K.contents keeper.new) (K.memories keeper.new) self.new.found.entries self.new.work) }
     {
-        let first = self.value(keeper, rules, store, level, here, left, above)?;
-        let second = self.value(keeper, rules, store, level, here, right, above)?;
-        with_two(store, &mut level.reads, binary, first, &second)
+        let first = self.value(keeper, basis, level, here, left, above)?;
+        let second = self.value(keeper, basis, level, here, right, above)?;
+        with_two(basis.store, &mut level.reads, binary, first, &second)
     }
 
     // The comparison of two values. A token of a node at hand is compared where it stands with an argument or a literal.
@@ -446,8 +426,7 @@ impl Direct {
     fn compared<K: Keeper>(
         &mut self,
         keeper: &mut K,
-        rules: &Rules,
-        store: &Store,
+        basis: &Basis<'_>,
         level: &mut Level,
         here: &Here,
         comparison: Binary,
@@ -456,22 +435,27 @@ impl Direct {
         above: usize,
     ) -> Result<Value, Stop>
         requires comparison { IsComparison comparison }
-        requires idle { IsIdle store.now }
-        requires held { IsHeld rules.now (contents store.now)
+        requires held { IsHeld basis.now.rules.now (contents basis.now.store.now)
             (held (K.contents keeper.old) (K.memories keeper.old) self.old.found.entries self.old.work) }
-        ensures come { IfOk result (λ v. HasCome rules.now (contents store.now)
+        ensures come { IfOk result (λ v. HasCome basis.now.rules.now (contents basis.now.store.now)
             (held (K.contents keeper.new) (K.memories keeper.new) self.new.found.entries self.new.work)
-            level.old level.new (two_of rules.now.classes (place_at here.now) comparison left.now right.now) (value_view v)) }
-        ensures gains { HasGained rules.now store.now K.exact (two_of rules.now.classes (place_at here.now) comparison left.now right.now)
+            level.old level.new (two_of basis.now.rules.now.classes (place_at here.now) comparison left.now right.now) (value_view v)) }
+        ensures gains { HasGained basis.now.rules.now basis.now.store.now K.exact
+            (two_of basis.now.rules.now.classes (place_at here.now) comparison left.now right.now)
             (held (K.contents keeper.old) (K.memories keeper.old) self.old.found.entries self.old.work)
             (held (K.contents keeper.new) (K.memories keeper.new) self.new.found.entries self.new.work) }
     {
-        let at_once = compare(here, store, &mut level.reads, &comparison, left, right)?;
+        let at_once = compare(
+            here,
+            basis.store,
+            &mut level.reads,
+            &comparison,
+            left,
+            right,
+        )?;
         match at_once {
             Some(value) => Ok(value),
-            None => self.two(
-                keeper, rules, store, level, here, comparison, left, right, above,
-            ),
+            None => self.two(keeper, basis, level, here, comparison, left, right, above),
         }
     }
 
@@ -480,8 +464,7 @@ impl Direct {
     fn either<K: Keeper>(
         &mut self,
         keeper: &mut K,
-        rules: &Rules,
-        store: &Store,
+        basis: &Basis<'_>,
         level: &mut Level,
         here: &Here,
         test: &Body,
@@ -489,20 +472,20 @@ impl Direct {
         no: Option<&Body>,
         above: usize,
     ) -> Result<Value, Stop>
-        requires idle { IsIdle store.now }
-        requires held { IsHeld rules.now (contents store.now)
+        requires { IsHeld basis.now.rules.now (contents basis.now.store.now)
             (held (K.contents keeper.old) (K.memories keeper.old) self.old.found.entries self.old.work) }
-        ensures come { IfOk result (λ v. HasCome rules.now (contents store.now)
+        ensures come { IfOk result (λ v. HasCome basis.now.rules.now (contents basis.now.store.now)
             (held (K.contents keeper.new) (K.memories keeper.new) self.new.found.entries self.new.work)
-            level.old level.new (either_of rules.now.classes (place_at here.now) test.now yes.entry no.entry) (value_view v)) }
-        ensures gains { HasGained rules.now store.now K.exact (either_of rules.now.classes (place_at here.now) test.now yes.entry no.entry)
+            level.old level.new (either_of basis.now.rules.now.classes (place_at here.now) test.now yes.entry no.entry) (value_view v)) }
+        ensures gains { HasGained basis.now.rules.now basis.now.store.now K.exact
+            (either_of basis.now.rules.now.classes (place_at here.now) test.now yes.entry no.entry)
             (held (K.contents keeper.old) (K.memories keeper.old) self.old.found.entries self.old.work)
             (held (K.contents keeper.new) (K.memories keeper.new) self.new.found.entries self.new.work) }
     {
-        let value = self.value(keeper, rules, store, level, here, test, above)?;
+        let value = self.value(keeper, basis, level, here, test, above)?;
         let holds = truth_in(&value)?;
         match chosen(holds, yes, no) {
-            Some(body) => self.value(keeper, rules, store, level, here, body, above),
+            Some(body) => self.value(keeper, basis, level, here, body, above),
             None => Ok(Value::Bool(holds)),
         }
     }
@@ -513,8 +496,7 @@ impl Direct {
     fn call<K: Keeper>(
         &mut self,
         keeper: &mut K,
-        rules: &Rules,
-        store: &Store,
+        basis: &Basis<'_>,
         level: &mut Level,
         here: &Here,
         receiver: &Body,
@@ -522,23 +504,22 @@ impl Direct {
         passed: &[Body],
         above: usize,
     ) -> Result<Value, Stop>
-        requires idle { IsIdle store.now }
-        requires held { IsHeld rules.now (contents store.now)
+        requires { IsHeld basis.now.rules.now (contents basis.now.store.now)
             (held (K.contents keeper.old) (K.memories keeper.old) self.old.found.entries self.old.work) }
-        ensures come { IfOk result (λ v. HasCome rules.now (contents store.now)
+        ensures come { IfOk result (λ v. HasCome basis.now.rules.now (contents basis.now.store.now)
             (held (K.contents keeper.new) (K.memories keeper.new) self.new.found.entries self.new.work)
-            level.old level.new (call_of rules.now.classes (place_at here.now) receiver.now attribute passed.now) (value_view v)) }
-        ensures gains { HasGained rules.now store.now K.exact (call_of rules.now.classes (place_at here.now) receiver.now attribute passed.now)
+            level.old level.new (call_of basis.now.rules.now.classes (place_at here.now) receiver.now attribute passed.now) (value_view v)) }
+        ensures gains { HasGained basis.now.rules.now basis.now.store.now K.exact
+            (call_of basis.now.rules.now.classes (place_at here.now) receiver.now attribute passed.now)
             (held (K.contents keeper.old) (K.memories keeper.old) self.old.found.entries self.old.work)
             (held (K.contents keeper.new) (K.memories keeper.new) self.new.found.entries self.new.work) }
     {
-        let value = self.value(keeper, rules, store, level, here, receiver, above)?;
-        let arguments = self.passed(keeper, rules, store, level, here, passed, above)?;
+        let value = self.value(keeper, basis, level, here, receiver, above)?;
+        let arguments = self.passed(keeper, basis, level, here, passed, above)?;
         let node = node_of(&value)?;
         self.told(
             keeper,
-            rules,
-            store,
+            basis,
             level,
             Inst::new(node, attribute, arguments),
             above,
@@ -551,20 +532,19 @@ impl Direct {
     fn passed<K: Keeper>(
         &mut self,
         keeper: &mut K,
-        rules: &Rules,
-        store: &Store,
+        basis: &Basis<'_>,
         level: &mut Level,
         here: &Here,
         passed: &[Body],
         above: usize,
     ) -> Result<Arguments, Stop>
-        requires idle { IsIdle store.now }
-        requires held { IsHeld rules.now (contents store.now)
+        requires { IsHeld basis.now.rules.now (contents basis.now.store.now)
             (held (K.contents keeper.old) (K.memories keeper.old) self.old.found.entries self.old.work) }
-        ensures come { IfOk result (λ v. HasCome rules.now (contents store.now)
+        ensures come { IfOk result (λ v. HasCome basis.now.rules.now (contents basis.now.store.now)
             (held (K.contents keeper.new) (K.memories keeper.new) self.new.found.entries self.new.work)
-            level.old level.new (ev_all rules.now.classes (bodies_view passed.now) (place_at here.now)) (map value_view v)) }
-        ensures gains { HasGained rules.now store.now K.exact (ev_all rules.now.classes (bodies_view passed.now) (place_at here.now))
+            level.old level.new (ev_all basis.now.rules.now.classes (bodies_view passed.now) (place_at here.now)) (map value_view v)) }
+        ensures gains { HasGained basis.now.rules.now basis.now.store.now K.exact
+            (ev_all basis.now.rules.now.classes (bodies_view passed.now) (place_at here.now))
             (held (K.contents keeper.old) (K.memories keeper.old) self.old.found.entries self.old.work)
             (held (K.contents keeper.new) (K.memories keeper.new) self.new.found.entries self.new.work) }
     {
@@ -574,7 +554,7 @@ impl Direct {
         let mut values = Vec::new(self.alloc);
         let mut rest = passed;
         while let Some((argument, others)) = rest.split_first() {
-            let value = self.value(keeper, rules, store, level, here, argument, above)?;
+            let value = self.value(keeper, basis, level, here, argument, above)?;
             values.push(value)?;
             rest = others;
         }
@@ -587,8 +567,7 @@ impl Direct {
     fn over<K: Keeper>(
         &mut self,
         keeper: &mut K,
-        rules: &Rules,
-        store: &Store,
+        basis: &Basis<'_>,
         level: &mut Level,
         here: &Here,
         fold: Fold,
@@ -597,28 +576,27 @@ impl Direct {
         body: &Body,
         above: usize,
     ) -> Result<Value, Stop>
-        requires idle { IsIdle store.now }
-        requires held { IsHeld rules.now (contents store.now)
+        requires { IsHeld basis.now.rules.now (contents basis.now.store.now)
             (held (K.contents keeper.old) (K.memories keeper.old) self.old.found.entries self.old.work) }
-        ensures come { IfOk result (λ v. HasCome rules.now (contents store.now)
+        ensures come { IfOk result (λ v. HasCome basis.now.rules.now (contents basis.now.store.now)
             (held (K.contents keeper.new) (K.memories keeper.new) self.new.found.entries self.new.work)
-            level.old level.new (fold_of rules.now.classes (place_at here.now) fold of.now part body.now) (value_view v)) }
-        ensures gains { HasGained rules.now store.now K.exact (fold_of rules.now.classes (place_at here.now) fold of.now part body.now)
+            level.old level.new (fold_of basis.now.rules.now.classes (place_at here.now) fold of.now part body.now) (value_view v)) }
+        ensures gains { HasGained basis.now.rules.now basis.now.store.now K.exact
+            (fold_of basis.now.rules.now.classes (place_at here.now) fold of.now part body.now)
             (held (K.contents keeper.old) (K.memories keeper.old) self.old.found.entries self.old.work)
             (held (K.contents keeper.new) (K.memories keeper.new) self.new.found.entries self.new.work) }
     {
-        let value = self.value(keeper, rules, store, level, here, of, above)?;
+        let value = self.value(keeper, basis, level, here, of, above)?;
         let node = node_of(&value)?;
         level.reads.push(Loc::Slot(node, part))?;
         self.each(
             keeper,
-            rules,
-            store,
+            basis,
             level,
             here,
             fold,
             body,
-            store.children(node, part),
+            basis.store.children(node, part),
             above,
         )
     }
@@ -628,8 +606,7 @@ impl Direct {
     fn each<K: Keeper>(
         &mut self,
         keeper: &mut K,
-        rules: &Rules,
-        store: &Store,
+        basis: &Basis<'_>,
         level: &mut Level,
         here: &Here,
         fold: Fold,
@@ -637,13 +614,13 @@ impl Direct {
         nodes: &[Node],
         above: usize,
     ) -> Result<Value, Stop>
-        requires idle { IsIdle store.now }
-        requires held { IsHeld rules.now (contents store.now)
+        requires { IsHeld basis.now.rules.now (contents basis.now.store.now)
             (held (K.contents keeper.old) (K.memories keeper.old) self.old.found.entries self.old.work) }
-        ensures come { IfOk result (λ v. HasCome rules.now (contents store.now)
+        ensures come { IfOk result (λ v. HasCome basis.now.rules.now (contents basis.now.store.now)
             (held (K.contents keeper.new) (K.memories keeper.new) self.new.found.entries self.new.work)
-            level.old level.new (over rules.now.classes fold (body_view body.now) (place_at here.now) nodes.now) (value_view v)) }
-        ensures gains { HasGained rules.now store.now K.exact (over rules.now.classes fold (body_view body.now) (place_at here.now) nodes.now)
+            level.old level.new (over basis.now.rules.now.classes fold (body_view body.now) (place_at here.now) nodes.now) (value_view v)) }
+        ensures gains { HasGained basis.now.rules.now basis.now.store.now K.exact
+            (over basis.now.rules.now.classes fold (body_view body.now) (place_at here.now) nodes.now)
             (held (K.contents keeper.old) (K.memories keeper.old) self.old.found.entries self.old.work)
             (held (K.contents keeper.new) (K.memories keeper.new) self.new.found.entries self.new.work) }
     {
@@ -652,7 +629,7 @@ impl Direct {
         let mut rest = nodes;
         while let Some((node, others)) = rest.split_first() {
             inside.bound.push(*node)?;
-            let value = self.value(keeper, rules, store, level, &inside, body, above)?;
+            let value = self.value(keeper, basis, level, &inside, body, above)?;
             let _ = inside.bound.pop();
             let next = settle(going, *node, &value)?;
             match next {

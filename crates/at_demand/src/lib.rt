@@ -5,12 +5,12 @@
 //! find that is to be kept, and which entries without a value come before; `Sparing` what an exact keeper has and how
 //! much comes, `Advancing` what an evaluation comes to and `Answered` a question, `Touched` and `Spared` what an edit leaves,
 //! `Called` the same by paths. `Inner` is what instances are told that are evaluated in one go, and what comes of it, `InParts` the same of an
-//! expression, part by part, and `Traces` when what can be kept again with no evaluation is right. Of questions in turns, `Turns` shows one in the words of `at_model`, `Attempts` is what
+//! expression, part by part, and `Traces` when what can be kept again with no evaluation is right. What a value may carry: `OneProof`. Of questions in turns, `Turns` shows one in the words of `at_model`, `Attempts` is what
 //! one try comes to, `ChainSteps` what that does to the chain, `KeptTrials` the trials that stay while turns follow
 //! each other.
 //!
-//! **Where to begin:** `Demand::answer` in `demand.rt`: a question is answered in one go by `direct.rt`, a recursion, or where that gives up
-//! by all turns of a question, which is `question.rt` and `demand/turning.rt`, with evaluations of `evaluation.rt`. It holds nothing of
+//! **Where to begin:** `Demand::answer` in `demand.rt`: a question is answered in one go by `direct.rt`, a recursion to which rules and tree are
+//! lent as one (`basis.rt`), or where that gives up by all turns of a question, which is `question.rt` and `demand/turning.rt`, with evaluations of `evaluation.rt`. It holds nothing of
 //! rules or tree between turns. What many kept values rest on is gathered in `gathering.rt` and stands once by `demand/shared.rt`.
 //!
 //! **What it keeps true:** what is kept is right, and, with an exact keeper, spare; `laws.rt` and `turning_laws.rt`
@@ -18,6 +18,7 @@
 #![tactic(auto)]
 
 mod answer;
+mod basis;
 mod demand;
 mod direct;
 mod evaluation;

@@ -4,7 +4,7 @@ ghost use Rattle.std.specs.Prelude.{◌≡◌, IfOk, IfSome, IsSome, OnErr, OnOk
 ghost use Rattle.std.specs.Option.{option_map};
 ghost use Rattle.at_model.specs.Meaning.{Leads};
 ghost use Rattle.at_model.specs.Rules.{is_lazy};
-ghost use Rattle.at_store.specs.Shown.{IsIdle, contents};
+ghost use Rattle.at_store.specs.Shown.{contents};
 ghost use Rattle.at_body.specs.Values.{value_view};
 ghost use Rattle.at_body.specs.Same.{same_instance};
 ghost use Rattle.indexmap.specs.IndexMap.{insert_entry};
@@ -13,15 +13,17 @@ ghost use Rattle.at_cache.specs.Traced.{PutsTrace};
 ghost use Rattle.at_cache.specs.declared.keeper.Order.TheVariants as order_code;
 ghost use Rattle.at_demand.specs.Known.{kept_values, meaning};
 ghost use Rattle.at_demand.specs.Inner.{AreKnown, AreLazy, Gains, HasRecalled, HasTold, IsEvaluated, IsOneOf, known_by, remembered};
+ghost use Rattle.at_demand.specs.InParts.{IsHeld, held};
 ghost use Rattle.at_demand.specs.Sparing.{Counts};
-ghost use Rattle.at_demand.specs.Traces.{AreJustified, StayJustified};
+ghost use Rattle.at_demand.specs.Traces.{StayJustified};
 
 use super::{Direct, Level};
+use crate::basis::Basis;
 use at_apply::Stop;
 use at_body::{Inst, Value};
 use at_cache::{Keeper, Order, Put};
 use at_rules::{AttrId, Rules};
-use at_store::{Loc, Store};
+use at_store::Loc;
 use indexmap::IndexMap;
 use std::alloc::AllocError;
 
@@ -37,20 +39,18 @@ impl Direct {
     pub(super) fn in_the_way<K: Keeper>(
         &self,
         keeper: &K,
-        rules: &Rules,
-        _store: &Store,
+        basis: &Basis<'_>,
         needed: &Inst,
     ) -> Result<Option<Inst>, AllocError>
-        requires idle { IsIdle _store.now }
-        requires known { AreKnown rules.now (contents _store.now) (K.contents keeper.now) self.now.found.entries }
-        requires justified { AreJustified rules.now (contents _store.now) (K.memories keeper.now) }
-        ensures lazy { IfOk result (λ o. IfSome o (λ i. is_lazy rules.now i.attribute ≡ true)) }
-        ensures led { IfOk result (λ o. IfSome o (Leads (contents _store.now) (meaning rules.now) needed.now)) }
+        requires { IsHeld basis.now.rules.now (contents basis.now.store.now)
+            (held (K.contents keeper.now) (K.memories keeper.now) self.now.found.entries self.now.work) }
+        ensures lazy { IfOk result (λ o. IfSome o (λ i. is_lazy basis.now.rules.now i.attribute ≡ true)) }
+        ensures led { IfOk result (λ o. IfSome o (Leads (contents basis.now.store.now) (meaning basis.now.rules.now) needed.now)) }
     {
         let Some(other) = keeper.blocker(needed) else {
             return Ok(None);
         };
-        if !rules.is_lazy(other.attribute()) {
+        if !basis.rules.is_lazy(other.attribute()) {
             return Ok(None);
         }
         Ok(Some(other.copy(self.alloc)?))
@@ -60,40 +60,31 @@ impl Direct {
     pub(super) fn keep_again<K: Keeper>(
         &mut self,
         keeper: &mut K,
-        rules: &Rules,
-        store: &Store,
+        basis: &Basis<'_>,
         level: &mut Level,
         needed: &Inst,
     ) -> Result<Option<Value>, AllocError>
-        requires idle { IsIdle store.now }
-        requires known { AreKnown rules.now (contents store.now) (K.contents keeper.old) self.old.found.entries }
-        requires justified { AreJustified rules.now (contents store.now) (K.memories keeper.old) }
-        ensures recalled { IfOk result (HasRecalled rules.now (contents store.now) (known_by (K.contents keeper.new) self.new.found.entries)
+        requires { IsHeld basis.now.rules.now (contents basis.now.store.now)
+            (held (K.contents keeper.old) (K.memories keeper.old) self.old.found.entries self.old.work) }
+        ensures recalled { IfOk result (HasRecalled basis.now.rules.now (contents basis.now.store.now) (known_by (K.contents keeper.new) self.new.found.entries)
             level.old level.new needed.now) }
-        ensures gains { Gains rules.now store.now K.exact needed.now (K.contents keeper.old) (K.contents keeper.new) self.old.found.entries
+        ensures gains { Gains basis.now.rules.now basis.now.store.now K.exact needed.now (K.contents keeper.old) (K.contents keeper.new) self.old.found.entries
             self.new.found.entries self.old.work self.new.work }
-        ensures traces { StayJustified rules.now store.now needed.now (K.memories keeper.old) (K.memories keeper.new) }
+        ensures traces { StayJustified basis.now.rules.now basis.now.store.now needed.now (K.memories keeper.old) (K.memories keeper.new) }
     {
-        if !self.have_settled(keeper, rules, store, needed) {
+        if !self.have_settled(keeper, basis, needed) {
             return Ok(None);
         }
-        self.recall(keeper, rules, store, level, needed)
+        self.recall(keeper, basis, level, needed)
     }
 
     // Whether anything was kept again for the instance, which is counted.
-    fn have_settled<K: Keeper>(
-        &mut self,
-        keeper: &mut K,
-        rules: &Rules,
-        store: &Store,
-        needed: &Inst,
-    ) -> bool
-        requires idle { IsIdle store.now }
-        requires known { AreKnown rules.now (contents store.now) (K.contents keeper.old) self.old.found.entries }
-        requires justified { AreJustified rules.now (contents store.now) (K.memories keeper.old) }
-        ensures gains { Gains rules.now store.now K.exact needed.now (K.contents keeper.old) (K.contents keeper.new) self.old.found.entries
+    fn have_settled<K: Keeper>(&mut self, keeper: &mut K, basis: &Basis<'_>, needed: &Inst) -> bool
+        requires { IsHeld basis.now.rules.now (contents basis.now.store.now)
+            (held (K.contents keeper.old) (K.memories keeper.old) self.old.found.entries self.old.work) }
+        ensures gains { Gains basis.now.rules.now basis.now.store.now K.exact needed.now (K.contents keeper.old) (K.contents keeper.new) self.old.found.entries
             self.new.found.entries self.old.work self.new.work }
-        ensures traces { StayJustified rules.now store.now needed.now (K.memories keeper.old) (K.memories keeper.new) }
+        ensures traces { StayJustified basis.now.rules.now basis.now.store.now needed.now (K.memories keeper.old) (K.memories keeper.new) }
     {
         let before = self.work;
         let later = keeper.settle(needed, before);
@@ -105,16 +96,15 @@ impl Direct {
     pub(super) fn recall<K: Keeper>(
         &self,
         keeper: &K,
-        rules: &Rules,
-        _store: &Store,
+        basis: &Basis<'_>,
         level: &mut Level,
         needed: &Inst,
     ) -> Result<Option<Value>, AllocError>
-        requires known { AreKnown rules.now (contents _store.now) (K.contents keeper.now) self.now.found.entries }
-        ensures { IfOk result (HasRecalled rules.now (contents _store.now) (known_by (K.contents keeper.now) self.now.found.entries) level.old
-            level.new needed.now) }
+        requires { AreKnown basis.now.rules.now (contents basis.now.store.now) (K.contents keeper.now) self.now.found.entries }
+        ensures { IfOk result (HasRecalled basis.now.rules.now (contents basis.now.store.now) (known_by (K.contents keeper.now) self.now.found.entries)
+            level.old level.new needed.now) }
     {
-        let Some(value) = self.value_of(keeper, rules, needed)? else {
+        let Some(value) = self.value_of(keeper, basis.rules, needed)? else {
             return Ok(None);
         };
         level.uses.push(needed.copy(self.alloc)?)?;
@@ -151,29 +141,27 @@ impl Direct {
     pub(super) fn keep<K: Keeper>(
         &mut self,
         keeper: &mut K,
-        rules: &Rules,
-        store: &Store,
+        basis: &Basis<'_>,
         level: &mut Level,
         below: &Level,
         needed: Inst,
         value: &Value,
     ) -> Result<(), Stop>
-        requires idle { IsIdle store.now }
-        requires lazy { is_lazy rules.now needed.attribute ≡ true }
-        requires known { AreKnown rules.now (contents store.now) (K.contents keeper.old) self.old.found.entries }
-        requires justified { AreJustified rules.now (contents store.now) (K.memories keeper.old) }
-        requires come { IsEvaluated rules.now (contents store.now) (known_by (K.contents keeper.old) self.old.found.entries) needed
+        requires lazy { is_lazy basis.now.rules.now needed.attribute ≡ true }
+        requires held { IsHeld basis.now.rules.now (contents basis.now.store.now)
+            (held (K.contents keeper.old) (K.memories keeper.old) self.old.found.entries self.old.work) }
+        requires come { IsEvaluated basis.now.rules.now (contents basis.now.store.now) (known_by (K.contents keeper.old) self.old.found.entries) needed
             (value_view value.now) below.now.reads below.now.uses.items }
-        ensures told { OnOk result (HasTold rules.now (contents store.now) (known_by (K.contents keeper.new) self.new.found.entries) level.old
-            level.new needed (value_view value.now)) }
-        ensures gains { Gains rules.now store.now K.exact needed (K.contents keeper.old) (K.contents keeper.new) self.old.found.entries
+        ensures told { OnOk result (HasTold basis.now.rules.now (contents basis.now.store.now) (known_by (K.contents keeper.new) self.new.found.entries)
+            level.old level.new needed (value_view value.now)) }
+        ensures gains { Gains basis.now.rules.now basis.now.store.now K.exact needed (K.contents keeper.old) (K.contents keeper.new) self.old.found.entries
             self.new.found.entries self.old.work self.new.work }
-        ensures traces { StayJustified rules.now store.now needed (K.memories keeper.old) (K.memories keeper.new) }
+        ensures traces { StayJustified basis.now.rules.now basis.now.store.now needed (K.memories keeper.old) (K.memories keeper.new) }
     {
         if keeper.stands(&needed) {
             return Err(Stop::GivesUp);
         }
-        let order = order_of(rules, below.uses.as_slice());
+        let order = order_of(basis.rules, below.uses.as_slice());
         let put = self.put(keeper, &needed, value, below, order)?;
         match put {
             Put::Kept => {
@@ -220,26 +208,24 @@ impl Direct {
     pub(super) fn remember<K: Keeper>(
         &mut self,
         keeper: &mut K,
-        rules: &Rules,
-        store: &Store,
+        basis: &Basis<'_>,
         level: &mut Level,
         below: &Level,
         needed: Inst,
         value: &Value,
     ) -> Result<(), Stop>
-        requires idle { IsIdle store.now }
-        requires lazy { is_lazy rules.now needed.attribute ≡ false }
-        requires known { AreKnown rules.now (contents store.now) (K.contents keeper.old) self.old.found.entries }
-        requires justified { AreJustified rules.now (contents store.now) (K.memories keeper.old) }
-        requires come { IsEvaluated rules.now (contents store.now) (known_by (K.contents keeper.old) self.old.found.entries) needed
+        requires lazy { is_lazy basis.now.rules.now needed.attribute ≡ false }
+        requires held { IsHeld basis.now.rules.now (contents basis.now.store.now)
+            (held (K.contents keeper.old) (K.memories keeper.old) self.old.found.entries self.old.work) }
+        requires come { IsEvaluated basis.now.rules.now (contents basis.now.store.now) (known_by (K.contents keeper.old) self.old.found.entries) needed
             (value_view value.now) below.now.reads below.now.uses.items }
-        ensures told { OnOk result (HasTold rules.now (contents store.now) (known_by (K.contents keeper.new) self.new.found.entries) level.old
-            level.new needed (value_view value.now)) }
-        ensures gains { Gains rules.now store.now K.exact needed (K.contents keeper.old) (K.contents keeper.new) self.old.found.entries
+        ensures told { OnOk result (HasTold basis.now.rules.now (contents basis.now.store.now) (known_by (K.contents keeper.new) self.new.found.entries)
+            level.old level.new needed (value_view value.now)) }
+        ensures gains { Gains basis.now.rules.now basis.now.store.now K.exact needed (K.contents keeper.old) (K.contents keeper.new) self.old.found.entries
             self.new.found.entries self.old.work self.new.work }
-        ensures traces { StayJustified rules.now store.now needed (K.memories keeper.old) (K.memories keeper.new) }
+        ensures traces { StayJustified basis.now.rules.now basis.now.store.now needed (K.memories keeper.old) (K.memories keeper.new) }
     {
-        self.stand(keeper, rules, store, &needed, value, below)?;
+        self.stand(keeper, basis, &needed, value, below)?;
         self.see(needed.attribute())?;
         insert(&mut self.found, needed.copy(self.alloc)?, value.copy()?)?;
         level.uses.push(needed)?;
@@ -250,23 +236,21 @@ impl Direct {
     fn stand<K: Keeper>(
         &mut self,
         keeper: &mut K,
-        rules: &Rules,
-        store: &Store,
+        basis: &Basis<'_>,
         needed: &Inst,
         value: &Value,
         below: &Level,
     ) -> Result<(), Stop>
-        requires idle { IsIdle store.now }
-        requires lazy { is_lazy rules.now needed.now.attribute ≡ false }
-        requires known { AreKnown rules.now (contents store.now) (K.contents keeper.old) self.old.found.entries }
-        requires justified { AreJustified rules.now (contents store.now) (K.memories keeper.old) }
-        requires come { IsEvaluated rules.now (contents store.now) (known_by (K.contents keeper.old) self.old.found.entries) needed.now
+        requires lazy { is_lazy basis.now.rules.now needed.now.attribute ≡ false }
+        requires held { IsHeld basis.now.rules.now (contents basis.now.store.now)
+            (held (K.contents keeper.old) (K.memories keeper.old) self.old.found.entries self.old.work) }
+        requires come { IsEvaluated basis.now.rules.now (contents basis.now.store.now) (known_by (K.contents keeper.old) self.old.found.entries) needed.now
             (value_view value.now) below.now.reads below.now.uses.items }
         ensures stands { OnOk result (IsSome (K.contents keeper.new needed.now)) }
         ensures found { self.new.found.entries ≡ self.old.found.entries }
-        ensures gains { Gains rules.now store.now K.exact needed.now (K.contents keeper.old) (K.contents keeper.new) self.old.found.entries
+        ensures gains { Gains basis.now.rules.now basis.now.store.now K.exact needed.now (K.contents keeper.old) (K.contents keeper.new) self.old.found.entries
             self.new.found.entries self.old.work self.new.work }
-        ensures traces { StayJustified rules.now store.now needed.now (K.memories keeper.old) (K.memories keeper.new) }
+        ensures traces { StayJustified basis.now.rules.now basis.now.store.now needed.now (K.memories keeper.old) (K.memories keeper.new) }
     {
         if keeper.stands(needed) {
             return Ok(());
@@ -315,9 +299,7 @@ pub fn few_of<K: Keeper>(keeper: &K) -> usize {
 
 // Whether an evaluation was a small one that looked at the locations behind the first so many, in all: a fold goes over the elements of a
 // component that it looked at.
-pub fn is_small(store: &Store, reads: &[Loc], before: usize, few: usize) -> bool
-    requires idle { IsIdle store.now }
-{
+pub fn is_small(basis: &Basis<'_>, reads: &[Loc], before: usize, few: usize) -> bool {
     if reads.len() < before {
         return true;
     }
@@ -325,17 +307,15 @@ pub fn is_small(store: &Store, reads: &[Loc], before: usize, few: usize) -> bool
     if few < own.len() {
         return false;
     }
-    elements_in(store, own) <= few
+    elements_in(basis, own) <= few
 }
 
 // How many elements there are in the components among the locations.
-fn elements_in(store: &Store, reads: &[Loc]) -> usize
-    requires idle { IsIdle store.now }
-{
+fn elements_in(basis: &Basis<'_>, reads: &[Loc]) -> usize {
     let mut elements = 0_usize;
     for loc in reads {
         if let Loc::Slot(node, part) = loc {
-            elements = elements.saturating_add(store.children(*node, *part).len());
+            elements = elements.saturating_add(basis.store.children(*node, *part).len());
         }
     }
     elements

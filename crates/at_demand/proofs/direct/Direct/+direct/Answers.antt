@@ -7,7 +7,7 @@ use Rattle.at_store.specs.Shown.{contents}
 use Rattle.at_body.specs.Values.{value_view}
 use Rattle.at_body.specs.declared.value.Value.{Value as ValueCode}
 use Rattle.at_demand.specs.declared.direct.Level.{Level}
-use Rattle.at_demand.specs.Inner.{Gains, HasRecalled, HasTold, IsEvaluated, known_by}
+use Rattle.at_demand.specs.Inner.{AreKnown, Gains, HasRecalled, HasTold, IsEvaluated, known_by}
 use Rattle.at_demand.specs.InParts.{HasCome, Held, held, values_in}
 use Rattle.at_demand.specs.Known.{meaning}
 use Rattle.at_demand.proofs.of_nesting.Asked.{evaluated_behind, evaluated_in, inner_told, reads_before, reads_longer, told_alike, uses_before, uses_longer, gains_evaluated, traced_evaluated}
@@ -26,174 +26,195 @@ use Rattle.at_demand.proofs.of_parts.Looping.{bound_at, each_all, each_ends, eac
 use Rattle.at_demand.proofs.direct.Direct.+direct.Goals as goal
 use Rattle.at_body.specs.declared.value.Value.TheVariants as value
 
+pub told-recall-requires : goal.told-recall-requires
+told-recall-requires g n c = c.requires.known
+
+pub afresh-keep-requires-clause-held : goal.afresh-keep-requires-clause-held
+afresh-keep-requires-clause-held g n c = record {
+  known = c.evaluate.ensures.gains.known;
+  justified = c.evaluate.ensures.traces.justified;
+}
+
+pub inner-remember-requires-clause-held : goal.inner-remember-requires-clause-held
+inner-remember-requires-clause-held g n c = record {
+  known = c.evaluate.ensures.gains.known;
+  justified = c.evaluate.ensures.traces.justified;
+}
+
+pub verify-in_the_way-requires : goal.verify-in_the_way-requires
+verify-in_the_way-requires g n c = record {
+  known = c.keep_again.ensures.gains.known;
+  justified = c.keep_again.ensures.traces.justified;
+}
+
 pub verify-loop-init : goal.verify-loop-init
 verify-loop-init g n c = record {
-  gains = gains_none c.args.rules.now c.args.store.now g.K.Keeper.exact c.args.needed.now (g.K.Keeper.contents
+  gains = gains_none c.args.basis.now.rules.now c.args.basis.now.store.now g.K.Keeper.exact c.args.needed.now (g.K.Keeper.contents
       c.args.keeper.now) c.args.self.now.found.entries c.args.self.now.work c.args.self.now.few c.requires.known;
-  traces = traced_same c.args.rules.now c.args.store.now c.args.needed.now (g.K.Keeper.memories c.args.keeper.now)
+  traces = traced_same c.args.basis.now.rules.now c.args.basis.now.store.now c.args.needed.now (g.K.Keeper.memories c.args.keeper.now)
       c.requires.justified;
   level = refl;
 }
 
-pub verify-keep_again-requires-clause-known : goal.verify-keep_again-requires-clause-known
-verify-keep_again-requires-clause-known g n c = c.loop.invariant.gains.known
-
-pub verify-keep_again-requires-clause-justified : goal.verify-keep_again-requires-clause-justified
-verify-keep_again-requires-clause-justified g n c = c.loop.invariant.traces.justified
+pub verify-keep_again-requires : goal.verify-keep_again-requires
+verify-keep_again-requires g n c = record {
+  known = c.loop.invariant.gains.known;
+  justified = c.loop.invariant.traces.justified;
+}
 
 pub verify-returns-in_err-again-clause-gains : goal.verify-returns-in_err-again-clause-gains
 verify-returns-in_err-again-clause-gains g n c =
-    gains_then c.args.rules.now c.args.store.now g.K.Keeper.exact c.args.needed.now (g.K.Keeper.contents
+    gains_then c.args.basis.now.rules.now c.args.basis.now.store.now g.K.Keeper.exact c.args.needed.now (g.K.Keeper.contents
     c.args.keeper.now) (g.K.Keeper.contents c.loop.keeper) (g.K.Keeper.contents c.keep_again.new.keeper)
     c.args.self.now.found.entries c.loop.self.found.entries c.keep_again.new.self.found.entries
     c.args.self.now.work c.loop.self.work c.keep_again.new.self.work c.loop.invariant.gains c.keep_again.ensures.gains
 
 pub verify-returns-in_err-again-clause-traces : goal.verify-returns-in_err-again-clause-traces
 verify-returns-in_err-again-clause-traces g n c =
-    traced_then c.args.rules.now c.args.store.now c.args.needed.now (g.K.Keeper.memories c.args.keeper.now)
+    traced_then c.args.basis.now.rules.now c.args.basis.now.store.now c.args.needed.now (g.K.Keeper.memories c.args.keeper.now)
     (g.K.Keeper.memories c.loop.keeper) (g.K.Keeper.memories c.keep_again.new.keeper) c.loop.invariant.traces
     c.keep_again.ensures.traces
 
 pub verify-returns-in-Some-clause-gains : goal.verify-returns-in-Some-clause-gains
 verify-returns-in-Some-clause-gains g n c =
-    gains_then c.args.rules.now c.args.store.now g.K.Keeper.exact c.args.needed.now (g.K.Keeper.contents
+    gains_then c.args.basis.now.rules.now c.args.basis.now.store.now g.K.Keeper.exact c.args.needed.now (g.K.Keeper.contents
     c.args.keeper.now) (g.K.Keeper.contents c.loop.keeper) (g.K.Keeper.contents c.keep_again.new.keeper)
     c.args.self.now.found.entries c.loop.self.found.entries c.keep_again.new.self.found.entries
     c.args.self.now.work c.loop.self.work c.keep_again.new.self.work c.loop.invariant.gains c.keep_again.ensures.gains
 
 pub verify-returns-in-Some-clause-traces : goal.verify-returns-in-Some-clause-traces
 verify-returns-in-Some-clause-traces g n c =
-    traced_then c.args.rules.now c.args.store.now c.args.needed.now (g.K.Keeper.memories c.args.keeper.now)
+    traced_then c.args.basis.now.rules.now c.args.basis.now.store.now c.args.needed.now (g.K.Keeper.memories c.args.keeper.now)
     (g.K.Keeper.memories c.loop.keeper) (g.K.Keeper.memories c.keep_again.new.keeper) c.loop.invariant.traces
     c.keep_again.ensures.traces
 
 pub verify-returns-in_err-other-clause-gains : goal.verify-returns-in_err-other-clause-gains
 verify-returns-in_err-other-clause-gains g n c =
-    gains_then c.args.rules.now c.args.store.now g.K.Keeper.exact c.args.needed.now (g.K.Keeper.contents
+    gains_then c.args.basis.now.rules.now c.args.basis.now.store.now g.K.Keeper.exact c.args.needed.now (g.K.Keeper.contents
     c.args.keeper.now) (g.K.Keeper.contents c.loop.keeper) (g.K.Keeper.contents c.keep_again.new.keeper)
     c.args.self.now.found.entries c.loop.self.found.entries c.keep_again.new.self.found.entries
     c.args.self.now.work c.loop.self.work c.keep_again.new.self.work c.loop.invariant.gains c.keep_again.ensures.gains
 
 pub verify-returns-in_err-other-clause-traces : goal.verify-returns-in_err-other-clause-traces
 verify-returns-in_err-other-clause-traces g n c =
-    traced_then c.args.rules.now c.args.store.now c.args.needed.now (g.K.Keeper.memories c.args.keeper.now)
+    traced_then c.args.basis.now.rules.now c.args.basis.now.store.now c.args.needed.now (g.K.Keeper.memories c.args.keeper.now)
     (g.K.Keeper.memories c.loop.keeper) (g.K.Keeper.memories c.keep_again.new.keeper) c.loop.invariant.traces
     c.keep_again.ensures.traces
 
 pub verify-returns-in_default-2-clause-gains : goal.verify-returns-in_default-2-clause-gains
 verify-returns-in_default-2-clause-gains g n c =
-    gains_then c.args.rules.now c.args.store.now g.K.Keeper.exact c.args.needed.now (g.K.Keeper.contents
+    gains_then c.args.basis.now.rules.now c.args.basis.now.store.now g.K.Keeper.exact c.args.needed.now (g.K.Keeper.contents
     c.args.keeper.now) (g.K.Keeper.contents c.loop.keeper) (g.K.Keeper.contents c.keep_again.new.keeper)
     c.args.self.now.found.entries c.loop.self.found.entries c.keep_again.new.self.found.entries
     c.args.self.now.work c.loop.self.work c.keep_again.new.self.work c.loop.invariant.gains c.keep_again.ensures.gains
 
 pub verify-returns-in_default-2-clause-traces : goal.verify-returns-in_default-2-clause-traces
 verify-returns-in_default-2-clause-traces g n c =
-    traced_then c.args.rules.now c.args.store.now c.args.needed.now (g.K.Keeper.memories c.args.keeper.now)
+    traced_then c.args.basis.now.rules.now c.args.basis.now.store.now c.args.needed.now (g.K.Keeper.memories c.args.keeper.now)
     (g.K.Keeper.memories c.loop.keeper) (g.K.Keeper.memories c.keep_again.new.keeper) c.loop.invariant.traces
     c.keep_again.ensures.traces
 
 pub verify-returns-in_err-afresh-clause-gains : goal.verify-returns-in_err-afresh-clause-gains
 verify-returns-in_err-afresh-clause-gains g n c =
-    gains_then c.args.rules.now c.args.store.now g.K.Keeper.exact c.args.needed.now (g.K.Keeper.contents
+    gains_then c.args.basis.now.rules.now c.args.basis.now.store.now g.K.Keeper.exact c.args.needed.now (g.K.Keeper.contents
     c.args.keeper.now) (g.K.Keeper.contents c.keep_again.new.keeper) (g.K.Keeper.contents c.afresh.new.keeper)
     c.args.self.now.found.entries c.keep_again.new.self.found.entries c.afresh.new.self.found.entries
     c.args.self.now.work c.keep_again.new.self.work c.afresh.new.self.work
-    (gains_then c.args.rules.now c.args.store.now g.K.Keeper.exact c.args.needed.now (g.K.Keeper.contents
+    (gains_then c.args.basis.now.rules.now c.args.basis.now.store.now g.K.Keeper.exact c.args.needed.now (g.K.Keeper.contents
     c.args.keeper.now) (g.K.Keeper.contents c.loop.keeper) (g.K.Keeper.contents c.keep_again.new.keeper)
     c.args.self.now.found.entries c.loop.self.found.entries c.keep_again.new.self.found.entries
     c.args.self.now.work c.loop.self.work c.keep_again.new.self.work c.loop.invariant.gains c.keep_again.ensures.gains)
-    (gains_up c.args.rules.now c.args.store.now g.K.Keeper.exact c.requires.idle c.args.needed.now c.in-Some-2.other
+    (gains_up c.args.basis.now.rules.now c.args.basis.now.store.now g.K.Keeper.exact c.args.basis.now.idle c.args.needed.now c.in-Some-2.other
     (g.K.Keeper.contents c.keep_again.new.keeper) (g.K.Keeper.contents c.afresh.new.keeper)
     c.keep_again.new.self.found.entries c.afresh.new.self.found.entries c.keep_again.new.self.work
-    c.afresh.new.self.work (subst (λ (o : Option (Instance ℕ)). IfSome o (Leads (contents c.args.store.now)
-    (meaning c.args.rules.now) c.args.needed.now)) c.in-Some-2.is c.in_ok-other.ensures.led)
-    (subst (λ (f : Found). Gains c.args.rules.now c.args.store.now g.K.Keeper.exact c.in-Some-2.other
+    c.afresh.new.self.work (subst (λ (o : Option (Instance ℕ)). IfSome o (Leads (contents c.args.basis.now.store.now)
+    (meaning c.args.basis.now.rules.now) c.args.needed.now)) c.in-Some-2.is c.in_ok-other.ensures.led)
+    (subst (λ (f : Found). Gains c.args.basis.now.rules.now c.args.basis.now.store.now g.K.Keeper.exact c.in-Some-2.other
     (g.K.Keeper.contents c.keep_again.new.keeper) (g.K.Keeper.contents c.afresh.new.keeper) f
     c.afresh.new.self.found.entries c.keep_again.new.self.work c.afresh.new.self.work) c.level-aside.ensures.found
-    (subst (λ (w : ℕ). Gains c.args.rules.now c.args.store.now g.K.Keeper.exact c.in-Some-2.other
+    (subst (λ (w : ℕ). Gains c.args.basis.now.rules.now c.args.basis.now.store.now g.K.Keeper.exact c.in-Some-2.other
     (g.K.Keeper.contents c.keep_again.new.keeper) (g.K.Keeper.contents c.afresh.new.keeper)
     c.level-aside.new.self.found.entries c.afresh.new.self.found.entries w c.afresh.new.self.work)
     c.level-aside.ensures.work c.afresh.ensures.gains)))
 
 pub verify-returns-in_err-afresh-clause-traces : goal.verify-returns-in_err-afresh-clause-traces
 verify-returns-in_err-afresh-clause-traces g n c =
-    traced_then c.args.rules.now c.args.store.now c.args.needed.now (g.K.Keeper.memories c.args.keeper.now)
+    traced_then c.args.basis.now.rules.now c.args.basis.now.store.now c.args.needed.now (g.K.Keeper.memories c.args.keeper.now)
     (g.K.Keeper.memories c.keep_again.new.keeper) (g.K.Keeper.memories c.afresh.new.keeper)
-    (traced_then c.args.rules.now c.args.store.now c.args.needed.now (g.K.Keeper.memories c.args.keeper.now)
+    (traced_then c.args.basis.now.rules.now c.args.basis.now.store.now c.args.needed.now (g.K.Keeper.memories c.args.keeper.now)
     (g.K.Keeper.memories c.loop.keeper) (g.K.Keeper.memories c.keep_again.new.keeper) c.loop.invariant.traces
     c.keep_again.ensures.traces)
-    (traced_up c.args.rules.now c.args.store.now c.requires.idle c.args.needed.now c.in-Some-2.other
-    (g.K.Keeper.memories c.keep_again.new.keeper) (g.K.Keeper.memories c.afresh.new.keeper) (subst (λ (o : Option (Instance ℕ)). IfSome o (Leads (contents c.args.store.now)
-    (meaning c.args.rules.now) c.args.needed.now)) c.in-Some-2.is c.in_ok-other.ensures.led) c.afresh.ensures.traces)
+    (traced_up c.args.basis.now.rules.now c.args.basis.now.store.now c.args.basis.now.idle c.args.needed.now c.in-Some-2.other
+    (g.K.Keeper.memories c.keep_again.new.keeper) (g.K.Keeper.memories c.afresh.new.keeper) (subst (λ (o : Option (Instance ℕ)). IfSome o (Leads (contents c.args.basis.now.store.now)
+    (meaning c.args.basis.now.rules.now) c.args.needed.now)) c.in-Some-2.is c.in_ok-other.ensures.led) c.afresh.ensures.traces)
 
 pub verify-returns-in_err-push-clause-gains : goal.verify-returns-in_err-push-clause-gains
 verify-returns-in_err-push-clause-gains g n c =
-    gains_then c.args.rules.now c.args.store.now g.K.Keeper.exact c.args.needed.now (g.K.Keeper.contents
+    gains_then c.args.basis.now.rules.now c.args.basis.now.store.now g.K.Keeper.exact c.args.needed.now (g.K.Keeper.contents
     c.args.keeper.now) (g.K.Keeper.contents c.keep_again.new.keeper) (g.K.Keeper.contents c.afresh.new.keeper)
     c.args.self.now.found.entries c.keep_again.new.self.found.entries c.afresh.new.self.found.entries
     c.args.self.now.work c.keep_again.new.self.work c.afresh.new.self.work
-    (gains_then c.args.rules.now c.args.store.now g.K.Keeper.exact c.args.needed.now (g.K.Keeper.contents
+    (gains_then c.args.basis.now.rules.now c.args.basis.now.store.now g.K.Keeper.exact c.args.needed.now (g.K.Keeper.contents
     c.args.keeper.now) (g.K.Keeper.contents c.loop.keeper) (g.K.Keeper.contents c.keep_again.new.keeper)
     c.args.self.now.found.entries c.loop.self.found.entries c.keep_again.new.self.found.entries
     c.args.self.now.work c.loop.self.work c.keep_again.new.self.work c.loop.invariant.gains c.keep_again.ensures.gains)
-    (gains_up c.args.rules.now c.args.store.now g.K.Keeper.exact c.requires.idle c.args.needed.now c.in-Some-2.other
+    (gains_up c.args.basis.now.rules.now c.args.basis.now.store.now g.K.Keeper.exact c.args.basis.now.idle c.args.needed.now c.in-Some-2.other
     (g.K.Keeper.contents c.keep_again.new.keeper) (g.K.Keeper.contents c.afresh.new.keeper)
     c.keep_again.new.self.found.entries c.afresh.new.self.found.entries c.keep_again.new.self.work
-    c.afresh.new.self.work (subst (λ (o : Option (Instance ℕ)). IfSome o (Leads (contents c.args.store.now)
-    (meaning c.args.rules.now) c.args.needed.now)) c.in-Some-2.is c.in_ok-other.ensures.led)
-    (subst (λ (f : Found). Gains c.args.rules.now c.args.store.now g.K.Keeper.exact c.in-Some-2.other
+    c.afresh.new.self.work (subst (λ (o : Option (Instance ℕ)). IfSome o (Leads (contents c.args.basis.now.store.now)
+    (meaning c.args.basis.now.rules.now) c.args.needed.now)) c.in-Some-2.is c.in_ok-other.ensures.led)
+    (subst (λ (f : Found). Gains c.args.basis.now.rules.now c.args.basis.now.store.now g.K.Keeper.exact c.in-Some-2.other
     (g.K.Keeper.contents c.keep_again.new.keeper) (g.K.Keeper.contents c.afresh.new.keeper) f
     c.afresh.new.self.found.entries c.keep_again.new.self.work c.afresh.new.self.work) c.level-aside.ensures.found
-    (subst (λ (w : ℕ). Gains c.args.rules.now c.args.store.now g.K.Keeper.exact c.in-Some-2.other
+    (subst (λ (w : ℕ). Gains c.args.basis.now.rules.now c.args.basis.now.store.now g.K.Keeper.exact c.in-Some-2.other
     (g.K.Keeper.contents c.keep_again.new.keeper) (g.K.Keeper.contents c.afresh.new.keeper)
     c.level-aside.new.self.found.entries c.afresh.new.self.found.entries w c.afresh.new.self.work)
     c.level-aside.ensures.work c.afresh.ensures.gains)))
 
 pub verify-returns-in_err-push-clause-traces : goal.verify-returns-in_err-push-clause-traces
 verify-returns-in_err-push-clause-traces g n c =
-    traced_then c.args.rules.now c.args.store.now c.args.needed.now (g.K.Keeper.memories c.args.keeper.now)
+    traced_then c.args.basis.now.rules.now c.args.basis.now.store.now c.args.needed.now (g.K.Keeper.memories c.args.keeper.now)
     (g.K.Keeper.memories c.keep_again.new.keeper) (g.K.Keeper.memories c.afresh.new.keeper)
-    (traced_then c.args.rules.now c.args.store.now c.args.needed.now (g.K.Keeper.memories c.args.keeper.now)
+    (traced_then c.args.basis.now.rules.now c.args.basis.now.store.now c.args.needed.now (g.K.Keeper.memories c.args.keeper.now)
     (g.K.Keeper.memories c.loop.keeper) (g.K.Keeper.memories c.keep_again.new.keeper) c.loop.invariant.traces
     c.keep_again.ensures.traces)
-    (traced_up c.args.rules.now c.args.store.now c.requires.idle c.args.needed.now c.in-Some-2.other
-    (g.K.Keeper.memories c.keep_again.new.keeper) (g.K.Keeper.memories c.afresh.new.keeper) (subst (λ (o : Option (Instance ℕ)). IfSome o (Leads (contents c.args.store.now)
-    (meaning c.args.rules.now) c.args.needed.now)) c.in-Some-2.is c.in_ok-other.ensures.led) c.afresh.ensures.traces)
+    (traced_up c.args.basis.now.rules.now c.args.basis.now.store.now c.args.basis.now.idle c.args.needed.now c.in-Some-2.other
+    (g.K.Keeper.memories c.keep_again.new.keeper) (g.K.Keeper.memories c.afresh.new.keeper) (subst (λ (o : Option (Instance ℕ)). IfSome o (Leads (contents c.args.basis.now.store.now)
+    (meaning c.args.basis.now.rules.now) c.args.needed.now)) c.in-Some-2.is c.in_ok-other.ensures.led) c.afresh.ensures.traces)
 
 pub verify-loop-preserved : goal.verify-loop-preserved
 verify-loop-preserved g n c = record {
   gains =
-      gains_then c.args.rules.now c.args.store.now g.K.Keeper.exact c.args.needed.now (g.K.Keeper.contents
+      gains_then c.args.basis.now.rules.now c.args.basis.now.store.now g.K.Keeper.exact c.args.needed.now (g.K.Keeper.contents
       c.args.keeper.now) (g.K.Keeper.contents c.keep_again.new.keeper) (g.K.Keeper.contents c.afresh.new.keeper)
       c.args.self.now.found.entries c.keep_again.new.self.found.entries c.afresh.new.self.found.entries
       c.args.self.now.work c.keep_again.new.self.work c.afresh.new.self.work
-      (gains_then c.args.rules.now c.args.store.now g.K.Keeper.exact c.args.needed.now (g.K.Keeper.contents
+      (gains_then c.args.basis.now.rules.now c.args.basis.now.store.now g.K.Keeper.exact c.args.needed.now (g.K.Keeper.contents
       c.args.keeper.now) (g.K.Keeper.contents c.loop.keeper) (g.K.Keeper.contents c.keep_again.new.keeper)
       c.args.self.now.found.entries c.loop.self.found.entries c.keep_again.new.self.found.entries
       c.args.self.now.work c.loop.self.work c.keep_again.new.self.work c.loop.invariant.gains c.keep_again.ensures.gains)
-      (gains_up c.args.rules.now c.args.store.now g.K.Keeper.exact c.requires.idle c.args.needed.now c.in-Some-2.other
+      (gains_up c.args.basis.now.rules.now c.args.basis.now.store.now g.K.Keeper.exact c.args.basis.now.idle c.args.needed.now c.in-Some-2.other
       (g.K.Keeper.contents c.keep_again.new.keeper) (g.K.Keeper.contents c.afresh.new.keeper)
       c.keep_again.new.self.found.entries c.afresh.new.self.found.entries c.keep_again.new.self.work
-      c.afresh.new.self.work (subst (λ (o : Option (Instance ℕ)). IfSome o (Leads (contents c.args.store.now)
-      (meaning c.args.rules.now) c.args.needed.now)) c.in-Some-2.is c.in_ok-other.ensures.led)
-      (subst (λ (f : Found). Gains c.args.rules.now c.args.store.now g.K.Keeper.exact c.in-Some-2.other
+      c.afresh.new.self.work (subst (λ (o : Option (Instance ℕ)). IfSome o (Leads (contents c.args.basis.now.store.now)
+      (meaning c.args.basis.now.rules.now) c.args.needed.now)) c.in-Some-2.is c.in_ok-other.ensures.led)
+      (subst (λ (f : Found). Gains c.args.basis.now.rules.now c.args.basis.now.store.now g.K.Keeper.exact c.in-Some-2.other
       (g.K.Keeper.contents c.keep_again.new.keeper) (g.K.Keeper.contents c.afresh.new.keeper) f
       c.afresh.new.self.found.entries c.keep_again.new.self.work c.afresh.new.self.work) c.level-aside.ensures.found
-      (subst (λ (w : ℕ). Gains c.args.rules.now c.args.store.now g.K.Keeper.exact c.in-Some-2.other
+      (subst (λ (w : ℕ). Gains c.args.basis.now.rules.now c.args.basis.now.store.now g.K.Keeper.exact c.in-Some-2.other
       (g.K.Keeper.contents c.keep_again.new.keeper) (g.K.Keeper.contents c.afresh.new.keeper)
       c.level-aside.new.self.found.entries c.afresh.new.self.found.entries w c.afresh.new.self.work)
       c.level-aside.ensures.work c.afresh.ensures.gains)));
   traces =
-      traced_then c.args.rules.now c.args.store.now c.args.needed.now (g.K.Keeper.memories c.args.keeper.now)
+      traced_then c.args.basis.now.rules.now c.args.basis.now.store.now c.args.needed.now (g.K.Keeper.memories c.args.keeper.now)
       (g.K.Keeper.memories c.keep_again.new.keeper) (g.K.Keeper.memories c.afresh.new.keeper)
-      (traced_then c.args.rules.now c.args.store.now c.args.needed.now (g.K.Keeper.memories c.args.keeper.now)
+      (traced_then c.args.basis.now.rules.now c.args.basis.now.store.now c.args.needed.now (g.K.Keeper.memories c.args.keeper.now)
       (g.K.Keeper.memories c.loop.keeper) (g.K.Keeper.memories c.keep_again.new.keeper) c.loop.invariant.traces
       c.keep_again.ensures.traces)
-      (traced_up c.args.rules.now c.args.store.now c.requires.idle c.args.needed.now c.in-Some-2.other
-      (g.K.Keeper.memories c.keep_again.new.keeper) (g.K.Keeper.memories c.afresh.new.keeper) (subst (λ (o : Option (Instance ℕ)). IfSome o (Leads (contents c.args.store.now)
-      (meaning c.args.rules.now) c.args.needed.now)) c.in-Some-2.is c.in_ok-other.ensures.led) c.afresh.ensures.traces);
-  level = subst (λ (o : Option ValueCode). HasRecalled c.args.rules.now (contents c.args.store.now) (known_by
+      (traced_up c.args.basis.now.rules.now c.args.basis.now.store.now c.args.basis.now.idle c.args.needed.now c.in-Some-2.other
+      (g.K.Keeper.memories c.keep_again.new.keeper) (g.K.Keeper.memories c.afresh.new.keeper) (subst (λ (o : Option (Instance ℕ)). IfSome o (Leads (contents c.args.basis.now.store.now)
+      (meaning c.args.basis.now.rules.now) c.args.needed.now)) c.in-Some-2.is c.in_ok-other.ensures.led) c.afresh.ensures.traces);
+  level = subst (λ (o : Option ValueCode). HasRecalled c.args.basis.now.rules.now (contents c.args.basis.now.store.now) (known_by
       (g.K.Keeper.contents c.keep_again.new.keeper) c.keep_again.new.self.found.entries) c.loop.level
       c.keep_again.new.level c.args.needed.now o) c.in_default.is c.in_ok-again.ensures.recalled ∙ c.loop.invariant.level;
 }
@@ -201,8 +222,8 @@ verify-loop-preserved g n c = record {
 -- lazily, where it can't be verified
 pub lazily-returns-in-None : goal.lazily-returns-in-None
 lazily-returns-in-None g n c =
-    let rules = c.args.rules.now in
-    let s = c.args.store.now in
+    let rules = c.args.basis.now.rules.now in
+    let s = c.args.basis.now.store.now in
     let i = c.args.needed in
     let e0 = g.K.Keeper.contents c.args.keeper.now in
     let e1 = g.K.Keeper.contents c.verify.new.keeper in
@@ -225,7 +246,7 @@ lazily-returns-in-None g n c =
 -- afresh
 pub afresh-returns-in_err-value-clause-gains : goal.afresh-returns-in_err-value-clause-gains
 afresh-returns-in_err-value-clause-gains g n c =
-    gains_from c.args.rules.now c.args.store.now g.K.Keeper.exact c.args.needed c.args.needed (g.K.Keeper.contents
+    gains_from c.args.basis.now.rules.now c.args.basis.now.store.now g.K.Keeper.exact c.args.needed c.args.needed (g.K.Keeper.contents
     c.args.keeper.now) (g.K.Keeper.contents c.evaluate.new.keeper) c.args.self.now.found.entries
     c.level-below.new.self.found.entries c.evaluate.new.self.found.entries c.args.self.now.work
     c.level-below.new.self.work c.evaluate.new.self.work refl c.level-below.ensures.found c.level-below.ensures.work
@@ -240,14 +261,14 @@ afresh-keep-requires-clause-come g n c =
       found = d.found.entries;
       work = d.work;
     } in
-    evaluated_in c.args.rules.now c.args.store.now g.K.Keeper.exact h c.level-below.result c.evaluate.new.level
+    evaluated_in c.args.basis.now.rules.now c.args.basis.now.store.now g.K.Keeper.exact h c.level-below.result c.evaluate.new.level
     c.args.needed (value_view c.in_ok-value.value) c.in_ok-value.ensures.come c.level-below.ensures.reads
     c.level-below.ensures.uses
 
 pub afresh-returns-in_err-keep-clause-gains : goal.afresh-returns-in_err-keep-clause-gains
 afresh-returns-in_err-keep-clause-gains g n c =
-    let rules = c.args.rules.now in
-    let s = c.args.store.now in
+    let rules = c.args.basis.now.rules.now in
+    let s = c.args.basis.now.store.now in
     let i = c.args.needed in
     let e0 = g.K.Keeper.contents c.args.keeper.now in
     let e1 = g.K.Keeper.contents c.evaluate.new.keeper in
@@ -264,8 +285,8 @@ afresh-returns-in_err-keep-clause-gains g n c =
 
 pub afresh-returns-in_err-keep-clause-traces : goal.afresh-returns-in_err-keep-clause-traces
 afresh-returns-in_err-keep-clause-traces g n c =
-    let rules = c.args.rules.now in
-    let s = c.args.store.now in
+    let rules = c.args.basis.now.rules.now in
+    let s = c.args.basis.now.store.now in
     let i = c.args.needed in
     traced_then rules s i (g.K.Keeper.memories c.args.keeper.now) (g.K.Keeper.memories
     c.evaluate.new.keeper) (g.K.Keeper.memories c.keep.new.keeper) c.evaluate.ensures.traces
@@ -273,8 +294,8 @@ afresh-returns-in_err-keep-clause-traces g n c =
 
 pub afresh-returns-in_err-push-clause-gains : goal.afresh-returns-in_err-push-clause-gains
 afresh-returns-in_err-push-clause-gains g n c =
-    let rules = c.args.rules.now in
-    let s = c.args.store.now in
+    let rules = c.args.basis.now.rules.now in
+    let s = c.args.basis.now.store.now in
     let i = c.args.needed in
     let e0 = g.K.Keeper.contents c.args.keeper.now in
     let e1 = g.K.Keeper.contents c.evaluate.new.keeper in
@@ -291,8 +312,8 @@ afresh-returns-in_err-push-clause-gains g n c =
 
 pub afresh-returns-in_err-push-clause-traces : goal.afresh-returns-in_err-push-clause-traces
 afresh-returns-in_err-push-clause-traces g n c =
-    let rules = c.args.rules.now in
-    let s = c.args.store.now in
+    let rules = c.args.basis.now.rules.now in
+    let s = c.args.basis.now.store.now in
     let i = c.args.needed in
     traced_then rules s i (g.K.Keeper.memories c.args.keeper.now) (g.K.Keeper.memories
     c.evaluate.new.keeper) (g.K.Keeper.memories c.keep.new.keeper) c.evaluate.ensures.traces
@@ -300,8 +321,8 @@ afresh-returns-in_err-push-clause-traces g n c =
 
 pub afresh-returns : goal.afresh-returns
 afresh-returns g n c =
-    let rules = c.args.rules.now in
-    let s = c.args.store.now in
+    let rules = c.args.basis.now.rules.now in
+    let s = c.args.basis.now.store.now in
     let i = c.args.needed in
     let e0 = g.K.Keeper.contents c.args.keeper.now in
     let e1 = g.K.Keeper.contents c.evaluate.new.keeper in
@@ -332,7 +353,7 @@ inner-returns-then-is_small-clause-told g n c =
       found = d.found.entries;
       work = d.work;
     } in
-    inner_told c.args.rules.now c.args.store.now g.K.Keeper.exact h c.args.level.now c.evaluate.new.level c.args.needed
+    inner_told c.args.basis.now.rules.now c.args.basis.now.store.now g.K.Keeper.exact h c.args.level.now c.evaluate.new.level c.args.needed
     (value_view c.in_ok-value.value) c.in_ok-value.ensures.come c.requires.lazy
 
 pub inner-split_off-requires-clause-reads : goal.inner-split_off-requires-clause-reads
@@ -344,7 +365,7 @@ inner-split_off-requires-clause-reads g n c =
       found = d.found.entries;
       work = d.work;
     } in
-    let longer = reads_longer c.args.rules.now c.args.store.now g.K.Keeper.exact h c.args.level.now c.evaluate.new.level
+    let longer = reads_longer c.args.basis.now.rules.now c.args.basis.now.store.now g.K.Keeper.exact h c.args.level.now c.evaluate.new.level
     c.args.needed (value_view c.in_ok-value.value) c.in_ok-value.ensures.come in
     omega (arith, c.len-reads.ensures, longer)
 
@@ -357,14 +378,14 @@ inner-split_off-requires-clause-uses g n c =
       found = d.found.entries;
       work = d.work;
     } in
-    let longer = uses_longer c.args.rules.now c.args.store.now g.K.Keeper.exact h c.args.level.now c.evaluate.new.level
+    let longer = uses_longer c.args.basis.now.rules.now c.args.basis.now.store.now g.K.Keeper.exact h c.args.level.now c.evaluate.new.level
     c.args.needed (value_view c.in_ok-value.value) c.in_ok-value.ensures.come in
     omega (arith, c.len-uses.ensures, longer)
 
 pub inner-remember-requires-clause-come : goal.inner-remember-requires-clause-come
 inner-remember-requires-clause-come g n c =
-    let rules = c.args.rules.now in
-    let s = c.args.store.now in
+    let rules = c.args.basis.now.rules.now in
+    let s = c.args.basis.now.store.now in
     let i = c.args.needed in
     let v = value_view c.in_ok-value.value in
     let d = c.evaluate.new.self in
@@ -395,8 +416,8 @@ inner-remember-requires-clause-come g n c =
 
 pub inner-returns-in_err-remember-clause-gains : goal.inner-returns-in_err-remember-clause-gains
 inner-returns-in_err-remember-clause-gains g n c =
-    let rules = c.args.rules.now in
-    let s = c.args.store.now in
+    let rules = c.args.basis.now.rules.now in
+    let s = c.args.basis.now.store.now in
     let i = c.args.needed in
     let e0 = g.K.Keeper.contents c.args.keeper.now in
     let e1 = g.K.Keeper.contents c.evaluate.new.keeper in
@@ -409,8 +430,8 @@ inner-returns-in_err-remember-clause-gains g n c =
 
 pub inner-returns-in_err-remember-clause-traces : goal.inner-returns-in_err-remember-clause-traces
 inner-returns-in_err-remember-clause-traces g n c =
-    let rules = c.args.rules.now in
-    let s = c.args.store.now in
+    let rules = c.args.basis.now.rules.now in
+    let s = c.args.basis.now.store.now in
     let i = c.args.needed in
     traced_then rules s i (g.K.Keeper.memories c.args.keeper.now) (g.K.Keeper.memories
     c.evaluate.new.keeper) (g.K.Keeper.memories c.remember.new.keeper) c.evaluate.ensures.traces
@@ -418,8 +439,8 @@ inner-returns-in_err-remember-clause-traces g n c =
 
 pub inner-returns : goal.inner-returns
 inner-returns g n c =
-    let rules = c.args.rules.now in
-    let s = c.args.store.now in
+    let rules = c.args.basis.now.rules.now in
+    let s = c.args.basis.now.store.now in
     let i = c.args.needed in
     let e0 = g.K.Keeper.contents c.args.keeper.now in
     let e1 = g.K.Keeper.contents c.evaluate.new.keeper in
@@ -461,249 +482,249 @@ inner-returns g n c =
 
 pub evaluate-returns-in_err-begun-clause-gains : goal.evaluate-returns-in_err-begun-clause-gains
 evaluate-returns-in_err-begun-clause-gains g n c =
-    gains_evaluated c.args.rules.now c.args.store.now g.K.Keeper.exact c.requires.idle c.args.inst.now (held
+    gains_evaluated c.args.basis.now.rules.now c.args.basis.now.store.now g.K.Keeper.exact c.args.basis.now.idle c.args.inst.now (held
     (g.K.Keeper.contents c.args.keeper.now) (g.K.Keeper.memories c.args.keeper.now) c.args.self.now.found.entries
     c.args.self.now.work) (held (g.K.Keeper.contents c.args.keeper.now) (g.K.Keeper.memories c.args.keeper.now)
-    c.args.self.now.found.entries c.args.self.now.work) (nothing_gained c.args.rules.now c.args.store.now
-    g.K.Keeper.exact (meaning c.args.rules.now c.args.inst.now) (held (g.K.Keeper.contents c.args.keeper.now)
+    c.args.self.now.found.entries c.args.self.now.work) (nothing_gained c.args.basis.now.rules.now c.args.basis.now.store.now
+    g.K.Keeper.exact (meaning c.args.basis.now.rules.now c.args.inst.now) (held (g.K.Keeper.contents c.args.keeper.now)
     (g.K.Keeper.memories c.args.keeper.now) c.args.self.now.found.entries c.args.self.now.work) c.args.self.now.few
-    (record { known = c.requires.known; justified = c.requires.justified }))
+    c.requires)
 
 pub evaluate-returns-in_err-begun-clause-traces : goal.evaluate-returns-in_err-begun-clause-traces
 evaluate-returns-in_err-begun-clause-traces g n c =
-    traced_evaluated c.args.rules.now c.args.store.now g.K.Keeper.exact c.requires.idle c.args.inst.now (held
+    traced_evaluated c.args.basis.now.rules.now c.args.basis.now.store.now g.K.Keeper.exact c.args.basis.now.idle c.args.inst.now (held
     (g.K.Keeper.contents c.args.keeper.now) (g.K.Keeper.memories c.args.keeper.now) c.args.self.now.found.entries
     c.args.self.now.work) (held (g.K.Keeper.contents c.args.keeper.now) (g.K.Keeper.memories c.args.keeper.now)
-    c.args.self.now.found.entries c.args.self.now.work) (nothing_gained c.args.rules.now c.args.store.now
-    g.K.Keeper.exact (meaning c.args.rules.now c.args.inst.now) (held (g.K.Keeper.contents c.args.keeper.now)
+    c.args.self.now.found.entries c.args.self.now.work) (nothing_gained c.args.basis.now.rules.now c.args.basis.now.store.now
+    g.K.Keeper.exact (meaning c.args.basis.now.rules.now c.args.inst.now) (held (g.K.Keeper.contents c.args.keeper.now)
     (g.K.Keeper.memories c.args.keeper.now) c.args.self.now.found.entries c.args.self.now.work) c.args.self.now.few
-    (record { known = c.requires.known; justified = c.requires.justified }))
+    c.requires)
 
 pub evaluate-returns-clause-come : goal.evaluate-returns-clause-come
 evaluate-returns-clause-come g n c =
-    IfOk-weaker c.value.result _ _ (λ v h. come_begun c.args.rules.now c.args.store.now (held (g.K.Keeper.contents
+    IfOk-weaker c.value.result _ _ (λ v h. come_begun c.args.basis.now.rules.now c.args.basis.now.store.now (held (g.K.Keeper.contents
     c.value.new.keeper) (g.K.Keeper.memories c.value.new.keeper) c.value.new.self.found.entries c.value.new.self.work)
     c.args.level.now (record { reads = c.begin.new.reads; uses = c.args.level.now.uses }) c.value.new.level (meaning
-    c.args.rules.now c.args.inst.now) (ev c.args.rules.now.classes (body_view c.in_ok-begun.begun.1.now) (place_at
+    c.args.basis.now.rules.now c.args.inst.now) (ev c.args.basis.now.rules.now.classes (body_view c.in_ok-begun.begun.1.now) (place_at
     c.in_ok-begun.begun.0)) (value_view v) refl c.in_ok-begun.ensures h) c.value.ensures.come
 
 pub evaluate-returns-clause-gains : goal.evaluate-returns-clause-gains
 evaluate-returns-clause-gains g n c =
-    gains_evaluated c.args.rules.now c.args.store.now g.K.Keeper.exact c.requires.idle c.args.inst.now (held
+    gains_evaluated c.args.basis.now.rules.now c.args.basis.now.store.now g.K.Keeper.exact c.args.basis.now.idle c.args.inst.now (held
     (g.K.Keeper.contents c.args.keeper.now) (g.K.Keeper.memories c.args.keeper.now) c.args.self.now.found.entries
     c.args.self.now.work) (held (g.K.Keeper.contents c.value.new.keeper) (g.K.Keeper.memories c.value.new.keeper)
-    c.value.new.self.found.entries c.value.new.self.work) (gains_begun c.args.rules.now c.args.store.now
+    c.value.new.self.found.entries c.value.new.self.work) (gains_begun c.args.basis.now.rules.now c.args.basis.now.store.now
     g.K.Keeper.exact (held (g.K.Keeper.contents c.args.keeper.now) (g.K.Keeper.memories c.args.keeper.now)
     c.args.self.now.found.entries c.args.self.now.work) (held (g.K.Keeper.contents c.value.new.keeper)
     (g.K.Keeper.memories c.value.new.keeper) c.value.new.self.found.entries c.value.new.self.work)
-    c.args.level.now.reads c.begin.new.reads (meaning c.args.rules.now c.args.inst.now) (ev c.args.rules.now.classes
+    c.args.level.now.reads c.begin.new.reads (meaning c.args.basis.now.rules.now c.args.inst.now) (ev c.args.basis.now.rules.now.classes
     (body_view c.in_ok-begun.begun.1.now) (place_at c.in_ok-begun.begun.0)) c.in_ok-begun.ensures
     c.value.ensures.gains)
 
 pub evaluate-returns-clause-traces : goal.evaluate-returns-clause-traces
 evaluate-returns-clause-traces g n c =
-    traced_evaluated c.args.rules.now c.args.store.now g.K.Keeper.exact c.requires.idle c.args.inst.now (held
+    traced_evaluated c.args.basis.now.rules.now c.args.basis.now.store.now g.K.Keeper.exact c.args.basis.now.idle c.args.inst.now (held
     (g.K.Keeper.contents c.args.keeper.now) (g.K.Keeper.memories c.args.keeper.now) c.args.self.now.found.entries
     c.args.self.now.work) (held (g.K.Keeper.contents c.value.new.keeper) (g.K.Keeper.memories c.value.new.keeper)
-    c.value.new.self.found.entries c.value.new.self.work) (gains_begun c.args.rules.now c.args.store.now
+    c.value.new.self.found.entries c.value.new.self.work) (gains_begun c.args.basis.now.rules.now c.args.basis.now.store.now
     g.K.Keeper.exact (held (g.K.Keeper.contents c.args.keeper.now) (g.K.Keeper.memories c.args.keeper.now)
     c.args.self.now.found.entries c.args.self.now.work) (held (g.K.Keeper.contents c.value.new.keeper)
     (g.K.Keeper.memories c.value.new.keeper) c.value.new.self.found.entries c.value.new.self.work)
-    c.args.level.now.reads c.begin.new.reads (meaning c.args.rules.now c.args.inst.now) (ev c.args.rules.now.classes
+    c.args.level.now.reads c.begin.new.reads (meaning c.args.basis.now.rules.now c.args.inst.now) (ev c.args.basis.now.rules.now.classes
     (body_view c.in_ok-begun.begun.1.now) (place_at c.in_ok-begun.begun.0)) c.in_ok-begun.ensures
     c.value.ensures.gains)
 
 pub one-returns-in_err-value-clause-gains : goal.one-returns-in_err-value-clause-gains
 one-returns-in_err-value-clause-gains g n c =
-    one_gains c.args.rules.now c.args.store.now g.K.Keeper.exact (place_at c.args.here.now) c.args.unary
+    one_gains c.args.basis.now.rules.now c.args.basis.now.store.now g.K.Keeper.exact (place_at c.args.here.now) c.args.unary
     c.args.operand.now _ _ c.value.ensures.gains
 
 pub one-returns-clause-gains : goal.one-returns-clause-gains
 one-returns-clause-gains g n c =
-    one_gains c.args.rules.now c.args.store.now g.K.Keeper.exact (place_at c.args.here.now) c.args.unary
+    one_gains c.args.basis.now.rules.now c.args.basis.now.store.now g.K.Keeper.exact (place_at c.args.here.now) c.args.unary
     c.args.operand.now _ _ c.value.ensures.gains
 
 pub one-returns-clause-come : goal.one-returns-clause-come
 one-returns-clause-come g n c =
-    one_come c.args.rules.now c.args.store.now g.K.Keeper.exact (place_at c.args.here.now) c.args.unary
+    one_come c.args.basis.now.rules.now c.args.basis.now.store.now g.K.Keeper.exact (place_at c.args.here.now) c.args.unary
     c.args.operand.now c.in_ok-value.value c.with_one.result _ _ _ _ _ refl c.value.ensures.gains
     c.in_ok-value.ensures.come c.with_one.ensures
 
 pub two-returns-in_err-first-clause-gains : goal.two-returns-in_err-first-clause-gains
 two-returns-in_err-first-clause-gains g n c =
-    two_gains_first c.args.rules.now c.args.store.now g.K.Keeper.exact (place_at c.args.here.now) c.args.binary
+    two_gains_first c.args.basis.now.rules.now c.args.basis.now.store.now g.K.Keeper.exact (place_at c.args.here.now) c.args.binary
     c.args.left.now c.args.right.now _ _ c.value.ensures.gains
 
 pub two-returns-in_err-second-clause-gains : goal.two-returns-in_err-second-clause-gains
 two-returns-in_err-second-clause-gains g n c =
-    two_gains c.args.rules.now c.args.store.now g.K.Keeper.exact (place_at c.args.here.now) c.args.binary
+    two_gains c.args.basis.now.rules.now c.args.basis.now.store.now g.K.Keeper.exact (place_at c.args.here.now) c.args.binary
     c.args.left.now c.args.right.now c.in_ok-first.first _ _ _ _ _ c.value.ensures.gains c.in_ok-first.ensures.come
     c.value-2.ensures.gains
 
 pub two-returns-clause-gains : goal.two-returns-clause-gains
 two-returns-clause-gains g n c =
-    two_gains c.args.rules.now c.args.store.now g.K.Keeper.exact (place_at c.args.here.now) c.args.binary
+    two_gains c.args.basis.now.rules.now c.args.basis.now.store.now g.K.Keeper.exact (place_at c.args.here.now) c.args.binary
     c.args.left.now c.args.right.now c.in_ok-first.first _ _ _ _ _ c.value.ensures.gains c.in_ok-first.ensures.come
     c.value-2.ensures.gains
 
 pub two-returns-clause-come : goal.two-returns-clause-come
 two-returns-clause-come g n c =
-    two_come c.args.rules.now c.args.store.now g.K.Keeper.exact (place_at c.args.here.now) c.args.binary
+    two_come c.args.basis.now.rules.now c.args.basis.now.store.now g.K.Keeper.exact (place_at c.args.here.now) c.args.binary
     c.args.left.now c.args.right.now c.in_ok-first.first c.in_ok-second.second c.with_two.result _ _ _ _ _ _ _ refl
     c.value.ensures.gains c.in_ok-first.ensures.come c.value-2.ensures.gains c.in_ok-second.ensures.come
     c.with_two.ensures
 
 pub compared-returns-in_err-at_once-clause-gains : goal.compared-returns-in_err-at_once-clause-gains
 compared-returns-in_err-at_once-clause-gains g n c =
-    nothing_gained c.args.rules.now c.args.store.now g.K.Keeper.exact (two_of c.args.rules.now.classes (place_at
+    nothing_gained c.args.basis.now.rules.now c.args.basis.now.store.now g.K.Keeper.exact (two_of c.args.basis.now.rules.now.classes (place_at
     c.args.here.now) c.args.comparison c.args.left.now c.args.right.now) _ c.args.self.now.few c.requires.held
 
 pub compared-returns-in-Some-clause-gains : goal.compared-returns-in-Some-clause-gains
 compared-returns-in-Some-clause-gains g n c =
-    nothing_gained c.args.rules.now c.args.store.now g.K.Keeper.exact (two_of c.args.rules.now.classes (place_at
+    nothing_gained c.args.basis.now.rules.now c.args.basis.now.store.now g.K.Keeper.exact (two_of c.args.basis.now.rules.now.classes (place_at
     c.args.here.now) c.args.comparison c.args.left.now c.args.right.now) _ c.args.self.now.few c.requires.held
 
 pub compared-returns-in-Some-clause-come : goal.compared-returns-in-Some-clause-come
 compared-returns-in-Some-clause-come g n c =
-    come_looked c.args.rules.now c.args.store.now _ c.args.level.now (record {
+    come_looked c.args.basis.now.rules.now c.args.basis.now.store.now _ c.args.level.now (record {
       reads = c.compare.new.reads;
       uses =
           c.args.level.now.uses;
-    }) (two_of c.args.rules.now.classes (place_at c.args.here.now) c.args.comparison
+    }) (two_of c.args.basis.now.rules.now.classes (place_at c.args.here.now) c.args.comparison
     c.args.left.now c.args.right.now) (value_view c.in-Some.value) refl (subst (λ o. MayHaveLooked (contents
-    c.args.store.now) c.args.level.now.reads c.compare.new.reads (two_of c.args.rules.now.classes (place_at
+    c.args.basis.now.store.now) c.args.level.now.reads c.compare.new.reads (two_of c.args.basis.now.rules.now.classes (place_at
     c.args.here.now) c.args.comparison c.args.left.now c.args.right.now) o) c.in-Some.is (c.in_ok-at_once.ensures
-    c.args.rules.now.classes))
+    c.args.basis.now.rules.now.classes))
 
 pub compared-returns-in-None-clause-gains : goal.compared-returns-in-None-clause-gains
 compared-returns-in-None-clause-gains g n c = c.two.ensures.gains
 
 pub compared-returns-in-None-clause-come : goal.compared-returns-in-None-clause-come
 compared-returns-in-None-clause-come g n c =
-    subst (λ (ls : List (Location ℕ)). IfOk c.two.result (λ v. HasCome c.args.rules.now (contents c.args.store.now)
+    subst (λ (ls : List (Location ℕ)). IfOk c.two.result (λ v. HasCome c.args.basis.now.rules.now (contents c.args.basis.now.store.now)
     (held (g.K.Keeper.contents c.two.new.keeper) (g.K.Keeper.memories c.two.new.keeper) c.two.new.self.found.entries
     c.two.new.self.work) (record { reads = ls; uses = c.args.level.now.uses }) c.two.new.level (two_of
-    c.args.rules.now.classes (place_at c.args.here.now) c.args.comparison c.args.left.now c.args.right.now) (value_view
-    v))) (subst (λ o. MayHaveLooked (contents c.args.store.now) c.args.level.now.reads c.compare.new.reads (two_of
-    c.args.rules.now.classes (place_at c.args.here.now) c.args.comparison c.args.left.now c.args.right.now) o)
-    c.in-None.is (c.in_ok-at_once.ensures c.args.rules.now.classes)) c.two.ensures.come
+    c.args.basis.now.rules.now.classes (place_at c.args.here.now) c.args.comparison c.args.left.now c.args.right.now) (value_view
+    v))) (subst (λ o. MayHaveLooked (contents c.args.basis.now.store.now) c.args.level.now.reads c.compare.new.reads (two_of
+    c.args.basis.now.rules.now.classes (place_at c.args.here.now) c.args.comparison c.args.left.now c.args.right.now) o)
+    c.in-None.is (c.in_ok-at_once.ensures c.args.basis.now.rules.now.classes)) c.two.ensures.come
 
 pub either-returns-in_err-value-clause-gains : goal.either-returns-in_err-value-clause-gains
 either-returns-in_err-value-clause-gains g n c =
-    either_gains_test c.args.rules.now c.args.store.now g.K.Keeper.exact (place_at c.args.here.now) c.args.test.now
+    either_gains_test c.args.basis.now.rules.now c.args.basis.now.store.now g.K.Keeper.exact (place_at c.args.here.now) c.args.test.now
     c.args.yes c.args.no _ _ c.value.ensures.gains
 
 pub either-returns-in_err-holds-clause-gains : goal.either-returns-in_err-holds-clause-gains
 either-returns-in_err-holds-clause-gains g n c =
-    either_gains_test c.args.rules.now c.args.store.now g.K.Keeper.exact (place_at c.args.here.now) c.args.test.now
+    either_gains_test c.args.basis.now.rules.now c.args.basis.now.store.now g.K.Keeper.exact (place_at c.args.here.now) c.args.test.now
     c.args.yes c.args.no _ _ c.value.ensures.gains
 
 pub either-returns-in-Some-clause-gains : goal.either-returns-in-Some-clause-gains
 either-returns-in-Some-clause-gains g n c =
-    either_gains c.args.rules.now c.args.store.now g.K.Keeper.exact (place_at c.args.here.now) c.args.test.now
-    c.args.yes c.args.no c.in_ok-value.value c.in_ok-holds.holds (ev c.args.rules.now.classes (body_view
+    either_gains c.args.basis.now.rules.now c.args.basis.now.store.now g.K.Keeper.exact (place_at c.args.here.now) c.args.test.now
+    c.args.yes c.args.no c.in_ok-value.value c.in_ok-holds.holds (ev c.args.basis.now.rules.now.classes (body_view
     c.in-Some.body.now) (place_at c.args.here.now)) _ _ _ _ _ c.in_ok-holds.ensures (ap (λ o. or_truth
-    c.args.rules.now.classes (place_at c.args.here.now) o c.in_ok-holds.holds) (sym c.in-Some.is) ∙ c.chosen.ensures
-    c.args.rules.now.classes (place_at c.args.here.now)) c.value.ensures.gains c.in_ok-value.ensures.come
+    c.args.basis.now.rules.now.classes (place_at c.args.here.now) o c.in_ok-holds.holds) (sym c.in-Some.is) ∙ c.chosen.ensures
+    c.args.basis.now.rules.now.classes (place_at c.args.here.now)) c.value.ensures.gains c.in_ok-value.ensures.come
     c.value-in-Some.ensures.gains
 
 pub either-returns-in-Some-clause-come : goal.either-returns-in-Some-clause-come
 either-returns-in-Some-clause-come g n c =
-    either_come c.args.rules.now c.args.store.now g.K.Keeper.exact (place_at c.args.here.now) c.args.test.now
-    c.args.yes c.args.no c.in_ok-value.value c.in_ok-holds.holds (ev c.args.rules.now.classes (body_view
+    either_come c.args.basis.now.rules.now c.args.basis.now.store.now g.K.Keeper.exact (place_at c.args.here.now) c.args.test.now
+    c.args.yes c.args.no c.in_ok-value.value c.in_ok-holds.holds (ev c.args.basis.now.rules.now.classes (body_view
     c.in-Some.body.now) (place_at c.args.here.now)) _ _ _ _ _ c.in_ok-holds.ensures (ap (λ o. or_truth
-    c.args.rules.now.classes (place_at c.args.here.now) o c.in_ok-holds.holds) (sym c.in-Some.is) ∙ c.chosen.ensures
-    c.args.rules.now.classes (place_at c.args.here.now)) c.value.ensures.gains c.in_ok-value.ensures.come
+    c.args.basis.now.rules.now.classes (place_at c.args.here.now) o c.in_ok-holds.holds) (sym c.in-Some.is) ∙ c.chosen.ensures
+    c.args.basis.now.rules.now.classes (place_at c.args.here.now)) c.value.ensures.gains c.in_ok-value.ensures.come
     c.value-in-Some.ensures.gains c.value-in-Some.result c.value-in-Some.new.level c.value-in-Some.ensures.come
 
 pub either-returns-clause-gains : goal.either-returns-clause-gains
 either-returns-clause-gains g n c =
-    either_gains c.args.rules.now c.args.store.now g.K.Keeper.exact (place_at c.args.here.now) c.args.test.now
+    either_gains c.args.basis.now.rules.now c.args.basis.now.store.now g.K.Keeper.exact (place_at c.args.here.now) c.args.test.now
     c.args.yes c.args.no c.in_ok-value.value c.in_ok-holds.holds (Gives (Truth c.in_ok-holds.holds)) _ _ _ _ _
-    c.in_ok-holds.ensures (ap (λ o. or_truth c.args.rules.now.classes (place_at c.args.here.now) o c.in_ok-holds.holds)
-    (sym c.in-None.is) ∙ c.chosen.ensures c.args.rules.now.classes (place_at c.args.here.now)) c.value.ensures.gains
-    c.in_ok-value.ensures.come (nothing_gained c.args.rules.now c.args.store.now g.K.Keeper.exact (Gives (Truth
+    c.in_ok-holds.ensures (ap (λ o. or_truth c.args.basis.now.rules.now.classes (place_at c.args.here.now) o c.in_ok-holds.holds)
+    (sym c.in-None.is) ∙ c.chosen.ensures c.args.basis.now.rules.now.classes (place_at c.args.here.now)) c.value.ensures.gains
+    c.in_ok-value.ensures.come (nothing_gained c.args.basis.now.rules.now c.args.basis.now.store.now g.K.Keeper.exact (Gives (Truth
     c.in_ok-holds.holds)) _ c.value.new.self.few c.value.ensures.gains.right)
 
 pub either-returns-clause-come : goal.either-returns-clause-come
 either-returns-clause-come g n c =
-    either_come c.args.rules.now c.args.store.now g.K.Keeper.exact (place_at c.args.here.now) c.args.test.now
+    either_come c.args.basis.now.rules.now c.args.basis.now.store.now g.K.Keeper.exact (place_at c.args.here.now) c.args.test.now
     c.args.yes c.args.no c.in_ok-value.value c.in_ok-holds.holds (Gives (Truth c.in_ok-holds.holds)) _ _ _ _ _
-    c.in_ok-holds.ensures (ap (λ o. or_truth c.args.rules.now.classes (place_at c.args.here.now) o c.in_ok-holds.holds)
-    (sym c.in-None.is) ∙ c.chosen.ensures c.args.rules.now.classes (place_at c.args.here.now)) c.value.ensures.gains
-    c.in_ok-value.ensures.come (nothing_gained c.args.rules.now c.args.store.now g.K.Keeper.exact (Gives (Truth
+    c.in_ok-holds.ensures (ap (λ o. or_truth c.args.basis.now.rules.now.classes (place_at c.args.here.now) o c.in_ok-holds.holds)
+    (sym c.in-None.is) ∙ c.chosen.ensures c.args.basis.now.rules.now.classes (place_at c.args.here.now)) c.value.ensures.gains
+    c.in_ok-value.ensures.come (nothing_gained c.args.basis.now.rules.now c.args.basis.now.store.now g.K.Keeper.exact (Gives (Truth
     c.in_ok-holds.holds)) _ c.value.new.self.few c.value.ensures.gains.right) {E = ℕ} (Ok (value.Bool
-    c.in_ok-holds.holds)) c.value.new.level (come_gives c.args.rules.now c.args.store.now _ c.value.new.level (Gives
+    c.in_ok-holds.holds)) c.value.new.level (come_gives c.args.basis.now.rules.now c.args.basis.now.store.now _ c.value.new.level (Gives
     (Truth c.in_ok-holds.holds)) (Truth c.in_ok-holds.holds) refl)
 
 pub call-returns-in_err-value-clause-gains : goal.call-returns-in_err-value-clause-gains
 call-returns-in_err-value-clause-gains g n c =
-    call_gains_first c.args.rules.now c.args.store.now g.K.Keeper.exact (place_at c.args.here.now) c.args.receiver.now
+    call_gains_first c.args.basis.now.rules.now c.args.basis.now.store.now g.K.Keeper.exact (place_at c.args.here.now) c.args.receiver.now
     c.args.attribute c.args.passed.now _ _ c.value.ensures.gains
 
 pub call-returns-in_err-arguments-clause-gains : goal.call-returns-in_err-arguments-clause-gains
 call-returns-in_err-arguments-clause-gains g n c =
-    call_gains_second c.args.rules.now c.args.store.now g.K.Keeper.exact (place_at c.args.here.now) c.args.receiver.now
+    call_gains_second c.args.basis.now.rules.now c.args.basis.now.store.now g.K.Keeper.exact (place_at c.args.here.now) c.args.receiver.now
     c.args.attribute c.args.passed.now c.in_ok-value.value _ _ (held (g.K.Keeper.contents c.passed.new.keeper)
     (g.K.Keeper.memories c.passed.new.keeper) c.passed.new.self.found.entries c.passed.new.self.work) _ _
     c.value.ensures.gains c.in_ok-value.ensures.come c.passed.ensures.gains
 
 pub call-returns-in_err-node-clause-gains : goal.call-returns-in_err-node-clause-gains
 call-returns-in_err-node-clause-gains g n c =
-    call_gains_second c.args.rules.now c.args.store.now g.K.Keeper.exact (place_at c.args.here.now) c.args.receiver.now
+    call_gains_second c.args.basis.now.rules.now c.args.basis.now.store.now g.K.Keeper.exact (place_at c.args.here.now) c.args.receiver.now
     c.args.attribute c.args.passed.now c.in_ok-value.value _ _ (held (g.K.Keeper.contents c.passed.new.keeper)
     (g.K.Keeper.memories c.passed.new.keeper) c.passed.new.self.found.entries c.passed.new.self.work) _ _
     c.value.ensures.gains c.in_ok-value.ensures.come c.passed.ensures.gains
 
 pub call-returns-clause-gains : goal.call-returns-clause-gains
 call-returns-clause-gains g n c =
-    call_gains c.args.rules.now c.args.store.now g.K.Keeper.exact (place_at c.args.here.now) c.args.receiver.now
+    call_gains c.args.basis.now.rules.now c.args.basis.now.store.now g.K.Keeper.exact (place_at c.args.here.now) c.args.receiver.now
     c.args.attribute c.args.passed.now c.in_ok-value.value _ _ (held (g.K.Keeper.contents c.passed.new.keeper)
     (g.K.Keeper.memories c.passed.new.keeper) c.passed.new.self.found.entries c.passed.new.self.work) _ _
     c.value.ensures.gains c.in_ok-value.ensures.come c.passed.ensures.gains c.in_ok-node.node
     c.in_ok-arguments.arguments (held (g.K.Keeper.contents c.told.new.keeper) (g.K.Keeper.memories c.told.new.keeper)
     c.told.new.self.found.entries c.told.new.self.work) c.passed.new.level c.in_ok-node.ensures
-    c.in_ok-arguments.ensures.come (subst (λ i. Gains c.args.rules.now c.args.store.now g.K.Keeper.exact i
+    c.in_ok-arguments.ensures.come (subst (λ i. Gains c.args.basis.now.rules.now c.args.basis.now.store.now g.K.Keeper.exact i
     (g.K.Keeper.contents c.passed.new.keeper) (g.K.Keeper.contents c.told.new.keeper) c.passed.new.self.found.entries
     c.told.new.self.found.entries c.passed.new.self.work c.told.new.self.work) c.new.ensures c.told.ensures.gains)
-    (subst (λ i. StayJustified c.args.rules.now c.args.store.now i (g.K.Keeper.memories c.passed.new.keeper)
+    (subst (λ i. StayJustified c.args.basis.now.rules.now c.args.basis.now.store.now i (g.K.Keeper.memories c.passed.new.keeper)
     (g.K.Keeper.memories c.told.new.keeper)) c.new.ensures c.told.ensures.traces)
 
 pub call-returns-clause-come : goal.call-returns-clause-come
 call-returns-clause-come g n c =
-    call_come c.args.rules.now c.args.store.now g.K.Keeper.exact (place_at c.args.here.now) c.args.receiver.now
+    call_come c.args.basis.now.rules.now c.args.basis.now.store.now g.K.Keeper.exact (place_at c.args.here.now) c.args.receiver.now
     c.args.attribute c.args.passed.now c.in_ok-value.value _ _ (held (g.K.Keeper.contents c.passed.new.keeper)
     (g.K.Keeper.memories c.passed.new.keeper) c.passed.new.self.found.entries c.passed.new.self.work) _ _
     c.value.ensures.gains c.in_ok-value.ensures.come c.passed.ensures.gains c.in_ok-node.node
     c.in_ok-arguments.arguments (held (g.K.Keeper.contents c.told.new.keeper) (g.K.Keeper.memories c.told.new.keeper)
     c.told.new.self.found.entries c.told.new.self.work) c.passed.new.level c.in_ok-node.ensures
-    c.in_ok-arguments.ensures.come (subst (λ i. Gains c.args.rules.now c.args.store.now g.K.Keeper.exact i
+    c.in_ok-arguments.ensures.come (subst (λ i. Gains c.args.basis.now.rules.now c.args.basis.now.store.now g.K.Keeper.exact i
     (g.K.Keeper.contents c.passed.new.keeper) (g.K.Keeper.contents c.told.new.keeper) c.passed.new.self.found.entries
     c.told.new.self.found.entries c.passed.new.self.work c.told.new.self.work) c.new.ensures c.told.ensures.gains)
-    (subst (λ i. StayJustified c.args.rules.now c.args.store.now i (g.K.Keeper.memories c.passed.new.keeper)
+    (subst (λ i. StayJustified c.args.basis.now.rules.now c.args.basis.now.store.now i (g.K.Keeper.memories c.passed.new.keeper)
     (g.K.Keeper.memories c.told.new.keeper)) c.new.ensures c.told.ensures.traces) c.told.result c.told.new.level (subst
-    (λ i. IfOk c.told.result (λ u. HasTold c.args.rules.now (contents c.args.store.now) (values_in (held
+    (λ i. IfOk c.told.result (λ u. HasTold c.args.basis.now.rules.now (contents c.args.basis.now.store.now) (values_in (held
     (g.K.Keeper.contents c.told.new.keeper) (g.K.Keeper.memories c.told.new.keeper) c.told.new.self.found.entries
     c.told.new.self.work)) c.passed.new.level c.told.new.level i (value_view u))) c.new.ensures c.told.ensures.told)
 
 pub over-returns-in_err-value-clause-gains : goal.over-returns-in_err-value-clause-gains
 over-returns-in_err-value-clause-gains g n c =
-    fold_gains_first c.args.rules.now c.args.store.now g.K.Keeper.exact (place_at c.args.here.now) c.args.fold
+    fold_gains_first c.args.basis.now.rules.now c.args.basis.now.store.now g.K.Keeper.exact (place_at c.args.here.now) c.args.fold
     c.args.of.now c.args.part c.args.body.now _ _ c.value.ensures.gains
 
 pub over-returns-in_err-node-clause-gains : goal.over-returns-in_err-node-clause-gains
 over-returns-in_err-node-clause-gains g n c =
-    fold_gains_first c.args.rules.now c.args.store.now g.K.Keeper.exact (place_at c.args.here.now) c.args.fold
+    fold_gains_first c.args.basis.now.rules.now c.args.basis.now.store.now g.K.Keeper.exact (place_at c.args.here.now) c.args.fold
     c.args.of.now c.args.part c.args.body.now _ _ c.value.ensures.gains
 
 pub over-returns-in_err-push-clause-gains : goal.over-returns-in_err-push-clause-gains
 over-returns-in_err-push-clause-gains g n c =
-    fold_gains_first c.args.rules.now c.args.store.now g.K.Keeper.exact (place_at c.args.here.now) c.args.fold
+    fold_gains_first c.args.basis.now.rules.now c.args.basis.now.store.now g.K.Keeper.exact (place_at c.args.here.now) c.args.fold
     c.args.of.now c.args.part c.args.body.now _ _ c.value.ensures.gains
 
 pub over-returns-clause-gains : goal.over-returns-clause-gains
 over-returns-clause-gains g n c =
-    fold_gains c.args.rules.now c.args.store.now g.K.Keeper.exact (place_at c.args.here.now) c.args.fold c.args.of.now
+    fold_gains c.args.basis.now.rules.now c.args.basis.now.store.now g.K.Keeper.exact (place_at c.args.here.now) c.args.fold c.args.of.now
     c.args.part c.args.body.now c.in_ok-value.value c.in_ok-node.node c.children.result.now _ _ _ _ _ (record {
       reads =
           c.push.new.self;
@@ -713,7 +734,7 @@ over-returns-clause-gains g n c =
 
 pub over-returns-clause-come : goal.over-returns-clause-come
 over-returns-clause-come g n c =
-    fold_come c.args.rules.now c.args.store.now g.K.Keeper.exact (place_at c.args.here.now) c.args.fold c.args.of.now
+    fold_come c.args.basis.now.rules.now c.args.basis.now.store.now g.K.Keeper.exact (place_at c.args.here.now) c.args.fold c.args.of.now
     c.args.part c.args.body.now c.in_ok-value.value c.in_ok-node.node c.children.result.now _ _ _ _ _ (record {
       reads =
           c.push.new.self;
@@ -724,90 +745,90 @@ over-returns-clause-come g n c =
 
 pub passed-returns-then-hands_on-clause-gains : goal.passed-returns-then-hands_on-clause-gains
 passed-returns-then-hands_on-clause-gains g n c =
-    nothing_gained c.args.rules.now c.args.store.now g.K.Keeper.exact (ev_all c.args.rules.now.classes (bodies_view
-    c.args.passed.now) (place_at c.args.here.now)) _ c.args.self.now.few c.requires.held
+    nothing_gained c.args.basis.now.rules.now c.args.basis.now.store.now g.K.Keeper.exact (ev_all c.args.basis.now.rules.now.classes (bodies_view
+    c.args.passed.now) (place_at c.args.here.now)) _ c.args.self.now.few c.requires
 
 pub passed-returns-then-hands_on-clause-come : goal.passed-returns-then-hands_on-clause-come
 passed-returns-then-hands_on-clause-come g n c =
-    IfOk-weaker c.handed_on.result _ _ (λ a h. come_gives c.args.rules.now c.args.store.now (held (g.K.Keeper.contents
+    IfOk-weaker c.handed_on.result _ _ (λ a h. come_gives c.args.basis.now.rules.now c.args.basis.now.store.now (held (g.K.Keeper.contents
     c.args.keeper.now) (g.K.Keeper.memories c.args.keeper.now) c.args.self.now.found.entries c.args.self.now.work)
-    c.args.level.now (ev_all c.args.rules.now.classes (bodies_view c.args.passed.now) (place_at c.args.here.now)) (map
-    value_view a) (c.hands_on.ensures c.if-hands_on.true c.args.rules.now.classes ∙ ap (λ (vs : List ValueCode). Gives
+    c.args.level.now (ev_all c.args.basis.now.rules.now.classes (bodies_view c.args.passed.now) (place_at c.args.here.now)) (map
+    value_view a) (c.hands_on.ensures c.if-hands_on.true c.args.basis.now.rules.now.classes ∙ ap (λ (vs : List ValueCode). Gives
     (map value_view vs)) (sym h))) c.handed_on.ensures
 
 pub passed-loop-argument-init : goal.passed-loop-argument-init
 passed-loop-argument-init g n c =
-    starts c.args.rules.now c.args.store.now g.K.Keeper.exact _ c.args.level.now (ev_all c.args.rules.now.classes
+    starts c.args.basis.now.rules.now c.args.basis.now.store.now g.K.Keeper.exact _ c.args.level.now (ev_all c.args.basis.now.rules.now.classes
     (bodies_view c.args.passed.now) (place_at c.args.here.now)) (λ vs. map value_view c.new-values.result.items ++ vs)
-    (λ vs. ap (λ (us : List ValueCode). map value_view us ++ vs) c.new-values.ensures.items) c.requires.held
+    (λ vs. ap (λ (us : List ValueCode). map value_view us ++ vs) c.new-values.ensures.items) c.requires
 
 pub passed-returns-in_err-value-clause-gains : goal.passed-returns-in_err-value-clause-gains
 passed-returns-in_err-value-clause-gains g n c =
-    passed_gains c.args.rules.now c.args.store.now g.K.Keeper.exact (place_at c.args.here.now) (ev_all
-    c.args.rules.now.classes (bodies_view c.args.passed.now) (place_at c.args.here.now)) _ _ _ _ _ c.value.new.level
+    passed_gains c.args.basis.now.rules.now c.args.basis.now.store.now g.K.Keeper.exact (place_at c.args.here.now) (ev_all
+    c.args.basis.now.rules.now.classes (bodies_view c.args.passed.now) (place_at c.args.here.now)) _ _ _ _ _ c.value.new.level
     c.in-Some.argument.now c.in-Some.others.now c.loop-argument.rest.now c.in-Some.ensures.cases.0
     c.loop-argument.values.items c.loop-argument.invariant c.value.ensures.gains
 
 pub passed-returns-in_err-push-clause-gains : goal.passed-returns-in_err-push-clause-gains
 passed-returns-in_err-push-clause-gains g n c =
-    passed_gains c.args.rules.now c.args.store.now g.K.Keeper.exact (place_at c.args.here.now) (ev_all
-    c.args.rules.now.classes (bodies_view c.args.passed.now) (place_at c.args.here.now)) _ _ _ _ _ c.value.new.level
+    passed_gains c.args.basis.now.rules.now c.args.basis.now.store.now g.K.Keeper.exact (place_at c.args.here.now) (ev_all
+    c.args.basis.now.rules.now.classes (bodies_view c.args.passed.now) (place_at c.args.here.now)) _ _ _ _ _ c.value.new.level
     c.in-Some.argument.now c.in-Some.others.now c.loop-argument.rest.now c.in-Some.ensures.cases.0
     c.loop-argument.values.items c.loop-argument.invariant c.value.ensures.gains
 
 pub passed-loop-argument-preserved : goal.passed-loop-argument-preserved
 passed-loop-argument-preserved g n c =
-    passed_on c.args.rules.now c.args.store.now g.K.Keeper.exact (place_at c.args.here.now) (ev_all
-    c.args.rules.now.classes (bodies_view c.args.passed.now) (place_at c.args.here.now)) _ _ _ _ _ c.value.new.level
+    passed_on c.args.basis.now.rules.now c.args.basis.now.store.now g.K.Keeper.exact (place_at c.args.here.now) (ev_all
+    c.args.basis.now.rules.now.classes (bodies_view c.args.passed.now) (place_at c.args.here.now)) _ _ _ _ _ c.value.new.level
     c.in-Some.argument.now c.in-Some.others.now c.loop-argument.rest.now c.in-Some.ensures.cases.0
     c.loop-argument.values.items c.loop-argument.invariant c.value.ensures.gains c.in_ok-value.value
     c.push.new.self.items c.in_ok-push.ensures.items c.in_ok-value.ensures.come
 
 pub passed-returns-in_err-arguments-clause-gains : goal.passed-returns-in_err-arguments-clause-gains
 passed-returns-in_err-arguments-clause-gains g n c =
-    gains_so_far c.args.rules.now c.args.store.now g.K.Keeper.exact (ev_all c.args.rules.now.classes (bodies_view
+    gains_so_far c.args.basis.now.rules.now c.args.basis.now.store.now g.K.Keeper.exact (ev_all c.args.basis.now.rules.now.classes (bodies_view
     c.args.passed.now) (place_at c.args.here.now)) _ _ _ _ _ _ c.loop-argument.self.few c.loop-argument.invariant
 
 pub passed-returns-clause-gains : goal.passed-returns-clause-gains
 passed-returns-clause-gains g n c =
-    gains_so_far c.args.rules.now c.args.store.now g.K.Keeper.exact (ev_all c.args.rules.now.classes (bodies_view
+    gains_so_far c.args.basis.now.rules.now c.args.basis.now.store.now g.K.Keeper.exact (ev_all c.args.basis.now.rules.now.classes (bodies_view
     c.args.passed.now) (place_at c.args.here.now)) _ _ _ _ _ _ c.loop-argument.self.few c.loop-argument.invariant
 
 pub passed-returns-clause-come : goal.passed-returns-clause-come
 passed-returns-clause-come g n c =
-    subst (λ (vs : List ValueCode). HasCome c.args.rules.now (contents c.args.store.now) (held (g.K.Keeper.contents
+    subst (λ (vs : List ValueCode). HasCome c.args.basis.now.rules.now (contents c.args.basis.now.store.now) (held (g.K.Keeper.contents
     c.loop-argument.keeper) (g.K.Keeper.memories c.loop-argument.keeper) c.loop-argument.self.found.entries
-    c.loop-argument.self.work) c.args.level.now c.loop-argument.level (ev_all c.args.rules.now.classes (bodies_view
+    c.loop-argument.self.work) c.args.level.now c.loop-argument.level (ev_all c.args.basis.now.rules.now.classes (bodies_view
     c.args.passed.now) (place_at c.args.here.now)) (map value_view vs)) (sym c.in_ok-arguments.ensures) (passed_all
-    c.args.rules.now c.args.store.now g.K.Keeper.exact (place_at c.args.here.now) (ev_all c.args.rules.now.classes
+    c.args.basis.now.rules.now c.args.basis.now.store.now g.K.Keeper.exact (place_at c.args.here.now) (ev_all c.args.basis.now.rules.now.classes
     (bodies_view c.args.passed.now) (place_at c.args.here.now)) _ _ c.args.level.now c.loop-argument.level
     c.loop-argument.rest.now (nil_from_length _ c.in_default.ensures.cases) c.loop-argument.values.items
     c.loop-argument.invariant)
 
 pub each-returns-in_err-inside-clause-gains : goal.each-returns-in_err-inside-clause-gains
 each-returns-in_err-inside-clause-gains g n c =
-    nothing_gained c.args.rules.now c.args.store.now g.K.Keeper.exact (over c.args.rules.now.classes c.args.fold
-    (body_view c.args.body.now) (place_at c.args.here.now) c.args.nodes.now) _ c.args.self.now.few c.requires.held
+    nothing_gained c.args.basis.now.rules.now c.args.basis.now.store.now g.K.Keeper.exact (over c.args.basis.now.rules.now.classes c.args.fold
+    (body_view c.args.body.now) (place_at c.args.here.now) c.args.nodes.now) _ c.args.self.now.few c.requires
 
 pub each-loop-node-init : goal.each-loop-node-init
 each-loop-node-init g n c =
     record {
       place = c.in_ok-inside.ensures;
-      goes = starts c.args.rules.now c.args.store.now g.K.Keeper.exact _
-          c.args.level.now (over c.args.rules.now.classes c.args.fold (body_view c.args.body.now) (place_at c.args.here.now)
-          c.args.nodes.now) (λ v. v) (λ v. refl) c.requires.held;
+      goes = starts c.args.basis.now.rules.now c.args.basis.now.store.now g.K.Keeper.exact _
+          c.args.level.now (over c.args.basis.now.rules.now.classes c.args.fold (body_view c.args.body.now) (place_at c.args.here.now)
+          c.args.nodes.now) (λ v. v) (λ v. refl) c.requires;
     }
 
 pub each-returns-in_err-push-clause-gains : goal.each-returns-in_err-push-clause-gains
 each-returns-in_err-push-clause-gains g n c =
-    gains_so_far c.args.rules.now c.args.store.now g.K.Keeper.exact (over c.args.rules.now.classes c.args.fold
+    gains_so_far c.args.basis.now.rules.now c.args.basis.now.store.now g.K.Keeper.exact (over c.args.basis.now.rules.now.classes c.args.fold
     (body_view c.args.body.now) (place_at c.args.here.now) c.args.nodes.now) _ _ _ _ _ _ c.loop-node.self.few
     c.loop-node.invariant.goes
 
 pub each-returns-in_err-value-clause-gains : goal.each-returns-in_err-value-clause-gains
 each-returns-in_err-value-clause-gains g n c =
-    each_gains c.args.rules.now c.args.store.now g.K.Keeper.exact (place_at c.args.here.now) (over
-    c.args.rules.now.classes c.args.fold (body_view c.args.body.now) (place_at c.args.here.now) c.args.nodes.now) _ _ _
+    each_gains c.args.basis.now.rules.now c.args.basis.now.store.now g.K.Keeper.exact (place_at c.args.here.now) (over
+    c.args.basis.now.rules.now.classes c.args.fold (body_view c.args.body.now) (place_at c.args.here.now) c.args.nodes.now) _ _ _
     _ _ c.value.new.level c.loop-node.going c.args.body.now c.in-Some.node.now c.in-Some.others.now
     c.loop-node.rest.now c.in-Some.ensures.cases.0 (place_at (record c.loop-node.inside { bound = c.push.new.self }))
     (bound_at (place_at c.loop-node.inside) (place_at c.args.here.now) c.in-Some.node.now c.push.new.self
@@ -815,8 +836,8 @@ each-returns-in_err-value-clause-gains g n c =
 
 pub each-returns-in_err-next-clause-gains : goal.each-returns-in_err-next-clause-gains
 each-returns-in_err-next-clause-gains g n c =
-    each_gains c.args.rules.now c.args.store.now g.K.Keeper.exact (place_at c.args.here.now) (over
-    c.args.rules.now.classes c.args.fold (body_view c.args.body.now) (place_at c.args.here.now) c.args.nodes.now) _ _ _
+    each_gains c.args.basis.now.rules.now c.args.basis.now.store.now g.K.Keeper.exact (place_at c.args.here.now) (over
+    c.args.basis.now.rules.now.classes c.args.fold (body_view c.args.body.now) (place_at c.args.here.now) c.args.nodes.now) _ _ _
     _ _ c.value.new.level c.loop-node.going c.args.body.now c.in-Some.node.now c.in-Some.others.now
     c.loop-node.rest.now c.in-Some.ensures.cases.0 (place_at (record c.loop-node.inside { bound = c.push.new.self }))
     (bound_at (place_at c.loop-node.inside) (place_at c.args.here.now) c.in-Some.node.now c.push.new.self
@@ -824,8 +845,8 @@ each-returns-in_err-next-clause-gains g n c =
 
 pub each-returns-in-End-clause-gains : goal.each-returns-in-End-clause-gains
 each-returns-in-End-clause-gains g n c =
-    each_gains c.args.rules.now c.args.store.now g.K.Keeper.exact (place_at c.args.here.now) (over
-    c.args.rules.now.classes c.args.fold (body_view c.args.body.now) (place_at c.args.here.now) c.args.nodes.now) _ _ _
+    each_gains c.args.basis.now.rules.now c.args.basis.now.store.now g.K.Keeper.exact (place_at c.args.here.now) (over
+    c.args.basis.now.rules.now.classes c.args.fold (body_view c.args.body.now) (place_at c.args.here.now) c.args.nodes.now) _ _ _
     _ _ c.value.new.level c.loop-node.going c.args.body.now c.in-Some.node.now c.in-Some.others.now
     c.loop-node.rest.now c.in-Some.ensures.cases.0 (place_at (record c.loop-node.inside { bound = c.push.new.self }))
     (bound_at (place_at c.loop-node.inside) (place_at c.args.here.now) c.in-Some.node.now c.push.new.self
@@ -833,15 +854,15 @@ each-returns-in-End-clause-gains g n c =
 
 pub each-returns-in-End-clause-come : goal.each-returns-in-End-clause-come
 each-returns-in-End-clause-come g n c =
-    each_ends c.args.rules.now c.args.store.now g.K.Keeper.exact (place_at c.args.here.now) (over
-    c.args.rules.now.classes c.args.fold (body_view c.args.body.now) (place_at c.args.here.now) c.args.nodes.now) _ _ _
+    each_ends c.args.basis.now.rules.now c.args.basis.now.store.now g.K.Keeper.exact (place_at c.args.here.now) (over
+    c.args.basis.now.rules.now.classes c.args.fold (body_view c.args.body.now) (place_at c.args.here.now) c.args.nodes.now) _ _ _
     _ _ c.value.new.level c.loop-node.going c.args.body.now c.in-Some.node.now c.in-Some.others.now
     c.loop-node.rest.now c.in-Some.ensures.cases.0 (place_at (record c.loop-node.inside { bound = c.push.new.self }))
     (bound_at (place_at c.loop-node.inside) (place_at c.args.here.now) c.in-Some.node.now c.push.new.self
     c.loop-node.invariant.place c.in_ok-push.ensures) c.loop-node.invariant.goes c.value.ensures.gains (value_view
     c.in_ok-value.value) c.in_ok-value.ensures.come (value_view c.in-End.value) (c.in_ok-next.ensures
-    c.args.rules.now.classes (body_view c.args.body.now) (place_at c.args.here.now) c.in-Some.others.now ∙ ap (next_of
-    c.args.rules.now.classes (body_view c.args.body.now) (place_at c.args.here.now) c.in-Some.others.now) c.in-End.is)
+    c.args.basis.now.rules.now.classes (body_view c.args.body.now) (place_at c.args.here.now) c.in-Some.others.now ∙ ap (next_of
+    c.args.basis.now.rules.now.classes (body_view c.args.body.now) (place_at c.args.here.now) c.in-Some.others.now) c.in-End.is)
 
 pub each-loop-node-preserved : goal.each-loop-node-preserved
 each-loop-node-preserved g n c =
@@ -849,14 +870,14 @@ each-loop-node-preserved g n c =
       place = unbound_at (place_at c.loop-node.inside) (place_at c.args.here.now) c.in-Some.node.now
           c.push.new.self c.pop.new.self c.loop-node.invariant.place c.in_ok-push.ensures c.pop.ensures.left;
       goes = each_on
-          c.args.rules.now c.args.store.now g.K.Keeper.exact (place_at c.args.here.now) (over c.args.rules.now.classes
+          c.args.basis.now.rules.now c.args.basis.now.store.now g.K.Keeper.exact (place_at c.args.here.now) (over c.args.basis.now.rules.now.classes
           c.args.fold (body_view c.args.body.now) (place_at c.args.here.now) c.args.nodes.now) _ _ _ _ _ c.value.new.level
           c.loop-node.going c.args.body.now c.in-Some.node.now c.in-Some.others.now c.loop-node.rest.now
           c.in-Some.ensures.cases.0 (place_at (record c.loop-node.inside { bound = c.push.new.self })) (bound_at (place_at
           c.loop-node.inside) (place_at c.args.here.now) c.in-Some.node.now c.push.new.self c.loop-node.invariant.place
           c.in_ok-push.ensures) c.loop-node.invariant.goes c.value.ensures.gains (value_view c.in_ok-value.value)
-          c.in_ok-value.ensures.come c.in-On.further (c.in_ok-next.ensures c.args.rules.now.classes (body_view
-          c.args.body.now) (place_at c.args.here.now) c.in-Some.others.now ∙ ap (next_of c.args.rules.now.classes (body_view
+          c.in_ok-value.ensures.come c.in-On.further (c.in_ok-next.ensures c.args.basis.now.rules.now.classes (body_view
+          c.args.body.now) (place_at c.args.here.now) c.in-Some.others.now ∙ ap (next_of c.args.basis.now.rules.now.classes (body_view
           c.args.body.now) (place_at c.args.here.now) c.in-Some.others.now) c.in-On.is);
     }
 
@@ -866,105 +887,105 @@ each-loop-node-preserved-in-On g n c =
       place = unbound_at (place_at c.loop-node.inside) (place_at c.args.here.now) c.in-Some.node.now
           c.push.new.self c.pop.new.self c.loop-node.invariant.place c.in_ok-push.ensures c.pop.ensures.left;
       goes = each_on
-          c.args.rules.now c.args.store.now g.K.Keeper.exact (place_at c.args.here.now) (over c.args.rules.now.classes
+          c.args.basis.now.rules.now c.args.basis.now.store.now g.K.Keeper.exact (place_at c.args.here.now) (over c.args.basis.now.rules.now.classes
           c.args.fold (body_view c.args.body.now) (place_at c.args.here.now) c.args.nodes.now) _ _ _ _ _ c.value.new.level
           c.loop-node.going c.args.body.now c.in-Some.node.now c.in-Some.others.now c.loop-node.rest.now
           c.in-Some.ensures.cases.0 (place_at (record c.loop-node.inside { bound = c.push.new.self })) (bound_at (place_at
           c.loop-node.inside) (place_at c.args.here.now) c.in-Some.node.now c.push.new.self c.loop-node.invariant.place
           c.in_ok-push.ensures) c.loop-node.invariant.goes c.value.ensures.gains (value_view c.in_ok-value.value)
-          c.in_ok-value.ensures.come c.in-On.further (c.in_ok-next.ensures c.args.rules.now.classes (body_view
-          c.args.body.now) (place_at c.args.here.now) c.in-Some.others.now ∙ ap (next_of c.args.rules.now.classes (body_view
+          c.in_ok-value.ensures.come c.in-On.further (c.in_ok-next.ensures c.args.basis.now.rules.now.classes (body_view
+          c.args.body.now) (place_at c.args.here.now) c.in-Some.others.now ∙ ap (next_of c.args.basis.now.rules.now.classes (body_view
           c.args.body.now) (place_at c.args.here.now) c.in-Some.others.now) c.in-On.is);
     }
 
 pub each-returns-clause-gains : goal.each-returns-clause-gains
 each-returns-clause-gains g n c =
-    gains_so_far c.args.rules.now c.args.store.now g.K.Keeper.exact (over c.args.rules.now.classes c.args.fold
+    gains_so_far c.args.basis.now.rules.now c.args.basis.now.store.now g.K.Keeper.exact (over c.args.basis.now.rules.now.classes c.args.fold
     (body_view c.args.body.now) (place_at c.args.here.now) c.args.nodes.now) _ _ _ _ _ _ c.loop-node.self.few
     c.loop-node.invariant.goes
 
 pub each-returns-clause-come : goal.each-returns-clause-come
 each-returns-clause-come g n c =
-    each_all c.args.rules.now c.args.store.now g.K.Keeper.exact (place_at c.args.here.now) (over
-    c.args.rules.now.classes c.args.fold (body_view c.args.body.now) (place_at c.args.here.now) c.args.nodes.now) _ _
+    each_all c.args.basis.now.rules.now c.args.basis.now.store.now g.K.Keeper.exact (place_at c.args.here.now) (over
+    c.args.basis.now.rules.now.classes c.args.fold (body_view c.args.body.now) (place_at c.args.here.now) c.args.nodes.now) _ _
     c.args.level.now c.loop-node.level c.loop-node.going c.args.body.now c.loop-node.rest.now (nil_from_length _
-    c.in_default.ensures.cases) (value_view c.come_to.result) (c.come_to.ensures c.args.rules.now.classes (body_view
+    c.in_default.ensures.cases) (value_view c.come_to.result) (c.come_to.ensures c.args.basis.now.rules.now.classes (body_view
     c.args.body.now) (place_at c.args.here.now)) c.loop-node.invariant.goes
 
 pub value-returns-then-above-eq0-clause-gains : goal.value-returns-then-above-eq0-clause-gains
 value-returns-then-above-eq0-clause-gains g n c =
-    nothing_gained c.args.rules.now c.args.store.now g.K.Keeper.exact (ev c.args.rules.now.classes (body_view
-    c.args.body.now) (place_at c.args.here.now)) _ c.args.self.now.few c.requires.held
+    nothing_gained c.args.basis.now.rules.now c.args.basis.now.store.now g.K.Keeper.exact (ev c.args.basis.now.rules.now.classes (body_view
+    c.args.body.now) (place_at c.args.here.now)) _ c.args.self.now.few c.requires
 
 pub value-returns-in-One-clause-gains : goal.value-returns-in-One-clause-gains
 value-returns-in-One-clause-gains g n c =
-    rw (c.form_of.ensures.means c.args.rules.now.classes (place_at c.args.here.now), c.in-One.is)
+    rw (c.form_of.ensures.means c.args.basis.now.rules.now.classes (place_at c.args.here.now), c.in-One.is)
     c.one.ensures.gains
 
 pub value-returns-in-One-clause-come : goal.value-returns-in-One-clause-come
 value-returns-in-One-clause-come g n c =
-    rw (c.form_of.ensures.means c.args.rules.now.classes (place_at c.args.here.now), c.in-One.is)
+    rw (c.form_of.ensures.means c.args.basis.now.rules.now.classes (place_at c.args.here.now), c.in-One.is)
     c.one.ensures.come
 
 pub value-returns-in-Two-clause-gains : goal.value-returns-in-Two-clause-gains
 value-returns-in-Two-clause-gains g n c =
-    rw (c.form_of.ensures.means c.args.rules.now.classes (place_at c.args.here.now), c.in-Two.is)
+    rw (c.form_of.ensures.means c.args.basis.now.rules.now.classes (place_at c.args.here.now), c.in-Two.is)
     c.two.ensures.gains
 
 pub value-returns-in-Two-clause-come : goal.value-returns-in-Two-clause-come
 value-returns-in-Two-clause-come g n c =
-    rw (c.form_of.ensures.means c.args.rules.now.classes (place_at c.args.here.now), c.in-Two.is)
+    rw (c.form_of.ensures.means c.args.basis.now.rules.now.classes (place_at c.args.here.now), c.in-Two.is)
     c.two.ensures.come
 
 pub value-returns-in-Compared-clause-gains : goal.value-returns-in-Compared-clause-gains
 value-returns-in-Compared-clause-gains g n c =
-    rw (c.form_of.ensures.means c.args.rules.now.classes (place_at c.args.here.now), c.in-Compared.is)
+    rw (c.form_of.ensures.means c.args.basis.now.rules.now.classes (place_at c.args.here.now), c.in-Compared.is)
     c.compared.ensures.gains
 
 pub value-returns-in-Compared-clause-come : goal.value-returns-in-Compared-clause-come
 value-returns-in-Compared-clause-come g n c =
-    rw (c.form_of.ensures.means c.args.rules.now.classes (place_at c.args.here.now), c.in-Compared.is)
+    rw (c.form_of.ensures.means c.args.basis.now.rules.now.classes (place_at c.args.here.now), c.in-Compared.is)
     c.compared.ensures.come
 
 pub value-returns-in-Either-clause-gains : goal.value-returns-in-Either-clause-gains
 value-returns-in-Either-clause-gains g n c =
-    rw (c.form_of.ensures.means c.args.rules.now.classes (place_at c.args.here.now), c.in-Either.is)
+    rw (c.form_of.ensures.means c.args.basis.now.rules.now.classes (place_at c.args.here.now), c.in-Either.is)
     c.either.ensures.gains
 
 pub value-returns-in-Either-clause-come : goal.value-returns-in-Either-clause-come
 value-returns-in-Either-clause-come g n c =
-    rw (c.form_of.ensures.means c.args.rules.now.classes (place_at c.args.here.now), c.in-Either.is)
+    rw (c.form_of.ensures.means c.args.basis.now.rules.now.classes (place_at c.args.here.now), c.in-Either.is)
     c.either.ensures.come
 
 pub value-returns-in-Call-clause-gains : goal.value-returns-in-Call-clause-gains
 value-returns-in-Call-clause-gains g n c =
-    rw (c.form_of.ensures.means c.args.rules.now.classes (place_at c.args.here.now), c.in-Call.is)
+    rw (c.form_of.ensures.means c.args.basis.now.rules.now.classes (place_at c.args.here.now), c.in-Call.is)
     c.call.ensures.gains
 
 pub value-returns-in-Call-clause-come : goal.value-returns-in-Call-clause-come
 value-returns-in-Call-clause-come g n c =
-    rw (c.form_of.ensures.means c.args.rules.now.classes (place_at c.args.here.now), c.in-Call.is)
+    rw (c.form_of.ensures.means c.args.basis.now.rules.now.classes (place_at c.args.here.now), c.in-Call.is)
     c.call.ensures.come
 
 pub value-returns-in-Over-clause-gains : goal.value-returns-in-Over-clause-gains
 value-returns-in-Over-clause-gains g n c =
-    rw (c.form_of.ensures.means c.args.rules.now.classes (place_at c.args.here.now), c.in-Over.is)
+    rw (c.form_of.ensures.means c.args.basis.now.rules.now.classes (place_at c.args.here.now), c.in-Over.is)
     c.over.ensures.gains
 
 pub value-returns-in-Over-clause-come : goal.value-returns-in-Over-clause-come
 value-returns-in-Over-clause-come g n c =
-    rw (c.form_of.ensures.means c.args.rules.now.classes (place_at c.args.here.now), c.in-Over.is)
+    rw (c.form_of.ensures.means c.args.basis.now.rules.now.classes (place_at c.args.here.now), c.in-Over.is)
     c.over.ensures.come
 
 pub value-returns-in-Plain-clause-gains : goal.value-returns-in-Plain-clause-gains
 value-returns-in-Plain-clause-gains g n c =
-    nothing_gained c.args.rules.now c.args.store.now g.K.Keeper.exact (ev c.args.rules.now.classes (body_view
-    c.args.body.now) (place_at c.args.here.now)) _ c.args.self.now.few c.requires.held
+    nothing_gained c.args.basis.now.rules.now c.args.basis.now.store.now g.K.Keeper.exact (ev c.args.basis.now.rules.now.classes (body_view
+    c.args.body.now) (place_at c.args.here.now)) _ c.args.self.now.few c.requires
 
 pub value-returns-in-Plain-clause-come : goal.value-returns-in-Plain-clause-come
 value-returns-in-Plain-clause-come g n c =
-    IfOk-weaker c.value.result _ _ (λ v h. come_looked c.args.rules.now c.args.store.now (held (g.K.Keeper.contents
+    IfOk-weaker c.value.result _ _ (λ v h. come_looked c.args.basis.now.rules.now c.args.basis.now.store.now (held (g.K.Keeper.contents
     c.args.keeper.now) (g.K.Keeper.memories c.args.keeper.now) c.args.self.now.found.entries c.args.self.now.work)
-    c.args.level.now (record { reads = c.value.new.reads; uses = c.args.level.now.uses }) (ev c.args.rules.now.classes
+    c.args.level.now (record { reads = c.value.new.reads; uses = c.args.level.now.uses }) (ev c.args.basis.now.rules.now.classes
     (body_view c.args.body.now) (place_at c.args.here.now)) (value_view v) refl h) (c.value.ensures
-    c.args.rules.now.classes)
+    c.args.basis.now.rules.now.classes)

@@ -56,20 +56,20 @@ decreases-call g l = 16 * l.above + 9
 
 abbrev pub invariant-verify-loop : goal.invariant-verify-loop
 invariant-verify-loop g l = record {
-  gains : Gains l.rules l.store g.K.Keeper.exact l.needed (g.K.Keeper.contents l.initial.keeper) (g.K.Keeper.contents
+  gains : Gains l.basis.rules.now l.basis.store.now g.K.Keeper.exact l.needed (g.K.Keeper.contents l.initial.keeper) (g.K.Keeper.contents
       l.keeper) l.initial.self.found.entries
       l.self.found.entries l.initial.self.work l.self.work;
-  traces : StayJustified l.rules l.store l.needed (g.K.Keeper.memories l.initial.keeper) (g.K.Keeper.memories l.keeper);
+  traces : StayJustified l.basis.rules.now l.basis.store.now l.needed (g.K.Keeper.memories l.initial.keeper) (g.K.Keeper.memories l.keeper);
   level : l.level ≡ l.initial.level;
 }
 
 abbrev pub invariant-passed-loop-argument : goal.invariant-passed-loop-argument
-invariant-passed-loop-argument g l = GoesOn l.rules l.store g.K.Keeper.exact
+invariant-passed-loop-argument g l = GoesOn l.basis.rules.now l.basis.store.now g.K.Keeper.exact
     (held (g.K.Keeper.contents l.initial.keeper) (g.K.Keeper.memories l.initial.keeper) l.initial.self.found.entries
     l.initial.self.work)
     (held (g.K.Keeper.contents l.keeper) (g.K.Keeper.memories l.keeper) l.self.found.entries l.self.work)
-    l.initial.level l.level (ev_all l.rules.classes (bodies_view l.passed) (place_at l.here))
-    (ev_all l.rules.classes (bodies_view l.rest) (place_at l.here)) (λ vs. map value_view l.values.items ++ vs)
+    l.initial.level l.level (ev_all l.basis.rules.now.classes (bodies_view l.passed) (place_at l.here))
+    (ev_all l.basis.rules.now.classes (bodies_view l.rest) (place_at l.here)) (λ vs. map value_view l.values.items ++ vs)
 
 abbrev pub decreases-passed-loop-argument : goal.decreases-passed-loop-argument
 decreases-passed-loop-argument g l = length l.rest
@@ -77,12 +77,12 @@ decreases-passed-loop-argument g l = length l.rest
 abbrev pub invariant-each-loop-node : goal.invariant-each-loop-node
 invariant-each-loop-node g l = record {
   place : place_at l.inside ≡ place_at l.here;
-  goes : GoesOn l.rules l.store g.K.Keeper.exact
+  goes : GoesOn l.basis.rules.now l.basis.store.now g.K.Keeper.exact
       (held (g.K.Keeper.contents l.initial.keeper) (g.K.Keeper.memories l.initial.keeper) l.initial.self.found.entries
       l.initial.self.work)
       (held (g.K.Keeper.contents l.keeper) (g.K.Keeper.memories l.keeper) l.self.found.entries l.self.work)
-      l.initial.level l.level (over l.rules.classes l.initial.going (body_view l.body) (place_at l.here) l.nodes)
-      (over l.rules.classes l.going (body_view l.body) (place_at l.here) l.rest) (λ v. v);
+      l.initial.level l.level (over l.basis.rules.now.classes l.initial.going (body_view l.body) (place_at l.here) l.nodes)
+      (over l.basis.rules.now.classes l.going (body_view l.body) (place_at l.here) l.rest) (λ v. v);
 }
 
 abbrev pub decreases-each-loop-node : goal.decreases-each-loop-node

@@ -10,15 +10,18 @@ use Rattle.at_demand.specs.Sparing.{HasWorthy}
 use Rattle.at_demand.proofs.of_nesting.InnerGains.{Found, gains_as, gains_from, gains_none, told_holds, told_whole}
 use Rattle.at_demand.proofs.direct.Direct.answer.Goals as goal
 
-pub told-requires-clause-known : goal.told-requires-clause-known
-told-requires-clause-known g c =
-    subst (λ (f : Found). AreKnown c.args.rules.now (contents c.args.store.now) (g.K.Keeper.contents c.args.keeper.now)
-    f) (sym c.level-asks.ensures.found) c.requires.known
+pub told-requires : goal.told-requires
+told-requires g c = record {
+  known =
+      subst (λ (f : Found). AreKnown c.args.basis.now.rules.now (contents c.args.basis.now.store.now)
+      (g.K.Keeper.contents c.args.keeper.now) f) (sym c.level-asks.ensures.found) c.requires.known;
+  justified = c.requires.justified;
+}
 
 pub returns-clause-value : goal.returns-clause-value
 returns-clause-value g c =
-    let rules = c.args.rules.now in
-    let s = c.args.store.now in
+    let rules = c.args.basis.now.rules.now in
+    let s = c.args.basis.now.store.now in
     let new = g.K.Keeper.contents c.told.new.keeper in
     IfOk-weaker c.told.result _ _ (λ v h. subst (λ (i : Instance ℕ). HasValue (contents s) (meaning rules) i
     (value_view v)) c.in_ok-needed.ensures
@@ -27,8 +30,8 @@ returns-clause-value g c =
 
 pub returns-clause-all : goal.returns-clause-all
 returns-clause-all g c = λ k spare.
-    let rules = c.args.rules.now in
-    let s = c.args.store.now in
+    let rules = c.args.basis.now.rules.now in
+    let s = c.args.basis.now.store.now in
     let new = g.K.Keeper.contents c.told.new.keeper in
     IfOk-weaker c.told.result _ _ (λ v h. subst (λ (i : Instance ℕ). HasWorthy rules (contents s) i new)
     c.in_ok-needed.ensures
@@ -42,7 +45,7 @@ returns-clause-gains g c =
     let self = c.args.self.now in
     let asks = c.level-asks.new.self in
     let later = c.told.new.self in
-    gains_from c.args.rules.now c.args.store.now g.K.Keeper.exact c.args.inst.now c.in_ok-needed.needed old new
+    gains_from c.args.basis.now.rules.now c.args.basis.now.store.now g.K.Keeper.exact c.args.inst.now c.in_ok-needed.needed old new
     self.found.entries asks.found.entries later.found.entries self.work asks.work later.work
     c.in_ok-needed.ensures c.level-asks.ensures.found c.level-asks.ensures.work c.told.ensures.gains
 
@@ -51,8 +54,8 @@ returns-in_err-needed-clause-gains g c =
     let entries = g.K.Keeper.contents c.args.keeper.now in
     let self = c.args.self.now in
     let asks = c.level-asks.new.self in
-    gains_as c.args.rules.now c.args.store.now g.K.Keeper.exact c.args.inst.now entries entries self.found.entries
+    gains_as c.args.basis.now.rules.now c.args.basis.now.store.now g.K.Keeper.exact c.args.inst.now entries entries self.found.entries
     self.found.entries asks.found.entries self.work self.work asks.work c.level-asks.ensures.found
     c.level-asks.ensures.work
-    (gains_none c.args.rules.now c.args.store.now g.K.Keeper.exact c.args.inst.now entries self.found.entries
+    (gains_none c.args.basis.now.rules.now c.args.basis.now.store.now g.K.Keeper.exact c.args.inst.now entries self.found.entries
     self.work self.few c.requires.known)

@@ -8,9 +8,9 @@ use Rattle.at_demand.proofs.direct.Direct.in_the_way.Goals as goal
 
 pub returns-clause-led : goal.returns-clause-led
 returns-clause-led g c =
-    subst (λ (x : Instance ℕ). Leads (contents c.args._store.now) (meaning c.args.rules.now) c.args.needed.now x)
+    subst (λ (x : Instance ℕ). Leads (contents c.args.basis.now.store.now) (meaning c.args.basis.now.rules.now) c.args.needed.now x)
     (sym c.in_ok-copy.ensures)
-    (next_led c.args.rules.now c.args._store.now c.requires.idle g.K.Keeper.exact (g.K.Keeper.memories
+    (next_led c.args.basis.now.rules.now c.args.basis.now.store.now c.args.basis.now.idle g.K.Keeper.exact (g.K.Keeper.memories
     c.args.keeper.now) c.requires.justified (g.K.Keeper.contents c.args.keeper.now)
     (g.K.Keeper.kept_last c.args.keeper.now) c.requires.known.right c.args.needed.now c.in-Some.other.now
     c.in-Some.ensures)

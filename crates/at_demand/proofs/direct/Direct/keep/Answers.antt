@@ -14,9 +14,9 @@ use Rattle.at_demand.proofs.direct.Direct.keep.Goals as goal
 pub put-requires-clause-present : goal.put-requires-clause-present
 put-requires-clause-present g c =
     let entries = g.K.Keeper.contents c.args.keeper.now in
-    taken c.args.rules.now c.args.store.now g.K.Keeper.exact c.args.needed entries entries
+    taken c.args.basis.now.rules.now c.args.basis.now.store.now g.K.Keeper.exact c.args.needed entries entries
     c.args.self.now.found.entries (value_view c.args.value.now) c.args.below.now.reads
-    c.args.below.now.uses.items c.requires.known c.requires.come
+    c.args.below.now.uses.items c.requires.held.known c.requires.come
 
 pub returns-in_err-push-in-Kept-clause-gains : goal.returns-in_err-push-in-Kept-clause-gains
 returns-in_err-push-in-Kept-clause-gains g c =
@@ -25,10 +25,10 @@ returns-in_err-push-in-Kept-clause-gains g c =
     let found = c.args.self.now.found.entries in
     let v = value_view c.args.value.now in
     let absent = none_entered (old c.args.needed) c.stands.result c.stands.ensures c.if-stands.false in
-    subst (λ (f : Found). Gains c.args.rules.now c.args.store.now g.K.Keeper.exact c.args.needed old new found f
+    subst (λ (f : Found). Gains c.args.basis.now.rules.now c.args.basis.now.store.now g.K.Keeper.exact c.args.needed old new found f
     c.args.self.now.work c.put.new.self.work) (sym c.put.ensures.found)
-    (gains_put_so c.args.rules.now c.args.store.now g.K.Keeper.exact c.args.needed old new found v
-    c.args.below.now.reads c.args.below.now.uses.items c.requires.known c.requires.come
+    (gains_put_so c.args.basis.now.rules.now c.args.basis.now.store.now g.K.Keeper.exact c.args.needed old new found v
+    c.args.below.now.reads c.args.below.now.uses.items c.requires.held.known c.requires.come
     (Some v) (inl (refl, c.requires.lazy)) absent c.args.self.now.work c.put.new.self.work c.put.ensures.counts
     c.in_ok-put.put c.in_ok-put.ensures.puts)
 
@@ -42,7 +42,7 @@ returns-in_ok-push-in-Kept-clause-told g c =
     let us = c.args.below.now.uses.items in
     let puts = subst (λ (p : Put). HasPut g.K.Keeper.exact entries c.args.needed (Some v) ls us new p) c.in-Kept.is
     c.in_ok-put.ensures.puts in
-    told_kept c.args.rules.now (contents c.args.store.now) (known_by new c.put.new.self.found.entries) old (record {
+    told_kept c.args.basis.now.rules.now (contents c.args.basis.now.store.now) (known_by new c.put.new.self.found.entries) old (record {
       reads = old.reads;
       uses = c.push.new.self;
     }) c.args.needed v
@@ -56,10 +56,10 @@ returns-in_ok-push-in-Kept-clause-gains g c =
     let found = c.args.self.now.found.entries in
     let v = value_view c.args.value.now in
     let absent = none_entered (old c.args.needed) c.stands.result c.stands.ensures c.if-stands.false in
-    subst (λ (f : Found). Gains c.args.rules.now c.args.store.now g.K.Keeper.exact c.args.needed old new found f
+    subst (λ (f : Found). Gains c.args.basis.now.rules.now c.args.basis.now.store.now g.K.Keeper.exact c.args.needed old new found f
     c.args.self.now.work c.put.new.self.work) (sym c.put.ensures.found)
-    (gains_put_so c.args.rules.now c.args.store.now g.K.Keeper.exact c.args.needed old new found v
-    c.args.below.now.reads c.args.below.now.uses.items c.requires.known c.requires.come
+    (gains_put_so c.args.basis.now.rules.now c.args.basis.now.store.now g.K.Keeper.exact c.args.needed old new found v
+    c.args.below.now.reads c.args.below.now.uses.items c.requires.held.known c.requires.come
     (Some v) (inl (refl, c.requires.lazy)) absent c.args.self.now.work c.put.new.self.work c.put.ensures.counts
     c.in_ok-put.put c.in_ok-put.ensures.puts)
 
@@ -68,10 +68,10 @@ returns-in_err-put-clause-gains g c =
     let old = g.K.Keeper.contents c.args.keeper.now in
     let new = g.K.Keeper.contents c.put.new.keeper in
     let found = c.args.self.now.found.entries in
-    subst (λ (f : Found). Gains c.args.rules.now c.args.store.now g.K.Keeper.exact c.args.needed old new found f
+    subst (λ (f : Found). Gains c.args.basis.now.rules.now c.args.basis.now.store.now g.K.Keeper.exact c.args.needed old new found f
     c.args.self.now.work c.put.new.self.work) (sym c.put.ensures.found)
-    (gains_same c.args.rules.now c.args.store.now g.K.Keeper.exact c.args.needed old new found c.args.self.now.work
-    c.put.new.self.work c.in_err-put.ensures.err c.requires.known c.put.ensures.counts)
+    (gains_same c.args.basis.now.rules.now c.args.basis.now.store.now g.K.Keeper.exact c.args.needed old new found c.args.self.now.work
+    c.put.new.self.work c.in_err-put.ensures.err c.requires.held.known c.put.ensures.counts)
 
 pub returns-in_err-put-clause-traces : goal.returns-in_err-put-clause-traces
 returns-in_err-put-clause-traces g c =
@@ -79,13 +79,13 @@ returns-in_err-put-clause-traces g c =
     let new = g.K.Keeper.contents c.put.new.keeper in
     let us = c.args.below.now.uses.items in
     let absent = none_entered (old c.args.needed) c.stands.result c.stands.ensures c.if-stands.false in
-    put_traced c.args.rules.now c.args.store.now c.requires.idle c.args.needed old new c.args.self.now.found.entries
+    put_traced c.args.basis.now.rules.now c.args.basis.now.store.now c.args.basis.now.idle c.args.needed old new c.args.self.now.found.entries
     (value_view c.args.value.now) c.args.below.now.reads us c.order_of-order.result (g.K.Keeper.memories
-    c.args.keeper.now) (g.K.Keeper.memories c.put.new.keeper) c.requires.known c.requires.come c.requires.lazy
-    (λ is. subst (λ (xs : List (Instance ℕ)). AreLazy c.args.rules.now xs) c.as_slice.ensures.value
+    c.args.keeper.now) (g.K.Keeper.memories c.put.new.keeper) c.requires.held.known c.requires.come c.requires.lazy
+    (λ is. subst (λ (xs : List (Instance ℕ)). AreLazy c.args.basis.now.rules.now xs) c.as_slice.ensures.value
     (c.order_of-order.ensures is))
     (λ j some. c.in_err-put.ensures.err j)
-    (g.K.Keeper.kept_last c.put.new.keeper) c.put.ensures.traces c.requires.justified
+    (g.K.Keeper.kept_last c.put.new.keeper) c.put.ensures.traces c.requires.held.justified
 
 pub returns-in_err-push-in-Kept-clause-traces : goal.returns-in_err-push-in-Kept-clause-traces
 returns-in_err-push-in-Kept-clause-traces g c =
@@ -93,15 +93,15 @@ returns-in_err-push-in-Kept-clause-traces g c =
     let new = g.K.Keeper.contents c.put.new.keeper in
     let us = c.args.below.now.uses.items in
     let absent = none_entered (old c.args.needed) c.stands.result c.stands.ensures c.if-stands.false in
-    put_traced c.args.rules.now c.args.store.now c.requires.idle c.args.needed old new c.args.self.now.found.entries
+    put_traced c.args.basis.now.rules.now c.args.basis.now.store.now c.args.basis.now.idle c.args.needed old new c.args.self.now.found.entries
     (value_view c.args.value.now) c.args.below.now.reads us c.order_of-order.result (g.K.Keeper.memories
-    c.args.keeper.now) (g.K.Keeper.memories c.put.new.keeper) c.requires.known c.requires.come c.requires.lazy
-    (λ is. subst (λ (xs : List (Instance ℕ)). AreLazy c.args.rules.now xs) c.as_slice.ensures.value
+    c.args.keeper.now) (g.K.Keeper.memories c.put.new.keeper) c.requires.held.known c.requires.come c.requires.lazy
+    (λ is. subst (λ (xs : List (Instance ℕ)). AreLazy c.args.basis.now.rules.now xs) c.as_slice.ensures.value
     (c.order_of-order.ensures is))
     (stays_put g.K.Keeper.exact old new c.args.needed (Some (value_view c.args.value.now)) c.args.below.now.reads
     us
     c.in_ok-put.put absent c.in_ok-put.ensures.puts)
-    (g.K.Keeper.kept_last c.put.new.keeper) c.put.ensures.traces c.requires.justified
+    (g.K.Keeper.kept_last c.put.new.keeper) c.put.ensures.traces c.requires.held.justified
 
 pub returns-in_ok-push-in-Kept-clause-traces : goal.returns-in_ok-push-in-Kept-clause-traces
 returns-in_ok-push-in-Kept-clause-traces g c =
@@ -109,15 +109,15 @@ returns-in_ok-push-in-Kept-clause-traces g c =
     let new = g.K.Keeper.contents c.put.new.keeper in
     let us = c.args.below.now.uses.items in
     let absent = none_entered (old c.args.needed) c.stands.result c.stands.ensures c.if-stands.false in
-    put_traced c.args.rules.now c.args.store.now c.requires.idle c.args.needed old new c.args.self.now.found.entries
+    put_traced c.args.basis.now.rules.now c.args.basis.now.store.now c.args.basis.now.idle c.args.needed old new c.args.self.now.found.entries
     (value_view c.args.value.now) c.args.below.now.reads us c.order_of-order.result (g.K.Keeper.memories
-    c.args.keeper.now) (g.K.Keeper.memories c.put.new.keeper) c.requires.known c.requires.come c.requires.lazy
-    (λ is. subst (λ (xs : List (Instance ℕ)). AreLazy c.args.rules.now xs) c.as_slice.ensures.value
+    c.args.keeper.now) (g.K.Keeper.memories c.put.new.keeper) c.requires.held.known c.requires.come c.requires.lazy
+    (λ is. subst (λ (xs : List (Instance ℕ)). AreLazy c.args.basis.now.rules.now xs) c.as_slice.ensures.value
     (c.order_of-order.ensures is))
     (stays_put g.K.Keeper.exact old new c.args.needed (Some (value_view c.args.value.now)) c.args.below.now.reads
     us
     c.in_ok-put.put absent c.in_ok-put.ensures.puts)
-    (g.K.Keeper.kept_last c.put.new.keeper) c.put.ensures.traces c.requires.justified
+    (g.K.Keeper.kept_last c.put.new.keeper) c.put.ensures.traces c.requires.held.justified
 
 pub returns-in-Left-clause-traces : goal.returns-in-Left-clause-traces
 returns-in-Left-clause-traces g c =
@@ -125,12 +125,12 @@ returns-in-Left-clause-traces g c =
     let new = g.K.Keeper.contents c.put.new.keeper in
     let us = c.args.below.now.uses.items in
     let absent = none_entered (old c.args.needed) c.stands.result c.stands.ensures c.if-stands.false in
-    put_traced c.args.rules.now c.args.store.now c.requires.idle c.args.needed old new c.args.self.now.found.entries
+    put_traced c.args.basis.now.rules.now c.args.basis.now.store.now c.args.basis.now.idle c.args.needed old new c.args.self.now.found.entries
     (value_view c.args.value.now) c.args.below.now.reads us c.order_of-order.result (g.K.Keeper.memories
-    c.args.keeper.now) (g.K.Keeper.memories c.put.new.keeper) c.requires.known c.requires.come c.requires.lazy
-    (λ is. subst (λ (xs : List (Instance ℕ)). AreLazy c.args.rules.now xs) c.as_slice.ensures.value
+    c.args.keeper.now) (g.K.Keeper.memories c.put.new.keeper) c.requires.held.known c.requires.come c.requires.lazy
+    (λ is. subst (λ (xs : List (Instance ℕ)). AreLazy c.args.basis.now.rules.now xs) c.as_slice.ensures.value
     (c.order_of-order.ensures is))
     (stays_put g.K.Keeper.exact old new c.args.needed (Some (value_view c.args.value.now)) c.args.below.now.reads
     us
     c.in_ok-put.put absent c.in_ok-put.ensures.puts)
-    (g.K.Keeper.kept_last c.put.new.keeper) c.put.ensures.traces c.requires.justified
+    (g.K.Keeper.kept_last c.put.new.keeper) c.put.ensures.traces c.requires.held.justified

@@ -16,10 +16,10 @@ returns g c =
     let found = c.args.self.now.found.entries in
     let is = subst (λ (o : Option ValueCode). IsOneOf (kept_values entries c.args.needed.now) (remembered found
     c.args.needed.now) o) c.in-Some.is c.in_ok-value.ensures in
-    told_kept c.args.rules.now (contents c.args._store.now) (known_by entries found) old (record {
+    told_kept c.args.basis.now.rules.now (contents c.args.basis.now.store.now) (known_by entries found) old (record {
       reads = old.reads;
       uses = c.push.new.self;
     }) c.args.needed.now (value_view c.in-Some.value)
-    (one_known c.args.rules.now (contents c.args._store.now) entries found c.requires.known c.args.needed.now
+    (one_known c.args.basis.now.rules.now (contents c.args.basis.now.store.now) entries found c.requires c.args.needed.now
     (value_view c.in-Some.value) is) refl
     (c.in_ok-push.ensures.items ∙ ap (λ (i : Instance ℕ). old.uses.items ++ i ∷ []) c.in_ok-copy.ensures)

@@ -12,8 +12,8 @@ use Rattle.at_demand.proofs.direct.Direct.remember.Goals as goal
 
 pub returns-in_err-insert-clause-gains : goal.returns-in_err-insert-clause-gains
 returns-in_err-insert-clause-gains g c =
-    let rules = c.args.rules.now in
-    let s = c.args.store.now in
+    let rules = c.args.basis.now.rules.now in
+    let s = c.args.basis.now.store.now in
     let exact = g.K.Keeper.exact in
     let old = g.K.Keeper.contents c.args.keeper.now in
     let new = g.K.Keeper.contents c.stand.new.keeper in
@@ -27,8 +27,8 @@ returns-in_err-insert-clause-gains g c =
 
 pub returns-in_err-push-clause-gains : goal.returns-in_err-push-clause-gains
 returns-in_err-push-clause-gains g c =
-    let rules = c.args.rules.now in
-    let s = c.args.store.now in
+    let rules = c.args.basis.now.rules.now in
+    let s = c.args.basis.now.store.now in
     let exact = g.K.Keeper.exact in
     let old = g.K.Keeper.contents c.args.keeper.now in
     let new = g.K.Keeper.contents c.stand.new.keeper in
@@ -42,14 +42,14 @@ returns-in_err-push-clause-gains g c =
     c.see.new.self.found.entries x copied) c.in_ok-copy.ensures in
     let has = subst (λ (v : Value ℕ). HasValue (contents s) (meaning rules) i v) (sym c.in_ok-copy-2.ensures)
     (valued rules s exact i old old f (value_view c.args.value.now) c.args.below.now.reads
-    c.args.below.now.uses.items c.requires.known c.requires.come) in
+    c.args.below.now.uses.items c.requires.held.known c.requires.come) in
     gains_more rules s exact i old new f c.see.new.self.found.entries c.insert.new.found.entries w c.see.new.self.work
     copied stood put has c.in_ok-stand.ensures.stands c.requires.lazy
 
 pub returns-clause-told : goal.returns-clause-told
 returns-clause-told g c =
-    let rules = c.args.rules.now in
-    let s = c.args.store.now in
+    let rules = c.args.basis.now.rules.now in
+    let s = c.args.basis.now.store.now in
     let exact = g.K.Keeper.exact in
     let old = g.K.Keeper.contents c.args.keeper.now in
     let new = g.K.Keeper.contents c.stand.new.keeper in
@@ -63,7 +63,7 @@ returns-clause-told g c =
     c.see.new.self.found.entries x copied) c.in_ok-copy.ensures in
     let has = subst (λ (v : Value ℕ). HasValue (contents s) (meaning rules) i v) (sym c.in_ok-copy-2.ensures)
     (valued rules s exact i old old f (value_view c.args.value.now) c.args.below.now.reads
-    c.args.below.now.uses.items c.requires.known c.requires.come) in
+    c.args.below.now.uses.items c.requires.held.known c.requires.come) in
     let level = c.args.level.now in
     let is = more_known rules s exact i old new f c.see.new.self.found.entries c.insert.new.found.entries w
     c.see.new.self.work copied stood put has c.in_ok-stand.ensures.stands c.requires.lazy in
@@ -76,8 +76,8 @@ returns-clause-told g c =
 
 pub returns-clause-gains : goal.returns-clause-gains
 returns-clause-gains g c =
-    let rules = c.args.rules.now in
-    let s = c.args.store.now in
+    let rules = c.args.basis.now.rules.now in
+    let s = c.args.basis.now.store.now in
     let exact = g.K.Keeper.exact in
     let old = g.K.Keeper.contents c.args.keeper.now in
     let new = g.K.Keeper.contents c.stand.new.keeper in
@@ -91,6 +91,6 @@ returns-clause-gains g c =
     c.see.new.self.found.entries x copied) c.in_ok-copy.ensures in
     let has = subst (λ (v : Value ℕ). HasValue (contents s) (meaning rules) i v) (sym c.in_ok-copy-2.ensures)
     (valued rules s exact i old old f (value_view c.args.value.now) c.args.below.now.reads
-    c.args.below.now.uses.items c.requires.known c.requires.come) in
+    c.args.below.now.uses.items c.requires.held.known c.requires.come) in
     gains_more rules s exact i old new f c.see.new.self.found.entries c.insert.new.found.entries w c.see.new.self.work
     copied stood put has c.in_ok-stand.ensures.stands c.requires.lazy

@@ -16,8 +16,8 @@ pub put-requires-clause-present : goal.put-requires-clause-present
 put-requires-clause-present g c = λ u h.
     let entries = g.K.Keeper.contents c.args.keeper.now in
     let below = c.args.below.now in
-    taken c.args.rules.now c.args.store.now g.K.Keeper.exact c.args.needed.now entries entries
-    c.args.self.now.found.entries (value_view c.args.value.now) below.reads below.uses.items c.requires.known
+    taken c.args.basis.now.rules.now c.args.basis.now.store.now g.K.Keeper.exact c.args.needed.now entries entries
+    c.args.self.now.found.entries (value_view c.args.value.now) below.reads below.uses.items c.requires.held.known
     c.requires.come u
     (subst (λ (xs : List (Instance ℕ)). Contains xs u) c.as_slice-uses.ensures.value h)
 
@@ -25,9 +25,9 @@ pub returns-in_err-put-clause-gains : goal.returns-in_err-put-clause-gains
 returns-in_err-put-clause-gains g c =
     let old = g.K.Keeper.contents c.args.keeper.now in
     let new = g.K.Keeper.contents c.put.new.self in
-    gains_same c.args.rules.now c.args.store.now g.K.Keeper.exact c.args.needed.now old new
+    gains_same c.args.basis.now.rules.now c.args.basis.now.store.now g.K.Keeper.exact c.args.needed.now old new
     c.args.self.now.found.entries c.args.self.now.work c.args.self.now.work c.in_err-put.ensures.err
-    c.requires.known
+    c.requires.held.known
     (λ k. counts_same old new c.args.self.now.work c.args.self.now.few c.in_err-put.ensures.err)
 
 pub returns-in-Kept-clause-stands : goal.returns-in-Kept-clause-stands
@@ -59,31 +59,31 @@ returns-in-Kept-clause-gains g c =
     c.as_slice-reads.ensures one in
     let puts = subst (λ (xs : List (Instance ℕ)). HasPut exact old i None below.reads xs new c.in_ok-put.put)
     c.as_slice-uses.ensures.value two in
-    gains_put_so c.args.rules.now c.args.store.now exact i old new c.args.self.now.found.entries (value_view
-    c.args.value.now) below.reads below.uses.items c.requires.known c.requires.come
-    None (inr (refl, c.requires.lazy)) absent w w (λ k. counts_shared_so c.args.rules.now c.args.store.now exact old
+    gains_put_so c.args.basis.now.rules.now c.args.basis.now.store.now exact i old new c.args.self.now.found.entries (value_view
+    c.args.value.now) below.reads below.uses.items c.requires.held.known c.requires.come
+    None (inr (refl, c.requires.lazy)) absent w w (λ k. counts_shared_so c.args.basis.now.rules.now c.args.basis.now.store.now exact old
     new i below.reads below.uses.items w c.args.self.now.few absent c.in_ok-put.put puts) c.in_ok-put.put puts
 
 pub returns-in_err-put-clause-traces : goal.returns-in_err-put-clause-traces
 returns-in_err-put-clause-traces g c =
     let old = g.K.Keeper.memories c.args.keeper.now in
     let new = g.K.Keeper.memories c.put.new.self in
-    traced_on c.args.rules.now c.args.store.now c.args.needed.now old new (stay_any _ _ _ _ old new
+    traced_on c.args.basis.now.rules.now c.args.basis.now.store.now c.args.needed.now old new (stay_any _ _ _ _ old new
     c.put.ensures.traces)
-    c.requires.justified
+    c.requires.held.justified
 
 pub returns-in-Kept-clause-traces : goal.returns-in-Kept-clause-traces
 returns-in-Kept-clause-traces g c =
     let old = g.K.Keeper.memories c.args.keeper.now in
     let new = g.K.Keeper.memories c.put.new.self in
-    traced_on c.args.rules.now c.args.store.now c.args.needed.now old new (stay_any _ _ _ _ old new
+    traced_on c.args.basis.now.rules.now c.args.basis.now.store.now c.args.needed.now old new (stay_any _ _ _ _ old new
     c.put.ensures.traces)
-    c.requires.justified
+    c.requires.held.justified
 
 pub returns-in-Left-clause-traces : goal.returns-in-Left-clause-traces
 returns-in-Left-clause-traces g c =
     let old = g.K.Keeper.memories c.args.keeper.now in
     let new = g.K.Keeper.memories c.put.new.self in
-    traced_on c.args.rules.now c.args.store.now c.args.needed.now old new (stay_any _ _ _ _ old new
+    traced_on c.args.basis.now.rules.now c.args.basis.now.store.now c.args.needed.now old new (stay_any _ _ _ _ old new
     c.put.ensures.traces)
-    c.requires.justified
+    c.requires.held.justified
