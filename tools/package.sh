@@ -10,7 +10,7 @@ set -euo pipefail
 cd "$(dirname "$0")/.."
 
 # The libraries of the kit that are built into the program, whose licences ask to be handed on.
-LIBRARIES=(arrayvec clap indexmap itoa slab smallvec strsim thiserror unicode_ident)
+LIBRARIES=(arrayvec clap indexmap itoa memchr slab smallvec strsim thiserror unicode_ident)
 # What the pages link to in the folders of the clients, beside the pages there.
 EXAMPLES=(clients/lsp/sample clients/lsp/attrd_lsp/small clients/page/examples)
 
