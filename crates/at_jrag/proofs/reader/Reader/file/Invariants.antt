@@ -5,7 +5,7 @@ use Rattle.at_text.specs.Rows.{left}
 use Rattle.at_jrag.proofs.reader.Reader.file.Given as goal
 
 abbrev pub invariant-loop-self : goal.invariant-loop-self
-invariant-loop-self l = File (map aspect_view l.aspects.items) (left l.fn.self.cursor.rest.now) (left l.self.cursor.rest.now) × IsWithin (map aspect_view l.aspects.items)
+invariant-loop-self l = File l.fn.forms (map aspect_view l.aspects.items) (left l.fn.self.cursor.rest.now) (left l.self.cursor.rest.now) × IsWithin (map aspect_view l.aspects.items)
 
 abbrev pub decreases-loop-self : goal.decreases-loop-self
 decreases-loop-self l = length (left l.self.cursor.rest.now)
