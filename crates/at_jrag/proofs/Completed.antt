@@ -44,7 +44,7 @@ file_wanted forms = (false, (λ h. absurd cc), (tt, refl, tt))
 -- What was taken where the machine is stuck, begins what is taken whole.
 pub begins_whole : (forms : Forms) (r : Reason) (front rest : Row) → run true table (want.File forms ∷ []) 0 (front ++ rest) ≡ Stuck r rest → (more : Row) × (run true table (want.File forms ∷ []) 0 (front ++ more) ≡ Whole)
 begins_whole forms r front rest h =
-    let x = leads r front rest (want.File forms ∷ []) 0 h file_wanted forms in
+    let x = leads r front rest (want.File forms ∷ []) 0 h (file_wanted forms) in
     (closing x.0, x.3 true (closing x.0) ∙ completed true x.2.0 x.0 x.1 x.2.2)
 
 -- ---- where the limit stops it
@@ -113,6 +113,6 @@ deeper_from vs e (t ∷ rest) c h =
 pub goes_deeper : (forms : Forms) (front rest : Row) → run true table (want.File forms ∷ []) 0 (front ++ rest) ≡ Stuck TooDeep rest
     → (other : Row) × (first other ≡ first rest) × (run false table (want.File forms ∷ []) 0 (front ++ other) ≡ Whole)
 goes_deeper forms front rest h =
-    let x = leads TooDeep front rest (want.File forms ∷ []) 0 h file_wanted forms in
+    let x = leads TooDeep front rest (want.File forms ∷ []) 0 h (file_wanted forms) in
     let y = deeper_from x.0 x.1 rest x.2 (sym (x.3 true rest) ∙ h) in
     (y.0, y.1, x.3 false y.0 ∙ y.2)

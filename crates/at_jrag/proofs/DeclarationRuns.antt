@@ -370,10 +370,10 @@ attribute_pass l forms k class name ps start old rest (owner, called, behind, t,
 
 pub declared_then : (l : Bool) (forms : Forms) (us : List Want) (lazy : Option Place) (k : KindWord) (class name : Word) (ps : Params) (start : Option Bool) (old end rest : Row) → Declared forms lazy k class name ps start old end
     → NoWord (codes "circular") end → Pass l us end rest → Pass l (declared forms us) old rest
-declared_then l forms us lazy k class name ps start old end rest (kinds, z, (owner, called, behind, t, more)) n p =
-    let begins = kind_begins k kinds owner t in
+declared_then l forms us lazy k class name ps start old end rest (kinds, z, a) n p =
+    let begins = kind_begins k kinds a.0 a.3 in
     pass_then l want.Lazy (want.Attribute forms ∷ us) old kinds rest (lazy_pass l lazy old kinds z (λ e. begins.0) begins.1)
-    (pass_then l (want.Attribute forms) us kinds end rest (attribute_pass l forms k class name ps start kinds end (owner, called, behind, t, more) n) p)
+    (pass_then l (want.Attribute forms) us kinds end rest (attribute_pass l forms k class name ps start kinds end a n) p)
 
 no_circular_body : (f : syntax.BodyForm) (e : Expr) (at : Place) (old rest : Row) → BodyOf (record { at = at; form = f; expr = e }) old rest → NoWord (codes "circular") old
 no_circular_body syntax.Equation' e at old rest (one, end, s, r, z) = ap (λ r. next (is_word (codes "circular")) (first r)) s

@@ -60,7 +60,7 @@ decls_end forms d = refl
 
 decl_at : (forms : Forms) (old : Row) → next_is (is_sign (codes "}")) old ≡ false → next_is (is_word (codes "syn")) old ≡ false → next_is (is_word (codes "inh")) old ≡ false → next_is (is_word (codes "eq")) old ≡ false
     → Stay (want.Decls forms ∷ []) (reason_of (no_keyword old)) old old
-decl_at forms [] close syn inh eq = stay_refuses (want.Decls forms) [] [] refl decls_end
+decl_at forms [] close syn inh eq = stay_refuses (want.Decls forms) [] [] refl (decls_end forms)
 decl_at forms (t ∷ ts) close syn inh eq = keyword_stays (want.Decls forms) t ts (is_word_kind t.kind) (λ d. decl_none forms t d close syn inh eq)
 
 pub decl_stays : (forms : Forms) (old rest : Row) → rest ≡ old → next_is (is_sign (codes "}")) old ≡ false → next_is (is_word (codes "syn")) old ≡ false → next_is (is_word (codes "inh")) old ≡ false → next_is (is_word (codes "eq")) old ≡ false
@@ -176,6 +176,9 @@ pub circular_stays : (m : Bool) (old : Row) → m ≡ false → next_is (is_word
 circular_stays m [] may h = absurd cc
 circular_stays m (t ∷ ts) may h = stay_leaves_out (want.Circular m) t (t ∷ ts) ts (t ∷ ts) refl refl (λ d. circular_left m t d may h)
 
+pub left_stays : (m : Bool) (e : Failure JragCode) (old : Row) → m ≡ false → e ≡ failure.For code.LeftOut → next_is (is_word (codes "circular")) old ≡ true → Stay (want.Circular m ∷ []) (reason_of e) old old
+left_stays m e old may is h = subst (λ x. Stay (want.Circular m ∷ []) (reason_of x) old old) (sym is) (circular_stays m old may h)
+
 -- behind the word
 pub start_stays : (m : Bool) (at : Place) (r : Option Reason) (old bracket rest : Row) → m ≡ true → old ≡ word (codes "circular") at ∷ bracket
     → Stay (want.Bracket ∷ want.Mark (codes "]") ∷ want.Circular false ∷ []) r bracket rest → Stay (want.Circular m ∷ []) r old rest
@@ -183,11 +186,16 @@ start_stays m at r old bracket rest may front st =
     stay_takes (want.Circular m) (want.Bracket ∷ want.Mark (codes "]") ∷ want.Circular false ∷ []) (word (codes "circular") at) r old bracket rest front (λ d. (0, circular_row m at d may)) st
 
 -- behind its brackets
-pub again_stays : (b : Bool) (old mid : Row) → StartOf b old mid → next_is (is_word (codes "circular")) mid ≡ true
-    → Stay (want.Bracket ∷ want.Mark (codes "]") ∷ want.Circular false ∷ []) (Some LeftOut) old mid
-again_stays b old mid (value, close, s, k, z) h =
-    stay_then want.Bracket (want.Mark (codes "]") ∷ want.Circular false ∷ []) (Some LeftOut) old close mid (bracket_pass true b old value close s k)
-    (stay_then (want.Mark (codes "]")) (want.Circular false ∷ []) (Some LeftOut) close mid mid (mark_pass true (codes "]") close mid z) (circular_stays false mid refl h))
+pub again_stays : (b : Bool) (e : Failure JragCode) (old mid : Row) → StartOf b old mid → e ≡ failure.For code.LeftOut → next_is (is_word (codes "circular")) mid ≡ true
+    → Stay (want.Bracket ∷ want.Mark (codes "]") ∷ want.Circular false ∷ []) (reason_of e) old mid
+again_stays b e old mid (value, close, s, k, z) is h =
+    stay_then want.Bracket (want.Mark (codes "]") ∷ want.Circular false ∷ []) (reason_of e) old close mid (bracket_pass true b old value close s k)
+    (stay_then (want.Mark (codes "]")) (want.Circular false ∷ []) (reason_of e) close mid mid (mark_pass true (codes "]") close mid z) (left_stays false e mid refl is h))
+
+-- an error between the brackets
+pub brackets_stay : (us : List Want) (r : Option Reason) (old rest : Row) → Stay (want.Bracket ∷ want.Mark (codes "]") ∷ []) r old rest → Stay (want.Bracket ∷ want.Mark (codes "]") ∷ us) r old rest
+brackets_stay us None old rest st d = tt
+brackets_stay us (Some r) old rest st d = λ ws. st d (us ++ ws)
 
 bracket_row : (d : ℕ) (s : Option PlacedToken) → next (is_sign (codes "[")) s ≡ false → table want.Bracket d s ≡ Refuses
 unfolding table
@@ -221,9 +229,12 @@ start_ended d = refl
 abbrev no_truth : Row → Failure JragCode
 no_truth old = cond (next_is begins_other old) (failure.For code.LeftOut) (failure.For code.Syntax)
 
-pub no_start : (old : Row) → next_is (is_word (codes "true")) old ≡ false → next_is (is_word (codes "false")) old ≡ false → Stay (want.Start ∷ []) (reason_of (no_truth old)) old old
-no_start [] a b = stay_refuses want.Start [] [] refl start_ended
-no_start (t ∷ ts) a b = keyword_stays want.Start t ts (begins_other t) (λ d. start_row d t a b)
+truth_at : (old : Row) → next_is (is_word (codes "true")) old ≡ false → next_is (is_word (codes "false")) old ≡ false → Stay (want.Start ∷ []) (reason_of (no_truth old)) old old
+truth_at [] a b = stay_refuses want.Start [] [] refl start_ended
+truth_at (t ∷ ts) a b = keyword_stays want.Start t ts (begins_other t) (λ d. start_row d t a b)
+
+pub truth_stays : (old rest : Row) → rest ≡ old → next_is (is_word (codes "true")) old ≡ false → next_is (is_word (codes "false")) old ≡ false → Stay (want.Start ∷ []) (reason_of (no_truth rest)) old rest
+truth_stays old rest same a b = at_same want.Start no_truth old rest same (truth_at old a b)
 
 -- ---- a declared attribute
 
@@ -400,11 +411,11 @@ abbrev aspect_wants : Forms → List Want
 aspect_wants forms = want.Mark (codes "{") ∷ want.Decls forms ∷ want.File forms ∷ []
 
 pub aspect_no_name : (forms : Forms) (at : Place) (e : Failure JragCode) (old mid rest : Row) → old ≡ word (codes "aspect") at ∷ mid → Missing is_name_token e mid rest → Stay (want.File forms ∷ []) (reason_of e) old rest
-aspect_no_name forms at e old mid rest front m = stay_takes (want.File forms) (want.Name ∷ aspect_wants forms) (word (codes "aspect") at) (reason_of e) old mid rest front (λ d. (0, aspect_row forms at d)) (no_class aspect_wants forms e mid rest m)
+aspect_no_name forms at e old mid rest front m = stay_takes (want.File forms) (want.Name ∷ aspect_wants forms) (word (codes "aspect") at) (reason_of e) old mid rest front (λ d. (0, aspect_row forms at d)) (no_class (aspect_wants forms) e mid rest m)
 
-named_stays : (forms : Forms) (at : Place) (name : Word) (r : Option Reason) (old mid brace rest : Row) → old ≡ word (codes "aspect") at ∷ mid → grammar.Name name mid brace → Stay aspect_wants forms r brace rest → Stay (want.File forms ∷ []) r old rest
+named_stays : (forms : Forms) (at : Place) (name : Word) (r : Option Reason) (old mid brace rest : Row) → old ≡ word (codes "aspect") at ∷ mid → grammar.Name name mid brace → Stay (aspect_wants forms) r brace rest → Stay (want.File forms ∷ []) r old rest
 named_stays forms at name r old mid brace rest front n st =
-    stay_takes (want.File forms) (want.Name ∷ aspect_wants forms) (word (codes "aspect") at) r old mid rest front (λ d. (0, aspect_row forms at d)) (stay_then want.Name aspect_wants forms r mid brace rest (name_pass true name mid brace n) st)
+    stay_takes (want.File forms) (want.Name ∷ aspect_wants forms) (word (codes "aspect") at) r old mid rest front (λ d. (0, aspect_row forms at d)) (stay_then want.Name (aspect_wants forms) r mid brace rest (name_pass true name mid brace n) st)
 
 pub aspect_no_brace : (forms : Forms) (at : Place) (name : Word) (e : Failure JragCode) (old mid brace rest : Row) → old ≡ word (codes "aspect") at ∷ mid → grammar.Name name mid brace → Missing (is_sign (codes "{")) e brace rest → Stay (want.File forms ∷ []) (reason_of e) old rest
 aspect_no_brace forms at name e old mid brace rest front n m =

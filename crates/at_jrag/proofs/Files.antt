@@ -40,20 +40,20 @@ front_of (t ∷ ts) (f ∷ front) rest e =
 pub record Met (forms : Forms) (text : List ℕ) (r : Reason) (ts rest : List Placed) : Type 0 where
   pub front : List Placed
   pub stops : StopsAt forms text (left front) (left rest)
-  pub stuck : run true table (want.File forms forms ∷ []) 0 (left front ++ left rest) ≡ Stuck r (left rest)
+  pub stuck : run true table (want.File forms ∷ []) 0 (left front ++ left rest) ≡ Stuck r (left rest)
   pub fits : length rest ≤ length ts
   pub front_is : left (take (length ts - length rest) ts) ≡ left front
   pub rest_is : left (drop (length ts - length rest) ts) ≡ left rest
 
-pub met : (forms : Forms) (text : List ℕ) (r : Reason) (ts rest : List Placed) → HasTokens text (left ts) → run true table (want.File forms forms ∷ []) 0 (left ts) ≡ Stuck r (left rest) → Met forms text r ts rest
+pub met : (forms : Forms) (text : List ℕ) (r : Reason) (ts rest : List Placed) → HasTokens text (left ts) → run true table (want.File forms ∷ []) 0 (left ts) ≡ Stuck r (left rest) → Met forms text r ts rest
 met forms text r ts rest has h =
-    let s = stuck_behind true table r (want.File forms forms ∷ []) 0 (left ts) (left rest) h in
+    let s = stuck_behind true table r (want.File forms ∷ []) 0 (left ts) (left rest) h in
     let p = front_of ts s.0 (left rest) s.1 in
     let split : left ts ≡ left p.0 ++ left rest = s.1 ∙ ap (λ l. l ++ left rest) (sym p.3) in
     let same : length p.1 ≡ length rest = sym (length-map p.1 placed) ∙ ap length p.4 ∙ length-map rest placed in
     let sum : length ts ≡ length (p.0 ++ p.1) = ap length p.2 in
     let count : length ts - length rest ≡ length p.0 = omega (arith, sum, length-append p.0 p.1, same) in
-    let stuck : run true table (want.File forms forms ∷ []) 0 (left p.0 ++ left rest) ≡ Stuck r (left rest) = sym (ap (run true table (want.File forms forms ∷ []) 0) split) ∙ h in
+    let stuck : run true table (want.File forms ∷ []) 0 (left p.0 ++ left rest) ≡ Stuck r (left rest) = sym (ap (run true table (want.File forms ∷ []) 0) split) ∙ h in
     record {
       front = p.0;
       stops = record { tokens = subst (λ (x : List PlacedToken). HasTokens text x) split has; fault = first_fault forms r (left p.0) (left rest) stuck };
@@ -66,11 +66,11 @@ met forms text r ts rest has h =
 -- ---- what the tokens of a text spell
 
 -- a text that spells a file within the limit doesn't stop
-pub file_only : (forms : Forms) (text : List ℕ) (r : Reason) (ts us rest : List PlacedToken) (aspects : List Aspect) → HasTokens text ts → HasTokens text us → run true table (want.File forms forms ∷ []) 0 ts ≡ Stuck r rest → File forms aspects us [] → IsWithin aspects → ⊥
+pub file_only : (forms : Forms) (text : List ℕ) (r : Reason) (ts us rest : List PlacedToken) (aspects : List Aspect) → HasTokens text ts → HasTokens text us → run true table (want.File forms ∷ []) 0 ts ≡ Stuck r rest → File forms aspects us [] → IsWithin aspects → ⊥
 file_only forms text r ts us rest aspects h k stuck file within =
     let same = one_row text ts us h k in
-    let whole : run true table (want.File forms forms ∷ []) 0 us ≡ Whole = file_taken forms true aspects us (λ e. within) file 0 in
-    absurd (let q : Stuck r rest ≡ Whole = sym stuck ∙ ap (run true table (want.File forms forms ∷ []) 0) same ∙ whole in cc)
+    let whole : run true table (want.File forms ∷ []) 0 us ≡ Whole = file_taken forms true aspects us (λ e. within) file 0 in
+    absurd (let q : Stuck r rest ≡ Whole = sym stuck ∙ ap (run true table (want.File forms ∷ []) 0) same ∙ whole in cc)
 
 -- what the tokens of a text spell, is what was read
 pub file_same : (forms : Forms) (text : List ℕ) (ts us rest : List PlacedToken) (read aspects : List Aspect) → HasTokens text ts → HasTokens text us → File forms read ts rest → rest ≡ [] → File forms aspects us [] → read ≡ aspects

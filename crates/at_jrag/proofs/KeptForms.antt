@@ -317,7 +317,7 @@ record IsStep (forms : Forms) (before : Row) (t : PlacedToken) (ws : List Want) 
   moves : after false table wants register t ≡ Goes ws d
 
 last_step : {forms : Forms} (before : Row) (t : PlacedToken) (ws : List Want) (d : ℕ) → Reached forms (before ++ t ∷ []) ws d → IsStep forms before t ws d
-last_step before t ws d r = elim (last_of (before ++ t ∷ []) ws d r) [
+last_step {forms} before t ws d r = elim (last_of (before ++ t ∷ []) ws d r) [
   | inl (e, f) ↦ absurd (no_snoc before t (sym e))
   | inr l ↦ stepped before t ws d l
 ]
@@ -439,7 +439,7 @@ get_child_kept more name p t ws d r n s i k =
 -- ---- each form
 
 moved : {forms : Forms} (front other : Row) (ws : List Want) (d : ℕ) → front ≡ other → Reached forms front ws d → Reached forms other ws d
-moved front other ws d e r = subst (λ (x : Row). Reached forms x ws d) e r
+moved {forms} front other ws d e r = subst (λ (x : Row). Reached forms x ws d) e r
 
 -- Where the table refuses the token, it begins no form that is left out.
 pub none_left_out : {forms : Forms} (front : Row) (ws : List Want) (d : ℕ) (t : PlacedToken) → Reached forms front ws d → after true table ws d t ≡ Halts Refused → IsLeftOut forms front t → ⊥

@@ -133,7 +133,7 @@ two_last front before more name paren e f = e ∙ ap (λ (x : Row). x ++ paren �
 
 got_child : {forms : Forms} (front : Row) (w : Want) (us : List Want) (d : ℕ) (t : PlacedToken) → Reached forms front (w ∷ us) d → ((f : Forms) → w ≡ File f → ⊥) → second w ≡ false
     → ((by : Want) (p : PlacedToken) → Leaves by p w → (is_sign (codes "(") p ≡ true) × (asked by ≡ Some true)) → is_word (codes "int") t ≡ true → IsLeftOut forms front t
-got_child front w us d t r never s opens int =
+got_child {forms} front w us d t r never s opens int =
     let l = has_last front w us d r never in
     let p = pushed true l.wants l.register l.token w us d (reached_shape l.before l.wants l.register l.reached).1 s l.moves in
     let o = opens p.by l.token p.leaves in
@@ -178,7 +178,7 @@ left_by front w us d t r o h = absurd h
 
 -- Where the table leaves a form out, the token begins one.
 pub is_left_out : {forms : Forms} (front : Row) (ws : List Want) (d : ℕ) (t : PlacedToken) → Reached forms front ws d → after true table ws d t ≡ Halts LeftOut → IsLeftOut forms front t
-is_left_out front ws d t r h =
+is_left_out {forms} front ws d t r h =
     let f = left_first ws d t (reached_shape front ws d r).1 h in
     let s : Reached forms front (f.want ∷ f.behind) d = subst (λ (vs : List Want). Reached forms front vs d) f.is r in
     left_by front f.want f.behind d t s (reached_shape front (f.want ∷ f.behind) d s).1 f.holds

@@ -187,6 +187,7 @@ signs e old rest s = (s.name, s.read.read.params, (s.paren, s.read.list, s.named
 
 attribute_then : (l : Bool) (forms : Forms) (t : PlacedToken) (old behind : Row) (e : ℕ) (rest : Row) → IsKindToken t → old ≡ t ∷ behind
     → AllSay l (named (is_word (codes "boolean") t && forms.circular)) 0 behind e rest → IsAttribute forms old rest
+unfolding kind_word
 attribute_then l forms t old behind e rest k front (dot, d1, (w, n, e1), (called, d2, (s, e2), (end, d3, g, tail))) =
     let q = signs d3 called end g in
     let c = only_says l (want.Circular (is_word (codes "boolean") t && forms.circular)) d3 end e rest tail in

@@ -62,10 +62,10 @@ fault_place text Nesting front rest = last_declaration front
 abbrev pub IsFault : Forms → List ℕ → Fault JragCode → Type 0
 IsFault forms text Memory = Unit {0}
 IsFault forms text (Refused Syntax at) = ((fault : ScanFault) × IsScanFaultAt text at fault)
-    ⊎ ((front : List PlacedToken) × (rest : List PlacedToken) × StopsAt forms text front rest × (GoesOn (IsFile forms) front rest → ⊥) × (MeetsLeftOut forms front rest → ⊥)
-    × (at ≡ next_place text rest))
+    ⊎ ((front : List PlacedToken) × (rest : List PlacedToken) × StopsAt forms text front rest × (GoesOn (IsFile forms) front rest → ⊥)
+    × (MeetsLeftOut forms front rest → ⊥) × (at ≡ next_place text rest))
 IsFault forms text (Refused LeftOut at) =
-    (front : List PlacedToken) × (rest : List PlacedToken) × StopsAt forms text front rest × (GoesOn (IsFile forms) front rest → ⊥) × MeetsLeftOut forms front rest
-    × (at ≡ next_place text rest)
-IsFault forms text (Refused Nesting at) = (front : List PlacedToken) × (rest : List PlacedToken) × StopsAt forms text front rest × GoesOn (IsFile forms) front rest
-    × (at ≡ last_declaration front)
+    (front : List PlacedToken) × (rest : List PlacedToken) × StopsAt forms text front rest × (GoesOn (IsFile forms) front rest → ⊥)
+    × MeetsLeftOut forms front rest × (at ≡ next_place text rest)
+IsFault forms text (Refused Nesting at) =
+    (front : List PlacedToken) × (rest : List PlacedToken) × StopsAt forms text front rest × GoesOn (IsFile forms) front rest × (at ≡ last_declaration front)

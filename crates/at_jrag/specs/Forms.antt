@@ -43,7 +43,8 @@ pub data IsLeftOut (forms : Forms) (front : List PlacedToken) (t : PlacedToken) 
   -- anything but `return` behind the `{` of a body
   no_return : WordMayStand forms (codes "return") front → IsLeftOut forms front t
   -- anything but `}` behind the `;` of a `return`: where `}` may stand, but behind no expression, nor behind a declaration
-  no_close : SignMayStand forms (codes "}") front → (SignMayStand forms (codes "||") front → ⊥) → (WordMayStand forms (codes "syn") front → ⊥) → IsLeftOut forms front t
+  no_close : SignMayStand forms (codes "}") front → (SignMayStand forms (codes "||") front → ⊥) → (WordMayStand forms (codes "syn") front → ⊥)
+      → IsLeftOut forms front t
   -- `int` behind `getChild` and `(`
   get_child : (more : List PlacedToken) (name paren : PlacedToken) → front ≡ more ++ name ∷ paren ∷ []
       → is_word (codes "getChild") name ≡ true → is_sign (codes "(") paren ≡ true → is_word (codes "int") t ≡ true

@@ -181,7 +181,7 @@ follows_cast t = (is_word_kind t.kind && (is_name t.text || is_opening t.text)) 
 
 -- an expression that is neither `true` nor `false` may begin with it
 abbrev pub begins_other : PlacedToken → Bool
-begins_other t = is_number t || is_text t || is_sign (codes "-") t || is_sign (codes "!") t || follows_cast t
+begins_other t = is_number t || (is_text t || (is_sign (codes "-") t || (is_sign (codes "!") t || follows_cast t)))
 
 abbrev mutual
   -- An expression. Its place is that of its first token.

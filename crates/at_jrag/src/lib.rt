@@ -31,6 +31,8 @@ ghost use Rattle.at_jrag.specs.Syntax as written;
 ghost use Rattle.at_jrag.specs.Grammar.{File, IsWithin};
 ghost use Rattle.at_jrag.specs.declared.JragCode.TheVariants.{Syntax};
 
+#[cfg(test)]
+mod circular_cases;
 mod declared;
 mod reader;
 mod syntax;
@@ -109,11 +111,7 @@ fn fault_place(text: &str, tokens: &[Placed<'_>], count: usize, code: JragCode) 
 /// text: `LeftOut` where a form begins there that is left out, and only there. `Syntax` where the
 /// text can't be cut into tokens, which comes before all. `Nesting` where files go on with that
 /// token, but none in which expressions nest at most 64 deep. `Memory` for want of memory.
-pub fn parse_jrag(
-    alloc: Global,
-    text: &str,
-    forms: Forms,
-) -> Result<Vec<Aspect>, JragFault>
+pub fn parse_jrag(alloc: Global, text: &str, forms: Forms) -> Result<Vec<Aspect>, JragFault>
     // What is read is what the tokens of the text spell, and its expressions nest at most 64 deep.
     ensures found { IfOk result (λ v. (tokens : List PlacedToken) × HasTokens text.now tokens
         × File forms (map aspect_view v.items) tokens [] × IsWithin (map aspect_view v.items)) }

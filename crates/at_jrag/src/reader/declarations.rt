@@ -6,7 +6,7 @@ ghost use lib.Chars.{codes};
 ghost use Rattle.at_jrag.specs.View.{kind_word_view, param_view, params_view, body_view, ending_view, decl_view, aspect_view, word_view};
 ghost use Rattle.at_text.specs.Rows.{Row, left, word, is_sign, is_word, next_is};
 ghost use Rattle.at_jrag.specs.Grammar.{KindOf, ParamOf, Signature, Opens, Listed, Lazy, BodyOf, EndingOf, DeclOf, Decls};
-ghost use Rattle.at_jrag.specs.Grammar.{truth_text, may_be_circular, Keyword, Circular, StartOf, AspectOf, File, NestsWithin, IsWithin, ending_depth, max_nesting, depth, Sign};
+ghost use Rattle.at_jrag.specs.Grammar.{AspectOf, File, NestsWithin, IsWithin, ending_depth, max_nesting, depth, Sign};
 ghost use Rattle.at_jrag.specs.Heads.{HeadOf, TargetOf, is_getter, index, ParamsOf};
 ghost use Rattle.std.specs.Prelude.{ℕ, ◌<◌, length, List, cond, false, ◌&&◌, IfErr};
 ghost use Rattle.std.specs.Str.{bytes_eq};
@@ -20,12 +20,12 @@ ghost use Rattle.at_text.specs.declared.fault.Failure.TheVariants as failure;
 ghost use Rattle.at_jrag.specs.declared.JragCode.TheVariants as code;
 ghost use Rattle.at_jrag.specs.declared.Forms.{Forms};
 
-use super::operators::begins_other;
+use super::starts::may_be_circular;
 use super::{ReadFault, Reader};
-use crate::{Forms, JragCode};
 use crate::syntax::{
     Aspect, Body, BodyForm, Decl, DeclForm, Ending, Kind, KindWord, Param, Params, Word,
 };
+use crate::{Forms, JragCode};
 use at_text::place::Place;
 use at_text::token::TokenKind;
 
@@ -61,16 +61,6 @@ fn is_getter(params: &Params) -> bool
             Kind::Int => true,
             _ => false,
         },
-        _ => false,
-    }
-}
-
-/// Whether an attribute of the kind may be circular.
-fn may_be_circular(forms: Forms, kind: &KindWord) -> bool
-    ensures { result ≡ may_be_circular forms (kind_word_view kind.now).kind }
-{
-    match kind.kind {
-        Kind::Bool => forms.circular,
         _ => false,
     }
 }
@@ -209,7 +199,8 @@ impl<'a> Reader<'a> {
             → DeclOf forms (decl_view d) old (left self.new.cursor.rest.now)) }
         ensures within { IfOk result (λ d. NestsWithin (decl_view d)) }
         ensures stays { IfErr result
-            (λ e. Stay (declared forms (want.Mark (codes ";") ∷ want.Decls forms ∷ [])) (reason_of e) (left self.old.cursor.rest.now) (left self.new.cursor.rest.now)) }
+            (λ e. Stay (declared forms (want.Mark (codes ";") ∷ want.Decls forms ∷ [])) (reason_of e)
+            (left self.old.cursor.rest.now) (left self.new.cursor.rest.now)) }
     {
         let head = self.head(forms)?;
         self.expects(";")?;
@@ -243,56 +234,6 @@ impl<'a> Reader<'a> {
             params: target.params,
             start,
         })
-    }
-
-    /// `["circular" "[" ("true" | "false") "]"]`, where `circular` is left out if it may not stand here, or again behind that.
-    fn circular(&mut self, may_stand: bool) -> Result<Option<bool>, ReadFault>
-        ensures found { IfOk result (λ o. Circular may_stand o (left self.old.cursor.rest.now) (left self.new.cursor.rest.now)) }
-        ensures behind { IfOk result (λ o. next_is (is_word (codes "circular")) (left self.new.cursor.rest.now) ≡ false) }
-        ensures stays { IfErr result
-            (λ e. Stay (want.Circular may_stand ∷ []) (reason_of e) (left self.old.cursor.rest.now) (left self.new.cursor.rest.now)) }
-    {
-        if !self.cursor.is_before_word("circular") {
-            return Ok(None);
-        }
-        if !may_stand {
-            return Err(ReadFault::For(JragCode::LeftOut));
-        }
-        self.cursor.advance();
-        let start = self.start()?;
-        if self.cursor.is_before_word("circular") {
-            return Err(ReadFault::For(JragCode::LeftOut));
-        }
-        Ok(Some(start))
-    }
-
-    /// `"[" ("true" | "false") "]"`
-    fn start(&mut self) -> Result<bool, ReadFault>
-        ensures found { IfOk result (λ b. StartOf b (left self.old.cursor.rest.now) (left self.new.cursor.rest.now)) }
-        ensures stays { IfErr result
-            (λ e. Stay (want.Bracket ∷ want.Mark (codes "]") ∷ []) (reason_of e) (left self.old.cursor.rest.now) (left self.new.cursor.rest.now)) }
-    {
-        self.expects("[")?;
-        let start = self.truth()?;
-        self.expects("]")?;
-        Ok(start)
-    }
-
-    /// `"true" | "false"`, where another expression is left out.
-    fn truth(&mut self) -> Result<bool, ReadFault>
-        ensures found { IfOk result (λ b. Keyword (truth_text b) (left self.old.cursor.rest.now) (left self.new.cursor.rest.now)) }
-        ensures stays { IfErr result (λ e. Stay (want.Start ∷ []) (reason_of e) (left self.old.cursor.rest.now) (left self.new.cursor.rest.now)) }
-    {
-        if self.cursor.takes_word("true").is_some() {
-            return Ok(true);
-        }
-        if self.cursor.takes_word("false").is_some() {
-            return Ok(false);
-        }
-        match self.cursor.rest {
-            [token, ..] if begins_other(token) => Err(ReadFault::For(JragCode::LeftOut)),
-            _ => Err(ReadFault::For(JragCode::Syntax)),
-        }
     }
 
     /// `["lazy"]`, where `nta` before it or behind it is left out.
@@ -405,7 +346,8 @@ impl<'a> Reader<'a> {
         ensures found { (forms : Forms) → IfOk result (λ d. (old : Row) → old ≡ word (codes "eq") at ∷ left self.old.cursor.rest.now
             → DeclOf forms (decl_view d) old (left self.new.cursor.rest.now)) }
         ensures within { IfOk result (λ d. NestsWithin (decl_view d)) }
-        ensures stays { (forms : Forms) → IfErr result (λ e. Stay (want.Name ∷ want.Mark (codes ".") ∷ want.Signed ∷ want.Defined ∷ want.Decls forms ∷ []) (reason_of e)
+        ensures stays { (forms : Forms) → IfErr result
+            (λ e. Stay (want.Name ∷ want.Mark (codes ".") ∷ want.Signed ∷ want.Defined ∷ want.Decls forms ∷ []) (reason_of e)
             (left self.old.cursor.rest.now) (left self.new.cursor.rest.now)) }
     {
         let target = self.target()?;

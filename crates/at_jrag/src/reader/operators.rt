@@ -154,11 +154,11 @@ fn follows_cast(token: &Placed<'_>) -> bool
 pub fn begins_other(token: &Placed<'_>) -> bool
     ensures { result ≡ begins_other (placed token.now) }
 {
-    token.kind == TokenKind::Number
-        || token.kind == TokenKind::Text
-        || is_sign(token, "-")
-        || is_sign(token, "!")
-        || follows_cast(token)
+    match token.kind {
+        TokenKind::Number | TokenKind::Text => true,
+        TokenKind::Sign => token.text == "-" || token.text == "!" || token.text == "(",
+        TokenKind::Word => is_name(token.text) || is_opening(token.text),
+    }
 }
 
 impl<'a> Reader<'a> {

@@ -30,13 +30,13 @@ returns-in_err-target-clause-stays c =
     (left c.kind.new.self.cursor.rest.now) (left c.target.new.self.cursor.rest.now) c.in_ok-lazy.ensures.goes c.in_ok-kind.ensures.found
     (c.in_err-target.ensures.stays (want.Circular (may_be_circular c.args.forms (kind_word_view c.in_ok-kind.kind).kind) ∷ [])))
 
-pub returns-in_err-circular-clause-stays : goal.returns-in_err-circular-clause-stays
-returns-in_err-circular-clause-stays c =
-    let p = err_from_is_err_and c.from_residual-in_err-circular.result c.from_residual-in_err-circular.ensures.1 in
+pub returns-in_err-start-clause-stays : goal.returns-in_err-start-clause-stays
+returns-in_err-start-clause-stays c =
+    let p = err_from_is_err_and c.from_residual-in_err-start.result c.from_residual-in_err-start.ensures.1 in
     let t = c.in_ok-target.ensures.found in
-    let s = rw c.may_be_circular.ensures at c.in_err-circular.ensures.stays in
+    let s = rw c.may_be_circular.ensures at c.in_err-start.ensures.stays in
     rw (p.1, p.2)
-    (λ us. no_target c.args.forms us (kind_word_view c.in_ok-kind.kind) (reason_of c.in_err-circular.field-0.0) (left c.args.self.now.cursor.rest.now) (left c.lazy.new.self.cursor.rest.now)
+    (λ us. no_target c.args.forms us (kind_word_view c.in_ok-kind.kind) (reason_of c.in_err-start.field-0.0) (left c.args.self.now.cursor.rest.now) (left c.lazy.new.self.cursor.rest.now)
     (left c.kind.new.self.cursor.rest.now) (left c.circular.new.self.cursor.rest.now) c.in_ok-lazy.ensures.goes c.in_ok-kind.ensures.found
-    (named_then _ (word_view c.in_ok-target.target.class) (word_view c.in_ok-target.target.name) (params_view c.in_ok-target.target.params) (reason_of c.in_err-circular.field-0.0)
+    (named_then _ (word_view c.in_ok-target.target.class) (word_view c.in_ok-target.target.name) (params_view c.in_ok-target.target.params) (reason_of c.in_err-start.field-0.0)
     (left c.kind.new.self.cursor.rest.now) t.0 (left c.target.new.self.cursor.rest.now) (left c.circular.new.self.cursor.rest.now) t.1 t.2 s))
