@@ -4,6 +4,7 @@ use Rattle.at_text.specs.Reading.{first}
 use Rattle.at_text.specs.Symbols.{PlacedToken}
 use Rattle.at_text.specs.Rows.{Row}
 use Rattle.at_text.specs.Machine.{Reason, TooDeep, Move, Goes, Halts, after, may_end, Whole, Stuck, run}
+use Rattle.at_jrag.specs.declared.Forms.{Forms}
 use Rattle.at_jrag.specs.Wants as want
 use Rattle.at_jrag.specs.Wants.{Want}
 use Rattle.at_jrag.specs.Table.{table}
@@ -37,13 +38,13 @@ leads r (t ∷ front) rest ws d h c =
     leads_on r ws d t front rest (after true table ws d t) refl (symbol_keeps true ws d t c) (λ vs e i k. leads r front rest vs e i k) (sym (run-cons true table ws d t (front ++ rest)) ∙ h)
 
 -- nothing is read yet of a file
-pub file_wanted : Completes true (want.File ∷ []) 0
-file_wanted = (false, (λ h. absurd cc), (tt, refl, tt))
+pub file_wanted : (forms : Forms) → Completes true (want.File forms ∷ []) 0
+file_wanted forms = (false, (λ h. absurd cc), (tt, refl, tt))
 
 -- What was taken where the machine is stuck, begins what is taken whole.
-pub begins_whole : (r : Reason) (front rest : Row) → run true table (want.File ∷ []) 0 (front ++ rest) ≡ Stuck r rest → (more : Row) × (run true table (want.File ∷ []) 0 (front ++ more) ≡ Whole)
-begins_whole r front rest h =
-    let x = leads r front rest (want.File ∷ []) 0 h file_wanted in
+pub begins_whole : (forms : Forms) (r : Reason) (front rest : Row) → run true table (want.File forms ∷ []) 0 (front ++ rest) ≡ Stuck r rest → (more : Row) × (run true table (want.File forms ∷ []) 0 (front ++ more) ≡ Whole)
+begins_whole forms r front rest h =
+    let x = leads r front rest (want.File forms ∷ []) 0 h (file_wanted forms) in
     (closing x.0, x.3 true (closing x.0) ∙ completed true x.2.0 x.0 x.1 x.2.2)
 
 -- ---- where the limit stops it
@@ -74,17 +75,20 @@ needs_less p (want.Deepest m) n = n
 needs_less p (want.Counts k) n = n
 needs_less p want.Name n = n
 needs_less p (want.Mark text) n = n
-needs_less p want.File n = n
-needs_less p want.Decls n = n
+needs_less p (want.File f) n = n
+needs_less p (want.Decls f) n = n
 needs_less p want.Lazy n = n
 needs_less p want.NotNta n = n
+needs_less p (want.Attribute f) n = n
 needs_less p want.Kind n = n
 needs_less p want.Signed n = n
 needs_less p (want.Opening g) n = n
 needs_less p (want.Params g) n = n
 needs_less p want.OneParam n = n
 needs_less p want.MoreParams n = n
-needs_less p want.NotCircular n = n
+needs_less p (want.Circular m) n = n
+needs_less p want.Bracket n = n
+needs_less p want.Start n = n
 needs_less p want.Ending n = n
 needs_less p want.Body n = n
 needs_less p want.Defined n = n
@@ -106,9 +110,9 @@ deeper_from vs e (t ∷ rest) c h =
     (t ∷ closing moves.0, refl, ap (λ m. goes_on false table m t (closing moves.0)) moves.2 ∙ completed false kept.0 moves.0 moves.1 kept.2)
 
 -- Where the limit stops the machine, what was taken and the symbol begin what is taken whole with no limit.
-pub goes_deeper : (front rest : Row) → run true table (want.File ∷ []) 0 (front ++ rest) ≡ Stuck TooDeep rest
-    → (other : Row) × (first other ≡ first rest) × (run false table (want.File ∷ []) 0 (front ++ other) ≡ Whole)
-goes_deeper front rest h =
-    let x = leads TooDeep front rest (want.File ∷ []) 0 h file_wanted in
+pub goes_deeper : (forms : Forms) (front rest : Row) → run true table (want.File forms ∷ []) 0 (front ++ rest) ≡ Stuck TooDeep rest
+    → (other : Row) × (first other ≡ first rest) × (run false table (want.File forms ∷ []) 0 (front ++ other) ≡ Whole)
+goes_deeper forms front rest h =
+    let x = leads TooDeep front rest (want.File forms ∷ []) 0 h (file_wanted forms) in
     let y = deeper_from x.0 x.1 rest x.2 (sym (x.3 true rest) ∙ h) in
     (y.0, y.1, x.3 false y.0 ∙ y.2)

@@ -6,10 +6,10 @@ use lib.Chars.{codes}
 use Rattle.at_text.specs.Reading.{first}
 use Rattle.at_text.specs.Symbols.{PlacedToken, is_word_kind}
 use Rattle.at_text.specs.Rows.{is_sign, is_word, is_name_token}
-use Rattle.at_jrag.specs.Grammar.{is_number, follows_cast, max_nesting}
+use Rattle.at_jrag.specs.Grammar.{is_number, follows_cast, begins_other, max_nesting}
 use Rattle.at_text.specs.Machine.{Answer, Takes, Skips, Refuses, LeavesOut, and_then, Move, Goes, Halts, answered, after}
-use Rattle.at_jrag.specs.Wants.{Want, Expression, Binary, Links, Choice, Otherwise, Unary, Minus, Opened, Enclosed, Parenthesized, Calls, Called, Arguments, FirstArgument, MoreArguments, Primary, Named, FoldBody, Deeper, Join, Deepest, Counts, Name, Mark, File, Decls, Lazy, NotNta, Kind, Signed, Opening, Params, OneParam, MoreParams, NotCircular, Ending, Body, Defined, Return, Close}
-use Rattle.at_jrag.specs.Table.{table, next, is_get_child, is_literal, begins_fold, is_number_within, is_kind, link_rank, or_else, links_from, tails_answer, primary_answer, unary_answer, binary_answer, expression_answer, links_answer, choice_answer, calls_answer, named_answer, enclosed_rest, body_answer, more_params_answer, no_keyword, declared}
+use Rattle.at_jrag.specs.Wants.{Want, Expression, Binary, Links, Choice, Otherwise, Unary, Minus, Opened, Enclosed, Parenthesized, Calls, Called, Arguments, FirstArgument, MoreArguments, Primary, Named, FoldBody, Deeper, Join, Deepest, Counts, Name, Mark, File, Decls, Lazy, NotNta, Attribute, Kind, Signed, Opening, Params, OneParam, MoreParams, Circular, Bracket, Start, Ending, Body, Defined, Return, Close}
+use Rattle.at_jrag.specs.Table.{table, next, is_get_child, is_literal, begins_fold, is_number_within, is_kind, link_rank, or_else, links_from, tails_answer, primary_answer, unary_answer, binary_answer, expression_answer, links_answer, choice_answer, calls_answer, named_answer, enclosed_rest, body_answer, more_params_answer, circular_answer, no_keyword, declared, named}
 use Rattle.at_jrag.proofs.Completions.{closing, closes, leaves, Open}
 
 -- the register is known to be 1 at least, or nothing is known of it
@@ -149,6 +149,11 @@ more_params_keep l p d ws s o =
 no_keyword_keeps : (l p : Bool) (ws : List Want) (t : PlacedToken) → Kept l p ws (no_keyword t)
 no_keyword_keeps l p ws t = either (is_word_kind t.kind) l p ws LeavesOut Refuses tt tt
 
+circular_keeps : (l m : Bool) (ws : List Want) (s : Option PlacedToken) → closes (first (closing ws)) ≡ true → Open l false ws → Kept l false ws (circular_answer m s)
+circular_keeps l m ws s c o =
+    either (next (is_word (codes "circular")) s) l false ws _ (Skips 0)
+    (either m l false ws _ LeavesOut (takes l false ws true (Bracket ∷ Mark (codes "]") ∷ Circular false ∷ []) 0 (λ f. (tt, tt, (tt, tt, (tt, c, o))))) tt) (nothing_known 0)
+
 -- one symbol alone, or else
 alone_keeps : (x l p : Bool) (ws : List Want) (d : ℕ) (a : Answer Want) → Open l false ws → Kept l p ws a → Kept l p ws (cond x (Takes true [] d) a)
 alone_keeps x l p ws d a o k = either x l p ws (Takes true [] d) a (takes l p ws true [] d (λ f. o)) k
@@ -197,21 +202,23 @@ row_keeps l p (Deepest m) ws d t k o = nothing_known (max m d)
 row_keeps l p (Counts n) ws d t k o = known_some n o.0
 row_keeps l p Name ws d t k o = alone_keeps (is_name_token t) l false ws d Refuses o.2 tt
 row_keeps l p (Mark text) ws d t k o = alone_keeps (is_sign text t) l false ws d Refuses o.2 tt
-row_keeps l p File ws d t k o =
+row_keeps l p (File forms) ws d t k o =
     either (is_word (codes "aspect") t) l false ws _ _
-    (takes l false ws true (Name ∷ Mark (codes "{") ∷ Decls ∷ File ∷ []) 0 (λ f. (tt, tt, (tt, tt, (tt, tt, (tt, o.1, o.2)))))) (no_keyword_keeps l false ws t)
-row_keeps l p Decls ws d t k o =
+    (takes l false ws true (Name ∷ Mark (codes "{") ∷ Decls forms ∷ File forms ∷ []) 0 (λ f. (tt, tt, (tt, tt, (tt, tt, (tt, o.1, o.2)))))) (no_keyword_keeps l false ws t)
+row_keeps l p (Decls forms) ws d t k o =
     alone_keeps (is_sign (codes "}") t) l false ws 0 _ o.2
     (either (is_word (codes "syn") t) l false ws _ _
-    (takes l false ws true (declared (Ending ∷ Decls ∷ [])) 0 (λ f. (tt, refl, (tt, tt, (tt, tt, (tt, tt, (tt, tt, (tt, refl, (tt, tt, (tt, tt, o.2))))))))))
+    (takes l false ws true (declared forms (Ending ∷ Decls forms ∷ [])) 0 (λ f. (tt, refl, (tt, refl, (tt, tt, (tt, tt, o.2))))))
     (either (is_word (codes "inh") t) l false ws _ _
-    (takes l false ws true (declared (Mark (codes ";") ∷ Decls ∷ [])) 0 (λ f. (tt, refl, (tt, tt, (tt, tt, (tt, tt, (tt, tt, (tt, refl, (tt, tt, (tt, tt, o.2))))))))))
+    (takes l false ws true (declared forms (Mark (codes ";") ∷ Decls forms ∷ [])) 0 (λ f. (tt, refl, (tt, refl, (tt, tt, (tt, tt, o.2))))))
     (either (is_word (codes "eq") t) l false ws _ _
-    (takes l false ws true (Name ∷ Mark (codes ".") ∷ Signed ∷ Defined ∷ Decls ∷ []) 0 (λ f. (tt, tt, (tt, tt, (tt, tt, (tt, tt, (tt, tt, o.2))))))) (no_keyword_keeps l false ws t))))
+    (takes l false ws true (Name ∷ Mark (codes ".") ∷ Signed ∷ Defined ∷ Decls forms ∷ []) 0 (λ f. (tt, tt, (tt, tt, (tt, tt, (tt, tt, (tt, tt, o.2))))))) (no_keyword_keeps l false ws t))))
 row_keeps l p Lazy ws d t k o =
     either (is_word (codes "lazy") t) l false ws _ _ (takes l false ws true (NotNta ∷ []) 0 (λ f. (tt, o.1, o.2)))
     (either (is_word (codes "nta") t) l false ws LeavesOut (Skips 0) tt (nothing_known 0))
 row_keeps l p NotNta ws d t k o = either (is_word (codes "nta") t) l false ws LeavesOut (Skips 0) tt (nothing_known 0)
+row_keeps l p (Attribute forms) ws d t k o =
+    either (is_kind t) l false ws _ Refuses (takes l false ws true (named (is_word (codes "boolean") t && forms.circular)) 0 (λ f. (tt, tt, (tt, tt, (tt, tt, (tt, o.1, o.2)))))) tt
 row_keeps l p Kind ws d t k o = alone_keeps (is_kind t) l false ws 0 Refuses o.2 tt
 row_keeps l p Signed ws d t k o = either (is_name_token t) l false ws _ Refuses (takes l false ws true (Opening (is_get_child t) ∷ []) 0 (λ f. (tt, tt, o.2))) tt
 row_keeps l p (Opening g) ws d t k o = either (is_sign (codes "(") t) l false ws _ Refuses (takes l false ws true (Params g ∷ []) 0 (λ f. (tt, tt, o.2))) tt
@@ -222,7 +229,11 @@ row_keeps l p (Params g) ws d t k o =
     (either (is_kind t) l false ws _ Refuses (takes l false ws true (Name ∷ MoreParams ∷ []) 0 (λ f. (tt, tt, (tt, tt, o.2)))) tt)))
 row_keeps l p OneParam ws d t k o = more_params_keep l false 0 ws (Some t) o.2
 row_keeps l p MoreParams ws d t k o = more_params_keep l false 1 ws (Some t) o.2
-row_keeps l p NotCircular ws d t k o = either (is_word (codes "circular") t) l false ws LeavesOut (Skips 0) tt (nothing_known 0)
+row_keeps l p (Circular m) ws d t k o = circular_keeps l m ws (Some t) o.1 o.2
+row_keeps l p Bracket ws d t k o = either (is_sign (codes "[") t) l false ws _ Refuses (takes l false ws true (Start ∷ []) 0 (λ f. (tt, tt, o.2))) tt
+row_keeps l p Start ws d t k o =
+    alone_keeps (is_word (codes "true") t) l false ws 0 _ o.2
+    (alone_keeps (is_word (codes "false") t) l false ws 0 _ o.2 (either (begins_other t) l false ws LeavesOut Refuses tt tt))
 row_keeps l p Ending ws d t k o = alone_keeps (is_sign (codes ";") t) l false ws 0 _ o.2 (body_keeps l false ws (Some t) o.2)
 row_keeps l p Body ws d t k o = body_keeps l false ws (Some t) o.2
 row_keeps l p Defined ws d t k o =

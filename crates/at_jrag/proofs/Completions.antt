@@ -10,10 +10,11 @@ use Rattle.at_text.specs.Symbols.{PlacedToken}
 use Rattle.at_text.specs.declared.place.Place.{Place}
 use Rattle.at_text.specs.Place.{first_place}
 use Rattle.at_text.specs.Rows.{Row, sign, word, is_sign, is_word}
+use Rattle.at_jrag.specs.declared.Forms.{Forms}
 use Rattle.at_jrag.specs.Grammar.{number, max_nesting}
 use Rattle.at_text.specs.Machine.{Takes, Skips, Refuses, LeavesOut, and_then, Whole, run}
-use Rattle.at_jrag.specs.Wants.{Want, Expression, Binary, Links, Choice, Otherwise, Unary, Minus, Opened, Enclosed, Parenthesized, Calls, Called, Arguments, FirstArgument, MoreArguments, Primary, Named, FoldBody, Deeper, Join, Deepest, Counts, Name, Mark, File, Decls, Lazy, NotNta, Kind, Signed, Opening, Params, OneParam, MoreParams, NotCircular, Ending, Body, Defined, Return, Close}
-use Rattle.at_jrag.specs.Table.{table, next, on, is_number_within, expression_answer, link_rank, link_answer, links_answer, choice_answer, calls_answer, named_answer, parenthesized_answer, file_answer, lazy_answer, not_nta_answer, body_answer}
+use Rattle.at_jrag.specs.Wants.{Want, Expression, Binary, Links, Choice, Otherwise, Unary, Minus, Opened, Enclosed, Parenthesized, Calls, Called, Arguments, FirstArgument, MoreArguments, Primary, Named, FoldBody, Deeper, Join, Deepest, Counts, Name, Mark, File, Decls, Lazy, NotNta, Attribute, Kind, Signed, Opening, Params, OneParam, MoreParams, Circular, Bracket, Start, Ending, Body, Defined, Return, Close}
+use Rattle.at_jrag.specs.Table.{table, next, on, is_number_within, expression_answer, link_rank, link_answer, links_answer, choice_answer, calls_answer, named_answer, parenthesized_answer, file_answer, lazy_answer, not_nta_answer, body_answer, named}
 use Rattle.at_jrag.specs.Runs.{Pass}
 use Rattle.at_text.proofs.SomeName.{is_some_name}
 use Rattle.at_text.proofs.MachineLaws.{run-takes, run-skips}
@@ -31,6 +32,9 @@ int_word = word (codes "int") first_place
 
 abbrev pub null : PlacedToken
 null = word (codes "null") first_place
+
+abbrev pub true_word : PlacedToken
+true_word = word (codes "true") first_place
 
 abbrev pub some_name : PlacedToken
 some_name = word (codes "_") first_place
@@ -60,17 +64,20 @@ completion (Deepest m) = []
 completion (Counts n) = []
 completion Name = some_name ∷ []
 completion (Mark text) = mark text ∷ []
-completion File = []
-completion Decls = mark (codes "}") ∷ []
+completion (File forms) = []
+completion (Decls forms) = mark (codes "}") ∷ []
 completion Lazy = []
 completion NotNta = []
+completion (Attribute forms) = int_word ∷ some_name ∷ mark (codes ".") ∷ some_name ∷ mark (codes "(") ∷ mark (codes ")") ∷ []
 completion Kind = int_word ∷ []
 completion Signed = some_name ∷ mark (codes "(") ∷ mark (codes ")") ∷ []
 completion (Opening g) = mark (codes "(") ∷ mark (codes ")") ∷ []
 completion (Params g) = mark (codes ")") ∷ []
 completion OneParam = mark (codes ")") ∷ []
 completion MoreParams = mark (codes ")") ∷ []
-completion NotCircular = []
+completion (Circular m) = []
+completion Bracket = mark (codes "[") ∷ true_word ∷ []
+completion Start = true_word ∷ []
 completion Ending = mark (codes ";") ∷ []
 completion Body = mark (codes "=") ∷ null ∷ mark (codes ";") ∷ []
 completion Defined = mark (codes "=") ∷ null ∷ mark (codes ";") ∷ []
@@ -117,17 +124,20 @@ Needs l p (Deepest m) = Unit {0}
 Needs l p (Counts n) = 1 ≤ n
 Needs l p Name = Unit {0}
 Needs l p (Mark text) = Unit {0}
-Needs l p File = Unit {0}
-Needs l p Decls = Unit {0}
+Needs l p (File forms) = Unit {0}
+Needs l p (Decls forms) = Unit {0}
 Needs l p Lazy = Unit {0}
 Needs l p NotNta = Unit {0}
+Needs l p (Attribute forms) = Unit {0}
 Needs l p Kind = Unit {0}
 Needs l p Signed = Unit {0}
 Needs l p (Opening g) = Unit {0}
 Needs l p (Params g) = Unit {0}
 Needs l p OneParam = Unit {0}
 Needs l p MoreParams = Unit {0}
-Needs l p NotCircular = Unit {0}
+Needs l p (Circular m) = Unit {0}
+Needs l p Bracket = Unit {0}
+Needs l p Start = Unit {0}
 Needs l p Ending = Unit {0}
 Needs l p Body = Unit {0}
 Needs l p Defined = Unit {0}
@@ -166,17 +176,20 @@ behind (Deepest m) = Anything
 behind (Counts n) = Anything
 behind Name = Anything
 behind (Mark text) = Anything
-behind File = TheEnd
-behind Decls = Anything
+behind (File forms) = TheEnd
+behind (Decls forms) = Anything
 behind Lazy = AKind
 behind NotNta = AKind
+behind (Attribute forms) = Closing
 behind Kind = Anything
 behind Signed = Anything
 behind (Opening g) = Anything
 behind (Params g) = Anything
 behind OneParam = Anything
 behind MoreParams = Anything
-behind NotCircular = Closing
+behind (Circular m) = Closing
+behind Bracket = Anything
+behind Start = Anything
 behind Ending = Anything
 behind Body = Anything
 behind Defined = Anything
@@ -218,17 +231,20 @@ leaves (Deepest m) = false
 leaves (Counts n) = true
 leaves Name = false
 leaves (Mark text) = false
-leaves File = false
-leaves Decls = false
+leaves (File forms) = false
+leaves (Decls forms) = false
 leaves Lazy = false
 leaves NotNta = false
+leaves (Attribute forms) = false
 leaves Kind = false
 leaves Signed = false
 leaves (Opening g) = false
 leaves (Params g) = false
 leaves OneParam = false
 leaves MoreParams = false
-leaves NotCircular = false
+leaves (Circular m) = false
+leaves Bracket = false
+leaves Start = false
 leaves Ending = false
 leaves Body = false
 leaves Defined = false
@@ -371,6 +387,33 @@ enclosed_ends l g b more f =
     takes l (Enclosed g b) (λ d. Parenthesized b ∷ []) true (mark (codes ")")) more more (λ h. refl) (λ d. (2, refl))
     (λ d. pass_skips l (Parenthesized b) more (λ e. (e, (absent (first more) f).parenthesized b e)))
 
+name_ends : (l : Bool) (more : Row) → Pass l (Name ∷ []) (some_name ∷ more) more
+unfolding table
+name_ends l more = takes_one l Name some_name more (λ d. (d, ap (λ x. on x (Takes true [] d) Refuses) is_some_name))
+
+signed_ends : (l : Bool) (more : Row) → Pass l (Signed ∷ []) (some_name ∷ mark (codes "(") ∷ mark (codes ")") ∷ more) more
+unfolding table
+signed_ends l more =
+    takes l Signed (λ d. Opening false ∷ []) true some_name (mark (codes "(") ∷ mark (codes ")") ∷ more) more (λ h. refl)
+    (λ d. (0, ap (λ x. on x (Takes true (Opening false ∷ []) 0) Refuses) is_some_name)) (λ d. params_end l false more)
+
+circular_ends : (l m : Bool) (more : Row) → closes (first more) ≡ true → Pass l (Circular m ∷ []) more more
+unfolding table
+circular_ends l m more f =
+    pass_skips l (Circular m) more (λ d. (0, ap (λ x. on x (cond m (Takes true (Bracket ∷ Mark (codes "]") ∷ Circular false ∷ []) 0) LeavesOut) (Skips 0)) (absent (first more) f).circular))
+
+start_ends : (l : Bool) (more : Row) → Pass l (Start ∷ []) (true_word ∷ more) more
+unfolding table
+start_ends l more = takes_one l Start true_word more (λ d. (0, refl))
+
+-- behind a kind: the names and parameters of an attribute
+named_ends : (l : Bool) (more : Row) → closes (first more) ≡ true → Pass l (named false) (some_name ∷ mark (codes ".") ∷ some_name ∷ mark (codes "(") ∷ mark (codes ")") ∷ more) more
+named_ends l more f =
+    let parens = some_name ∷ mark (codes "(") ∷ mark (codes ")") ∷ more in
+    pass_then l Name (Mark (codes ".") ∷ Signed ∷ Circular false ∷ []) (some_name ∷ mark (codes ".") ∷ parens) (mark (codes ".") ∷ parens) more (name_ends l (mark (codes ".") ∷ parens))
+    (pass_then l (Mark (codes ".")) (Signed ∷ Circular false ∷ []) (mark (codes ".") ∷ parens) parens more (mark_ends l (codes ".") parens)
+    (pass_then l Signed (Circular false ∷ []) parens more more (signed_ends l more) (circular_ends l false more f)))
+
 ends : (l p : Bool) (w : Want) (more : Row) → Needs l p w → Follows w more → Pass l (w ∷ []) (completion w ++ more) more
 unfolding table
 ends l p (Expression b) more n f = expression_ends l b more n f
@@ -406,21 +449,23 @@ ends l p Deeper more n f = pass_skips l Deeper more (λ d. (1 + d, refl))
 ends l p (Join m) more n f = pass_skips l (Join m) more (λ d. (1 + max m d, refl))
 ends l p (Deepest m) more n f = pass_skips l (Deepest m) more (λ d. (max m d, refl))
 ends l p (Counts k) more n f = pass_skips l (Counts k) more (λ d. (k, refl))
-ends l p Name more n f = takes_one l Name some_name more (λ d. (d, ap (λ x. on x (Takes true [] d) Refuses) is_some_name))
+ends l p Name more n f = name_ends l more
 ends l p (Mark text) more n f = mark_ends l text more
-ends l p File more n f = pass_skips l File more (λ d. (0, ap file_answer f))
-ends l p Decls more n f = takes_one l Decls (mark (codes "}")) more (λ d. (0, refl))
+ends l p (File forms) more n f = pass_skips l (File forms) more (λ d. (0, ap (file_answer forms) f))
+ends l p (Decls forms) more n f = takes_one l (Decls forms) (mark (codes "}")) more (λ d. (0, refl))
 ends l p Lazy more n f = pass_skips l Lazy more (λ d. (0, ap lazy_answer f))
 ends l p NotNta more n f = pass_skips l NotNta more (λ d. (0, ap not_nta_answer f))
+ends l p (Attribute forms) more n f =
+    takes l (Attribute forms) (λ d. named false) true int_word (some_name ∷ mark (codes ".") ∷ some_name ∷ mark (codes "(") ∷ mark (codes ")") ∷ more) more (λ h. refl) (λ d. (0, refl)) (λ d. named_ends l more f)
 ends l p Kind more n f = takes_one l Kind int_word more (λ d. (0, refl))
-ends l p Signed more n f =
-    takes l Signed (λ d. Opening false ∷ []) true some_name (mark (codes "(") ∷ mark (codes ")") ∷ more) more (λ h. refl)
-    (λ d. (0, ap (λ x. on x (Takes true (Opening false ∷ []) 0) Refuses) is_some_name)) (λ d. params_end l false more)
+ends l p Signed more n f = signed_ends l more
 ends l p (Opening g) more n f = params_end l g more
 ends l p (Params g) more n f = takes_one l (Params g) (mark (codes ")")) more (λ d. (0, refl))
 ends l p OneParam more n f = takes_one l OneParam (mark (codes ")")) more (λ d. (0, refl))
 ends l p MoreParams more n f = takes_one l MoreParams (mark (codes ")")) more (λ d. (1, refl))
-ends l p NotCircular more n f = pass_skips l NotCircular more (λ d. (0, ap (λ x. on x LeavesOut (Skips 0)) (absent (first more) f).circular))
+ends l p (Circular m) more n f = circular_ends l m more f
+ends l p Bracket more n f = takes l Bracket (λ d. Start ∷ []) true (mark (codes "[")) (true_word ∷ more) more (λ h. refl) (λ d. (0, refl)) (λ d. start_ends l more)
+ends l p Start more n f = start_ends l more
 ends l p Ending more n f = takes_one l Ending (mark (codes ";")) more (λ d. (0, refl))
 ends l p Body more n f = body_ends l Body more (λ d. refl)
 ends l p Defined more n f = body_ends l Defined more (λ d. ap (λ x. on x (Takes true (Signed ∷ Body ∷ []) 0) (body_answer (Some (mark (codes "="))))) (no_both (d == 0)))

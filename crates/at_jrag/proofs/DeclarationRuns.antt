@@ -10,16 +10,17 @@ use Rattle.at_model.proofs.Options.{and_off}
 use Rattle.at_text.specs.Reading.{first}
 use Rattle.at_text.specs.Symbols.{PlacedToken}
 use Rattle.at_text.specs.declared.place.Place.{Place}
+use Rattle.at_jrag.specs.declared.Forms.{Forms}
 use Rattle.at_jrag.specs.Syntax as syntax
 use Rattle.at_jrag.specs.Syntax.{Word, Param, Params, KindWord, Body, Ending, Decl, DeclForm, Aspect, Expr}
 use Rattle.at_jrag.specs.Grammar as grammar
 use Rattle.at_text.specs.Rows.{Row, sign, word, is_sign, is_word, is_name_token, next_is}
-use Rattle.at_jrag.specs.Grammar.{kind_text, IsKind, Sign, Keyword, Lazy, KindOf, MoreParams, Listed, Opens, Signature, Owner, Index, Declared, BodyOf, EndingOf, Behind, File, Spells, depth, nesting, ending_depth, max_nesting, NestsWithin, IsWithin}
+use Rattle.at_jrag.specs.Grammar.{truth_text, may_be_circular, Circular, StartOf, AttributeOf, kind_text, IsKind, Sign, Keyword, Lazy, KindOf, MoreParams, Listed, Opens, Signature, Owner, Index, Declared, BodyOf, EndingOf, Behind, File, Spells, depth, nesting, ending_depth, max_nesting, NestsWithin, IsWithin}
 use Rattle.at_jrag.specs.Heads.{is_int, is_getter}
 use Rattle.at_text.specs.Machine.{Reason, Refused, LeftOut, Answer, Takes, Skips, Refuses, LeavesOut, Whole, Stuck, run}
 use Rattle.at_jrag.specs.Wants as want
 use Rattle.at_jrag.specs.Wants.{Want}
-use Rattle.at_jrag.specs.Table.{table, next, on, is_kind, body_answer, declared}
+use Rattle.at_jrag.specs.Table.{table, next, on, is_kind, body_answer, declared, named}
 use Rattle.at_jrag.specs.Runs.{Stay, Pass, Missing, reason_of}
 use Rattle.at_text.specs.declared.fault.Failure.{Failure}
 use Rattle.at_text.specs.declared.fault.Failure.TheVariants as failure
@@ -309,39 +310,90 @@ to_pass l us e old rest p ws d = (e, p ws d)
 pub signed_pass : (l : Bool) (name : Word) (ps : Params) (old rest : Row) → Signature name ps old rest → Pass l (want.Signed ∷ []) old rest
 signed_pass l name ps old rest h = to_pass l (want.Signed ∷ []) _ old rest (signature_goes l name ps old rest h)
 
-pub circular_pass : (l : Bool) (old : Row) → NoWord (codes "circular") old → Pass l (want.NotCircular ∷ []) old old
+none_pass : (l m : Bool) (old : Row) → NoWord (codes "circular") old → Pass l (want.Circular m ∷ []) old old
 unfolding table
-circular_pass l old n = pass_skips l want.NotCircular old (λ d. (0, ap (λ b. on b LeavesOut (Skips 0)) n))
+none_pass l m old n =
+    pass_skips l (want.Circular m) old (λ d. (0, ap (λ b. on b (cond m (Takes true (want.Bracket ∷ want.Mark (codes "]") ∷ want.Circular false ∷ []) 0) LeavesOut) (Skips 0)) n))
 
-pub declared_then : (l : Bool) (us : List Want) (lazy : Option Place) (k : KindWord) (class name : Word) (ps : Params) (old end rest : Row) → Declared lazy k class name ps old end → NoWord (codes "circular") end → Pass l us end rest
-    → Pass l (declared us) old rest
-declared_then l us lazy k class name ps old end rest (kinds, owner, called, z, t, o, s) n p =
-    let begins = kind_begins k kinds owner t in
-    pass_then l want.Lazy (want.Kind ∷ want.Name ∷ want.Mark (codes ".") ∷ want.Signed ∷ want.NotCircular ∷ us) old kinds rest (lazy_pass l lazy old kinds z (λ e. begins.0) begins.1)
-    (pass_then l want.Kind (want.Name ∷ want.Mark (codes ".") ∷ want.Signed ∷ want.NotCircular ∷ us) kinds owner rest (kind_pass l k kinds owner t)
-    (owner_then l (want.Signed ∷ want.NotCircular ∷ us) class owner called rest o
-    (pass_then l want.Signed (want.NotCircular ∷ us) called end rest (signed_pass l name ps called end s)
-    (pass_then l want.NotCircular us end end rest (circular_pass l end n) p))))
+pub circular_row : (m : Bool) (at : Place) (d : ℕ) → m ≡ true → table (want.Circular m) d (Some (word (codes "circular") at)) ≡ Takes true (want.Bracket ∷ want.Mark (codes "]") ∷ want.Circular false ∷ []) 0
+unfolding table
+circular_row m at d may = ap (λ b. cond b (Takes true (want.Bracket ∷ want.Mark (codes "]") ∷ want.Circular false ∷ []) 0) LeavesOut) may
+
+start_row : (b : Bool) (at : Place) (d : ℕ) → table want.Start d (Some (word (truth_text b) at)) ≡ Takes true [] 0
+unfolding table
+start_row true at d = refl
+start_row false at d = refl
+
+pub bracket_pass : (l : Bool) (b : Bool) (old value rest : Row) → Sign (codes "[") old value → Keyword (truth_text b) value rest → Pass l (want.Bracket ∷ []) old rest
+unfolding table
+bracket_pass l b old value rest s k =
+    pass_takes l want.Bracket (want.Start ∷ []) (sign (codes "[") s.0) old value rest s.1 (λ d. (0, refl))
+    (pass_takes l want.Start [] (word (truth_text b) k.0) value rest rest k.1 (λ d. (0, start_row b k.0 d)) (pass_none l rest))
+
+pub start_pass : (l : Bool) (b : Bool) (us : List Want) (old mid rest : Row) → StartOf b old mid → Pass l us mid rest → Pass l (want.Bracket ∷ want.Mark (codes "]") ∷ us) old rest
+start_pass l b us old mid rest (value, close, s, k, z) p =
+    pass_then l want.Bracket (want.Mark (codes "]") ∷ us) old close rest (bracket_pass l b old value close s k)
+    (pass_then l (want.Mark (codes "]")) us close mid rest (mark_pass l (codes "]") close mid z) p)
+
+-- the word was taken, and what stands behind it is gone over
+pub start_then : (l m : Bool) (at : Place) (old bracket rest : Row) → m ≡ true → old ≡ word (codes "circular") at ∷ bracket
+    → Pass l (want.Bracket ∷ want.Mark (codes "]") ∷ want.Circular false ∷ []) bracket rest → Pass l (want.Circular m ∷ []) old rest
+start_then l m at old bracket rest may front p =
+    pass_takes l (want.Circular m) (want.Bracket ∷ want.Mark (codes "]") ∷ want.Circular false ∷ []) (word (codes "circular") at) old bracket rest front (λ d. (0, circular_row m at d may)) p
+
+pub circular_pass : (l m : Bool) (start : Option Bool) (old rest : Row) → Circular m start old rest → NoWord (codes "circular") rest → Pass l (want.Circular m ∷ []) old rest
+circular_pass l m None old rest h n = subst (λ (x : Row). Pass l (want.Circular m ∷ []) x rest) (sym h) (none_pass l m rest n)
+circular_pass l m (Some b) old rest (may, bracket, k, s) n =
+    start_then l m k.0 old bracket rest may k.1 (start_pass l b (want.Circular false ∷ []) bracket rest rest s (none_pass l false rest n))
+
+-- ---- a declared attribute
+
+pub is_boolean : (k : syntax.Kind) (at : Place) (forms : Forms) → IsKind k → is_word (codes "boolean") (word (kind_text k) at) && forms.circular ≡ may_be_circular forms k
+unfolding reserved_words
+is_boolean syntax.Int at forms is = refl
+is_boolean syntax.Bool' at forms is = refl
+is_boolean syntax.Text at forms is = refl
+is_boolean (syntax.Class name) at forms is = ap (λ b. b && forms.circular) (no_word name (codes "boolean") refl is)
+
+pub attribute_row : (forms : Forms) (k : syntax.Kind) (at : Place) (d : ℕ) → IsKind k → table (want.Attribute forms) d (Some (word (kind_text k) at)) ≡ Takes true (named (may_be_circular forms k)) 0
+unfolding table
+attribute_row forms k at d is =
+    ap (λ b. on b (Takes true (named (is_word (codes "boolean") (word (kind_text k) at) && forms.circular)) 0) Refuses) (kind_is_kind k at is) ∙ ap (λ m. Takes true (named m) 0) (is_boolean k at forms is)
+
+attribute_pass : (l : Bool) (forms : Forms) (k : KindWord) (class name : Word) (ps : Params) (start : Option Bool) (old rest : Row) → AttributeOf forms k class name ps start old rest → NoWord (codes "circular") rest
+    → Pass l (want.Attribute forms ∷ []) old rest
+attribute_pass l forms k class name ps start old rest (owner, called, behind, t, o, s, c) n =
+    let m = may_be_circular forms k.kind in
+    pass_takes l (want.Attribute forms) (named m) (word (kind_text k.kind) k.at) old owner rest t.1 (λ d. (0, attribute_row forms k.kind k.at d t.0))
+    (owner_then l (want.Signed ∷ want.Circular m ∷ []) class owner called rest o
+    (pass_then l want.Signed (want.Circular m ∷ []) called behind rest (signed_pass l name ps called behind s) (circular_pass l m start behind rest c n)))
+
+pub declared_then : (l : Bool) (forms : Forms) (us : List Want) (lazy : Option Place) (k : KindWord) (class name : Word) (ps : Params) (start : Option Bool) (old end rest : Row) → Declared forms lazy k class name ps start old end
+    → NoWord (codes "circular") end → Pass l us end rest → Pass l (declared forms us) old rest
+declared_then l forms us lazy k class name ps start old end rest (kinds, z, a) n p =
+    let begins = kind_begins k kinds a.0 a.3 in
+    pass_then l want.Lazy (want.Attribute forms ∷ us) old kinds rest (lazy_pass l lazy old kinds z (λ e. begins.0) begins.1)
+    (pass_then l (want.Attribute forms) us kinds end rest (attribute_pass l forms k class name ps start kinds end a n) p)
 
 no_circular_body : (f : syntax.BodyForm) (e : Expr) (at : Place) (old rest : Row) → BodyOf (record { at = at; form = f; expr = e }) old rest → NoWord (codes "circular") old
 no_circular_body syntax.Equation' e at old rest (one, end, s, r, z) = ap (λ r. next (is_word (codes "circular")) (first r)) s
 no_circular_body syntax.Block e at old rest (returns, one, end, close, s, k, r, z, c) = ap (λ r. next (is_word (codes "circular")) (first r)) s
 
-no_circular : (e : Ending) (old rest : Row) → EndingOf e old rest → NoWord (codes "circular") old
+pub no_circular : (e : Ending) (old rest : Row) → EndingOf e old rest → NoWord (codes "circular") old
 no_circular (syntax.With b) old rest h = no_circular_body b.form b.expr b.at old rest h
 no_circular (syntax.Semicolon at) old rest h = ap (λ r. next (is_word (codes "circular")) (first r)) h
 
-pub synthesized_row : (at : Place) (d : ℕ) → table want.Decls d (Some (word (codes "syn") at)) ≡ Takes true (declared (want.Ending ∷ want.Decls ∷ [])) 0
+pub synthesized_row : (forms : Forms) (at : Place) (d : ℕ) → table (want.Decls forms) d (Some (word (codes "syn") at)) ≡ Takes true (declared forms (want.Ending ∷ want.Decls forms ∷ [])) 0
 unfolding table
-synthesized_row at d = refl
+synthesized_row forms at d = refl
 
-pub inherited_row : (at : Place) (d : ℕ) → table want.Decls d (Some (word (codes "inh") at)) ≡ Takes true (declared (want.Mark (codes ";") ∷ want.Decls ∷ [])) 0
+pub inherited_row : (forms : Forms) (at : Place) (d : ℕ) → table (want.Decls forms) d (Some (word (codes "inh") at)) ≡ Takes true (declared forms (want.Mark (codes ";") ∷ want.Decls forms ∷ [])) 0
 unfolding table
-inherited_row at d = refl
+inherited_row forms at d = refl
 
-pub equation_row : (at : Place) (d : ℕ) → table want.Decls d (Some (word (codes "eq") at)) ≡ Takes true (want.Name ∷ want.Mark (codes ".") ∷ want.Signed ∷ want.Defined ∷ want.Decls ∷ []) 0
+pub equation_row : (forms : Forms) (at : Place) (d : ℕ) → table (want.Decls forms) d (Some (word (codes "eq") at)) ≡ Takes true (want.Name ∷ want.Mark (codes ".") ∷ want.Signed ∷ want.Defined ∷ want.Decls forms ∷ []) 0
 unfolding table
-equation_row at d = refl
+equation_row forms at d = refl
 
 pub dot_row : (at : Place) → table want.Defined 0 (Some (sign (codes ".") at)) ≡ Takes true (want.Signed ∷ want.Body ∷ []) 0
 unfolding table
@@ -368,62 +420,62 @@ getter_then l us at old dot called rest p e q ws d =
 abbrev pub Comes : Bool → List Want → List Want → Row → Row → Type 0
 Comes l us vs old rest = (ws : List Want) (d : ℕ) → (e : ℕ) × (run l table (us ++ ws) d old ≡ run l table (vs ++ ws) e rest)
 
-decl_comes : (l : Bool) (us : List Want) (t : PlacedToken) (old behind more : Row) → old ≡ t ∷ behind
-    → ((ws : List Want) (d : ℕ) → run l table (want.Decls ∷ ws) d (t ∷ behind) ≡ run l table (us ++ want.Decls ∷ ws) 0 behind) → Pass l us behind more → Comes l (want.Decls ∷ []) (want.Decls ∷ []) old more
-decl_comes l us t old behind more e row p ws d = let a = p (want.Decls ∷ ws) 0 in (a.0, ap (run l table (want.Decls ∷ ws) d) e ∙ row ws d ∙ a.1)
+decl_comes : (forms : Forms) (l : Bool) (us : List Want) (t : PlacedToken) (old behind more : Row) → old ≡ t ∷ behind
+    → ((ws : List Want) (d : ℕ) → run l table (want.Decls forms ∷ ws) d (t ∷ behind) ≡ run l table (us ++ want.Decls forms ∷ ws) 0 behind) → Pass l us behind more → Comes l (want.Decls forms ∷ []) (want.Decls forms ∷ []) old more
+decl_comes forms l us t old behind more e row p ws d = let a = p (want.Decls forms ∷ ws) 0 in (a.0, ap (run l table (want.Decls forms ∷ ws) d) e ∙ row ws d ∙ a.1)
 
-behind_comes : (l : Bool) (f : DeclForm) (at : Place) (old behind more : Row) → (l ≡ true → nesting f ≤ max_nesting) → old ≡ word (grammar.keyword f) at ∷ behind → Behind f behind more → Comes l (want.Decls ∷ []) (want.Decls ∷ []) old more
-behind_comes l (syntax.Synthesized lazy k class name ps ending) at old behind more fits e (end, h, z) =
-    decl_comes l (declared (want.Ending ∷ [])) (word (codes "syn") at) old behind more e (λ ws d. run-takes l table want.Decls true (declared (want.Ending ∷ want.Decls ∷ [])) ws d 0 (word (codes "syn") at) behind (synthesized_row at d) (λ h. refl))
-    (declared_then l (want.Ending ∷ []) lazy k class name ps behind end more h (no_circular ending end more z) (ending_goes l ending end more fits z))
-behind_comes l (syntax.Inherited lazy k class name ps) at old behind more fits e (end, h, z) =
-    decl_comes l (declared (want.Mark (codes ";") ∷ [])) (word (codes "inh") at) old behind more e (λ ws d. run-takes l table want.Decls true (declared (want.Mark (codes ";") ∷ want.Decls ∷ [])) ws d 0 (word (codes "inh") at) behind (inherited_row at d) (λ h. refl))
-    (declared_then l (want.Mark (codes ";") ∷ []) lazy k class name ps behind end more h (ap (λ r. next (is_word (codes "circular")) (first r)) z.1) (mark_pass l (codes ";") end more z))
-behind_comes l (syntax.Equation class name ps b) at old behind more fits e (called, body, o, s, z) =
-    decl_comes l (want.Name ∷ want.Mark (codes ".") ∷ want.Signed ∷ want.Defined ∷ []) (word (codes "eq") at) old behind more e
-    (λ ws d. run-takes l table want.Decls true (want.Name ∷ want.Mark (codes ".") ∷ want.Signed ∷ want.Defined ∷ want.Decls ∷ []) ws d 0 (word (codes "eq") at) behind (equation_row at d) (λ h. refl))
+behind_comes : (forms : Forms) (l : Bool) (f : DeclForm) (at : Place) (old behind more : Row) → (l ≡ true → nesting f ≤ max_nesting) → old ≡ word (grammar.keyword f) at ∷ behind → Behind forms f behind more → Comes l (want.Decls forms ∷ []) (want.Decls forms ∷ []) old more
+behind_comes forms l (syntax.Synthesized lazy k class name ps start ending) at old behind more fits e (end, h, z) =
+    decl_comes forms l (declared forms (want.Ending ∷ [])) (word (codes "syn") at) old behind more e (λ ws d. run-takes l table (want.Decls forms) true (declared forms (want.Ending ∷ want.Decls forms ∷ [])) ws d 0 (word (codes "syn") at) behind (synthesized_row forms at d) (λ h. refl))
+    (declared_then l forms (want.Ending ∷ []) lazy k class name ps start behind end more h (no_circular ending end more z) (ending_goes l ending end more fits z))
+behind_comes forms l (syntax.Inherited lazy k class name ps start) at old behind more fits e (end, h, z) =
+    decl_comes forms l (declared forms (want.Mark (codes ";") ∷ [])) (word (codes "inh") at) old behind more e (λ ws d. run-takes l table (want.Decls forms) true (declared forms (want.Mark (codes ";") ∷ want.Decls forms ∷ [])) ws d 0 (word (codes "inh") at) behind (inherited_row forms at d) (λ h. refl))
+    (declared_then l forms (want.Mark (codes ";") ∷ []) lazy k class name ps start behind end more h (ap (λ r. next (is_word (codes "circular")) (first r)) z.1) (mark_pass l (codes ";") end more z))
+behind_comes forms l (syntax.Equation class name ps b) at old behind more fits e (called, body, o, s, z) =
+    decl_comes forms l (want.Name ∷ want.Mark (codes ".") ∷ want.Signed ∷ want.Defined ∷ []) (word (codes "eq") at) old behind more e
+    (λ ws d. run-takes l table (want.Decls forms) true (want.Name ∷ want.Mark (codes ".") ∷ want.Signed ∷ want.Defined ∷ want.Decls forms ∷ []) ws d 0 (word (codes "eq") at) behind (equation_row forms at d) (λ h. refl))
     (owner_then l (want.Signed ∷ want.Defined ∷ []) class behind called more o (pass_then l want.Signed (want.Defined ∷ []) called body more (signed_pass l name ps called body s) (defined_goes l b body more fits z)))
-behind_comes l (syntax.InheritedEquation class getter i name ps b) at old behind more fits e (got, called, body, o, (paren, list, dot, n, opens, x, s), g, z) =
-    decl_comes l (want.Name ∷ want.Mark (codes ".") ∷ want.Signed ∷ want.Defined ∷ []) (word (codes "eq") at) old behind more e
-    (λ ws d. run-takes l table want.Decls true (want.Name ∷ want.Mark (codes ".") ∷ want.Signed ∷ want.Defined ∷ want.Decls ∷ []) ws d 0 (word (codes "eq") at) behind (equation_row at d) (λ h. refl))
+behind_comes forms l (syntax.InheritedEquation class getter i name ps b) at old behind more fits e (got, called, body, o, (paren, list, dot, n, opens, x, s), g, z) =
+    decl_comes forms l (want.Name ∷ want.Mark (codes ".") ∷ want.Signed ∷ want.Defined ∷ []) (word (codes "eq") at) old behind more e
+    (λ ws d. run-takes l table (want.Decls forms) true (want.Name ∷ want.Mark (codes ".") ∷ want.Signed ∷ want.Defined ∷ want.Decls forms ∷ []) ws d 0 (word (codes "eq") at) behind (equation_row forms at d) (λ h. refl))
     (owner_then l (want.Signed ∷ want.Defined ∷ []) class behind got more o
     (getter_then l [] s.0 got dot called more (getter_goes l getter i got more dot paren list n opens (indexed i list dot x)) s.1
     (pass_then l want.Signed (want.Body ∷ []) called body more (signed_pass l name ps called body g) (body_goes l b body more fits z))))
 
-pub decls_come : (l : Bool) (ds : List Decl) (old rest : Row) → (l ≡ true → AllByRecursion NestsWithin ds) → grammar.Decls ds old rest → Comes l (want.Decls ∷ []) (want.Decls ∷ []) old rest
-decls_come l [] old rest fits e ws d = (d, ap (run l table (want.Decls ∷ ws) d) e)
-decls_come l (x ∷ ds) old rest fits (more, (behind, e, h), k) ws d =
-    let a = behind_comes l x.form x.at old behind more (λ e. (fits e).0) e h ws d in
-    let b = decls_come l ds more rest (λ e. (fits e).1) k ws a.0 in
+pub decls_come : (forms : Forms) (l : Bool) (ds : List Decl) (old rest : Row) → (l ≡ true → AllByRecursion NestsWithin ds) → grammar.Decls forms ds old rest → Comes l (want.Decls forms ∷ []) (want.Decls forms ∷ []) old rest
+decls_come forms l [] old rest fits e ws d = (d, ap (run l table (want.Decls forms ∷ ws) d) e)
+decls_come forms l (x ∷ ds) old rest fits (more, (behind, e, h), k) ws d =
+    let a = behind_comes forms l x.form x.at old behind more (λ e. (fits e).0) e h ws d in
+    let b = decls_come forms l ds more rest (λ e. (fits e).1) k ws a.0 in
     (b.0, a.1 ∙ b.1)
 
-decls_end : (l : Bool) (close rest : Row) → Sign (codes "}") close rest → Pass l (want.Decls ∷ []) close rest
+decls_end : (forms : Forms) (l : Bool) (close rest : Row) → Sign (codes "}") close rest → Pass l (want.Decls forms ∷ []) close rest
 unfolding table
-decls_end l close rest s = pass_takes l want.Decls [] (sign (codes "}") s.0) close rest rest s.1 (λ d. (0, refl)) (pass_none l rest)
+decls_end forms l close rest s = pass_takes l (want.Decls forms) [] (sign (codes "}") s.0) close rest rest s.1 (λ d. (0, refl)) (pass_none l rest)
 
-decls_pass : (l : Bool) (ds : List Decl) (old close rest : Row) → (l ≡ true → AllByRecursion NestsWithin ds) → grammar.Decls ds old close → Sign (codes "}") close rest → Pass l (want.Decls ∷ []) old rest
-decls_pass l ds old close rest fits h s ws d =
-    let a = decls_come l ds old close fits h ws d in
-    let b = decls_end l close rest s ws a.0 in
+decls_pass : (forms : Forms) (l : Bool) (ds : List Decl) (old close rest : Row) → (l ≡ true → AllByRecursion NestsWithin ds) → grammar.Decls forms ds old close → Sign (codes "}") close rest → Pass l (want.Decls forms ∷ []) old rest
+decls_pass forms l ds old close rest fits h s ws d =
+    let a = decls_come forms l ds old close fits h ws d in
+    let b = decls_end forms l close rest s ws a.0 in
     (b.0, a.1 ∙ b.1)
 
-pub aspect_row : (at : Place) (d : ℕ) → table want.File d (Some (word (codes "aspect") at)) ≡ Takes true (want.Name ∷ want.Mark (codes "{") ∷ want.Decls ∷ want.File ∷ []) 0
+pub aspect_row : (forms : Forms) (at : Place) (d : ℕ) → table (want.File forms) d (Some (word (codes "aspect") at)) ≡ Takes true (want.Name ∷ want.Mark (codes "{") ∷ want.Decls forms ∷ want.File forms ∷ []) 0
 unfolding table
-aspect_row at d = refl
+aspect_row forms at d = refl
 
 -- whole aspects are gone over, and more of them are wanted
-pub file_comes : (l : Bool) (as' : List Aspect) (old rest : Row) → (l ≡ true → IsWithin as') → File as' old rest → Comes l (want.File ∷ []) (want.File ∷ []) old rest
-file_comes l [] old rest fits e ws d = (d, ap (run l table (want.File ∷ ws) d) e)
-file_comes l (a ∷ as') old rest fits (more, (named, brace, inner, close, k, n, b, h, c), t) ws d =
-    let p = pass_then l want.Name (want.Mark (codes "{") ∷ want.Decls ∷ []) named brace more (name_pass l a.name named brace n)
-    (pass_then l (want.Mark (codes "{")) (want.Decls ∷ []) brace inner more (mark_pass l (codes "{") brace inner b) (decls_pass l a.decls inner close more (λ e. (fits e).0) h c)) in
-    let q = p (want.File ∷ ws) 0 in
-    let r = file_comes l as' more rest (λ e. (fits e).1) t ws q.0 in
-    (r.0, ap (run l table (want.File ∷ ws) d) k.1 ∙ run-takes l table want.File true (want.Name ∷ want.Mark (codes "{") ∷ want.Decls ∷ want.File ∷ []) ws d 0 (word (codes "aspect") k.0) named (aspect_row k.0 d) (λ h. refl) ∙ q.1 ∙ r.1)
+pub file_comes : (forms : Forms) (l : Bool) (as' : List Aspect) (old rest : Row) → (l ≡ true → IsWithin as') → File forms as' old rest → Comes l (want.File forms ∷ []) (want.File forms ∷ []) old rest
+file_comes forms l [] old rest fits e ws d = (d, ap (run l table (want.File forms ∷ ws) d) e)
+file_comes forms l (a ∷ as') old rest fits (more, (named, brace, inner, close, k, n, b, h, c), t) ws d =
+    let p = pass_then l want.Name (want.Mark (codes "{") ∷ want.Decls forms ∷ []) named brace more (name_pass l a.name named brace n)
+    (pass_then l (want.Mark (codes "{")) (want.Decls forms ∷ []) brace inner more (mark_pass l (codes "{") brace inner b) (decls_pass forms l a.decls inner close more (λ e. (fits e).0) h c)) in
+    let q = p (want.File forms ∷ ws) 0 in
+    let r = file_comes forms l as' more rest (λ e. (fits e).1) t ws q.0 in
+    (r.0, ap (run l table (want.File forms ∷ ws) d) k.1 ∙ run-takes l table (want.File forms) true (want.Name ∷ want.Mark (codes "{") ∷ want.Decls forms ∷ want.File forms ∷ []) ws d 0 (word (codes "aspect") k.0) named (aspect_row forms k.0 d) (λ h. refl) ∙ q.1 ∙ r.1)
 
-ends_whole : (l : Bool) (d : ℕ) → run l table (want.File ∷ []) d [] ≡ Whole
+ends_whole : (forms : Forms) (l : Bool) (d : ℕ) → run l table (want.File forms ∷ []) d [] ≡ Whole
 unfolding run table
-ends_whole l d = refl
+ends_whole forms l d = refl
 
-pub file_taken : (l : Bool) (as' : List Aspect) (old : Row) → (l ≡ true → IsWithin as') → File as' old [] → (d : ℕ) → run l table (want.File ∷ []) d old ≡ Whole
-file_taken l as' old fits h d = let r = file_comes l as' old [] fits h [] d in r.1 ∙ ends_whole l r.0
+pub file_taken : (forms : Forms) (l : Bool) (as' : List Aspect) (old : Row) → (l ≡ true → IsWithin as') → File forms as' old [] → (d : ℕ) → run l table (want.File forms ∷ []) d old ≡ Whole
+file_taken forms l as' old fits h d = let r = file_comes forms l as' old [] fits h [] d in r.1 ∙ ends_whole forms l r.0

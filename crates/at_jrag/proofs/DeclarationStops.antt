@@ -7,23 +7,24 @@ use lib.Chars.{codes}
 use Rattle.at_text.specs.Reading.{first}
 use Rattle.at_text.specs.Symbols.{PlacedToken, is_word_kind}
 use Rattle.at_text.specs.declared.place.Place.{Place}
+use Rattle.at_jrag.specs.declared.Forms.{Forms}
 use Rattle.at_jrag.specs.Syntax.{Word, Params, KindWord}
 use Rattle.at_jrag.specs.Grammar as grammar
 use Rattle.at_text.specs.Rows.{Row, sign, word, is_sign, is_word, is_name_token, next_is}
-use Rattle.at_jrag.specs.Grammar.{Sign, Keyword, Lazy, KindOf, Signature, Owner, Declared, max_nesting}
+use Rattle.at_jrag.specs.Grammar.{truth_text, kind_text, may_be_circular, begins_other, StartOf, Sign, Keyword, Lazy, KindOf, Signature, Owner, Declared, max_nesting}
 use Rattle.at_jrag.specs.Heads.{is_getter}
 use Rattle.at_text.specs.Machine.{Reason, Refused, LeftOut, Takes, Skips, Refuses, LeavesOut, Stuck, run}
 use Rattle.at_jrag.specs.Wants as want
 use Rattle.at_jrag.specs.Wants.{Want}
-use Rattle.at_jrag.specs.Table.{table, next, on, is_kind, body_answer, declared, alone}
+use Rattle.at_jrag.specs.Table.{table, next, on, is_kind, body_answer, declared, named, alone}
 use Rattle.at_jrag.specs.Runs.{Goes, Stay, Stays, Pass, Missing, reason_of}
 use Rattle.at_text.specs.declared.fault.Failure.{Failure}
 use Rattle.at_text.specs.declared.fault.Failure.TheVariants as failure
 use Rattle.at_jrag.specs.declared.JragCode.{JragCode}
 use Rattle.at_jrag.specs.declared.JragCode.TheVariants as code
 use Rattle.at_text.proofs.MachineLaws.{run-takes, run-refuses}
-use Rattle.at_jrag.proofs.DeclarationRuns.{next_same, dot_row, signed_row, aspect_row, synthesized_row, inherited_row, equation_row, pass_none, lazy_pass, kind_pass, name_pass, mark_pass, return_pass, signed_pass, signature_goes, declared_then, stay_then, stay_first, stay_takes, stay_refuses, stay_leaves_out, name_missing, mark_missing}
-use Rattle.at_jrag.proofs.ParamStops.{kind_missing, signed_missing, last_row}
+use Rattle.at_jrag.proofs.DeclarationRuns.{missing_stays, circular_row, bracket_pass, attribute_row, next_same, dot_row, signed_row, aspect_row, synthesized_row, inherited_row, equation_row, pass_none, lazy_pass, kind_pass, name_pass, mark_pass, return_pass, signed_pass, signature_goes, declared_then, stay_then, stay_first, stay_takes, stay_refuses, stay_leaves_out, name_missing, mark_missing}
+use Rattle.at_jrag.proofs.ParamStops.{signed_missing, last_row}
 
 -- ---- where a keyword is wanted
 
@@ -38,33 +39,33 @@ keyword_stays : (w : Want) (t : PlacedToken) (ts : Row) (b : Bool) → ((d : ℕ
 keyword_stays w t ts true row = stay_leaves_out w t (t ∷ ts) ts (t ∷ ts) refl refl row
 keyword_stays w t ts false row = stay_refuses w (t ∷ ts) (t ∷ ts) refl row
 
-aspect_none : (t : PlacedToken) (d : ℕ) → is_word (codes "aspect") t ≡ false → table want.File d (Some t) ≡ cond (is_word_kind t.kind) LeavesOut Refuses
+aspect_none : (forms : Forms) (t : PlacedToken) (d : ℕ) → is_word (codes "aspect") t ≡ false → table (want.File forms) d (Some t) ≡ cond (is_word_kind t.kind) LeavesOut Refuses
 unfolding table
-aspect_none t d h = ap (λ b. on b (Takes true (want.Name ∷ want.Mark (codes "{") ∷ want.Decls ∷ want.File ∷ []) 0) (cond (is_word_kind t.kind) LeavesOut Refuses)) h
+aspect_none forms t d h = ap (λ b. on b (Takes true (want.Name ∷ want.Mark (codes "{") ∷ want.Decls forms ∷ want.File forms ∷ []) 0) (cond (is_word_kind t.kind) LeavesOut Refuses)) h
 
-aspect_at : (old : Row) → 0 < length old → next_is (is_word (codes "aspect")) old ≡ false → Stay (want.File ∷ []) (reason_of (no_keyword old)) old old
-aspect_at [] some h = absurd (omega (arith, some))
-aspect_at (t ∷ ts) some h = keyword_stays want.File t ts (is_word_kind t.kind) (λ d. aspect_none t d h)
+aspect_at : (forms : Forms) (old : Row) → 0 < length old → next_is (is_word (codes "aspect")) old ≡ false → Stay (want.File forms ∷ []) (reason_of (no_keyword old)) old old
+aspect_at forms [] some h = absurd (omega (arith, some))
+aspect_at forms (t ∷ ts) some h = keyword_stays (want.File forms) t ts (is_word_kind t.kind) (λ d. aspect_none forms t d h)
 
-pub aspect_stays : (old rest : Row) → rest ≡ old → 0 < length old → next_is (is_word (codes "aspect")) old ≡ false → Stay (want.File ∷ []) (reason_of (no_keyword rest)) old rest
-aspect_stays old rest same some h = at_same want.File no_keyword old rest same (aspect_at old some h)
+pub aspect_stays : (forms : Forms) (old rest : Row) → rest ≡ old → 0 < length old → next_is (is_word (codes "aspect")) old ≡ false → Stay (want.File forms ∷ []) (reason_of (no_keyword rest)) old rest
+aspect_stays forms old rest same some h = at_same (want.File forms) no_keyword old rest same (aspect_at forms old some h)
 
-decl_none : (t : PlacedToken) (d : ℕ) → is_sign (codes "}") t ≡ false → is_word (codes "syn") t ≡ false → is_word (codes "inh") t ≡ false → is_word (codes "eq") t ≡ false → table want.Decls d (Some t) ≡ cond (is_word_kind t.kind) LeavesOut Refuses
+decl_none : (forms : Forms) (t : PlacedToken) (d : ℕ) → is_sign (codes "}") t ≡ false → is_word (codes "syn") t ≡ false → is_word (codes "inh") t ≡ false → is_word (codes "eq") t ≡ false → table (want.Decls forms) d (Some t) ≡ cond (is_word_kind t.kind) LeavesOut Refuses
 unfolding table
-decl_none t d close syn inh eq = last_row (is_sign (codes "}") t) (is_word (codes "syn") t) (is_word (codes "inh") t) (is_word (codes "eq") t) _ _ _ _ _ close syn inh eq
+decl_none forms t d close syn inh eq = last_row (is_sign (codes "}") t) (is_word (codes "syn") t) (is_word (codes "inh") t) (is_word (codes "eq") t) _ _ _ _ _ close syn inh eq
 
-decls_end : (d : ℕ) → table want.Decls d None ≡ Refuses
+decls_end : (forms : Forms) (d : ℕ) → table (want.Decls forms) d None ≡ Refuses
 unfolding table
-decls_end d = refl
+decls_end forms d = refl
 
-decl_at : (old : Row) → next_is (is_sign (codes "}")) old ≡ false → next_is (is_word (codes "syn")) old ≡ false → next_is (is_word (codes "inh")) old ≡ false → next_is (is_word (codes "eq")) old ≡ false
-    → Stay (want.Decls ∷ []) (reason_of (no_keyword old)) old old
-decl_at [] close syn inh eq = stay_refuses want.Decls [] [] refl decls_end
-decl_at (t ∷ ts) close syn inh eq = keyword_stays want.Decls t ts (is_word_kind t.kind) (λ d. decl_none t d close syn inh eq)
+decl_at : (forms : Forms) (old : Row) → next_is (is_sign (codes "}")) old ≡ false → next_is (is_word (codes "syn")) old ≡ false → next_is (is_word (codes "inh")) old ≡ false → next_is (is_word (codes "eq")) old ≡ false
+    → Stay (want.Decls forms ∷ []) (reason_of (no_keyword old)) old old
+decl_at forms [] close syn inh eq = stay_refuses (want.Decls forms) [] [] refl (decls_end forms)
+decl_at forms (t ∷ ts) close syn inh eq = keyword_stays (want.Decls forms) t ts (is_word_kind t.kind) (λ d. decl_none forms t d close syn inh eq)
 
-pub decl_stays : (old rest : Row) → rest ≡ old → next_is (is_sign (codes "}")) old ≡ false → next_is (is_word (codes "syn")) old ≡ false → next_is (is_word (codes "inh")) old ≡ false → next_is (is_word (codes "eq")) old ≡ false
-    → Stay (want.Decls ∷ []) (reason_of (no_keyword rest)) old rest
-decl_stays old rest same close syn inh eq = at_same want.Decls no_keyword old rest same (decl_at old close syn inh eq)
+pub decl_stays : (forms : Forms) (old rest : Row) → rest ≡ old → next_is (is_sign (codes "}")) old ≡ false → next_is (is_word (codes "syn")) old ≡ false → next_is (is_word (codes "inh")) old ≡ false → next_is (is_word (codes "eq")) old ≡ false
+    → Stay (want.Decls forms ∷ []) (reason_of (no_keyword rest)) old rest
+decl_stays forms old rest same close syn inh eq = at_same (want.Decls forms) no_keyword old rest same (decl_at forms old close syn inh eq)
 
 -- ---- where one token alone is wanted
 
@@ -162,38 +163,109 @@ signed_stays us name r old paren rest n st =
     stay_first want.Signed us r old rest
     (stay_takes want.Signed (want.Opening (bytes_eq name.text (codes "getChild")) ∷ []) (word name.text name.at) r old paren rest n.1 (λ d. (0, signed_row name.text name.at d n.0)) st)
 
+-- ---- ["circular" "[" ("true" | "false") "]"]
+
+circular_left : (m : Bool) (t : PlacedToken) (d : ℕ) → m ≡ false → is_word (codes "circular") t ≡ true → table (want.Circular m) d (Some t) ≡ LeavesOut
+unfolding table
+circular_left m t d may h =
+    ap (λ b. on b (cond m (Takes true (want.Bracket ∷ want.Mark (codes "]") ∷ want.Circular false ∷ []) 0) LeavesOut) (Skips 0)) h
+    ∙ ap (λ b. cond b (Takes true (want.Bracket ∷ want.Mark (codes "]") ∷ want.Circular false ∷ []) 0) LeavesOut) may
+
+-- where it may not stand
+pub circular_stays : (m : Bool) (old : Row) → m ≡ false → next_is (is_word (codes "circular")) old ≡ true → Stay (want.Circular m ∷ []) (Some LeftOut) old old
+circular_stays m [] may h = absurd cc
+circular_stays m (t ∷ ts) may h = stay_leaves_out (want.Circular m) t (t ∷ ts) ts (t ∷ ts) refl refl (λ d. circular_left m t d may h)
+
+pub left_stays : (m : Bool) (e : Failure JragCode) (old : Row) → m ≡ false → e ≡ failure.For code.LeftOut → next_is (is_word (codes "circular")) old ≡ true → Stay (want.Circular m ∷ []) (reason_of e) old old
+left_stays m e old may is h = subst (λ x. Stay (want.Circular m ∷ []) (reason_of x) old old) (sym is) (circular_stays m old may h)
+
+-- behind the word
+pub start_stays : (m : Bool) (at : Place) (r : Option Reason) (old bracket rest : Row) → m ≡ true → old ≡ word (codes "circular") at ∷ bracket
+    → Stay (want.Bracket ∷ want.Mark (codes "]") ∷ want.Circular false ∷ []) r bracket rest → Stay (want.Circular m ∷ []) r old rest
+start_stays m at r old bracket rest may front st =
+    stay_takes (want.Circular m) (want.Bracket ∷ want.Mark (codes "]") ∷ want.Circular false ∷ []) (word (codes "circular") at) r old bracket rest front (λ d. (0, circular_row m at d may)) st
+
+-- behind its brackets
+pub again_stays : (b : Bool) (e : Failure JragCode) (old mid : Row) → StartOf b old mid → e ≡ failure.For code.LeftOut → next_is (is_word (codes "circular")) mid ≡ true
+    → Stay (want.Bracket ∷ want.Mark (codes "]") ∷ want.Circular false ∷ []) (reason_of e) old mid
+again_stays b e old mid (value, close, s, k, z) is h =
+    stay_then want.Bracket (want.Mark (codes "]") ∷ want.Circular false ∷ []) (reason_of e) old close mid (bracket_pass true b old value close s k)
+    (stay_then (want.Mark (codes "]")) (want.Circular false ∷ []) (reason_of e) close mid mid (mark_pass true (codes "]") close mid z) (left_stays false e mid refl is h))
+
+-- an error between the brackets
+pub brackets_stay : (us : List Want) (r : Option Reason) (old rest : Row) → Stay (want.Bracket ∷ want.Mark (codes "]") ∷ []) r old rest → Stay (want.Bracket ∷ want.Mark (codes "]") ∷ us) r old rest
+brackets_stay us None old rest st d = tt
+brackets_stay us (Some r) old rest st d = λ ws. st d (us ++ ws)
+
+bracket_row : (d : ℕ) (s : Option PlacedToken) → next (is_sign (codes "[")) s ≡ false → table want.Bracket d s ≡ Refuses
+unfolding table
+bracket_row d s h = ap (λ b. on b (Takes true (want.Start ∷ []) 0) Refuses) h
+
+pub no_bracket : (us : List Want) (e : Failure JragCode) (old rest : Row) → Missing (is_sign (codes "[")) e old rest → Stay (want.Bracket ∷ us) (reason_of e) old rest
+no_bracket us e old rest m = stay_first want.Bracket us (reason_of e) old rest (missing_stays want.Bracket (is_sign (codes "[")) e old rest bracket_row m)
+
+bracket_takes : (at : Place) (d : ℕ) → table want.Bracket d (Some (sign (codes "[") at)) ≡ Takes true (want.Start ∷ []) 0
+unfolding table
+bracket_takes at d = refl
+
+pub bracket_stays : (us : List Want) (at : Place) (r : Option Reason) (old value rest : Row) → old ≡ sign (codes "[") at ∷ value → Stay (want.Start ∷ []) r value rest → Stay (want.Bracket ∷ us) r old rest
+bracket_stays us at r old value rest front st =
+    stay_first want.Bracket us r old rest (stay_takes want.Bracket (want.Start ∷ []) (sign (codes "[") at) r old value rest front (λ d. (0, bracket_takes at d)) st)
+
+pub no_end : (b : Bool) (at : Place) (e : Failure JragCode) (old value close rest : Row) → old ≡ sign (codes "[") at ∷ value → Keyword (truth_text b) value close → Missing (is_sign (codes "]")) e close rest
+    → Stay (want.Bracket ∷ want.Mark (codes "]") ∷ []) (reason_of e) old rest
+no_end b at e old value close rest front k m =
+    stay_then want.Bracket (want.Mark (codes "]") ∷ []) (reason_of e) old close rest (bracket_pass true b old value close (at, front) k) (mark_missing (codes "]") e close rest m)
+
+start_row : (d : ℕ) (t : PlacedToken) → is_word (codes "true") t ≡ false → is_word (codes "false") t ≡ false → table want.Start d (Some t) ≡ cond (begins_other t) LeavesOut Refuses
+unfolding table
+start_row d t a b = simp (a, b)
+
+start_ended : (d : ℕ) → table want.Start d None ≡ Refuses
+unfolding table
+start_ended d = refl
+
+-- another expression is left out
+abbrev no_truth : Row → Failure JragCode
+no_truth old = cond (next_is begins_other old) (failure.For code.LeftOut) (failure.For code.Syntax)
+
+truth_at : (old : Row) → next_is (is_word (codes "true")) old ≡ false → next_is (is_word (codes "false")) old ≡ false → Stay (want.Start ∷ []) (reason_of (no_truth old)) old old
+truth_at [] a b = stay_refuses want.Start [] [] refl start_ended
+truth_at (t ∷ ts) a b = keyword_stays want.Start t ts (begins_other t) (λ d. start_row d t a b)
+
+pub truth_stays : (old rest : Row) → rest ≡ old → next_is (is_word (codes "true")) old ≡ false → next_is (is_word (codes "false")) old ≡ false → Stay (want.Start ∷ []) (reason_of (no_truth rest)) old rest
+truth_stays old rest same a b = at_same want.Start no_truth old rest same (truth_at old a b)
+
 -- ---- a declared attribute
 
-pub no_kind : (us : List Want) (e : Failure JragCode) (old kinds rest : Row) → Pass true (want.Lazy ∷ []) old kinds → Missing is_kind e kinds rest → Stay (declared us) (reason_of e) old rest
-no_kind us e old kinds rest p m =
-    let vs = want.Name ∷ want.Mark (codes ".") ∷ want.Signed ∷ want.NotCircular ∷ us in
-    stay_then want.Lazy (want.Kind ∷ vs) (reason_of e) old kinds rest p (stay_first want.Kind vs (reason_of e) kinds rest (kind_missing e kinds rest m))
-
-pub no_target : (us : List Want) (k : KindWord) (r : Option Reason) (old kinds owner rest : Row) → Pass true (want.Lazy ∷ []) old kinds → KindOf k kinds owner
-    → Stay (want.Name ∷ want.Mark (codes ".") ∷ want.Signed ∷ want.NotCircular ∷ us) r owner rest → Stay (declared us) r old rest
-no_target us k r old kinds owner rest p is st =
-    let vs = want.Name ∷ want.Mark (codes ".") ∷ want.Signed ∷ want.NotCircular ∷ us in
-    stay_then want.Lazy (want.Kind ∷ vs) r old kinds rest p (stay_then want.Kind vs r kinds owner rest (kind_pass true k kinds owner is) st)
-
-circular_row : (t : PlacedToken) (d : ℕ) → is_word (codes "circular") t ≡ true → table want.NotCircular d (Some t) ≡ LeavesOut
+attribute_missing : (forms : Forms) (d : ℕ) (s : Option PlacedToken) → next is_kind s ≡ false → table (want.Attribute forms) d s ≡ Refuses
 unfolding table
-circular_row t d h = ap (λ b. on b LeavesOut (Skips 0)) h
+attribute_missing forms d None h = refl
+attribute_missing forms d (Some t) h = ap (λ b. on b (Takes true (named (is_word (codes "boolean") t && forms.circular)) 0) Refuses) h
 
-circular_at : (old : Row) → next_is (is_word (codes "circular")) old ≡ true → Stay (want.NotCircular ∷ []) (Some LeftOut) old old
-circular_at [] h = absurd cc
-circular_at (t ∷ ts) h = stay_leaves_out want.NotCircular t (t ∷ ts) ts (t ∷ ts) refl refl (λ d. circular_row t d h)
+pub no_kind : (forms : Forms) (us : List Want) (e : Failure JragCode) (old kinds rest : Row) → Pass true (want.Lazy ∷ []) old kinds → Missing is_kind e kinds rest → Stay (declared forms us) (reason_of e) old rest
+no_kind forms us e old kinds rest p m =
+    stay_then want.Lazy (want.Attribute forms ∷ us) (reason_of e) old kinds rest p
+    (stay_first (want.Attribute forms) us (reason_of e) kinds rest (missing_stays (want.Attribute forms) is_kind e kinds rest (attribute_missing forms) m))
 
-pub circular_stays : (us : List Want) (class name : Word) (ps : Params) (owner called end : Row) → Owner class owner called → Signature name ps called end → next_is (is_word (codes "circular")) end ≡ true
-    → Stay (want.Name ∷ want.Mark (codes ".") ∷ want.Signed ∷ want.NotCircular ∷ us) (Some LeftOut) owner end
-circular_stays us class name ps owner called end o s h =
-    owner_stays class (want.Signed ∷ want.NotCircular ∷ us) (Some LeftOut) owner called end o
-    (stay_then want.Signed (want.NotCircular ∷ us) (Some LeftOut) called end end (signed_pass true name ps called end s) (stay_first want.NotCircular us (Some LeftOut) end end (circular_at end h)))
+pub no_target : (forms : Forms) (us : List Want) (k : KindWord) (r : Option Reason) (old kinds owner rest : Row) → Pass true (want.Lazy ∷ []) old kinds → KindOf k kinds owner
+    → Stay (named (may_be_circular forms k.kind)) r owner rest → Stay (declared forms us) r old rest
+no_target forms us k r old kinds owner rest p is st =
+    stay_then want.Lazy (want.Attribute forms ∷ us) r old kinds rest p
+    (stay_first (want.Attribute forms) us r kinds rest
+    (stay_takes (want.Attribute forms) (named (may_be_circular forms k.kind)) (word (kind_text k.kind) k.at) r kinds owner rest is.1 (λ d. (0, attribute_row forms k.kind k.at d is.0)) st))
 
-pub declared_stays : (us : List Want) (lazy : Option Place) (k : KindWord) (class name : Word) (ps : Params) (r : Option Reason) (old end rest : Row) → Declared lazy k class name ps old end → next_is (is_word (codes "circular")) end ≡ false
-    → Stay us r end rest → Stay (declared us) r old rest
-declared_stays us lazy k class name ps None old end rest h n st d = tt
-declared_stays us lazy k class name ps (Some q) old end rest h n st d = λ ws.
-    let a = declared_then true [] lazy k class name ps old end end h (next_same (is_word (codes "circular")) end ∙ n) (pass_none true end) (us ++ ws) d in
+pub named_then : (m : Bool) (class name : Word) (ps : Params) (r : Option Reason) (owner called end rest : Row) → Owner class owner called → Signature name ps called end → Stay (want.Circular m ∷ []) r end rest
+    → Stay (named m) r owner rest
+named_then m class name ps r owner called end rest o s st =
+    owner_stays class (want.Signed ∷ want.Circular m ∷ []) r owner called rest o
+    (stay_then want.Signed (want.Circular m ∷ []) r called end rest (signed_pass true name ps called end s) st)
+
+pub declared_stays : (forms : Forms) (us : List Want) (lazy : Option Place) (k : KindWord) (class name : Word) (ps : Params) (start : Option Bool) (r : Option Reason) (old end rest : Row) → Declared forms lazy k class name ps start old end
+    → next_is (is_word (codes "circular")) end ≡ false → Stay us r end rest → Stay (declared forms us) r old rest
+declared_stays forms us lazy k class name ps start None old end rest h n st d = tt
+declared_stays forms us lazy k class name ps start (Some q) old end rest h n st d = λ ws.
+    let a = declared_then true forms [] lazy k class name ps start old end end h (next_same (is_word (codes "circular")) end ∙ n) (pass_none true end) (us ++ ws) d in
     a.1 ∙ st a.0 ws
 
 -- ---- bodies
@@ -320,37 +392,37 @@ inherited_body us name ps r old mid rest s b = stay_then want.Signed (want.Body 
 -- ---- declarations
 
 -- an error behind a keyword is one of the declaration
-pub behind_keyword : {A : Type 0} (x : Result A (Failure JragCode)) (ws : List Want) (mid rest old : Row) → ((r : Option Reason) → Stay ws r mid rest → Stay (want.Decls ∷ []) r old rest)
-    → IfErr x (λ e. Stay ws (reason_of e) mid rest) → IfErr x (λ e. Stay (want.Decls ∷ []) (reason_of e) old rest)
-behind_keyword (Ok a) ws mid rest old h st = tt
-behind_keyword (Err e) ws mid rest old h st = h (reason_of e) st
+pub behind_keyword : (forms : Forms) {A : Type 0} (x : Result A (Failure JragCode)) (ws : List Want) (mid rest old : Row) → ((r : Option Reason) → Stay ws r mid rest → Stay (want.Decls forms ∷ []) r old rest)
+    → IfErr x (λ e. Stay ws (reason_of e) mid rest) → IfErr x (λ e. Stay (want.Decls forms ∷ []) (reason_of e) old rest)
+behind_keyword forms (Ok a) ws mid rest old h st = tt
+behind_keyword forms (Err e) ws mid rest old h st = h (reason_of e) st
 
-pub syn_stays : (at : Place) (r : Option Reason) (old mid rest : Row) → old ≡ word (codes "syn") at ∷ mid → Stay (declared (want.Ending ∷ want.Decls ∷ [])) r mid rest → Stay (want.Decls ∷ []) r old rest
-syn_stays at r old mid rest front st = stay_takes want.Decls (declared (want.Ending ∷ want.Decls ∷ [])) (word (codes "syn") at) r old mid rest front (λ d. (0, synthesized_row at d)) st
+pub syn_stays : (forms : Forms) (at : Place) (r : Option Reason) (old mid rest : Row) → old ≡ word (codes "syn") at ∷ mid → Stay (declared forms (want.Ending ∷ want.Decls forms ∷ [])) r mid rest → Stay (want.Decls forms ∷ []) r old rest
+syn_stays forms at r old mid rest front st = stay_takes (want.Decls forms) (declared forms (want.Ending ∷ want.Decls forms ∷ [])) (word (codes "syn") at) r old mid rest front (λ d. (0, synthesized_row forms at d)) st
 
-pub inh_stays : (at : Place) (r : Option Reason) (old mid rest : Row) → old ≡ word (codes "inh") at ∷ mid → Stay (declared (want.Mark (codes ";") ∷ want.Decls ∷ [])) r mid rest → Stay (want.Decls ∷ []) r old rest
-inh_stays at r old mid rest front st = stay_takes want.Decls (declared (want.Mark (codes ";") ∷ want.Decls ∷ [])) (word (codes "inh") at) r old mid rest front (λ d. (0, inherited_row at d)) st
+pub inh_stays : (forms : Forms) (at : Place) (r : Option Reason) (old mid rest : Row) → old ≡ word (codes "inh") at ∷ mid → Stay (declared forms (want.Mark (codes ";") ∷ want.Decls forms ∷ [])) r mid rest → Stay (want.Decls forms ∷ []) r old rest
+inh_stays forms at r old mid rest front st = stay_takes (want.Decls forms) (declared forms (want.Mark (codes ";") ∷ want.Decls forms ∷ [])) (word (codes "inh") at) r old mid rest front (λ d. (0, inherited_row forms at d)) st
 
-pub eq_stays : (at : Place) (r : Option Reason) (old mid rest : Row) → old ≡ word (codes "eq") at ∷ mid → Stay (want.Name ∷ want.Mark (codes ".") ∷ want.Signed ∷ want.Defined ∷ want.Decls ∷ []) r mid rest → Stay (want.Decls ∷ []) r old rest
-eq_stays at r old mid rest front st =
-    stay_takes want.Decls (want.Name ∷ want.Mark (codes ".") ∷ want.Signed ∷ want.Defined ∷ want.Decls ∷ []) (word (codes "eq") at) r old mid rest front (λ d. (0, equation_row at d)) st
+pub eq_stays : (forms : Forms) (at : Place) (r : Option Reason) (old mid rest : Row) → old ≡ word (codes "eq") at ∷ mid → Stay (want.Name ∷ want.Mark (codes ".") ∷ want.Signed ∷ want.Defined ∷ want.Decls forms ∷ []) r mid rest → Stay (want.Decls forms ∷ []) r old rest
+eq_stays forms at r old mid rest front st =
+    stay_takes (want.Decls forms) (want.Name ∷ want.Mark (codes ".") ∷ want.Signed ∷ want.Defined ∷ want.Decls forms ∷ []) (word (codes "eq") at) r old mid rest front (λ d. (0, equation_row forms at d)) st
 
-abbrev aspect_wants : List Want
-aspect_wants = want.Mark (codes "{") ∷ want.Decls ∷ want.File ∷ []
+abbrev aspect_wants : Forms → List Want
+aspect_wants forms = want.Mark (codes "{") ∷ want.Decls forms ∷ want.File forms ∷ []
 
-pub aspect_no_name : (at : Place) (e : Failure JragCode) (old mid rest : Row) → old ≡ word (codes "aspect") at ∷ mid → Missing is_name_token e mid rest → Stay (want.File ∷ []) (reason_of e) old rest
-aspect_no_name at e old mid rest front m = stay_takes want.File (want.Name ∷ aspect_wants) (word (codes "aspect") at) (reason_of e) old mid rest front (λ d. (0, aspect_row at d)) (no_class aspect_wants e mid rest m)
+pub aspect_no_name : (forms : Forms) (at : Place) (e : Failure JragCode) (old mid rest : Row) → old ≡ word (codes "aspect") at ∷ mid → Missing is_name_token e mid rest → Stay (want.File forms ∷ []) (reason_of e) old rest
+aspect_no_name forms at e old mid rest front m = stay_takes (want.File forms) (want.Name ∷ aspect_wants forms) (word (codes "aspect") at) (reason_of e) old mid rest front (λ d. (0, aspect_row forms at d)) (no_class (aspect_wants forms) e mid rest m)
 
-named_stays : (at : Place) (name : Word) (r : Option Reason) (old mid brace rest : Row) → old ≡ word (codes "aspect") at ∷ mid → grammar.Name name mid brace → Stay aspect_wants r brace rest → Stay (want.File ∷ []) r old rest
-named_stays at name r old mid brace rest front n st =
-    stay_takes want.File (want.Name ∷ aspect_wants) (word (codes "aspect") at) r old mid rest front (λ d. (0, aspect_row at d)) (stay_then want.Name aspect_wants r mid brace rest (name_pass true name mid brace n) st)
+named_stays : (forms : Forms) (at : Place) (name : Word) (r : Option Reason) (old mid brace rest : Row) → old ≡ word (codes "aspect") at ∷ mid → grammar.Name name mid brace → Stay (aspect_wants forms) r brace rest → Stay (want.File forms ∷ []) r old rest
+named_stays forms at name r old mid brace rest front n st =
+    stay_takes (want.File forms) (want.Name ∷ aspect_wants forms) (word (codes "aspect") at) r old mid rest front (λ d. (0, aspect_row forms at d)) (stay_then want.Name (aspect_wants forms) r mid brace rest (name_pass true name mid brace n) st)
 
-pub aspect_no_brace : (at : Place) (name : Word) (e : Failure JragCode) (old mid brace rest : Row) → old ≡ word (codes "aspect") at ∷ mid → grammar.Name name mid brace → Missing (is_sign (codes "{")) e brace rest → Stay (want.File ∷ []) (reason_of e) old rest
-aspect_no_brace at name e old mid brace rest front n m =
-    named_stays at name (reason_of e) old mid brace rest front n (stay_first (want.Mark (codes "{")) (want.Decls ∷ want.File ∷ []) (reason_of e) brace rest (mark_missing (codes "{") e brace rest m))
+pub aspect_no_brace : (forms : Forms) (at : Place) (name : Word) (e : Failure JragCode) (old mid brace rest : Row) → old ≡ word (codes "aspect") at ∷ mid → grammar.Name name mid brace → Missing (is_sign (codes "{")) e brace rest → Stay (want.File forms ∷ []) (reason_of e) old rest
+aspect_no_brace forms at name e old mid brace rest front n m =
+    named_stays forms at name (reason_of e) old mid brace rest front n (stay_first (want.Mark (codes "{")) (want.Decls forms ∷ want.File forms ∷ []) (reason_of e) brace rest (mark_missing (codes "{") e brace rest m))
 
-pub aspect_decls : (at : Place) (name : Word) (r : Option Reason) (old mid brace inner rest : Row) → old ≡ word (codes "aspect") at ∷ mid → grammar.Name name mid brace → Sign (codes "{") brace inner → Stay (want.Decls ∷ []) r inner rest
-    → Stay (want.File ∷ []) r old rest
-aspect_decls at name r old mid brace inner rest front n s st =
-    named_stays at name r old mid brace rest front n
-    (stay_then (want.Mark (codes "{")) (want.Decls ∷ want.File ∷ []) r brace inner rest (mark_pass true (codes "{") brace inner s) (stay_first want.Decls (want.File ∷ []) r inner rest st))
+pub aspect_decls : (forms : Forms) (at : Place) (name : Word) (r : Option Reason) (old mid brace inner rest : Row) → old ≡ word (codes "aspect") at ∷ mid → grammar.Name name mid brace → Sign (codes "{") brace inner → Stay (want.Decls forms ∷ []) r inner rest
+    → Stay (want.File forms ∷ []) r old rest
+aspect_decls forms at name r old mid brace inner rest front n s st =
+    named_stays forms at name r old mid brace rest front n
+    (stay_then (want.Mark (codes "{")) (want.Decls forms ∷ want.File forms ∷ []) r brace inner rest (mark_pass true (codes "{") brace inner s) (stay_first (want.Decls forms) (want.File forms ∷ []) r inner rest st))

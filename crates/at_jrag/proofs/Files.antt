@@ -2,6 +2,7 @@
 use Rattle.std.proofs.Common.{◌≡◌, ℕ, ◌-◌, ◌≤◌, List, [], ◌∷◌, ◌++◌, true, length, take, drop, refl, sym, ap, subst, subst₂, ◌∙◌, length-append, arith, inr}
 use Rattle.std.proofs.lemmas.List.{length-map}
 use Rattle.at_text.specs.declared.placed.Placed.{Placed}
+use Rattle.at_jrag.specs.declared.Forms.{Forms}
 use Rattle.at_jrag.specs.Syntax.{Aspect}
 use Rattle.at_jrag.specs.Grammar.{File, IsWithin}
 use Rattle.at_text.specs.Symbols.{HasTokens, PlacedToken, placed}
@@ -36,26 +37,26 @@ front_of (t ∷ ts) (f ∷ front) rest e =
 -- ---- where reading stops
 
 -- where reading stops, among the tokens
-pub record Met (text : List ℕ) (r : Reason) (ts rest : List Placed) : Type 0 where
+pub record Met (forms : Forms) (text : List ℕ) (r : Reason) (ts rest : List Placed) : Type 0 where
   pub front : List Placed
-  pub stops : StopsAt text (left front) (left rest)
-  pub stuck : run true table (want.File ∷ []) 0 (left front ++ left rest) ≡ Stuck r (left rest)
+  pub stops : StopsAt forms text (left front) (left rest)
+  pub stuck : run true table (want.File forms ∷ []) 0 (left front ++ left rest) ≡ Stuck r (left rest)
   pub fits : length rest ≤ length ts
   pub front_is : left (take (length ts - length rest) ts) ≡ left front
   pub rest_is : left (drop (length ts - length rest) ts) ≡ left rest
 
-pub met : (text : List ℕ) (r : Reason) (ts rest : List Placed) → HasTokens text (left ts) → run true table (want.File ∷ []) 0 (left ts) ≡ Stuck r (left rest) → Met text r ts rest
-met text r ts rest has h =
-    let s = stuck_behind true table r (want.File ∷ []) 0 (left ts) (left rest) h in
+pub met : (forms : Forms) (text : List ℕ) (r : Reason) (ts rest : List Placed) → HasTokens text (left ts) → run true table (want.File forms ∷ []) 0 (left ts) ≡ Stuck r (left rest) → Met forms text r ts rest
+met forms text r ts rest has h =
+    let s = stuck_behind true table r (want.File forms ∷ []) 0 (left ts) (left rest) h in
     let p = front_of ts s.0 (left rest) s.1 in
     let split : left ts ≡ left p.0 ++ left rest = s.1 ∙ ap (λ l. l ++ left rest) (sym p.3) in
     let same : length p.1 ≡ length rest = sym (length-map p.1 placed) ∙ ap length p.4 ∙ length-map rest placed in
     let sum : length ts ≡ length (p.0 ++ p.1) = ap length p.2 in
     let count : length ts - length rest ≡ length p.0 = omega (arith, sum, length-append p.0 p.1, same) in
-    let stuck : run true table (want.File ∷ []) 0 (left p.0 ++ left rest) ≡ Stuck r (left rest) = sym (ap (run true table (want.File ∷ []) 0) split) ∙ h in
+    let stuck : run true table (want.File forms ∷ []) 0 (left p.0 ++ left rest) ≡ Stuck r (left rest) = sym (ap (run true table (want.File forms ∷ []) 0) split) ∙ h in
     record {
       front = p.0;
-      stops = record { tokens = subst (λ (x : List PlacedToken). HasTokens text x) split has; fault = first_fault r (left p.0) (left rest) stuck };
+      stops = record { tokens = subst (λ (x : List PlacedToken). HasTokens text x) split has; fault = first_fault forms r (left p.0) (left rest) stuck };
       stuck = stuck;
       fits = omega (arith, sum, length-append p.0 p.1, same);
       front_is = ap left (ap (λ k. take k ts) count ∙ ap (take (length p.0)) p.2 ∙ take_front p.0 p.1);
@@ -65,15 +66,15 @@ met text r ts rest has h =
 -- ---- what the tokens of a text spell
 
 -- a text that spells a file within the limit doesn't stop
-pub file_only : (text : List ℕ) (r : Reason) (ts us rest : List PlacedToken) (aspects : List Aspect) → HasTokens text ts → HasTokens text us → run true table (want.File ∷ []) 0 ts ≡ Stuck r rest → File aspects us [] → IsWithin aspects → ⊥
-file_only text r ts us rest aspects h k stuck file within =
+pub file_only : (forms : Forms) (text : List ℕ) (r : Reason) (ts us rest : List PlacedToken) (aspects : List Aspect) → HasTokens text ts → HasTokens text us → run true table (want.File forms ∷ []) 0 ts ≡ Stuck r rest → File forms aspects us [] → IsWithin aspects → ⊥
+file_only forms text r ts us rest aspects h k stuck file within =
     let same = one_row text ts us h k in
-    let whole : run true table (want.File ∷ []) 0 us ≡ Whole = file_taken true aspects us (λ e. within) file 0 in
-    absurd (let q : Stuck r rest ≡ Whole = sym stuck ∙ ap (run true table (want.File ∷ []) 0) same ∙ whole in cc)
+    let whole : run true table (want.File forms ∷ []) 0 us ≡ Whole = file_taken forms true aspects us (λ e. within) file 0 in
+    absurd (let q : Stuck r rest ≡ Whole = sym stuck ∙ ap (run true table (want.File forms ∷ []) 0) same ∙ whole in cc)
 
 -- what the tokens of a text spell, is what was read
-pub file_same : (text : List ℕ) (ts us rest : List PlacedToken) (read aspects : List Aspect) → HasTokens text ts → HasTokens text us → File read ts rest → rest ≡ [] → File aspects us [] → read ≡ aspects
-file_same text ts us rest read aspects h k found end file = one_file read aspects us (subst₂ (λ (x y : List PlacedToken). File read x y) (one_row text ts us h k) end found) file
+pub file_same : (forms : Forms) (text : List ℕ) (ts us rest : List PlacedToken) (read aspects : List Aspect) → HasTokens text ts → HasTokens text us → File forms read ts rest → rest ≡ [] → File forms aspects us [] → read ≡ aspects
+file_same forms text ts us rest read aspects h k found end file = one_file forms read aspects us (subst₂ (λ (x y : List PlacedToken). File forms read x y) (one_row text ts us h k) end found) file
 
 -- ---- places
 
@@ -84,9 +85,9 @@ place_met text c ts vs n k front rest at e f p g h =
     p ∙ (λ i. fault_place text c (left (take (length (e i) - f i) (e i))) (left (drop (length (e i) - f i) (e i)))) ∙ (λ i. fault_place text c (g i) (h i))
 
 -- where reading stops for the reason of a code, there is the text's fault of that code
-pub is_met : (text : List ℕ) (c : JragCode) (ts rest : List Placed) (at : Place) (m : Met text (reason c) ts rest) → at ≡ fault_place text c (left m.front) (left rest) → IsFault text (fault.Refused c at)
-is_met text code.Syntax ts rest at m p =
-    inr (left m.front, left rest, m.stops, none_at_all Refused (left m.front) (left rest) (λ other e. absurd cc) m.stuck, none_left_out_there (left m.front) (left rest) m.stuck, p)
-is_met text code.LeftOut ts rest at m p =
-    (left m.front, left rest, m.stops, none_at_all LeftOut (left m.front) (left rest) (λ other e. absurd cc) m.stuck, one_left_out (left m.front) (left rest) m.stuck, p)
-is_met text code.Nesting ts rest at m p = (left m.front, left rest, m.stops, one_deeper (left m.front) (left rest) m.stuck, p)
+pub is_met : (forms : Forms) (text : List ℕ) (c : JragCode) (ts rest : List Placed) (at : Place) (m : Met forms text (reason c) ts rest) → at ≡ fault_place text c (left m.front) (left rest) → IsFault forms text (fault.Refused c at)
+is_met forms text code.Syntax ts rest at m p =
+    inr (left m.front, left rest, m.stops, none_at_all forms Refused (left m.front) (left rest) (λ other e. absurd cc) m.stuck, none_left_out_there forms (left m.front) (left rest) m.stuck, p)
+is_met forms text code.LeftOut ts rest at m p =
+    (left m.front, left rest, m.stops, none_at_all forms LeftOut (left m.front) (left rest) (λ other e. absurd cc) m.stuck, one_left_out forms (left m.front) (left rest) m.stuck, p)
+is_met forms text code.Nesting ts rest at m p = (left m.front, left rest, m.stops, one_deeper forms (left m.front) (left rest) m.stuck, p)

@@ -4,9 +4,9 @@ use Rattle.std.specs.Prelude.{◌&&◌, ◌||◌, ◌==◌}
 use lib.Chars.{codes}
 use Rattle.at_text.specs.Symbols.{PlacedToken, is_word_kind}
 use Rattle.at_text.specs.Rows.{is_sign, is_word, is_name_token}
-use Rattle.at_jrag.specs.Grammar.{is_number, follows_cast}
+use Rattle.at_jrag.specs.Grammar.{is_number, follows_cast, begins_other}
 use Rattle.at_text.specs.Machine.{Answer, Takes, Skips, Refuses, LeavesOut, and_then}
-use Rattle.at_jrag.specs.Wants.{Want, Expression, Binary, Links, Choice, Otherwise, Unary, Minus, Opened, Enclosed, Parenthesized, Calls, Called, Arguments, FirstArgument, MoreArguments, Primary, Named, FoldBody, Deeper, Join, Deepest, Counts, Name, Mark, File, Decls, Lazy, NotNta, Kind, Signed, Opening, Params, OneParam, MoreParams, NotCircular, Ending, Body, Defined, Return, Close}
+use Rattle.at_jrag.specs.Wants.{Want, Expression, Binary, Links, Choice, Otherwise, Unary, Minus, Opened, Enclosed, Parenthesized, Calls, Called, Arguments, FirstArgument, MoreArguments, Primary, Named, FoldBody, Deeper, Join, Deepest, Counts, Name, Mark, File, Decls, Lazy, NotNta, Attribute, Kind, Signed, Opening, Params, OneParam, MoreParams, Circular, Bracket, Start, Ending, Body, Defined, Return, Close}
 use Rattle.at_jrag.specs.Table.{table, is_get_child, is_literal, begins_fold, is_number_within, is_kind, link_rank, or_else, links_from, tails_answer, primary_answer, unary_answer, binary_answer, expression_answer, links_answer, choice_answer, calls_answer, named_answer, enclosed_rest, body_answer, more_params_answer, no_keyword}
 use Rattle.at_jrag.proofs.Shapes.{loose}
 use Rattle.at_model.proofs.Options.{both}
@@ -76,15 +76,17 @@ Leaves w t (Arguments g b) = IsNamed g t
 Leaves w t (Named g b) = IsNamed g t
 Leaves w t (Enclosed g b) = IsNamed g t
 Leaves w t (Opening g) = IsNamed g t
+Leaves w t Start = is_sign (codes "[") t ≡ true
 Leaves w t v = Unit {0}
 
 -- what the token is that begins what is left out there
 abbrev pub LeavesIt : Want → PlacedToken → Type 0
-LeavesIt File t = is_word_kind t.kind ≡ true
-LeavesIt Decls t = is_word_kind t.kind ≡ true
+LeavesIt (File forms) t = is_word_kind t.kind ≡ true
+LeavesIt (Decls forms) t = is_word_kind t.kind ≡ true
 LeavesIt Lazy t = is_word (codes "nta") t ≡ true
 LeavesIt NotNta t = is_word (codes "nta") t ≡ true
-LeavesIt NotCircular t = is_word (codes "circular") t ≡ true
+LeavesIt (Circular m) t = is_word (codes "circular") t ≡ true
+LeavesIt Start t = begins_other t ≡ true
 LeavesIt Return t = Unit {0}
 LeavesIt Close t = Unit {0}
 LeavesIt (Params g) t = (g ≡ true) × (is_word (codes "int") t ≡ true)
@@ -198,12 +200,12 @@ row_does (Deepest m) d t = refl
 row_does (Counts n) d t = refl
 row_does Name d t = either (Row Name t) (is_name_token t) _ Refuses (λ x. tt) (λ x. tt)
 row_does (Mark text) d t = either (Row (Mark text) t) (is_sign text t) _ Refuses (λ x. tt) (λ x. tt)
-row_does File d t = either (Row File t) (is_word (codes "aspect") t) _ _ (λ x. tt) (λ x. no_keyword_does File t _)
-row_does Decls d t =
-    either (Row Decls t) (is_sign (codes "}") t) _ _ (λ x. tt)
-    (λ y. either (Row Decls t) (is_word (codes "syn") t) _ _ (λ x. syn_before t x)
-    (λ y. either (Row Decls t) (is_word (codes "inh") t) _ _ (λ x. inh_before t x)
-    (λ y. either (Row Decls t) (is_word (codes "eq") t) _ _ (λ x. tt) (λ x. no_keyword_does Decls t _))))
+row_does (File forms) d t = either (Row (File forms) t) (is_word (codes "aspect") t) _ _ (λ x. tt) (λ x. no_keyword_does (File forms) t _)
+row_does (Decls forms) d t =
+    either (Row (Decls forms) t) (is_sign (codes "}") t) _ _ (λ x. tt)
+    (λ y. either (Row (Decls forms) t) (is_word (codes "syn") t) _ _ (λ x. syn_before t x)
+    (λ y. either (Row (Decls forms) t) (is_word (codes "inh") t) _ _ (λ x. inh_before t x)
+    (λ y. either (Row (Decls forms) t) (is_word (codes "eq") t) _ _ (λ x. tt) (λ x. no_keyword_does (Decls forms) t _))))
   where
     syn_before : (t : PlacedToken) → is_word (codes "syn") t ≡ true → before_nta t ≡ true
     syn_before t x = ap (λ b. b || (is_word (codes "inh") t || is_word (codes "lazy") t)) x
@@ -223,6 +225,7 @@ row_does Lazy d t =
     at_end false true = refl
     at_end false false = refl
 row_does NotNta d t = either (Row NotNta t) (is_word (codes "nta") t) LeavesOut (Skips 0) (λ x. x) (λ x. refl)
+row_does (Attribute forms) d t = either (Row (Attribute forms) t) (is_kind t) _ Refuses (λ x. tt) (λ x. tt)
 row_does Kind d t = either (Row Kind t) (is_kind t) _ Refuses (λ x. tt) (λ x. tt)
 row_does Signed d t = either (Row Signed t) (is_name_token t) _ Refuses (λ x. is_named t x) (λ x. tt)
 row_does (Opening g) d t = either (Row (Opening g) t) (is_sign (codes "(") t) _ Refuses (λ x. (x, refl)) (λ x. tt)
@@ -232,7 +235,11 @@ row_does (Params g) d t =
     (λ y. either (Row (Params g) t) (is_word (codes "int") t) _ _ (λ x. tt) (λ x. either (Row (Params g) t) (is_kind t) _ Refuses (λ x. tt) (λ x. tt))))
 row_does OneParam d t = more_params_do OneParam t _ _ 0
 row_does MoreParams d t = more_params_do MoreParams t _ _ 1
-row_does NotCircular d t = either (Row NotCircular t) (is_word (codes "circular") t) LeavesOut (Skips 0) (λ x. x) (λ x. refl)
+row_does (Circular m) d t = either (Row (Circular m) t) (is_word (codes "circular") t) _ (Skips 0) (λ x. either (Row (Circular m) t) m _ LeavesOut (λ y. tt) (λ y. x)) (λ x. refl)
+row_does Bracket d t = either (Row Bracket t) (is_sign (codes "[") t) _ Refuses (λ x. x) (λ x. tt)
+row_does Start d t =
+    either (Row Start t) (is_word (codes "true") t) _ _ (λ x. tt)
+    (λ y. either (Row Start t) (is_word (codes "false") t) _ _ (λ x. tt) (λ y. either (Row Start t) (begins_other t) LeavesOut Refuses (λ x. x) (λ x. tt)))
 row_does Ending d t = either (Row Ending t) (is_sign (codes ";") t) _ _ (λ x. tt) (λ x. body_does Ending t _ _)
 row_does Body d t = body_does Body t _ _
 row_does Defined d t = either (Row Defined t) ((d == 0) && is_sign (codes ".") t) _ _ (λ x. tt) (λ x. body_does Defined t _ _)

@@ -5,9 +5,10 @@ use Rattle.std.specs.Str.{bytes_eq}
 use lib.Chars.{codes}
 use Rattle.at_text.specs.Symbols.{PlacedToken, is_word_kind}
 use Rattle.at_text.specs.Rows.{is_sign, is_word, is_name_token}
-use Rattle.at_jrag.specs.Grammar.{is_number, follows_cast}
+use Rattle.at_jrag.specs.declared.Forms.{Forms}
+use Rattle.at_jrag.specs.Grammar.{is_number, follows_cast, begins_other}
 use Rattle.at_text.specs.Machine.{Answer, Takes, Skips, Refuses, LeavesOut, and_then, Move, Goes, Halts, answered, after}
-use Rattle.at_jrag.specs.Wants.{Want, Expression, Binary, Links, Choice, Otherwise, Unary, Minus, Opened, Enclosed, Parenthesized, Calls, Called, Arguments, FirstArgument, MoreArguments, Primary, Named, FoldBody, Deeper, Join, Deepest, Counts, Name, Mark, File, Decls, Lazy, NotNta, Kind, Signed, Opening, Params, OneParam, MoreParams, NotCircular, Ending, Body, Defined, Return, Close}
+use Rattle.at_jrag.specs.Wants.{Want, Expression, Binary, Links, Choice, Otherwise, Unary, Minus, Opened, Enclosed, Parenthesized, Calls, Called, Arguments, FirstArgument, MoreArguments, Primary, Named, FoldBody, Deeper, Join, Deepest, Counts, Name, Mark, File, Decls, Lazy, NotNta, Attribute, Kind, Signed, Opening, Params, OneParam, MoreParams, Circular, Bracket, Start, Ending, Body, Defined, Return, Close}
 use Rattle.at_jrag.specs.Table.{table, next, is_literal, begins_fold, is_number_within, is_kind, link_rank, or_else, links_from, tails_answer, primary_answer, unary_answer, binary_answer, expression_answer, links_answer, choice_answer, calls_answer, named_answer, enclosed_rest, body_answer, more_params_answer, no_keyword}
 use Rattle.at_jrag.proofs.Reached.{Reached, start, step}
 use Rattle.at_model.proofs.Options.{or_right}
@@ -21,8 +22,8 @@ loose (Arguments g b) = false
 loose (FirstArgument g b) = false
 loose (MoreArguments b) = false
 loose (Mark text) = false
-loose File = false
-loose Decls = false
+loose (File forms) = false
+loose (Decls forms) = false
 loose Signed = false
 loose (Opening g) = false
 loose (Params g) = false
@@ -49,13 +50,14 @@ firm (FirstArgument g b) = false
 firm (Primary b) = false
 firm (Named g b) = false
 firm (Mark text) = not (bytes_eq text (codes "("))
-firm File = false
-firm Decls = false
+firm (File forms) = false
+firm (Decls forms) = false
 firm Lazy = false
 firm NotNta = false
 firm (Opening g) = false
 firm (Params g) = false
-firm NotCircular = false
+firm (Circular m) = false
+firm Start = false
 firm Return = false
 firm Close = false
 firm w = true
@@ -65,9 +67,9 @@ abbrev pub second : Want → Bool
 second (Expression b) = true
 second (Primary b) = true
 second (Mark text) = true
-second File = true
-second Decls = true
-second NotCircular = true
+second (File forms) = true
+second (Decls forms) = true
+second (Circular m) = true
 second Close = true
 second w = firm w
 
@@ -86,7 +88,9 @@ next_ends (Ending ∷ ws) = true
 next_ends ws = false
 
 abbrev pub follows : Want → List Want → Bool
-follows NotCircular ws = next_ends ws
+follows (Attribute forms) ws = next_ends ws
+follows (Circular m) ws = next_ends ws
+follows (Mark text) ws = not (bytes_eq text (codes "[")) && next_second ws
 follows w ws = cond (loose w) (next_firm ws) (next_second ws)
 
 -- ---- ends of expressions
@@ -119,7 +123,8 @@ bars Deeper ws = true
 bars (Join m) ws = true
 bars (Deepest m) ws = true
 bars (Counts n) ws = true
-bars NotCircular ws = true
+bars (Attribute forms) ws = true
+bars (Circular m) ws = true
 bars w ws = barred ws
 
 abbrev pub Stands : List Want → Type 0
@@ -277,14 +282,15 @@ row_shapes (Deepest m) ws d t o = tt
 row_shapes (Counts n) ws d t o = tt
 row_shapes Name ws d t o = either (is_name_token t) ws _ Refuses (o.1, o.2) tt
 row_shapes (Mark text) ws d t o = either (is_sign text t) ws _ Refuses (o.1, o.2) tt
-row_shapes File ws d t o = either (is_word (codes "aspect") t) ws _ _ (refl, (refl, refl, (refl, refl, (refl, refl, o)))) (no_keyword_shapes ws t)
-row_shapes Decls ws d t o =
+row_shapes (File forms) ws d t o = either (is_word (codes "aspect") t) ws _ _ (refl, (refl, refl, (refl, refl, (refl, refl, o)))) (no_keyword_shapes ws t)
+row_shapes (Decls forms) ws d t o =
     either (is_sign (codes "}") t) ws _ _ (o.1, o.2)
-    (either (is_word (codes "syn") t) ws _ _ (refl, (refl, refl, (refl, refl, (refl, refl, (refl, refl, (refl, refl, (refl, refl, (refl, refl, o))))))))
-    (either (is_word (codes "inh") t) ws _ _ (refl, (refl, refl, (refl, refl, (refl, refl, (refl, refl, (refl, refl, (refl, refl, (refl, refl, o))))))))
+    (either (is_word (codes "syn") t) ws _ _ (refl, (refl, refl, (refl, refl, (refl, refl, o))))
+    (either (is_word (codes "inh") t) ws _ _ (refl, (refl, refl, (refl, refl, (refl, refl, o))))
     (either (is_word (codes "eq") t) ws _ _ (refl, (refl, refl, (refl, refl, (refl, refl, (refl, refl, o))))) (no_keyword_shapes ws t))))
 row_shapes Lazy ws d t o = either (is_word (codes "lazy") t) ws _ _ (o.1, o) (either (is_word (codes "nta") t) ws LeavesOut (Skips 0) tt tt)
 row_shapes NotNta ws d t o = either (is_word (codes "nta") t) ws LeavesOut (Skips 0) tt tt
+row_shapes (Attribute forms) ws d t o = either (is_kind t) ws _ Refuses (refl, (refl, refl, (refl, refl, (refl, refl, (o.0, refl, o.2))))) tt
 row_shapes Kind ws d t o = either (is_kind t) ws _ Refuses (o.1, o.2) tt
 row_shapes Signed ws d t o = either (is_name_token t) ws _ Refuses (refl, o) tt
 row_shapes (Opening g) ws d t o = either (is_sign (codes "(") t) ws _ Refuses (refl, o) tt
@@ -294,7 +300,9 @@ row_shapes (Params g) ws d t o =
     (either (is_word (codes "int") t) ws _ _ (refl, (refl, refl, o)) (either (is_kind t) ws _ Refuses (refl, (refl, refl, o)) tt)))
 row_shapes OneParam ws d t o = more_params_shape 0 ws (Some t) o
 row_shapes MoreParams ws d t o = more_params_shape 1 ws (Some t) o
-row_shapes NotCircular ws d t o = either (is_word (codes "circular") t) ws LeavesOut (Skips 0) tt tt
+row_shapes (Circular m) ws d t o = either (is_word (codes "circular") t) ws _ (Skips 0) (either m ws _ LeavesOut (refl, (refl, refl, (refl, refl, (o.0, refl, o.2)))) tt) tt
+row_shapes Bracket ws d t o = either (is_sign (codes "[") t) ws _ Refuses (refl, o) tt
+row_shapes Start ws d t o = either (is_word (codes "true") t) ws _ _ (o.1, o.2) (either (is_word (codes "false") t) ws _ _ (o.1, o.2) (either (begins_other t) ws LeavesOut Refuses tt tt))
 row_shapes Ending ws d t o = either (is_sign (codes ";") t) ws _ _ (o.1, o.2) (body_shapes ws (Some t) o)
 row_shapes Body ws d t o = body_shapes ws (Some t) o
 row_shapes Defined ws d t o = either ((d == 0) && is_sign (codes ".") t) ws _ _ (refl, (refl, refl, o)) (body_shapes ws (Some t) o)
@@ -320,6 +328,6 @@ after_shapes l [] d t o = tt
 after_shapes l (w ∷ ws) d t o = answer_shapes l ws (table w d (Some t)) (λ e. after l table ws e t) (row_shapes w ws d t o) (λ e. after_shapes l ws e t o.2)
 
 -- What is wanted behind a front stands so.
-pub reached_shape : (front : List PlacedToken) (ws : List Want) (d : ℕ) → Reached front ws d → Shape ws
+pub reached_shape : {forms : Forms} (front : List PlacedToken) (ws : List Want) (d : ℕ) → Reached forms front ws d → Shape ws
 reached_shape _ _ _ start = (refl, (refl, refl, tt))
 reached_shape _ _ _ (step before t vs ws x d h a) = subst GoesShaped a (after_shapes true vs x t (reached_shape before vs x h).1)

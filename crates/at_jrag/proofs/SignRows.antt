@@ -7,9 +7,9 @@ use lib.Chars.{codes}
 use Rattle.at_text.specs.Symbols.{PlacedToken}
 use Rattle.at_text.specs.declared.place.Place.{Place}
 use Rattle.at_text.specs.Rows.{sign, word, is_name_token}
-use Rattle.at_jrag.specs.Grammar.{follows_cast}
+use Rattle.at_jrag.specs.Grammar.{follows_cast, begins_other}
 use Rattle.at_text.specs.Machine.{Answer, Takes, Skips, Refuses, LeavesOut, and_then, Goes, Halts, TooDeep, answered, after}
-use Rattle.at_jrag.specs.Wants.{Want, Expression, Binary, Links, Choice, Unary, Minus, Opened, Enclosed, Parenthesized, Calls, Called, Arguments, FirstArgument, MoreArguments, Primary, Named, Deeper, Join, Deepest, Counts, Name, Mark, Decls, Lazy, NotNta, Kind, Signed, Opening, Params, NotCircular, Ending, Defined, Close}
+use Rattle.at_jrag.specs.Wants.{Want, Expression, Binary, Links, Choice, Unary, Minus, Opened, Enclosed, Parenthesized, Calls, Called, Arguments, FirstArgument, MoreArguments, Primary, Named, Deeper, Join, Deepest, Counts, Name, Mark, Decls, Lazy, NotNta, Attribute, Kind, Signed, Opening, Params, Circular, Bracket, Start, Ending, Defined, Close}
 use Rattle.at_jrag.specs.Table.{table, is_kind, link_answer, primary_answer, unary_answer, binary_answer, expression_answer}
 use Rattle.at_jrag.proofs.Shapes.{loose, firm}
 use Rattle.at_jrag.proofs.Pushes.{Comes, Begins, either, then_comes}
@@ -55,7 +55,7 @@ end_text false = codes "}"
 abbrev pub EndsAt : Want → Type 0
 EndsAt (Mark text) = bytes_eq text (codes ";") || bytes_eq text (codes "}") ≡ true
 EndsAt Ending = Unit {0}
-EndsAt Decls = Unit {0}
+EndsAt (Decls forms) = Unit {0}
 EndsAt Close = Unit {0}
 EndsAt w = ⊥
 
@@ -72,7 +72,7 @@ passes (Deepest m) = true
 passes (Counts n) = true
 passes Lazy = true
 passes NotNta = true
-passes NotCircular = true
+passes (Circular m) = true
 passes w = false
 
 abbrev Ends : Want → Answer Want → Type 0
@@ -135,7 +135,7 @@ bar_passes (Deepest m) ws d at p h = h (max m d)
 bar_passes (Counts n) ws d at p h = h n
 bar_passes Lazy ws d at p h = h 0
 bar_passes NotNta ws d at p h = h 0
-bar_passes NotCircular ws d at p h = h 0
+bar_passes (Circular m) ws d at p h = h 0
 bar_passes w ws d at p h = absurd cc
 
 -- and where the rank of `||` itself goes on, it is taken
@@ -194,11 +194,62 @@ get_row (FirstArgument g b) d at =
     (λ h. then_comes First _ _ (Unit {0}) (MoreArguments b ∷ []) (expression_answer b (Some (get_child at))) tt (get_expression (FirstArgument g b) (Unit {0}) b at))
 get_row (Primary b) d at = get_primary (Primary b) _ b at
 get_row Name d at = either (Gets _ Name) (is_name_token (get_child at)) _ Refuses (λ h. tt) (λ h. tt)
+get_row (Attribute forms) d at = either (Gets _ (Attribute forms)) (is_kind (get_child at)) _ Refuses (λ h. tt) (λ h. tt)
+get_row Start d at = either (Gets _ Start) (begins_other (get_child at)) LeavesOut Refuses (λ h. tt) (λ h. tt)
 get_row Kind d at = either (Gets _ Kind) (is_kind (get_child at)) _ Refuses (λ h. tt) (λ h. tt)
 get_row Signed d at = either (Gets _ Signed) (is_name_token (get_child at)) _ Refuses (λ h. tt) (λ h. tt)
 get_row (Params g) d at = either (Gets _ (Params g)) (g && false) LeavesOut _ (λ h. tt) (λ h. either (Gets _ (Params g)) (is_kind (get_child at)) _ Refuses (λ i. tt) (λ i. tt))
 get_row Defined d at = either (Gets _ Defined) ((d == 0) && false) _ Refuses (λ h. absurd (none_of (d == 0) false refl h)) (λ h. tt)
 get_row w d at = tt
+
+-- ---- `[`
+
+abbrev pub bracket : Place → PlacedToken
+bracket at = sign (codes "[") at
+
+abbrev pub next_start : List Want → Bool
+next_start (Start ∷ ws) = true
+next_start ws = false
+
+-- what takes it
+abbrev pub TakesBracket : Want → List Want → Type 0
+TakesBracket (Mark text) m = bytes_eq text (codes "[") ≡ true
+TakesBracket w m = next_start m ≡ true
+
+abbrev Bracketed : Want → Answer Want → Type 0
+Bracketed w a = Comes (TakesBracket w) (loose w ≡ true) (Unit {0}) a
+
+no_unary : (b : ℕ) (at : Place) → unary_answer b (Some (bracket at)) ≡ Refuses
+no_unary b at = refl
+
+no_binary : (rank b : ℕ) (at : Place) → binary_answer rank b (Some (bracket at)) ≡ Refuses
+no_binary zero b at = no_unary b at
+no_binary (suc rank) b at = ap (λ a. and_then a (Links rank b ∷ [])) (no_binary rank b at)
+
+same_text : (text : List ℕ) → bytes_eq (codes "[") text ≡ true → bytes_eq text (codes "[") ≡ true
+same_text text h = let e : codes "[" ≡ text = (bytes_eq-Decides (codes "[") text).0 h in ap (λ (s : List ℕ). bytes_eq s (codes "[")) (sym e)
+
+pub bracket_row : (w : Want) (d : ℕ) (at : Place) → Comes (TakesBracket w) (loose w ≡ true) (Unit {0}) (table w d (Some (bracket at)))
+unfolding table
+bracket_row (Binary rank b) d at = refused _ _ _ _ (no_binary rank b at)
+bracket_row (Links rank b) d at = either (Bracketed (Links rank b)) (0 == suc rank) _ (Skips d) (λ h. absurd (no_rank 0 rank refl h)) (λ h. refl)
+bracket_row (FirstArgument g b) d at = either (Bracketed (FirstArgument g b)) (g && false) LeavesOut Refuses (λ h. tt) (λ h. tt)
+bracket_row (Params g) d at = either (Bracketed (Params g)) (g && false) LeavesOut Refuses (λ h. tt) (λ h. tt)
+bracket_row Defined d at = either (Bracketed Defined) ((d == 0) && false) _ Refuses (λ h. absurd (none_of (d == 0) false refl h)) (λ h. tt)
+bracket_row (Mark text) d at = either (Bracketed (Mark text)) (bytes_eq (codes "[") text) _ Refuses (λ h. same_text text h) (λ h. tt)
+bracket_row Bracket d at = refl
+bracket_row (Choice b) d at = refl
+bracket_row (Calls b) d at = refl
+bracket_row (Named g b) d at = refl
+bracket_row (Parenthesized b) d at = refl
+bracket_row Deeper d at = refl
+bracket_row (Join m) d at = refl
+bracket_row (Deepest m) d at = refl
+bracket_row (Counts n) d at = refl
+bracket_row Lazy d at = refl
+bracket_row NotNta d at = refl
+bracket_row (Circular m) d at = refl
+bracket_row w d at = tt
 
 -- ---- `(`
 

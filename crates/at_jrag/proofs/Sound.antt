@@ -1,5 +1,6 @@
 -- What the machine takes whole, is spelled.
 use Rattle.std.proofs.Common.{◌≡◌, ℕ, ◌≤◌, List, [], ◌∷◌, Bool, true, subst}
+use Rattle.at_jrag.specs.declared.Forms.{Forms}
 use Rattle.at_jrag.specs.Syntax.{Aspect, Expr}
 use Rattle.at_text.specs.Rows.{Row}
 use Rattle.at_jrag.specs.Grammar.{File, Spells, depth, IsWithin}
@@ -9,7 +10,7 @@ use Rattle.at_jrag.specs.Table.{table}
 use Rattle.at_jrag.proofs.SoundSays.{Means, only_says, whole_said}
 use Rattle.at_jrag.proofs.of_expressions.SoundExpressions.{mark_means, name_means, primary_means, unary_means, minus_means, links_mean, binary_means, otherwise_means, choice_means, expression_means}
 use Rattle.at_jrag.proofs.SoundCalls.{calls_mean, called_means, arguments_mean, first_argument_means, more_arguments_mean, named_means, fold_body_means, enclosed_means, parenthesized_means, opened_means}
-use Rattle.at_jrag.proofs.SoundDeclarations.{return_means, close_means, kind_means, not_nta_means, not_circular_means, lazy_means, more_params_mean, other_params_mean, params_mean, opening_means, signed_means, body_means, ending_means, defined_means, decls_mean, file_means}
+use Rattle.at_jrag.proofs.SoundDeclarations.{return_means, close_means, kind_means, not_nta_means, circular_means, bracket_means, start_means, attribute_means, lazy_means, more_params_mean, other_params_mean, params_mean, opening_means, signed_means, body_means, ending_means, defined_means, decls_mean, file_means}
 
 -- each row of the table has the sense of its want
 pub means : (l : Bool) → Means l
@@ -38,17 +39,20 @@ means l (want.Deepest m) d old e rest h = h
 means l (want.Counts n) d old e rest h = h
 means l want.Name d old e rest h = name_means l d old e rest h
 means l (want.Mark text) d old e rest h = mark_means l text d old e rest h
-means l want.File d old e rest h = file_means l old e rest h
-means l want.Decls d old e rest h = decls_mean l old e rest h
+means l (want.File forms) d old e rest h = file_means l forms old e rest h
+means l (want.Decls forms) d old e rest h = decls_mean l forms old e rest h
 means l want.Lazy d old e rest h = lazy_means l old e rest h
 means l want.NotNta d old e rest h = not_nta_means l old e rest h
+means l (want.Attribute forms) d old e rest h = attribute_means l forms old e rest h
 means l want.Kind d old e rest h = kind_means l old e rest h
 means l want.Signed d old e rest h = signed_means l old e rest h
 means l (want.Opening g) d old e rest h = opening_means l g old e rest h
 means l (want.Params g) d old e rest h = params_mean l g old e rest h
 means l want.OneParam d old e rest h = (more_params_mean l 0 old e rest h).0
 means l want.MoreParams d old e rest h = other_params_mean l old e rest h
-means l want.NotCircular d old e rest h = not_circular_means l old e rest h
+means l (want.Circular m) d old e rest h = circular_means l m old e rest h
+means l want.Bracket d old e rest h = bracket_means l old e rest h
+means l want.Start d old e rest h = start_means l old e rest h
 means l want.Ending d old e rest h = ending_means l old e rest h
 means l want.Body d old e rest h = body_means l old e rest h
 means l want.Defined d old e rest h = defined_means l d old e rest h
@@ -63,5 +67,5 @@ sound_expression l b row h =
     (x.expr, x.spells, (λ f. subst (λ (k : ℕ). k ≤ b) x.deep (x.fits f)))
 
 -- a row that is taken whole as a file, is one, within the limit if there is one
-pub sound : (l : Bool) (row : Row) → run l table (want.File ∷ []) 0 row ≡ Whole → (aspects : List Aspect) × File aspects row [] × (l ≡ true → IsWithin aspects)
-sound l row h = let r = whole_said l row (want.File ∷ []) 0 (means l) h in only_says l want.File 0 row r.0 [] r.1
+pub sound : (forms : Forms) (l : Bool) (row : Row) → run l table (want.File forms ∷ []) 0 row ≡ Whole → (aspects : List Aspect) × File forms aspects row [] × (l ≡ true → IsWithin aspects)
+sound forms l row h = let r = whole_said l row (want.File forms ∷ []) 0 (means l) h in only_says l (want.File forms) 0 row r.0 [] r.1

@@ -8,11 +8,12 @@ use Rattle.at_model.specs.Names.{is_name}
 use Rattle.at_text.specs.Reading.{first}
 use Rattle.at_text.specs.Symbols.{PlacedToken}
 use Rattle.at_text.specs.declared.place.Place.{Place}
+use Rattle.at_jrag.specs.declared.Forms.{Forms}
 use Rattle.at_jrag.specs.Syntax as syntax
 use Rattle.at_jrag.specs.Syntax.{Word, Param, KindWord, Ending, Body, Decl, Aspect, Expr, Exprs}
 use Rattle.at_jrag.specs.Grammar as grammar
 use Rattle.at_text.specs.Rows.{Row, sign, word, is_sign, is_word, next_is}
-use Rattle.at_jrag.specs.Grammar.{Sign, Keyword, Opens, KindOf, Listed, Index, Signature, BodyOf, EndingOf, Spells, level, depth, deepest, ending_depth, max_nesting, NestsWithin, IsWithin}
+use Rattle.at_jrag.specs.Grammar.{truth_text, AttributeOf, Sign, Keyword, Opens, KindOf, Listed, Index, Signature, BodyOf, EndingOf, Spells, level, depth, deepest, ending_depth, max_nesting, NestsWithin, IsWithin}
 use Rattle.at_text.specs.Machine.{Answer, Takes, Skips, Refuses, LeavesOut, and_then, Goes, Halts, answered, after, ended, may_end, Outcome, Whole, Stuck, Refused, TooDeep, run}
 use Rattle.at_jrag.specs.Wants as want
 use Rattle.at_jrag.specs.Wants.{Want}
@@ -105,6 +106,15 @@ IsBody l old rest = (b : Body) × BodyOf b old rest × (l ≡ true → depth b.e
 abbrev pub IsDefined : Bool → ℕ → Row → Row → Type 0
 IsDefined l d old rest = IsBody l old rest ⊎ ((d ≡ 0) × (called : Row) × (body : Row) × (e : ℕ) × Sign (codes ".") old called × IsSigned e called body × IsBody l body rest)
 
+-- a declared attribute behind its `lazy`
+pub record IsAttribute (forms : Forms) (old rest : Row) : Type 0 where
+  pub kind : KindWord
+  pub class : Word
+  pub name : Word
+  pub params : syntax.Params
+  pub start : Option Bool
+  pub is : AttributeOf forms kind class name params start old rest
+
 abbrev pub Says : Bool → Want → ℕ → Row → ℕ → Row → Type 0
 Says l (want.Expression b) d old e rest = IsRead l 8 b e old rest
 Says l (want.Binary rank b) d old e rest = IsRead l (1 + rank) b e old rest
@@ -132,17 +142,20 @@ Says l (want.Deepest m) d old e rest = (e ≡ max m d) × (rest ≡ old)
 Says l (want.Counts n) d old e rest = (e ≡ n) × (rest ≡ old)
 Says l want.Name d old e rest = (w : Word) × grammar.Name w old rest × (e ≡ d)
 Says l (want.Mark text) d old e rest = Sign text old rest × (e ≡ d)
-Says l want.File d old e rest = (aspects : List Aspect) × grammar.File aspects old rest × (l ≡ true → IsWithin aspects)
-Says l want.Decls d old e rest = (ds : List Decl) × (close : Row) × grammar.Decls ds old close × Sign (codes "}") close rest × (l ≡ true → AllByRecursion NestsWithin ds)
+Says l (want.File forms) d old e rest = (aspects : List Aspect) × grammar.File forms aspects old rest × (l ≡ true → IsWithin aspects)
+Says l (want.Decls forms) d old e rest = (ds : List Decl) × (close : Row) × grammar.Decls forms ds old close × Sign (codes "}") close rest × (l ≡ true → AllByRecursion NestsWithin ds)
 Says l want.Lazy d old e rest = (lazy : Option Place) × grammar.Lazy lazy old rest
 Says l want.NotNta d old e rest = rest ≡ old
+Says l (want.Attribute forms) d old e rest = IsAttribute forms old rest
 Says l want.Kind d old e rest = (k : KindWord) × KindOf k old rest
 Says l want.Signed d old e rest = IsSigned e old rest
 Says l (want.Opening g) d old e rest = IsOpened g e old rest
 Says l (want.Params g) d old e rest = HasParams g e old rest
 Says l want.OneParam d old e rest = HasMoreParams e old rest
 Says l want.MoreParams d old e rest = HasMoreParams e old rest × (e ≡ 1)
-Says l want.NotCircular d old e rest = rest ≡ old
+Says l (want.Circular m) d old e rest = (start : Option Bool) × grammar.Circular m start old rest
+Says l want.Bracket d old e rest = (b : Bool) × (value : Row) × Sign (codes "[") old value × Keyword (truth_text b) value rest
+Says l want.Start d old e rest = (b : Bool) × Keyword (truth_text b) old rest
 Says l want.Ending d old e rest = (x : Ending) × EndingOf x old rest × (l ≡ true → ending_depth x ≤ max_nesting)
 Says l want.Body d old e rest = IsBody l old rest
 Says l want.Defined d old e rest = IsDefined l d old rest

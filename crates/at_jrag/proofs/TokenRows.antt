@@ -6,9 +6,9 @@ use lib.Chars.{codes}
 use Rattle.at_text.specs.Symbols.{PlacedToken}
 use Rattle.at_text.specs.declared.place.Place.{Place}
 use Rattle.at_text.specs.Rows.{word, is_word, is_name_token}
-use Rattle.at_jrag.specs.Grammar.{follows_cast}
+use Rattle.at_jrag.specs.Grammar.{follows_cast, begins_other}
 use Rattle.at_text.specs.Machine.{Answer, Skips, Refuses, LeavesOut, and_then}
-use Rattle.at_jrag.specs.Wants.{Want, Expression, Binary, Links, Choice, Unary, Minus, Opened, Enclosed, Parenthesized, Calls, Called, FirstArgument, MoreArguments, Primary, Named, Deeper, Join, Deepest, Counts, Name, Mark, File, Decls, Lazy, NotNta, Kind, Signed, Params, NotCircular, Defined, Return}
+use Rattle.at_jrag.specs.Wants.{Want, Expression, Binary, Links, Choice, Unary, Minus, Opened, Enclosed, Parenthesized, Calls, Called, FirstArgument, MoreArguments, Primary, Named, Deeper, Join, Deepest, Counts, Name, Mark, File, Decls, Lazy, NotNta, Attribute, Kind, Signed, Params, Circular, Start, Defined, Return}
 use Rattle.at_jrag.specs.Table.{table, is_literal, begins_fold, is_kind, link_rank, link_answer, or_else, tails_answer, primary_answer, unary_answer, binary_answer, expression_answer, links_answer}
 use Rattle.at_jrag.proofs.Shapes.{loose}
 use Rattle.at_jrag.proofs.Pushes.{Comes, either}
@@ -56,9 +56,10 @@ next_lazy ws = false
 
 -- which keyword the want takes
 abbrev pub TakesWord : PlacedToken → Want → List Want → Type 0
-TakesWord t File more = is_word (codes "aspect") t ≡ true
-TakesWord t Decls more = (is_word (codes "eq") t ≡ true) ⊎ ((is_word (codes "syn") t || is_word (codes "inh") t ≡ true) × (next_lazy more ≡ true))
+TakesWord t (File forms) more = is_word (codes "aspect") t ≡ true
+TakesWord t (Decls forms) more = (is_word (codes "eq") t ≡ true) ⊎ ((is_word (codes "syn") t || is_word (codes "inh") t ≡ true) × (next_lazy more ≡ true))
 TakesWord t Lazy more = (is_word (codes "lazy") t ≡ true) × (next_lazy more ≡ true)
+TakesWord t (Circular m) more = is_word (codes "circular") t ≡ true
 TakesWord t Return more = is_word (codes "return") t ≡ true
 TakesWord t w more = ⊥
 
@@ -82,6 +83,11 @@ no_binary t k (suc rank) b = ap (λ a. and_then a (Links rank b ∷ [])) (no_bin
 
 no_expression : (t : PlacedToken) (k : IsKeyword t) (b : ℕ) → expression_answer b (Some (word k.text k.at)) ≡ Refuses
 no_expression t k b = ap (λ a. and_then a (Choice b ∷ [])) (no_binary t k 6 b)
+
+no_truth : (a b c d : Bool) → a || b || c || d ≡ false → (a ≡ false) × (b ≡ false)
+no_truth true b c d h = absurd cc
+no_truth false true c d h = absurd cc
+no_truth false false c d h = (refl, refl)
 
 word_at : (t : PlacedToken) (k : IsKeyword t) (w : Want) (d : ℕ) → Worded (word k.text k.at) w (table w d (Some (word k.text k.at)))
 unfolding table
@@ -110,23 +116,30 @@ word_at t k (Join m) d = refl
 word_at t k (Deepest m) d = refl
 word_at t k (Counts n) d = refl
 word_at t k Name d = let u = word k.text k.at in off (Worded u Name) (is_name_token u) _ _ k.name tt
-word_at t k File d = let u = word k.text k.at in either (Worded u File) (is_word (codes "aspect") u) _ _ (λ h. h) (λ h. tt)
-word_at t k Decls d =
+word_at t k (File forms) d = let u = word k.text k.at in either (Worded u (File forms)) (is_word (codes "aspect") u) _ _ (λ h. h) (λ h. tt)
+word_at t k (Decls forms) d =
     let u = word k.text k.at in
-    either (Worded u Decls) (is_word (codes "syn") u) _ _ (λ h. inr (ap (λ b. b || is_word (codes "inh") u) h, refl))
-    (λ h. either (Worded u Decls) (is_word (codes "inh") u) _ _ (λ i. inr (or_right (is_word (codes "syn") u) (is_word (codes "inh") u) i, refl))
-    (λ h. either (Worded u Decls) (is_word (codes "eq") u) _ _ (λ i. inl i) (λ i. tt)))
+    either (Worded u (Decls forms)) (is_word (codes "syn") u) _ _ (λ h. inr (ap (λ b. b || is_word (codes "inh") u) h, refl))
+    (λ h. either (Worded u (Decls forms)) (is_word (codes "inh") u) _ _ (λ i. inr (or_right (is_word (codes "syn") u) (is_word (codes "inh") u) i, refl))
+    (λ h. either (Worded u (Decls forms)) (is_word (codes "eq") u) _ _ (λ i. inl i) (λ i. tt)))
 word_at t k Lazy d =
     let u = word k.text k.at in
     either (Worded u Lazy) (is_word (codes "lazy") u) _ _ (λ h. (h, refl)) (λ h. either (Worded u Lazy) (is_word (codes "nta") u) LeavesOut (Skips 0) (λ i. tt) (λ i. refl))
 word_at t k NotNta d = let u = word k.text k.at in either (Worded u NotNta) (is_word (codes "nta") u) LeavesOut (Skips 0) (λ i. tt) (λ i. refl)
+word_at t k (Attribute forms) d = let u = word k.text k.at in off (Worded u (Attribute forms)) (is_kind u) _ _ k.kind tt
 word_at t k Kind d = let u = word k.text k.at in off (Worded u Kind) (is_kind u) _ _ k.kind tt
 word_at t k Signed d = let u = word k.text k.at in off (Worded u Signed) (is_name_token u) _ _ k.name tt
 word_at t k (Params g) d =
     let u = word k.text k.at in
     either (Worded u (Params g)) (g && is_word (codes "int") u) LeavesOut _ (λ h. tt)
     (λ h. off (Worded u (Params g)) (is_word (codes "int") u) _ _ k.int (off (Worded u (Params g)) (is_kind u) _ _ k.kind tt))
-word_at t k NotCircular d = let u = word k.text k.at in either (Worded u NotCircular) (is_word (codes "circular") u) LeavesOut (Skips 0) (λ i. tt) (λ i. refl)
+word_at t k (Circular m) d =
+    let u = word k.text k.at in
+    either (Worded u (Circular m)) (is_word (codes "circular") u) _ (Skips 0) (λ i. either (Worded u (Circular m)) m _ LeavesOut (λ j. i) (λ j. tt)) (λ i. refl)
+word_at t k Start d =
+    let u = word k.text k.at in
+    let c = no_truth (is_word (codes "true") u) (is_word (codes "false") u) (is_word (codes "null") u) (is_word (codes "this") u) k.literal in
+    off (Worded u Start) (is_word (codes "true") u) _ _ c.0 (off (Worded u Start) (is_word (codes "false") u) _ _ c.1 (either (Worded u Start) (begins_other u) LeavesOut Refuses (λ i. tt) (λ i. tt)))
 word_at t k Defined d = let u = word k.text k.at in either (Worded u Defined) ((d == 0) && false) _ _ (λ h. never ((d == 0) && false) h (and_off (d == 0) false refl)) (λ h. tt)
 word_at t k Return d = let u = word k.text k.at in either (Worded u Return) (is_word (codes "return") u) _ LeavesOut (λ h. h) (λ h. tt)
 word_at t k w d = tt

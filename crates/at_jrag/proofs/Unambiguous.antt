@@ -1,17 +1,21 @@
 -- A row of tokens spells one file of aspects.
-use Rattle.std.proofs.Common.{◌≡◌, ℕ, List, [], ◌∷◌, true, false, cond, Option, Some, None, refl, sym, ap, ◌∙◌}
+use Rattle.std.proofs.Common.{◌≡◌, ℕ, List, [], ◌∷◌, Bool, true, false, cond, Option, Some, None, refl, sym, ap, ◌∙◌}
 use Rattle.std.specs.Prelude.{◌||◌}
 use Rattle.std.specs.Str.{bytes_eq}
 use Rattle.std.proofs.lemmas.Slice.Eq.{bytes_eq-Decides}
 use lib.Chars.{codes}
 use Rattle.at_model.specs.Names.{is_name, reserved_words}
+use Rattle.at_text.specs.Reading.{first}
 use Rattle.at_text.specs.Symbols.{PlacedToken}
 use Rattle.at_text.specs.declared.place.Place.{Place}
+use Rattle.at_jrag.specs.declared.Forms.{Forms}
 use Rattle.at_jrag.specs.Syntax as syntax
 use Rattle.at_jrag.specs.Syntax.{Word, Kind, KindWord, Param, Params, BodyForm, Body, Ending, Decl, DeclForm, Aspect}
-use Rattle.at_text.specs.Rows.{Row, sign, is_sign, is_word, next_is}
-use Rattle.at_jrag.specs.Grammar.{Sign, kind_text, IsKind, KindOf, ParamOf, MoreParams, Listed, Signature, Owner, Lazy, Index, Getter, Declared, BodyOf, EndingOf, Behind, keyword, DeclOf, Decls, AspectOf, File}
+use Rattle.at_text.specs.Rows.{Row, sign, word, is_sign, is_word, next_is}
+use Rattle.at_jrag.specs.Grammar.{truth_text, Circular, Sign, kind_text, IsKind, KindOf, ParamOf, MoreParams, Listed, Signature, Owner, Lazy, Index, Getter, Declared, BodyOf, EndingOf, Behind, keyword, DeclOf, Decls, AspectOf, File}
+use Rattle.at_jrag.specs.Table.{next}
 use Rattle.at_jrag.proofs.of_expressions.ExpressionSteps.{reserved_is_no_name, no_word}
+use Rattle.at_jrag.proofs.DeclarationRuns.{NoWord, no_circular}
 use Rattle.at_jrag.proofs.OneToken.{token_one, text_one, at_one, apart, name_one}
 use Rattle.at_jrag.proofs.of_expressions.ExpressionLinks.{ended}
 use Rattle.at_jrag.proofs.of_expressions.OneExpression.{one_expression}
@@ -93,21 +97,42 @@ lazy_one (Some at) (Some by) k j x y a b r s same h p g q =
     let kinds = kind_one k j a b r s token.1 p q in
     (ap (λ (z : Place). Some z) (at_one token.0), kinds.0, kinds.1)
 
+truth_one : (b c : Bool) → truth_text b ≡ truth_text c → b ≡ c
+truth_one true true e = refl
+truth_one true false e = absurd (let c : bytes_eq (truth_text true) (truth_text false) ≡ true = (bytes_eq-Decides (truth_text true) (truth_text false)).1 e in cc)
+truth_one false true e = absurd (let c : bytes_eq (truth_text false) (truth_text true) ≡ true = (bytes_eq-Decides (truth_text false) (truth_text true)).1 e in cc)
+truth_one false false e = refl
+
+-- `circular` doesn't follow where it is absent
+no_circle : {A : Type 0} (at : Place) (r mid : Row) → r ≡ word (codes "circular") at ∷ mid → NoWord (codes "circular") r → A
+no_circle at r mid e n = absurd (let c : true ≡ false = sym (ap (λ (x : Row). next (is_word (codes "circular")) (first x)) e) ∙ n in cc)
+
+circular_one : (m n : Bool) (a b : Option Bool) (x y r s : Row) → x ≡ y → Circular m a x r → Circular n b y s → NoWord (codes "circular") r → NoWord (codes "circular") s → (a ≡ b) × (r ≡ s)
+circular_one m n None None x y r s same h k f g = (refl, sym h ∙ same ∙ k)
+circular_one m n None (Some b) x y r s same h (may, mid, k, more) f g = no_circle k.0 r mid (sym h ∙ same ∙ k.1) f
+circular_one m n (Some a) None x y r s same (may, mid, k, more) h f g = no_circle k.0 s mid (sym h ∙ sym same ∙ k.1) g
+circular_one m n (Some a) (Some b) x y r s same (may, one, k, (value, close, o, w, z)) (can, other, j, (truth, end, u, v, t)) f g =
+    let values = token_one (token_one (token_one same k.1 j.1).1 o.1 u.1).1 w.1 v.1 in
+    (ap (λ (x : Bool). Some x) (truth_one a b (text_one values.0)), (token_one values.1 z.1 t.1).1)
+
 -- what a declaration tells of an attribute
-record SameDeclared (l m : Option Place) (k j : KindWord) (c d v w : Word) (ps qs : Params) (r s : Row) : Type 0 where
+record SameDeclared (l m : Option Place) (k j : KindWord) (c d v w : Word) (ps qs : Params) (a b : Option Bool) (r s : Row) : Type 0 where
   lazy : l ≡ m
   kind : k ≡ j
   class : c ≡ d
   name : v ≡ w
   params : ps ≡ qs
+  start : a ≡ b
   rest : r ≡ s
 
-declared_one : (l m : Option Place) (k j : KindWord) (c d v w : Word) (ps qs : Params) (x y r s : Row) → x ≡ y → Declared l k c v ps x r → Declared m j d w qs y s → SameDeclared l m k j c d v w ps qs r s
-declared_one l m k j c d v w ps qs x y r s same (kinds, owner, called, z, p, o, n) (others, class, name, e, q, u, t) =
+declared_one : (forms : Forms) (l m : Option Place) (k j : KindWord) (c d v w : Word) (ps qs : Params) (a b : Option Bool) (x y r s : Row) → x ≡ y → Declared forms l k c v ps a x r → Declared forms m j d w qs b y s
+    → NoWord (codes "circular") r → NoWord (codes "circular") s → SameDeclared l m k j c d v w ps qs a b r s
+declared_one forms l m k j c d v w ps qs a b x y r s same (kinds, z, (owner, called, behind, p, o, n, i)) (others, e, (class, name, after, q, u, t, h)) f g =
     let front = lazy_one l m k j x y kinds others owner class same z p e q in
     let owners = owner_one c d owner class called name front.2 o u in
-    let names = signature_one v w ps qs called name r s owners.1 n t in
-    record { lazy = front.0; kind = front.1; class = owners.0; name = names.0; params = names.1; rest = names.2 }
+    let names = signature_one v w ps qs called name behind after owners.1 n t in
+    let starts = circular_one _ _ a b behind after r s names.2 i h f g in
+    record { lazy = front.0; kind = front.1; class = owners.0; name = names.0; params = names.1; start = starts.0; rest = starts.1 }
 
 -- ---- bodies
 
@@ -180,63 +205,66 @@ inherited_apart v name w ps b getter i x y r end s same o (paren, list, n, u, l)
 
 -- ---- declarations
 
+semicolon_follows : (old rest : Row) → Sign (codes ";") old rest → NoWord (codes "circular") old
+semicolon_follows old rest h = ap (λ (x : Row). next (is_word (codes "circular")) (first x)) h.1
+
 -- what stands behind a declaration's first word
-behind_one : (f g : DeclForm) → keyword f ≡ keyword g → (x y r s : Row) → x ≡ y → Behind f x r → Behind g y s → (f ≡ g) × (r ≡ s)
-behind_one (syntax.Synthesized l k c v ps a) (syntax.Synthesized m j d w qs b) e x y r s same (end, h, p) (last, t, q) =
-    let one = declared_one l m k j c d v w ps qs x y end last same h t in
+behind_one : (forms : Forms) (f g : DeclForm) → keyword f ≡ keyword g → (x y r s : Row) → x ≡ y → Behind forms f x r → Behind forms g y s → (f ≡ g) × (r ≡ s)
+behind_one forms (syntax.Synthesized l k c v ps o a) (syntax.Synthesized m j d w qs u b) e x y r s same (end, h, p) (last, t, q) =
+    let one = declared_one forms l m k j c d v w ps qs o u x y end last same h t (no_circular a end r p) (no_circular b last s q) in
     let ends = ending_one a b end last r s one.rest p q in
-    ((λ i. syntax.Synthesized (one.lazy i) (one.kind i) (one.class i) (one.name i) (one.params i) (ends.0 i)), ends.1)
-behind_one (syntax.Inherited l k c v ps) (syntax.Inherited m j d w qs) e x y r s same (end, h, p) (last, t, q) =
-    let one = declared_one l m k j c d v w ps qs x y end last same h t in
-    ((λ i. syntax.Inherited (one.lazy i) (one.kind i) (one.class i) (one.name i) (one.params i)), (token_one one.rest p.1 q.1).1)
-behind_one (syntax.Equation c v ps a) (syntax.Equation d w qs b) e x y r s same (called, body, o, n, p) (name, inner, u, t, q) =
+    ((λ i. syntax.Synthesized (one.lazy i) (one.kind i) (one.class i) (one.name i) (one.params i) (one.start i) (ends.0 i)), ends.1)
+behind_one forms (syntax.Inherited l k c v ps o) (syntax.Inherited m j d w qs u) e x y r s same (end, h, p) (last, t, q) =
+    let one = declared_one forms l m k j c d v w ps qs o u x y end last same h t (semicolon_follows end r p) (semicolon_follows last s q) in
+    ((λ i. syntax.Inherited (one.lazy i) (one.kind i) (one.class i) (one.name i) (one.params i) (one.start i)), (token_one one.rest p.1 q.1).1)
+behind_one forms (syntax.Equation c v ps a) (syntax.Equation d w qs b) e x y r s same (called, body, o, n, p) (name, inner, u, t, q) =
     let owners = owner_one c d x y called name same o u in
     let names = signature_one v w ps qs called name body inner owners.1 n t in
     let bodies = body_one a b body inner r s names.2 p q in
     ((λ i. syntax.Equation (owners.0 i) (names.0 i) (names.1 i) (bodies.0 i)), bodies.1)
-behind_one (syntax.Equation c v ps a) (syntax.InheritedEquation d g i w qs b) e x y r s same (called, body, o, n, p) (got, name, inner, u, z, t, q) =
+behind_one forms (syntax.Equation c v ps a) (syntax.InheritedEquation d g i w qs b) e x y r s same (called, body, o, n, p) (got, name, inner, u, z, t, q) =
     absurd (inherited_apart c v d ps a g i x y called body name same o n r p got u z)
-behind_one (syntax.InheritedEquation c g i v ps a) (syntax.Equation d w qs b) e x y r s same (got, name, inner, u, z, t, q) (called, body, o, n, p) =
+behind_one forms (syntax.InheritedEquation c g i v ps a) (syntax.Equation d w qs b) e x y r s same (got, name, inner, u, z, t, q) (called, body, o, n, p) =
     absurd (inherited_apart d w c qs b g i y x called body name (sym same) o n s p got u z)
-behind_one (syntax.InheritedEquation c g i v ps a) (syntax.InheritedEquation d h j w qs b) e x y r s same (got, called, body, o, z, n, p) (gives, name, inner, u, k, t, q) =
+behind_one forms (syntax.InheritedEquation c g i v ps a) (syntax.InheritedEquation d h j w qs b) e x y r s same (got, called, body, o, z, n, p) (gives, name, inner, u, k, t, q) =
     let owners = owner_one c d x y got gives same o u in
     let getters = getter_one g h i j got gives called name owners.1 z k in
     let names = signature_one v w ps qs called name body inner getters.2 n t in
     let bodies = body_one a b body inner r s names.2 p q in
     ((λ i. syntax.InheritedEquation (owners.0 i) (getters.0 i) (getters.1 i) (names.0 i) (names.1 i) (bodies.0 i)), bodies.1)
-behind_one f g e x y r s same h k = absurd (let c : bytes_eq (keyword f) (keyword g) ≡ true = (bytes_eq-Decides (keyword f) (keyword g)).1 e in cc)
+behind_one forms f g e x y r s same h k = absurd (let c : bytes_eq (keyword f) (keyword g) ≡ true = (bytes_eq-Decides (keyword f) (keyword g)).1 e in cc)
 
-decl_one : (d e : Decl) (x y r s : Row) → x ≡ y → DeclOf d x r → DeclOf e y s → (d ≡ e) × (r ≡ s)
-decl_one d e x y r s same (behind, k, h) (after, j, g) =
+decl_one : (forms : Forms) (d e : Decl) (x y r s : Row) → x ≡ y → DeclOf forms d x r → DeclOf forms e y s → (d ≡ e) × (r ≡ s)
+decl_one forms d e x y r s same (behind, k, h) (after, j, g) =
     let token = token_one same k j in
-    let one = behind_one d.form e.form (text_one token.0) behind after r s token.1 h g in
+    let one = behind_one forms d.form e.form (text_one token.0) behind after r s token.1 h g in
     ((λ i. record { at = at_one token.0 i; form = one.0 i }), one.1)
 
-decls_one : (ds es : List Decl) (at by : Place) (x y r s rest other : Row) → x ≡ y → Decls ds x r → Decls es y s → r ≡ sign (codes "}") at ∷ rest → s ≡ sign (codes "}") by ∷ other → (ds ≡ es) × (r ≡ s)
-decls_one [] [] at by x y r s rest other same h k p q = (refl, sym h ∙ same ∙ k)
-decls_one [] (e ∷ es) at by x y r s rest other same h (mid, (behind, k, g), m) p q = absurd (apart (is_sign (codes "}")) same (h ∙ p) k refl refl)
-decls_one (d ∷ ds) [] at by x y r s rest other same (mid, (behind, k, g), m) h p q = absurd (apart (is_sign (codes "}")) (sym same) (h ∙ q) k refl refl)
-decls_one (d ∷ ds) (e ∷ es) at by x y r s rest other same (mid, h, m) (inner, k, n) p q =
-    let one = decl_one d e x y mid inner same h k in
-    let more = decls_one ds es at by mid inner r s rest other one.1 m n p q in
+decls_one : (forms : Forms) (ds es : List Decl) (at by : Place) (x y r s rest other : Row) → x ≡ y → Decls forms ds x r → Decls forms es y s → r ≡ sign (codes "}") at ∷ rest → s ≡ sign (codes "}") by ∷ other → (ds ≡ es) × (r ≡ s)
+decls_one forms [] [] at by x y r s rest other same h k p q = (refl, sym h ∙ same ∙ k)
+decls_one forms [] (e ∷ es) at by x y r s rest other same h (mid, (behind, k, g), m) p q = absurd (apart (is_sign (codes "}")) same (h ∙ p) k refl refl)
+decls_one forms (d ∷ ds) [] at by x y r s rest other same (mid, (behind, k, g), m) h p q = absurd (apart (is_sign (codes "}")) (sym same) (h ∙ q) k refl refl)
+decls_one forms (d ∷ ds) (e ∷ es) at by x y r s rest other same (mid, h, m) (inner, k, n) p q =
+    let one = decl_one forms d e x y mid inner same h k in
+    let more = decls_one forms ds es at by mid inner r s rest other one.1 m n p q in
     ((λ i. one.0 i ∷ more.0 i), more.1)
 
 -- ---- files
 
-aspect_one : (a b : Aspect) (x y r s : Row) → x ≡ y → AspectOf a x r → AspectOf b y s → (a ≡ b) × (r ≡ s)
-aspect_one a b x y r s same (named, brace, inner, close, k, n, o, d, c) (called, opens, begins, shut, j, m, u, e, z) =
+aspect_one : (forms : Forms) (a b : Aspect) (x y r s : Row) → x ≡ y → AspectOf forms a x r → AspectOf forms b y s → (a ≡ b) × (r ≡ s)
+aspect_one forms a b x y r s same (named, brace, inner, close, k, n, o, d, c) (called, opens, begins, shut, j, m, u, e, z) =
     let names = name_one a.name b.name (token_one same k.1 j.1).1 n.1 m.1 in
-    let decls = decls_one a.decls b.decls c.0 z.0 inner begins close shut r s (token_one names.1 o.1 u.1).1 d e c.1 z.1 in
+    let decls = decls_one forms a.decls b.decls c.0 z.0 inner begins close shut r s (token_one names.1 o.1 u.1).1 d e c.1 z.1 in
     ((λ i. record { name = names.0 i; decls = decls.0 i }), (token_one decls.1 c.1 z.1).1)
 
-aspects_one : (as' bs : List Aspect) (x y : Row) → x ≡ y → File as' x [] → File bs y [] → as' ≡ bs
-aspects_one [] [] x y same h k = refl
-aspects_one [] (b ∷ bs) x y same h (mid, (named, brace, inner, close, k, n, o, d, c), m) = absurd (let l : [] ≡ _ ∷ named = sym h ∙ same ∙ k.1 in cc)
-aspects_one (a ∷ as') [] x y same (mid, (named, brace, inner, close, k, n, o, d, c), m) h = absurd (let l : [] ≡ _ ∷ named = sym h ∙ sym same ∙ k.1 in cc)
-aspects_one (a ∷ as') (b ∷ bs) x y same (mid, h, m) (inner, k, n) =
-    let one = aspect_one a b x y mid inner same h k in
-    λ i. one.0 i ∷ aspects_one as' bs mid inner one.1 m n i
+aspects_one : (forms : Forms) (as' bs : List Aspect) (x y : Row) → x ≡ y → File forms as' x [] → File forms bs y [] → as' ≡ bs
+aspects_one forms [] [] x y same h k = refl
+aspects_one forms [] (b ∷ bs) x y same h (mid, (named, brace, inner, close, k, n, o, d, c), m) = absurd (let l : [] ≡ _ ∷ named = sym h ∙ same ∙ k.1 in cc)
+aspects_one forms (a ∷ as') [] x y same (mid, (named, brace, inner, close, k, n, o, d, c), m) h = absurd (let l : [] ≡ _ ∷ named = sym h ∙ sym same ∙ k.1 in cc)
+aspects_one forms (a ∷ as') (b ∷ bs) x y same (mid, h, m) (inner, k, n) =
+    let one = aspect_one forms a b x y mid inner same h k in
+    λ i. one.0 i ∷ aspects_one forms as' bs mid inner one.1 m n i
 
 -- a row of tokens spells one file
-pub one_file : (as' bs : List Aspect) (row : Row) → File as' row [] → File bs row [] → as' ≡ bs
-one_file as' bs row h k = aspects_one as' bs row row refl h k
+pub one_file : (forms : Forms) (as' bs : List Aspect) (row : Row) → File forms as' row [] → File forms bs row [] → as' ≡ bs
+one_file forms as' bs row h k = aspects_one forms as' bs row row refl h k

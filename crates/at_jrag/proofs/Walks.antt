@@ -6,8 +6,9 @@ use Rattle.std.proofs.lemmas.Slice.Eq.{bytes_eq-Decides}
 use lib.Chars.{codes}
 use Rattle.at_text.specs.Symbols.{PlacedToken}
 use Rattle.at_text.specs.Machine.{Answer, Takes, Skips, Refuses, LeavesOut, Move, Goes, Halts, Reason, Refused, LeftOut, TooDeep, answered, after}
-use Rattle.at_jrag.specs.Wants.{Want, FirstArgument, Mark, File, Decls, Lazy, NotNta, Params, NotCircular, Ending, Return, Close}
+use Rattle.at_jrag.specs.Wants.{Want, FirstArgument, Mark, File, Decls, Lazy, NotNta, Attribute, Params, Circular, Start, Ending, Return, Close}
 use Rattle.at_jrag.specs.Table.{table}
+use Rattle.at_model.proofs.Options.{both}
 use Rattle.at_jrag.proofs.Shapes.{loose, firm, second, next_firm, next_second, next_ends, follows, Stands}
 use Rattle.at_jrag.proofs.Pushes.{Comes, Begins, Leaves, LeavesIt, row_does}
 
@@ -44,7 +45,9 @@ of_both false y z h k = absurd cc
 
 -- behind what is loose stands what is firm
 pub loose_firm : (w : Want) (us : List Want) → loose w ≡ true → follows w us ≡ true → next_firm us ≡ true
-loose_firm NotCircular us l f = ends_firm us f
+loose_firm (Attribute forms) us l f = ends_firm us f
+loose_firm (Circular m) us l f = ends_firm us f
+loose_firm (Mark text) us l f = off l
 loose_firm w us l f = of_both (loose w) (next_firm us) (next_second us) l f
 
 firm_second : (us : List Want) → next_firm us ≡ true → next_second us ≡ true
@@ -57,7 +60,9 @@ either_second true us h = firm_second us h
 either_second false us h = h
 
 follows_second : (w : Want) (us : List Want) → follows w us ≡ true → next_second us ≡ true
-follows_second NotCircular us f = firm_second us (ends_firm us f)
+follows_second (Attribute forms) us f = firm_second us (ends_firm us f)
+follows_second (Circular m) us f = firm_second us (ends_firm us f)
+follows_second (Mark text) us f = (both (not (bytes_eq text (codes "["))) (next_second us) f).1
 follows_second w us f = either_second (loose w) us f
 
 -- ---- the want that took the last token
@@ -104,11 +109,12 @@ pub record IsFirst (H : Want → Type 0) (ws : List Want) : Type 0 where
   pub is : ws ≡ want ∷ behind
 
 leaves_first : (w : Want) (t : PlacedToken) → LeavesIt w t → firm w ≡ false
-leaves_first File t h = refl
-leaves_first Decls t h = refl
+leaves_first (File forms) t h = refl
+leaves_first (Decls forms) t h = refl
 leaves_first Lazy t h = refl
 leaves_first NotNta t h = refl
-leaves_first NotCircular t h = refl
+leaves_first (Circular m) t h = refl
+leaves_first Start t h = refl
 leaves_first Return t h = refl
 leaves_first Close t h = refl
 leaves_first (Params g) t h = refl

@@ -4,6 +4,7 @@ use lib.Chars.{codes}
 use Rattle.at_text.specs.Symbols.{PlacedToken, HasTokens, next_place}
 use Rattle.at_text.specs.Rows.{is_word}
 use Rattle.at_jrag.specs.FirstFault.{GoesOn, IsFirstFault}
+use Rattle.at_jrag.specs.declared.Forms.{Forms}
 use Rattle.at_jrag.specs.Forms.{IsFile, IsFileWithin, MeetsLeftOut}
 use Rattle.at_text.specs.declared.scan.ScanFault.{ScanFault}
 use Rattle.at_text.specs.declared.scan.ScanFault.TheVariants as scan
@@ -45,9 +46,9 @@ IsScanFaultAt text at fault = FaultsAt text fault × (uncut text fault ≡ Refus
 -- ---- where reading stops
 
 -- The front begins a file within the limit, and no such file goes on with the token after it, or with the end of the text.
-pub record StopsAt (text : List ℕ) (front rest : List PlacedToken) : Type 0 where
+pub record StopsAt (forms : Forms) (text : List ℕ) (front rest : List PlacedToken) : Type 0 where
   pub tokens : HasTokens text (front ++ rest)
-  pub fault : IsFirstFault IsFileWithin front rest
+  pub fault : IsFirstFault (IsFileWithin forms) front rest
 
 -- the place of a fault between the front and the rest: of the declaration, where its expressions nest too deep
 abbrev pub fault_place : List ℕ → JragCode → (front rest : List PlacedToken) → Place
@@ -58,13 +59,13 @@ fault_place text Nesting front rest = last_declaration front
 -- The fault of the text: it can't be cut into tokens, or reading stops. Where no file goes on, however deep its expressions
 -- nest, it is a syntax error, or a form begins there that is left out; where one does, they nest too deep. Of want of
 -- memory nothing is said.
-abbrev pub IsFault : List ℕ → Fault JragCode → Type 0
-IsFault text Memory = Unit {0}
-IsFault text (Refused Syntax at) = ((fault : ScanFault) × IsScanFaultAt text at fault)
-    ⊎ ((front : List PlacedToken) × (rest : List PlacedToken) × StopsAt text front rest × (GoesOn IsFile front rest → ⊥) × (MeetsLeftOut front rest → ⊥)
-    × (at ≡ next_place text rest))
-IsFault text (Refused LeftOut at) =
-    (front : List PlacedToken) × (rest : List PlacedToken) × StopsAt text front rest × (GoesOn IsFile front rest → ⊥) × MeetsLeftOut front rest
-    × (at ≡ next_place text rest)
-IsFault text (Refused Nesting at) = (front : List PlacedToken) × (rest : List PlacedToken) × StopsAt text front rest × GoesOn IsFile front rest
-    × (at ≡ last_declaration front)
+abbrev pub IsFault : Forms → List ℕ → Fault JragCode → Type 0
+IsFault forms text Memory = Unit {0}
+IsFault forms text (Refused Syntax at) = ((fault : ScanFault) × IsScanFaultAt text at fault)
+    ⊎ ((front : List PlacedToken) × (rest : List PlacedToken) × StopsAt forms text front rest × (GoesOn (IsFile forms) front rest → ⊥)
+    × (MeetsLeftOut forms front rest → ⊥) × (at ≡ next_place text rest))
+IsFault forms text (Refused LeftOut at) =
+    (front : List PlacedToken) × (rest : List PlacedToken) × StopsAt forms text front rest × (GoesOn (IsFile forms) front rest → ⊥)
+    × MeetsLeftOut forms front rest × (at ≡ next_place text rest)
+IsFault forms text (Refused Nesting at) =
+    (front : List PlacedToken) × (rest : List PlacedToken) × StopsAt forms text front rest × GoesOn (IsFile forms) front rest × (at ≡ last_declaration front)

@@ -1,5 +1,6 @@
 -- Aspects as they are written: which tokens spell each form (.jrag, JastAdd2 reference manual).
--- Each form relates the tokens that are left where it begins to those that are left behind it.
+-- Each form relates the tokens that are left where it begins to those that are left behind it. What is read by an option alone
+-- stands where the forms have it.
 use Rattle.std.specs.Prelude.{◌≡◌, ℕ, ◌+◌, ◌≤◌, ℤ, pos, neg_ℤ, List, [], ◌∷◌, Bool, true, false, ◌&&◌, ◌||◌, Option, Some, None, max, decimal, ◌⊎◌}
 use Rattle.std.specs.List.{AllByRecursion}
 use Rattle.std.specs.Str.{bytes_eq}
@@ -10,6 +11,7 @@ use Rattle.at_text.specs.declared.token.TokenKind.TheVariants as kind
 use Rattle.at_text.specs.Symbols.{PlacedToken, is_word_kind}
 use Rattle.at_text.specs.Rows.{Row, sign, word, is_sign, is_word, next_is}
 use Rattle.at_text.specs.declared.place.Place.{Place}
+use Rattle.at_jrag.specs.declared.Forms.{Forms}
 use Rattle.at_jrag.specs.Syntax as syntax
 use Rattle.at_jrag.specs.Syntax.{Word, Kind, KindWord, Param, Params, Operator, FoldForm, Expr, Exprs, place, Body, Ending, Decl, DeclForm, Aspect}
 
@@ -177,6 +179,10 @@ is_opening text =
 abbrev pub follows_cast : PlacedToken → Bool
 follows_cast t = (is_word_kind t.kind && (is_name t.text || is_opening t.text)) || is_sign (codes "(") t
 
+-- an expression that is neither `true` nor `false` may begin with it
+abbrev pub begins_other : PlacedToken → Bool
+begins_other t = is_number t || (is_text t || (is_sign (codes "-") t || (is_sign (codes "!") t || follows_cast t)))
+
 abbrev mutual
   -- An expression. Its place is that of its first token.
   pub Spells : Expr → Row → Row → Type 0
@@ -280,48 +286,70 @@ abbrev pub EndingOf : Ending → Row → Row → Type 0
 EndingOf (syntax.With b) old rest = BodyOf b old rest
 EndingOf (syntax.Semicolon at) old rest = old ≡ sign (codes ";") at ∷ rest
 
--- ["lazy"] kind name "." name "(" [params] ")"
-abbrev pub Declared : Option Place → KindWord → Word → Word → Params → Row → Row → Type 0
-Declared lazy k class name ps old rest =
-    (kinds : Row) × (owner : Row) × (called : Row)
-    × Lazy lazy old kinds × KindOf k kinds owner × Owner class owner called × Signature name ps called rest
+-- an attribute of this kind may be circular
+abbrev pub may_be_circular : Forms → Kind → Bool
+may_be_circular forms syntax.Int = false
+may_be_circular forms syntax.Bool' = forms.circular
+may_be_circular forms syntax.Text = false
+may_be_circular forms (syntax.Class name) = false
+
+-- "[" ("true" | "false") "]"
+abbrev pub StartOf : Bool → Row → Row → Type 0
+StartOf b old rest = (value : Row) × (close : Row) × Sign (codes "[") old value × Keyword (truth_text b) value close × Sign (codes "]") close rest
+
+-- ["circular" "[" ("true" | "false") "]"], where it may stand
+abbrev pub Circular : Bool → Option Bool → Row → Row → Type 0
+Circular may_stand None old rest = old ≡ rest
+Circular may_stand (Some b) old rest = (may_stand ≡ true) × (bracket : Row) × Keyword (codes "circular") old bracket × StartOf b bracket rest
+
+-- kind name "." name "(" [params] ")" ["circular" "[" ("true" | "false") "]"]
+abbrev pub AttributeOf : Forms → KindWord → Word → Word → Params → Option Bool → Row → Row → Type 0
+AttributeOf forms k class name ps start old rest =
+    (owner : Row) × (called : Row) × (behind : Row) × KindOf k old owner × Owner class owner called × Signature name ps called behind
+    × Circular (may_be_circular forms k.kind) start behind rest
+
+-- ["lazy"] attribute
+abbrev pub Declared : Forms → Option Place → KindWord → Word → Word → Params → Option Bool → Row → Row → Type 0
+Declared forms lazy k class name ps start old rest = (kinds : Row) × Lazy lazy old kinds × AttributeOf forms k class name ps start kinds rest
 
 -- a declaration behind its first word
-abbrev pub Behind : DeclForm → Row → Row → Type 0
-Behind (syntax.Synthesized lazy k class name ps ending) old rest = (end : Row) × Declared lazy k class name ps old end × EndingOf ending end rest
-Behind (syntax.Inherited lazy k class name ps) old rest = (end : Row) × Declared lazy k class name ps old end × Sign (codes ";") end rest
-Behind (syntax.Equation class name ps b) old rest =
+abbrev pub Behind : Forms → DeclForm → Row → Row → Type 0
+Behind forms (syntax.Synthesized lazy k class name ps start ending) old rest =
+    (end : Row) × Declared forms lazy k class name ps start old end × EndingOf ending end rest
+Behind forms (syntax.Inherited lazy k class name ps start) old rest =
+    (end : Row) × Declared forms lazy k class name ps start old end × Sign (codes ";") end rest
+Behind forms (syntax.Equation class name ps b) old rest =
     (called : Row) × (body : Row) × Owner class old called × Signature name ps called body × BodyOf b body rest
-Behind (syntax.InheritedEquation class getter index name ps b) old rest =
+Behind forms (syntax.InheritedEquation class getter index name ps b) old rest =
     (got : Row) × (called : Row) × (body : Row)
     × Owner class old got × Getter getter index got called × Signature name ps called body × BodyOf b body rest
 
 abbrev pub keyword : DeclForm → List ℕ
-keyword (syntax.Synthesized lazy k class name ps ending) = codes "syn"
-keyword (syntax.Inherited lazy k class name ps) = codes "inh"
+keyword (syntax.Synthesized lazy k class name ps start ending) = codes "syn"
+keyword (syntax.Inherited lazy k class name ps start) = codes "inh"
 keyword (syntax.Equation class name ps b) = codes "eq"
 keyword (syntax.InheritedEquation class getter index name ps b) = codes "eq"
 
 -- ("syn" | "inh" | "eq") and what stands behind it
-abbrev pub DeclOf : Decl → Row → Row → Type 0
-DeclOf d old rest = (behind : Row) × (old ≡ word (keyword d.form) d.at ∷ behind) × Behind d.form behind rest
+abbrev pub DeclOf : Forms → Decl → Row → Row → Type 0
+DeclOf forms d old rest = (behind : Row) × (old ≡ word (keyword d.form) d.at ∷ behind) × Behind forms d.form behind rest
 
 -- { decl }
-abbrev pub Decls : List Decl → Row → Row → Type 0
-Decls [] old rest = old ≡ rest
-Decls (d ∷ ds) old rest = (more : Row) × DeclOf d old more × Decls ds more rest
+abbrev pub Decls : Forms → List Decl → Row → Row → Type 0
+Decls forms [] old rest = old ≡ rest
+Decls forms (d ∷ ds) old rest = (more : Row) × DeclOf forms d old more × Decls forms ds more rest
 
 -- "aspect" name "{" { decl } "}"
-abbrev pub AspectOf : Aspect → Row → Row → Type 0
-AspectOf a old rest =
+abbrev pub AspectOf : Forms → Aspect → Row → Row → Type 0
+AspectOf forms a old rest =
     (named : Row) × (brace : Row) × (inner : Row) × (close : Row)
     × Keyword (codes "aspect") old named × Name a.name named brace × Sign (codes "{") brace inner
-    × Decls a.decls inner close × Sign (codes "}") close rest
+    × Decls forms a.decls inner close × Sign (codes "}") close rest
 
 -- { aspect }
-abbrev pub File : List Aspect → Row → Row → Type 0
-File [] old rest = old ≡ rest
-File (a ∷ aspects) old rest = (more : Row) × AspectOf a old more × File aspects more rest
+abbrev pub File : Forms → List Aspect → Row → Row → Type 0
+File forms [] old rest = old ≡ rest
+File forms (a ∷ aspects) old rest = (more : Row) × AspectOf forms a old more × File forms aspects more rest
 
 -- ---- the limit
 
@@ -331,8 +359,8 @@ ending_depth (syntax.Semicolon at) = 0
 
 -- how deep expressions nest in the declaration; 0 where it has none
 abbrev pub nesting : DeclForm → ℕ
-nesting (syntax.Synthesized lazy k class name ps ending) = ending_depth ending
-nesting (syntax.Inherited lazy k class name ps) = 0
+nesting (syntax.Synthesized lazy k class name ps start ending) = ending_depth ending
+nesting (syntax.Inherited lazy k class name ps start) = 0
 nesting (syntax.Equation class name ps b) = depth b.expr
 nesting (syntax.InheritedEquation class getter index name ps b) = depth b.expr
 

@@ -3,6 +3,7 @@ use Rattle.std.specs.Prelude.{◌∷◌, List, [], ℕ, Bool, true, false, Optio
 use Rattle.at_jrag.specs.Syntax as syntax
 use Rattle.at_jrag.specs.Syntax.{Word, Param, Params, Kind}
 use Rattle.at_text.specs.Rows.{Row}
+use Rattle.at_jrag.specs.declared.Forms.{Forms}
 use Rattle.at_jrag.specs.Grammar.{Owner, Opens, Listed, Signature, Declared}
 use Rattle.at_jrag.specs.View.{word_view, kind_word_view, params_view}
 use Rattle.at_jrag.specs.declared.reader.declarations.Head.{Head}
@@ -16,8 +17,9 @@ ParamsOf name ps old rest = (list : Row) × Opens name old list × Listed ps.ite
 abbrev pub TargetOf : Target → Row → Row → Type 0
 TargetOf t old rest = (called : Row) × Owner (word_view t.class) old called × Signature (word_view t.name) (params_view t.params) called rest
 
-abbrev pub HeadOf : Head → Row → Row → Type 0
-HeadOf h old rest = Declared h.lazy (kind_word_view h.kind) (word_view h.class) (word_view h.name) (params_view h.params) old rest
+abbrev pub HeadOf : Forms → Head → Row → Row → Type 0
+HeadOf forms h old rest =
+    Declared forms h.lazy (kind_word_view h.kind) (word_view h.class) (word_view h.name) (params_view h.params) h.start old rest
 
 abbrev pub is_int : Kind → Bool
 is_int syntax.Int = true

@@ -119,10 +119,10 @@ pub data Ending : Type 0 where
   With : Body → Ending
   Semicolon : Place → Ending
 
--- where `lazy` is written, its place is kept
+-- where `lazy` is written, its place is kept; a circular attribute has a start
 pub data DeclForm : Type 0 where
-  Synthesized : (lazy : Option Place) → KindWord → (class name : Word) → Params → Ending → DeclForm
-  Inherited : (lazy : Option Place) → KindWord → (class name : Word) → Params → DeclForm
+  Synthesized : (lazy : Option Place) → KindWord → (class name : Word) → Params → (start : Option Bool) → Ending → DeclForm
+  Inherited : (lazy : Option Place) → KindWord → (class name : Word) → Params → (start : Option Bool) → DeclForm
   Equation : (class name : Word) → Params → Body → DeclForm
   InheritedEquation : (class getter : Word) → (index : Option Word) → (name : Word) → Params → Body → DeclForm
 

@@ -7,9 +7,10 @@ use Rattle.at_text.specs.declared.token.TokenKind.TheVariants as kind
 use Rattle.at_text.specs.Faults.{makes_escape}
 use Rattle.at_text.specs.Symbols.{PlacedToken, is_word_kind, is_sign_kind}
 use Rattle.at_text.specs.Rows.{is_sign, is_word, is_name_token}
-use Rattle.at_jrag.specs.Grammar.{is_number, follows_cast, max_nesting}
+use Rattle.at_jrag.specs.declared.Forms.{Forms}
+use Rattle.at_jrag.specs.Grammar.{is_number, follows_cast, begins_other, max_nesting}
 use Rattle.at_text.specs.Machine.{Answer, Takes, Skips, Refuses, LeavesOut, and_then, Table}
-use Rattle.at_jrag.specs.Wants.{Want, Expression, Binary, Links, Choice, Otherwise, Unary, Minus, Opened, Enclosed, Parenthesized, Calls, Called, Arguments, FirstArgument, MoreArguments, Primary, Named, FoldBody, Deeper, Join, Deepest, Counts, Name, Mark, File, Decls, Lazy, NotNta, Kind, Signed, Opening, Params, OneParam, MoreParams, NotCircular, Ending, Body, Defined, Return, Close}
+use Rattle.at_jrag.specs.Wants.{Want, Expression, Binary, Links, Choice, Otherwise, Unary, Minus, Opened, Enclosed, Parenthesized, Calls, Called, Arguments, FirstArgument, MoreArguments, Primary, Named, FoldBody, Deeper, Join, Deepest, Counts, Name, Mark, File, Decls, Lazy, NotNta, Attribute, Kind, Signed, Opening, Params, OneParam, MoreParams, Circular, Bracket, Start, Ending, Body, Defined, Return, Close}
 
 -- ---- the next token
 
@@ -198,20 +199,21 @@ parenthesized_answer b d s = on (next follows_cast s) (and_then (unary_answer (b
 abbrev pub no_keyword : PlacedToken → Answer Want
 no_keyword t = cond (is_word_kind t.kind) LeavesOut Refuses
 
-abbrev pub declared : List Want → List Want
-declared ws = Lazy ∷ Kind ∷ Name ∷ Mark (codes ".") ∷ Signed ∷ NotCircular ∷ ws
+abbrev pub declared : Forms → List Want → List Want
+declared forms ws = Lazy ∷ Attribute forms ∷ ws
 
-abbrev pub file_answer : Option PlacedToken → Answer Want
-file_answer None = Skips 0
-file_answer (Some t) = on (is_word (codes "aspect") t) (Takes true (Name ∷ Mark (codes "{") ∷ Decls ∷ File ∷ []) 0) (no_keyword t)
+abbrev pub file_answer : Forms → Option PlacedToken → Answer Want
+file_answer forms None = Skips 0
+file_answer forms (Some t) =
+    on (is_word (codes "aspect") t) (Takes true (Name ∷ Mark (codes "{") ∷ Decls forms ∷ File forms ∷ []) 0) (no_keyword t)
 
-abbrev pub decls_answer : Option PlacedToken → Answer Want
-decls_answer None = Refuses
-decls_answer (Some t) =
+abbrev pub decls_answer : Forms → Option PlacedToken → Answer Want
+decls_answer forms None = Refuses
+decls_answer forms (Some t) =
     on (is_sign (codes "}") t) (Takes true [] 0)
-    (on (is_word (codes "syn") t) (Takes true (declared (Ending ∷ Decls ∷ [])) 0)
-    (on (is_word (codes "inh") t) (Takes true (declared (Mark (codes ";") ∷ Decls ∷ [])) 0)
-    (on (is_word (codes "eq") t) (Takes true (Name ∷ Mark (codes ".") ∷ Signed ∷ Defined ∷ Decls ∷ []) 0) (no_keyword t))))
+    (on (is_word (codes "syn") t) (Takes true (declared forms (Ending ∷ Decls forms ∷ [])) 0)
+    (on (is_word (codes "inh") t) (Takes true (declared forms (Mark (codes ";") ∷ Decls forms ∷ [])) 0)
+    (on (is_word (codes "eq") t) (Takes true (Name ∷ Mark (codes ".") ∷ Signed ∷ Defined ∷ Decls forms ∷ []) 0) (no_keyword t))))
 
 abbrev pub not_nta_answer : Option PlacedToken → Answer Want
 not_nta_answer s = on (next (is_word (codes "nta")) s) LeavesOut (Skips 0)
@@ -221,6 +223,14 @@ lazy_answer s = on (next (is_word (codes "lazy")) s) (Takes true (NotNta ∷ [])
 
 abbrev pub is_kind : PlacedToken → Bool
 is_kind t = is_word (codes "int") t || is_word (codes "boolean") t || is_word (codes "String") t || is_name_token t
+
+-- behind a kind: the attribute's names and parameters, and whether it is circular
+abbrev pub named : Bool → List Want
+named may_stand = Name ∷ Mark (codes ".") ∷ Signed ∷ Circular may_stand ∷ []
+
+abbrev pub attribute_answer : Forms → Option PlacedToken → Answer Want
+attribute_answer forms None = Refuses
+attribute_answer forms (Some t) = on (is_kind t) (Takes true (named (is_word (codes "boolean") t && forms.circular)) 0) Refuses
 
 abbrev pub signed_answer : Option PlacedToken → Answer Want
 signed_answer None = Refuses
@@ -241,6 +251,16 @@ params_answer g (Some t) =
 abbrev pub body_answer : Option PlacedToken → Answer Want
 body_answer s = on (next (is_sign (codes "=")) s) (Takes true (Expression max_nesting ∷ Mark (codes ";") ∷ []) 0)
     (expects (is_sign (codes "{")) (Takes true (Return ∷ Expression max_nesting ∷ Mark (codes ";") ∷ Close ∷ []) 0) s)
+
+abbrev pub circular_answer : Bool → Option PlacedToken → Answer Want
+circular_answer may_stand s =
+    on (next (is_word (codes "circular")) s) (cond may_stand (Takes true (Bracket ∷ Mark (codes "]") ∷ Circular false ∷ []) 0) LeavesOut) (Skips 0)
+
+-- another expression is left out
+abbrev pub start_answer : Option PlacedToken → Answer Want
+start_answer s =
+    on (next (is_word (codes "true")) s) (Takes true [] 0)
+    (on (next (is_word (codes "false")) s) (Takes true [] 0) (on (next begins_other s) LeavesOut Refuses))
 
 abbrev pub ending_answer : Option PlacedToken → Answer Want
 ending_answer s = on (next (is_sign (codes ";")) s) (Takes true [] 0) (body_answer s)
@@ -281,17 +301,20 @@ table (Deepest m) d s = Skips (max m d)
 table (Counts n) d s = Skips n
 table Name d s = expects is_name_token (Takes true [] d) s
 table (Mark text) d s = expects (is_sign text) (Takes true [] d) s
-table File d s = file_answer s
-table Decls d s = decls_answer s
+table (File forms) d s = file_answer forms s
+table (Decls forms) d s = decls_answer forms s
 table Lazy d s = lazy_answer s
 table NotNta d s = not_nta_answer s
+table (Attribute forms) d s = attribute_answer forms s
 table Kind d s = expects is_kind (Takes true [] 0) s
 table Signed d s = signed_answer s
 table (Opening g) d s = expects (is_sign (codes "(")) (Takes true (Params g ∷ []) 0) s
 table (Params g) d s = params_answer g s
 table OneParam d s = more_params_answer 0 s
 table MoreParams d s = more_params_answer 1 s
-table NotCircular d s = on (next (is_word (codes "circular")) s) LeavesOut (Skips 0)
+table (Circular may_stand) d s = circular_answer may_stand s
+table Bracket d s = expects (is_sign (codes "[")) (Takes true (Start ∷ []) 0) s
+table Start d s = start_answer s
 table Ending d s = ending_answer s
 table Body d s = body_answer s
 table Defined d s = defined_answer d s

@@ -105,10 +105,10 @@ ending_view (ending.Body b) = syntax.With (body_view b)
 ending_view (ending.Semicolon at) = syntax.Semicolon at
 
 abbrev pub decl_form_view : DeclFormValue → DeclForm
-decl_form_view (decl.Synthesized lazy kind class name params end) =
-    syntax.Synthesized lazy (kind_word_view kind) (word_view class) (word_view name) (params_view params) (ending_view end)
-decl_form_view (decl.Inherited lazy kind class name params) =
-    syntax.Inherited lazy (kind_word_view kind) (word_view class) (word_view name) (params_view params)
+decl_form_view (decl.Synthesized lazy kind class name params start end) =
+    syntax.Synthesized lazy (kind_word_view kind) (word_view class) (word_view name) (params_view params) start (ending_view end)
+decl_form_view (decl.Inherited lazy kind class name params start) =
+    syntax.Inherited lazy (kind_word_view kind) (word_view class) (word_view name) (params_view params) start
 decl_form_view (decl.Equation class name params b) = syntax.Equation (word_view class) (word_view name) (params_view params) (body_view b)
 decl_form_view (decl.InheritedEquation class getter index name params b) =
     syntax.InheritedEquation (word_view class) (word_view getter) (option_map word_view index) (word_view name) (params_view params) (body_view b)

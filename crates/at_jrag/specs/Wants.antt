@@ -1,5 +1,6 @@
 -- What a reader of aspects may still want.
 use Rattle.std.specs.Prelude.{ℕ, List, Bool}
+use Rattle.at_jrag.specs.declared.Forms.{Forms}
 
 -- Each form of an expression carries how deep it may nest. Operators between two are counted from the strongest: rank 1
 -- is `*` and its like, rank 6 is `||`, and rank 0 stands for no operator.
@@ -39,12 +40,14 @@ pub data Want : Type 0 where
   Mark : (text : List ℕ) → Want
   -- ---- declarations
   -- { aspect }, up to the end
-  File : Want
+  File : (forms : Forms) → Want
   -- { decl } "}"
-  Decls : Want
+  Decls : (forms : Forms) → Want
   -- ["lazy"], and behind it
   Lazy : Want
   NotNta : Want
+  -- behind that, up to the ending
+  Attribute : (forms : Forms) → Want
   Kind : Want
   -- name "(" [params] ")", behind the name, and behind the "("; the register is 0 behind what may be a getter's
   Signed : Want
@@ -53,8 +56,11 @@ pub data Want : Type 0 where
   -- behind an `int` alone, and behind other parameters
   OneParam : Want
   MoreParams : Want
-  -- behind the parameters of a declared attribute
-  NotCircular : Want
+  -- behind the parameters of a declared attribute: ["circular" "[" ("true" | "false") "]"], where it may stand; from its "[" on,
+  -- and behind that
+  Circular : (may_stand : Bool) → Want
+  Bracket : Want
+  Start : Want
   Ending : Want
   Body : Want
   -- behind the parameters of an equation

@@ -31,6 +31,8 @@ ghost use Rattle.at_jrag.specs.Syntax as written;
 ghost use Rattle.at_jrag.specs.Grammar.{File, IsWithin};
 ghost use Rattle.at_jrag.specs.declared.JragCode.TheVariants.{Syntax};
 
+#[cfg(test)]
+mod circular_cases;
 mod declared;
 mod reader;
 mod syntax;
@@ -57,6 +59,18 @@ pub enum JragCode {
     LeftOut,
     /// Expressions nest deeper than 64 in the declaration that begins here.
     Nesting,
+}
+
+/// Which forms of JastAdd's aspects are read that are left out where they aren't named.
+#[derive(Clone, Copy, PartialEq, Eq, Debug)]
+pub struct Forms {
+    /// `circular [true]` and `circular [false]` behind the parameters of a `boolean` attribute.
+    pub circular: bool,
+}
+
+impl Forms {
+    /// None of them.
+    pub const NONE: Forms = Forms { circular: false };
 }
 
 /// Why a text holds no aspects: its code and its place, or want of memory.
@@ -89,7 +103,7 @@ fn fault_place(text: &str, tokens: &[Placed<'_>], count: usize, code: JragCode) 
     }
 }
 
-/// The aspects that the text spells, in order.
+/// The aspects that the text spells, in order; of the forms that are left out else, these are read.
 ///
 /// # Errors
 ///
@@ -97,18 +111,18 @@ fn fault_place(text: &str, tokens: &[Placed<'_>], count: usize, code: JragCode) 
 /// text: `LeftOut` where a form begins there that is left out, and only there. `Syntax` where the
 /// text can't be cut into tokens, which comes before all. `Nesting` where files go on with that
 /// token, but none in which expressions nest at most 64 deep. `Memory` for want of memory.
-pub fn parse_jrag(alloc: Global, text: &str) -> Result<Vec<Aspect>, JragFault>
+pub fn parse_jrag(alloc: Global, text: &str, forms: Forms) -> Result<Vec<Aspect>, JragFault>
     // What is read is what the tokens of the text spell, and its expressions nest at most 64 deep.
     ensures found { IfOk result (λ v. (tokens : List PlacedToken) × HasTokens text.now tokens
-        × File (map aspect_view v.items) tokens [] × IsWithin (map aspect_view v.items)) }
+        × File forms (map aspect_view v.items) tokens [] × IsWithin (map aspect_view v.items)) }
     // A text that can't be cut into tokens is refused where that is met, whatever stands before it.
     ensures uncut { (fault : ScanFault) (at : Place) → IsScanFaultAt text.now at fault
         → MatchResult result (λ v. ⊥) (λ e. (e ≡ Memory) ⊎ (e ≡ Refused Syntax at)) }
     // Of a text that spells aspects whose expressions nest at most 64 deep, these are what is read, unless memory runs out.
-    ensures only { (tokens : List PlacedToken) (aspects : List written.Aspect) → HasTokens text.now tokens → File aspects tokens []
+    ensures only { (tokens : List PlacedToken) (aspects : List written.Aspect) → HasTokens text.now tokens → File forms aspects tokens []
         → IsWithin aspects → MatchResult result (λ v. map aspect_view v.items ≡ aspects) (λ e. e ≡ Memory) }
     // A fault is the first one: what stands before it begins such a text, and none goes on there.
-    ensures fault { IfErr result (IsFault text.now) }
+    ensures fault { IfErr result (IsFault forms text.now) }
 {
     let tokens = match lexemes(alloc, text) {
         Ok(tokens) => tokens,
@@ -116,7 +130,7 @@ pub fn parse_jrag(alloc: Global, text: &str) -> Result<Vec<Aspect>, JragFault>
     };
     let tokens = place_all(alloc, text, &tokens)?;
     let mut reader = Reader::new(alloc, &tokens);
-    match reader.file() {
+    match reader.file(forms) {
         Ok(aspects) => Ok(aspects),
         Err(Failure::For(code)) => {
             let at = fault_place(text, &tokens, reader.cursor.count_left(), code);

@@ -12,6 +12,7 @@ mod expressions;
 mod forms;
 mod literals;
 mod operators;
+mod starts;
 
 use crate::JragCode;
 use crate::syntax::Word;

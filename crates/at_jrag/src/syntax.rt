@@ -82,7 +82,8 @@ pub enum Ending {
     Semicolon(Place),
 }
 
-/// A declaration of an aspect. Where `lazy` is written, its place is kept.
+/// A declaration of an aspect. Where `lazy` is written, its place is kept. The start of an attribute is the value that it
+/// begins with where it is circular.
 #[derive(Drop)]
 pub enum DeclForm {
     /// `syn KIND CLASS.NAME(..)` with its body, or with a `;`.
@@ -92,6 +93,7 @@ pub enum DeclForm {
         class: Word,
         name: Word,
         params: Params,
+        start: Option<bool>,
         ending: Ending,
     },
     /// `inh KIND CLASS.NAME(..);`
@@ -101,6 +103,7 @@ pub enum DeclForm {
         class: Word,
         name: Word,
         params: Params,
+        start: Option<bool>,
     },
     /// `eq CLASS.NAME(..) BODY`
     Equation {

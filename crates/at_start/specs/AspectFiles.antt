@@ -1,5 +1,5 @@
 -- Which rules aspect files give, and by which fault of which file they are refused.
-use Rattle.std.specs.Prelude.{◌≡◌, ℕ, ◌+◌, List, [], ◌∷◌, ◌++◌, length, Some, None, Ok, Err}
+use Rattle.std.specs.Prelude.{◌≡◌, ℕ, ◌+◌, List, [], ◌∷◌, ◌++◌, length, false, Some, None, Ok, Err}
 use Rattle.at_model.specs.Classes.{Classes}
 use Rattle.at_model.specs.Rules.{Rules}
 use Rattle.at_text.specs.Symbols.{PlacedToken, HasTokens}
@@ -8,6 +8,7 @@ use Rattle.at_text.specs.Place.{first_place}
 use Rattle.at_jrag.specs.Syntax.{Aspect}
 use Rattle.at_jrag.specs.Grammar.{File, IsWithin}
 use Rattle.at_jrag.specs.Faults.{IsFault}
+use Rattle.at_jrag.specs.declared.Forms.{Forms}
 use Rattle.at_jrag.specs.declared.JragCode.{JragCode}
 use Rattle.at_jrag.specs.declared.JragCode.TheVariants as jrag
 use Rattle.at_start.specs.Files.{IsText, IsNoText, max_file}
@@ -24,12 +25,16 @@ use Rattle.at_text.specs.declared.fault.Fault.TheVariants as fault
 use Rattle.at_start.specs.declared.fault.StartFault.{StartFault}
 use Rattle.at_start.specs.declared.fault.StartFault.TheVariants as start
 
+-- none of the forms is read that are left out where they aren't named
+abbrev pub no_forms : Forms
+no_forms = record { circular = false }
+
 -- the file is a text that spells the aspects, whose expressions don't nest too deep
 pub record Holds (bytes : List ℕ) (aspects : List Aspect) : Type 0 where
   pub text : IsText max_file bytes
   pub tokens : List PlacedToken
   pub cut : HasTokens bytes tokens
-  pub spells : File aspects tokens []
+  pub spells : File no_forms aspects tokens []
   pub within : IsWithin aspects
 
 -- each file holds its aspects
@@ -47,7 +52,7 @@ jrag_code jrag.Nesting = code.AspectLimit
 -- the file is refused by the code at the place: it is no text, or this is the fault of its text
 pub data RefusesReading (bytes : List ℕ) : Code → Place → Type 0 where
   no_text : (c : Code) → IsNoText max_file bytes code.AspectLimit code.AspectSyntax c → RefusesReading bytes c first_place
-  no_aspects : (c : JragCode) (at : Place) → IsText max_file bytes → IsFault bytes (fault.Refused c at) → RefusesReading bytes (jrag_code c) at
+  no_aspects : (c : JragCode) (at : Place) → IsText max_file bytes → IsFault no_forms bytes (fault.Refused c at) → RefusesReading bytes (jrag_code c) at
 
 -- the fault is one by which the file is refused; of want of memory nothing is said
 abbrev pub IsReadingFaultOf : List ℕ → Fault Code → Type 0

@@ -12,7 +12,7 @@ use super::fault::{StartFault, of_file};
 use super::files::{MAX_FILE, Source, text_of};
 use crate::code::Code;
 use at_class::ClassTable;
-use at_jrag::{Aspect, JragCode, parse_jrag};
+use at_jrag::{Aspect, Forms, JragCode, parse_jrag};
 use at_kinds::RuleCode;
 use at_rules::Rules;
 use at_text::fault::{Failure, Fault};
@@ -63,7 +63,7 @@ fn read(alloc: Global, bytes: &[u8]) -> Result<Vec<Aspect>, Fault<Code>>
             });
         }
     };
-    match parse_jrag(alloc, text) {
+    match parse_jrag(alloc, text, Forms::NONE) {
         Ok(aspects) => Ok(aspects),
         Err(fault) => Err(fault.map_code(jrag_code)),
     }

@@ -169,9 +169,9 @@ module _ (rules : Rules) (ds : List Located) (zip : AllZip (Declares rules.class
         then_holds (IsOwnTyped rules) AddsTyped (declared_with a) (own_meant rules.classes ds d body a.class) (own_right d body a.class ints (of.declared []).class no_index) (λ e typed. (typed, tt))
 
     form_right : (d : Located) (form : DeclForm) → d.decl.form ≡ form → AreIntsIn d → Holds AddsTyped (form_meant rules.classes ds d form)
-    form_right d (written.Synthesized lazy result class name params ending) at ints =
+    form_right d (written.Synthesized lazy result class name params start ending) at ints =
         then_holds (IsOfWord rules.classes d result) AddsTyped (with_body rules.classes ds d (body_in d.decl.form)) (attribute_meant rules.classes d result) (attribute_right rules.classes d result) (λ a of. with_body_right d result a (body_in d.decl.form) of (ap index_in at) ints)
-    form_right d (written.Inherited lazy result class name params) at ints = none_holds AddsTyped declared_alone (attribute_meant rules.classes d result) (λ a. (tt, tt))
+    form_right d (written.Inherited lazy result class name params start) at ints = none_holds AddsTyped declared_alone (attribute_meant rules.classes d result) (λ a. (tt, tt))
     form_right d (written.Equation class name params body) at ints =
         then_holds (λ c. class_of_name rules.classes class.text ≡ Some c) AddsTyped (λ c. and_then own_alone (own_meant rules.classes ds d body c)) (class_named rules.classes class) (class_named_right rules.classes class) (λ c is.
         then_holds (IsOwnTyped rules) AddsTyped own_alone (own_meant rules.classes ds d body c) (own_right d body c (ints_of d body (ap body_in at) ints) (ap (λ f. class_of_name rules.classes (class_word f).text) at ∙ is) (ap index_in at)) (λ e typed. (typed, tt)))

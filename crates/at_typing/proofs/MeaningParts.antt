@@ -110,8 +110,8 @@ synthesized_of classes ds d result m declares none is =
         moved classes ds d _ m found.2 (record { declares = sym declares; attribute = of; own = own_of_words classes ds d body a.class found.0 has of.1 found.1; inherited = tt })
 
 of_form : (classes : Classes) (ds : List Located) (d : Located) (m : Meaning) (form : DeclForm) → d.decl.form ≡ form → form_meant classes ds d form ≡ Is m → IsOf classes ds d m
-of_form classes ds d m (written.Synthesized lazy result class name params ending) at is = synthesized_of classes ds d result m (ap is_attribute at) (ap getter_in at) is
-of_form classes ds d m (written.Inherited lazy result class name params) at is =
+of_form classes ds d m (written.Synthesized lazy result class name params start ending) at is = synthesized_of classes ds d result m (ap is_attribute at) (ap getter_in at) is
+of_form classes ds d m (written.Inherited lazy result class name params start) at is =
     let found = part_of _ (attribute_meant classes d result) m is in
     moved classes ds d _ m found.2 (record { declares = sym (ap is_attribute at); attribute = attribute_of_words classes d result found.0 (ap is_attribute at) found.1; own = tt; inherited = tt })
 of_form classes ds d m (written.Equation class name params body) at is =

@@ -26,49 +26,49 @@ fault_if b c d = if b then Some (fault_at c d d.decl.at) else None
 
 -- it declares an attribute
 abbrev pub is_attribute : DeclForm → Bool
-is_attribute (Synthesized lazy kind class name params ending) = true
-is_attribute (Inherited lazy kind class name params) = true
+is_attribute (Synthesized lazy kind class name params start ending) = true
+is_attribute (Inherited lazy kind class name params start) = true
 is_attribute (Equation class name params body) = false
 is_attribute (InheritedEquation class getter index name params body) = false
 
 -- it declares an inherited attribute
 abbrev pub is_inherited : DeclForm → Bool
-is_inherited (Synthesized lazy kind class name params ending) = false
-is_inherited (Inherited lazy kind class name params) = true
+is_inherited (Synthesized lazy kind class name params start ending) = false
+is_inherited (Inherited lazy kind class name params start) = true
 is_inherited (Equation class name params body) = false
 is_inherited (InheritedEquation class getter index name params body) = false
 
 -- the kind of the attribute that is declared
 abbrev pub result_in : DeclForm → Option KindWord
-result_in (Synthesized lazy kind class name params ending) = Some kind
-result_in (Inherited lazy kind class name params) = Some kind
+result_in (Synthesized lazy kind class name params start ending) = Some kind
+result_in (Inherited lazy kind class name params start) = Some kind
 result_in (Equation class name params body) = None
 result_in (InheritedEquation class getter index name params body) = None
 
 abbrev pub params_in : DeclForm → Params
-params_in (Synthesized lazy kind class name params ending) = params
-params_in (Inherited lazy kind class name params) = params
+params_in (Synthesized lazy kind class name params start ending) = params
+params_in (Inherited lazy kind class name params start) = params
 params_in (Equation class name params body) = params
 params_in (InheritedEquation class getter index name params body) = params
 
 -- the values of the attribute that is declared are kept
 abbrev pub is_lazy : DeclForm → Bool
-is_lazy (Synthesized lazy kind class name params ending) = is_some lazy
-is_lazy (Inherited lazy kind class name params) = is_some lazy
+is_lazy (Synthesized lazy kind class name params start ending) = is_some lazy
+is_lazy (Inherited lazy kind class name params start) = is_some lazy
 is_lazy (Equation class name params body) = false
 is_lazy (InheritedEquation class getter index name params body) = false
 
 -- the getter of the component for whose nodes an inherited equation stands
 abbrev pub getter_in : DeclForm → Option Word
-getter_in (Synthesized lazy kind class name params ending) = None
-getter_in (Inherited lazy kind class name params) = None
+getter_in (Synthesized lazy kind class name params start ending) = None
+getter_in (Inherited lazy kind class name params start) = None
 getter_in (Equation class name params body) = None
 getter_in (InheritedEquation class getter index name params body) = Some getter
 
 -- the name of an inherited equation's index
 abbrev pub index_in : DeclForm → Option Word
-index_in (Synthesized lazy kind class name params ending) = None
-index_in (Inherited lazy kind class name params) = None
+index_in (Synthesized lazy kind class name params start ending) = None
+index_in (Inherited lazy kind class name params start) = None
 index_in (Equation class name params body) = None
 index_in (InheritedEquation class getter index name params body) = index
 
@@ -78,8 +78,8 @@ body_at (Semicolon at) = None
 
 -- the body of its equation
 abbrev pub body_in : DeclForm → Option Body
-body_in (Synthesized lazy kind class name params ending) = body_at ending
-body_in (Inherited lazy kind class name params) = None
+body_in (Synthesized lazy kind class name params start ending) = body_at ending
+body_in (Inherited lazy kind class name params start) = None
 body_in (Equation class name params body) = Some body
 body_in (InheritedEquation class getter index name params body) = Some body
 
@@ -268,8 +268,8 @@ is_inherited_name ds name = list_any (λ d. is_inherited d.decl.form && bytes_eq
 
 -- it is no equation, or that of an attribute which is declared
 abbrev pub is_of_attribute : Classes → List Located → DeclForm → Bool
-is_of_attribute classes ds (Synthesized lazy kind class name params ending) = true
-is_of_attribute classes ds (Inherited lazy kind class name params) = true
+is_of_attribute classes ds (Synthesized lazy kind class name params start ending) = true
+is_of_attribute classes ds (Inherited lazy kind class name params start) = true
 is_of_attribute classes ds (Equation class name params body) = is_synthesized classes ds class.text name.text
 is_of_attribute classes ds (InheritedEquation class getter index name params body) = is_inherited_name ds name.text
 

@@ -2,6 +2,7 @@
 use Rattle.std.specs.Prelude.{ℕ, ◌+◌, List, [], ◌∷◌, ◌++◌, map, Vec}
 use Rattle.std.specs.List.{flat_map, AllByRecursion}
 use Rattle.at_text.specs.Rows.{Row}
+use Rattle.at_jrag.specs.declared.Forms.{Forms}
 use Rattle.at_jrag.specs.Grammar.{File}
 use Rattle.at_jrag.specs.Syntax.{Word, DeclForm, Synthesized, Inherited, Equation, InheritedEquation, Decl, Aspect}
 use Rattle.at_jrag.specs.View.{aspect_view, decl_view}
@@ -28,15 +29,15 @@ located_view d = record { file = d.file; decl = decl_view d.decl.now }
 
 -- the class that is named
 abbrev pub class_word : DeclForm → Word
-class_word (Synthesized lazy kind class name params ending) = class
-class_word (Inherited lazy kind class name params) = class
+class_word (Synthesized lazy kind class name params start ending) = class
+class_word (Inherited lazy kind class name params start) = class
 class_word (Equation class name params body) = class
 class_word (InheritedEquation class getter index name params body) = class
 
 -- the attribute's name
 abbrev pub name_word : DeclForm → Word
-name_word (Synthesized lazy kind class name params ending) = name
-name_word (Inherited lazy kind class name params) = name
+name_word (Synthesized lazy kind class name params start ending) = name
+name_word (Inherited lazy kind class name params start) = name
 name_word (Equation class name params body) = name
 name_word (InheritedEquation class getter index name params body) = name
 
@@ -44,9 +45,9 @@ name_word (InheritedEquation class getter index name params body) = name
 abbrev pub declarations_in : {Z : Type 0} → List (Vec AspectValue Z) → List Located
 declarations_in files = located 1 (map (λ f. map aspect_view f.items) files)
 
--- there are tokens that spell the aspects
+-- there are tokens that spell the aspects, whatever forms are read
 abbrev pub IsSpelled : List Aspect → Type 0
-IsSpelled as' = (tokens : Row) × File as' tokens []
+IsSpelled as' = (forms : Forms) × (tokens : Row) × File forms as' tokens []
 
 -- so it is with the aspects of each file
 abbrev pub AreSpelled : {Z : Type 0} → List (Vec AspectValue Z) → Type 0

@@ -155,8 +155,8 @@ abbrev pub equation_below_meant : Classes → List Located → Located → (clas
 equation_below_meant classes ds d class getter index body = and_then (below_class classes ds d getter index body) (class_named classes class)
 
 abbrev pub form_meant : Classes → List Located → Located → DeclForm → Judgement Meaning
-form_meant classes ds d (Synthesized lazy result class name params ending) = synthesized_meant classes ds d result
-form_meant classes ds d (Inherited lazy result class name params) = and_then declared_alone (attribute_meant classes d result)
+form_meant classes ds d (Synthesized lazy result class name params start ending) = synthesized_meant classes ds d result
+form_meant classes ds d (Inherited lazy result class name params start) = and_then declared_alone (attribute_meant classes d result)
 form_meant classes ds d (Equation class name params body) = equation_meant classes ds d class body
 form_meant classes ds d (InheritedEquation class getter index name params body) = equation_below_meant classes ds d class getter index body
 

@@ -13,7 +13,7 @@ one n = Number (column n) (pos 1)
 
 -- syn int Program.a() = E;
 abbrev pub program_int : Expr → DeclForm
-program_int e = Synthesized None (kind Int 16) (word (codes "Program") 20) (word (codes "a") 28) (no_params 30) (With (equals 32 e))
+program_int e = Synthesized None (kind Int 16) (word (codes "Program") 20) (word (codes "a") 28) (no_params 30) None (With (equals 32 e))
 
 -- syn int Program.a() = b();
 abbrev pub calls_nothing : List Located
@@ -23,7 +23,7 @@ calls_nothing = declared 12 (program_int (call (codes "b") 34 [])) ∷ []
 abbrev pub passes_an_int : List Located
 passes_an_int =
     declared 12 (Synthesized None (kind Int 16) (word (codes "Program") 20) (word (codes "a") 28)
-    (record { items = record { kind = kind Int 30; name = word (codes "n") 34 } ∷ []; end = column 35 }) (With (equals 37 (one 39)))) ∷ []
+    (record { items = record { kind = kind Int 30; name = word (codes "n") 34 } ∷ []; end = column 35 }) None (With (equals 37 (one 39)))) ∷ []
 
 -- syn int Program.a() = true;
 abbrev pub is_a_boolean : List Located
@@ -33,7 +33,7 @@ is_a_boolean = declared 12 (program_int (Truth (column 34) true)) ∷ []
 abbrev pub compares_texts : List Located
 compares_texts =
     declared 12 (Synthesized None (kind Bool' 16) (word (codes "Use") 24) (word (codes "a") 28) (no_params 30)
-    (With (equals 32 (written.Binary (column 34) written.Same (column 42) (call (codes "getID") 34 []) (TextLiteral (column 45) (codes "x")))))) ∷ []
+    None (With (equals 32 (written.Binary (column 34) written.Same (column 42) (call (codes "getID") 34 []) (TextLiteral (column 45) (codes "x")))))) ∷ []
 
 -- syn int Program.a() = 1; eq Program.a() = 2;
 abbrev pub has_two_equations : List Located
@@ -46,7 +46,7 @@ has_two_equations =
 abbrev pub is_declared_twice : List Located
 is_declared_twice =
     declared 12 (program_int (one 34))
-    ∷ declared 37 (Synthesized None (kind Int 41) (word (codes "Program") 45) (word (codes "a") 53) (no_params 55) (With (equals 57 (one 59))))
+    ∷ declared 37 (Synthesized None (kind Int 41) (word (codes "Program") 45) (word (codes "a") 53) (no_params 55) None (With (equals 57 (one 59))))
     ∷ []
 
 -- eq Program.a() = 1;
@@ -56,11 +56,11 @@ is_of_no_attribute = declared 12 (Equation (word (codes "Program") 15) (word (co
 -- syn int Program.getBlock() = 1;
 abbrev pub is_an_accessor : List Located
 is_an_accessor =
-    declared 12 (Synthesized None (kind Int 16) (word (codes "Program") 20) (word (codes "getBlock") 28) (no_params 37) (With (equals 39 (one 41)))) ∷ []
+    declared 12 (Synthesized None (kind Int 16) (word (codes "Program") 20) (word (codes "getBlock") 28) (no_params 37) None (With (equals 39 (one 41)))) ∷ []
 
 -- inh int Expr.q();
 abbrev pub inherits : Located
-inherits = declared 12 (Inherited None (kind Int 16) (word (codes "Expr") 20) (word (codes "q") 25) (no_params 27))
+inherits = declared 12 (Inherited None (kind Int 16) (word (codes "Expr") 20) (word (codes "q") 25) (no_params 27) None)
 
 -- inh int Expr.q(); eq Stmt.getExpr().q() = 1;
 abbrev pub is_of_no_component : List Located
@@ -72,7 +72,7 @@ is_of_no_component =
 -- syn int Stmt.a();
 abbrev pub has_no_equation : List Located
 has_no_equation =
-    declared 12 (Synthesized None (kind Int 16) (word (codes "Stmt") 20) (word (codes "a") 25) (no_params 27) (Semicolon (column 28))) ∷ []
+    declared 12 (Synthesized None (kind Int 16) (word (codes "Stmt") 20) (word (codes "a") 25) (no_params 27) None (Semicolon (column 28))) ∷ []
 
 -- inh int Expr.q();
 abbrev pub has_none_above : List Located

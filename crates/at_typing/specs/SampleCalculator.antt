@@ -45,10 +45,10 @@ returns at e = record { at = at; form = Block; expr = e }
 
 -- syn K C.a(..) with a body or without, and with `lazy`
 abbrev pub syn : Place → Kind → List ℕ → List ℕ → Params → Body → DeclForm
-syn at k c a ps b = Synthesized None (kind at k) (word at c) (word at a) ps (With b)
+syn at k c a ps b = Synthesized None (kind at k) (word at c) (word at a) ps None (With b)
 
 abbrev pub syn_lazy : Place → Kind → List ℕ → List ℕ → Params → Body → DeclForm
-syn_lazy at k c a ps b = Synthesized (Some at) (kind at k) (word at c) (word at a) ps (With b)
+syn_lazy at k c a ps b = Synthesized (Some at) (kind at k) (word at c) (word at a) ps None (With b)
 
 -- eq C.a(..)
 abbrev pub eq : Place → List ℕ → List ℕ → Params → Expr → DeclForm
@@ -65,9 +65,9 @@ eq_of_statement at a ps e = InheritedEquation (word at (codes "Block")) (word at
 abbrev pub names_aspect : Place → List DeclForm
 names_aspect at =
     -- inh lazy Decl Use.lookup(String n);
-    Inherited (Some at) (kind at (Class (codes "Decl"))) (word at (codes "Use")) (word at (codes "lookup")) (n at)
+    Inherited (Some at) (kind at (Class (codes "Decl"))) (word at (codes "Use")) (word at (codes "lookup")) (n at) None
     -- inh Decl Block.lookup(String n);
-    ∷ Inherited None (kind at (Class (codes "Decl"))) (word at (codes "Block")) (word at (codes "lookup")) (n at)
+    ∷ Inherited None (kind at (Class (codes "Decl"))) (word at (codes "Block")) (word at (codes "lookup")) (n at) None
     -- syn lazy Decl Block.local(String n) = (Decl) first (s : getStmtList()) { s.declares(n) };
     ∷ syn_lazy at (Class (codes "Decl")) (codes "Block") (codes "local") (n at)
     (is at (Cast at (word at (codes "Decl")) (Fold at First (word at (codes "s")) (own at (codes "getStmtList") [])
@@ -89,7 +89,7 @@ names_aspect at =
 abbrev pub values_aspect : Place → List DeclForm
 values_aspect at =
     -- syn lazy int Expr.value();
-    Synthesized (Some at) (kind at Int) (word at (codes "Expr")) (word at (codes "value")) (none at) (Semicolon at)
+    Synthesized (Some at) (kind at Int) (word at (codes "Expr")) (word at (codes "value")) (none at) None (Semicolon at)
     -- eq Num.value() = getValue();
     ∷ eq at (codes "Num") (codes "value") (none at) (own at (codes "getValue") [])
     -- eq Add.value() = getLeft().value() + getRight().value();
@@ -126,7 +126,7 @@ probe_aspect at =
     ∷ syn at Text (codes "Program") (codes "join") (none at)
     (is at (between at Add (between at Add (TextLiteral at (codes "n")) (between at Divide (number at (pos 1)) (number at (pos 2)))) (number at (negsuc 6))))
     -- inh lazy int Stmt.pos();
-    ∷ Inherited (Some at) (kind at Int) (word at (codes "Stmt")) (word at (codes "pos")) (none at)
+    ∷ Inherited (Some at) (kind at Int) (word at (codes "Stmt")) (word at (codes "pos")) (none at) None
     -- eq Block.getStmt(int i).pos() = i;
     ∷ eq_of_statement at (codes "pos") (none at) (Name at (codes "i"))
     -- eq Program.getBlock().pos() = -1;

@@ -29,26 +29,26 @@ call name n es = Call (column n) name (to_exprs es)
 abbrev pub of_itself : List Located
 of_itself =
     declared 12 (Equation (word (codes "Program") 15) (word (codes "a") 23) (no_params 25) (equals 27 (call (codes "a") 29 [])))
-    ∷ declared 34 (Synthesized None (class_word (codes "Nix") 38) (word (codes "Program") 42) (word (codes "a") 50) (no_params 52) (Semicolon (column 53)))
+    ∷ declared 34 (Synthesized None (class_word (codes "Nix") 38) (word (codes "Program") 42) (word (codes "a") 50) (no_params 52) None (Semicolon (column 53)))
     ∷ []
 
 -- aspect A { eq Program.a() = b(); syn Nix Program.a(); syn Nux Program.b() = null; }
 abbrev pub of_another : List Located
 of_another =
     declared 12 (Equation (word (codes "Program") 15) (word (codes "a") 23) (no_params 25) (equals 27 (call (codes "b") 29 [])))
-    ∷ declared 34 (Synthesized None (class_word (codes "Nix") 38) (word (codes "Program") 42) (word (codes "a") 50) (no_params 52) (Semicolon (column 53)))
+    ∷ declared 34 (Synthesized None (class_word (codes "Nix") 38) (word (codes "Program") 42) (word (codes "a") 50) (no_params 52) None (Semicolon (column 53)))
     ∷ declared 55 (Synthesized None (class_word (codes "Nux") 59) (word (codes "Program") 63) (word (codes "b") 71) (no_params 73)
-    (With (equals 75 (Null (column 77)))))
+    None (With (equals 75 (Null (column 77)))))
     ∷ []
 
 -- aspect A { syn int Program.a() = t(b()); syn int Program.t(Nix n) = 1; syn Nix Program.b() = null; }, with null for the 1
 abbrev pub as_argument : List Located
 as_argument =
     declared 12 (Synthesized None (record { kind = Int; at = column 16 }) (word (codes "Program") 20) (word (codes "a") 28) (no_params 30)
-    (With (equals 32 (call (codes "t") 34 (call (codes "b") 36 [] ∷ [])))))
+    None (With (equals 32 (call (codes "t") 34 (call (codes "b") 36 [] ∷ [])))))
     ∷ declared 42 (Synthesized None (record { kind = Int; at = column 46 }) (word (codes "Program") 50) (word (codes "t") 58)
     (record { items = record { kind = class_word (codes "Nix") 60; name = word (codes "n") 64 } ∷ []; end = column 65 })
-    (With (equals 67 (Null (column 69)))))
+    None (With (equals 67 (Null (column 69)))))
     ∷ declared 72 (Synthesized None (class_word (codes "Nix") 76) (word (codes "Program") 80) (word (codes "b") 88) (no_params 90)
-    (With (equals 92 (Null (column 94)))))
+    None (With (equals 92 (Null (column 94)))))
     ∷ []

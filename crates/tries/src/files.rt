@@ -11,7 +11,7 @@ ghost use Rattle.tries.specs.Worlds.{IsSound};
 use crate::failure::Failure;
 use at_class::{ClassFault, ClassTable, are_named};
 use at_grammar::{AstFault, parse_ast};
-use at_jrag::{Aspect, JragFault, parse_jrag};
+use at_jrag::{Aspect, Forms, JragFault, parse_jrag};
 use at_rules::Rules;
 use at_store::{LoadFault, Store, USUAL_NODES};
 use at_tree::tree::{ReadFault, Tree, read_tree};
@@ -91,7 +91,7 @@ fn classes(alloc: Global, text: &str) -> Result<ClassTable, Failure>
 fn aspects_of(alloc: Global, text: &str) -> Result<Vec<Aspect>, Failure>
     ensures { IfOk result (λ v. IsSpelled (map aspect_view v.items)) }
 {
-    match parse_jrag(alloc, text) {
+    match parse_jrag(alloc, text, Forms::NONE) {
         Ok(aspects) => Ok(aspects),
         Err(JragFault::Memory) => Err(Failure::Memory),
         Err(_) => Err(Failure::Aspects),

@@ -18,19 +18,21 @@ ghost use Rattle.at_jrag.specs.Table.{table, is_kind, body_answer, declared};
 ghost use Rattle.at_jrag.specs.Runs.{Pass, Stay, Stays, Missing, NoParam, reason_of};
 ghost use Rattle.at_text.specs.declared.fault.Failure.TheVariants as failure;
 ghost use Rattle.at_jrag.specs.declared.JragCode.TheVariants as code;
+ghost use Rattle.at_jrag.specs.declared.Forms.{Forms};
 
+use super::starts::may_be_circular;
 use super::{ReadFault, Reader};
-use crate::JragCode;
 use crate::syntax::{
     Aspect, Body, BodyForm, Decl, DeclForm, Ending, Kind, KindWord, Param, Params, Word,
 };
+use crate::{Forms, JragCode};
 use at_text::place::Place;
 use at_text::token::TokenKind;
 
 /// How deep expressions may nest.
 const MAX_NESTING: usize = 64;
 
-/// A declared attribute, up to the end of its parameters.
+/// A declared attribute, up to its ending.
 #[derive(Drop)]
 struct Head {
     lazy: Option<Place>,
@@ -38,6 +40,7 @@ struct Head {
     class: Word,
     name: Word,
     params: Params,
+    start: Option<bool>,
 }
 
 /// An attribute of a class, as an equation names it.
@@ -104,63 +107,63 @@ impl<'a> Reader<'a> {
     }
 
     /// `{ "aspect" name "{" { decl } "}" }`, up to the end.
-    pub fn file(&mut self) -> Result<Vec<Aspect>, ReadFault>
-        ensures found { IfOk result (λ v. File (map aspect_view v.items) (left self.old.cursor.rest.now) (left self.new.cursor.rest.now)) }
+    pub fn file(&mut self, forms: Forms) -> Result<Vec<Aspect>, ReadFault>
+        ensures found { IfOk result (λ v. File forms (map aspect_view v.items) (left self.old.cursor.rest.now) (left self.new.cursor.rest.now)) }
         ensures within { IfOk result (λ v. IsWithin (map aspect_view v.items)) }
         ensures end { IfOk result (λ v. left self.new.cursor.rest.now ≡ []) }
-        ensures stays { IfErr result (λ e. Stay (want.File ∷ []) (reason_of e) (left self.old.cursor.rest.now) (left self.new.cursor.rest.now)) }
+        ensures stays { IfErr result (λ e. Stay (want.File forms ∷ []) (reason_of e) (left self.old.cursor.rest.now) (left self.new.cursor.rest.now)) }
     {
         let mut aspects = Vec::new(self.alloc);
         while !self.cursor.rest.is_empty() {
-            let aspect = self.aspect()?;
+            let aspect = self.aspect(forms)?;
             aspects.push(aspect)?;
         }
         Ok(aspects)
     }
 
     /// `"aspect" name "{" { decl } "}"`
-    fn aspect(&mut self) -> Result<Aspect, ReadFault>
+    fn aspect(&mut self, forms: Forms) -> Result<Aspect, ReadFault>
         requires { 0 < length self.now.cursor.rest.now }
-        ensures found { IfOk result (λ a. AspectOf (aspect_view a) (left self.old.cursor.rest.now) (left self.new.cursor.rest.now)) }
+        ensures found { IfOk result (λ a. AspectOf forms (aspect_view a) (left self.old.cursor.rest.now) (left self.new.cursor.rest.now)) }
         ensures within { IfOk result (λ a. AllByRecursion NestsWithin (map decl_view a.decls.items)) }
-        ensures stays { IfErr result (λ e. Stay (want.File ∷ []) (reason_of e) (left self.old.cursor.rest.now) (left self.new.cursor.rest.now)) }
+        ensures stays { IfErr result (λ e. Stay (want.File forms ∷ []) (reason_of e) (left self.old.cursor.rest.now) (left self.new.cursor.rest.now)) }
     {
         if self.cursor.takes_word("aspect").is_none() {
             return Err(self.no_keyword());
         }
         let name = self.name()?;
         self.expects("{")?;
-        let decls = self.decls()?;
+        let decls = self.decls(forms)?;
         Ok(Aspect { name, decls })
     }
 
     /// `{ decl } "}"`
-    fn decls(&mut self) -> Result<Vec<Decl>, ReadFault>
-        ensures found { IfOk result (λ v. (close : Row) × Decls (map decl_view v.items) (left self.old.cursor.rest.now) close
+    fn decls(&mut self, forms: Forms) -> Result<Vec<Decl>, ReadFault>
+        ensures found { IfOk result (λ v. (close : Row) × Decls forms (map decl_view v.items) (left self.old.cursor.rest.now) close
             × Sign (codes "}") close (left self.new.cursor.rest.now)) }
         ensures within { IfOk result (λ v. AllByRecursion NestsWithin (map decl_view v.items)) }
-        ensures stays { IfErr result (λ e. Stay (want.Decls ∷ []) (reason_of e) (left self.old.cursor.rest.now) (left self.new.cursor.rest.now)) }
+        ensures stays { IfErr result (λ e. Stay (want.Decls forms ∷ []) (reason_of e) (left self.old.cursor.rest.now) (left self.new.cursor.rest.now)) }
     {
         let mut decls = Vec::new(self.alloc);
         while !self.skips("}") {
-            let decl = self.decl()?;
+            let decl = self.decl(forms)?;
             decls.push(decl)?;
         }
         Ok(decls)
     }
 
     /// A declaration.
-    fn decl(&mut self) -> Result<Decl, ReadFault>
+    fn decl(&mut self, forms: Forms) -> Result<Decl, ReadFault>
         requires { next_is (is_sign (codes "}")) (left self.now.cursor.rest.now) ≡ false }
-        ensures found { IfOk result (λ d. DeclOf (decl_view d) (left self.old.cursor.rest.now) (left self.new.cursor.rest.now)) }
+        ensures found { IfOk result (λ d. DeclOf forms (decl_view d) (left self.old.cursor.rest.now) (left self.new.cursor.rest.now)) }
         ensures within { IfOk result (λ d. NestsWithin (decl_view d)) }
-        ensures stays { IfErr result (λ e. Stay (want.Decls ∷ []) (reason_of e) (left self.old.cursor.rest.now) (left self.new.cursor.rest.now)) }
+        ensures stays { IfErr result (λ e. Stay (want.Decls forms ∷ []) (reason_of e) (left self.old.cursor.rest.now) (left self.new.cursor.rest.now)) }
     {
         if let Some(at) = self.cursor.takes_word("syn") {
-            return self.synthesized(at);
+            return self.synthesized(at, forms);
         }
         if let Some(at) = self.cursor.takes_word("inh") {
-            return self.inherited(at);
+            return self.inherited(at, forms);
         }
         match self.cursor.takes_word("eq") {
             Some(at) => self.equation(at),
@@ -169,14 +172,14 @@ impl<'a> Reader<'a> {
     }
 
     /// A synthesized attribute behind its `syn`, whose place this is.
-    fn synthesized(&mut self, at: Place) -> Result<Decl, ReadFault>
+    fn synthesized(&mut self, at: Place, forms: Forms) -> Result<Decl, ReadFault>
         ensures found { IfOk result (λ d. (old : Row) → old ≡ word (codes "syn") at ∷ left self.old.cursor.rest.now
-            → DeclOf (decl_view d) old (left self.new.cursor.rest.now)) }
+            → DeclOf forms (decl_view d) old (left self.new.cursor.rest.now)) }
         ensures within { IfOk result (λ d. NestsWithin (decl_view d)) }
         ensures stays { IfErr result
-            (λ e. Stay (declared (want.Ending ∷ want.Decls ∷ [])) (reason_of e) (left self.old.cursor.rest.now) (left self.new.cursor.rest.now)) }
+            (λ e. Stay (declared forms (want.Ending ∷ want.Decls forms ∷ [])) (reason_of e) (left self.old.cursor.rest.now) (left self.new.cursor.rest.now)) }
     {
-        let head = self.head()?;
+        let head = self.head(forms)?;
         let ending = self.ending()?;
         let form = DeclForm::Synthesized {
             lazy: head.lazy,
@@ -184,20 +187,22 @@ impl<'a> Reader<'a> {
             class: head.class,
             name: head.name,
             params: head.params,
+            start: head.start,
             ending,
         };
         Ok(Decl { at, form })
     }
 
     /// An inherited attribute behind its `inh`, whose place this is.
-    fn inherited(&mut self, at: Place) -> Result<Decl, ReadFault>
+    fn inherited(&mut self, at: Place, forms: Forms) -> Result<Decl, ReadFault>
         ensures found { IfOk result (λ d. (old : Row) → old ≡ word (codes "inh") at ∷ left self.old.cursor.rest.now
-            → DeclOf (decl_view d) old (left self.new.cursor.rest.now)) }
+            → DeclOf forms (decl_view d) old (left self.new.cursor.rest.now)) }
         ensures within { IfOk result (λ d. NestsWithin (decl_view d)) }
         ensures stays { IfErr result
-            (λ e. Stay (declared (want.Mark (codes ";") ∷ want.Decls ∷ [])) (reason_of e) (left self.old.cursor.rest.now) (left self.new.cursor.rest.now)) }
+            (λ e. Stay (declared forms (want.Mark (codes ";") ∷ want.Decls forms ∷ [])) (reason_of e)
+            (left self.old.cursor.rest.now) (left self.new.cursor.rest.now)) }
     {
-        let head = self.head()?;
+        let head = self.head(forms)?;
         self.expects(";")?;
         let form = DeclForm::Inherited {
             lazy: head.lazy,
@@ -205,29 +210,29 @@ impl<'a> Reader<'a> {
             class: head.class,
             name: head.name,
             params: head.params,
+            start: head.start,
         };
         Ok(Decl { at, form })
     }
 
-    /// `["lazy"] kind name "." name "(" [params] ")"`, where `circular` behind it is left out.
-    fn head(&mut self) -> Result<Head, ReadFault>
-        ensures found { IfOk result (λ h. HeadOf h (left self.old.cursor.rest.now) (left self.new.cursor.rest.now)) }
+    /// `["lazy"] kind name "." name "(" [params] ")" ["circular" "[" ("true" | "false") "]"]`
+    fn head(&mut self, forms: Forms) -> Result<Head, ReadFault>
+        ensures found { IfOk result (λ h. HeadOf forms h (left self.old.cursor.rest.now) (left self.new.cursor.rest.now)) }
         ensures behind { IfOk result (λ h. next_is (is_word (codes "circular")) (left self.new.cursor.rest.now) ≡ false) }
         ensures stays { IfErr result (λ e. (us : List Want)
-            → Stay (declared us) (reason_of e) (left self.old.cursor.rest.now) (left self.new.cursor.rest.now)) }
+            → Stay (declared forms us) (reason_of e) (left self.old.cursor.rest.now) (left self.new.cursor.rest.now)) }
     {
         let lazy = self.lazy()?;
         let kind = self.kind()?;
         let target = self.target()?;
-        if self.cursor.is_before_word("circular") {
-            return Err(ReadFault::For(JragCode::LeftOut));
-        }
+        let start = self.circular(may_be_circular(forms, &kind))?;
         Ok(Head {
             lazy,
             kind,
             class: target.class,
             name: target.name,
             params: target.params,
+            start,
         })
     }
 
@@ -338,10 +343,11 @@ impl<'a> Reader<'a> {
 
     /// An equation behind its `eq`, whose place this is, of a synthesized or of an inherited attribute.
     fn equation(&mut self, at: Place) -> Result<Decl, ReadFault>
-        ensures found { IfOk result (λ d. (old : Row) → old ≡ word (codes "eq") at ∷ left self.old.cursor.rest.now
-            → DeclOf (decl_view d) old (left self.new.cursor.rest.now)) }
+        ensures found { (forms : Forms) → IfOk result (λ d. (old : Row) → old ≡ word (codes "eq") at ∷ left self.old.cursor.rest.now
+            → DeclOf forms (decl_view d) old (left self.new.cursor.rest.now)) }
         ensures within { IfOk result (λ d. NestsWithin (decl_view d)) }
-        ensures stays { IfErr result (λ e. Stay (want.Name ∷ want.Mark (codes ".") ∷ want.Signed ∷ want.Defined ∷ want.Decls ∷ []) (reason_of e)
+        ensures stays { (forms : Forms) → IfErr result
+            (λ e. Stay (want.Name ∷ want.Mark (codes ".") ∷ want.Signed ∷ want.Defined ∷ want.Decls forms ∷ []) (reason_of e)
             (left self.old.cursor.rest.now) (left self.new.cursor.rest.now)) }
     {
         let target = self.target()?;
@@ -361,12 +367,12 @@ impl<'a> Reader<'a> {
     /// An equation of an inherited attribute, whose `eq` has this place, behind its getter and the `.` there.
     fn inherited_equation(&mut self, at: Place, getter: Target) -> Result<Decl, ReadFault>
         requires { is_getter (params_view getter.params).items ≡ true }
-        ensures found { IfOk result (λ d. (old named mid : Row) → old ≡ word (codes "eq") at ∷ named → TargetOf getter named mid
+        ensures found { (forms : Forms) → IfOk result (λ d. (old named mid : Row) → old ≡ word (codes "eq") at ∷ named → TargetOf getter named mid
             → Sign (codes ".") mid (left self.old.cursor.rest.now)
-            → DeclOf (decl_view d) old (left self.new.cursor.rest.now)) }
+            → DeclOf forms (decl_view d) old (left self.new.cursor.rest.now)) }
         ensures within { IfOk result (λ d. NestsWithin (decl_view d)) }
-        ensures stays { IfErr result
-            (λ e. Stay (want.Signed ∷ want.Body ∷ want.Decls ∷ []) (reason_of e) (left self.old.cursor.rest.now) (left self.new.cursor.rest.now)) }
+        ensures stays { (forms : Forms) → IfErr result
+            (λ e. Stay (want.Signed ∷ want.Body ∷ want.Decls forms ∷ []) (reason_of e) (left self.old.cursor.rest.now) (left self.new.cursor.rest.now)) }
     {
         let name = self.name()?;
         let params = self.params(name.text.as_str())?;

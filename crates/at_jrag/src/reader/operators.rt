@@ -10,7 +10,7 @@ ghost use lib.Chars.{codes};
 ghost use Rattle.at_text.specs.Symbols.{placed};
 ghost use Rattle.at_jrag.specs.View.{operator_view, fold_view};
 ghost use Rattle.at_text.specs.Rows.{Row, left, sign, word, is_sign, is_word, next_is};
-ghost use Rattle.at_jrag.specs.Grammar.{is_text, operator_text, operator_level, fold_text, follows_cast, is_opening};
+ghost use Rattle.at_jrag.specs.Grammar.{is_text, operator_text, operator_level, fold_text, follows_cast, is_opening, begins_other};
 ghost use Rattle.at_jrag.specs.Read.{LinkIs, LinksTo, opens_negative, opens_cast, is_constant, StandsBefore, NestsWithin};
 
 use super::literals::number;
@@ -147,6 +147,17 @@ fn follows_cast(token: &Placed<'_>) -> bool
         TokenKind::Word => is_name(token.text) || is_opening(token.text),
         TokenKind::Sign => token.text == "(",
         TokenKind::Number | TokenKind::Text => false,
+    }
+}
+
+/// Whether an expression that is neither `true` nor `false` may begin with the token.
+pub fn begins_other(token: &Placed<'_>) -> bool
+    ensures { result ≡ begins_other (placed token.now) }
+{
+    match token.kind {
+        TokenKind::Number | TokenKind::Text => true,
+        TokenKind::Sign => token.text == "-" || token.text == "!" || token.text == "(",
+        TokenKind::Word => is_name(token.text) || is_opening(token.text),
     }
 }
 

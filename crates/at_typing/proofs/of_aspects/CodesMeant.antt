@@ -99,8 +99,8 @@ declared_there classes words (x ∷ xs) k d is = by x.decl.form refl k is (decla
     by : (form : DeclForm) → x.decl.form ≡ form → (k : ℕ) → slice_get (cond (is_attribute form) (x ∷ attributes xs) (attributes xs)) k ≡ Some d
         → ((k : ℕ) (d : Located) → slice_get (attributes xs) k ≡ Some d → (s : Declared) × (slice_get (signatures_among classes words xs) k ≡ Some s))
         → (s : Declared) × (slice_get (signature_if classes words x (result_in form) ++ signatures_among classes words xs) k ≡ Some s)
-    by (Synthesized lazy kind class name params ending) e k is rest = first (Some kind) k refl is rest
-    by (Inherited lazy kind class name params) e k is rest = first (Some kind) k refl is rest
+    by (Synthesized lazy kind class name params start ending) e k is rest = first (Some kind) k refl is rest
+    by (Inherited lazy kind class name params start) e k is rest = first (Some kind) k refl is rest
     by (Equation class name params body) e k is rest = rest k d is
     by (InheritedEquation class getter index name params body) e k is rest = rest k d is
 
@@ -161,10 +161,10 @@ module _ (classes : Classes) (ds : List Located) where
   with_tells d (Some body) a is = then_tells (declared_with a) (own_meant classes ds d body a.class) (own_tells d body a.class is) (λ e. tt)
 
   form_tells : (i : ℕ) (d : Located) (form : DeclForm) → AreOfAttributes classes ds → slice_get ds i ≡ Some d → d.decl.form ≡ form → TellsOne (form_meant classes ds d form)
-  form_tells i d (Synthesized lazy result class name params ending) h is at =
+  form_tells i d (Synthesized lazy result class name params start ending) h is at =
       then_tells (with_body classes ds d (body_in d.decl.form)) (attribute_meant classes d result) (attribute_tells d result)
       (λ a. with_tells d (body_in d.decl.form) a (of_itself i d is (ap is_attribute at) (ap (λ f. not (is_inherited f)) at)))
-  form_tells i d (Inherited lazy result class name params) h is at = then_tells declared_alone (attribute_meant classes d result) (attribute_tells d result) (λ a. tt)
+  form_tells i d (Inherited lazy result class name params start) h is at = then_tells declared_alone (attribute_meant classes d result) (attribute_tells d result) (λ a. tt)
   form_tells i d (Equation class name params body) h is at =
       let there : is_synthesized classes ds (class_text d) (name_text d) ≡ true =
       ap (λ f. is_synthesized classes ds (class_word f).text (name_word f).text) at ∙ there_synthesized classes ds class.text name.text (h.own i d class name params body is at) in

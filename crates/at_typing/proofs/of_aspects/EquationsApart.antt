@@ -69,8 +69,8 @@ module _ (classes : Classes) (ds : List Located) where
   attributes_of h i d is = by d.decl.form refl
     where
       by : (form : DeclForm) → d.decl.form ≡ form → is_of_attribute classes ds form ≡ true
-      by (Synthesized lazy kind class name params ending) e = refl
-      by (Inherited lazy kind class name params) e = refl
+      by (Synthesized lazy kind class name params start ending) e = refl
+      by (Inherited lazy kind class name params start) e = refl
       by (Equation class name params body) e = there_synthesized class.text name.text (h.own i d class name params body is e)
       by (InheritedEquation class getter index name params body) e = there_inherited name.text (h.inherited i d class getter name index params body is e)
 

@@ -177,8 +177,8 @@ inherited_there ds name =
     ∙ list_any-same _ _ ds (λ d. by d.decl.form (bytes_eq name (name_text d)))
   where
     by : (form : DeclForm) (r : Bool) → (is_attribute form && (is_inherited form && r)) ≡ (is_inherited form && r)
-    by (Synthesized lazy kind class n params ending) r = refl
-    by (Inherited lazy kind class n params) r = refl
+    by (Synthesized lazy kind class n params start ending) r = refl
+    by (Inherited lazy kind class n params start) r = refl
     by (Equation class n params body) r = refl
     by (InheritedEquation class getter index n params body) r = refl
 

@@ -147,13 +147,13 @@ abbrev Means' : Classes → Located → DeclForm → Meaning → Type 0
 Means' classes d form m = IsMeant classes d (result_in form) m.attribute
 
 form_right : (classes : Classes) (ds : List Located) (d : Located) (form : DeclForm) → Holds (Means' classes d form) (form_meant classes ds d form)
-form_right classes ds d (written.Synthesized lazy result class name params ending) =
+form_right classes ds d (written.Synthesized lazy result class name params start ending) =
     then_holds (IsOfWord classes d result) (λ (m : Meaning). IsMeant classes d (Some result) m.attribute) (with_body classes ds d _) (attribute_meant classes d result) (attribute_right classes d result) (λ a of. by a of _)
   where
     by : (a : Attribute) → IsOfWord classes d result a → (o : Option written.Body) → Holds (λ (m : Meaning). IsMeant classes d (Some result) m.attribute) (with_body classes ds d o a)
     by a of None = of
     by a of (Some body) = none_holds (λ (m : Meaning). IsMeant classes d (Some result) m.attribute) (declared_with a) (own_meant classes ds d body a.class) (λ e. of)
-form_right classes ds d (written.Inherited lazy result class name params) = then_holds (IsOfWord classes d result) (λ (m : Meaning). IsMeant classes d (Some result) m.attribute) declared_alone (attribute_meant classes d result) (attribute_right classes d result) (λ a of. of)
+form_right classes ds d (written.Inherited lazy result class name params start) = then_holds (IsOfWord classes d result) (λ (m : Meaning). IsMeant classes d (Some result) m.attribute) declared_alone (attribute_meant classes d result) (attribute_right classes d result) (λ a of. of)
 form_right classes ds d (written.Equation class name params body) =
     none_holds (λ (m : Meaning). IsMeant classes d None m.attribute) (λ c. and_then own_alone (own_meant classes ds d body c)) (class_named classes class) (λ c.
     none_holds (λ (m : Meaning). IsMeant classes d None m.attribute) own_alone (own_meant classes ds d body c) (λ e. tt))
@@ -169,8 +169,8 @@ abbrev pub Declares : Classes → Located → Attribute → Type 0
 Declares classes d a = (result : KindWord) × (result_in d.decl.form ≡ Some result) × IsOfWord classes d result a
 
 declares_result : (form : DeclForm) → is_some (result_in form) ≡ is_attribute form
-declares_result (written.Synthesized lazy result class name params ending) = refl
-declares_result (written.Inherited lazy result class name params) = refl
+declares_result (written.Synthesized lazy result class name params start ending) = refl
+declares_result (written.Inherited lazy result class name params start) = refl
 declares_result (written.Equation class name params body) = refl
 declares_result (written.InheritedEquation class getter index name params body) = refl
 

@@ -4,8 +4,8 @@ use Rattle.at_jrag.specs.Grammar.{File, IsWithin}
 use Rattle.at_text.specs.Rows.{left}
 use Rattle.at_jrag.proofs.reader.Reader.file.Given as goal
 
-abbrev pub invariant-loop-self : goal.invariant-loop-self
-invariant-loop-self l = File (map aspect_view l.aspects.items) (left l.fn.self.cursor.rest.now) (left l.self.cursor.rest.now) × IsWithin (map aspect_view l.aspects.items)
+abbrev pub invariant-loop-forms : goal.invariant-loop-forms
+invariant-loop-forms l = File l.fn.forms (map aspect_view l.aspects.items) (left l.fn.self.cursor.rest.now) (left l.self.cursor.rest.now) × IsWithin (map aspect_view l.aspects.items)
 
-abbrev pub decreases-loop-self : goal.decreases-loop-self
-decreases-loop-self l = length (left l.self.cursor.rest.now)
+abbrev pub decreases-loop-forms : goal.decreases-loop-forms
+decreases-loop-forms l = length (left l.self.cursor.rest.now)
