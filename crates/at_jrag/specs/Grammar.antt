@@ -1,6 +1,6 @@
 -- Aspects as they are written: which tokens spell each form (.jrag, JastAdd2 reference manual).
--- Each form relates the tokens that are left where it begins to those that are left behind it. What is read by an option alone
--- stands where the forms have it.
+-- Each form relates the tokens that are left where it begins to those that are left behind it. `forms` are those that are read
+-- of the forms that are left out else.
 use Rattle.std.specs.Prelude.{◌≡◌, ℕ, ◌+◌, ◌≤◌, ℤ, pos, neg_ℤ, List, [], ◌∷◌, Bool, true, false, ◌&&◌, ◌||◌, Option, Some, None, max, decimal, ◌⊎◌}
 use Rattle.std.specs.List.{AllByRecursion}
 use Rattle.std.specs.Str.{bytes_eq}
