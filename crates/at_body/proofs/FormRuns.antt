@@ -1,0 +1,174 @@
+-- A formula under way goes as far as the evaluation of its instance.
+use Rattle.std.proofs.Common.{◌≡◌, ℕ, Bool, true, false, not, cond, ◌&&◌, nat_eq, List, [], ◌∷◌, ◌++◌, map, length, Option, Some, None, refl, ap, sym, ◌∙◌, subst, Result, Ok, Err, IfOk, Bor, append_assoc}
+use Rattle.std.specs.Prelude.{OnOk}
+use Rattle.at_model.specs.Bodies.{Expr, Exprs, Not, And, Or, Choose, Call, Exists, no_exprs, expr, truth_of, node_of, elements_of, demand_of, eval, eval_all}
+use Rattle.at_model.specs.Follow.{Reached, Ends, Stops, Waits, follow}
+use Rattle.at_model.specs.Run.{Value, Instance, Int, Truth, Text, Ref, Location, Contents, Slot, FaultKind, Null, Run, Gives, Fails, Looks, Demands, ◌>>=◌}
+use Rattle.at_model.specs.Rules.{Rules, start_of}
+use Rattle.at_model.specs.of_fixpoints.Formulas.{Formula, Known, Asks, is_surely, is_known_as, joined, turned, starts_from, demanded, fold_form, two_sides, form}
+use Rattle.at_rules.specs.Bodies.{body_view, bodies_view}
+use Rattle.at_rules.specs.declared.body.Body.{Body}
+use Rattle.at_body.specs.declared.forming.Forming.{Forming}
+use Rattle.at_body.specs.declared.task.Purpose.{Purpose}
+use Rattle.at_body.specs.declared.task.Purpose.TheVariants as purpose
+use Rattle.at_body.specs.declared.task.Task.{Task}
+use Rattle.at_body.specs.declared.task.Task.TheVariants.{Right, Join, Element}
+use Rattle.at_body.specs.declared.task.Doing.{Doing}
+use Rattle.at_body.specs.declared.task.Doing.TheVariants.{Form, Evaluate, Use, Made, Fail, Wait}
+use Rattle.at_body.specs.declared.trial.Step.{Step}
+use Rattle.at_body.specs.declared.trial.Step.TheVariants as step
+use Rattle.at_body.specs.declared.trial.Trial.{Trial}
+use Rattle.at_body.specs.Values.{value_view, fault_view}
+use Rattle.at_body.specs.Stacked.{below}
+use Rattle.at_body.specs.Standing.{Place, scope, outside, inside}
+use Rattle.at_body.specs.Pieces.{HasTop, together, top_of, put_together}
+use Rattle.at_body.specs.Rest.{ev, ev_all}
+use Rattle.at_body.specs.Rest as trial
+use Rattle.at_body.specs.Forms.{formed, among, asking, put_to, decided, onward, place_of, carried, completed, used, rest, stepped, called, gone_over, folded, settled}
+use Rattle.at_body.proofs.Runs.{fun_ext, regroup, to_its_end}
+use Rattle.at_body.proofs.Piled.{joined_known, joined_else}
+
+-- one evaluation behind another, by where that one has come to
+abbrev continued : {A B : Type 0} → Contents ℕ → List (Location ℕ) → (A → Run ℕ B) → Reached ℕ A → Reached ℕ B × List (Location ℕ)
+continued look end k (Ends a) = follow look end (k a)
+continued look end k (Stops f) = (Stops f, end)
+continued look end k (Waits j h) = (Waits j (λ v. h v >>= k), end)
+
+behind : {A B : Type 0} (look : Contents ℕ) (seen : List (Location ℕ)) (r : Run ℕ A) (k : A → Run ℕ B) →
+    follow look seen (r >>= k) ≡ continued look (follow look seen r).1 k (follow look seen r).0
+behind look seen (Gives a) k = refl
+behind look seen (Fails f) k = refl
+behind look seen (Looks l h) k = behind look (seen ++ l ∷ []) (h (look l)) k
+behind look seen (Demands j h) k = refl
+
+step_continued : (rules : Rules) (look : Contents ℕ) (t : Forming) (u : Purpose) (s : Step) (new : Trial) →
+    continued look new.reads (used rules u t) (trial.reached rules.classes s new) ≡ follow look new.reads (rest rules (stepped u s) (record t { trial = new }))
+step_continued rules look t u (step.Value v) new = refl
+step_continued rules look t u (step.Fault k) new = refl
+step_continued rules look t u (step.Need j) new = refl
+
+-- the trial has come to a step: what follows goes on from there
+pub evaluated : (rules : Rules) (look : Contents ℕ) (t : Forming) (u : Purpose) (r : Run ℕ (Value ℕ)) (s : Step) (new : Trial) →
+    follow look t.trial.reads r ≡ (trial.reached rules.classes s new, new.reads) →
+    follow look t.trial.reads (r >>= used rules u t) ≡ follow look new.reads (rest rules (stepped u s) (record t { trial = new }))
+evaluated rules look t u r s new h =
+    behind look t.trial.reads r (used rules u t)
+    ∙ ap (λ (p : Reached ℕ (Value ℕ) × List (Location ℕ)). continued look p.1 (used rules u t) p.0) h
+    ∙ step_continued rules look t u s new
+
+module _ (rules : Rules) where
+  -- two sides
+  pub sides_shape : (t : Forming) (c p : Bool) (a : Expr) (b : Bor Body) →
+      two_sides c (formed rules t.start p a (place_of t)) (formed rules t.start p (body_view b.now) (place_of t)) >>= carried rules t
+      ≡ formed rules t.start p a (place_of t) >>= carried rules (record t { tasks = Right c p b ∷ t.tasks })
+  sides_shape t c p a b =
+      regroup (formed rules t.start p a (place_of t)) (λ f. decided (not c) c f (formed rules t.start p (body_view b.now) (place_of t))) (carried rules t)
+
+  -- the sides of a choice, and the elements of a node
+  pub choice_shape : (t : Forming) (p : Bool) (e : Expr) (a b : Bor Body) →
+      formed rules t.start p (Choose e (body_view a.now) (body_view b.now)) (place_of t) >>= carried rules t
+      ≡ ev rules.classes e (place_of t) >>= used rules (purpose.Choose p a b) t
+  choice_shape t p e a b = regroup (ev rules.classes e (place_of t)) (put_to rules t.start (purpose.Choose p a b) (place_of t)) (carried rules t)
+
+  pub exists_shape : (t : Forming) (p : Bool) (e : Expr) (part : ℕ) (b : Bor Body) →
+      formed rules t.start p (Exists e part (body_view b.now)) (place_of t) >>= carried rules t
+      ≡ ev rules.classes e (place_of t) >>= used rules (purpose.Elements p part b) t
+  exists_shape t p e part b = regroup (ev rules.classes e (place_of t)) (put_to rules t.start (purpose.Elements p part b) (place_of t)) (carried rules t)
+
+  -- a call that is left in the formula
+  pub call_left : (t : Forming) (p : Bool) (e : Expr) (a : ℕ) (es : Bor (List Body)) → p && starts_from t.start (start_of rules a) ≡ true →
+      formed rules t.start p (Call e a (bodies_view es.now)) (place_of t) >>= carried rules t
+      ≡ ev rules.classes e (place_of t) >>= used rules (purpose.Arguments a es) t
+  call_left t p e a es is =
+      let here : (i : Instance ℕ) → i.attribute ≡ a → demanded (start_of rules) t.start p i ≡ Gives (Asks i) =
+          λ i same. ap (λ b. cond b (Gives (Asks i)) (Demands i (λ v. Gives (Known (turned p v))))) (ap (λ x. p && starts_from t.start (start_of rules x)) same ∙ is) in
+      let ask : (v : Value ℕ) (vs : List (Value ℕ)) → node_of v >>= (λ n. demanded (start_of rules) t.start p (record { node = n; attribute = a; arguments = vs })) ≡ asking a v vs =
+          λ v vs. ap (λ (k : ℕ → Run ℕ (Formula ℕ)). node_of v >>= k) (fun_ext (λ n. here (record { node = n; attribute = a; arguments = vs }) refl)) in
+      let all : (v : Value ℕ) → ev_all rules.classes (bodies_view es.now) (place_of t) >>= (λ vs. node_of v >>= (λ n. demanded (start_of rules) t.start p (record { node = n; attribute = a; arguments = vs })))
+          ≡ put_to rules t.start (purpose.Arguments a es) (place_of t) v =
+          λ v. ap (λ (k : List (Value ℕ) → Run ℕ (Formula ℕ)). ev_all rules.classes (bodies_view es.now) (place_of t) >>= k) (fun_ext (λ vs. ask v vs)) in
+      ap (λ (k : Value ℕ → Run ℕ (Formula ℕ)). (ev rules.classes e (place_of t) >>= k) >>= carried rules t) (fun_ext all)
+      ∙ regroup (ev rules.classes e (place_of t)) (put_to rules t.start (purpose.Arguments a es) (place_of t)) (carried rules t)
+
+  -- a call that is demanded is evaluated as any other expression
+  pub call_demanded : (b p : Bool) (e : Expr) (a : ℕ) (es : Exprs) (place : Place) → p && starts_from b (start_of rules a) ≡ false →
+      formed rules b p (Call e a es) place ≡ ev rules.classes (Call e a es) place >>= λ v. Gives (Known (turned p v))
+  call_demanded b p e a es place is =
+      let last : Value ℕ → Run ℕ (Formula ℕ) = λ v. Gives (Known (turned p v)) in
+      let here : (i : Instance ℕ) → i.attribute ≡ a → demanded (start_of rules) b p i ≡ Demands i last =
+          λ i same. ap (λ c. cond c (Gives (Asks i)) (Demands i last)) (ap (λ x. p && starts_from b (start_of rules x)) same ∙ is) in
+      let ask : (v : Value ℕ) (vs : List (Value ℕ)) → node_of v >>= (λ n. demanded (start_of rules) b p (record { node = n; attribute = a; arguments = vs })) ≡ demand_of a v vs >>= last =
+          λ v vs. ap (λ (k : ℕ → Run ℕ (Formula ℕ)). node_of v >>= k) (fun_ext (λ n. here (record { node = n; attribute = a; arguments = vs }) refl))
+          ∙ sym (regroup (node_of v) (λ n. Demands (record { node = n; attribute = a; arguments = vs }) Gives) last) in
+      let all : (v : Value ℕ) → ev_all rules.classes es place >>= (λ vs. node_of v >>= (λ n. demanded (start_of rules) b p (record { node = n; attribute = a; arguments = vs })))
+          ≡ (ev_all rules.classes es place >>= demand_of a v) >>= last =
+          λ v. ap (λ (k : List (Value ℕ) → Run ℕ (Formula ℕ)). ev_all rules.classes es place >>= k) (fun_ext (λ vs. ask v vs))
+          ∙ sym (regroup (ev_all rules.classes es place) (demand_of a v) last) in
+      ap (λ (k : Value ℕ → Run ℕ (Formula ℕ)). ev rules.classes e place >>= k) (fun_ext all)
+      ∙ sym (regroup (ev rules.classes e place) (λ v. ev_all rules.classes es place >>= demand_of a v) last)
+
+  -- what is evaluated as ever
+  pub as_ever : (t : Forming) (p : Bool) (e : Expr) → formed rules t.start p e (place_of t) ≡ ev rules.classes e (place_of t) >>= (λ v. Gives (Known (turned p v))) →
+      formed rules t.start p e (place_of t) >>= carried rules t ≡ ev rules.classes e (place_of t) >>= used rules (purpose.Formula p) t
+  as_ever t p e is =
+      ap (λ (r : Run ℕ (Formula ℕ)). r >>= carried rules t) is
+      ∙ regroup (ev rules.classes e (place_of t)) (put_to rules t.start (purpose.Formula p) (place_of t)) (carried rules t)
+
+  -- the next element
+  pub element_shape : (t : Forming) (p : Bool) (e : Bor Body) (n : ℕ) (ns : Bor (List ℕ)) →
+      gone_over rules t p (body_view e.now) (n ∷ ns.now)
+      ≡ formed rules t.start p (body_view e.now) (inside (place_of t) n) >>= carried rules (record t { bound = n ∷ t.bound; tasks = Element p e ns ∷ t.tasks })
+  element_shape t p e n ns =
+      regroup (formed rules t.start p (body_view e.now) (inside (place_of t) n)) (λ f. decided p (not p) f (among rules t.start p (body_view e.now) (place_of t) ns.now)) (carried rules t)
+
+  -- a value on top leaves the other side to decide
+  pub kept_known : (t : Forming) (c : Bool) (r : Run ℕ (Formula ℕ)) → is_known_as c (top_of t.pile) ≡ true →
+      (r >>= λ g. Gives (joined c (top_of t.pile) g)) >>= onward rules t.start t.tasks (below t.pile) (place_of t) ≡ r >>= carried rules (record t { pile = below t.pile })
+  kept_known t c r is =
+      ap (λ (k : Formula ℕ → Run ℕ (Formula ℕ)). (r >>= k) >>= onward rules t.start t.tasks (below t.pile) (place_of t)) (fun_ext (λ g. ap Gives (joined_known c (top_of t.pile) g is)))
+      ∙ ap (λ (s : Run ℕ (Formula ℕ)). s >>= onward rules t.start t.tasks (below t.pile) (place_of t)) (to_its_end r)
+
+  joins_on : (b c : Bool) (ts : List Task) (fs : List (Formula ℕ)) (place : Place) (g : Formula ℕ) → HasTop fs → is_known_as c (top_of fs) ≡ false →
+      onward rules b ts (below fs) place (joined c (top_of fs) g) ≡ onward rules b (Join c ∷ ts) fs place g
+  joins_on b c ts [] place g top is = absurd cc
+  joins_on b c ts (f ∷ fs) place g top is = ap (onward rules b ts fs place) (joined_else c f g is)
+
+  -- else the two are put together
+  pub kept_else : (t : Forming) (c : Bool) (r : Run ℕ (Formula ℕ)) → HasTop t.pile → is_known_as c (top_of t.pile) ≡ false →
+      (r >>= λ g. Gives (joined c (top_of t.pile) g)) >>= onward rules t.start t.tasks (below t.pile) (place_of t) ≡ r >>= carried rules (record t { tasks = Join c ∷ t.tasks })
+  kept_else t c r top is =
+      regroup r (λ g. Gives (joined c (top_of t.pile) g)) (onward rules t.start t.tasks (below t.pile) (place_of t))
+      ∙ ap (λ (k : Formula ℕ → Run ℕ (Formula ℕ)). r >>= k) (fun_ext (λ g. joins_on t.start c t.tasks t.pile (place_of t) g top is))
+
+  -- the formula on top is all that is left of what is decided
+  pub settled_surely : (t : Forming) (d c : Bool) (r : Run ℕ (Formula ℕ)) → HasTop t.pile → is_surely d (top_of t.pile) ≡ true →
+      settled rules t d c r ≡ completed rules t.start t.tasks t.pile (place_of t)
+  settled_surely t d c r top is =
+      ap (λ b. cond b (Gives (top_of t.pile)) (r >>= λ g. Gives (joined c (top_of t.pile) g)) >>= onward rules t.start t.tasks (below t.pile) (place_of t)) is
+      ∙ ap (λ fs. completed rules t.start t.tasks fs (place_of t)) (sym top)
+
+  pub settled_else : (t : Forming) (d c : Bool) (r : Run ℕ (Formula ℕ)) → is_surely d (top_of t.pile) ≡ false →
+      settled rules t d c r ≡ (r >>= λ g. Gives (joined c (top_of t.pile) g)) >>= onward rules t.start t.tasks (below t.pile) (place_of t)
+  settled_else t d c r is =
+      ap (λ b. cond b (Gives (top_of t.pile)) (r >>= λ g. Gives (joined c (top_of t.pile) g)) >>= onward rules t.start t.tasks (below t.pile) (place_of t)) is
+
+  -- a task on top of the others
+  pub right_done : (t : Forming) (c p : Bool) (e : Bor Body) → HasTop t.pile →
+      completed rules t.start (Right c p e ∷ t.tasks) t.pile (place_of t) ≡ settled rules t (not c) c (formed rules t.start p (body_view e.now) (place_of t))
+  right_done t c p e top = ap (λ fs. completed rules t.start (Right c p e ∷ t.tasks) fs (place_of t)) top
+
+  pub element_done : (t : Forming) (p : Bool) (e : Bor Body) (ns : Bor (List ℕ)) (bound : List ℕ) → bound ≡ below t.bound → HasTop t.pile →
+      completed rules t.start (Element p e ns ∷ t.tasks) t.pile (place_of t)
+      ≡ settled rules (record t { bound = bound }) p (not p) (among rules t.start p (body_view e.now) (place_of (record t { bound = bound })) ns.now)
+  element_done t p e ns bound is top = rw is (ap (λ fs. completed rules t.start (Element p e ns ∷ t.tasks) fs (place_of t)) top)
+
+  pub join_done : (t : Forming) (c : Bool) (f g : Formula ℕ) (fs : List (Formula ℕ)) → t.pile ≡ g ∷ f ∷ fs →
+      completed rules t.start (Join c ∷ t.tasks) t.pile (place_of t) ≡ completed rules t.start t.tasks (put_together c t.pile) (place_of t)
+  join_done t c f g fs are = rw are refl
+
+-- one argument more
+pub one_argument : (rules : Rules) (t : Forming) (a : ℕ) (v w : Value ℕ) (done : List (Value ℕ)) (es : Exprs) →
+    (ev_all rules.classes es (place_of t) >>= λ ws. asking a v (done ++ w ∷ ws)) >>= carried rules t ≡ called rules t a v (done ++ w ∷ []) es
+one_argument rules t a v w done es =
+    let e : (λ (ws : List (Value ℕ)). asking a v (done ++ w ∷ ws)) ≡ (λ ws. asking a v ((done ++ w ∷ []) ++ ws)) = fun_ext (λ ws. ap (asking a v) (sym (append_assoc done (w ∷ []) ws))) in
+    ap (λ (k : List (Value ℕ) → Run ℕ (Formula ℕ)). (ev_all rules.classes es (place_of t) >>= k) >>= carried rules t) e
