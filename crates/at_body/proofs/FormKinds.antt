@@ -1,6 +1,6 @@
 -- A formula under way keeps to the kinds.
-use Rattle.std.proofs.Common.{◌≡◌, ℕ, Bool, true, false, not, cond, List, [], ◌∷◌, ◌++◌, map, Option, Some, None, refl, ap, sym, ◌∙◌, subst, Result, Ok, Err, IfOk, Bor, append_assoc, append-nil}
-use Rattle.std.specs.Prelude.{IfSome, OnOk, option_and_then}
+use Rattle.std.proofs.Common.{◌≡◌, ℕ, Bool, true, false, not, cond, List, [], ◌∷◌, ◌++◌, map, Option, Some, None, refl, ap, sym, ◌∙◌, subst, Result, Ok, Err, IfOk, Bor, append_assoc, append-nil, length}
+use Rattle.std.specs.Prelude.{IfSome, OnOk, option_and_then, ⊤}
 use Rattle.std.specs.Global.{Box}
 use Rattle.std.specs.List.{slice_get, AllByRecursion}
 use Rattle.at_model.specs.Classes.{is_sub, class_in}
@@ -44,6 +44,7 @@ use Rattle.at_body.specs.TypedForms.{AreTasks, Awaits, Calls, Completes, Continu
 use Rattle.at_body.specs.TypedForms as kinds
 use Rattle.at_body.proofs.TypedUses.{is_truth, is_ref, node_of_class}
 use Rattle.at_body.proofs.TypedAnswers.{evaluated, scope_typed}
+use Rattle.at_body.proofs.TypedSteps.{none_more}
 
 module _ (rules : Rules) (at : ClassAt ℕ) where
   abbrev Is : Kind → Value ℕ → Type 0
@@ -282,6 +283,25 @@ module _ (rules : Rules) (at : ClassAt ℕ) where
         node = node_of_class rules at c v is;
       }
 
+  pub sides_typed : {E : Type 0} (look : Contents ℕ) (res : Result Doing E) (t new : Forming) (c p : Bool) (l r : Bor Body) →
+      IfOk res (λ d. (d ≡ Form p l) × (new ≡ record t { tasks = Right c p r ∷ t.tasks })) → Forms rules at (record t { tasks = Right c p r ∷ t.tasks }) l.now →
+      IfOk res (λ d. IsTypedDoing rules at look d new)
+  sides_typed look (Ok d) t new c p l r (is, becomes) h = rw (is, becomes) h
+  sides_typed look (Err x) t new c p l r e h = tt
+
+  pub known_typed : {E : Type 0} (look : Contents ℕ) (res : Result Doing E) (t new : Forming) (s : PlaceKinds) (b : Bool) → Stands rules at s t t.pile →
+      IfOk res (λ d. (d ≡ Made) × (new ≡ record t { pile = Known (Truth b) ∷ t.pile })) → IfOk res (λ d. IsTypedDoing rules at look d new)
+  known_typed look (Ok d) t new s b h (is, becomes) = rw (is, becomes) (known_completes t s b h)
+  known_typed look (Err x) t new s b h e = tt
+
+  pub complete : (t : Forming) (call it : Asking) (vs : List ValueCode) (bs : List Body) → length bs ≡ 0 → it ≡ call → vs ≡ it.done.items →
+      Calls rules at t call.attribute call.node (map value_view call.done.items) (bodies_view bs) → Calls rules at t it.attribute it.node (map value_view vs) no_exprs
+  complete t call it vs bs none e f h =
+      let alone : bs ≡ [] = none_more bs none in
+      subst (λ (ws : List ValueCode). Calls rules at t it.attribute it.node (map value_view ws) no_exprs) (sym f)
+      (subst (λ (x : Asking). Calls rules at t x.attribute x.node (map value_view x.done.items) no_exprs) (sym e)
+      (subst (λ es. Calls rules at t call.attribute call.node (map value_view call.done.items) (bodies_view es)) alone h))
+
   -- elements ----------------------------------------------------------------------------------------------------------
 
   pub elements_seen : (look : Contents ℕ) → IsOver rules at look → (t : Forming) (part : ℕ) (e : Body) (n : ℕ) (o : Option ℕ) (ns : List ℕ) (new : Trial) → o ≡ Some n → ns ≡ look (Slot n part) →
@@ -387,10 +407,10 @@ module _ (rules : Rules) (at : ClassAt ℕ) where
 
   -- where there is none the formula is there
   pub made_whole : (t : Forming) → t.tasks ≡ [] → Completes rules at t → IsMade t.pile
-  made_whole t is h = by_tasks h.others h.top (subst (λ ts. AreTasks rules at h.kinds ts h.others) is h.stands.tasks)
+  made_whole t is h = by_tasks h.kinds h.others h.top (subst (λ ts. AreTasks rules at h.kinds ts h.others) is h.stands.tasks)
     where
-      by_tasks : (fs : List (Formula ℕ)) → t.pile ≡ h.formula ∷ fs → AreTasks rules at h.kinds [] fs → IsMade t.pile
-      by_tasks _ top (kinds.ended _) = record { formula = h.formula; is = top }
+      by_tasks : (s : PlaceKinds) (fs : List (Formula ℕ)) → t.pile ≡ h.formula ∷ fs → AreTasks rules at s [] fs → IsMade t.pile
+      by_tasks _ _ top (kinds.ended _) = record { formula = h.formula; is = top }
 
   pub made_form : (t : Forming) (f : Formula ℕ) → t.pile ≡ f ∷ [] → Completes rules at t → IsForm rules at f
   made_form t f is h = let e : h.formula ≡ f = ap top_of (sym h.top ∙ is) in subst (IsForm rules at) e h.is

@@ -1,6 +1,9 @@
 -- A formula under way goes as far as the evaluation of its instance.
-use Rattle.std.proofs.Common.{◌≡◌, ℕ, Bool, true, false, not, cond, ◌&&◌, nat_eq, List, [], ◌∷◌, ◌++◌, map, length, Option, Some, None, refl, ap, sym, ◌∙◌, subst, Result, Ok, Err, IfOk, Bor, append_assoc}
+use Rattle.std.proofs.Common.{◌≡◌, ℕ, Bool, true, false, not, cond, ◌&&◌, nat_eq, List, [], ◌∷◌, ◌++◌, map, length, Option, Some, None, refl, ap, sym, ◌∙◌, subst, Result, Ok, Err, IfOk, Bor, append_assoc, append-nil, arith}
 use Rattle.std.specs.Prelude.{OnOk}
+use Rattle.std.specs.Global.{Box}
+use Rattle.at_body.specs.declared.todo.Asking.{Asking}
+use Rattle.at_body.specs.declared.value.Value.{Value as ValueCode}
 use Rattle.at_model.specs.Bodies.{Expr, Exprs, Not, And, Or, Choose, Call, Exists, no_exprs, expr, truth_of, node_of, elements_of, demand_of, eval, eval_all}
 use Rattle.at_model.specs.Follow.{Reached, Ends, Stops, Waits, follow}
 use Rattle.at_model.specs.Run.{Value, Instance, Int, Truth, Text, Ref, Location, Contents, Slot, FaultKind, Null, Run, Gives, Fails, Looks, Demands, ◌>>=◌}
@@ -24,7 +27,7 @@ use Rattle.at_body.specs.Standing.{Place, scope, outside, inside}
 use Rattle.at_body.specs.Pieces.{HasTop, together, top_of, put_together}
 use Rattle.at_body.specs.Rest.{ev, ev_all}
 use Rattle.at_body.specs.Rest as trial
-use Rattle.at_body.specs.Forms.{formed, among, asking, put_to, decided, onward, place_of, carried, completed, used, rest, stepped, called, gone_over, folded, settled}
+use Rattle.at_body.specs.Forms.{formed, among, asking, put_to, decided, onward, place_of, carried, completed, used, rest, stepped, called, asked_of, gone_over, folded, settled}
 use Rattle.at_body.proofs.Runs.{fun_ext, regroup, to_its_end}
 use Rattle.at_body.proofs.Piled.{joined_known, joined_else}
 
@@ -172,3 +175,67 @@ pub one_argument : (rules : Rules) (t : Forming) (a : ℕ) (v w : Value ℕ) (do
 one_argument rules t a v w done es =
     let e : (λ (ws : List (Value ℕ)). asking a v (done ++ w ∷ ws)) ≡ (λ ws. asking a v ((done ++ w ∷ []) ++ ws)) = fun_ext (λ ws. ap (asking a v) (sym (append_assoc done (w ∷ []) ws))) in
     ap (λ (k : List (Value ℕ) → Run ℕ (Formula ℕ)). (ev_all rules.classes es (place_of t) >>= k) >>= carried rules t) e
+
+-- calls, by what the body is
+pub call_evaluated : (rules : Rules) (t : Forming) (p : Bool) (e receiver : Expr) (a : ℕ) (es : Bor (List Body)) → e ≡ Call receiver a (bodies_view es.now) → p ≡ true → starts_from t.start (start_of rules a) ≡ true →
+    formed rules t.start p e (place_of t) >>= carried rules t ≡ ev rules.classes receiver (place_of t) >>= used rules (purpose.Arguments a es) t
+call_evaluated rules t p e receiver a es shape is from =
+    ap (λ x. formed rules t.start p x (place_of t) >>= carried rules t) shape
+    ∙ call_left rules t p receiver a es (ap (λ b. b && starts_from t.start (start_of rules a)) is ∙ from)
+
+pub as_demanded : (rules : Rules) (t : Forming) (p : Bool) (e receiver : Expr) (a : ℕ) (es : Exprs) → e ≡ Call receiver a es → p && starts_from t.start (start_of rules a) ≡ false →
+    formed rules t.start p e (place_of t) >>= carried rules t ≡ ev rules.classes e (place_of t) >>= used rules (purpose.Formula p) t
+as_demanded rules t p e receiver a es shape is =
+    as_ever rules t p e (ap (λ x. formed rules t.start p x (place_of t)) shape ∙ call_demanded rules t.start p receiver a es (place_of t) is ∙ ap (λ x. ev rules.classes x (place_of t) >>= (λ v. Gives (Known (turned p v)))) (sym shape))
+
+-- what is done next goes on with the same, in other words
+pub first_same : {E : Type 0} (res : Result Doing E) (r s : Run ℕ (Formula ℕ)) (rest_of : Doing → Run ℕ (Formula ℕ)) → r ≡ s → IfOk res (λ d. s ≡ rest_of d) → IfOk res (λ d. r ≡ rest_of d)
+first_same (Ok d) r s rest_of e h = e ∙ h
+first_same (Err x) r s rest_of e h = tt
+
+-- both sides
+pub sides_put : {E : Type 0} (rules : Rules) (res : Result Doing E) (t new : Forming) (c p : Bool) (e : Expr) (l r : Bor Body) →
+    IfOk res (λ d. (d ≡ Form p l) × (new ≡ record t { tasks = Right c p r ∷ t.tasks })) →
+    formed rules t.start p e (place_of t) ≡ two_sides c (formed rules t.start p (body_view l.now) (place_of t)) (formed rules t.start p (body_view r.now) (place_of t)) →
+    IfOk res (λ d. formed rules t.start p e (place_of t) >>= carried rules t ≡ rest rules d new)
+sides_put rules (Ok d) t new c p e l r (is, becomes) shape = rw (is, becomes) (ap (λ (x : Run ℕ (Formula ℕ)). x >>= carried rules t) shape ∙ sides_shape rules t c p (body_view l.now) r)
+sides_put rules (Err x) t new c p e l r h shape = tt
+
+-- the arguments of a call that is left in the formula
+pub argument_shape : (rules : Rules) (t : Forming) (call : Box Asking) (b : Bor Body) (bs : Bor (List Body)) →
+    called rules t call.value.attribute (Ref call.value.node) (map value_view call.value.done.items) (expr (body_view b.now) (bodies_view bs.now))
+    ≡ ev rules.classes (body_view b.now) (place_of t) >>= used rules (purpose.Argument call bs) t
+argument_shape rules t call b bs =
+    let one : Run ℕ (Value ℕ) = ev rules.classes (body_view b.now) (place_of t) in
+    let others : Run ℕ (List (Value ℕ)) = ev_all rules.classes (bodies_view bs.now) (place_of t) in
+    let ask : List (Value ℕ) → Run ℕ (Formula ℕ) = λ ws. asking call.value.attribute (Ref call.value.node) (map value_view call.value.done.items ++ ws) in
+    ap (λ (r : Run ℕ (Formula ℕ)). r >>= carried rules t) (
+      regroup one (λ w. others >>= λ ws. Gives (w ∷ ws)) ask
+      ∙ ap (λ (k : Value ℕ → Run ℕ (Formula ℕ)). one >>= k) (fun_ext (λ w. regroup others (λ ws. Gives (w ∷ ws)) ask))
+    )
+    ∙ regroup one (put_to rules t.start (purpose.Argument call bs) (place_of t)) (carried rules t)
+
+pub first_shape : (rules : Rules) (t : Forming) (call : Box Asking) (b : Bor Body) (bs : Bor (List Body)) (a : ℕ) (node : Option ℕ) (all : List Body) → all ≡ b.now ∷ bs.now →
+    call.value.attribute ≡ a → call.value.node ≡ node → call.value.done.items ≡ [] →
+    called rules t a (Ref node) [] (bodies_view all) ≡ ev rules.classes (body_view b.now) (place_of t) >>= used rules (purpose.Argument call bs) t
+first_shape rules t call b bs a node all are e f g =
+    ap (λ es. called rules t a (Ref node) [] (bodies_view es)) are
+    ∙ ap (λ x. called rules t x (Ref node) [] (expr (body_view b.now) (bodies_view bs.now))) (sym e)
+    ∙ ap (λ n. called rules t call.value.attribute (Ref n) [] (expr (body_view b.now) (bodies_view bs.now))) (sym f)
+    ∙ ap (λ (vs : List ValueCode). called rules t call.value.attribute (Ref call.value.node) (map value_view vs) (expr (body_view b.now) (bodies_view bs.now))) (sym g)
+    ∙ argument_shape rules t call b bs
+
+pub no_argument : (rules : Rules) (t : Forming) (a : ℕ) (v : Value ℕ) (done vs : List (Value ℕ)) (bs : List Body) → length bs ≡ 0 → vs ≡ done →
+    called rules t a v done (bodies_view bs) ≡ asked_of rules t a v vs
+no_argument rules t a v done vs [] e is = ap (asked_of rules t a v) (append-nil done ∙ sym is)
+no_argument rules t a v done vs (b ∷ bs) e is = absurd (omega (arith, e))
+
+-- once all are there
+pub all_there : {E : Type 0} (rules : Rules) (res : Result Doing E) (t new : Forming) (call it : Asking) (vs : List ValueCode) (bs : List Body) → length bs ≡ 0 → it ≡ call → vs ≡ it.done.items →
+    IfOk res (λ d. asked_of rules t it.attribute (Ref it.node) (map value_view vs) ≡ rest rules d new) →
+    IfOk res (λ d. called rules t call.attribute (Ref call.node) (map value_view call.done.items) (bodies_view bs) ≡ rest rules d new)
+all_there rules res t new call it vs bs none e f h =
+    first_same res _ (asked_of rules t it.attribute (Ref it.node) (map value_view vs)) (λ d. rest rules d new)
+    (no_argument rules t call.attribute (Ref call.node) (map value_view call.done.items) (map value_view call.done.items) bs none refl
+    ∙ ap (λ (x : Asking). asked_of rules t x.attribute (Ref x.node) (map value_view x.done.items)) (sym e)
+    ∙ ap (λ (ws : List ValueCode). asked_of rules t it.attribute (Ref it.node) (map value_view ws)) (sym f)) h
