@@ -20,6 +20,7 @@ use Rattle.at_model.proofs.of_typing.TypedTogether.{any_text}
 use Rattle.at_rules.specs.Bodies.{body_view, bodies_view}
 use Rattle.at_rules.specs.declared.body.Body.{Body}
 use Rattle.at_body.specs.declared.forming.Forming.{Forming}
+use Rattle.at_body.specs.declared.forming.Progress.TheVariants as progress
 use Rattle.at_body.specs.declared.task.Purpose.{Purpose}
 use Rattle.at_body.specs.declared.task.Purpose.TheVariants as purpose
 use Rattle.at_body.specs.declared.task.Task.{Task}
@@ -27,6 +28,7 @@ use Rattle.at_body.specs.declared.task.Task.TheVariants.{Right, Join, Element}
 use Rattle.at_body.specs.declared.task.Doing.{Doing}
 use Rattle.at_body.specs.declared.task.Doing.TheVariants.{Form, Evaluate, Use, Made, Fail, Wait}
 use Rattle.at_body.specs.declared.todo.Asking.{Asking}
+use Rattle.at_body.specs.declared.todo.Now.TheVariants.{Enter}
 use Rattle.at_body.specs.declared.trial.Step.{Step}
 use Rattle.at_body.specs.declared.trial.Step.TheVariants as step
 use Rattle.at_body.specs.declared.trial.Trial.{Trial}
@@ -34,17 +36,19 @@ use Rattle.at_body.specs.declared.value.Value.{Value as ValueCode}
 use Rattle.at_body.specs.Values.{value_view}
 use Rattle.at_body.specs.ValueKinds.{IsTruth, IsRef}
 use Rattle.at_body.specs.Stacked.{below}
+use Rattle.at_body.specs.Standing.{scope}
 use Rattle.at_body.specs.Pieces.{AreTwo, HasTop, IsMade, combined, put_together, together, top_of}
-use Rattle.at_body.specs.Rest.{resumed, reached}
+use Rattle.at_body.specs.Rest.{ev, resumed, reached}
 use Rattle.at_body.specs.Rest as trial
 use Rattle.at_body.specs.Typed.{PlaceKinds, scope_kinds, kinds_inside, AreBound, IsOver, IsPlaceOf, IsTypedStep, WaitsFor}
 use Rattle.at_body.specs.Typed as typed
 use Rattle.at_body.specs.Forms.{place_of, stepped}
 use Rattle.at_body.specs.TypedForms.{AreTasks, Awaits, Calls, Completes, Continues, Decides, Evaluates, Folds, Forms, GoesOver, IsForm, IsPurpose, IsTypedDoing, IsTypedProgress, Stands, Uses}
 use Rattle.at_body.specs.TypedForms as kinds
-use Rattle.at_body.proofs.TypedUses.{is_truth, is_ref, node_of_class}
+use Rattle.at_body.proofs.TypedUses.{is_truth, is_ref, node_of_class, told}
 use Rattle.at_body.proofs.TypedAnswers.{evaluated, scope_typed}
 use Rattle.at_body.proofs.TypedSteps.{none_more}
+use Rattle.at_body.proofs.FormRuns.{alone_there}
 
 module _ (rules : Rules) (at : ClassAt ℕ) where
   abbrev Is : Kind → Value ℕ → Type 0
@@ -457,3 +461,40 @@ module _ (rules : Rules) (at : ClassAt ℕ) (look : Contents ℕ) where
       todo = subst (typed.AreTodos rules at h.kinds h.kind) (sym idle) (typed.ended h.kinds h.kind);
     };
   }
+
+pub at_its_place : (t : Forming) (new : Trial) → new.this ≡ t.this → new.child ≡ t.child → new.bound ≡ t.bound → new.arguments ≡ t.arguments → trial.place_of new ≡ place_of t
+at_its_place t new this child bound arguments = rw (this, child, bound, arguments) refl
+
+pub evaluates_typed : (rules : Rules) (at : ClassAt ℕ) (look : Contents ℕ) → IsOver rules at look → (t : Forming) (u : Purpose) (b : Bor Body) (s : Step) (stood new : Trial) (doing : Doing) → trial.place_of stood ≡ place_of t → stood.todo ≡ [] →
+    stood.reads ≡ t.trial.reads → follow look stood.reads (trial.rest rules.classes (Enter b) stood) ≡ (reached rules.classes s new, new.reads) → IsTypedStep rules at s new → doing ≡ stepped u s → Evaluates rules at t u b.now →
+    IsTypedDoing rules at look doing (record t { trial = new })
+evaluates_typed rules at look over t u b s stood new doing same idle still found is made h =
+    subst (λ d. IsTypedDoing rules at look d (record t { trial = new })) (sym made)
+    (step_typed rules at look t u h.kinds h.kind (ev rules.classes (body_view b.now) (place_of t)) t.trial.reads s new h.does h.stands
+    (evaluated rules at look over (scope_kinds h.kinds) (body_view b.now) h.kind (scope (place_of t)) h.is (scope_typed rules at look over h.kinds (place_of t) h.stands.place))
+    (alone_there rules look t.trial.reads b stood (place_of t) same idle ∙ ap (λ l. follow look l (trial.rest rules.classes (Enter b) stood)) (sym still) ∙ found) is)
+
+module _ (rules : Rules) (at : ClassAt ℕ) (look : Contents ℕ) where
+  -- where a value is wanted
+  pub waits_typed : (t : Forming) (u : Purpose) (j : Instance ℕ) → Awaits rules at look t u j → IsTypedProgress rules at look (progress.Need j) (record t { purpose = Some u })
+  waits_typed t u j h = (u, refl, record {
+    kinds = h.kinds;
+    kind = h.kind;
+    does = h.does;
+    waits = h.waits;
+    comes = h.comes;
+    stands = record { place = h.stands.place; tasks = h.stands.tasks };
+  })
+
+  -- a formula that waits is told a value
+  pub trial_takes : (t : Forming) (v : Value ℕ) → kinds.Takes rules at look t v → typed.Takes rules at t.trial v
+  trial_takes t v (u, j, is, h, its) = told rules at t.trial j v h.waits its
+
+  pub told_typed : (t : Forming) (v : Value ℕ) (u : Purpose) (s : Step) (new : Trial) (doing : Doing) → t.purpose ≡ Some u → kinds.Takes rules at look t v →
+      follow look t.trial.reads (resumed rules.classes t.trial v) ≡ (reached rules.classes s new, new.reads) → IsTypedStep rules at s new → doing ≡ stepped u s →
+      IsTypedDoing rules at look doing (record t { purpose = None; trial = new })
+  told_typed t v u s new doing is (w, j, has, h, its) found typed made =
+      let same : w ≡ u = let e : Some w ≡ Some u = sym has ∙ is in cc in
+      subst (λ d. IsTypedDoing rules at look d (record t { purpose = None; trial = new })) (sym made)
+      (step_typed rules at look (record t { purpose = None }) u h.kinds h.kind (resumed rules.classes t.trial v) t.trial.reads s new (subst (IsPurpose rules at h.kinds h.kind) same h.does)
+      (record { place = h.stands.place; tasks = h.stands.tasks }) (h.comes v its) found typed)

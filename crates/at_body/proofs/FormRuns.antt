@@ -2,7 +2,9 @@
 use Rattle.std.proofs.Common.{◌≡◌, ℕ, Bool, true, false, not, cond, ◌&&◌, nat_eq, List, [], ◌∷◌, ◌++◌, map, length, Option, Some, None, refl, ap, sym, ◌∙◌, subst, Result, Ok, Err, IfOk, Bor, append_assoc, append-nil, arith}
 use Rattle.std.specs.Prelude.{OnOk}
 use Rattle.std.specs.Global.{Box}
+use Rattle.std.proofs.lemmas.List.{map-append}
 use Rattle.at_body.specs.declared.todo.Asking.{Asking}
+use Rattle.at_body.specs.declared.todo.Now.TheVariants.{Enter}
 use Rattle.at_body.specs.declared.value.Value.{Value as ValueCode}
 use Rattle.at_model.specs.Bodies.{Expr, Exprs, Not, And, Or, Choose, Call, Exists, no_exprs, expr, truth_of, node_of, elements_of, demand_of, eval, eval_all}
 use Rattle.at_model.specs.Follow.{Reached, Ends, Stops, Waits, follow}
@@ -27,7 +29,7 @@ use Rattle.at_body.specs.Standing.{Place, scope, outside, inside}
 use Rattle.at_body.specs.Pieces.{HasTop, together, top_of, put_together}
 use Rattle.at_body.specs.Rest.{ev, ev_all}
 use Rattle.at_body.specs.Rest as trial
-use Rattle.at_body.specs.Forms.{formed, among, asking, put_to, decided, onward, place_of, carried, completed, used, rest, stepped, called, asked_of, gone_over, folded, settled}
+use Rattle.at_body.specs.Forms.{formed, among, asking, put_to, decided, onward, place_of, carried, completed, used, rest, stepped, called, asked_of, gone_over, folded, followed, joining, settled, told}
 use Rattle.at_body.proofs.Runs.{fun_ext, regroup, to_its_end}
 use Rattle.at_body.proofs.Piled.{joined_known, joined_else}
 
@@ -239,3 +241,70 @@ all_there rules res t new call it vs bs none e f h =
     (no_argument rules t call.attribute (Ref call.node) (map value_view call.done.items) (map value_view call.done.items) bs none refl
     ∙ ap (λ (x : Asking). asked_of rules t x.attribute (Ref x.node) (map value_view x.done.items)) (sym e)
     ∙ ap (λ (ws : List ValueCode). asked_of rules t it.attribute (Ref it.node) (map value_view ws)) (sym f)) h
+
+-- the right side, and the elements behind one, where the formula on top doesn't decide
+pub kept_right : (rules : Rules) (t new : Forming) (d c p : Bool) (e : Bor Body) → is_surely d (top_of t.pile) ≡ false → new ≡ record t { tasks = new.tasks; pile = new.pile } →
+    ((r : Run ℕ (Formula ℕ)) → joining rules t c r ≡ followed rules new r) →
+    settled rules t d c (formed rules t.start p (body_view e.now) (place_of t)) ≡ formed rules new.start p (body_view e.now) (place_of new) >>= carried rules new
+kept_right rules t new d c p e off stays same =
+    settled_else rules t d c (formed rules t.start p (body_view e.now) (place_of t)) off
+    ∙ same (formed rules t.start p (body_view e.now) (place_of t))
+    ∙ ap (λ (x : Forming). formed rules x.start p (body_view e.now) (place_of x) >>= carried rules new) (sym stays)
+
+pub kept_among : (rules : Rules) (t new : Forming) (d c p : Bool) (e : Bor Body) (ns : List ℕ) → is_surely d (top_of t.pile) ≡ false → new ≡ record t { tasks = new.tasks; pile = new.pile } →
+    ((r : Run ℕ (Formula ℕ)) → joining rules t c r ≡ followed rules new r) →
+    settled rules t d c (among rules t.start p (body_view e.now) (place_of t) ns) ≡ gone_over rules new p (body_view e.now) ns
+kept_among rules t new d c p e ns off stays same =
+    settled_else rules t d c (among rules t.start p (body_view e.now) (place_of t) ns) off
+    ∙ same (among rules t.start p (body_view e.now) (place_of t) ns)
+    ∙ ap (λ (x : Forming). among rules x.start p (body_view e.now) (place_of x) ns >>= carried rules new) (sym stays)
+
+-- what an evaluation comes to that is told that it does
+pub goes_on : {E : Type 0} (look : Contents ℕ) (seen ls : List (Location ℕ)) (res : Result Doing E) (r s : Run ℕ (Formula ℕ)) (rest_of : Doing → Run ℕ (Formula ℕ)) → r ≡ s → IfOk res (λ d. s ≡ rest_of d) → IfOk res (λ d. ls ≡ seen) →
+    IfOk res (λ d. follow look seen r ≡ follow look ls (rest_of d))
+goes_on look seen ls (Ok d) r s rest_of e h same = ap (follow look seen) (e ∙ h) ∙ ap (λ l. follow look l (rest_of d)) (sym same)
+goes_on look seen ls (Err x) r s rest_of e h same = tt
+
+-- the elements of a node that is looked at
+pub elements_gone : {E : Type 0} (rules : Rules) (look : Contents ℕ) (res : Result Doing E) (t new : Forming) (p : Bool) (e : Expr) (part n : ℕ) (ns : List ℕ) (mid : Trial) →
+    mid.reads ≡ t.trial.reads ++ Slot n part ∷ [] → ns ≡ look (Slot n part) →
+    IfOk res (λ d. gone_over rules (record t { trial = mid }) p e ns ≡ rest rules d new) → IfOk res (λ d. new.trial.reads ≡ mid.reads) →
+    IfOk res (λ d. follow look t.trial.reads (folded rules t p part e (Some n)) ≡ follow look new.trial.reads (rest rules d new))
+elements_gone rules look (Ok d) t new p e part n ns mid is are h same =
+    let s : follow look t.trial.reads (folded rules t p part e (Some n)) ≡ follow look mid.reads (gone_over rules t p e ns) = rw (is, are) refl in
+    s ∙ ap (follow look mid.reads) h ∙ ap (λ l. follow look l (rest rules d new)) (sym same)
+elements_gone rules look (Err x) t new p e part n ns mid is are h same = tt
+
+-- a trial that stands at the place evaluates the expression
+pub alone_there : (rules : Rules) (look : Contents ℕ) (seen : List (Location ℕ)) (b : Bor Body) (new : Trial) (place : Place) → trial.place_of new ≡ place → new.todo ≡ [] →
+    follow look seen (ev rules.classes (body_view b.now) place) ≡ follow look seen (trial.rest rules.classes (Enter b) new)
+alone_there rules look seen b new place same idle =
+    let r : Place → Run ℕ (Value ℕ) = ev rules.classes (body_view b.now) in
+    let whole : trial.rest rules.classes (Enter b) new ≡ r place =
+        ap (λ q. r q >>= trial.after rules.classes new.todo q) same ∙ ap (λ ts. r place >>= trial.after rules.classes ts place) idle ∙ to_its_end (r place) in
+    ap (follow look seen) (sym whole)
+
+pub evaluated_at : (rules : Rules) (look : Contents ℕ) (t : Forming) (u : Purpose) (b : Bor Body) (s : Step) (stood new : Trial) (doing : Doing) → trial.place_of stood ≡ place_of t → stood.todo ≡ [] → stood.reads ≡ t.trial.reads →
+    follow look stood.reads (trial.rest rules.classes (Enter b) stood) ≡ (trial.reached rules.classes s new, new.reads) → doing ≡ stepped u s →
+    follow look t.trial.reads (ev rules.classes (body_view b.now) (place_of t) >>= used rules u t) ≡ follow look new.reads (rest rules doing (record t { trial = new }))
+evaluated_at rules look t u b s stood new doing same idle still found is =
+    evaluated rules look t u (ev rules.classes (body_view b.now) (place_of t)) s new
+    (alone_there rules look t.trial.reads b stood (place_of t) same idle ∙ ap (λ l. follow look l (trial.rest rules.classes (Enter b) stood)) (sym still) ∙ found)
+    ∙ ap (λ d. follow look new.reads (rest rules d (record t { trial = new }))) (sym is)
+
+-- one argument more is there
+pub argument_passed : {E : Type 0} (rules : Rules) (res : Result Doing E) (t new : Forming) (a : ℕ) (v : Value ℕ) (w : ValueCode) (done items : List ValueCode) (es : Exprs) →
+    items ≡ done ++ w ∷ [] → IfOk res (λ d. called rules t a v (map value_view items) es ≡ rest rules d new) → IfOk res (λ d. called rules t a v (map value_view done ++ value_view w ∷ []) es ≡ rest rules d new)
+argument_passed rules res t new a v w done items es is h =
+    let e : map value_view items ≡ map value_view done ++ value_view w ∷ [] = rw (is, map-append) refl in
+    let P : List (Value ℕ) → Type 0 = λ vs. IfOk res (λ d. called rules t a v vs es ≡ rest rules d new) in subst P e h
+
+-- where it has come to, once nothing is left to do
+pub made_whole_found : (rules : Rules) (look : Contents ℕ) (t : Forming) (f : Formula ℕ) → t.tasks ≡ [] → t.pile ≡ f ∷ [] →
+    follow look t.trial.reads (completed rules t.start t.tasks t.pile (place_of t)) ≡ (Ends f, t.trial.reads)
+made_whole_found rules look t f idle is = rw (idle, is) refl
+
+-- and where a value is wanted
+pub waits_found : (rules : Rules) (look : Contents ℕ) (t : Forming) (u : Purpose) (j : Instance ℕ) →
+    follow look t.trial.reads (rest rules (Wait u j) t) ≡ (Waits j (told rules (record t { purpose = Some u })), t.trial.reads)
+waits_found rules look t u j = refl

@@ -12,6 +12,7 @@ pub mod TextsCompared
 pub mod Steps
 pub mod Piled
 pub mod FormRuns
+pub mod FormPlain
 pub mod Formed
 pub mod FormKinds
 pub mod SamenessLemmas

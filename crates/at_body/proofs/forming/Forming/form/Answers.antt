@@ -1,11 +1,12 @@
-use Rattle.std.proofs.Common.{◌≡◌, ◌∙◌, ap, not, refl, sym}
+use Rattle.std.proofs.Common.{◌≡◌, ◌∙◌, ap, arith, not, refl, sym}
 use Rattle.at_model.specs.Bodies.{And, Or, Choose, Exists}
 use Rattle.at_rules.specs.Bodies.{body_view}
 use Rattle.at_rules.specs.declared.body.Body.{items_hidden-the_row-Body-0}
 use Rattle.at_body.specs.Forms.{followed, formed, place_of}
 use Rattle.at_body.proofs.Entering.{call_view}
-use Rattle.at_body.proofs.FormRuns.{choice_shape, exists_shape, sides_put}
-use Rattle.at_body.proofs.FormKinds.{and_forms, choose_evaluates, exists_evaluates, or_forms, sides_typed}
+use Rattle.at_body.proofs.FormPlain.{others_plain, shape_of}
+use Rattle.at_body.proofs.FormRuns.{as_ever, choice_shape, exists_shape, sides_put}
+use Rattle.at_body.proofs.FormKinds.{and_forms, choose_evaluates, evaluates_it, exists_evaluates, or_forms, sides_typed}
 use Rattle.at_body.proofs.forming.Forming.form.Goals as goal
 
 pub call-requires : goal.call-requires
@@ -52,4 +53,11 @@ returns-in-Exists-clause-typed c = λ at look h.
     exists_evaluates c.args.rules.now at c.args.self.now c.args.positive c.args.body.now c.deref-in-Exists-2.result.now c.in-Exists.part c.deref-in-Exists.result is h
 
 pub returns-in_default : goal.returns-in_default
-returns-in_default c = ?
+returns-in_default c = record {
+  same = as_ever c.args.rules.now c.args.self.now c.args.positive (body_view c.args.body.now)
+      (shape_of c.args.rules.now c.args.self.now.start c.args.positive (place_of c.args.self.now) c.args.body.now
+      (others_plain c.args.rules.now c.args.self.now.start c.args.positive (place_of c.args.self.now) c.args.body.now c.in_default.not-Not c.in_default.not-And c.in_default.not-Or c.in_default.not-Choose c.in_default.not-Call c.in_default.not-Exists));
+  less = omega arith;
+  reads = refl;
+  typed = λ at look h. evaluates_it c.args.rules.now at c.args.self.now c.args.positive c.args.body.now h;
+}
