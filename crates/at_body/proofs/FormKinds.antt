@@ -7,9 +7,9 @@ use Rattle.at_model.specs.Classes.{is_sub, class_in}
 use Rattle.at_model.specs.Bodies.{Expr, Exprs, Not, And, Or, Choose, Call, Exists, no_exprs, expr, ref_of, truth_of}
 use Rattle.at_model.specs.Follow.{Reached, Ends, Stops, Waits, follow}
 use Rattle.at_model.specs.Instances.{AnyText}
-use Rattle.at_model.specs.Kinds.{HasKind, HaveKinds}
+use Rattle.at_model.specs.Kinds.{AreTyped, HasKind, HaveKinds, IsDeclarationTyped}
 use Rattle.at_model.specs.Kinds as form
-use Rattle.at_model.specs.Rules.{Rules, Kind, Attribute}
+use Rattle.at_model.specs.Rules.{Rules, Kind, Attribute, start_of}
 use Rattle.at_model.specs.Rules as model
 use Rattle.at_model.specs.Run.{Value, Int, Truth, Text, Ref, Instance, Location, Contents, Slot, Run, Gives, Fails, Looks, Demands, ◌>>=◌}
 use Rattle.at_model.specs.TypedRuns.{ClassAt, IsNodeOf, IsOfKind, AreArguments, IsOfItsKind, IsTypedRun, IsWellTyped}
@@ -49,6 +49,8 @@ use Rattle.at_body.proofs.TypedUses.{is_truth, is_ref, node_of_class, told}
 use Rattle.at_body.proofs.TypedAnswers.{evaluated, scope_typed}
 use Rattle.at_body.proofs.TypedSteps.{none_more}
 use Rattle.at_body.proofs.FormRuns.{alone_there}
+use Rattle.at_body.specs.TypedStart.{IsEquation}
+use Rattle.at_model.proofs.Everywhere.{found}
 
 module _ (rules : Rules) (at : ClassAt ℕ) where
   abbrev Is : Kind → Value ℕ → Type 0
@@ -477,14 +479,18 @@ evaluates_typed rules at look over t u b s stood new doing same idle still found
 module _ (rules : Rules) (at : ClassAt ℕ) (look : Contents ℕ) where
   -- where a value is wanted
   pub waits_typed : (t : Forming) (u : Purpose) (j : Instance ℕ) → Awaits rules at look t u j → IsTypedProgress rules at look (progress.Need j) (record t { purpose = Some u })
-  waits_typed t u j h = (u, refl, record {
-    kinds = h.kinds;
-    kind = h.kind;
-    does = h.does;
-    waits = h.waits;
-    comes = h.comes;
-    stands = record { place = h.stands.place; tasks = h.stands.tasks };
-  })
+  waits_typed t u j h = (
+    u,
+    refl,
+    record {
+      kinds = h.kinds;
+      kind = h.kind;
+      does = h.does;
+      waits = h.waits;
+      comes = h.comes;
+      stands = record { place = h.stands.place; tasks = h.stands.tasks };
+    },
+  )
 
   -- a formula that waits is told a value
   pub trial_takes : (t : Forming) (v : Value ℕ) → kinds.Takes rules at look t v → typed.Takes rules at t.trial v
@@ -498,3 +504,20 @@ module _ (rules : Rules) (at : ClassAt ℕ) (look : Contents ℕ) where
       subst (λ d. IsTypedDoing rules at look d (record t { purpose = None; trial = new })) (sym made)
       (step_typed rules at look (record t { purpose = None }) u h.kinds h.kind (resumed rules.classes t.trial v) t.trial.reads s new (subst (IsPurpose rules at h.kinds h.kind) same h.does)
       (record { place = h.stands.place; tasks = h.stands.tasks }) (h.comes v its) found typed)
+
+-- the equation of a circular attribute is one of booleans
+pub equation_forms : (rules : Rules) (at : ClassAt ℕ) (s : Trial) (t : Forming) (b : Body) (a c : ℕ) → AreTyped rules → IsEquation rules at s b a → c ≡ a → start_of rules c ≡ Some t.start → place_of t ≡ trial.place_of s → t.tasks ≡ [] → t.pile ≡ [] →
+    Forms rules at t b
+equation_forms rules at s t b a c typed_rules h same start place idle none =
+    let d = h.declaration in
+    let its : start_of rules a ≡ d.start = ap (λ (o : Option Attribute). elim o as (λ _. Option Bool) [ None ↦ None | Some e ↦ e.start ]) h.attribute_is in
+    let x = found (IsDeclarationTyped rules.classes) rules.attributes a d typed_rules.attributes h.attribute_is in
+    let boolean : d.result ≡ model.Truth = x.boolean t.start (sym its ∙ sym (ap (start_of rules) same) ∙ start) in
+    record {
+      kinds = h.kinds;
+      is = subst (HasKind rules (scope_kinds h.kinds) (body_view b)) boolean h.is;
+      stands = record {
+        place = subst (IsPlaceOf rules.classes at h.kinds) (sym place) h.place;
+        tasks = subst (λ ts. AreTasks rules at h.kinds ts t.pile) (sym idle) (subst (AreTasks rules at h.kinds []) (sym none) (kinds.ended h.kinds));
+      };
+    }

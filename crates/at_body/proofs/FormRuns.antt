@@ -14,6 +14,7 @@ use Rattle.at_model.specs.of_fixpoints.Formulas.{Formula, Known, Asks, is_surely
 use Rattle.at_rules.specs.Bodies.{body_view, bodies_view}
 use Rattle.at_rules.specs.declared.body.Body.{Body}
 use Rattle.at_body.specs.declared.forming.Forming.{Forming}
+use Rattle.at_body.specs.declared.forming.Progress.{Progress}
 use Rattle.at_body.specs.declared.task.Purpose.{Purpose}
 use Rattle.at_body.specs.declared.task.Purpose.TheVariants as purpose
 use Rattle.at_body.specs.declared.task.Task.{Task}
@@ -25,6 +26,7 @@ use Rattle.at_body.specs.declared.trial.Step.TheVariants as step
 use Rattle.at_body.specs.declared.trial.Trial.{Trial}
 use Rattle.at_body.specs.Values.{value_view, fault_view}
 use Rattle.at_body.specs.Stacked.{below}
+use Rattle.at_body.specs.Starting.{formula_at}
 use Rattle.at_body.specs.Standing.{Place, scope, outside, inside}
 use Rattle.at_body.specs.Pieces.{HasTop, together, top_of, put_together}
 use Rattle.at_body.specs.Rest.{ev, ev_all}
@@ -86,12 +88,12 @@ module _ (rules : Rules) where
       ≡ ev rules.classes e (place_of t) >>= used rules (purpose.Arguments a es) t
   call_left t p e a es is =
       let here : (i : Instance ℕ) → i.attribute ≡ a → demanded (start_of rules) t.start p i ≡ Gives (Asks i) =
-          λ i same. ap (λ b. cond b (Gives (Asks i)) (Demands i (λ v. Gives (Known (turned p v))))) (ap (λ x. p && starts_from t.start (start_of rules x)) same ∙ is) in
+      λ i same. ap (λ b. cond b (Gives (Asks i)) (Demands i (λ v. Gives (Known (turned p v))))) (ap (λ x. p && starts_from t.start (start_of rules x)) same ∙ is) in
       let ask : (v : Value ℕ) (vs : List (Value ℕ)) → node_of v >>= (λ n. demanded (start_of rules) t.start p (record { node = n; attribute = a; arguments = vs })) ≡ asking a v vs =
-          λ v vs. ap (λ (k : ℕ → Run ℕ (Formula ℕ)). node_of v >>= k) (fun_ext (λ n. here (record { node = n; attribute = a; arguments = vs }) refl)) in
+      λ v vs. ap (λ (k : ℕ → Run ℕ (Formula ℕ)). node_of v >>= k) (fun_ext (λ n. here (record { node = n; attribute = a; arguments = vs }) refl)) in
       let all : (v : Value ℕ) → ev_all rules.classes (bodies_view es.now) (place_of t) >>= (λ vs. node_of v >>= (λ n. demanded (start_of rules) t.start p (record { node = n; attribute = a; arguments = vs })))
-          ≡ put_to rules t.start (purpose.Arguments a es) (place_of t) v =
-          λ v. ap (λ (k : List (Value ℕ) → Run ℕ (Formula ℕ)). ev_all rules.classes (bodies_view es.now) (place_of t) >>= k) (fun_ext (λ vs. ask v vs)) in
+      ≡ put_to rules t.start (purpose.Arguments a es) (place_of t) v =
+      λ v. ap (λ (k : List (Value ℕ) → Run ℕ (Formula ℕ)). ev_all rules.classes (bodies_view es.now) (place_of t) >>= k) (fun_ext (λ vs. ask v vs)) in
       ap (λ (k : Value ℕ → Run ℕ (Formula ℕ)). (ev rules.classes e (place_of t) >>= k) >>= carried rules t) (fun_ext all)
       ∙ regroup (ev rules.classes e (place_of t)) (put_to rules t.start (purpose.Arguments a es) (place_of t)) (carried rules t)
 
@@ -101,14 +103,14 @@ module _ (rules : Rules) where
   call_demanded b p e a es place is =
       let last : Value ℕ → Run ℕ (Formula ℕ) = λ v. Gives (Known (turned p v)) in
       let here : (i : Instance ℕ) → i.attribute ≡ a → demanded (start_of rules) b p i ≡ Demands i last =
-          λ i same. ap (λ c. cond c (Gives (Asks i)) (Demands i last)) (ap (λ x. p && starts_from b (start_of rules x)) same ∙ is) in
+      λ i same. ap (λ c. cond c (Gives (Asks i)) (Demands i last)) (ap (λ x. p && starts_from b (start_of rules x)) same ∙ is) in
       let ask : (v : Value ℕ) (vs : List (Value ℕ)) → node_of v >>= (λ n. demanded (start_of rules) b p (record { node = n; attribute = a; arguments = vs })) ≡ demand_of a v vs >>= last =
-          λ v vs. ap (λ (k : ℕ → Run ℕ (Formula ℕ)). node_of v >>= k) (fun_ext (λ n. here (record { node = n; attribute = a; arguments = vs }) refl))
-          ∙ sym (regroup (node_of v) (λ n. Demands (record { node = n; attribute = a; arguments = vs }) Gives) last) in
+      λ v vs. ap (λ (k : ℕ → Run ℕ (Formula ℕ)). node_of v >>= k) (fun_ext (λ n. here (record { node = n; attribute = a; arguments = vs }) refl))
+      ∙ sym (regroup (node_of v) (λ n. Demands (record { node = n; attribute = a; arguments = vs }) Gives) last) in
       let all : (v : Value ℕ) → ev_all rules.classes es place >>= (λ vs. node_of v >>= (λ n. demanded (start_of rules) b p (record { node = n; attribute = a; arguments = vs })))
-          ≡ (ev_all rules.classes es place >>= demand_of a v) >>= last =
-          λ v. ap (λ (k : List (Value ℕ) → Run ℕ (Formula ℕ)). ev_all rules.classes es place >>= k) (fun_ext (λ vs. ask v vs))
-          ∙ sym (regroup (ev_all rules.classes es place) (demand_of a v) last) in
+      ≡ (ev_all rules.classes es place >>= demand_of a v) >>= last =
+      λ v. ap (λ (k : List (Value ℕ) → Run ℕ (Formula ℕ)). ev_all rules.classes es place >>= k) (fun_ext (λ vs. ask v vs))
+      ∙ sym (regroup (ev_all rules.classes es place) (demand_of a v) last) in
       ap (λ (k : Value ℕ → Run ℕ (Formula ℕ)). ev rules.classes e place >>= k) (fun_ext all)
       ∙ sym (regroup (ev rules.classes e place) (λ v. ev_all rules.classes es place >>= demand_of a v) last)
 
@@ -212,8 +214,8 @@ argument_shape rules t call b bs =
     let others : Run ℕ (List (Value ℕ)) = ev_all rules.classes (bodies_view bs.now) (place_of t) in
     let ask : List (Value ℕ) → Run ℕ (Formula ℕ) = λ ws. asking call.value.attribute (Ref call.value.node) (map value_view call.value.done.items ++ ws) in
     ap (λ (r : Run ℕ (Formula ℕ)). r >>= carried rules t) (
-      regroup one (λ w. others >>= λ ws. Gives (w ∷ ws)) ask
-      ∙ ap (λ (k : Value ℕ → Run ℕ (Formula ℕ)). one >>= k) (fun_ext (λ w. regroup others (λ ws. Gives (w ∷ ws)) ask))
+    regroup one (λ w. others >>= λ ws. Gives (w ∷ ws)) ask
+    ∙ ap (λ (k : Value ℕ → Run ℕ (Formula ℕ)). one >>= k) (fun_ext (λ w. regroup others (λ ws. Gives (w ∷ ws)) ask))
     )
     ∙ regroup one (put_to rules t.start (purpose.Argument call bs) (place_of t)) (carried rules t)
 
@@ -281,7 +283,7 @@ pub alone_there : (rules : Rules) (look : Contents ℕ) (seen : List (Location �
 alone_there rules look seen b new place same idle =
     let r : Place → Run ℕ (Value ℕ) = ev rules.classes (body_view b.now) in
     let whole : trial.rest rules.classes (Enter b) new ≡ r place =
-        ap (λ q. r q >>= trial.after rules.classes new.todo q) same ∙ ap (λ ts. r place >>= trial.after rules.classes ts place) idle ∙ to_its_end (r place) in
+    ap (λ q. r q >>= trial.after rules.classes new.todo q) same ∙ ap (λ ts. r place >>= trial.after rules.classes ts place) idle ∙ to_its_end (r place) in
     ap (follow look seen) (sym whole)
 
 pub evaluated_at : (rules : Rules) (look : Contents ℕ) (t : Forming) (u : Purpose) (b : Bor Body) (s : Step) (stood new : Trial) (doing : Doing) → trial.place_of stood ≡ place_of t → stood.todo ≡ [] → stood.reads ≡ t.trial.reads →
@@ -308,3 +310,42 @@ made_whole_found rules look t f idle is = rw (idle, is) refl
 pub waits_found : (rules : Rules) (look : Contents ℕ) (t : Forming) (u : Purpose) (j : Instance ℕ) →
     follow look t.trial.reads (rest rules (Wait u j) t) ≡ (Waits j (told rules (record t { purpose = Some u })), t.trial.reads)
 waits_found rules look t u j = refl
+
+-- a formula that waits is told a value
+apart : (rules : Rules) (t : Forming) (u : Purpose) (s : Step) (new : Trial) (after : Option Purpose) →
+    rest rules (stepped u s) (record t { trial = new }) ≡ rest rules (stepped u s) (record t { purpose = after; trial = new })
+apart rules t u (step.Value v) new after = refl
+apart rules t u (step.Fault k) new after = refl
+apart rules t u (step.Need j) new after = refl
+
+pub told_found : {E : Type 0} (res : Result Progress E) (rules : Rules) (look : Contents ℕ) (t : Forming) (v : Value ℕ) (u : Purpose) (s : Step) (new : Trial) (doing : Doing) (after : Option Purpose)
+    (end_of : Progress → Reached ℕ (Formula ℕ) × List (Location ℕ)) → t.purpose ≡ Some u →
+    follow look t.trial.reads (trial.resumed rules.classes t.trial v) ≡ (trial.reached rules.classes s new, new.reads) → doing ≡ stepped u s →
+    IfOk res (λ p. follow look new.reads (rest rules doing (record t { purpose = after; trial = new })) ≡ end_of p) → IfOk res (λ p. follow look t.trial.reads (told rules t v) ≡ end_of p)
+told_found (Ok p) rules look t v u s new doing after end_of has found made h =
+    let its : told rules t v ≡ trial.resumed rules.classes t.trial v >>= used rules u t =
+    ap (λ o. elim o as (λ _. Run ℕ (Formula ℕ)) [ None ↦ Fails Null | Some w ↦ trial.resumed rules.classes t.trial v >>= used rules w t ]) has in
+    ap (follow look t.trial.reads) its
+    ∙ evaluated rules look t u (trial.resumed rules.classes t.trial v) s new found
+    ∙ ap (follow look new.reads) (apart rules t u s new after)
+    ∙ ap (λ d. follow look new.reads (rest rules d (record t { purpose = after; trial = new }))) (sym made)
+    ∙ h
+told_found (Err x) rules look t v u s new doing after end_of has found made h = tt
+
+-- where the equation stands, with nothing to do
+begun_same : (rules : Rules) (look : Contents ℕ) (t : Forming) (s : Trial) (a : ℕ) (b : Bor Body) → start_of rules a ≡ Some t.start → place_of t ≡ trial.place_of s → t.tasks ≡ [] → t.pile ≡ [] → t.trial ≡ s →
+    follow look s.reads (formula_at rules (start_of rules a) b.now (trial.place_of s)) ≡ follow look t.trial.reads (rest rules (Form true b) t)
+begun_same rules look t s a b start place idle none same =
+    let r : Place → Run ℕ (Formula ℕ) = formed rules t.start true (body_view b.now) in
+    let whole : rest rules (Form true b) t ≡ r (place_of t) =
+    ap (λ ts. r (place_of t) >>= onward rules t.start ts t.pile (place_of t)) idle ∙ to_its_end (r (place_of t)) in
+    ap (λ o. follow look s.reads (formula_at rules o b.now (trial.place_of s))) start
+    ∙ ap (λ q. follow look s.reads (r q)) (sym place)
+    ∙ ap (follow look s.reads) (sym whole)
+    ∙ ap (λ (x : Trial). follow look x.reads (rest rules (Form true b) t)) (sym same)
+
+pub begun_found : {E : Type 0} (res : Result Progress E) (rules : Rules) (look : Contents ℕ) (t : Forming) (s : Trial) (a : ℕ) (b : Bor Body) (r : Run ℕ (Formula ℕ)) (end_of : Progress → Reached ℕ (Formula ℕ) × List (Location ℕ)) →
+    start_of rules a ≡ Some t.start → place_of t ≡ trial.place_of s → t.tasks ≡ [] → t.pile ≡ [] → t.trial ≡ s → follow look [] r ≡ follow look s.reads (formula_at rules (start_of rules a) b.now (trial.place_of s)) →
+    IfOk res (λ p. follow look t.trial.reads (rest rules (Form true b) t) ≡ end_of p) → IfOk res (λ p. follow look [] r ≡ end_of p)
+begun_found (Ok p) rules look t s a b r end_of start place idle none same formed h = formed ∙ begun_same rules look t s a b start place idle none same ∙ h
+begun_found (Err x) rules look t s a b r end_of start place idle none same formed h = tt

@@ -1,9 +1,9 @@
 -- The start of an evaluation to a formula.
-use Rattle.std.proofs.Common.{◌≡◌, ℕ, suc, List, [], ◌∷◌, ◌++◌, refl, ap, sym, ◌∙◌, nat_eq, map, Option, Some, None, ◌∙◌}
+use Rattle.std.proofs.Common.{◌≡◌, ℕ, suc, List, [], ◌∷◌, ◌++◌, refl, ap, sym, ◌∙◌, nat_eq, map, Option, Some, None, Bor, Result, Ok, Err, IfOk}
 use Rattle.std.specs.Prelude.{true, false}
 use Rattle.at_model.specs.Run.{Value, Instance, Location, Is, Up, Contents, Null, Run, Fails, Looks, Gives, ◌>>=◌}
 use Rattle.at_model.specs.Bodies.{Expr, Scope}
-use Rattle.at_model.specs.Rules.{Rules, inherited_equation, attribute_name, start_of}
+use Rattle.at_model.specs.Rules.{Rules, inherited_equation, attribute_name, evaluation, start_of}
 use Rattle.at_model.specs.Support.{argument_classes}
 use Rattle.at_model.specs.Follow.{Reached, follow}
 use Rattle.at_model.specs.of_fixpoints.Formulas.{Formula}
@@ -14,8 +14,8 @@ use Rattle.at_body.specs.declared.trial.Trial.{Trial}
 use Rattle.at_body.specs.Values.{value_view}
 use Rattle.at_body.specs.Standing.{scope}
 use Rattle.at_body.specs.Rest.{place_of}
-use Rattle.at_body.specs.Starting.{evaluation_of_forms, form_by_rule, formula_at, inherited_form_of}
-use Rattle.at_body.proofs.Climbing.{past}
+use Rattle.at_body.specs.Starting.{by_rule, evaluation_of_forms, form_by_rule, formula_at, inherited_form_of}
+use Rattle.at_body.proofs.Climbing.{past, started}
 
 -- where nothing is bound
 pub at_place : (t : Trial) (n : ℕ) (vs : List (Value ℕ)) (child : Option ℕ) → t.bound ≡ [] → t.this ≡ n → map value_view t.arguments ≡ vs → t.child ≡ child →
@@ -79,3 +79,16 @@ pub form_started : (rules : Rules) (tree : Contents ℕ) (i : Instance ℕ) (see
 form_started rules tree i seen n a c vs end e f g grows is h =
     let whole : i ≡ record { node = n; attribute = a; arguments = vs } = rw (e, f, g) refl in
     ap (λ j. follow tree [] (evaluation_of_forms rules j)) whole ∙ form_starts rules tree (record { node = n; attribute = a; arguments = vs }) seen c end grows is h
+
+-- once the equation is there
+pub seek_same : {E : Type 0} (res : Result (Bor Body) E) (rules : Rules) (tree : Contents ℕ) (i : Instance ℕ) (seen : List (Location ℕ)) (n a c : ℕ) (vs : List (Value ℕ)) (end_of : Bor Body → Reached ℕ (Value ℕ) × List (Location ℕ)) →
+    n ≡ i.node → a ≡ i.attribute → vs ≡ i.arguments → seen ≡ (Is n ∷ []) ++ argument_classes vs → c ≡ tree (Is n) →
+    IfOk res (λ b. follow tree seen (by_rule rules n a vs c) ≡ end_of b) → IfOk res (λ b. follow tree [] (evaluation rules nat_eq i) ≡ end_of b)
+seek_same (Ok b) rules tree i seen n a c vs end_of e f g grows is h = started rules tree i seen n a c vs (end_of b) e f g grows is h
+seek_same (Err x) rules tree i seen n a c vs end_of e f g grows is h = tt
+
+pub seek_formed : {E : Type 0} (res : Result (Bor Body) E) (rules : Rules) (tree : Contents ℕ) (i : Instance ℕ) (seen : List (Location ℕ)) (n a c : ℕ) (vs : List (Value ℕ)) (end_of : Bor Body → Reached ℕ (Formula ℕ) × List (Location ℕ)) →
+    n ≡ i.node → a ≡ i.attribute → vs ≡ i.arguments → seen ≡ (Is n ∷ []) ++ argument_classes vs → c ≡ tree (Is n) →
+    IfOk res (λ b. follow tree seen (form_by_rule rules n a vs c) ≡ end_of b) → IfOk res (λ b. follow tree [] (evaluation_of_forms rules i) ≡ end_of b)
+seek_formed (Ok b) rules tree i seen n a c vs end_of e f g grows is h = form_started rules tree i seen n a c vs (end_of b) e f g grows is h
+seek_formed (Err x) rules tree i seen n a c vs end_of e f g grows is h = tt

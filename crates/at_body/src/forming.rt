@@ -9,7 +9,6 @@ ghost use Rattle.at_model.specs.Follow.{follow};
 ghost use Rattle.at_model.specs.TypedRuns.{ClassAt, IsWellTyped};
 ghost use Rattle.at_model.specs.WellFormed.{AreWellFormed, IsTreeSound};
 ghost use Rattle.at_model.specs.of_fixpoints.Evaluations.{evaluation};
-ghost use Rattle.at_model.specs.of_fixpoints.FormKinds.{AreBoolean};
 ghost use Rattle.at_model.specs.of_fixpoints.Formulas.{Formula as Meaning, Known, starts_from, turned};
 ghost use Rattle.at_rules.specs.Bodies.{body_view, bodies_view};
 ghost use Rattle.at_store.specs.Shown.{contents, tree, IsIdle};
@@ -28,8 +27,8 @@ ghost use Rattle.at_body.specs.ValueKinds.{IsTruth};
 ghost use Rattle.at_body.specs.Values.{value_view};
 
 use super::arguments::Arguments;
-use super::formula::{Formula, Pile};
 use super::folding::children;
+use super::formula::{Formula, Pile};
 use super::inst::Inst;
 use super::reads::Reads;
 use super::stack::Stack;
@@ -95,7 +94,6 @@ impl<'a> Forming<'a> {
     ) -> Result<(Forming<'a>, Progress), AllocError>
         requires idle_store { IsIdle store.now }
         requires formed { AreWellFormed rules.now }
-        requires boolean { AreBoolean rules.now }
         requires sound { IsTreeSound rules.now.classes (tree store.now) }
         requires typed { IsWellTyped rules.now (class_shown store.now) AnyText inst.now }
         requires circular { IsSome (start_of rules.now inst.now.attribute) }
@@ -134,7 +132,6 @@ impl<'a> Forming<'a> {
     ) -> Result<Progress, AllocError>
         requires idle_store { IsIdle store.now }
         requires formed { AreWellFormed rules.now }
-        requires boolean { AreBoolean rules.now }
         requires sound { IsTreeSound rules.now.classes (tree store.now) }
         requires typed { IsWellTyped rules.now (class_shown store.now) AnyText inst.now }
         requires circular { IsSome (start_of rules.now inst.now.attribute) }

@@ -33,7 +33,6 @@ impl Model for Formula {
     ghost use Rattle.std.specs.Prelude.{◌≡◌, [], ◌∷◌, ℕ};
     ghost use Rattle.at_model.specs.of_fixpoints.Formulas.{Formula as Meant};
     ghost use Rattle.at_body.specs.Pieces.{formula_of, stacked};
-
     ghost use Rattle.at_body.specs.FormulaCodes.{formula_code};
 
     ghost Value = { Meant ℕ };
@@ -139,7 +138,6 @@ impl Model for Pile {
     ghost use Rattle.std.specs.Prelude.{[], List, ℕ};
     ghost use Rattle.at_model.specs.of_fixpoints.Formulas.{Formula as Meant};
     ghost use Rattle.at_body.specs.Pieces.{AreTops, stacked};
-
     ghost use Rattle.std.specs.Coded.{coded_list};
     ghost use Rattle.at_body.specs.FormulaCodes.{formula_code};
 

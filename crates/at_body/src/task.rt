@@ -1,8 +1,8 @@
 //! What is left to do for a formula.
 
+use super::inst::Inst;
 use super::todo::Asking;
 use super::value::{FaultKind, Value};
-use super::inst::Inst;
 use at_rules::{AttrId, Body};
 use at_store::Node;
 

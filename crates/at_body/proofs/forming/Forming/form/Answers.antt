@@ -29,27 +29,27 @@ returns-in-Or-clause-typed c = λ at look h. sides_typed c.args.rules.now at loo
 pub returns-in-Choose-clause-same : goal.returns-in-Choose-clause-same
 returns-in-Choose-clause-same c =
     let is : body_view c.args.body.now ≡ Choose (body_view c.deref-in-Choose-3.result.now) (body_view c.deref-in-Choose.result.now) (body_view c.deref-in-Choose-2.result.now) =
-        rw (c.in-Choose.is, ← c.deref-in-Choose.ensures, ← c.deref-in-Choose-2.ensures, ← c.deref-in-Choose-3.ensures) refl in
+    rw (c.in-Choose.is, ← c.deref-in-Choose.ensures, ← c.deref-in-Choose-2.ensures, ← c.deref-in-Choose-3.ensures) refl in
     ap (λ e. followed c.args.rules.now c.args.self.now (formed c.args.rules.now c.args.self.now.start c.args.positive e (place_of c.args.self.now))) is
     ∙ choice_shape c.args.rules.now c.args.self.now c.args.positive (body_view c.deref-in-Choose-3.result.now) c.deref-in-Choose.result c.deref-in-Choose-2.result
 
 pub returns-in-Choose-clause-typed : goal.returns-in-Choose-clause-typed
 returns-in-Choose-clause-typed c = λ at look h.
     let is : body_view c.args.body.now ≡ Choose (body_view c.deref-in-Choose-3.result.now) (body_view c.deref-in-Choose.result.now) (body_view c.deref-in-Choose-2.result.now) =
-        rw (c.in-Choose.is, ← c.deref-in-Choose.ensures, ← c.deref-in-Choose-2.ensures, ← c.deref-in-Choose-3.ensures) refl in
+    rw (c.in-Choose.is, ← c.deref-in-Choose.ensures, ← c.deref-in-Choose-2.ensures, ← c.deref-in-Choose-3.ensures) refl in
     choose_evaluates c.args.rules.now at c.args.self.now c.args.positive c.args.body.now c.deref-in-Choose-3.result.now c.deref-in-Choose.result c.deref-in-Choose-2.result is h
 
 pub returns-in-Exists-clause-same : goal.returns-in-Exists-clause-same
 returns-in-Exists-clause-same c =
     let is : body_view c.args.body.now ≡ Exists (body_view c.deref-in-Exists-2.result.now) c.in-Exists.part (body_view c.deref-in-Exists.result.now) =
-        rw (c.in-Exists.is, ← c.deref-in-Exists.ensures, ← c.deref-in-Exists-2.ensures) refl in
+    rw (c.in-Exists.is, ← c.deref-in-Exists.ensures, ← c.deref-in-Exists-2.ensures) refl in
     ap (λ e. followed c.args.rules.now c.args.self.now (formed c.args.rules.now c.args.self.now.start c.args.positive e (place_of c.args.self.now))) is
     ∙ exists_shape c.args.rules.now c.args.self.now c.args.positive (body_view c.deref-in-Exists-2.result.now) c.in-Exists.part c.deref-in-Exists.result
 
 pub returns-in-Exists-clause-typed : goal.returns-in-Exists-clause-typed
 returns-in-Exists-clause-typed c = λ at look h.
     let is : body_view c.args.body.now ≡ Exists (body_view c.deref-in-Exists-2.result.now) c.in-Exists.part (body_view c.deref-in-Exists.result.now) =
-        rw (c.in-Exists.is, ← c.deref-in-Exists.ensures, ← c.deref-in-Exists-2.ensures) refl in
+    rw (c.in-Exists.is, ← c.deref-in-Exists.ensures, ← c.deref-in-Exists-2.ensures) refl in
     exists_evaluates c.args.rules.now at c.args.self.now c.args.positive c.args.body.now c.deref-in-Exists-2.result.now c.in-Exists.part c.deref-in-Exists.result is h
 
 pub returns-in_default : goal.returns-in_default
