@@ -11,6 +11,7 @@ ghost use Rattle.at_model.specs.WellFormed.{AreWellFormed, IsTreeSound};
 ghost use Rattle.at_model.specs.of_fixpoints.Evaluations.{evaluation};
 ghost use Rattle.at_model.specs.of_fixpoints.Formulas.{Formula as Meaning, Known, starts_from, turned};
 ghost use Rattle.at_rules.specs.Bodies.{body_view, bodies_view};
+ghost use Rattle.at_store.specs.Located.{loc_view};
 ghost use Rattle.at_store.specs.Shown.{contents, tree, IsIdle};
 ghost use Rattle.at_body.specs.declared.forming.Forming.{Forming};
 ghost use Rattle.at_body.specs.declared.task.Doing.TheVariants.{Evaluate, Form, Made};
@@ -196,6 +197,13 @@ impl<'a> Forming<'a> {
         ensures { result.now ≡ self.now.trial.reads }
     {
         self.trial.reads()
+    }
+
+    /// The locations that it has looked at, in order, taken out of it.
+    pub fn take_reads(&mut self, alloc: Global) -> Vec<Loc>
+        ensures { map loc_view result.items ≡ self.old.trial.reads }
+    {
+        self.trial.take_reads(alloc)
     }
 
     /// Goes on up to the end or to a demand.
