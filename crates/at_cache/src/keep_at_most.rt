@@ -20,6 +20,9 @@ pub struct KeepAtMost {
     alloc: Global,
     most: usize,
     keeper: KeepRecorded,
+    // How many numbers were given when entries were folded, and the limit on what was folded into one.
+    since: u64,
+    limit: u32,
 }
 
 /// One call, where each exit that lets it go would else have a case for each field.
@@ -29,6 +32,8 @@ impl Drop for KeepAtMost {
             alloc: _,
             most: _,
             keeper: _,
+            since: _,
+            limit: _,
         } = self;
     }
 }
@@ -43,7 +48,33 @@ impl KeepAtMost {
             alloc,
             most,
             keeper: KeepRecorded::new(alloc),
+            since: 0,
+            limit: 0,
         }
+    }
+
+    // Where there are more entries than the bound, they are folded, or forgotten where that isn't enough.
+    fn shrink(&mut self) {
+        if self.keeper.len() <= self.most {
+            return;
+        }
+        let target = self.most / 4 * 3;
+        match self.keeper.fold(target, self.since, self.limit) {
+            Ok(limit) => {
+                self.limit = limit;
+                self.since = self.keeper.puts();
+                if self.keeper.len() > self.most {
+                    self.forget();
+                }
+            }
+            Err(_) => self.forget(),
+        }
+    }
+
+    fn forget(&mut self) {
+        self.keeper = KeepRecorded::new(self.alloc);
+        self.since = 0;
+        self.limit = 0;
     }
 
     /// How many entries are kept.
@@ -114,11 +145,8 @@ impl Keeper for KeepAtMost {
         ensures over { ForgetsOver (Answers (F.post touched.now)) self.old self.new }
         ensures bound { self.new.most ≡ self.old.most }
     {
-        if self.keeper.len() > self.most {
-            self.keeper = KeepRecorded::new(self.alloc);
-        } else {
-            self.keeper.flush(touched);
-        }
+        self.keeper.flush(touched);
+        self.shrink();
     }
 
     fn flush_at<F: Fn(Loc) -> bool>(&mut self, places: &Places<'_>, touched: &F)
@@ -128,10 +156,7 @@ impl Keeper for KeepAtMost {
         ensures over { ForgetsOver (Answers (F.post touched.now)) self.old self.new }
         ensures bound { self.new.most ≡ self.old.most }
     {
-        if self.keeper.len() > self.most {
-            self.keeper = KeepRecorded::new(self.alloc);
-        } else {
-            self.keeper.flush_at(places, touched);
-        }
+        self.keeper.flush_at(places, touched);
+        self.shrink();
     }
 }

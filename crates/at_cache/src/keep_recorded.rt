@@ -9,6 +9,7 @@ ghost use Rattle.at_cache.specs.Recorded.{IsIndexed, kept_in};
 ghost use Rattle.at_cache.specs.Stored.{reads_held};
 
 use crate::facet::Facets;
+use crate::folding::{Graph, Plan, Rewriting, table_of};
 use crate::forgetting::take_out;
 use crate::keeper::{Keeper, Order, Put};
 use crate::places::take_out_at;
@@ -73,6 +74,25 @@ impl KeepRecorded {
         ensures { result ≡ table_len self.now.entries }
     {
         self.entries.entries.len()
+    }
+
+    /// Folds entries, so that about so many are left or fewer, of those that came since that number all that nobody used. The limit on what is
+    /// folded into one is that of the last time, and is told. An error where memory is wanting: then what is left is to be forgotten.
+    pub fn fold(&mut self, target: usize, since: u64, limit: u32) -> Result<u32, AllocError> {
+        let alloc = self.alloc;
+        let graph = Graph::of(alloc, &self.entries, self.readers.as_slice())?;
+        let (plan, limit) = Plan::of(alloc, &graph, target, since, limit)?;
+        let table = table_of(alloc, &self.entries, &graph, &plan)?;
+        let mut rewriting = Rewriting::new(alloc, &graph)?;
+        rewriting.rewrite(alloc, &graph, &plan, &table, &mut self.readers)?;
+        self.puts = table.entries.len() as u64;
+        self.entries = table;
+        Ok(limit)
+    }
+
+    /// How many numbers were given.
+    pub fn puts(&self) -> u64 {
+        self.puts
     }
 
     /// How many direct reads the entries have: of an entry a location once, however often it was put, and a node's class once for each

@@ -27,6 +27,7 @@ mod cutting;
 mod edge;
 mod entry;
 mod facet;
+mod folding;
 mod forgetting;
 mod keep_at_most;
 mod keep_cut_off;
