@@ -23,6 +23,9 @@ pub struct KeepAtMost {
     // How many numbers were given when entries were folded, and the limit on what was folded into one.
     since: u64,
     limit: u32,
+    // How many entries are too many within a question, and how often there were.
+    ceiling: usize,
+    rounds: u32,
 }
 
 /// One call, where each exit that lets it go would else have a case for each field.
@@ -34,6 +37,8 @@ impl Drop for KeepAtMost {
             keeper: _,
             since: _,
             limit: _,
+            ceiling: _,
+            rounds: _,
         } = self;
     }
 }
@@ -50,11 +55,13 @@ impl KeepAtMost {
             keeper: KeepRecorded::new(alloc),
             since: 0,
             limit: 0,
+            ceiling: most,
+            rounds: 0,
         }
     }
 
     // Where there are more entries than the bound, they are folded, or forgotten where that isn't enough.
-    fn shrink(&mut self) {
+    fn bound(&mut self) {
         if self.keeper.len() <= self.most {
             return;
         }
@@ -139,6 +146,29 @@ impl Keeper for KeepAtMost {
         false
     }
 
+    fn begin(&mut self) {
+        self.rounds = 0;
+        self.ceiling = self.most.saturating_add(self.most / 4);
+    }
+
+    fn is_full(&self) -> bool {
+        self.keeper.len() > self.ceiling
+    }
+
+    fn shrink(&mut self) {
+        self.rounds = self.rounds.saturating_add(1);
+        let wanted = self.most.saturating_mul(1 << (self.rounds / 8).min(40));
+        match self.keeper.fold(wanted / 4 * 3, 0, self.limit) {
+            Ok(limit) => self.limit = limit,
+            Err(_) => self.forget(),
+        }
+        // What is there now isn't what nobody asked for.
+        self.since = 0;
+        let least = self.keeper.len().saturating_add(self.most / 2).saturating_add(16);
+        let most = wanted.saturating_add(wanted / 4);
+        self.ceiling = if least > most { least } else { most };
+    }
+
     fn flush<F: Fn(Loc) -> bool>(&mut self, touched: &F)
         requires { F.IsAlwaysCallable touched.now }
         ensures leaves { LeavesUntouched (Answers (F.post touched.now)) (kept_by self.old) (kept_by self.new) }
@@ -146,7 +176,7 @@ impl Keeper for KeepAtMost {
         ensures bound { self.new.most ≡ self.old.most }
     {
         self.keeper.flush(touched);
-        self.shrink();
+        self.bound();
     }
 
     fn flush_at<F: Fn(Loc) -> bool>(&mut self, places: &Places<'_>, touched: &F)
@@ -157,6 +187,6 @@ impl Keeper for KeepAtMost {
         ensures bound { self.new.most ≡ self.old.most }
     {
         self.keeper.flush_at(places, touched);
-        self.shrink();
+        self.bound();
     }
 }

@@ -176,6 +176,14 @@ impl Keeper for KeepCutOff {
         true
     }
 
+    fn begin(&mut self) {}
+
+    fn is_full(&self) -> bool {
+        false
+    }
+
+    fn shrink(&mut self) {}
+
     fn flush<F: Fn(Loc) -> bool>(&mut self, touched: &F) {
         self.doubtful = true;
         let readers = self.readers.as_slice();

@@ -59,6 +59,14 @@ impl Keeper for KeepNone {
         false
     }
 
+    fn begin(&mut self) {}
+
+    fn is_full(&self) -> bool {
+        false
+    }
+
+    fn shrink(&mut self) {}
+
     fn flush<F: Fn(Loc) -> bool>(&mut self, _touched: &F) {}
 
     fn flush_at<F: Fn(Loc) -> bool>(&mut self, _places: &Places<'_>, touched: &F) {

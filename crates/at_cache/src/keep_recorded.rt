@@ -160,6 +160,14 @@ impl Keeper for KeepRecorded {
         false
     }
 
+    fn begin(&mut self) {}
+
+    fn is_full(&self) -> bool {
+        false
+    }
+
+    fn shrink(&mut self) {}
+
     fn flush<F: Fn(Loc) -> bool>(&mut self, touched: &F) {
         take_out(&mut self.entries, self.readers.as_slice(), touched);
     }

@@ -71,6 +71,14 @@ impl Keeper for KeepUntilEdit {
         false
     }
 
+    fn begin(&mut self) {}
+
+    fn is_full(&self) -> bool {
+        false
+    }
+
+    fn shrink(&mut self) {}
+
     fn flush<F: Fn(Loc) -> bool>(&mut self, _touched: &F) {
         self.values.clear();
     }

@@ -84,6 +84,15 @@ pub trait Keeper: Drop {
     /// Whether it traces what it is told in order. Nothing rests on it.
     fn is_tracing(&self) -> bool;
 
+    /// A question begins. Nothing rests on it.
+    fn begin(&mut self);
+
+    /// Whether there are so many entries within a question that fewer are wanted. Nothing rests on it.
+    fn is_full(&self) -> bool;
+
+    /// Keeps fewer entries, within a question; each that is left is one that was there.
+    fn shrink(&mut self);
+
     /// Forgets each entry that stands for a touched location.
     fn flush<F: Fn(Loc) -> bool>(&mut self, touched: &F)
         requires { F.IsAlwaysCallable touched.now }

@@ -135,13 +135,21 @@ impl<K: Keeper> Demand<K> {
         ensures gains { Gains rules.now store.now K.exact inst.now (K.contents self.old.keeper) (K.contents self.new.keeper) [] [] self.old.work self.new.work }
         ensures traces { StayJustified rules.now store.now inst.now (K.memories self.old.keeper) (K.memories self.new.keeper) }
     {
-        let mut direct = Direct::new(self.alloc, self.work);
-        let told = direct.answer(&mut self.keeper, rules, store, inst);
-        self.work = direct.work;
-        match told {
-            Ok(value) => Ok(Some(value)),
-            Err(Stop::GivesUp) => Ok(None),
-            Err(Stop::Memory) => Err(AllocError),
+        self.keeper.begin();
+        loop {
+            let mut direct = Direct::new(self.alloc, self.work);
+            let told = direct.answer(&mut self.keeper, rules, store, inst);
+            self.work = direct.work;
+            match told {
+                Ok(value) => return Ok(Some(value)),
+                Err(Stop::GivesUp) => {
+                    if !self.keeper.is_full() {
+                        return Ok(None);
+                    }
+                    self.keeper.shrink();
+                }
+                Err(Stop::Memory) => return Err(AllocError),
+            }
         }
     }
 

@@ -170,7 +170,7 @@ impl Direct {
             self.new.found.entries self.old.work self.new.work }
         ensures traces { StayJustified rules.now store.now needed (K.memories keeper.old) (K.memories keeper.new) }
     {
-        if keeper.stands(&needed) {
+        if keeper.stands(&needed) || keeper.is_full() {
             return Err(Stop::GivesUp);
         }
         let order = order_of(rules, below.uses.as_slice());
