@@ -4,13 +4,10 @@
 
 use crate::edge::{Edge, Edges, Slot};
 use crate::entry::Links;
-use crate::facet::{Facets, Readers};
-use crate::linking::{add_edge, add_users};
-use crate::putting::fresh;
+use crate::facet::Facets;
+use crate::linking::add_edge;
 use crate::row::Row;
 use crate::table::Table;
-use indexmap::IndexMap;
-use slab::Slab;
 use std::alloc::{AllocError, Global};
 
 // Into how many entries one is folded at most.
@@ -62,8 +59,6 @@ pub struct Plan {
     weights: Vec<u32>,
     stays: Vec<bool>,
     into: Vec<Into>,
-    // Of those that stay, the slots in the new table.
-    slots: Vec<u32>,
 }
 
 impl Drop for Plan {
@@ -72,7 +67,6 @@ impl Drop for Plan {
             weights: _,
             stays: _,
             into: _,
-            slots: _,
         } = self;
     }
 }
@@ -240,13 +234,11 @@ impl Plan {
             weights: filled(alloc, 0, count)?,
             stays: filled(alloc, false, count)?,
             into: filled(alloc, nowhere, count)?,
-            slots: filled(alloc, 0, count)?,
         };
         let mut limit = if limit / 2 < LEAST { LEAST } else { limit / 2 };
         while plan.staying(graph, since, limit, target) > target && (limit as usize) < count {
-            limit = limit + limit / 4 + 1;
+            limit = limit + limit / 2 + 1;
         }
-        plan.number();
         Ok((plan, limit))
     }
 
@@ -354,17 +346,6 @@ impl Plan {
         }
         self.into[other] = into;
     }
-
-    // The slots of those that stay, in order.
-    fn number(&mut self) {
-        let mut next = 0;
-        for position in 0..self.stays.len() {
-            if self.stays[position] {
-                self.slots[position] = next;
-                next += 1;
-            }
-        }
-    }
 }
 
 impl Into {
@@ -384,58 +365,34 @@ impl Into {
     }
 }
 
-/// The table of those that stay.
-pub fn table_of(
+/// The entries that stay use what those used that are folded into them, and the others go.
+pub fn relink(
     alloc: Global,
-    entries: &Table,
+    entries: &mut Table,
     graph: &Graph,
     plan: &Plan,
-) -> Result<Table, AllocError> {
+) -> Result<(), AllocError> {
     let members = Members::of(alloc, plan)?;
-    let mut table = Table {
-        entries: IndexMap::new(alloc),
-        places: Slab::new(alloc),
-        attributes: Vec::new(alloc),
-    };
+    let mut rewriting = Rewriting::new(alloc, graph)?;
     let mut seen = filled(alloc, u32::MAX, graph.len())?;
     for position in 0..graph.len() {
         if plan.stays[position] {
-            let links = links_of(alloc, graph, plan, &members, &mut seen, position)?;
-            enter(
-                alloc,
-                &mut table,
-                entries,
-                graph.slot(position),
-                plan.slots[position],
-                links,
-            )?;
+            let slot = graph.slot(position);
+            if members.are_several(position) {
+                let links = links_of(alloc, graph, plan, &members, &mut seen, position)?;
+                entries.exchange_links(slot, links);
+            }
+            let mut users = entries.exchange_users(slot, Edges::Empty);
+            rewriting.rewrite_list(alloc, entries, graph, plan, &mut users)?;
+            entries.exchange_users(slot, users);
         }
     }
-    Ok(table)
-}
-
-// One that stays comes into the new table.
-fn enter(
-    alloc: Global,
-    table: &mut Table,
-    entries: &Table,
-    old: Slot,
-    slot: Slot,
-    links: Links,
-) -> Result<(), AllocError> {
-    let Some((instance, entry)) = entries.pair(old) else {
-        return Err(AllocError);
-    };
-    let value = match &entry.value {
-        Some(value) => Some(value.copy()?),
-        None => None,
-    };
-    let edge = Edge {
-        slot,
-        stamp: u64::from(slot),
-    };
-    add_users(alloc, table, links.as_slice(), edge)?;
-    table.enter(instance.copy(alloc)?, fresh(value, links, edge))
+    for position in 0..graph.len() {
+        if !plan.stays[position] {
+            let _ = entries.remove(graph.slot(position));
+        }
+    }
+    Ok(())
 }
 
 // What is folded into each entry, itself among it.
@@ -451,6 +408,11 @@ impl Drop for Members {
 }
 
 impl Members {
+    // Whether anything else is folded into the entry.
+    fn are_several(&self, position: usize) -> bool {
+        self.starts[position + 1] - self.starts[position] > 1
+    }
+
     fn of(alloc: Global, plan: &Plan) -> Result<Members, AllocError> {
         let count = plan.into.len();
         let mut starts = filled(alloc, 0_u32, count + 1)?;
@@ -498,18 +460,18 @@ fn links_of(
             let at = *other as usize;
             if plan.stays[at] && seen[at] != position as u32 {
                 seen[at] = position as u32;
-                links.push(plan.slots[at])?;
+                links.push(graph.slot(at))?;
             }
         }
     }
     Ok(links)
 }
 
-/// Rewrites what locations tell of: of those that stay.
+/// Rewrites lists of edges: each tells of the entries into which that is folded of which it told.
 pub struct Rewriting {
     seen: Vec<u32>,
     mark: u32,
-    slots: Vec<u32>,
+    keys: Vec<u64>,
 }
 
 impl Drop for Rewriting {
@@ -517,7 +479,7 @@ impl Drop for Rewriting {
         let Rewriting {
             seen: _,
             mark: _,
-            slots: _,
+            keys: _,
         } = self;
     }
 }
@@ -527,7 +489,7 @@ impl Rewriting {
         Ok(Rewriting {
             seen: filled(alloc, u32::MAX, graph.len())?,
             mark: 0,
-            slots: Vec::new(alloc),
+            keys: Vec::new(alloc),
         })
     }
 
@@ -535,9 +497,9 @@ impl Rewriting {
     pub fn rewrite(
         &mut self,
         alloc: Global,
+        entries: &Table,
         graph: &Graph,
         plan: &Plan,
-        table: &Table,
         readers: &mut Vec<Facets>,
     ) -> Result<(), AllocError> {
         for node in 0..readers.len() {
@@ -545,7 +507,7 @@ impl Rewriting {
             let mut place = 0;
             while place < list.len() {
                 let reader = &mut list.as_mut_slice()[place];
-                self.rewrite_at(alloc, graph, plan, table, reader)?;
+                self.rewrite_list(alloc, entries, graph, plan, &mut reader.edges)?;
                 if list.as_slice()[place].edges.is_empty() {
                     let _ = list.swap_remove(place);
                 } else {
@@ -556,17 +518,20 @@ impl Rewriting {
         Ok(())
     }
 
-    // Those of one facet.
-    fn rewrite_at(
+    // Those of one list, where any tells of one that doesn't stay.
+    fn rewrite_list(
         &mut self,
         alloc: Global,
+        entries: &Table,
         graph: &Graph,
         plan: &Plan,
-        table: &Table,
-        reader: &mut Readers,
+        edges: &mut Edges,
     ) -> Result<(), AllocError> {
-        self.slots.clear();
-        match &reader.edges {
+        if do_stay(graph, plan, edges) {
+            return Ok(());
+        }
+        self.keys.clear();
+        match edges {
             Edges::Empty => {}
             Edges::Few(count, step, slot, stamp) => {
                 self.gather(graph, plan, &Row::few(*count, *step, *slot, *stamp))?;
@@ -578,27 +543,27 @@ impl Rewriting {
             }
         }
         self.mark += 1;
-        self.slots.sort_unstable();
-        let mut edges = Edges::Empty;
-        for slot in &self.slots {
+        self.keys.sort_unstable();
+        let mut later = Edges::Empty;
+        for key in &self.keys {
             let edge = Edge {
-                slot: *slot,
-                stamp: u64::from(*slot),
+                slot: *key as u32,
+                stamp: *key >> 32,
             };
-            add_edge(alloc, table, &mut edges, edge)?;
+            add_edge(alloc, entries, &mut later, edge)?;
         }
-        reader.edges = edges;
+        *edges = later;
         Ok(())
     }
 
-    // The slots of those into which the entries are folded that the edges tell of.
+    // Those into which the entries are folded that the edges tell of.
     fn gather(&mut self, graph: &Graph, plan: &Plan, row: &Row) -> Result<(), AllocError> {
         let mut rest = *row;
         while let Some((edge, others)) = rest.split_first() {
             if let Some(position) = graph.position(&edge) {
                 let into = plan.into[position];
                 for k in 0..into.count {
-                    self.note(plan, into.at[k as usize])?;
+                    self.note(graph, into.at[k as usize])?;
                 }
             }
             rest = others;
@@ -606,12 +571,46 @@ impl Rewriting {
         Ok(())
     }
 
-    fn note(&mut self, plan: &Plan, position: u32) -> Result<(), AllocError> {
+    fn note(&mut self, graph: &Graph, position: u32) -> Result<(), AllocError> {
         let at = position as usize;
         if self.seen[at] != self.mark {
             self.seen[at] = self.mark;
-            self.slots.push(plan.slots[at])?;
+            self.keys.push(graph.order[at])?;
         }
         Ok(())
     }
+}
+
+// Whether all edges tell of entries that stay.
+fn do_stay(graph: &Graph, plan: &Plan, edges: &Edges) -> bool {
+    match edges {
+        Edges::Empty => true,
+        Edges::Few(count, step, slot, stamp) => {
+            does_stay(graph, plan, &Row::few(*count, *step, *slot, *stamp))
+        }
+        Edges::More(rows) => {
+            for row in rows.as_slice() {
+                if !does_stay(graph, plan, row) {
+                    return false;
+                }
+            }
+            true
+        }
+    }
+}
+
+fn does_stay(graph: &Graph, plan: &Plan, row: &Row) -> bool {
+    let mut rest = *row;
+    while let Some((edge, others)) = rest.split_first() {
+        match graph.position(&edge) {
+            Some(position) => {
+                if !plan.stays[position] {
+                    return false;
+                }
+            }
+            None => return false,
+        }
+        rest = others;
+    }
+    true
 }

@@ -164,7 +164,11 @@ impl Keeper for KeepAtMost {
         }
         // What is there now isn't what nobody asked for.
         self.since = 0;
-        let least = self.keeper.len().saturating_add(self.most / 2).saturating_add(16);
+        let least = self
+            .keeper
+            .len()
+            .saturating_add(self.most / 2)
+            .saturating_add(16);
         let most = wanted.saturating_add(wanted / 4);
         self.ceiling = if least > most { least } else { most };
     }

@@ -9,7 +9,7 @@ ghost use Rattle.at_cache.specs.Recorded.{IsIndexed, kept_in};
 ghost use Rattle.at_cache.specs.Stored.{reads_held};
 
 use crate::facet::Facets;
-use crate::folding::{Graph, Plan, Rewriting, table_of};
+use crate::folding::{Graph, Plan, Rewriting, relink};
 use crate::forgetting::take_out;
 use crate::keeper::{Keeper, Order, Put};
 use crate::places::take_out_at;
@@ -82,11 +82,10 @@ impl KeepRecorded {
         let alloc = self.alloc;
         let graph = Graph::of(alloc, &self.entries, self.readers.as_slice())?;
         let (plan, limit) = Plan::of(alloc, &graph, target, since, limit)?;
-        let table = table_of(alloc, &self.entries, &graph, &plan)?;
         let mut rewriting = Rewriting::new(alloc, &graph)?;
-        rewriting.rewrite(alloc, &graph, &plan, &table, &mut self.readers)?;
-        self.puts = table.entries.len() as u64;
-        self.entries = table;
+        rewriting.rewrite(alloc, &self.entries, &graph, &plan, &mut self.readers)?;
+        relink(alloc, &mut self.entries, &graph, &plan)?;
+        self.entries.entries.shrink_to_fit();
         Ok(limit)
     }
 

@@ -113,6 +113,14 @@ impl Table {
         }
     }
 
+    /// The slots of what the entry in the slot used, which has these then.
+    pub fn exchange_links(&mut self, slot: Slot, links: Links) {
+        if let Some(place) = self.places.get(slot as usize) {
+            let (_, entry) = self.entries.pair_mut(*place);
+            entry.links = links;
+        }
+    }
+
     /// The entry in the slot is put anew, and has the edges to those that used it before.
     pub fn renew(&mut self, slot: Slot, value: Option<Value>, links: Links, stamp: u64)
         requires there { IsSome (memory_of self.old slot) }
