@@ -16,8 +16,11 @@ const MANY: u32 = 4;
 // How many edges more come at most by folding one into several: what it looked at is told of for each of these.
 const COPIES: u32 = 8;
 
-// The least limit on what is folded into one entry.
-const LEAST: u32 = 2;
+// The least limit on what is folded into one entry: so many edges, and some for each entry.
+const LEAST: u32 = 16;
+
+// What an entry weighs beside its edges.
+const OWN: u32 = 5;
 
 /// The entries by when they came, the oldest first, with what each used: its position is its number here.
 pub struct Graph {
@@ -235,20 +238,29 @@ impl Plan {
             stays: filled(alloc, false, count)?,
             into: filled(alloc, nowhere, count)?,
         };
-        let mut limit = if limit / 2 < LEAST { LEAST } else { limit / 2 };
-        while plan.staying(graph, since, limit, target) > target && (limit as usize) < count {
-            limit = limit + limit / 2 + 1;
+        let least = if limit / 2 < LEAST { LEAST } else { limit / 2 };
+        let mut limit = least;
+        while !plan.is_enough(graph, since, limit, target, limit / 4 >= least) {
+            limit = limit.saturating_add(limit / 2 + 1);
         }
         Ok((plan, limit))
     }
 
-    // How many stay where no more than so much is folded into one; more than the target where that is seen before they are known.
-    fn staying(&mut self, graph: &Graph, since: u64, limit: u32, target: usize) -> usize {
-        let cut = self.cut(graph, since, limit);
-        if cut > target && (limit as usize) < graph.len() {
-            return cut;
+    // Whether few enough stay where no more than so much is folded into one. Where much more is than the last time, an eighth more may.
+    fn is_enough(
+        &mut self,
+        graph: &Graph,
+        since: u64,
+        limit: u32,
+        target: usize,
+        is_late: bool,
+    ) -> bool {
+        let most = if is_late { target + target / 8 } else { target };
+        let is_last = limit == u32::MAX;
+        if self.cut(graph, since, limit) > most && !is_last {
+            return false;
         }
-        self.fold(graph)
+        self.fold(graph) <= most || is_last
     }
 
     // Where no more than so much is folded into one: how many stay, before it is looked into how many each is folded.
@@ -269,12 +281,12 @@ impl Plan {
 
     // What is folded into the entry, as long as that isn't too much; how many stay for that.
     fn weigh(&mut self, graph: &Graph, position: usize, limit: u32) -> usize {
-        let mut weight = 1;
+        let mut weight = graph.reads[position].saturating_add(OWN);
         let mut count = 0;
         for other in graph.used_by(position) {
             let at = *other as usize;
             if !self.stays[at] {
-                let sum = weight + self.weights[at];
+                let sum = weight.saturating_add(self.weights[at]);
                 if sum <= limit {
                     weight = sum;
                 } else {
