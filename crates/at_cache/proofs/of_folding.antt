@@ -1,0 +1,2 @@
+-- Entries that are folded into others.
+pub mod Folded
