@@ -20,7 +20,7 @@ pub struct KeepAtMost {
     alloc: Global,
     most: usize,
     keeper: KeepRecorded,
-    // How many numbers were given when entries were folded, and the limit on what was folded into one.
+    // How many numbers were given at the last edit, and the limit on what was folded into one.
     since: u64,
     limit: u32,
     // How many entries are too many within a question, and how often there were.
@@ -69,7 +69,6 @@ impl KeepAtMost {
         match self.keeper.fold(target, self.since, self.limit) {
             Ok(limit) => {
                 self.limit = limit;
-                self.since = self.keeper.puts();
                 if self.keeper.len() > self.most {
                     self.forget();
                 }
@@ -158,12 +157,10 @@ impl Keeper for KeepAtMost {
     fn shrink(&mut self) {
         self.rounds = self.rounds.saturating_add(1);
         let wanted = self.most.saturating_mul(1 << (self.rounds / 8).min(40));
-        match self.keeper.fold(wanted / 4 * 3, 0, self.limit) {
+        match self.keeper.fold(wanted / 4 * 3, self.since, self.limit) {
             Ok(limit) => self.limit = limit,
             Err(_) => self.forget(),
         }
-        // What is there now isn't what nobody asked for.
-        self.since = 0;
         let least = self
             .keeper
             .len()
@@ -181,6 +178,7 @@ impl Keeper for KeepAtMost {
     {
         self.keeper.flush(touched);
         self.bound();
+        self.since = self.keeper.puts();
     }
 
     fn flush_at<F: Fn(Loc) -> bool>(&mut self, places: &Places<'_>, touched: &F)
@@ -192,5 +190,6 @@ impl Keeper for KeepAtMost {
     {
         self.keeper.flush_at(places, touched);
         self.bound();
+        self.since = self.keeper.puts();
     }
 }
