@@ -176,9 +176,9 @@ impl Keeper for KeepAtMost {
         ensures over { ForgetsOver (Answers (F.post touched.now)) self.old self.new }
         ensures bound { self.new.most ≡ self.old.most }
     {
-        self.keeper.flush(touched);
         self.bound();
         self.since = self.keeper.puts();
+        self.keeper.flush(touched);
     }
 
     fn flush_at<F: Fn(Loc) -> bool>(&mut self, places: &Places<'_>, touched: &F)
@@ -188,8 +188,8 @@ impl Keeper for KeepAtMost {
         ensures over { ForgetsOver (Answers (F.post touched.now)) self.old self.new }
         ensures bound { self.new.most ≡ self.old.most }
     {
-        self.keeper.flush_at(places, touched);
         self.bound();
         self.since = self.keeper.puts();
+        self.keeper.flush_at(places, touched);
     }
 }
