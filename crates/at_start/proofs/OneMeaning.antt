@@ -20,7 +20,7 @@ use Rattle.at_tree.proofs.TextLaws.{one_term_each}
 use Rattle.at_typing.specs.Building.{rules_of}
 use Rattle.at_typing.specs.Located.{located}
 use Rattle.at_start.specs.GrammarFiles.{Declares, GivesClasses, declared}
-use Rattle.at_start.specs.AspectFiles.{AllHold, GivesRules, Holds}
+use Rattle.at_start.specs.AspectFiles.{no_forms, AllHold, GivesRules, Holds}
 use Rattle.at_start.specs.TreeFiles.{GivesTree}
 use Rattle.at_start.proofs.TermFiles.{inner_term, without_newline}
 
@@ -43,7 +43,7 @@ named_apart bytes cs h = subst AreNamedApart (sym h.built) (classes_apart h.decl
 held_once : (bytes : List ℕ) (as' bs : List Aspect) → Holds bytes as' → Holds bytes bs → as' ≡ bs
 held_once bytes as' bs h k =
     let rows = one_row bytes h.tokens k.tokens h.cut k.cut in
-    one_file as' bs k.tokens (subst (λ (row : Row). File as' row []) rows h.spells) k.spells
+    one_file no_forms as' bs k.tokens (subst (λ (row : Row). File no_forms as' row []) rows h.spells) k.spells
 
 all_held_once : (files : List (List ℕ)) (as' bs : List (List Aspect)) → AllHold files as' → AllHold files bs → as' ≡ bs
 all_held_once [] [] [] h k = refl
