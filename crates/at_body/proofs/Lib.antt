@@ -10,6 +10,11 @@ pub mod Few
 pub mod Joining
 pub mod TextsCompared
 pub mod Steps
+pub mod Piled
+pub mod FormRuns
+pub mod FormPlain
+pub mod Formed
+pub mod FormKinds
 pub mod SamenessLemmas
 pub mod TypedParts
 pub mod TypedUses

@@ -45,10 +45,10 @@ module _ (rules : Rules) (at : ClassAt ℕ) (look : Contents ℕ) (over : IsOver
   names_typed (n ∷ ns) [] vs ks b h = absurd b
   names_typed (n ∷ ns) (c ∷ cs) vs ks (x, b) h = (x, tt, names_typed ns cs vs ks b h)
 
-  scope_typed : (s : PlaceKinds) (p : Place) → IsPlaceOf rules.classes at s p → IsOfScopeKinds rules.classes at AnyText (scope_kinds s) (scope p)
+  pub scope_typed : (s : PlaceKinds) (p : Place) → IsPlaceOf rules.classes at s p → IsOfScopeKinds rules.classes at AnyText (scope_kinds s) (scope p)
   scope_typed s p h = record { this = h.this; names = names_typed p.bound s.bound (map value_view p.passed) s.passed h.bound h.passed; child = h.child }
 
-  evaluated : (s : ScopeKinds) (e : Expr) (k : Kind) (scope : Scope ℕ) → HasKind rules s e k → IsOfScopeKinds rules.classes at AnyText s scope → Typed k (eval rules.classes nat_eq e scope)
+  pub evaluated : (s : ScopeKinds) (e : Expr) (k : Kind) (scope : Scope ℕ) → HasKind rules s e k → IsOfScopeKinds rules.classes at AnyText s scope → Typed k (eval rules.classes nat_eq e scope)
   evaluated s e k scope x h = evaluated_typed rules (chained rules.classes over.hierarchy) at AnyText look over.contents nat_eq s e k x scope (all_any AnyText (literals e) any_literal) h
 
   -- arguments ---------------------------------------------------------------------------------------------------------

@@ -20,7 +20,7 @@ use Rattle.at_body.specs.declared.trial.Trial.{Trial}
 use Rattle.at_body.specs.Values.{value_view}
 use Rattle.at_body.specs.Typed.{AreBound, Enters}
 use Rattle.at_body.specs.Typed as typed
-use Rattle.at_body.specs.TypedStart.{AtParent, Begins, HasEquation, OrElse}
+use Rattle.at_body.specs.TypedStart.{AtParent, Begins, HasEquation, IsEquation, OrElse}
 
 module _ (rules : Rules) (are : AreTyped rules) where
   -- the own equation of a class has the kind of its attribute, in the class where it stands
@@ -76,47 +76,52 @@ module _ (rules : Rules) (are : AreTyped rules) where
   declared_name attribute d e = ap (λ o. elim o as (λ _. List ℕ) [ None ↦ [] | Some a ↦ a.name ]) e
 
   module _ (at : ClassAt ℕ) (look : Contents ℕ) where
-    -- a trial that begins with the own equation enters it
-    pub own_enters : (t : Trial) (class attribute : ℕ) (b : Body) → Begins rules at look t class attribute → t.child ≡ None → t.bound ≡ [] → t.todo ≡ [] → own_equation rules class attribute ≡ Some (body_view b) → Enters rules at t b
-    own_enters t class attribute b begins top unbound idle has =
+    -- a trial that begins with the own equation stands where it stands
+    pub own_stands : (t : Trial) (class attribute : ℕ) (b : Body) → Begins rules at look t class attribute → t.child ≡ None → t.bound ≡ [] → own_equation rules class attribute ≡ Some (body_view b) → IsEquation rules at t b attribute
+    own_stands t class attribute b begins top unbound has =
         let own = own_is class attribute begins.declaration (body_view b) begins.attribute_is has in
         record {
+          declaration = begins.declaration;
           kinds = record { this = own.class; bound = []; passed = begins.declaration.parameters; has_index = false };
-          kind = begins.declaration.result;
+          attribute_is = begins.attribute_is;
           is = own.is;
-          stands = record {
-            place = record {
-              this = (class, begins.node, own.above);
-              bound = subst (λ ns. AreBound rules.classes at ns []) (sym unbound) tt;
-              passed = begins.arguments;
-              child = subst (λ o. IfSome o (λ n. IsSome (at n))) (sym top) tt;
-              index = λ e. absurd (cc);
-            };
-            todo = subst (λ ts. typed.AreTodos rules at (record { this = own.class; bound = []; passed = begins.declaration.parameters; has_index = false }) begins.declaration.result ts) (sym idle) (typed.ended _ _);
+          place = record {
+            this = (class, begins.node, own.above);
+            bound = subst (λ ns. AreBound rules.classes at ns []) (sym unbound) tt;
+            passed = begins.arguments;
+            child = subst (λ o. IfSome o (λ n. IsSome (at n))) (sym top) tt;
+            index = λ e. absurd (cc);
           };
         }
 
     -- and so does one that has come up to an inherited equation
-    pub passed_enters : (first t : Trial) (class attribute : ℕ) (b : Body) → Begins rules at look first class attribute → is_inherited rules attribute ≡ true → t.arguments ≡ first.arguments → (part c child : ℕ) → t.child ≡ Some child → at t.this ≡ Some c → IsSome (at child) →
-        t.bound ≡ [] → t.todo ≡ [] → inherited_equation rules c part (attribute_name rules attribute) ≡ Some (body_view b) → Enters rules at t b
-    passed_enters first t class attribute b begins inh same part c child below there child_there unbound idle has =
+    pub passed_stands : (first t : Trial) (class attribute : ℕ) (b : Body) → Begins rules at look first class attribute → is_inherited rules attribute ≡ true → t.arguments ≡ first.arguments → (part c child : ℕ) → t.child ≡ Some child → at t.this ≡ Some c → IsSome (at child) →
+        t.bound ≡ [] → inherited_equation rules c part (attribute_name rules attribute) ≡ Some (body_view b) → IsEquation rules at t b attribute
+    passed_stands first t class attribute b begins inh same part c child below there child_there unbound has =
         let d = begins.declaration in
         let passed = passed_is c part attribute d (body_view b) begins.attribute_is (declared_inherited attribute d begins.attribute_is inh) (subst (λ name. inherited_equation rules c part name ≡ Some (body_view b)) (declared_name attribute d begins.attribute_is) has) in
         record {
+          declaration = d;
           kinds = record { this = passed.class; bound = []; passed = d.parameters; has_index = passed.has_index };
-          kind = d.result;
+          attribute_is = begins.attribute_is;
           is = passed.is;
-          stands = record {
-            place = record {
-              this = (c, there, passed.above);
-              bound = subst (λ ns. AreBound rules.classes at ns []) (sym unbound) tt;
-              passed = subst (λ vs. AreArguments rules.classes at AnyText (map value_view vs) d.parameters) (sym same) begins.arguments;
-              child = subst (λ o. IfSome o (λ n. IsSome (at n))) (sym below) child_there;
-              index = λ e. subst (λ o. IsSome o) (sym below) refl;
-            };
-            todo = subst (λ ts. typed.AreTodos rules at (record { this = passed.class; bound = []; passed = d.parameters; has_index = passed.has_index }) d.result ts) (sym idle) (typed.ended _ _);
+          place = record {
+            this = (c, there, passed.above);
+            bound = subst (λ ns. AreBound rules.classes at ns []) (sym unbound) tt;
+            passed = subst (λ vs. AreArguments rules.classes at AnyText (map value_view vs) d.parameters) (sym same) begins.arguments;
+            child = subst (λ o. IfSome o (λ n. IsSome (at n))) (sym below) child_there;
+            index = λ e. subst (λ o. IsSome o) (sym below) refl;
           };
         }
+
+-- where it stands it enters the equation
+pub equation_enters : (rules : Rules) (at : ClassAt ℕ) (t : Trial) (b : Body) (attribute : ℕ) → t.todo ≡ [] → IsEquation rules at t b attribute → Enters rules at t b
+equation_enters rules at t b attribute idle h = record {
+  kinds = h.kinds;
+  kind = h.declaration.result;
+  is = h.is;
+  stands = record { place = h.place; todo = subst (λ ts. typed.AreTodos rules at h.kinds h.declaration.result ts) (sym idle) (typed.ended _ _) };
+}
 
 -- an equation stands at the parent, or above it
 pub record Above (rules : Rules) (at : ClassAt ℕ) (look : Contents ℕ) (name : List ℕ) (h m part : ℕ) : Type 0 where

@@ -5,11 +5,15 @@ pub mod Same
 pub mod Sameness
 pub mod Size
 pub mod Stacked
+pub mod FormulaCodes
+pub mod Pieces
 pub mod Standing
 pub mod Rest
+pub mod Forms
 pub mod Calling
 pub mod Comparing
 pub mod Starting
 pub mod Trying
 pub mod Typed
+pub mod TypedForms
 pub mod TypedStart

@@ -4,10 +4,15 @@ use Rattle.at_model.specs.Run.{Contents, Is, Up}
 use Rattle.at_model.specs.Bodies.{Expr}
 use Rattle.at_model.specs.Instances.{AnyText}
 use Rattle.at_model.specs.Rules.{Rules, Attribute, attribute_name, is_inherited, inherited_equation, own_equation}
+use Rattle.at_model.specs.Kinds.{HasKind}
 use Rattle.at_model.specs.Terms.{max_depth}
 use Rattle.at_model.specs.TypedRuns.{ClassAt, AreArguments}
+use Rattle.at_rules.specs.Bodies.{body_view}
+use Rattle.at_rules.specs.declared.body.Body.{Body}
 use Rattle.at_body.specs.declared.trial.Trial.{Trial}
 use Rattle.at_body.specs.Values.{value_view}
+use Rattle.at_body.specs.Rest.{place_of}
+use Rattle.at_body.specs.Typed.{PlaceKinds, scope_kinds, IsPlaceOf}
 
 -- there is an equation, or that
 abbrev pub OrElse : Option Expr → Type 0 → Type 0
@@ -34,3 +39,11 @@ pub record Begins (rules : Rules) (at : ClassAt ℕ) (look : Contents ℕ) (t : 
   pub arguments : AreArguments rules.classes at AnyText (map value_view t.arguments) declaration.parameters
   pub own : is_inherited rules attribute ≡ false → IsSome (own_equation rules class attribute)
   pub above : is_inherited rules attribute ≡ true → HasEquation rules at look (attribute_name rules attribute) max_depth t.this
+
+-- the trial stands where the body is an equation of the attribute, of its kind
+pub record IsEquation (rules : Rules) (at : ClassAt ℕ) (t : Trial) (b : Body) (attribute : ℕ) : Type 0 where
+  pub declaration : Attribute
+  pub kinds : PlaceKinds
+  pub attribute_is : slice_get rules.attributes attribute ≡ Some declaration
+  pub is : HasKind rules (scope_kinds kinds) (body_view b) declaration.result
+  pub place : IsPlaceOf rules.classes at kinds (place_of t)

@@ -128,7 +128,7 @@ fn sum(total: &i32, value: &Value) -> Fold
 }
 
 /// The children in a component.
-fn children<'a>(store: &'a Store, node: Node, part: usize) -> &'a [Node]
+pub(crate) fn children<'a>(store: &'a Store, node: Node, part: usize) -> &'a [Node]
     requires idle_store { IsIdle store.now }
     ensures children { result.now ≡ contents store.now (Slot node part) }
     ensures few { length result.now ≤ most }

@@ -3,6 +3,9 @@
 ghost use Rattle.std.specs.Prelude.{◌≡◌, ℕ, List, [], ◌∷◌, ◌++◌};
 ghost use Rattle.at_model.specs.Run.{Value, Instance, Location, Contents, FaultKind, Run, Known, Gives, Fails, Demands};
 ghost use Rattle.at_model.specs.Follow.{follow, Ends, Stops, Waits, Past, Has};
+ghost use Rattle.at_model.specs.of_fixpoints.Formulas.{Formula, atoms};
+ghost use Rattle.at_body.specs.Pieces.{asked, stacked};
+ghost use Rattle.at_body.specs.declared.formula.Piece.{Piece};
 
 /// An evaluation that has come past some demands and looks, and then waits and is told a value, has come past one more demand.
 pub fn passes()
@@ -32,4 +35,9 @@ pub fn fails()
     ensures { (tree : Contents ℕ) (known : Known ℕ) (r s : Run ℕ (Value ℕ)) (js : List (Instance ℕ)) (ls seen end : List (Location ℕ)) (f : FaultKind)
         → Past tree (Has known) r js ls s → follow tree seen s ≡ (Stops f, end) → (new : List (Location ℕ)) × (end ≡ seen ++ new)
         × Past tree (Has known) r js (ls ++ new) (Fails f) }
+{}
+
+/// The pieces of a formula ask for its instances from left to right.
+pub fn pieces_ask_in_order()
+    ensures { (ps : List Piece) (f : Formula ℕ) → stacked [] ps ≡ f ∷ [] → atoms f ≡ asked ps }
 {}

@@ -1,29 +1,35 @@
-//! One try of one equation: the evaluation of an instance, which can be put aside at a demand and goes on with its
-//! value.
+//! One try of one equation: the evaluation of an instance, to a value or (of a circular attribute) to a formula, which
+//! can be put aside at a demand and goes on with its value.
 //!
 //! **Its specs:** `Values`, `Shared`, `Same` and `Sameness` are values and instances; `Rest` says what is left of an
 //! evaluation under way, `Size` how much that is; `Starting` and `Stacked`, `Standing` where it stands; `Calling`
 //! which receivers of calls are taken at once, `Comparing` which texts are compared where they stand; `Trying` what
 //! one try finds; `Typed`, `TypedStart` and `ValueKinds` of what kinds the values are that are there and that are
-//! waited for.
+//! waited for. Of formulas `Pieces` (and `FormulaCodes`) says what their pieces stand for, `Forms` what is left of one
+//! under way and how much that is, `TypedForms` of what kinds.
 //!
 //! **Where to begin:** `trial.rt` has the steps, `calling.rt` the receivers of calls, `comparing.rt` the texts of
 //! which no copy is made, `using.rt` and `folding.rt` what is done with values, `starting.rt` the way up to an
-//! inherited equation; `trying.rt` is one try with what is known.
+//! inherited equation; `trying.rt` is one try with what is known. `forming.rt` has the steps of a formula, over a trial
+//! for each value that is wanted, `formula.rt` the formulas themselves.
 //!
 //! **What it keeps true:** a trial goes exactly as far as `at_model`'s `Run` of the instance, notes just the
-//! locations that this looks at, and keeps to the kinds, so no code answers for a value of another one.
+//! locations that this looks at, and keeps to the kinds, so no code answers for a value of another one. So does what
+//! comes to a formula, by the `Run` of the instance's formula.
 #![tactic(auto)]
 
 mod arguments;
 mod calling;
 mod comparing;
 mod folding;
+mod forming;
+mod formula;
 mod inst;
 mod laws;
 mod reads;
 mod stack;
 mod starting;
+mod task;
 mod todo;
 mod trial;
 mod trying;
@@ -35,8 +41,10 @@ pub use arguments::Arguments;
 pub use calling::is_passed;
 pub use comparing::{tells, text_in, token_text};
 pub use folding::come_to;
+pub use forming::{Forming, Progress};
+pub use formula::{Formula, Piece};
 pub use inst::Inst;
-pub use laws::{comes, fails, gives, passes};
+pub use laws::{comes, fails, gives, passes, pieces_ask_in_order};
 pub use reads::Reads;
 pub use stack::Stack;
 pub use starting::look_at;

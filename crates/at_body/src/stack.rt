@@ -74,6 +74,15 @@ impl<T: Copy> Stack<T> {
         Ok(Stack { items })
     }
 
+    /// Becomes a copy of another one. An error where memory is wanting.
+    pub fn copy_from(&mut self, other: &Stack<T>) -> Result<(), AllocError>
+        ensures { OnOk result (self.new ≡ other.now) }
+    {
+        self.items.clear();
+        self.items.extend_from_slice(other.items.as_slice())?;
+        Ok(())
+    }
+
     /// The value at a position from the top.
     pub fn get(&self, position: usize) -> Option<T>
         ensures { result ≡ slice_get self.now position }

@@ -3,7 +3,7 @@
 ghost use Rattle.std.specs.Prelude.{◌≡◌, ◌++◌, [], ℕ, nat_eq, map, true, IfOk, IsSome, OnOk, None};
 ghost use Rattle.at_model.specs.Instances.{AnyText};
 ghost use Rattle.at_model.specs.Kinds.{AreTyped};
-ghost use Rattle.at_model.specs.Rules.{evaluation, by_inherited, attribute_name, is_inherited, own_equation};
+ghost use Rattle.at_model.specs.Rules.{evaluation, by_inherited, attribute_name, is_inherited, own_equation, start_of};
 ghost use Rattle.at_model.specs.Bodies.{ref_of};
 ghost use Rattle.at_model.specs.Run.{Contents};
 ghost use Rattle.at_model.specs.TypedRuns.{ClassAt, IsWellTyped};
@@ -12,10 +12,11 @@ ghost use Rattle.at_model.specs.Support.{argument_classes};
 ghost use Rattle.at_model.specs.Follow.{follow};
 ghost use Rattle.at_store.specs.Shown.{contents, tree, IsIdle};
 ghost use Rattle.at_body.specs.Values.{value_view};
-ghost use Rattle.at_body.specs.Rest.{GoesOn, rest, reached};
-ghost use Rattle.at_body.specs.Starting.{own_of, by_rule};
-ghost use Rattle.at_body.specs.Typed.{IsOver, IsTypedNow, IsTypedStep, class_shown};
-ghost use Rattle.at_body.specs.TypedStart.{Begins, HasEquation};
+ghost use Rattle.at_body.specs.declared.todo.Now.TheVariants.{Enter};
+ghost use Rattle.at_body.specs.Rest.{GoesOn, place_of, rest, reached};
+ghost use Rattle.at_body.specs.Starting.{IsAlone, by_rule, evaluation_of_forms, form_by_rule, formula_at, inherited_form_of, own_form_of, own_of};
+ghost use Rattle.at_body.specs.Typed.{IsOver, IsTypedStep, class_shown};
+ghost use Rattle.at_body.specs.TypedStart.{Begins, HasEquation, IsEquation};
 
 use super::arguments::Arguments;
 use super::inst::Inst;
@@ -24,7 +25,7 @@ use super::todo::Now;
 use super::trial::{Step, Trial};
 use super::value::Value;
 use at_class::ClassId;
-use at_rules::{AttrId, Rules};
+use at_rules::{AttrId, Body, Rules};
 use at_store::{Loc, Node, Store};
 use at_tree::reader::MAX_DEPTH;
 use std::alloc::{AllocError, Global};
@@ -68,13 +69,34 @@ impl<'a> Trial<'a> {
             ≡ (reached rules.now.classes step self.new, self.new.reads)) }
         ensures typed { IfOk result (λ step. IsTypedStep rules.now (class_shown store.now) step self.new) }
     {
+        let body = self.seek(rules, store, inst)?;
+        self.advance(alloc, rules, store, Now::Enter(body))
+    }
+
+    /// Stands where the equation of a well-typed instance stands, with nothing done but what is looked at up to there.
+    pub(crate) fn seek(
+        &mut self,
+        rules: &'a Rules,
+        store: &'a Store,
+        inst: &Inst,
+    ) -> Result<&'a Body, AllocError>
+        requires idle_store { IsIdle store.now }
+        requires formed { AreWellFormed rules.now }
+        requires sound { IsTreeSound rules.now.classes (tree store.now) }
+        requires typed { IsWellTyped rules.now (class_shown store.now) AnyText inst.now }
+        ensures same { IfOk result (λ body. follow (contents store.now) [] (evaluation rules.now nat_eq inst.now)
+            ≡ follow (contents store.now) self.new.reads (rest rules.now.classes (Enter body) self.new)) }
+        ensures formed { IfOk result (λ body. follow (contents store.now) [] (evaluation_of_forms rules.now inst.now)
+            ≡ follow (contents store.now) self.new.reads (formula_at rules.now (start_of rules.now inst.now.attribute) body.now (place_of self.new))) }
+        ensures equation { IfOk result (λ body. IsEquation rules.now (class_shown store.now) self.new body.now inst.now.attribute) }
+        ensures alone { IfOk result (λ body. IsAlone self.new) }
+    {
         let node = inst.node();
         let arguments = inst.shared_arguments()?;
         self.clear(node, arguments);
         self.reads.push(Loc::Is(node))?;
         look_at(self.arguments.as_slice(), &mut self.reads)?;
-        let now = self.begin(rules, store, store.class(node), inst.attribute())?;
-        self.advance(alloc, rules, store, now)
+        self.begin(rules, store, store.class(node), inst.attribute())
     }
 
     /// Stands at the node with these arguments, and has nothing to do and has looked at nothing.
@@ -82,8 +104,7 @@ impl<'a> Trial<'a> {
         ensures this { self.new.this ≡ node }
         ensures top { self.new.child ≡ None }
         ensures arguments { self.new.arguments ≡ arguments }
-        ensures unbound { self.new.bound ≡ [] }
-        ensures idle { self.new.todo ≡ [] }
+        ensures alone { IsAlone self.new }
         ensures unread { self.new.reads ≡ [] }
     {
         self.this = node;
@@ -101,17 +122,20 @@ impl<'a> Trial<'a> {
         store: &'a Store,
         class: ClassId,
         attribute: AttrId,
-    ) -> Result<Now<'a>, AllocError>
+    ) -> Result<&'a Body, AllocError>
         requires idle_store { IsIdle store.now }
-        requires idle { self.old.todo ≡ [] }
-        requires unbound { self.old.bound ≡ [] }
+        requires alone { IsAlone self.old }
         requires top { self.old.child ≡ None }
         requires formed { AreTyped rules.now }
         requires over { IsOver rules.now (class_shown store.now) (contents store.now) }
         requires typed { Begins rules.now (class_shown store.now) (contents store.now) self.old class attribute }
-        ensures same { IfOk result (λ now. GoesOn (contents store.now) rules.now.classes self.old.reads
-            (by_rule rules.now self.old.this attribute (map value_view self.old.arguments) class) now self.new) }
-        ensures typed { IfOk result (λ now. IsTypedNow rules.now (class_shown store.now) now self.new) }
+        ensures same { IfOk result (λ body. GoesOn (contents store.now) rules.now.classes self.old.reads
+            (by_rule rules.now self.old.this attribute (map value_view self.old.arguments) class) (Enter body) self.new) }
+        ensures formed { IfOk result (λ body. follow (contents store.now) self.old.reads
+            (form_by_rule rules.now self.old.this attribute (map value_view self.old.arguments) class)
+            ≡ follow (contents store.now) self.new.reads (formula_at rules.now (start_of rules.now attribute) body.now (place_of self.new))) }
+        ensures equation { IfOk result (λ body. IsEquation rules.now (class_shown store.now) self.new body.now attribute) }
+        ensures alone { IfOk result (λ body. IsAlone self.new) }
     {
         if rules.is_inherited(attribute) {
             return self.climb(rules, store, attribute, MAX_DEPTH);
@@ -120,17 +144,18 @@ impl<'a> Trial<'a> {
     }
 
     /// Begins with the own equation.
-    fn own(&self, rules: &'a Rules, class: ClassId, attribute: AttrId) -> Now<'a>
-        requires idle { self.now.todo ≡ [] }
-        requires unbound { self.now.bound ≡ [] }
+    fn own(&self, rules: &'a Rules, class: ClassId, attribute: AttrId) -> &'a Body
+        requires alone { IsAlone self.now }
         requires top { self.now.child ≡ None }
         requires there { IsSome (own_equation rules.now class attribute) }
-        ensures same { own_of rules.now self.now.this attribute (map value_view self.now.arguments) class ≡ rest rules.now.classes result self.now }
-        ensures typed { (at : ClassAt ℕ) (look : Contents ℕ) → AreTyped rules.now → Begins rules.now at look self.now class attribute
-            → IsTypedNow rules.now at result self.now }
+        ensures same { own_of rules.now self.now.this attribute (map value_view self.now.arguments) class ≡ rest rules.now.classes (Enter result) self.now }
+        ensures formed { own_form_of rules.now self.now.this attribute (map value_view self.now.arguments) class
+            ≡ formula_at rules.now (start_of rules.now attribute) result.now (place_of self.now) }
+        ensures equation { (at : ClassAt ℕ) (look : Contents ℕ) → AreTyped rules.now → Begins rules.now at look self.now class attribute
+            → IsEquation rules.now at self.now result.now attribute }
     {
         match rules.own_body(class, attribute) {
-            Some(body) => Now::Enter(body),
+            Some(body) => body,
             None => unreachable!(),
         }
     }
@@ -142,17 +167,21 @@ impl<'a> Trial<'a> {
         store: &'a Store,
         attribute: AttrId,
         mut height: usize,
-    ) -> Result<Now<'a>, AllocError>
+    ) -> Result<&'a Body, AllocError>
         requires idle_store { IsIdle store.now }
-        requires idle { self.old.todo ≡ [] }
-        requires unbound { self.old.bound ≡ [] }
+        requires alone { IsAlone self.old }
         requires formed { AreTyped rules.now }
         requires inherited { is_inherited rules.now attribute ≡ true }
         requires typed { (class : ℕ) × Begins rules.now (class_shown store.now) (contents store.now) self.old class attribute }
         requires above { HasEquation rules.now (class_shown store.now) (contents store.now) (attribute_name rules.now attribute) height self.old.this }
-        ensures same { IfOk result (λ now. GoesOn (contents store.now) rules.now.classes self.old.reads
-            (by_inherited rules.now nat_eq (attribute_name rules.now attribute) (map value_view self.old.arguments) height self.old.this) now self.new) }
-        ensures typed { IfOk result (λ now. IsTypedNow rules.now (class_shown store.now) now self.new) }
+        ensures same { IfOk result (λ body. GoesOn (contents store.now) rules.now.classes self.old.reads
+            (by_inherited rules.now nat_eq (attribute_name rules.now attribute) (map value_view self.old.arguments) height self.old.this)
+            (Enter body) self.new) }
+        ensures formed { IfOk result (λ body. follow (contents store.now) self.old.reads
+            (inherited_form_of rules.now attribute (map value_view self.old.arguments) height self.old.this)
+            ≡ follow (contents store.now) self.new.reads (formula_at rules.now (start_of rules.now attribute) body.now (place_of self.new))) }
+        ensures equation { IfOk result (λ body. IsEquation rules.now (class_shown store.now) self.new body.now attribute) }
+        ensures alone { IfOk result (λ body. IsAlone self.new) }
     {
         while height > 0 {
             height -= 1;
@@ -165,7 +194,7 @@ impl<'a> Trial<'a> {
             self.this = parent;
             self.child = Some(node);
             if let Some(body) = rules.inherited_body(store.class(parent), part, attribute) {
-                return Ok(Now::Enter(body));
+                return Ok(body);
             }
         }
         unreachable!()

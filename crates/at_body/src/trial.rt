@@ -1,6 +1,6 @@
 //! An evaluation that can be put aside where it demands an instance.
 
-ghost use Rattle.std.specs.Prelude.{◌≡◌, ◌<◌, ◌≤◌, ◌+◌, ◌-◌, ◌++◌, ◌∷◌, [], ℕ, List, length, IfOk, IfSome, IsSome, map, option_copied, slice_get};
+ghost use Rattle.std.specs.Prelude.{◌≡◌, ◌<◌, ◌≤◌, ◌+◌, ◌-◌, ◌++◌, ◌∷◌, [], ℕ, List, length, IfOk, IfSome, IsSome, OnOk, map, option_copied, slice_get};
 ghost use Rattle.at_model.specs.Classes.{Classes};
 ghost use Rattle.at_model.specs.Follow.{follow};
 ghost use Rattle.at_model.specs.Run.{Contents, Gives, Location, Ref};
@@ -99,6 +99,29 @@ impl<'a> Trial<'a> {
         ensures typed { IfOk result (λ step. IsTypedStep rules.now (class_shown store.now) step self.new) }
     {
         self.advance(alloc, rules, store, Now::Back(value))
+    }
+
+    /// Stands there, and has nothing to do.
+    pub(crate) fn stand(
+        &mut self,
+        this: Node,
+        child: Option<Node>,
+        bound: &Stack<Node>,
+        arguments: Arguments,
+    ) -> Result<(), AllocError>
+        ensures this { OnOk result (self.new.this ≡ this) }
+        ensures child { OnOk result (self.new.child ≡ child) }
+        ensures bound { OnOk result (self.new.bound ≡ bound.now) }
+        ensures arguments { OnOk result (self.new.arguments ≡ arguments) }
+        ensures idle { OnOk result (self.new.todo ≡ []) }
+        ensures reads { OnOk result (self.new.reads ≡ self.old.reads) }
+    {
+        self.this = this;
+        self.child = child;
+        self.bound.copy_from(bound)?;
+        self.arguments = arguments;
+        self.todo.clear();
+        Ok(())
     }
 
     /// The locations that it has looked at, in order.

@@ -14,7 +14,7 @@ use Rattle.at_rules.specs.declared.rules.Attribute.{Attribute as AttributeValue}
 abbrev pub text_of : {Z : Type 0} → List (String Z) → ℕ → List ℕ
 text_of names number = elim (slice_get names number) [ None ↦ [] | Some text ↦ string_bytes text ]
 
--- an attribute stands by its class and the number of its name; none is circular
+-- an attribute stands by its class and the number of its name
 abbrev pub attribute_view : {Z : Type 0} → List (String Z) → (ℕ × ℕ) × AttributeValue → Attribute
 attribute_view names e = record {
   name = text_of names e.0.1;
@@ -23,7 +23,7 @@ attribute_view names e = record {
   result = kind_view e.1.result;
   is_lazy = e.1.is_lazy;
   is_inherited = e.1.is_inherited;
-  start = None;
+  start = e.1.start;
 }
 
 -- an equation for the class's own nodes stands by its class and attribute

@@ -13,13 +13,14 @@ use std::alloc::Global;
 use std::marker::Model;
 
 /// An attribute that a class declares: the kinds of its parameters and of its value, whether its values are
-/// kept, and whether its equations stand above.
+/// kept, whether its equations stand above, and the value from which it starts, where it is circular.
 #[derive(Drop)]
 pub struct Attribute {
     pub params: Vec<Kind>,
     pub result: Kind,
     pub is_lazy: bool,
     pub is_inherited: bool,
+    pub start: Option<bool>,
 }
 
 /// Attributes and equations, in the order of their declarations. Classes stand here by their positions, and
@@ -241,6 +242,16 @@ impl Rules {
         match self.equations.attributes.get_index(attribute.index()) {
             Some((_, declared)) => declared.is_lazy,
             None => false,
+        }
+    }
+
+    /// The value from which the attribute starts, where it is circular; none for a number that no attribute has.
+    pub fn start_of(&self, attribute: AttrId) -> Option<bool>
+        ensures { result ≡ start_of self.now attribute }
+    {
+        match self.equations.attributes.get_index(attribute.index()) {
+            Some((_, declared)) => declared.start,
+            None => None,
         }
     }
 

@@ -38,7 +38,7 @@ attribute_of d e = record {
   result = kind_view e.1.result;
   is_lazy = e.1.is_lazy;
   is_inherited = e.1.is_inherited;
-  start = None;
+  start = e.1.start;
 }
 
 -- an attribute's number, and the body of an equation for it

@@ -268,6 +268,7 @@ impl Among<'_> {
             result,
             is_lazy: is_lazy(form),
             is_inherited: is_inherited(form),
+            start: None,
         };
         Ok((class, attribute))
     }

@@ -15,5 +15,5 @@ climb-requires-clause-above c = c.requires.typed.above (sym c.is_inherited.ensur
 pub own-requires-clause-there : goal.own-requires-clause-there
 own-requires-clause-there c = c.requires.typed.own (sym c.is_inherited.ensures ∙ c.if-is_inherited.false)
 
-pub returns-clause-typed : goal.returns-clause-typed
-returns-clause-typed c = c.own.ensures.typed (class_shown c.args.store.now) (contents c.args.store.now) c.requires.formed c.requires.typed
+pub returns-clause-equation : goal.returns-clause-equation
+returns-clause-equation c = c.own.ensures.equation (class_shown c.args.store.now) (contents c.args.store.now) c.requires.formed c.requires.typed

@@ -1,26 +1,16 @@
 use Rattle.at_store.specs.Shown.{contents}
 use Rattle.std.proofs.Common.{refl, ◌∙◌, ap, sym, map}
-use Rattle.at_body.proofs.Climbing.{started}
 use Rattle.at_body.proofs.Steps.{behind_same}
-use Rattle.at_body.specs.Values.{value_view}
-use Rattle.at_model.specs.Run.{Is}
 use Rattle.at_body.proofs.TypedShown.{shown_typed}
-use Rattle.at_body.proofs.TypedBegins.{begins}
+use Rattle.at_body.proofs.TypedStarting.{equation_enters}
+use Rattle.at_body.specs.Typed.{class_shown}
 use Rattle.at_body.proofs.trial.Trial.restart.Goals as goal
 
 pub returns-clause-found : goal.returns-clause-found
-returns-clause-found c = behind_same c.advance.result c.args.rules.now.classes c.advance.new.self _ _ c.advance.new.self.reads
-    (started c.args.rules.now (contents c.args.store.now) c.args.inst.now c.look_at.new.reads _ _ c.class.result _ _ (c.clear.ensures.this ∙ c.node-node.ensures) c.attribute.ensures (ap (map value_view) c.clear.ensures.arguments ∙ c.in_ok-arguments.ensures) (rw (c.in_ok-look_at.ensures, c.as_slice.ensures, c.in_ok-push.ensures.gained, c.clear.ensures.unread, c.clear.ensures.this) refl) (c.class.ensures ∙ ap (λ n. contents c.args.store.now (Is n)) (sym c.clear.ensures.this)) c.in_ok-now.ensures.same)
-    c.advance.ensures.found
-
-pub begin-requires-clause-formed : goal.begin-requires-clause-formed
-begin-requires-clause-formed c = c.requires.formed.typed
-
-pub begin-requires-clause-over : goal.begin-requires-clause-over
-begin-requires-clause-over c = shown_typed c.args.rules.now c.args.store.now c.requires.idle_store c.requires.formed c.requires.sound
-
-pub begin-requires-clause-typed : goal.begin-requires-clause-typed
-begin-requires-clause-typed c = begins c.args.rules.now c.args.store.now c.requires.idle_store c.requires.formed c.requires.sound c.args.inst.now c.requires.typed _ _ _ (c.clear.ensures.this ∙ c.node-node.ensures) (ap (map value_view) c.clear.ensures.arguments ∙ c.in_ok-arguments.ensures) (c.class.ensures ∙ ap (λ n. contents c.args.store.now (Is n)) c.node-node.ensures) c.attribute.ensures
+returns-clause-found c = behind_same c.advance.result c.args.rules.now.classes c.advance.new.self _ _ c.advance.new.self.reads c.in_ok-body.ensures.same c.advance.ensures.found
 
 pub advance-requires-clause-over : goal.advance-requires-clause-over
 advance-requires-clause-over c = shown_typed c.args.rules.now c.args.store.now c.requires.idle_store c.requires.formed c.requires.sound
+
+pub advance-requires-clause-typed : goal.advance-requires-clause-typed
+advance-requires-clause-typed c = equation_enters c.args.rules.now (class_shown c.args.store.now) _ _ c.args.inst.now.attribute c.in_ok-body.ensures.alone.idle c.in_ok-body.ensures.equation
