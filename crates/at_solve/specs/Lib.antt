@@ -1,0 +1,4 @@
+pub mod Derivations
+pub mod Spreading
+pub mod Components
+pub mod Searching
