@@ -282,7 +282,7 @@ fn join(left: Value, right: &Value) -> Result<Value, Stop>
     if !is_text(right) {
         return Err(Stop::GivesUp);
     }
-    joined(left.into_text(), right.text())
+    joined(left.into_text()?, right.text())
 }
 
 // The text and the int in decimal.
@@ -295,7 +295,7 @@ fn join_int(left: Value, right: &Value) -> Result<Value, Stop>
     if !is_int(right) {
         return Err(Stop::GivesUp);
     }
-    joined_int(left.into_text(), right)
+    joined_int(left.into_text()?, right)
 }
 
 // The text and the int in decimal.
@@ -315,7 +315,7 @@ fn joined(left: String, right: &str) -> Result<Value, Stop>
     if fits(left.as_str(), right) {
         let mut text = left;
         text.push_str(right)?;
-        return Ok(Value::Text(text));
+        return Ok(Value::of_text(text)?);
     }
     Err(Stop::GivesUp)
 }

@@ -106,7 +106,7 @@ impl Here {
         match body {
             Body::Int(n) => Ok(Value::Int(*n)),
             Body::Truth(b) => Ok(Value::Bool(*b)),
-            Body::Text(text) => Ok(Value::Text(text.clone()?)),
+            Body::Text(text) => Ok(Value::of_text(text.clone()?)?),
             Body::Null => Ok(Value::Ref(None)),
             Body::This => Ok(Value::Ref(Some(self.this))),
             Body::Name(position) => self.name(*position),

@@ -9,7 +9,7 @@ use Rattle.at_body.specs.declared.value.FaultKind.TheVariants as fault
 abbrev pub value_view : ValueCode → Value ℕ
 value_view (value.Int n) = Int n
 value_view (value.Bool b) = Truth b
-value_view (value.Text text) = Text (string_bytes text)
+value_view (value.Text text) = Text (string_bytes text.value)
 value_view (value.Ref n) = Ref n
 
 abbrev pub fault_view : FaultCode → FaultKind

@@ -227,7 +227,7 @@ pub fn text_in(value: &Value) -> Option<&str>
     ensures { IfSome result (λ text. ReadsAs (value_view value.now) text.now) }
 {
     match value {
-        Value::Text(text) => Some(text.as_str()),
+        Value::Text(text) => Some(text.as_ref().as_str()),
         Value::Int(_) | Value::Bool(_) | Value::Ref(_) => None,
     }
 }

@@ -26,7 +26,7 @@ use super::inst::Inst;
 use super::reads::Reads;
 use super::stack::Stack;
 use super::todo::{Asking, Binary, Fold, Now, Todo, Unary};
-use super::using::int_value;
+use super::using::{int_value, text_value};
 use super::value::{FaultKind, Value};
 use at_rules::{AttrId, Body, Rules};
 use at_store::{Loc, Node, Store};
@@ -214,7 +214,7 @@ impl<'a> Trial<'a> {
         match body {
             Body::Int(n) => Ok(Now::Back(int_value(n))),
             Body::Truth(b) => Ok(Now::Back(Value::Bool(*b))),
-            Body::Text(text) => Ok(Now::Back(Value::Text(text.clone()?))),
+            Body::Text(text) => Ok(Now::Back(text_value(text)?)),
             Body::Null => Ok(Now::Back(Value::Ref(None))),
             Body::This => Ok(Now::Back(Value::Ref(Some(self.this)))),
             Body::Name(position) => self.name(*position),

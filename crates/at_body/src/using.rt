@@ -3,7 +3,7 @@
 ghost use Rattle.std.specs.Prelude.{◌≡◌, ◌++◌, ◌+◌, ℕ, List, length, nat_le, string_bytes, IfOk};
 ghost use Rattle.std.specs.Fmt.{signed_decimal};
 ghost use Rattle.at_model.specs.Classes.{Classes};
-ghost use Rattle.at_model.specs.Run.{Contents, Int, Ref};
+ghost use Rattle.at_model.specs.Run.{Contents, Int, Ref, Text};
 ghost use Rattle.at_model.specs.Bodies.{max_text, int_of, text_of, computed, joined, is_in_order, element_at, child_of, element_of, count_of, has_of, token_of, is_instance, cast_to};
 ghost use Rattle.at_store.specs.Shown.{contents, IsIdle};
 ghost use Rattle.at_body.specs.Typed.{AreOperands, ComesTo, IsOperand};
@@ -78,8 +78,8 @@ impl<'a> Trial<'a> {
             Binary::Compare(order) => {
                 Ok(Now::Back(Value::Bool(is_in_order(order, left.int(), right.int()))))
             }
-            Binary::Join => joined(left.into_text(), right.text()),
-            Binary::JoinInt => joined_int(left.into_text(), right),
+            Binary::Join => joined(left.into_text()?, right.text()),
+            Binary::JoinInt => joined_int(left.into_text()?, right),
             Binary::Same => Ok(Now::Back(Value::Bool(left.is_same(right)))),
             Binary::Differ => Ok(Now::Back(Value::Bool(!left.is_same(right)))),
             Binary::Equals => Ok(Now::Back(Value::Bool(left.text() == right.text()))),
@@ -293,6 +293,13 @@ pub(crate) fn int_value(number: &i32) -> Value
     Value::Int(*number)
 }
 
+/// The value of a text. An error where memory is wanting.
+pub(crate) fn text_value(text: &String) -> Result<Value, AllocError>
+    ensures { IfOk result (λ v. value_view v ≡ Text (string_bytes text.now)) }
+{
+    Value::of_text(text.clone()?)
+}
+
 /// What an operator gives.
 fn computed<'a>(operator: Operator, left: i32, right: i32) -> Now<'a>
     ensures same { (classes : Classes) (t : Trial) → onto classes t (computed (operator_view operator) left right) ≡ rest classes result t }
@@ -335,7 +342,7 @@ fn joined<'a>(left: String, right: &str) -> Result<Now<'a>, AllocError>
     if fits(left.as_str(), right) {
         let mut text = left;
         text.push_str(right)?;
-        return Ok(Now::Back(Value::Text(text)));
+        return Ok(Now::Back(Value::of_text(text)?));
     }
     Ok(Now::Fail(FaultKind::Long))
 }

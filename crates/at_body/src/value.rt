@@ -2,7 +2,7 @@
 
 ghost use Rattle.std.specs.Prelude.{◌≡◌, ◌≤◌, nat_eq, pos, not, string_bytes, IfOk};
 ghost use Rattle.std.specs.Int.{w32, int_wrapping_neg};
-ghost use Rattle.at_model.specs.Run.{Int};
+ghost use Rattle.at_model.specs.Run.{Int, Text};
 ghost use Rattle.at_model.specs.Bodies.{int_of, truth_of, text_of, ref_of, value_of, value_eq};
 ghost use Rattle.at_store.specs.Tokens.{lent_view};
 ghost use Rattle.at_body.specs.Values.{value_view};
@@ -11,6 +11,7 @@ ghost use Rattle.at_body.specs.ValueKinds.{AreAlike, IsInt, IsRef, IsText, IsTru
 use at_store::{Node, Token};
 use std::alloc::AllocError;
 use std::hash::{Hash, Hasher};
+use std::rc::Rc;
 
 /// Why an evaluation has no value: something is asked of null, a list has no such index, an optional is empty, a divisor is
 /// zero, a node is not of the class, a text is too long.
@@ -24,12 +25,12 @@ pub enum FaultKind {
     Long,
 }
 
-/// The value of an attribute: also a reference to a node, or null.
+/// The value of an attribute: also a reference to a node, or null. A text is shared by all that hold it.
 #[derive(Debug, Drop)]
 pub enum Value {
     Int(i32),
     Bool(bool),
-    Text(String),
+    Text(Rc<String>),
     Ref(Option<Node>),
 }
 
@@ -52,7 +53,7 @@ impl PartialEq for Value {
         match (self, other) {
             (Value::Int(m), Value::Int(n)) => *m == *n,
             (Value::Bool(a), Value::Bool(b)) => *a == *b,
-            (Value::Text(s), Value::Text(t)) => s.as_str() == t.as_str(),
+            (Value::Text(s), Value::Text(t)) => s.as_ref().as_str() == t.as_ref().as_str(),
             (Value::Ref(m), Value::Ref(n)) => *m == *n,
             _ => false,
         }
@@ -80,7 +81,7 @@ impl Hash for Value {
         match self {
             Value::Int(n) => n.hash(state),
             Value::Bool(b) => b.hash(state),
-            Value::Text(text) => state.write(text.as_bytes()),
+            Value::Text(text) => state.write(text.as_ref().as_bytes()),
             Value::Ref(node) => node.hash(state),
         }
     }
@@ -115,7 +116,7 @@ impl Value {
         ensures { result.now ≡ text_of (value_view self.now) }
     {
         match self {
-            Value::Text(text) => text.as_str(),
+            Value::Text(text) => text.as_ref().as_str(),
             _ => unreachable!(),
         }
     }
@@ -131,15 +132,23 @@ impl Value {
         }
     }
 
-    /// The text that it is, taken out.
-    pub fn into_text(self) -> String
+    /// The text that it is, taken out where no other value shares it. An error where memory is wanting.
+    pub fn into_text(self) -> Result<String, AllocError>
         requires { IsText (value_view self) }
-        ensures { string_bytes result ≡ text_of (value_view self) }
+        ensures { IfOk result (λ text. string_bytes text ≡ text_of (value_view self)) }
     {
         match self {
-            Value::Text(text) => text,
+            Value::Text(text) => Rc::unwrap_or_clone(text),
             _ => unreachable!(),
         }
+    }
+
+    /// The value that is the text. An error where memory is wanting.
+    pub fn of_text(text: String) -> Result<Value, AllocError>
+        ensures { IfOk result (λ v. value_view v ≡ Text (string_bytes text)) }
+    {
+        let alloc = *text.allocator();
+        Ok(Value::Text(Rc::new(alloc, text)?))
     }
 
     /// The value once more. An error where memory is wanting.
@@ -159,7 +168,11 @@ impl Value {
         ensures { IfOk result (λ v. value_view v ≡ value_of (lent_view token.entry)) }
     {
         match token {
+<<<<<<< ours
             Token::Str(text, alloc) => Ok(Value::Text(String::from_str(alloc, text)?)),
+=======
+            Token::Str(text) => Value::of_text(text.clone()?),
+>>>>>>> theirs
             Token::Int(n) => Ok(Value::Int(n)),
             Token::Bool(b) => Ok(Value::Bool(b)),
         }
@@ -189,7 +202,7 @@ impl Value {
         match self {
             Value::Int(n) => *n == other.int(),
             Value::Bool(b) => *b == other.truth(),
-            Value::Text(text) => text.as_str() == other.text(),
+            Value::Text(text) => text.as_ref().as_str() == other.text(),
             Value::Ref(node) => *node == other.node(),
         }
     }

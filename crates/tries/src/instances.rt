@@ -139,7 +139,7 @@ fn value_of(world: &World, argument: &Argument<'_>) -> Result<Value, Refusal>
     ensures { IfOk result (λ v. RefersThere world.now (value_view v)) }
 {
     match argument {
-        Argument::Text(text) => Ok(Value::Text(text.clone()?)),
+        Argument::Text(text) => Ok(Value::of_text(text.clone()?)?),
         Argument::Node(place) => Ok(Value::Ref(Some(node(world, place)?))),
         Argument::Null => Ok(Value::Ref(None)),
     }

@@ -51,7 +51,7 @@ pub fn write_value(world: &World, value: &Value, out: &mut Vec<u8>) -> Result<()
         Value::Int(number) => write_int(i64::from(*number), out),
         Value::Bool(true) => out.extend_from_slice(b"true"),
         Value::Bool(false) => out.extend_from_slice(b"false"),
-        Value::Text(text) => write_quoted(text.as_str(), out),
+        Value::Text(text) => write_quoted(text.as_ref().as_str(), out),
         Value::Ref(Some(node)) => write_node(world, *node, out),
         Value::Ref(None) => out.extend_from_slice(b"null"),
     }

@@ -190,7 +190,8 @@ impl<'e, M: Lookup> View<'e, M> {
         match argument {
             Argument::Text(text) => {
                 let text = String::from_str(self.alloc, text.as_str())?;
-                Ok(Some(Value::Text(text)))
+                let value = Value::of_text(text)?;
+                Ok(Some(value))
             }
             Argument::Node(place) => match self.node_named(session, place) {
                 Some(node) => Ok(Some(Value::Ref(Some(node)))),

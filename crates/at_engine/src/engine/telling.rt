@@ -19,6 +19,7 @@ use at_protocol::reply::{FaultWord, Form, Refusal, Shown};
 use at_store::Node;
 use at_tree::token::TokVal;
 use std::alloc::AllocError;
+use std::rc::Rc;
 
 /// The word for a fault.
 fn fault_word(kind: FaultKind) -> FaultWord
@@ -155,7 +156,10 @@ impl<'e, M: Lookup> View<'e, M> {
         match value {
             Value::Int(_) => Ok(Shown::Token(number_of(&value))),
             Value::Bool(truth) => Ok(Shown::Token(TokVal::Bool(truth))),
-            Value::Text(text) => Ok(Shown::Token(TokVal::Str(text))),
+            Value::Text(shared) => {
+                let text = Rc::unwrap_or_clone(shared)?;
+                Ok(Shown::Token(TokVal::Str(text)))
+            }
             Value::Ref(node) => self.shown_node(node),
         }
     }

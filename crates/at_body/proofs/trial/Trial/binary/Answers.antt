@@ -8,13 +8,13 @@ use Rattle.at_body.specs.Values.{value_view}
 use Rattle.at_body.proofs.trial.Trial.binary.Goals as goal
 
 pub returns-in-Join-clause-same : goal.returns-in-Join-clause-same
-returns-in-Join-clause-same c = λ classes. let h = rw (c.into_text.ensures, c.text.ensures) at c.joined.ensures.same classes c.args.self.now in rw c.in-Join.is (followed classes (contents c.args.store.now) _ _ _ _ c.args.self.now refl h (kept _ _))
+returns-in-Join-clause-same c = λ classes. let h = rw (c.in_ok-into_text-in-Join.ensures, c.text.ensures) at c.joined.ensures.same classes c.args.self.now in rw c.in-Join.is (followed classes (contents c.args.store.now) _ _ _ _ c.args.self.now refl h (kept _ _))
 
 pub returns-in-Join-clause-less : goal.returns-in-Join-clause-less
 returns-in-Join-clause-less c = c.joined.ensures.less c.args.self.now
 
 pub returns-in-JoinInt-clause-same : goal.returns-in-JoinInt-clause-same
-returns-in-JoinInt-clause-same c = λ classes. let h = rw c.into_text-in-JoinInt.ensures at c.joined_int.ensures.same classes c.args.self.now in rw c.in-JoinInt.is (followed classes (contents c.args.store.now) _ _ _ _ c.args.self.now refl h (kept _ _))
+returns-in-JoinInt-clause-same c = λ classes. let h = rw c.in_ok-into_text-in-JoinInt.ensures at c.joined_int.ensures.same classes c.args.self.now in rw c.in-JoinInt.is (followed classes (contents c.args.store.now) _ _ _ _ c.args.self.now refl h (kept _ _))
 
 pub returns-in-JoinInt-clause-less : goal.returns-in-JoinInt-clause-less
 returns-in-JoinInt-clause-less c = c.joined_int.ensures.less c.args.self.now
@@ -29,7 +29,7 @@ returns-in-Arithmetic-clause-told c =
     rw c.in-Arithmetic.is (computed_seen (contents c.args.store.now) c.in-Arithmetic.operator _ _ _ _ c.computed.result e f (c.computed.ensures.told (contents c.args.store.now)), refl)
 
 pub returns-in-Join-clause-told : goal.returns-in-Join-clause-told
-returns-in-Join-clause-told c = rw c.in-Join.is (joined_told (contents c.args.store.now) c.args.self.now c.joined.result _ _ (text_of (value_view c.args.left)) (text_of (value_view c.args.right.now)) c.into_text.ensures c.text.ensures (c.joined.ensures.told (contents c.args.store.now)))
+returns-in-Join-clause-told c = rw c.in-Join.is (joined_told (contents c.args.store.now) c.args.self.now c.joined.result _ _ (text_of (value_view c.args.left)) (text_of (value_view c.args.right.now)) c.in_ok-into_text-in-Join.ensures c.text.ensures (c.joined.ensures.told (contents c.args.store.now)))
 
 pub returns-in-JoinInt-clause-told : goal.returns-in-JoinInt-clause-told
-returns-in-JoinInt-clause-told c = rw c.in-JoinInt.is (joined_told (contents c.args.store.now) c.args.self.now c.joined_int.result _ _ (text_of (value_view c.args.left)) (signed_decimal (int_of (value_view c.args.right.now))) c.into_text-in-JoinInt.ensures refl (c.joined_int.ensures.told (contents c.args.store.now)))
+returns-in-JoinInt-clause-told c = rw c.in-JoinInt.is (joined_told (contents c.args.store.now) c.args.self.now c.joined_int.result _ _ (text_of (value_view c.args.left)) (signed_decimal (int_of (value_view c.args.right.now))) c.in_ok-into_text-in-JoinInt.ensures refl (c.joined_int.ensures.told (contents c.args.store.now)))

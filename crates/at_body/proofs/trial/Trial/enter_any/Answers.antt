@@ -1,6 +1,5 @@
 use Rattle.at_store.specs.Shown.{contents}
-use Rattle.std.proofs.Common.{rules, ◌≡◌, ◌+◌, ◌∙◌, sym, refl, ap, arith, pos, string_bytes}
-use Rattle.at_model.specs.Run.{Gives, Text}
+use Rattle.std.proofs.Common.{◌+◌, ◌∙◌, sym, refl, ap, arith, pos}
 use Rattle.at_body.specs.declared.todo.Unary.TheVariants as unary
 use Rattle.at_body.specs.declared.todo.Binary.TheVariants as binary
 use Rattle.at_body.specs.declared.todo.Fold.TheVariants as fold
@@ -253,10 +252,9 @@ returns-in-Null-clause-typed c = at_hand_takes c.args.rules.now (class_shown c.a
 pub returns-in-This-clause-typed : goal.returns-in-This-clause-typed
 returns-in-This-clause-typed c = at_hand_takes c.args.rules.now (class_shown c.args.store.now) (contents c.args.store.now) c.requires.over c.args.self.now c.args.body.now _ c.requires.typed (rw c.in-This.is refl)
 
-pub returns-in_ok-clone-in-Text-clause-typed : goal.returns-in_ok-clone-in-Text-clause-typed
-returns-in_ok-clone-in-Text-clause-typed c =
-    let e : string_bytes c.in-Text.text ≡ string_bytes c.in_ok-clone-in-Text.field-0 = search rules in
-    at_hand_takes c.args.rules.now (class_shown c.args.store.now) (contents c.args.store.now) c.requires.over c.args.self.now c.args.body.now _ c.requires.typed (rw c.in-Text.is (ap (λ s. Gives (Text s)) e))
+pub returns-in_ok-text_value-in-Text-clause-typed : goal.returns-in_ok-text_value-in-Text-clause-typed
+returns-in_ok-text_value-in-Text-clause-typed c =
+    at_hand_takes c.args.rules.now (class_shown c.args.store.now) (contents c.args.store.now) c.requires.over c.args.self.now c.args.body.now _ c.requires.typed (rw (c.in-Text.is, c.in_ok-text_value-in-Text.ensures) refl)
 
 pub name-requires : goal.name-requires
 name-requires c = record { there = name_there c.args.rules.now (class_shown c.args.store.now) c.args.self.now c.args.body.now c.in-Name.position (rw c.in-Name.is refl) c.requires.typed }

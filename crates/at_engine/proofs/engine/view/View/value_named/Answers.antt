@@ -5,9 +5,9 @@ use Rattle.at_store.specs.Shown.{path}
 use Rattle.at_engine.proofs.Valued.{text_like}
 use Rattle.at_engine.proofs.engine.view.View.value_named.Goals as goal
 
-pub returns-in_ok-text-in-Text : goal.returns-in_ok-text-in-Text
-returns-in_ok-text-in-Text g c =
-    rw c.in-Text.is (Text (string_bytes c.in-Text.text), refl, text_like (path c.args.self.now.store.now) _ _ (c.in_ok-text-in-Text.ensures.ok ∙ c.as_str.ensures.value))
+pub returns-in_ok-value-in-Text : goal.returns-in_ok-value-in-Text
+returns-in_ok-value-in-Text g c =
+    rw (c.in-Text.is, c.in_ok-value-in-Text.ensures) (Text (string_bytes c.in-Text.text), refl, text_like (path c.args.self.now.store.now) _ _ (c.in_ok-text-in-Text.ensures.ok ∙ c.as_str.ensures.value))
 
 pub returns-in-Some : goal.returns-in-Some
 returns-in-Some g c =
