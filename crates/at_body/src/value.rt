@@ -168,11 +168,7 @@ impl Value {
         ensures { IfOk result (λ v. value_view v ≡ value_of (lent_view token.entry)) }
     {
         match token {
-<<<<<<< ours
-            Token::Str(text, alloc) => Ok(Value::Text(String::from_str(alloc, text)?)),
-=======
-            Token::Str(text) => Value::of_text(text.clone()?),
->>>>>>> theirs
+            Token::Str(text, alloc) => Value::of_text(String::from_str(alloc, text)?),
             Token::Int(n) => Ok(Value::Int(n)),
             Token::Bool(b) => Ok(Value::Bool(b)),
         }
