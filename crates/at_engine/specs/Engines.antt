@@ -1,9 +1,10 @@
 -- What an engine serves.
 use Rattle.std.specs.Prelude.{◌≡◌, ℕ, List, None}
-use Rattle.at_model.specs.Rules.{Rules, start_of}
+use Rattle.at_model.specs.Rules.{Rules}
 use Rattle.at_model.specs.Enduring.{AreTokens}
 use Rattle.at_model.specs.Machine.{State}
 use Rattle.at_model.specs.WellFormed.{AreWellFormed}
+use Rattle.at_rules.specs.Circular.{HasNoneCircular}
 use Rattle.at_cache.specs.Kept.{Entries, KeepsAll}
 use Rattle.at_cache.specs.Traced.{Memories, TracesNothing}
 use Rattle.at_engine.specs.Holding.{state_in, IsSoundWith}
@@ -38,10 +39,6 @@ KeepsNothing contents memories k = KeepsAll (λ _. None) (contents k) × TracesN
 abbrev pub IsHeld : {K : Type 0} → (contents : K → Entries) (memories : K → Memories) → Engine K → Type 0
 IsHeld contents memories e =
     IsSoundWith e.rules e.store (marks_of e) e.posts (contents e.demand.keeper) (memories e.demand.keeper)
-
--- no attribute is circular
-abbrev pub HasNoneCircular : Rules → Type 0
-HasNoneCircular rules = (attribute : ℕ) → start_of rules attribute ≡ None
 
 -- The rules are well formed, and each token of the tree can be written, so that evaluations keep to the kinds. With none
 -- circular the formulas answer what the equations do.

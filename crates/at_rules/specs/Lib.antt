@@ -1,5 +1,6 @@
 pub mod Begun
 pub mod Bodies
+pub mod Circular
 pub mod Dispatch
 pub mod FirstNamed
 pub mod Holding

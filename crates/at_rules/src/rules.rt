@@ -171,13 +171,6 @@ impl Rules {
         self.equations.attributes.len()
     }
 
-    /// A law: none of the attributes is circular.
-    pub fn none_is_circular(&self)
-        ensures { (attribute : ℕ) → start_of self.now attribute ≡ None }
-    {
-        let _ = self.equations.attributes.len();
-    }
-
     /// The attribute of that name that the class or one above it declares: the first one among the
     /// declarations. Of the name without characters, which no attribute has, nothing is said.
     pub fn attribute(&self, class: ClassId, name: &str) -> Option<AttrId>

@@ -28,6 +28,8 @@ mod sessions;
 #[cfg(test)]
 mod settled;
 #[cfg(test)]
+mod solving;
+#[cfg(test)]
 mod stores;
 #[cfg(test)]
 mod trees;

@@ -50,7 +50,8 @@ IsGoneTo marks path todo groups i w = (mark_at marks w ≡ Listed)
     ⊎ ((q : ℕ) × At todo q w × ((k : ℕ) (g : Group) → At groups k g → g.nodes ≤ i → g.todo ≤ q)))
 
 -- On the path each node leads to each behind it, and in a group to each before it, too. `Next` is what is looked at now.
-pub record IsPath {Z : Type 0} (edges : List (Vec ℕ Z)) (n : ℕ) (Next : ℕ → Type 0) (marks : List Mark) (path todo : List ℕ) (groups : List Group) : Type 0 where
+pub record IsPath {Z : Type 0} (edges : List (Vec ℕ Z)) (n : ℕ) (Next : ℕ → Type 0) (marks : List Mark) (path todo : List ℕ)
+    (groups : List Group) : Type 0 where
   pub placed : (p u : ℕ) → At path p u → At marks u (OnPath p)
   pub stands : (u p : ℕ) → At marks u (OnPath p) → At path p u
   pub on : (i j u v : ℕ) → i ≤ j → At path i u → At path j v → Leads edges u v

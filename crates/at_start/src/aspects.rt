@@ -3,6 +3,7 @@
 ghost use Rattle.std.specs.Prelude.{◌≡◌, map, Ok, IfOk, IfErr};
 ghost use Rattle.at_jrag.specs.View.{aspect_view};
 ghost use Rattle.at_model.specs.WellFormed.{AreWellFormed, IsHierarchy};
+ghost use Rattle.at_rules.specs.Circular.{HasNoneCircular};
 ghost use Rattle.at_typing.specs.Building.{Builds};
 ghost use Rattle.at_typing.specs.Located.{declarations_in};
 ghost use Rattle.at_start.specs.AspectFiles.{Holds, AllHold, GivesRules, IsReadingFaultOf, IsAspectFault, IsUnread, IsRuleFault, jrag_code, rule_code};
@@ -28,6 +29,7 @@ pub fn rules_of(alloc: Global, classes: ClassTable, aspects: &[Source]) -> Resul
     ensures classes { IfOk result (λ r. r.classes ≡ classes) }
     ensures given { IfOk result (λ r. GivesRules classes (aspect_bytes aspects.now) r) }
     ensures well_formed { IsHierarchy classes → IfOk result AreWellFormed }
+    ensures none_circular { IfOk result HasNoneCircular }
     ensures refused { IfErr result (IsAspectFault classes (aspect_bytes aspects.now)) }
 {
     let aspects = read_all(alloc, aspects)?;

@@ -1,6 +1,6 @@
 -- The equations of rules that have no fault are typed.
 use Rattle.std.proofs.Common.{◌≡◌, ℕ, ◌<◌, Bool, true, false, ◌&&◌, ◌||◌, not, List, [], ◌∷◌, length, Option, Some, None, refl, sym, ap, ◌∙◌, subst, true≢false}
-use Rattle.std.specs.Prelude.{codes, is_some, option_and_then, IfSome, IsSome, if◌then◌else◌}
+use Rattle.std.specs.Prelude.{codes, cond, filter, is_some, option_and_then, IfSome, IsSome, if◌then◌else◌}
 use Rattle.std.specs.List.{slice_get, AllZip, AllByRecursion, filter_map, cons_option}
 use Rattle.std.specs.Str.{bytes_eq}
 use Rattle.std.proofs.lemmas.Slice.Eq.{bytes_eq-Decides}
@@ -15,9 +15,10 @@ use Rattle.at_model.proofs.Everywhere.{all_more}
 use Rattle.at_model.proofs.Options.{both}
 use Rattle.at_jrag.specs.Syntax.{Word, KindWord, Body, DeclForm}
 use Rattle.at_jrag.specs.Syntax as written
+use Rattle.at_rules.specs.Circular.{AreCircularLazy, HasNoneCircular}
 use Rattle.at_kinds.specs.Accessors.{accessed, shape_of}
 use Rattle.at_typing.specs.Building.{meaning_if, meanings, first_fault, rules_of}
-use Rattle.at_typing.specs.Declaring.{attributes, is_inherited, body_in, index_in, class_text, name_text, is_below, is_sub_or_none, is_synthesized_by, synthesized_named, inherited_named, declared_twice, over_limit, accessor_named, fault_together}
+use Rattle.at_typing.specs.Declaring.{attributes, is_attribute, is_inherited, IsNotCircular, body_in, index_in, class_text, name_text, is_below, is_sub_or_none, is_synthesized_by, synthesized_named, inherited_named, declared_twice, over_limit, accessor_named, fault_together}
 use Rattle.at_kinds.specs.Judging.{Judgement, Is, Wrong, and_then}
 use Rattle.at_typing.specs.Located.{Located, class_word}
 use Rattle.at_typing.specs.Meanings.{Meaning, attribute_meant, signatures, own_equation, own_meant, inherited_equation, inherited_meant, body_meant, declared_alone, declared_with, own_alone, inherited_alone, with_body, below_class, below_component, form_meant, meant}
@@ -28,9 +29,10 @@ use Rattle.at_typing.proofs.Gathering.{first_none, other_none}
 use Rattle.at_kinds.proofs.Holding.{Holds, then_holds, none_holds}
 use Rattle.at_typing.proofs.of_attributes.InheritedAlike.{inherited_alike}
 use Rattle.at_kinds.proofs.KindsKnown.{beside_it, element_found}
-use Rattle.at_typing.proofs.of_attributes.KindsDeclared.{IsOfWord, Declares, class_there, class_named_right, attribute_right, all_declared, signatures_same, all_typed}
+use Rattle.at_typing.proofs.of_attributes.KindsDeclared.{IsOfWord, Declares, class_there, class_named_right, attribute_right, all_declared, signatures_same, all_typed, none_starts, circular_lazy}
 use Rattle.at_typing.proofs.KindsOfBodies.{IsBodyOf, body_right}
 use Rattle.at_typing.proofs.Literals.{AreInts, AreIntsIn}
+use Rattle.at_typing.proofs.Starting.{IsBooleanIn}
 
 -- components ------------------------------------------------------------------------------------------------------------
 
@@ -197,32 +199,63 @@ module _ {A : Type 0} (P : A → Type 0) (part : Meaning → Option A) (classes 
   each_part [] each = tt
   each_part (d ∷ ds) each = with_meaning (meant classes all d) ds each.0 (each_part ds each.1)
 
+-- what holds of all holds of those that pass a test
+all_filter : {A : Type 0} (P : A → Type 0) (p : A → Bool) (xs : List A) → AllByRecursion P xs
+    → AllByRecursion P (filter p xs)
+all_filter P p [] h = tt
+all_filter P p (x ∷ xs) (h, hs) = by (p x) (all_filter P p xs hs)
+  where
+    by : (b : Bool) → AllByRecursion P (filter p xs) → AllByRecursion P (cond b (x ∷ filter p xs) (filter p xs))
+    by true rest = (h, rest)
+    by false rest = rest
+
 one_part : {A : Type 0} (P Q : A → Type 0) (j : Judgement A) → ((a : A) → P a → Q a) → Holds P j → Holds Q j
 one_part P Q (Is a) more h = more a h
 one_part P Q (Wrong c at) more h = tt
 
 -- rules -----------------------------------------------------------------------------------------------------------------
 
+-- where no declaration has a start, no attribute is circular
+pub none_circular : (classes : Classes) (ds : List Located) → first_fault classes ds ≡ None
+    → AllByRecursion IsNotCircular ds
+    → HasNoneCircular (rules_of classes ds)
+none_circular classes ds none plain =
+    none_starts classes (attributes ds) (rules_of classes ds).attributes
+    (all_filter IsNotCircular (λ d. is_attribute d.decl.form) ds plain)
+    (all_declared classes ds 0 ds (other_none (fault_together classes ds) _ none))
+
+-- and those that are circular are lazy
+pub circular_kept : (classes : Classes) (ds : List Located) → first_fault classes ds ≡ None
+    → AreCircularLazy (rules_of classes ds)
+circular_kept classes ds none =
+    circular_lazy classes (attributes ds) (rules_of classes ds).attributes
+    (all_declared classes ds 0 ds (other_none (fault_together classes ds) _ none))
+
 -- the rules of declarations without a fault are typed
-pub typed : (classes : Classes) (ds : List Located) → first_fault classes ds ≡ None → AllByRecursion AreIntsIn ds → AreTyped (rules_of classes ds)
-typed classes ds none ints =
+pub typed : (classes : Classes) (ds : List Located) → first_fault classes ds ≡ None → AllByRecursion AreIntsIn ds
+    → AllByRecursion IsBooleanIn ds
+    → AreTyped (rules_of classes ds)
+typed classes ds none ints booleans =
     let zip = all_declared classes ds 0 ds (other_none (fault_together classes ds) _ none) in
     let together = first_none (fault_together classes ds) _ none in
     let twice = first_none (declared_twice classes ds) _ (other_none (accessor_named classes ds) _ (other_none (over_limit ds) _ together)) in
     let alike = inherited_alike (rules_of classes ds) ds twice zip in
     let rules = rules_of classes ds in
     record {
-      attributes = all_typed classes (attributes ds) rules.attributes zip;
+      attributes = all_typed classes (attributes ds) rules.attributes
+          (all_filter IsBooleanIn (λ d. is_attribute d.decl.form) ds booleans) zip;
       alike = alike;
       own = each_part (IsOwnTyped rules) (λ (m : Meaning). m.own) classes ds ds (all_more AreIntsIn (λ d. Holds (λ (m : Meaning). IfSome m.own (IsOwnTyped rules)) (meant classes ds d)) ds (λ d is. one_part _ (λ (m : Meaning). IfSome m.own (IsOwnTyped rules)) (meant classes ds d) (λ m h. h.0) (meant_right rules ds zip alike d is)) ints);
       inherited = each_part (IsInheritedTyped rules) (λ (m : Meaning). m.inherited) classes ds ds (all_more AreIntsIn (λ d. Holds (λ (m : Meaning). IfSome m.inherited (IsInheritedTyped rules)) (meant classes ds d)) ds (λ d is. one_part _ (λ (m : Meaning). IfSome m.inherited (IsInheritedTyped rules)) (meant classes ds d) (λ m h. h.1) (meant_right rules ds zip alike d is)) ints);
     }
 
 -- and well formed, where they are complete, and their classes a hierarchy
-pub well_formed : (classes : Classes) (ds : List Located) (rules : Rules) → IsHierarchy classes → first_fault classes ds ≡ None → rules ≡ rules_of classes ds → AllByRecursion AreIntsIn ds → AreComplete rules → AreWellFormed rules
-well_formed classes ds rules hierarchy none is ints complete =
+pub well_formed : (classes : Classes) (ds : List Located) (rules : Rules) → IsHierarchy classes
+    → first_fault classes ds ≡ None → rules ≡ rules_of classes ds → AllByRecursion AreIntsIn ds
+    → AllByRecursion IsBooleanIn ds → AreComplete rules → AreWellFormed rules
+well_formed classes ds rules hierarchy none is ints booleans complete =
     record {
       hierarchy = subst (λ (r : Rules). IsHierarchy r.classes) (sym is) hierarchy;
-      typed = subst AreTyped (sym is) (typed classes ds none ints);
+      typed = subst AreTyped (sym is) (typed classes ds none ints booleans);
       complete = complete;
     }

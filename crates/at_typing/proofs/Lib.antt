@@ -8,6 +8,7 @@ mod of_attributes
 mod WordNumbers
 mod AccessorNaming
 mod SameKinds
+mod SameStart
 mod EquationsBefore
 mod Earlier
 mod ClassesBelow
@@ -19,6 +20,8 @@ mod ParamsNamed
 mod Gathering
 mod InOrder
 mod Built
+mod Spelled
+pub mod Starting
 mod Literals
 mod KindsJudged
 mod KindsOfBodies

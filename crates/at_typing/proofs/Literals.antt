@@ -1,17 +1,16 @@
 -- The numbers that are written in expressions.
-use Rattle.std.proofs.Common.{ℕ, zero, suc, ◌+◌, ◌<◌, ◌≤◌, ℤ, pos, neg_ℤ, inl, inr, List, [], ◌∷◌, map, sym, subst, arith}
+use Rattle.std.proofs.Common.{ℕ, zero, suc, ◌<◌, ◌≤◌, ℤ, pos, neg_ℤ, inl, inr, List, sym, subst, arith}
 use Rattle.std.specs.Prelude.{⊤, IfSome}
 use Rattle.std.specs.List.{AllByRecursion}
-use Rattle.std.proofs.lemmas.List.Concat.{flat_map-cons}
 use Rattle.at_model.specs.Terms.{IsInt32}
-use Rattle.at_model.proofs.Everywhere.{all_both}
 use Rattle.at_text.specs.declared.place.Place.{Place}
-use Rattle.at_jrag.specs.Syntax.{Expr, Exprs, no_exprs, expr, Number, TextLiteral, Truth, Null, This, Name, Call, CallOf, Paren, Negate, Not, Cast, InstanceOf, Binary, Choose, Fold, Body, BodyForm, Equation', Block, Ending, With, Semicolon, DeclForm, Synthesized, Inherited, Equation, InheritedEquation, Decl, Aspect}
+use Rattle.at_jrag.specs.Syntax.{Expr, Exprs, no_exprs, expr, Number, TextLiteral, Truth, Null, This, Name, Call, CallOf, Paren, Negate, Not, Cast, InstanceOf, Binary, Choose, Fold, Body, BodyForm, Equation', Block, Ending, With, Semicolon, DeclForm, Synthesized, Inherited, Equation, InheritedEquation, Aspect}
 use Rattle.at_text.specs.Rows.{Row}
 use Rattle.at_jrag.specs.declared.Forms.{Forms}
-use Rattle.at_jrag.specs.Grammar.{NumberOf, Spells, Arguments, MoreArguments, BodyOf, EndingOf, Behind, Decls, File}
+use Rattle.at_jrag.specs.Grammar.{NumberOf, Spells, Arguments, MoreArguments, BodyOf, EndingOf, Behind}
 use Rattle.at_typing.specs.Declaring.{body_at, body_in}
-use Rattle.at_typing.specs.Located.{Located, IsSpelled, from_aspect, from_file, located}
+use Rattle.at_typing.specs.Located.{Located, IsSpelled, located}
+use Rattle.at_typing.proofs.Spelled.{located_each}
 
 abbrev mutual
   -- each number in the expression has 32 bits
@@ -100,16 +99,6 @@ form_ints forms (Inherited lazy k class name ps start) old rest is = tt
 form_ints forms (Equation class name ps b) old rest (called, body, owner, signature, is) = body_ints b body rest is
 form_ints forms (InheritedEquation class getter index name ps b) old rest (got, called, body, owner, gets, signature, is) = body_ints b body rest is
 
-decls_ints : (forms : Forms) (file : ℕ) (ds : List Decl) (old rest : Row) → Decls forms ds old rest → AllByRecursion AreIntsIn (map (λ d. record { file = file; decl = d }) ds)
-decls_ints forms file [] old rest is = tt
-decls_ints forms file (d ∷ ds) old rest (more, (behind, word, is), others) = (form_ints forms d.form behind more is, decls_ints forms file ds more rest others)
-
-file_ints : (forms : Forms) (file : ℕ) (as' : List Aspect) (old rest : Row) → File forms as' old rest → AllByRecursion AreIntsIn (from_file file as')
-file_ints forms file [] old rest is = tt
-file_ints forms file (a ∷ as') old rest (more, (named, brace, inner, close, word, name, opens, is, closes), others) =
-    subst (AllByRecursion AreIntsIn) (sym (flat_map-cons (from_aspect file) a as')) (all_both AreIntsIn (from_aspect file a) (from_file file as') (decls_ints forms file a.decls inner close is) (file_ints forms file as' more rest others))
-
 -- the numbers of files that are spelled have 32 bits
 pub located_ints : (file : ℕ) (files : List (List Aspect)) → AllByRecursion IsSpelled files → AllByRecursion AreIntsIn (located file files)
-located_ints file [] are = tt
-located_ints file (as' ∷ rest) ((forms, tokens, is), are) = all_both AreIntsIn (from_file file as') (located (file + 1) rest) (file_ints forms file as' tokens [] is) (located_ints (file + 1) rest are)
+located_ints = located_each (λ form. IfSome (body_in form) (λ b. AreInts b.expr)) form_ints

@@ -13,7 +13,7 @@ use Rattle.at_kinds.specs.declared.accessors.Accessor.{Accessor}
 use Rattle.at_kinds.specs.declared.code.RuleCode.{RuleCode}
 use Rattle.at_kinds.specs.declared.code.RuleCode.TheVariants.{Limit, NameOfAccessor, AttributeTwice, EquationWithoutAttribute, EquationTwice, UnknownName, Argument, Kind, ClassWithoutEquation, InheritedWithoutEquation}
 use Rattle.at_typing.specs.Building.{rules_of}
-use Rattle.at_typing.specs.Declaring.{attributes, binds_twice, body_in, class_text, getter_in, has_same_signature, is_attribute, is_below, is_inherited, is_own_equation, max_attributes, max_text, name_text}
+use Rattle.at_typing.specs.Declaring.{attributes, binds_twice, body_in, class_text, getter_in, has_same_signature, is_attribute, is_below, is_inherited, is_own_equation, max_attributes, max_text, name_text, start_in}
 use Rattle.at_typing.specs.Located.{Located}
 use Rattle.at_typing.specs.Meanings.{Meaning, meant}
 
@@ -69,10 +69,12 @@ AreNoAccessors classes ds =
 
 -- J2 -------------------------------------------------------------------------------------------------------------------
 
--- two attributes of one name are both synthesized, or both inherited with the same kinds; and neither class is the other's or above it
+-- two attributes of one name are both synthesized, or both inherited with the same kinds and the same start, if any; and neither
+-- class is the other's or above it
 pub record AreApart (classes : Classes) (d e : Located) : Type 0 where
   pub alike : is_inherited d.decl.form ≡ is_inherited e.decl.form
   pub kinds : is_inherited d.decl.form ≡ true → has_same_signature d.decl.form e.decl.form ≡ true
+  pub starts : is_inherited d.decl.form ≡ true → start_in d.decl.form ≡ start_in e.decl.form
   pub below : is_below classes (class_text d) (class_text e) ≡ false
   pub above : is_below classes (class_text e) (class_text d) ≡ false
 

@@ -1,8 +1,9 @@
 -- What declarations together must obey, and the fault of those that don't: the first one in file order that breaks a rule has its place.
 -- A class that isn't there counts as one of its own, without a superclass.
-use Rattle.std.specs.Prelude.{ℕ, Bool, true, false, ◌||◌, ◌&&◌, not, nat_lt, List, [], ◌∷◌, ◌++◌, length, map, take, filter, Option, Some, None, option_map, option_and_then, position, is_some, if◌then◌else◌}
+use Rattle.std.specs.Prelude.{◌≡◌, ℕ, Bool, true, false, ◌||◌, ◌&&◌, not, nat_lt, List, [], ◌∷◌, ◌++◌, length, map, take, filter, Option, Some, None, option_map, option_and_then, position, is_some, if◌then◌else◌}
 use Rattle.std.specs.List.{list_any}
-use Rattle.std.specs.Option.{option_or}
+use Rattle.std.specs.Bool.{beq}
+use Rattle.std.specs.Option.{option_eq, option_or}
 use Rattle.std.specs.Str.{bytes_eq}
 use Rattle.at_model.specs.Classes.{Classes, is_sub, class_of_name}
 use Rattle.at_model.specs.Declarations.{first_given}
@@ -51,12 +52,23 @@ params_in (Inherited lazy kind class name params start) = params
 params_in (Equation class name params body) = params
 params_in (InheritedEquation class getter index name params body) = params
 
--- the values of the attribute that is declared are kept
+-- the value from which the attribute that is declared starts, where it is circular
+abbrev pub start_in : DeclForm → Option Bool
+start_in (Synthesized lazy kind class name params start ending) = start
+start_in (Inherited lazy kind class name params start) = start
+start_in (Equation class name params body) = None
+start_in (InheritedEquation class getter index name params body) = None
+
+-- the values of the attribute that is declared are kept: it is lazy, or circular
 abbrev pub is_lazy : DeclForm → Bool
-is_lazy (Synthesized lazy kind class name params start ending) = is_some lazy
-is_lazy (Inherited lazy kind class name params start) = is_some lazy
+is_lazy (Synthesized lazy kind class name params start ending) = is_some lazy || is_some start
+is_lazy (Inherited lazy kind class name params start) = is_some lazy || is_some start
 is_lazy (Equation class name params body) = false
 is_lazy (InheritedEquation class getter index name params body) = false
+
+-- it declares no circular attribute
+abbrev pub IsNotCircular : Located → Type 0
+IsNotCircular d = start_in d.decl.form ≡ None
 
 -- the getter of the component for whose nodes an inherited equation stands
 abbrev pub getter_in : DeclForm → Option Word
@@ -180,9 +192,13 @@ has_same_result None k = false
 abbrev pub has_same_signature : DeclForm → DeclForm → Bool
 has_same_signature d e = has_same_result (result_in d) (result_in e) && have_same_kinds (params_in d).items (params_in e).items
 
--- of one name, one is synthesized and one inherited, or both are inherited with other kinds
+-- both are circular with the same start, or neither is circular
+abbrev pub has_same_start : DeclForm → DeclForm → Bool
+has_same_start d e = option_eq beq (start_in d) (start_in e)
+
+-- of one name, one is synthesized and one inherited, or both are inherited with other kinds or another start
 abbrev pub differs : DeclForm → DeclForm → Bool
-differs d e = if is_inherited d then not (is_inherited e && has_same_signature d e) else is_inherited e
+differs d e = if is_inherited d then not (is_inherited e && (has_same_signature d e && has_same_start d e)) else is_inherited e
 
 abbrev pub is_on_one_line : Classes → List ℕ → List ℕ → Bool
 is_on_one_line classes v w = is_below classes v w || is_below classes w v

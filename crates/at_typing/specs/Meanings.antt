@@ -9,7 +9,7 @@ use Rattle.at_model.specs.Rules as model
 use Rattle.at_jrag.specs.Syntax.{Word, KindWord, Body, DeclForm, Synthesized, Inherited, Equation, InheritedEquation}
 use Rattle.at_rules.specs.Bodies.{kind_view}
 use Rattle.at_rules.specs.declared.body.Kind.{Kind}
-use Rattle.at_typing.specs.Declaring.{is_inherited, is_lazy, result_in, params_in, index_in, body_in, class_text, name_text, synthesized_named, inherited_named}
+use Rattle.at_typing.specs.Declaring.{is_inherited, is_lazy, start_in, result_in, params_in, index_in, body_in, class_text, name_text, synthesized_named, inherited_named}
 use Rattle.at_kinds.specs.Judging.{Judgement, Is, Wrong, and_then, Scope, body_of as body_judged}
 use Rattle.at_typing.specs.Located.{Located, class_word}
 use Rattle.at_typing.specs.Ruling.{written_kind, class_named, kind_named, params_named, as_declared, component_got, index_of_list, bound}
@@ -90,7 +90,7 @@ attribute d c result params = record {
   result = kind_view result;
   is_lazy = is_lazy d.decl.form;
   is_inherited = is_inherited d.decl.form;
-  start = None;
+  start = start_in d.decl.form;
 }
 
 abbrev pub attribute_with : Classes → Located → Kind → ℕ → Judgement Attribute

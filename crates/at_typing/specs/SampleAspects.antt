@@ -1,5 +1,5 @@
 -- Declarations over the classes of calc.ast, one row for each code, as they stand in one line of one file.
-use Rattle.std.specs.Prelude.{ℕ, pos, true, List, [], ◌∷◌, None, codes}
+use Rattle.std.specs.Prelude.{ℕ, pos, Bool, true, false, List, [], ◌∷◌, Option, None, Some, codes}
 use Rattle.at_jrag.specs.Syntax.{Bool', DeclForm, Equation, Expr, Inherited, InheritedEquation, Int, Kind, KindWord, Number, Semicolon, Synthesized, TextLiteral, Truth, With}
 use Rattle.at_jrag.specs.Syntax as written
 use Rattle.at_typing.specs.Located.{Located}
@@ -67,6 +67,19 @@ abbrev pub is_of_no_component : List Located
 is_of_no_component =
     inherits
     ∷ declared 30 (InheritedEquation (word (codes "Stmt") 33) (word (codes "getExpr") 38) None (word (codes "q") 48) (no_params 50) (equals 52 (one 54)))
+    ∷ []
+
+-- syn boolean Program.a() circular [true] = a();
+abbrev pub is_circular : List Located
+is_circular =
+    declared 12 (Synthesized None (kind Bool' 16) (word (codes "Program") 24) (word (codes "a") 32) (no_params 34) (Some true)
+    (With (equals 52 (call (codes "a") 54 [])))) ∷ []
+
+-- inh boolean Expr.q() circular [false]; inh boolean Stmt.q() and this start;
+abbrev pub with_starts : (second : Option Bool) → List Located
+with_starts second =
+    declared 12 (Inherited None (kind Bool' 16) (word (codes "Expr") 24) (word (codes "q") 29) (no_params 31) (Some false))
+    ∷ declared 51 (Inherited None (kind Bool' 55) (word (codes "Stmt") 63) (word (codes "q") 68) (no_params 70) second)
     ∷ []
 
 -- syn int Stmt.a();

@@ -1,7 +1,8 @@
 //! Worked aspects over calc.ast: the fault of each, and its place. Each is the contract of a function that does nothing.
 
-ghost use Rattle.std.specs.Prelude.{◌≡◌, ◌∷◌, [], codes, None, Some, pos, Err, Ok};
+ghost use Rattle.std.specs.Prelude.{◌≡◌, ◌∷◌, [], codes, false, true, None, Some, pos, Err, Ok};
 ghost use Rattle.at_model.specs.Bodies.{IntLiteral};
+ghost use Rattle.at_model.specs.Rules.{Truth};
 ghost use Rattle.at_model.specs.Samples.{calc, calc_classes};
 ghost use Rattle.at_text.specs.declared.fault.Failure.TheVariants.{For};
 ghost use Rattle.at_text.specs.declared.place.Place.{Place};
@@ -16,10 +17,12 @@ ghost use Rattle.at_typing.specs.SampleAspects.{
   has_two_equations,
   is_a_boolean,
   is_an_accessor,
+  is_circular,
   is_declared_twice,
   is_of_no_attribute,
   is_of_no_component,
   passes_an_int,
+  with_starts,
 };
 ghost use Rattle.at_typing.specs.SampleCalculator.{calculator};
 ghost use Rattle.at_typing.specs.Samples.{column};
@@ -52,6 +55,16 @@ pub fn equations_that_classes_lack()
 /// An equation with `getChild()` is for each component of its class.
 pub fn an_equation_for_each_component()
     ensures { (rules_of calc_classes has_one_above).inherited ≡ record { class = 0; part = None; name = codes "q"; body = IntLiteral (pos 1) } ∷ [] }
+{}
+
+/// A circular attribute has its start and is lazy, though it isn't declared so. Two inherited ones of one name agree in their start, or
+/// the second one is told.
+pub fn circular_attributes()
+    ensures rules { (rules_of calc_classes is_circular).attributes
+        ≡ record { name = codes "a"; class = 0; parameters = []; result = Truth; is_lazy = true; is_inherited = false; start = Some true } ∷ [] }
+    ensures agree { first_fault calc_classes (with_starts (Some false)) ≡ None }
+    ensures differ { first_fault calc_classes (with_starts (Some true)) ≡ Some (record { code = code.AttributeTwice; file = 1; at = column 51 }) }
+    ensures one { first_fault calc_classes (with_starts None) ≡ Some (record { code = code.AttributeTwice; file = 1; at = column 51 }) }
 {}
 
 /// The declarations of calc.jrag and probe.jrag make just the rules that stand as `calc`: each attribute with its kinds and whether

@@ -1,12 +1,14 @@
 //! Rules of declarations.
 
 ghost use Rattle.std.specs.Prelude.{◌≡◌, List, None, map, IfOk};
+ghost use Rattle.std.specs.List.{AllByRecursion};
 ghost use Rattle.at_model.specs.Rules.{AreComplete};
 ghost use Rattle.at_model.specs.WellFormed.{AreWellFormed, IsHierarchy};
+ghost use Rattle.at_rules.specs.Circular.{AreCircularLazy, HasNoneCircular};
 ghost use Rattle.at_typing.specs.AttributeKeys.{AreAttributes};
 ghost use Rattle.at_typing.specs.Building.{first_fault, meanings, refused, Builds, IsLack};
 ghost use Rattle.at_typing.specs.Completing.{fault_of};
-ghost use Rattle.at_typing.specs.Declaring.{fault_together};
+ghost use Rattle.at_typing.specs.Declaring.{fault_together, IsNotCircular};
 ghost use Rattle.at_typing.specs.Located.{declarations_in, AreSpelled};
 ghost use Rattle.at_typing.specs.Meanings.{meant as meant_by_itself};
 ghost use Rattle.at_typing.specs.Numbering.{numbered_view, AreNumbered};
@@ -42,6 +44,8 @@ pub fn build(alloc: Global, classes: ClassTable, files: &[Vec<Aspect>]) -> Resul
     ensures complete { IfOk result AreComplete }
     ensures well_formed { IsHierarchy classes → AreSpelled files.now → IfOk result AreWellFormed }
     ensures single { IfOk result AreSingle }
+    ensures circular_lazy { IfOk result AreCircularLazy }
+    ensures none_circular { AllByRecursion IsNotCircular (declarations_in files.now) → IfOk result HasNoneCircular }
     ensures classes { IfOk result (λ r. r.classes ≡ classes) }
 {
     let declared = Declarations::of(alloc, &classes, files)?;

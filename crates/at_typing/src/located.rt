@@ -2,7 +2,7 @@
 
 ghost use Rattle.std.specs.Prelude.{◌≡◌, ◌++◌, map, option_map, string_bytes, IfOk, OnOk};
 ghost use Rattle.at_jrag.specs.View.{aspect_view, body_view, decl_form_view, ending_view, kind_word_view, params_view, word_view};
-ghost use Rattle.at_typing.specs.Declaring.{is_attribute, is_inherited, result_in, params_in, is_lazy, getter_in, index_in, body_in, body_at};
+ghost use Rattle.at_typing.specs.Declaring.{is_attribute, is_inherited, result_in, params_in, is_lazy, start_in, getter_in, index_in, body_in, body_at};
 ghost use Rattle.at_typing.specs.Located.{located, located_view, from_file, from_aspect, class_word, name_word};
 
 use at_jrag::{Aspect, Body, Decl, DeclForm, Ending, KindWord, Params, Word};
@@ -162,12 +162,24 @@ fn body_at(ending: &Ending) -> Option<&Body>
     }
 }
 
-/// Whether the values of the attribute that is declared are kept.
+/// The value from which the attribute that is declared starts, where it is circular.
+pub fn start_in(form: &DeclForm) -> Option<bool>
+    ensures { result ≡ start_in (decl_form_view form.now) }
+{
+    match form {
+        DeclForm::Synthesized { start, .. } | DeclForm::Inherited { start, .. } => *start,
+        DeclForm::Equation { .. } | DeclForm::InheritedEquation { .. } => None,
+    }
+}
+
+/// Whether the values of the attribute that is declared are kept: whether it is lazy or circular.
 pub fn is_lazy(form: &DeclForm) -> bool
     ensures { result ≡ is_lazy (decl_form_view form.now) }
 {
     match form {
-        DeclForm::Synthesized { lazy, .. } | DeclForm::Inherited { lazy, .. } => lazy.is_some(),
+        DeclForm::Synthesized { lazy, start, .. } | DeclForm::Inherited { lazy, start, .. } => {
+            lazy.is_some() || start.is_some()
+        }
         DeclForm::Equation { .. } | DeclForm::InheritedEquation { .. } => false,
     }
 }

@@ -21,7 +21,7 @@ ghost use Rattle.at_rules.specs.declared.body.Kind.TheVariants as kinds;
 
 use crate::attributes::Attributes;
 use crate::firsts::put;
-use crate::located::{body_in, class_word, index_name, is_inherited, is_lazy, params_in};
+use crate::located::{body_in, class_word, index_name, is_inherited, is_lazy, params_in, start_in};
 use crate::numbered::Numbered;
 use crate::written::{as_written, known_kind};
 use at_class::{ClassId, ClassTable, PartShape};
@@ -268,7 +268,7 @@ impl Among<'_> {
             result,
             is_lazy: is_lazy(form),
             is_inherited: is_inherited(form),
-            start: None,
+            start: start_in(form),
         };
         Ok((class, attribute))
     }

@@ -18,7 +18,8 @@ use Rattle.at_cache.specs.Traced.{Memories}
 use Rattle.at_demand.specs.Turns.{under_way}
 use Rattle.at_demand.specs.declared.demand.Demand.{Demand}
 use Rattle.at_demand.specs.declared.question.Question.{Question}
-use Rattle.at_engine.specs.Engines.{HasNoneCircular, marks_of, rules_of, state_of, IsHeld, IsSound, IsTyped, Knows}
+use Rattle.at_rules.specs.Circular.{HasNoneCircular}
+use Rattle.at_engine.specs.Engines.{marks_of, rules_of, state_of, IsHeld, IsSound, IsTyped, Knows}
 use Rattle.at_engine.specs.Holding.{state_in, IsSoundWith}
 use Rattle.at_engine.specs.Posted.{came_to, posted_view, turns_given}
 use Rattle.at_engine.specs.Keeping.{IsSpare}

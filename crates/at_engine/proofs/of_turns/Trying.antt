@@ -24,7 +24,8 @@ use Rattle.at_demand.specs.Turns.{AreTurns, IsSparingTurns, IsStanding, under_wa
 use Rattle.at_demand.specs.declared.answer.Answer.{Answer as AnswerCode}
 use Rattle.at_demand.specs.declared.demand.Demand.{Demand}
 use Rattle.at_demand.specs.declared.question.Question.{Question}
-use Rattle.at_engine.specs.Engines.{HasNoneCircular, marks_of, rules_of, state_of, IsHeld, IsTyped}
+use Rattle.at_rules.specs.Circular.{HasNoneCircular}
+use Rattle.at_engine.specs.Engines.{marks_of, rules_of, state_of, IsHeld, IsTyped}
 use Rattle.at_engine.specs.Holding.{HasBegun, IsBegunFor, IsPostedOn, IsSoundWith, words_verdict}
 use Rattle.at_engine.specs.Keeping.{IsSpare, IsSpareWith, IsSparingOn}
 use Rattle.at_engine.specs.Posted.{came_to, posted_view}

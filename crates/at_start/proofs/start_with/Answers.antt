@@ -61,7 +61,7 @@ pub returns-in-Ok-new-clause-ready : goal.returns-in-Ok-new-clause-ready
 returns-in-Ok-new-clause-ready g c =
     let formed = c.in_ok-rules.ensures.well_formed c.in-Ok.ensures.hierarchy in
     let tokens = written_tokens c.classes.result.now (tree_view c.in-Ok-tree_of.tree) c.in-Ok-tree_of.ensures.written.0 in
-    c.in-Ok-new.ensures.sound formed tokens c.requires
+    c.in-Ok-new.ensures.sound formed c.in_ok-rules.ensures.none_circular tokens c.requires
 
 pub returns-in-Ok-new-clause-started : goal.returns-in-Ok-new-clause-started
 returns-in-Ok-new-clause-started g c =

@@ -9,15 +9,16 @@ use Rattle.at_model.proofs.GrammarKept.{off_not, not_off, or_off, off_or, same_t
 use Rattle.at_model.proofs.Options.{both, and_true, not_true}
 use Rattle.at_kinds.specs.declared.code.RuleCode.TheVariants as code
 use Rattle.at_typing.specs.AspectRules.{AreApart, AreDeclaredOnce}
-use Rattle.at_typing.specs.Declaring.{binds_twice, clashes, class_text, declared_twice, differs, has_same_signature, is_attribute, is_below, is_inherited, is_on_one_line, name_text, twice_at}
+use Rattle.at_typing.specs.Declaring.{binds_twice, clashes, class_text, declared_twice, differs, has_same_signature, has_same_start, is_attribute, is_below, is_inherited, is_on_one_line, name_text, start_in, twice_at}
 use Rattle.at_typing.specs.Located.{Located}
+use Rattle.at_typing.proofs.SameStart.{same_start, start_same}
 use Rattle.at_typing.proofs.of_aspects.FaultNowhere.{unfaulted, faultless}
 
 second_off : (a b : Bool) → a ≡ true → (a && b) ≡ false → b ≡ false
 second_off true b e f = f
 second_off false b e f = absurd cc
 
--- one is synthesized and one inherited, or both are inherited and their kinds differ
+-- one is synthesized and one inherited, or both are inherited and differ in their kinds or starts
 alike_kinds : (x y s : Bool) → (if x then not (y && s) else y) ≡ false → (x ≡ y) × (x ≡ true → s ≡ true)
 alike_kinds true true s e = (refl, λ t. off_not s e)
 alike_kinds true false s e = absurd cc
@@ -31,17 +32,30 @@ kinds_alike false true s e h = absurd cc
 kinds_alike false false s e h = refl
 
 module _ (classes : Classes) (d e : Located) where
+  abbrev kinds : Bool
+  kinds = has_same_signature d.decl.form e.decl.form
+
+  abbrev starts : Bool
+  starts = has_same_start d.decl.form e.decl.form
+
   apart : (differs d.decl.form e.decl.form || is_on_one_line classes (class_text d) (class_text e)) ≡ false → AreApart classes d e
   apart off =
       let (differ, line) = or_off (differs d.decl.form e.decl.form) (is_on_one_line classes (class_text d) (class_text e)) off in
       let (below, above) = or_off (is_below classes (class_text d) (class_text e)) (is_below classes (class_text e) (class_text d)) line in
-      let (alike, kinds) = alike_kinds (is_inherited d.decl.form) (is_inherited e.decl.form) (has_same_signature d.decl.form e.decl.form) differ in
-      record { alike = alike; kinds = kinds; below = below; above = above }
+      let (alike, same) = alike_kinds (is_inherited d.decl.form) (is_inherited e.decl.form) (kinds && starts) differ in
+      record {
+        alike = alike;
+        kinds = λ i. (both kinds starts (same i)).0;
+        starts = λ i. same_start (start_in d.decl.form) (start_in e.decl.form) (both kinds starts (same i)).1;
+        below = below;
+        above = above;
+      }
 
   not_apart : AreApart classes d e → (differs d.decl.form e.decl.form || is_on_one_line classes (class_text d) (class_text e)) ≡ false
   not_apart h =
       off_or (differs d.decl.form e.decl.form) (is_on_one_line classes (class_text d) (class_text e))
-      (kinds_alike (is_inherited d.decl.form) (is_inherited e.decl.form) (has_same_signature d.decl.form e.decl.form) h.alike h.kinds)
+      (kinds_alike (is_inherited d.decl.form) (is_inherited e.decl.form) (kinds && starts) h.alike
+      (λ i. and_true kinds starts (h.kinds i) (start_same (start_in d.decl.form) (start_in e.decl.form) (h.starts i))))
       (off_or (is_below classes (class_text d) (class_text e)) (is_below classes (class_text e) (class_text d)) h.below h.above)
 
 module _ (classes : Classes) (ds : List Located) where

@@ -4,7 +4,8 @@ use Rattle.std.specs.Prelude.{Bool, true, false, ◌&&◌, ◌||◌, not, nat_eq
 use Rattle.std.specs.Borrow.{Bor}
 use Rattle.std.specs.List.{list_any}
 use Rattle.std.specs.Map.{lookup}
-use Rattle.std.specs.Option.{option_or}
+use Rattle.std.specs.Bool.{beq}
+use Rattle.std.specs.Option.{option_eq, option_or}
 use Rattle.std.proofs.lemmas.Bool.{and_parts, eqb-true}
 use Rattle.std.proofs.lemmas.Cmp.{nat_eq_equiv, nat_list_eq_equiv}
 use Rattle.std.proofs.lemmas.List.Folds.{list_any_more}
@@ -16,7 +17,7 @@ use Rattle.at_jrag.specs.declared.syntax.DeclForm.{DeclForm as FormValue}
 use Rattle.at_jrag.specs.Syntax.{Kind, Int, Bool', Text, Class, KindWord, Param, DeclForm}
 use Rattle.at_jrag.specs.View.{decl_form_view}
 use Rattle.at_typing.specs.AttributeKeys.{is_key, IsAmong}
-use Rattle.at_typing.specs.Declaring.{is_attribute, is_inherited, result_in, params_in, is_same_kind, have_same_kinds, has_same_result, has_same_signature, differs, clashes, is_below, is_on_one_line, class_text, name_text}
+use Rattle.at_typing.specs.Declaring.{is_attribute, is_inherited, result_in, params_in, is_same_kind, have_same_kinds, has_same_result, has_same_signature, has_same_start, start_in, differs, clashes, is_below, is_on_one_line, class_text, name_text}
 use Rattle.at_typing.specs.Numbering.{numbered_view, parent_class, same_class, is_class_below, line, IsOfItsClass, AreAlike}
 use Rattle.at_typing.specs.Twice.{differs_from, first_form, has_key, declares, AreBefore, Adds, InsertsKeys}
 use Rattle.at_typing.specs.declared.checks.twice.Before.{Before}
@@ -25,6 +26,7 @@ use Rattle.at_typing.specs.declared.numbered.NamedClass.TheVariants.{Known, Unkn
 use Rattle.at_typing.specs.declared.numbered.Numbered.{Numbered as NumberedValue}
 use Rattle.at_typing.proofs.of_attributes.AttributesFound.{drawn, switched}
 use Rattle.at_typing.proofs.ClassesBelow.{below}
+use Rattle.at_typing.proofs.SameStart.{same_start}
 use Rattle.at_typing.proofs.EquationsBefore.{list_any-or, list_any-same, list_any-where}
 use Rattle.at_typing.proofs.FirstValues.{not_noted}
 use Rattle.at_typing.proofs.Lines.{line_begins, line_from, line_step, on_line}
@@ -101,8 +103,22 @@ signature_like d e f same =
     let (result, kinds) = and_parts (has_same_result (result_in e) (result_in f)) (have_same_kinds (params_in e).items (params_in f).items) same in
     ap₂ (λ a b. a && b) (result_like (result_in d) (result_in e) (result_in f) result) (kinds_like (params_in d).items (params_in e).items (params_in f).items kinds)
 
+start_like : (x y z : Option Bool) → option_eq beq y z ≡ true → option_eq beq x y ≡ option_eq beq x z
+start_like x y z e = ap (option_eq beq x) (same_start y z e)
+
+-- with the same kinds and the same start
+abbrev is_alike : DeclForm → DeclForm → Bool
+is_alike d e = has_same_signature d e && has_same_start d e
+
+alike_like : (d e f : DeclForm) → is_alike e f ≡ true → is_alike d e ≡ is_alike d f
+alike_like d e f same =
+    let (signature, start) = and_parts (has_same_signature e f) (has_same_start e f) same in
+    ap₂ (λ a b. a && b) (signature_like d e f signature) (start_like (start_in d) (start_in e) (start_in f) start)
+
 differs_like : (d e f : DeclForm) → differs e f ≡ false → differs d e ≡ differs d f
-differs_like d e f same = by (is_inherited d) (is_inherited e) (is_inherited f) (has_same_signature e f) (has_same_signature d e) (has_same_signature d f) (signature_like d e f) same
+differs_like d e f same =
+    by (is_inherited d) (is_inherited e) (is_inherited f) (is_alike e f) (is_alike d e) (is_alike d f)
+        (alike_like d e f) same
   where
     by : (i j k s t u : Bool) → (s ≡ true → t ≡ u) → (if j then not (k && s) else k) ≡ false → (if i then not (j && t) else j) ≡ (if i then not (k && u) else k)
     by i true true true t u like e = ap (λ b. if i then not b else true) (like refl)

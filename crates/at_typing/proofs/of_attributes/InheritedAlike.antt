@@ -14,7 +14,7 @@ use Rattle.at_model.specs.Rules as model
 use Rattle.at_model.proofs.Options.{both}
 use Rattle.at_jrag.specs.Syntax.{KindWord, Param, DeclForm}
 use Rattle.at_jrag.specs.Syntax as written
-use Rattle.at_typing.specs.Declaring.{attributes, is_attribute, is_inherited, result_in, params_in, name_text, class_text, is_same_kind, have_same_kinds, has_same_result, has_same_signature, differs, is_on_one_line, clashes, declared_twice}
+use Rattle.at_typing.specs.Declaring.{attributes, is_attribute, is_inherited, result_in, params_in, name_text, class_text, is_same_kind, have_same_kinds, has_same_result, has_same_signature, has_same_start, differs, is_on_one_line, clashes, declared_twice}
 use Rattle.at_typing.specs.Located.{Located}
 use Rattle.at_typing.specs.Ruling.{first_unless, known_kind, as_written, written_kind}
 use Rattle.at_kinds.specs.declared.signatures.WrittenKind.{WrittenKind}
@@ -92,6 +92,10 @@ off_right : (a b : Bool) → (a || b) ≡ false → b ≡ false
 off_right false b is = is
 off_right true b is = absurd (true≢false is)
 
+-- with the same kinds and the same start
+abbrev are_alike : Located → Located → Bool
+are_alike d e = has_same_signature d.decl.form e.decl.form && has_same_start d.decl.form e.decl.form
+
 -- two that don't clash
 no_clash_alike : (classes : Classes) (d e : Located) → is_attribute e.decl.form ≡ true → is_inherited d.decl.form ≡ true → bytes_eq (name_text d) (name_text e) ≡ true → clashes classes d e ≡ false → AreWrittenAlike classes d e
 no_clash_alike classes d e declares inherits name none = of_signature (signature_same (is_inherited d.decl.form) inherits (off_left (differs d.decl.form e.decl.form) _ (by (is_attribute e.decl.form) declares (bytes_eq (name_text d) (name_text e)) name none)))
@@ -101,8 +105,12 @@ no_clash_alike classes d e declares inherits name none = of_signature (signature
     by true is false at off = absurd (true≢false (sym at))
     by false is b at off = absurd (true≢false (sym is))
 
-    signature_same : (i : Bool) → i ≡ true → cond i (not (is_inherited e.decl.form && has_same_signature d.decl.form e.decl.form)) (is_inherited e.decl.form) ≡ false → has_same_signature d.decl.form e.decl.form ≡ true
-    signature_same true is off = second (is_inherited e.decl.form) (has_same_signature d.decl.form e.decl.form) off
+    signature_same : (i : Bool) → i ≡ true
+        → cond i (not (is_inherited e.decl.form && are_alike d e)) (is_inherited e.decl.form) ≡ false
+        → has_same_signature d.decl.form e.decl.form ≡ true
+    signature_same true is off =
+        (both (has_same_signature d.decl.form e.decl.form) (has_same_start d.decl.form e.decl.form)
+        (second (is_inherited e.decl.form) (are_alike d e) off)).0
       where
         second : (a b : Bool) → not (a && b) ≡ false → b ≡ true
         second true true off = refl

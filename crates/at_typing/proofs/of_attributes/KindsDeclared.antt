@@ -1,14 +1,14 @@
 -- Attributes that are declared without a fault have the kinds that are written.
-use Rattle.std.proofs.Common.{◌≡◌, ℕ, suc, ◌+◌, ◌<◌, ◌≤◌, Bool, true, false, ◌&&◌, List, [], ◌∷◌, ◌++◌, length, map, Option, Some, None, refl, sym, ◌∙◌, subst, true≢false, arith}
+use Rattle.std.proofs.Common.{◌≡◌, ℕ, zero, suc, ◌+◌, ◌<◌, ◌≤◌, Bool, true, false, ◌&&◌, ◌||◌, List, [], ◌∷◌, ◌++◌, length, map, Option, Some, None, refl, sym, ap, ◌∙◌, subst, true≢false, arith}
 use Rattle.std.specs.Prelude.{⊤, cond, is_some, nat_lt}
-use Rattle.std.specs.List.{AllZip, AllByRecursion, filter_map, cons_option, flat_map}
+use Rattle.std.specs.List.{slice_get, AllZip, AllByRecursion, filter_map, cons_option, flat_map}
 use Rattle.std.specs.Str.{bytes_eq}
 use Rattle.std.proofs.lemmas.Bool.{ltb-true}
 use Rattle.std.proofs.lemmas.List.Concat.{flat_map-cons}
 use Rattle.std.proofs.lemmas.Option.{none-some}
 use Rattle.at_model.specs.Classes.{Class, Classes, class_of_name}
 use Rattle.at_model.specs.Declarations.{first_given}
-use Rattle.at_model.specs.Rules.{Attribute}
+use Rattle.at_model.specs.Rules.{Attribute, Truth}
 use Rattle.at_model.specs.Kinds.{IsKindThere, IsParameter, IsDeclarationTyped}
 use Rattle.at_model.proofs.Options.{both, mapped}
 use Rattle.at_jrag.specs.Syntax.{KindWord, Param, DeclForm}
@@ -17,13 +17,14 @@ use Rattle.at_rules.specs.Bodies.{kind_view}
 use Rattle.at_rules.specs.declared.body.Kind.{Kind}
 use Rattle.at_rules.specs.declared.body.Kind.TheVariants as kind
 use Rattle.at_typing.specs.Building.{meaning_if, meanings, refusal, refused_at}
-use Rattle.at_typing.specs.Declaring.{attributes, is_attribute, is_inherited, result_in, params_in, class_text, name_text}
+use Rattle.at_typing.specs.Declaring.{attributes, is_attribute, is_inherited, is_lazy, start_in, result_in, params_in, class_text, name_text, IsNotCircular}
 use Rattle.at_kinds.specs.Judging.{Judgement, Is, Wrong, and_then}
 use Rattle.at_typing.specs.Located.{Located, class_word}
 use Rattle.at_typing.specs.Meanings.{Meaning, attribute, attribute_with, attribute_for, attribute_meant, results, signature, signature_if, signatures, signatures_among, meant, with_body, below_class, below_component, form_meant, own_meant, inherited_meant, declared_alone, declared_with, own_alone, inherited_alone}
 use Rattle.at_typing.specs.Ruling.{known_kind, as_written, first_unless, written_kind, or_unknown, class_named, kind_named, max_parameters, can_be_passed, passed_if, param_named, params_named, component_got}
 use Rattle.at_kinds.specs.declared.signatures.WrittenKind.{WrittenKind}
 use Rattle.at_typing.proofs.Gathering.{first_none, other_none}
+use Rattle.at_typing.proofs.Starting.{IsBoolean, IsBooleanIn}
 use Rattle.at_kinds.proofs.Holding.{Holds, then_holds, none_holds}
 use Rattle.at_kinds.proofs.KindsKnown.{IsKind, IsDeclaredAs, element_found}
 
@@ -62,6 +63,12 @@ kind_named_right classes word = by (known_kind classes word.kind) refl
     by : (o : Option Kind) → known_kind classes word.kind ≡ o → Holds (IsNamed classes word) (or_unknown word.at o)
     by None is = tt
     by (Some k) is = record { known = λ first. subst (λ o. IsKind (as_written first o) (kind_view k)) (sym is) refl; there = kind_there classes word.kind k is }
+
+-- what is written as a boolean is one
+truth_named : (classes : Classes) (word : KindWord) (k : Kind) → IsNamed classes word k → word.kind ≡ written.Bool'
+    → kind_view k ≡ Truth
+truth_named classes word k named is =
+    sym (subst (λ w. IsKind (as_written None (known_kind classes w)) (kind_view k)) is (named.known None))
 
 -- parameters ------------------------------------------------------------------------------------------------------------
 
@@ -113,9 +120,11 @@ params_named_right classes i (p ∷ ps) =
 -- the attribute is the one that is declared with that kind
 pub record IsOfWord (classes : Classes) (d : Located) (result : KindWord) (a : Attribute) : Type 0 where
   pub declared : (words : List KindWord) → IsDeclaredAs (signature classes words d result) a
-  pub typed : IsDeclarationTyped classes a
+  pub typed : IsBoolean (Some result) (start_in d.decl.form) → IsDeclarationTyped classes a
   pub same_name : name_text d ≡ a.name
   pub inherits : is_inherited d.decl.form ≡ a.is_inherited
+  pub starts : start_in d.decl.form ≡ a.start
+  pub keeps : is_lazy d.decl.form ≡ a.is_lazy
 
 few_parameters : (n : ℕ) → 0 + n ≤ max_parameters → n ≤ 2
 unfolding max_parameters
@@ -131,9 +140,17 @@ attribute_right classes d result =
     then_holds (ArePassed classes 0 (params_in d.decl.form).items) (IsOfWord classes d result) (λ params. Is (attribute d c k params)) (params_named classes 0 (params_in d.decl.form).items) (params_named_right classes 0 (params_in d.decl.form).items) (λ ks passed.
     record {
       declared = λ words. record { class = class; parameters = passed.named words; result = named.known (first_unless (is_some (known_kind classes result.kind)) words result.kind) };
-      typed = record { class = class_there classes (class_text d) c class; result = named.there; parameters = passed.passed; few = few_parameters (length (map kind_view ks)) (passed.few (within max_parameters)); boolean = λ b e. absurd cc };
+      typed = λ boolean. record {
+        class = class_there classes (class_text d) c class;
+        result = named.there;
+        parameters = passed.passed;
+        few = few_parameters (length (map kind_view ks)) (passed.few (within max_parameters));
+        boolean = λ b at. truth_named classes result k named (boolean result b refl at);
+      };
       same_name = refl;
       inherits = refl;
+      starts = refl;
+      keeps = refl;
     })))
 
 -- the attribute of a declaration that has none, or the one that it declares
@@ -215,8 +232,45 @@ pub signatures_same : (classes : Classes) (ds : List Located) (as' : List Attrib
 signatures_same classes ds as' zip = among_same classes (results ds) ds as' zip
 
 -- so the rules' attributes are typed
-pub all_typed : (classes : Classes) (ds : List Located) (as' : List Attribute) → AllZip (Declares classes) ds as' → AllByRecursion (IsDeclarationTyped classes) as'
-all_typed classes [] [] zip = tt
-all_typed classes [] (a ∷ as') zip = absurd zip
-all_typed classes (d ∷ ds) [] zip = absurd zip
-all_typed classes (d ∷ ds) (a ∷ as') zip = (zip.0.2.typed, all_typed classes ds as' zip.1)
+pub all_typed : (classes : Classes) (ds : List Located) (as' : List Attribute) → AllByRecursion IsBooleanIn ds
+    → AllZip (Declares classes) ds as'
+    → AllByRecursion (IsDeclarationTyped classes) as'
+all_typed classes [] [] booleans zip = tt
+all_typed classes [] (a ∷ as') booleans zip = absurd zip
+all_typed classes (d ∷ ds) [] booleans zip = absurd zip
+all_typed classes (d ∷ ds) (a ∷ as') (boolean, booleans) ((result, at, of), zip) =
+    (of.typed (subst (λ r. IsBoolean r (start_in d.decl.form)) at boolean), all_typed classes ds as' booleans zip)
+
+-- where none has a start, none of them is circular
+pub none_starts : (classes : Classes) (ds : List Located) (as' : List Attribute) → AllByRecursion IsNotCircular ds
+    → AllZip (Declares classes) ds as'
+    → (n : ℕ) → elim (slice_get as' n) as (λ _. Option Bool) [ None ↦ None | Some a ↦ a.start ] ≡ None
+none_starts classes [] [] none zip n = refl
+none_starts classes [] (a ∷ as') none zip n = absurd zip
+none_starts classes (d ∷ ds) [] none zip n = absurd zip
+none_starts classes (d ∷ ds) (a ∷ as') (none, others) zip zero = sym zip.0.2.starts ∙ none
+none_starts classes (d ∷ ds) (a ∷ as') (none, others) zip (suc n) = none_starts classes ds as' others zip.1 n
+
+or_on : (b : Bool) → (b || true) ≡ true
+or_on true = refl
+or_on false = refl
+
+-- one that is declared with a start is lazy
+lazy_form : (form : DeclForm) (b : Bool) → start_in form ≡ Some b → is_lazy form ≡ true
+lazy_form (written.Synthesized lazy result class name params start ending) b is =
+    ap (λ o. is_some lazy || is_some o) is ∙ or_on (is_some lazy)
+lazy_form (written.Inherited lazy result class name params start) b is =
+    ap (λ o. is_some lazy || is_some o) is ∙ or_on (is_some lazy)
+lazy_form (written.Equation class name params body) b is = absurd (none-some b is)
+lazy_form (written.InheritedEquation class getter index name params body) b is = absurd (none-some b is)
+
+pub circular_lazy : (classes : Classes) (ds : List Located) (as' : List Attribute) → AllZip (Declares classes) ds as'
+    → (n : ℕ) (b : Bool)
+    → elim (slice_get as' n) as (λ _. Option Bool) [ None ↦ None | Some a ↦ a.start ] ≡ Some b
+    → elim (slice_get as' n) as (λ _. Bool) [ None ↦ false | Some a ↦ a.is_lazy ] ≡ true
+circular_lazy classes [] [] zip n b is = absurd (none-some b is)
+circular_lazy classes [] (a ∷ as') zip n b is = absurd zip
+circular_lazy classes (d ∷ ds) [] zip n b is = absurd zip
+circular_lazy classes (d ∷ ds) (a ∷ as') zip zero b is =
+    sym zip.0.2.keeps ∙ lazy_form d.decl.form b (zip.0.2.starts ∙ is)
+circular_lazy classes (d ∷ ds) (a ∷ as') zip (suc n) b is = circular_lazy classes ds as' zip.1 n b is

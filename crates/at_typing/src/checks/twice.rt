@@ -3,7 +3,7 @@
 ghost use Rattle.std.specs.Prelude.{◌≡◌, map, option_map, IfOk};
 ghost use Rattle.at_jrag.specs.Syntax.{Class};
 ghost use Rattle.at_jrag.specs.View.{decl_form_view, kind_view, kind_word_view, param_view};
-ghost use Rattle.at_typing.specs.Declaring.{declared_twice, differs, has_same_signature, has_same_result, have_same_kinds, is_same_kind};
+ghost use Rattle.at_typing.specs.Declaring.{declared_twice, differs, has_same_signature, has_same_start, has_same_result, have_same_kinds, is_same_kind};
 ghost use Rattle.at_typing.specs.Numbering.{numbered_view, AreNumbered};
 ghost use Rattle.at_typing.specs.Twice.{TellsTwice};
 
@@ -11,7 +11,7 @@ use super::bound::binds_twice;
 use super::fault_at;
 use crate::fault::Breach;
 use crate::firsts::note_first;
-use crate::located::{is_attribute, is_inherited, params_in, result_in};
+use crate::located::{is_attribute, is_inherited, params_in, result_in, start_in};
 use crate::numbered::{NamedClass, Numbered};
 use at_class::ClassTable;
 use at_jrag::{DeclForm, Kind, KindWord, Param};
@@ -112,7 +112,7 @@ impl<'a> Before<'a> {
         self.is_declared_above(classes, numbered.class, numbered.name)
     }
 
-    /// Whether the name is synthesized and inherited, or inherited with other kinds.
+    /// Whether the name is synthesized and inherited, or inherited with other kinds or another start.
     fn differs(&self, numbered: &Numbered) -> bool
         ensures { result ≡ differs_from (decl_form_view numbered.now.decl.now.form) (first_form self.now numbered.now.name) }
     {
@@ -196,7 +196,7 @@ fn insert_line(
 }
 
 /// Whether of two attributes of one name one is synthesized and one inherited, or both are inherited with
-/// other kinds.
+/// other kinds or another start.
 fn differ(form: &DeclForm, other: &DeclForm) -> bool
     ensures { result ≡ differs (decl_form_view form.now) (decl_form_view other.now) }
 {
@@ -206,7 +206,17 @@ fn differ(form: &DeclForm, other: &DeclForm) -> bool
     if !is_inherited(other) {
         return true;
     }
-    !has_same_kinds(form, other)
+    if !has_same_kinds(form, other) {
+        return true;
+    }
+    !has_same_start(form, other)
+}
+
+/// Whether two attributes start from the same value, or neither is circular.
+fn has_same_start(form: &DeclForm, other: &DeclForm) -> bool
+    ensures { result ≡ has_same_start (decl_form_view form.now) (decl_form_view other.now) }
+{
+    start_in(form) == start_in(other)
 }
 
 /// Whether two attributes have the same result and the same kinds of parameters.

@@ -9,7 +9,7 @@ use Rattle.at_typing.specs.Located.{declarations_in}
 use Rattle.at_start.specs.AspectFiles.{IsRuleFault}
 use Rattle.at_start.specs.Starts.{aspect_bytes}
 use Rattle.at_start.proofs.Ruled.{unread_refuses, given_by, refused_by}
-use Rattle.at_start.proofs.RulesTyped.{well_formed_by}
+use Rattle.at_start.proofs.RulesTyped.{well_formed_by, plain_by}
 use Rattle.at_start.proofs.aspects.rules_of.Goals as goal
 
 pub returns-in_err-aspects-clause-refused : goal.returns-in_err-aspects-clause-refused
@@ -29,3 +29,7 @@ pub returns-clause-refused : goal.returns-clause-refused
 returns-clause-refused c =
     let refused = subst (λ (v : List (Vec Aspect Global)). IfErr c.build.result (IsRuleFault c.args.classes (declarations_in v))) c.deref.ensures.value c.build.ensures.refused in
     refused_by c.args.classes (aspect_bytes c.args.aspects.now) c.in_ok-aspects.aspects.items c.build.result c.in_ok-aspects.ensures.hold refused
+
+pub returns-clause-none_circular : goal.returns-clause-none_circular
+returns-clause-none_circular c =
+    plain_by c.args.classes (aspect_bytes c.args.aspects.now) c.build.result (returns-clause-given c)

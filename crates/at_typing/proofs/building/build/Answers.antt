@@ -9,7 +9,7 @@ use Rattle.at_typing.specs.Located.{declarations_in}
 use Rattle.at_typing.specs.Numbering.{numbered_view, AreNumbered, IsNamed}
 use Rattle.at_typing.specs.Seen.{Stands}
 use Rattle.at_typing.proofs.Built.{meant_fault}
-use Rattle.at_typing.proofs.BuiltWellFormed.{built_if_ok}
+use Rattle.at_typing.proofs.BuiltWellFormed.{built_if_ok, plain_if_ok, kept_if_ok}
 use Rattle.at_typing.proofs.Singles.{single_if_ok}
 use Rattle.at_typing.proofs.building.build.Goals as goal
 
@@ -39,3 +39,11 @@ returns-clause-well_formed c hierarchy spelled =
 
 pub returns-clause-single : goal.returns-clause-single
 returns-clause-single c = single_if_ok c.args.classes (declarations_in c.args.files.now) c.complete_rules.result (returns-clause-built c)
+
+pub returns-clause-none_circular : goal.returns-clause-none_circular
+returns-clause-none_circular c plain =
+    plain_if_ok c.args.classes (declarations_in c.args.files.now) c.complete_rules.result plain (returns-clause-built c)
+
+pub returns-clause-circular_lazy : goal.returns-clause-circular_lazy
+returns-clause-circular_lazy c =
+    kept_if_ok c.args.classes (declarations_in c.args.files.now) c.complete_rules.result (returns-clause-built c)

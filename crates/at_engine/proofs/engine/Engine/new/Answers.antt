@@ -20,7 +20,7 @@ returns-clause-first g c = λ i.
     held (c.in_ok-store.ensures.loaded i) (c.in_ok-store.ensures.limit i) 0 (marks_view (path c.in_ok-store.store) (c.new-3.ensures i)) (c.new-4.ensures.count i) (map (posted_view (path c.in_ok-store.store)) (c.new-4.ensures.items i))
 
 pub returns-clause-sound : goal.returns-clause-sound
-returns-clause-sound g c formed tokens nothing = record {
+returns-clause-sound g c formed plain tokens nothing = record {
   held = record {
     idle = c.in_ok-store.ensures.idle;
     sound = subst (λ (x : Classes). AreSound x) c.classes.ensures c.in_ok-store.ensures.sound;
@@ -32,7 +32,8 @@ returns-clause-sound g c formed tokens nothing = record {
     posted = subst (AllByRecursion (IsPostedOn c.args.rules c.in_ok-store.store _)) (sym c.new-4.ensures.items) tt;
     numbered = subst (λ (l : List Posted). AreNumbered 0 (map (posted_view (path c.in_ok-store.store)) l) c.new-4.result.count) (sym c.new-4.ensures.items) (omega arith);
   };
-  typed = record { formed = formed; none_circular = c.none_is_circular.ensures; tokens = subst AreTokens (sym c.in_ok-store.ensures.loaded) tokens };
+  typed = record { formed = formed; none_circular = plain; tokens =
+      subst AreTokens (sym c.in_ok-store.ensures.loaded) tokens };
   known = nothing_known c.args.rules.classes c.in_ok-store.store (record { front = c.new.result; session = 0; node = c.root.result }) c.new.ensures.items;
 }
 
