@@ -110,7 +110,7 @@ impl Model for Rules {
 }
 
 impl Rules {
-    ghost use Rattle.std.specs.Prelude.{◌≡◌, ◌<◌, ℕ, [], length, map, option_map, slice_get, IfSome, None};
+    ghost use Rattle.std.specs.Prelude.{◌≡◌, ◌<◌, [], length, map, option_map, slice_get, IfSome};
     ghost use Rattle.at_model.specs.Machine.{parameters_of};
     ghost use Rattle.at_model.specs.Rules.{attribute_name, attribute_named, inherited_equation, is_inherited, is_lazy, own_equation, own_in, start_of};
     ghost use Rattle.at_rules.specs.Bodies.{body_view, kind_view};

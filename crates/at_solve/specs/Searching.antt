@@ -1,11 +1,11 @@
 -- How far a search for components has come.
-use Rattle.std.specs.Prelude.{◌≡◌, ◌⊎◌, ℕ, zero, suc, ◌+◌, ◌<◌, ◌≤◌, Bool, true, false, List, [], ◌∷◌, ◌++◌, length, slice_get, take, Option, None, Some, Vec, unwrap_or}
+use Rattle.std.specs.Prelude.{◌≡◌, ◌⊎◌, ℕ, suc, ◌+◌, ◌<◌, ◌≤◌, Bool, true, false, List, [], ◌∷◌, length, slice_get, take, Some, Vec, unwrap_or}
 use Rattle.at_model.specs.Meaning.{Among}
 use Rattle.at_solve.specs.declared.search.Group.{Group}
 use Rattle.at_solve.specs.declared.search.Mark.{Mark}
 use Rattle.at_solve.specs.declared.search.Mark.TheVariants.{Unmet, OnPath, Listed}
 use Rattle.at_solve.specs.declared.search.Search.{Search}
-use Rattle.at_solve.specs.Components.{listed_at, IsEdge, Leads, AreComponents}
+use Rattle.at_solve.specs.Components.{listed_at, IsEdge, Leads}
 
 -- it stands at that place
 abbrev pub At : {A : Type 0} → List A → ℕ → A → Type 0

@@ -12,8 +12,9 @@
 //! finds attributes, `checks.rt` has the faults of declarations together, `meaning.rt` what each means.
 //!
 //! **What it keeps true:** rules that are made are complete and well formed, so evaluation never meets a value of
-//! another kind and never a missing equation; and each attribute and each equation is declared once. By the laws of
-//! `laws.rt` declarations make rules exactly where they keep every rule, and what is told is the first that they break.
+//! another kind and never a missing equation; each attribute and each equation is declared once; and circular attributes
+//! are lazy. By the laws of `laws.rt` declarations make rules exactly where they keep every rule, and what is told is the
+//! first that they break.
 #![tactic(auto)]
 
 pub mod aspect_cases;
