@@ -32,8 +32,11 @@ returns-clause-sound g c formed plain tokens nothing = record {
     posted = subst (AllByRecursion (IsPostedOn c.args.rules c.in_ok-store.store _)) (sym c.new-4.ensures.items) tt;
     numbered = subst (λ (l : List Posted). AreNumbered 0 (map (posted_view (path c.in_ok-store.store)) l) c.new-4.result.count) (sym c.new-4.ensures.items) (omega arith);
   };
-  typed = record { formed = formed; none_circular = plain; tokens =
-      subst AreTokens (sym c.in_ok-store.ensures.loaded) tokens };
+  typed = record {
+    formed = formed;
+    none_circular = plain;
+    tokens = subst AreTokens (sym c.in_ok-store.ensures.loaded) tokens;
+  };
   known = nothing_known c.args.rules.classes c.in_ok-store.store (record { front = c.new.result; session = 0; node = c.root.result }) c.new.ensures.items;
 }
 
