@@ -2,17 +2,16 @@
 
 ghost use Rattle.std.specs.Prelude.{◌≡◌, ◌<◌, ◌≤◌, ◌+◌, ◌*◌, ◌++◌, ◌∷◌, [], ℕ, Bool, IfOk, IsSome, List, None, OnOk, Some, cond, length, map, nat_eq, not};
 ghost use Rattle.at_model.specs.Bodies.{Call, no_exprs, truth_of};
-ghost use Rattle.at_model.specs.Instances.{AnyText};
 ghost use Rattle.at_model.specs.Rules.{Rules as Meant, start_of};
 ghost use Rattle.at_model.specs.Run.{Contents, Ref, Run, Truth};
 ghost use Rattle.at_model.specs.Follow.{follow};
-ghost use Rattle.at_model.specs.TypedRuns.{ClassAt, IsWellTyped};
-ghost use Rattle.at_model.specs.WellFormed.{AreWellFormed, IsTreeSound};
+ghost use Rattle.at_model.specs.TypedRuns.{ClassAt};
 ghost use Rattle.at_model.specs.of_fixpoints.Evaluations.{evaluation};
 ghost use Rattle.at_model.specs.of_fixpoints.Formulas.{Formula as Meaning, Known, starts_from, turned};
 ghost use Rattle.at_rules.specs.Bodies.{body_view, bodies_view};
 ghost use Rattle.at_store.specs.Located.{loc_view};
-ghost use Rattle.at_store.specs.Shown.{contents, tree, IsIdle};
+ghost use Rattle.at_store.specs.Shown.{contents, IsIdle};
+ghost use Rattle.at_body.specs.Asked.{MayBeAsked};
 ghost use Rattle.at_body.specs.declared.forming.Forming.{Forming};
 ghost use Rattle.at_body.specs.declared.task.Doing.TheVariants.{Evaluate, Form, Made};
 ghost use Rattle.at_body.specs.declared.task.Task.TheVariants.{Right};
@@ -93,10 +92,7 @@ impl<'a> Forming<'a> {
         store: &'a Store,
         inst: &Inst,
     ) -> Result<(Forming<'a>, Progress), AllocError>
-        requires idle_store { IsIdle store.now }
-        requires formed { AreWellFormed rules.now }
-        requires sound { IsTreeSound rules.now.classes (tree store.now) }
-        requires typed { IsWellTyped rules.now (class_shown store.now) AnyText inst.now }
+        requires asked { MayBeAsked rules.now store.now inst.now }
         requires circular { IsSome (start_of rules.now inst.now.attribute) }
         ensures found { IfOk result (λ r. follow (contents store.now) [] ((evaluation rules.now nat_eq).formula inst.now)
             ≡ (reached rules.now r.1 r.0, r.0.trial.reads)) }
@@ -131,10 +127,7 @@ impl<'a> Forming<'a> {
         store: &'a Store,
         inst: &Inst,
     ) -> Result<Progress, AllocError>
-        requires idle_store { IsIdle store.now }
-        requires formed { AreWellFormed rules.now }
-        requires sound { IsTreeSound rules.now.classes (tree store.now) }
-        requires typed { IsWellTyped rules.now (class_shown store.now) AnyText inst.now }
+        requires asked { MayBeAsked rules.now store.now inst.now }
         requires circular { IsSome (start_of rules.now inst.now.attribute) }
         ensures found { IfOk result (λ p. follow (contents store.now) [] ((evaluation rules.now nat_eq).formula inst.now)
             ≡ (reached rules.now p self.new, self.new.trial.reads)) }
