@@ -15,7 +15,7 @@ ghost use Rattle.at_body.specs.Asked.{MayBeAsked};
 ghost use Rattle.at_body.specs.declared.forming.Forming.{Forming};
 ghost use Rattle.at_body.specs.declared.task.Doing.TheVariants.{Evaluate, Form, Made};
 ghost use Rattle.at_body.specs.declared.task.Task.TheVariants.{Right};
-ghost use Rattle.at_body.specs.Forms.{GoesOn, among, asked_of, called, completed, cost, folded, followed, form_size, formed, gone_over, joining, left, load, place_of, reached, rest, settled, stepped, told, use_cost, used, waiting_cost, weight};
+ghost use Rattle.at_body.specs.Forms.{CarriesOn, GoesOn, among, asked_of, called, completed, cost, folded, followed, form_size, formed, gone_over, joining, left, load, place_of, reached, rest, settled, stepped, told, use_cost, used, waiting_cost, weight};
 ghost use Rattle.at_body.specs.Pieces.{HasTop, top_of};
 ghost use Rattle.at_body.specs.Rest as trial;
 ghost use Rattle.at_body.specs.Size.{most, size, sizes, tests};
@@ -369,9 +369,8 @@ impl<'a> Forming<'a> {
         node: Option<Node>,
         arguments: Arguments,
     ) -> Result<Doing<'a>, AllocError>
-        ensures same { (meant : Meant) → IfOk result (λ d. asked_of meant self.old attribute (Ref node) (map value_view arguments) ≡ rest meant d self.new) }
-        ensures less { IfOk result (λ d. weight d self.new ≡ load self.old.tasks) }
-        ensures reads { IfOk result (λ d. self.new.trial.reads ≡ self.old.trial.reads) }
+        ensures does { IfOk result (λ d. CarriesOn (λ meant. asked_of meant self.old attribute (Ref node) (map value_view arguments)) 1
+            self.old d self.new) }
         ensures typed { (meant : Meant) (at : ClassAt ℕ) (look : Contents ℕ) → IsOver meant at look
             → Calls meant at self.old attribute node (map value_view arguments) no_exprs → IfOk result (λ d. IsTypedDoing meant at look d self.new) }
     {
@@ -392,9 +391,8 @@ impl<'a> Forming<'a> {
         node: Option<Node>,
         arguments: &'a [Body],
     ) -> Result<Doing<'a>, AllocError>
-        ensures same { (meant : Meant) → IfOk result (λ d. called meant self.old attribute (Ref node) [] (bodies_view arguments.now) ≡ rest meant d self.new) }
-        ensures less { IfOk result (λ d. weight d self.new < 2 * sizes (bodies_view arguments.now) + 2 + load self.old.tasks) }
-        ensures reads { IfOk result (λ d. self.new.trial.reads ≡ self.old.trial.reads) }
+        ensures does { IfOk result (λ d. CarriesOn (λ meant. called meant self.old attribute (Ref node) [] (bodies_view arguments.now))
+            (2 * sizes (bodies_view arguments.now) + 2) self.old d self.new) }
         ensures typed { (meant : Meant) (at : ClassAt ℕ) (look : Contents ℕ) → IsOver meant at look
             → Calls meant at self.old attribute node [] (bodies_view arguments.now) → IfOk result (λ d. IsTypedDoing meant at look d self.new) }
     {
@@ -419,10 +417,9 @@ impl<'a> Forming<'a> {
         value: Value,
         others: &'a [Body],
     ) -> Result<Doing<'a>, AllocError>
-        ensures same { (meant : Meant) → IfOk result (λ d. called meant self.old call.value.attribute (Ref call.value.node)
-            (map value_view call.value.done.items ++ value_view value ∷ []) (bodies_view others.now) ≡ rest meant d self.new) }
-        ensures less { IfOk result (λ d. weight d self.new < 2 * sizes (bodies_view others.now) + 2 + load self.old.tasks) }
-        ensures reads { IfOk result (λ d. self.new.trial.reads ≡ self.old.trial.reads) }
+        ensures does { IfOk result (λ d. CarriesOn (λ meant. called meant self.old call.value.attribute (Ref call.value.node)
+            (map value_view call.value.done.items ++ value_view value ∷ []) (bodies_view others.now))
+            (2 * sizes (bodies_view others.now) + 2) self.old d self.new) }
         ensures typed { (meant : Meant) (at : ClassAt ℕ) (look : Contents ℕ) → IsOver meant at look
             → Calls meant at self.old call.value.attribute call.value.node
             (map value_view call.value.done.items ++ value_view value ∷ []) (bodies_view others.now)
@@ -438,10 +435,8 @@ impl<'a> Forming<'a> {
         call: Box<Asking>,
         others: &'a [Body],
     ) -> Result<Doing<'a>, AllocError>
-        ensures same { (meant : Meant) → IfOk result (λ d. called meant self.old call.value.attribute (Ref call.value.node)
-            (map value_view call.value.done.items) (bodies_view others.now) ≡ rest meant d self.new) }
-        ensures less { IfOk result (λ d. weight d self.new < 2 * sizes (bodies_view others.now) + 2 + load self.old.tasks) }
-        ensures reads { IfOk result (λ d. self.new.trial.reads ≡ self.old.trial.reads) }
+        ensures does { IfOk result (λ d. CarriesOn (λ meant. called meant self.old call.value.attribute (Ref call.value.node)
+            (map value_view call.value.done.items) (bodies_view others.now)) (2 * sizes (bodies_view others.now) + 2) self.old d self.new) }
         ensures typed { (meant : Meant) (at : ClassAt ℕ) (look : Contents ℕ) → IsOver meant at look
             → Calls meant at self.old call.value.attribute call.value.node (map value_view call.value.done.items) (bodies_view others.now)
             → IfOk result (λ d. IsTypedDoing meant at look d self.new) }
@@ -512,10 +507,8 @@ impl<'a> Forming<'a> {
     /// Does with the formula on top what is left to do.
     fn made(&mut self, task: Task<'a>) -> Result<Doing<'a>, AllocError>
         requires typed { (meant : Meant) × (at : ClassAt ℕ) × Continues meant at self.old task }
-        ensures same { (meant : Meant) → IfOk result (λ d. completed meant self.old.start (task.entry ∷ self.old.tasks) self.old.pile (place_of self.old)
-            ≡ rest meant d self.new) }
-        ensures less { IfOk result (λ d. weight d self.new < cost task.entry + load self.old.tasks) }
-        ensures reads { IfOk result (λ d. self.new.trial.reads ≡ self.old.trial.reads) }
+        ensures does { IfOk result (λ d. CarriesOn (λ meant. completed meant self.old.start (task.entry ∷ self.old.tasks) self.old.pile (place_of self.old))
+            (cost task.entry) self.old d self.new) }
         ensures typed { (meant : Meant) (at : ClassAt ℕ) (look : Contents ℕ) → Continues meant at self.old task.entry
             → IfOk result (λ d. IsTypedDoing meant at look d self.new) }
     {
@@ -542,10 +535,9 @@ impl<'a> Forming<'a> {
         right: &'a Body,
     ) -> Result<Doing<'a>, AllocError>
         requires top { HasTop self.old.pile }
-        ensures same { (meant : Meant) → IfOk result (λ d. settled meant self.old (not conjunction) conjunction
-            (formed meant self.old.start positive (body_view right.now) (place_of self.old)) ≡ rest meant d self.new) }
-        ensures less { IfOk result (λ d. weight d self.new < form_size (body_view right.now) + 2 + load self.old.tasks) }
-        ensures reads { IfOk result (λ d. self.new.trial.reads ≡ self.old.trial.reads) }
+        ensures does { IfOk result (λ d. CarriesOn (λ meant. settled meant self.old (not conjunction) conjunction
+            (formed meant self.old.start positive (body_view right.now) (place_of self.old)))
+            (form_size (body_view right.now) + 2) self.old d self.new) }
         ensures typed { (meant : Meant) (at : ClassAt ℕ) (look : Contents ℕ) → Continues meant at self.old (Right conjunction positive right.entry)
             → IfOk result (λ d. IsTypedDoing meant at look d self.new) }
     {
@@ -564,10 +556,9 @@ impl<'a> Forming<'a> {
         others: &'a [Node],
     ) -> Result<Doing<'a>, AllocError>
         requires top { HasTop self.old.pile }
-        ensures same { (meant : Meant) → IfOk result (λ d. settled meant self.old positive (not positive)
-            (among meant self.old.start positive (body_view body.now) (place_of self.old) others.now) ≡ rest meant d self.new) }
-        ensures less { IfOk result (λ d. weight d self.new < 3 * tests (size (body_view body.now)) (length others.now) + load self.old.tasks) }
-        ensures reads { IfOk result (λ d. self.new.trial.reads ≡ self.old.trial.reads) }
+        ensures does { IfOk result (λ d. CarriesOn (λ meant. settled meant self.old positive (not positive)
+            (among meant self.old.start positive (body_view body.now) (place_of self.old) others.now))
+            (3 * tests (size (body_view body.now)) (length others.now)) self.old d self.new) }
         ensures typed { (meant : Meant) (at : ClassAt ℕ) (look : Contents ℕ) → IsForm meant at (top_of self.old.pile)
             → Decides meant at self.old body.now others.now → IfOk result (λ d. IsTypedDoing meant at look d self.new) }
     {

@@ -3,10 +3,10 @@
 //!
 //! **Its specs:** `Values`, `Shared`, `Same` and `Sameness` are values and instances; `Rest` says what is left of an
 //! evaluation under way, `Size` how much that is; `Starting` and `Stacked`, `Standing` where it stands; `Calling`
-//! which receivers of calls are taken at once, `Comparing` which texts are compared where they stand; `Trying` what
-//! one try finds; `Asked` for which instances one may be made; `Typed`, `TypedStart` and `ValueKinds` of what kinds the values are that are there and that are
-//! waited for. Of formulas `Pieces` (and `FormulaCodes`) says what their pieces stand for, `Forms` what is left of one
-//! under way and how much that is, `TypedForms` of what kinds.
+//! which receivers of calls are taken at once, `Comparing` which texts are compared where they stand; `Asked` which
+//! instances may be asked for, `Trying` what one try finds; `Typed`, `TypedStart` and `ValueKinds` of what kinds the
+//! values are that are there and that are waited for. Of formulas `Pieces` (and `FormulaCodes`) says what their pieces
+//! stand for, `Forms` what is left of one under way and how much that is, `TypedForms` of what kinds.
 //!
 //! **Where to begin:** `trial.rt` has the steps, `calling.rt` the receivers of calls, `comparing.rt` the texts of
 //! which no copy is made, `using.rt` and `folding.rt` what is done with values, `starting.rt` the way up to an

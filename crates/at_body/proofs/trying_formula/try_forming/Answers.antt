@@ -34,6 +34,10 @@ resume-requires-clause-over g c =
 pub resume-requires-clause-takes : goal.resume-requires-clause-takes
 resume-requires-clause-takes g c =
     let (u, waits, awaits) = rw c.in-Need.is at c.loop-progress.invariant.typed in
-    let is = sym (ap Some c.in_ok-copy-in-Some.ensures ∙ c.in-Some.ensures) in
-    (u, c.in-Need.wanted, waits, awaits,
-      c.requires.known c.in-Need.wanted (value_view c.in_ok-copy-in-Some.field-0) awaits.waits.instance is)
+    let is = sym (ap Some c.in_ok-copy-in-Some.ensures ∙ c.in-Some.ensures) in (
+      u,
+      c.in-Need.wanted,
+      waits,
+      awaits,
+      c.requires.known c.in-Need.wanted (value_view c.in_ok-copy-in-Some.field-0) awaits.waits.instance is,
+    )
