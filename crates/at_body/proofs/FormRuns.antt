@@ -1,5 +1,5 @@
 -- A formula under way goes as far as the evaluation of its instance.
-use Rattle.std.proofs.Common.{◌≡◌, ℕ, Bool, true, false, not, cond, ◌&&◌, nat_eq, List, [], ◌∷◌, ◌++◌, map, length, Option, Some, None, refl, ap, sym, ◌∙◌, subst, Result, Ok, Err, IfOk, Bor, append_assoc, append-nil, arith}
+use Rattle.std.proofs.Common.{◌≡◌, ◌<◌, ◌≤◌, ◌+◌, ℕ, Bool, true, false, not, cond, ◌&&◌, nat_eq, List, [], ◌∷◌, ◌++◌, map, length, Option, Some, None, refl, ap, sym, ◌∙◌, subst, Result, Ok, Err, IfOk, Bor, append_assoc, append-nil, arith}
 use Rattle.std.specs.Prelude.{OnOk}
 use Rattle.std.specs.Global.{Box}
 use Rattle.std.proofs.lemmas.List.{map-append}
@@ -31,7 +31,7 @@ use Rattle.at_body.specs.Standing.{Place, scope, outside, inside}
 use Rattle.at_body.specs.Pieces.{HasTop, together, top_of, put_together}
 use Rattle.at_body.specs.Rest.{ev, ev_all}
 use Rattle.at_body.specs.Rest as trial
-use Rattle.at_body.specs.Forms.{formed, among, asking, put_to, decided, onward, place_of, carried, completed, used, rest, stepped, called, asked_of, gone_over, folded, followed, joining, settled, told}
+use Rattle.at_body.specs.Forms.{CarriesOn, GoesOn, formed, among, asking, put_to, decided, onward, place_of, carried, completed, used, rest, stepped, called, asked_of, gone_over, folded, followed, joining, load, settled, told, weight}
 use Rattle.at_body.proofs.Runs.{fun_ext, regroup, to_its_end}
 use Rattle.at_body.proofs.Piled.{joined_known, joined_else}
 
@@ -197,6 +197,30 @@ pub first_same : {E : Type 0} (res : Result Doing E) (r s : Run ℕ (Formula ℕ
 first_same (Ok d) r s rest_of e h = e ∙ h
 first_same (Err x) r s rest_of e h = tt
 
+-- what means the same, with no less room, is carried on by the same
+pub carried_by : {E : Type 0} (res : Result Doing E) (q r : Rules → Run ℕ (Formula ℕ)) (n m : ℕ) (s t u : Forming) →
+    ((rules : Rules) → q rules ≡ r rules) → n + load s.tasks ≤ m + load t.tasks → s.trial.reads ≡ t.trial.reads →
+    IfOk res (λ d. CarriesOn r n s d u) → IfOk res (λ d. CarriesOn q m t d u)
+carried_by (Ok d) q r n m s t u same room reads h = record {
+  same = λ rules. same rules ∙ h.same rules;
+  less = omega (arith, h.less, room);
+  reads = h.reads ∙ reads;
+}
+carried_by (Err x) q r n m s t u same room reads h = tt
+
+-- what goes over the other elements carries on behind an element
+pub carried_over : {E : Type 0} (res : Result Doing E) (q r : Rules → Run ℕ (Formula ℕ)) (most : ℕ) (s t u : Forming) →
+    ((rules : Rules) → q rules ≡ r rules) → load s.tasks ≤ 1 + load t.tasks → s.trial.reads ≡ t.trial.reads →
+    ((rules : Rules) → IfOk res (λ d. r rules ≡ rest rules d u)) →
+    IfOk res (λ d. weight d u + 2 ≤ most + load s.tasks) → IfOk res (λ d. u.trial.reads ≡ s.trial.reads) →
+    IfOk res (λ d. CarriesOn q most t d u)
+carried_over (Ok d) q r most s t u same room reads means less looked = record {
+  same = λ rules. same rules ∙ means rules;
+  less = omega (arith, less, room);
+  reads = looked ∙ reads;
+}
+carried_over (Err x) q r most s t u same room reads means less looked = tt
+
 -- both sides
 pub sides_put : {E : Type 0} (rules : Rules) (res : Result Doing E) (t new : Forming) (c p : Bool) (e : Expr) (l r : Bor Body) →
     IfOk res (λ d. (d ≡ Form p l) × (new ≡ record t { tasks = Right c p r ∷ t.tasks })) →
@@ -235,14 +259,15 @@ no_argument rules t a v done vs [] e is = ap (asked_of rules t a v) (append-nil 
 no_argument rules t a v done vs (b ∷ bs) e is = absurd (omega (arith, e))
 
 -- once all are there
-pub all_there : {E : Type 0} (rules : Rules) (res : Result Doing E) (t new : Forming) (call it : Asking) (vs : List ValueCode) (bs : List Body) → length bs ≡ 0 → it ≡ call → vs ≡ it.done.items →
-    IfOk res (λ d. asked_of rules t it.attribute (Ref it.node) (map value_view vs) ≡ rest rules d new) →
-    IfOk res (λ d. called rules t call.attribute (Ref call.node) (map value_view call.done.items) (bodies_view bs) ≡ rest rules d new)
-all_there rules res t new call it vs bs none e f h =
-    first_same res _ (asked_of rules t it.attribute (Ref it.node) (map value_view vs)) (λ d. rest rules d new)
-    (no_argument rules t call.attribute (Ref call.node) (map value_view call.done.items) (map value_view call.done.items) bs none refl
+pub all_there : (rules : Rules) (t : Forming) (call it : Asking) (vs : List ValueCode) (bs : List Body) → length bs ≡ 0
+    → it ≡ call → vs ≡ it.done.items →
+    called rules t call.attribute (Ref call.node) (map value_view call.done.items) (bodies_view bs)
+    ≡ asked_of rules t it.attribute (Ref it.node) (map value_view vs)
+all_there rules t call it vs bs none e f =
+    no_argument rules t call.attribute (Ref call.node) (map value_view call.done.items)
+    (map value_view call.done.items) bs none refl
     ∙ ap (λ (x : Asking). asked_of rules t x.attribute (Ref x.node) (map value_view x.done.items)) (sym e)
-    ∙ ap (λ (ws : List ValueCode). asked_of rules t it.attribute (Ref it.node) (map value_view ws)) (sym f)) h
+    ∙ ap (λ (ws : List ValueCode). asked_of rules t it.attribute (Ref it.node) (map value_view ws)) (sym f)
 
 -- the right side, and the elements behind one, where the formula on top doesn't decide
 pub kept_right : (rules : Rules) (t new : Forming) (d c p : Bool) (e : Bor Body) → is_surely d (top_of t.pile) ≡ false → new ≡ record t { tasks = new.tasks; pile = new.pile } →
@@ -262,10 +287,18 @@ kept_among rules t new d c p e ns off stays same =
     ∙ ap (λ (x : Forming). among rules x.start p (body_view e.now) (place_of x) ns >>= carried rules new) (sym stays)
 
 -- what an evaluation comes to that is told that it does
-pub goes_on : {E : Type 0} (look : Contents ℕ) (seen ls : List (Location ℕ)) (res : Result Doing E) (r s : Run ℕ (Formula ℕ)) (rest_of : Doing → Run ℕ (Formula ℕ)) → r ≡ s → IfOk res (λ d. s ≡ rest_of d) → IfOk res (λ d. ls ≡ seen) →
-    IfOk res (λ d. follow look seen r ≡ follow look ls (rest_of d))
-goes_on look seen ls (Ok d) r s rest_of e h same = ap (follow look seen) (e ∙ h) ∙ ap (λ l. follow look l (rest_of d)) (sym same)
-goes_on look seen ls (Err x) r s rest_of e h same = tt
+pub goes_on : {E : Type 0} (look : Contents ℕ) (rules : Rules) (res : Result Doing E) (q : Run ℕ (Formula ℕ))
+    (r : Rules → Run ℕ (Formula ℕ)) (most : ℕ) (t u : Forming) → q ≡ r rules → IfOk res (λ d. CarriesOn r most t d u) →
+    IfOk res (λ d. GoesOn look rules t.trial.reads q d u)
+goes_on look rules (Ok d) q r most t u e h =
+    ap (follow look t.trial.reads) (e ∙ h.same rules) ∙ ap (λ ls. follow look ls (rest rules d u)) (sym h.reads)
+goes_on look rules (Err x) q r most t u e h = tt
+
+-- and no more is left to do
+pub lighter_by : {E : Type 0} (res : Result Doing E) (r : Rules → Run ℕ (Formula ℕ)) (most n : ℕ) (t u : Forming) →
+    most ≤ n → IfOk res (λ d. CarriesOn r most t d u) → IfOk res (λ d. weight d u < n + load t.tasks)
+lighter_by (Ok d) r most n t u room h = omega (arith, h.less, room)
+lighter_by (Err x) r most n t u room h = tt
 
 -- the elements of a node that is looked at
 pub elements_gone : {E : Type 0} (rules : Rules) (look : Contents ℕ) (res : Result Doing E) (t new : Forming) (p : Bool) (e : Expr) (part n : ℕ) (ns : List ℕ) (mid : Trial) →
@@ -295,11 +328,14 @@ evaluated_at rules look t u b s stood new doing same idle still found is =
     ∙ ap (λ d. follow look new.reads (rest rules d (record t { trial = new }))) (sym is)
 
 -- one argument more is there
-pub argument_passed : {E : Type 0} (rules : Rules) (res : Result Doing E) (t new : Forming) (a : ℕ) (v : Value ℕ) (w : ValueCode) (done items : List ValueCode) (es : Exprs) →
-    items ≡ done ++ w ∷ [] → IfOk res (λ d. called rules t a v (map value_view items) es ≡ rest rules d new) → IfOk res (λ d. called rules t a v (map value_view done ++ value_view w ∷ []) es ≡ rest rules d new)
-argument_passed rules res t new a v w done items es is h =
+pub argument_passed : {E : Type 0} (res : Result Doing E) (most : ℕ) (t new : Forming) (a : ℕ) (v : Value ℕ)
+    (w : ValueCode) (done items : List ValueCode) (es : Exprs) → items ≡ done ++ w ∷ [] →
+    IfOk res (λ d. CarriesOn (λ rules. called rules t a v (map value_view items) es) most t d new) →
+    IfOk res (λ d. CarriesOn (λ rules. called rules t a v (map value_view done ++ value_view w ∷ []) es) most t d new)
+argument_passed res most t new a v w done items es is h =
     let e : map value_view items ≡ map value_view done ++ value_view w ∷ [] = rw (is, map-append) refl in
-    let P : List (Value ℕ) → Type 0 = λ vs. IfOk res (λ d. called rules t a v vs es ≡ rest rules d new) in subst P e h
+    let P : List (Value ℕ) → Type 0 = λ vs. IfOk res (λ d. CarriesOn (λ rules. called rules t a v vs es) most t d new) in
+    subst P e h
 
 -- where it has come to, once nothing is left to do
 pub made_whole_found : (rules : Rules) (look : Contents ℕ) (t : Forming) (f : Formula ℕ) → t.tasks ≡ [] → t.pile ≡ f ∷ [] →

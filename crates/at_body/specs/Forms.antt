@@ -1,5 +1,5 @@
 -- What is left of a formula under way.
-use Rattle.std.specs.Prelude.{◌≡◌, ℕ, ◌+◌, ◌*◌, Bool, true, false, not, cond, nat_eq, List, [], ◌∷◌, ◌++◌, map, length, Option, Some, None}
+use Rattle.std.specs.Prelude.{◌≡◌, ◌<◌, ℕ, ◌+◌, ◌*◌, Bool, true, false, not, cond, nat_eq, List, [], ◌∷◌, ◌++◌, map, length, Option, Some, None}
 use Rattle.at_model.specs.Bodies.{Expr, Exprs, truth_of, node_of, elements_of}
 use Rattle.at_model.specs.Run.{Value, Instance, Ref, Truth, Location, Contents, Null, Run, Gives, Fails, Demands, ◌>>=◌}
 use Rattle.at_model.specs.Rules.{Rules, start_of}
@@ -164,6 +164,12 @@ weight (Use u v) t = use_cost u + load t.tasks
 weight Made t = load t.tasks
 weight (Fail k) t = load t.tasks
 weight (Wait u j) t = 1 + trial.load t.trial.todo + use_cost u + load t.tasks
+
+-- what is done next carries that on: it means the same, weighs less than so much above the tasks, and nothing more was looked at
+pub record CarriesOn (r : Rules → Run ℕ (Formula ℕ)) (most : ℕ) (t : Forming) (d : Doing) (u : Forming) : Type 0 where
+  pub same : (rules : Rules) → r rules ≡ rest rules d u
+  pub less : weight d u < most + load t.tasks
+  pub reads : u.trial.reads ≡ t.trial.reads
 
 -- for what it waits for a value
 abbrev pub waiting_cost : Option Purpose → ℕ

@@ -15,5 +15,6 @@ pub mod Comparing
 pub mod Starting
 pub mod Trying
 pub mod Typed
+pub mod Asked
 pub mod TypedForms
 pub mod TypedStart

@@ -2,21 +2,20 @@
 
 ghost use Rattle.std.specs.Prelude.{◌≡◌, ◌<◌, ◌≤◌, ◌+◌, ◌*◌, ◌++◌, ◌∷◌, [], ℕ, Bool, IfOk, IsSome, List, None, OnOk, Some, cond, length, map, nat_eq, not};
 ghost use Rattle.at_model.specs.Bodies.{Call, no_exprs, truth_of};
-ghost use Rattle.at_model.specs.Instances.{AnyText};
 ghost use Rattle.at_model.specs.Rules.{Rules as Meant, start_of};
 ghost use Rattle.at_model.specs.Run.{Contents, Ref, Run, Truth};
 ghost use Rattle.at_model.specs.Follow.{follow};
-ghost use Rattle.at_model.specs.TypedRuns.{ClassAt, IsWellTyped};
-ghost use Rattle.at_model.specs.WellFormed.{AreWellFormed, IsTreeSound};
+ghost use Rattle.at_model.specs.TypedRuns.{ClassAt};
 ghost use Rattle.at_model.specs.of_fixpoints.Evaluations.{evaluation};
 ghost use Rattle.at_model.specs.of_fixpoints.Formulas.{Formula as Meaning, Known, starts_from, turned};
 ghost use Rattle.at_rules.specs.Bodies.{body_view, bodies_view};
 ghost use Rattle.at_store.specs.Located.{loc_view};
-ghost use Rattle.at_store.specs.Shown.{contents, tree, IsIdle};
+ghost use Rattle.at_store.specs.Shown.{contents, IsIdle};
+ghost use Rattle.at_body.specs.Asked.{MayBeAsked};
 ghost use Rattle.at_body.specs.declared.forming.Forming.{Forming};
 ghost use Rattle.at_body.specs.declared.task.Doing.TheVariants.{Evaluate, Form, Made};
 ghost use Rattle.at_body.specs.declared.task.Task.TheVariants.{Right};
-ghost use Rattle.at_body.specs.Forms.{GoesOn, among, asked_of, called, completed, cost, folded, followed, form_size, formed, gone_over, joining, left, load, place_of, reached, rest, settled, stepped, told, use_cost, used, waiting_cost, weight};
+ghost use Rattle.at_body.specs.Forms.{CarriesOn, GoesOn, among, asked_of, called, completed, cost, folded, followed, form_size, formed, gone_over, joining, left, load, place_of, reached, rest, settled, stepped, told, use_cost, used, waiting_cost, weight};
 ghost use Rattle.at_body.specs.Pieces.{HasTop, top_of};
 ghost use Rattle.at_body.specs.Rest as trial;
 ghost use Rattle.at_body.specs.Size.{most, size, sizes, tests};
@@ -93,10 +92,7 @@ impl<'a> Forming<'a> {
         store: &'a Store,
         inst: &Inst,
     ) -> Result<(Forming<'a>, Progress), AllocError>
-        requires idle_store { IsIdle store.now }
-        requires formed { AreWellFormed rules.now }
-        requires sound { IsTreeSound rules.now.classes (tree store.now) }
-        requires typed { IsWellTyped rules.now (class_shown store.now) AnyText inst.now }
+        requires asked { MayBeAsked rules.now store.now inst.now }
         requires circular { IsSome (start_of rules.now inst.now.attribute) }
         ensures found { IfOk result (λ r. follow (contents store.now) [] ((evaluation rules.now nat_eq).formula inst.now)
             ≡ (reached rules.now r.1 r.0, r.0.trial.reads)) }
@@ -131,10 +127,7 @@ impl<'a> Forming<'a> {
         store: &'a Store,
         inst: &Inst,
     ) -> Result<Progress, AllocError>
-        requires idle_store { IsIdle store.now }
-        requires formed { AreWellFormed rules.now }
-        requires sound { IsTreeSound rules.now.classes (tree store.now) }
-        requires typed { IsWellTyped rules.now (class_shown store.now) AnyText inst.now }
+        requires asked { MayBeAsked rules.now store.now inst.now }
         requires circular { IsSome (start_of rules.now inst.now.attribute) }
         ensures found { IfOk result (λ p. follow (contents store.now) [] ((evaluation rules.now nat_eq).formula inst.now)
             ≡ (reached rules.now p self.new, self.new.trial.reads)) }
@@ -376,9 +369,8 @@ impl<'a> Forming<'a> {
         node: Option<Node>,
         arguments: Arguments,
     ) -> Result<Doing<'a>, AllocError>
-        ensures same { (meant : Meant) → IfOk result (λ d. asked_of meant self.old attribute (Ref node) (map value_view arguments) ≡ rest meant d self.new) }
-        ensures less { IfOk result (λ d. weight d self.new ≡ load self.old.tasks) }
-        ensures reads { IfOk result (λ d. self.new.trial.reads ≡ self.old.trial.reads) }
+        ensures does { IfOk result (λ d. CarriesOn (λ meant. asked_of meant self.old attribute (Ref node) (map value_view arguments)) 1
+            self.old d self.new) }
         ensures typed { (meant : Meant) (at : ClassAt ℕ) (look : Contents ℕ) → IsOver meant at look
             → Calls meant at self.old attribute node (map value_view arguments) no_exprs → IfOk result (λ d. IsTypedDoing meant at look d self.new) }
     {
@@ -399,9 +391,8 @@ impl<'a> Forming<'a> {
         node: Option<Node>,
         arguments: &'a [Body],
     ) -> Result<Doing<'a>, AllocError>
-        ensures same { (meant : Meant) → IfOk result (λ d. called meant self.old attribute (Ref node) [] (bodies_view arguments.now) ≡ rest meant d self.new) }
-        ensures less { IfOk result (λ d. weight d self.new < 2 * sizes (bodies_view arguments.now) + 2 + load self.old.tasks) }
-        ensures reads { IfOk result (λ d. self.new.trial.reads ≡ self.old.trial.reads) }
+        ensures does { IfOk result (λ d. CarriesOn (λ meant. called meant self.old attribute (Ref node) [] (bodies_view arguments.now))
+            (2 * sizes (bodies_view arguments.now) + 2) self.old d self.new) }
         ensures typed { (meant : Meant) (at : ClassAt ℕ) (look : Contents ℕ) → IsOver meant at look
             → Calls meant at self.old attribute node [] (bodies_view arguments.now) → IfOk result (λ d. IsTypedDoing meant at look d self.new) }
     {
@@ -426,10 +417,9 @@ impl<'a> Forming<'a> {
         value: Value,
         others: &'a [Body],
     ) -> Result<Doing<'a>, AllocError>
-        ensures same { (meant : Meant) → IfOk result (λ d. called meant self.old call.value.attribute (Ref call.value.node)
-            (map value_view call.value.done.items ++ value_view value ∷ []) (bodies_view others.now) ≡ rest meant d self.new) }
-        ensures less { IfOk result (λ d. weight d self.new < 2 * sizes (bodies_view others.now) + 2 + load self.old.tasks) }
-        ensures reads { IfOk result (λ d. self.new.trial.reads ≡ self.old.trial.reads) }
+        ensures does { IfOk result (λ d. CarriesOn (λ meant. called meant self.old call.value.attribute (Ref call.value.node)
+            (map value_view call.value.done.items ++ value_view value ∷ []) (bodies_view others.now))
+            (2 * sizes (bodies_view others.now) + 2) self.old d self.new) }
         ensures typed { (meant : Meant) (at : ClassAt ℕ) (look : Contents ℕ) → IsOver meant at look
             → Calls meant at self.old call.value.attribute call.value.node
             (map value_view call.value.done.items ++ value_view value ∷ []) (bodies_view others.now)
@@ -445,10 +435,8 @@ impl<'a> Forming<'a> {
         call: Box<Asking>,
         others: &'a [Body],
     ) -> Result<Doing<'a>, AllocError>
-        ensures same { (meant : Meant) → IfOk result (λ d. called meant self.old call.value.attribute (Ref call.value.node)
-            (map value_view call.value.done.items) (bodies_view others.now) ≡ rest meant d self.new) }
-        ensures less { IfOk result (λ d. weight d self.new < 2 * sizes (bodies_view others.now) + 2 + load self.old.tasks) }
-        ensures reads { IfOk result (λ d. self.new.trial.reads ≡ self.old.trial.reads) }
+        ensures does { IfOk result (λ d. CarriesOn (λ meant. called meant self.old call.value.attribute (Ref call.value.node)
+            (map value_view call.value.done.items) (bodies_view others.now)) (2 * sizes (bodies_view others.now) + 2) self.old d self.new) }
         ensures typed { (meant : Meant) (at : ClassAt ℕ) (look : Contents ℕ) → IsOver meant at look
             → Calls meant at self.old call.value.attribute call.value.node (map value_view call.value.done.items) (bodies_view others.now)
             → IfOk result (λ d. IsTypedDoing meant at look d self.new) }
@@ -519,10 +507,8 @@ impl<'a> Forming<'a> {
     /// Does with the formula on top what is left to do.
     fn made(&mut self, task: Task<'a>) -> Result<Doing<'a>, AllocError>
         requires typed { (meant : Meant) × (at : ClassAt ℕ) × Continues meant at self.old task }
-        ensures same { (meant : Meant) → IfOk result (λ d. completed meant self.old.start (task.entry ∷ self.old.tasks) self.old.pile (place_of self.old)
-            ≡ rest meant d self.new) }
-        ensures less { IfOk result (λ d. weight d self.new < cost task.entry + load self.old.tasks) }
-        ensures reads { IfOk result (λ d. self.new.trial.reads ≡ self.old.trial.reads) }
+        ensures does { IfOk result (λ d. CarriesOn (λ meant. completed meant self.old.start (task.entry ∷ self.old.tasks) self.old.pile (place_of self.old))
+            (cost task.entry) self.old d self.new) }
         ensures typed { (meant : Meant) (at : ClassAt ℕ) (look : Contents ℕ) → Continues meant at self.old task.entry
             → IfOk result (λ d. IsTypedDoing meant at look d self.new) }
     {
@@ -549,10 +535,9 @@ impl<'a> Forming<'a> {
         right: &'a Body,
     ) -> Result<Doing<'a>, AllocError>
         requires top { HasTop self.old.pile }
-        ensures same { (meant : Meant) → IfOk result (λ d. settled meant self.old (not conjunction) conjunction
-            (formed meant self.old.start positive (body_view right.now) (place_of self.old)) ≡ rest meant d self.new) }
-        ensures less { IfOk result (λ d. weight d self.new < form_size (body_view right.now) + 2 + load self.old.tasks) }
-        ensures reads { IfOk result (λ d. self.new.trial.reads ≡ self.old.trial.reads) }
+        ensures does { IfOk result (λ d. CarriesOn (λ meant. settled meant self.old (not conjunction) conjunction
+            (formed meant self.old.start positive (body_view right.now) (place_of self.old)))
+            (form_size (body_view right.now) + 2) self.old d self.new) }
         ensures typed { (meant : Meant) (at : ClassAt ℕ) (look : Contents ℕ) → Continues meant at self.old (Right conjunction positive right.entry)
             → IfOk result (λ d. IsTypedDoing meant at look d self.new) }
     {
@@ -571,10 +556,9 @@ impl<'a> Forming<'a> {
         others: &'a [Node],
     ) -> Result<Doing<'a>, AllocError>
         requires top { HasTop self.old.pile }
-        ensures same { (meant : Meant) → IfOk result (λ d. settled meant self.old positive (not positive)
-            (among meant self.old.start positive (body_view body.now) (place_of self.old) others.now) ≡ rest meant d self.new) }
-        ensures less { IfOk result (λ d. weight d self.new < 3 * tests (size (body_view body.now)) (length others.now) + load self.old.tasks) }
-        ensures reads { IfOk result (λ d. self.new.trial.reads ≡ self.old.trial.reads) }
+        ensures does { IfOk result (λ d. CarriesOn (λ meant. settled meant self.old positive (not positive)
+            (among meant self.old.start positive (body_view body.now) (place_of self.old) others.now))
+            (3 * tests (size (body_view body.now)) (length others.now)) self.old d self.new) }
         ensures typed { (meant : Meant) (at : ClassAt ℕ) (look : Contents ℕ) → IsForm meant at (top_of self.old.pile)
             → Decides meant at self.old body.now others.now → IfOk result (λ d. IsTypedDoing meant at look d self.new) }
     {

@@ -3,15 +3,15 @@
 //!
 //! **Its specs:** `Values`, `Shared`, `Same` and `Sameness` are values and instances; `Rest` says what is left of an
 //! evaluation under way, `Size` how much that is; `Starting` and `Stacked`, `Standing` where it stands; `Calling`
-//! which receivers of calls are taken at once, `Comparing` which texts are compared where they stand; `Trying` what
-//! one try finds; `Typed`, `TypedStart` and `ValueKinds` of what kinds the values are that are there and that are
-//! waited for. Of formulas `Pieces` (and `FormulaCodes`) says what their pieces stand for, `Forms` what is left of one
-//! under way and how much that is, `TypedForms` of what kinds.
+//! which receivers of calls are taken at once, `Comparing` which texts are compared where they stand; `Asked` which
+//! instances may be asked for, `Trying` what one try finds; `Typed`, `TypedStart` and `ValueKinds` of what kinds the
+//! values are that are there and that are waited for. Of formulas `Pieces` (and `FormulaCodes`) says what their pieces
+//! stand for, `Forms` what is left of one under way and how much that is, `TypedForms` of what kinds.
 //!
 //! **Where to begin:** `trial.rt` has the steps, `calling.rt` the receivers of calls, `comparing.rt` the texts of
 //! which no copy is made, `using.rt` and `folding.rt` what is done with values, `starting.rt` the way up to an
 //! inherited equation; `trying.rt` is one try with what is known. `forming.rt` has the steps of a formula, over a trial
-//! for each value that is wanted, `formula.rt` the formulas themselves.
+//! for each value that is wanted, `formula.rt` the formulas themselves, `trying_formula.rt` one try for a formula.
 //!
 //! **What it keeps true:** a trial goes exactly as far as `at_model`'s `Run` of the instance, notes just the
 //! locations that this looks at, and keeps to the kinds, so no code answers for a value of another one. So does what
@@ -33,6 +33,7 @@ mod task;
 mod todo;
 mod trial;
 mod trying;
+mod trying_formula;
 mod typing_laws;
 mod using;
 mod value;
@@ -51,6 +52,7 @@ pub use starting::look_at;
 pub use todo::{Binary, Fold, Unary};
 pub use trial::{Step, Trial};
 pub use trying::{Known, Tried, try_body};
+pub use trying_formula::try_formula;
 pub use typing_laws::{
     an_instance_has_an_equation, what_a_store_shows_is_typed, what_is_told_is_taken,
 };

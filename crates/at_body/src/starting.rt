@@ -1,16 +1,15 @@
 //! The start of an evaluation: the node, the nodes among its arguments, and its equation.
 
 ghost use Rattle.std.specs.Prelude.{◌≡◌, ◌++◌, [], ℕ, nat_eq, map, true, IfOk, IsSome, OnOk, None};
-ghost use Rattle.at_model.specs.Instances.{AnyText};
 ghost use Rattle.at_model.specs.Kinds.{AreTyped};
 ghost use Rattle.at_model.specs.Rules.{evaluation, by_inherited, attribute_name, is_inherited, own_equation, start_of};
 ghost use Rattle.at_model.specs.Bodies.{ref_of};
 ghost use Rattle.at_model.specs.Run.{Contents};
-ghost use Rattle.at_model.specs.TypedRuns.{ClassAt, IsWellTyped};
-ghost use Rattle.at_model.specs.WellFormed.{AreWellFormed, IsTreeSound};
+ghost use Rattle.at_model.specs.TypedRuns.{ClassAt};
 ghost use Rattle.at_model.specs.Support.{argument_classes};
 ghost use Rattle.at_model.specs.Follow.{follow};
-ghost use Rattle.at_store.specs.Shown.{contents, tree, IsIdle};
+ghost use Rattle.at_store.specs.Shown.{contents, IsIdle};
+ghost use Rattle.at_body.specs.Asked.{MayBeAsked};
 ghost use Rattle.at_body.specs.Values.{value_view};
 ghost use Rattle.at_body.specs.declared.todo.Now.TheVariants.{Enter};
 ghost use Rattle.at_body.specs.Rest.{GoesOn, place_of, rest, reached};
@@ -39,10 +38,7 @@ impl<'a> Trial<'a> {
         store: &'a Store,
         inst: &Inst,
     ) -> Result<(Trial<'a>, Step), AllocError>
-        requires idle_store { IsIdle store.now }
-        requires formed { AreWellFormed rules.now }
-        requires sound { IsTreeSound rules.now.classes (tree store.now) }
-        requires typed { IsWellTyped rules.now (class_shown store.now) AnyText inst.now }
+        requires { MayBeAsked rules.now store.now inst.now }
         ensures found { IfOk result (λ r. follow (contents store.now) [] (evaluation rules.now nat_eq inst.now)
             ≡ (reached rules.now.classes r.1 r.0, r.0.reads)) }
         ensures typed { IfOk result (λ r. IsTypedStep rules.now (class_shown store.now) r.1 r.0) }
@@ -61,10 +57,7 @@ impl<'a> Trial<'a> {
         store: &'a Store,
         inst: &Inst,
     ) -> Result<Step, AllocError>
-        requires idle_store { IsIdle store.now }
-        requires formed { AreWellFormed rules.now }
-        requires sound { IsTreeSound rules.now.classes (tree store.now) }
-        requires typed { IsWellTyped rules.now (class_shown store.now) AnyText inst.now }
+        requires { MayBeAsked rules.now store.now inst.now }
         ensures found { IfOk result (λ step. follow (contents store.now) [] (evaluation rules.now nat_eq inst.now)
             ≡ (reached rules.now.classes step self.new, self.new.reads)) }
         ensures typed { IfOk result (λ step. IsTypedStep rules.now (class_shown store.now) step self.new) }
@@ -80,10 +73,7 @@ impl<'a> Trial<'a> {
         store: &'a Store,
         inst: &Inst,
     ) -> Result<&'a Body, AllocError>
-        requires idle_store { IsIdle store.now }
-        requires formed { AreWellFormed rules.now }
-        requires sound { IsTreeSound rules.now.classes (tree store.now) }
-        requires typed { IsWellTyped rules.now (class_shown store.now) AnyText inst.now }
+        requires { MayBeAsked rules.now store.now inst.now }
         ensures same { IfOk result (λ body. follow (contents store.now) [] (evaluation rules.now nat_eq inst.now)
             ≡ follow (contents store.now) self.new.reads (rest rules.now.classes (Enter body) self.new)) }
         ensures formed { IfOk result (λ body. follow (contents store.now) [] (evaluation_of_forms rules.now inst.now)

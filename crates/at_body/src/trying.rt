@@ -3,11 +3,9 @@
 ghost use Rattle.std.specs.Prelude.{◌≡◌, ◌++◌, nat_eq, ℕ, IfOk, OnOk, OnErr, option_map, option_copied};
 ghost use Rattle.at_model.specs.Run.{Known, tried};
 ghost use Rattle.at_model.specs.Run as model;
-ghost use Rattle.at_model.specs.Instances.{AnyText};
 ghost use Rattle.at_model.specs.Rules.{evaluation};
-ghost use Rattle.at_model.specs.TypedRuns.{IsWellTyped};
-ghost use Rattle.at_model.specs.WellFormed.{AreWellFormed, IsTreeSound};
-ghost use Rattle.at_store.specs.Shown.{contents, tree, IsIdle};
+ghost use Rattle.at_store.specs.Shown.{contents};
+ghost use Rattle.at_body.specs.Asked.{MayBeAsked};
 ghost use Rattle.at_body.specs.Values.{value_view};
 ghost use Rattle.at_body.specs.Typed.{AreOfTheirKinds, class_shown};
 ghost use Rattle.at_body.specs.Trying.{tried_of, tried_view};
@@ -51,10 +49,7 @@ pub fn try_body<K: Known>(
     known: &K,
     reads: &mut Reads,
 ) -> Result<Tried, AllocError>
-    requires idle_store { IsIdle store.now }
-    requires formed { AreWellFormed rules.now }
-    requires sound { IsTreeSound rules.now.classes (tree store.now) }
-    requires typed { IsWellTyped rules.now (class_shown store.now) AnyText inst.now }
+    requires asked { MayBeAsked rules.now store.now inst.now }
     requires known { AreOfTheirKinds rules.now (class_shown store.now) (K.value_of known.now) }
     ensures found { IfOk result (λ t. tried (contents store.now) (K.value_of known.now) (evaluation rules.now nat_eq inst.now) ≡ tried_view t) }
     ensures gained { OnOk result (reads.new ≡ reads.old ++ model.reads (contents store.now) (K.value_of known.now) (evaluation rules.now nat_eq inst.now)) }
@@ -77,10 +72,7 @@ fn try_steps<'a, K: Known>(
     inst: &Inst,
     known: &K,
 ) -> Result<(Trial<'a>, Step), AllocError>
-    requires idle_store { IsIdle store.now }
-    requires formed { AreWellFormed rules.now }
-    requires sound { IsTreeSound rules.now.classes (tree store.now) }
-    requires typed { IsWellTyped rules.now (class_shown store.now) AnyText inst.now }
+    requires asked { MayBeAsked rules.now store.now inst.now }
     requires known { AreOfTheirKinds rules.now (class_shown store.now) (K.value_of known.now) }
     ensures found { IfOk result (λ r. tried (contents store.now) (K.value_of known.now) (evaluation rules.now nat_eq inst.now) ≡ tried_of r.1) }
     ensures looked { IfOk result (λ r. model.reads (contents store.now) (K.value_of known.now) (evaluation rules.now nat_eq inst.now) ≡ r.0.reads) }

@@ -7,8 +7,8 @@ use thiserror::Error;
 /// same files.
 #[derive(Clone, Copy, Debug, Error)]
 pub enum Failure {
-    /// The words aren't three.
-    #[error("usage: tries GRAMMAR ASPECTS TREE < LINES")]
+    /// The words aren't three files, with or without forms in front of them.
+    #[error("usage: tries [--forms circular] GRAMMAR ASPECTS TREE < LINES")]
     Words,
     /// A file, or standard input, can't be read.
     #[error("read fault")]

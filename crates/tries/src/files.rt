@@ -37,15 +37,21 @@ impl Drop for World {
     }
 }
 
-/// The world of the three files' texts.
+/// The world of the three files' texts; in aspects these forms are read.
 ///
 /// # Errors
 ///
 /// The first file that is refused, or want of memory.
-pub fn load(alloc: Global, grammar: &str, aspects: &str, tree: &str) -> Result<World, Failure>
+pub fn load(
+    alloc: Global,
+    forms: Forms,
+    grammar: &str,
+    aspects: &str,
+    tree: &str,
+) -> Result<World, Failure>
     ensures { IfOk result IsSound }
 {
-    let rules = rules(alloc, grammar, aspects)?;
+    let rules = rules(alloc, forms, grammar, aspects)?;
     let tree = tree_of(alloc, rules.classes(), tree)?;
     match Store::load(alloc, rules.classes(), tree, USUAL_NODES as usize) {
         Ok(store) => Ok(World {
@@ -58,11 +64,11 @@ pub fn load(alloc: Global, grammar: &str, aspects: &str, tree: &str) -> Result<W
     }
 }
 
-fn rules(alloc: Global, grammar: &str, aspects: &str) -> Result<Rules, Failure>
+fn rules(alloc: Global, forms: Forms, grammar: &str, aspects: &str) -> Result<Rules, Failure>
     ensures { IfOk result AreWellFormed }
 {
     let classes = classes(alloc, grammar)?;
-    let aspects = aspects_of(alloc, aspects)?;
+    let aspects = aspects_of(alloc, forms, aspects)?;
     match build(alloc, classes, from_ref(&aspects)) {
         Ok(rules) => Ok(rules),
         Err(RuleFault::Memory) => Err(Failure::Memory),
@@ -88,10 +94,10 @@ fn classes(alloc: Global, text: &str) -> Result<ClassTable, Failure>
     }
 }
 
-fn aspects_of(alloc: Global, text: &str) -> Result<Vec<Aspect>, Failure>
+fn aspects_of(alloc: Global, forms: Forms, text: &str) -> Result<Vec<Aspect>, Failure>
     ensures { IfOk result (λ v. IsSpelled (map aspect_view v.items)) }
 {
-    match parse_jrag(alloc, text, Forms::NONE) {
+    match parse_jrag(alloc, text, forms) {
         Ok(aspects) => Ok(aspects),
         Err(JragFault::Memory) => Err(Failure::Memory),
         Err(_) => Err(Failure::Aspects),

@@ -2,9 +2,10 @@
 //! come to together, and no try alone. Here one says which values are known, and is told what an instance's equation
 //! comes to over these, and which locations of the tree were looked at up to there.
 //!
-//! `tries GRAMMAR ASPECTS TREE < LINES` answers each line that isn't empty by one line. `know PLACE CALL = VALUE` says
-//! that the instance has the value, and is answered `known`. `try PLACE CALL` is answered `value VALUE`, `fault WORD`
-//! or `need PLACE CALL`, and behind it the set of locations, each once, in the order of their texts: `is PLACE`,
+//! `tries [--forms circular] GRAMMAR ASPECTS TREE < LINES` answers each line that isn't empty by one line; with `--forms
+//! circular` attributes of aspects may be circular. `know PLACE CALL = VALUE` says that the instance has the value, and is
+//! answered `known`. `try PLACE CALL` is answered `value VALUE`, `formula FORMULA` where the attribute is circular, `fault
+//! WORD` or `need PLACE CALL`, and behind it the set of locations, each once, in the order of their texts: `is PLACE`,
 //! `slot PLACE PART`, `token PLACE PART`, `up PLACE`, `index PLACE`. `trial ROUNDS PLACE CALL` and `plain ROUNDS PLACE CALL`
 //! are for measuring: the equation is evaluated so many times, by trials over nothing that is known or by a plain recursion,
 //! and answered `value VALUE`. Any other line is answered by a word alone: what it can't be read for, or what it names that
@@ -16,6 +17,7 @@ ghost use Rattle.tries.specs.Worlds.{AreSound, IsSound, IsTyped};
 
 mod failure;
 mod files;
+mod formulas;
 mod instances;
 mod known;
 mod plain;
@@ -23,9 +25,11 @@ mod refusal;
 mod rounds;
 mod texts;
 
-use at_body::{Inst, Reads, try_body};
+use at_body::{Inst, Reads, try_body, try_formula};
+use at_jrag::Forms;
 use failure::Failure;
 use files::{World, load};
+use formulas::write_progress;
 use instances::{instance, value_for};
 use known::Values;
 use refusal::Refusal;
@@ -36,7 +40,7 @@ use std::process::ExitCode;
 use std::{env, fs};
 use texts::{write_found, write_locations};
 
-/// Answers the lines, and ends with status 0; 1 where a file is refused, 2 where the words aren't three files, 3 where
+/// Answers the lines, and ends with status 0; 1 where a file is refused, 2 where the words aren't such words, 3 where
 /// a file or a stream fails, 4 for want of memory.
 fn main(rt: HostRuntime) -> ExitCode {
     match serve(&rt) {
@@ -66,35 +70,65 @@ fn serve(rt: &HostRuntime) -> Result<(), Failure> {
 fn world_of_words(rt: &HostRuntime) -> Result<World, Failure>
     ensures { IfOk result IsSound }
 {
-    let texts = texts_of_words(rt)?;
-    match texts.as_slice() {
-        [grammar, aspects, tree] => load(
-            rt.alloc(),
-            grammar.as_str(),
-            aspects.as_str(),
-            tree.as_str(),
-        ),
+    let words = words(rt)?;
+    match words.as_slice() {
+        [grammar, aspects, tree] => world_of(rt, Forms::NONE, grammar, aspects, tree),
+        [option, name, grammar, aspects, tree] => {
+            world_of(rt, forms_of(option, name)?, grammar, aspects, tree)
+        }
         _ => Err(Failure::Words),
     }
 }
 
-/// The texts of the three files that the words name.
-fn texts_of_words(rt: &HostRuntime) -> Result<Vec<String>, Failure> {
-    let Ok(mut words) = env::args(rt) else {
+/// The words behind the program's name.
+fn words(rt: &HostRuntime) -> Result<Vec<String>, Failure> {
+    let Ok(mut given) = env::args(rt) else {
         return Err(Failure::Words);
     };
-    let _program = words.next();
-    let mut texts = Vec::new(rt.alloc());
-    for word in words {
-        if texts.len() == 3 {
-            return Err(Failure::Words);
-        }
-        match fs::read_to_string(rt, word.as_str()) {
-            Ok(text) => texts.push(text)?,
-            Err(_) => return Err(Failure::Read),
-        }
+    let _program = given.next();
+    let mut words = Vec::new(rt.alloc());
+    for word in given {
+        words.push(word)?;
     }
-    Ok(texts)
+    Ok(words)
+}
+
+/// The forms that the words in front of the files name.
+fn forms_of(option: &str, name: &str) -> Result<Forms, Failure> {
+    if option == "--forms" && name == "circular" {
+        return Ok(Forms { circular: true });
+    }
+    Err(Failure::Words)
+}
+
+/// The rules and the tree of these files.
+fn world_of(
+    rt: &HostRuntime,
+    forms: Forms,
+    grammar: &str,
+    aspects: &str,
+    tree: &str,
+) -> Result<World, Failure>
+    ensures { IfOk result IsSound }
+{
+    let grammar = text_of(rt, grammar)?;
+    let aspects = text_of(rt, aspects)?;
+    let tree = text_of(rt, tree)?;
+    load(
+        rt.alloc(),
+        forms,
+        grammar.as_str(),
+        aspects.as_str(),
+        tree.as_str(),
+    )
+}
+
+/// The text of a file.
+fn text_of(rt: &HostRuntime, file: &str) -> Result<String, Failure> {
+    match fs::read_to_string(rt, file) {
+        Ok(text) => Ok(text),
+        Err(_) => Err(Failure::Read),
+    }
 }
 
 /// The answers to the lines, each with a newline; none to an empty one.
@@ -160,7 +194,7 @@ fn told(world: &World, known: &Values, call: &str, out: &mut Vec<u8>) -> Result<
     Ok(write_locations(world, reads.as_slice(), out)?)
 }
 
-/// Appends what a try of the instance comes to. The reads gain the locations that it looks at.
+/// Appends what a try of the instance comes to, a formula where its attribute is circular. The reads gain the locations that it looks at.
 fn told_of(
     world: &World,
     known: &Values,
@@ -172,6 +206,10 @@ fn told_of(
     requires typed { IsTyped world.now inst.now }
     requires known { AreSound world.now known.now }
 {
+    if world.rules.start_of(inst.attribute()).is_some() {
+        let progress = try_formula(world.alloc, &world.rules, &world.store, inst, known, reads)?;
+        return write_progress(world, &progress, out);
+    }
     let found = try_body(world.alloc, &world.rules, &world.store, inst, known, reads)?;
     write_found(world, &found, out)
 }

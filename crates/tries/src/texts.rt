@@ -21,15 +21,23 @@ pub fn write_found(world: &World, found: &Tried, out: &mut Vec<u8>) -> Result<()
             out.extend_from_slice(b"value ")?;
             write_value(world, value, out)
         }
-        Tried::Fault(kind) => {
-            out.extend_from_slice(b"fault ")?;
-            out.extend_from_slice(fault_word(*kind).as_bytes())
-        }
-        Tried::Need(inst) => {
-            out.extend_from_slice(b"need ")?;
-            write_instance(world, inst, out)
-        }
+        Tried::Fault(kind) => write_fault(*kind, out),
+        Tried::Need(inst) => write_need(world, inst, out),
     }
+}
+
+/// Appends that there is a fault.
+pub fn write_fault(kind: FaultKind, out: &mut Vec<u8>) -> Result<(), AllocError> {
+    out.extend_from_slice(b"fault ")?;
+    out.extend_from_slice(fault_word(kind).as_bytes())
+}
+
+/// Appends that the value of an instance is wanted.
+pub fn write_need(world: &World, inst: &Inst, out: &mut Vec<u8>) -> Result<(), AllocError>
+    requires { IsSound world.now }
+{
+    out.extend_from_slice(b"need ")?;
+    write_instance(world, inst, out)
 }
 
 fn fault_word(kind: FaultKind) -> &'static str {
@@ -68,7 +76,7 @@ fn write_node(world: &World, node: Node, out: &mut Vec<u8>) -> Result<(), AllocE
 }
 
 /// Appends the place and the call of an instance.
-fn write_instance(world: &World, inst: &Inst, out: &mut Vec<u8>) -> Result<(), AllocError>
+pub fn write_instance(world: &World, inst: &Inst, out: &mut Vec<u8>) -> Result<(), AllocError>
     requires { IsSound world.now }
 {
     write_node(world, inst.node(), out)?;

@@ -17,7 +17,7 @@ pub loop-step-preserved : goal.loop-step-preserved
 loop-step-preserved g c = let h = rw c.in-Need.is at c.loop-step.invariant.found in record { found = h ∙ next_step (contents c.args.store.now) (g.K.Known.value_of c.args.known.now) _ c.in-Need.wanted (resumed c.args.rules.now.classes c.loop-step.trial) (value_view c.in_ok-copy-in-Some.field-0) _ (ap Some c.in_ok-copy-in-Some.ensures ∙ c.in-Some.ensures) c.in_ok-step-in-Some.ensures.found; typed = c.in_ok-step-in-Some.ensures.typed }
 
 pub resume-requires-clause-over : goal.resume-requires-clause-over
-resume-requires-clause-over g c = shown_typed c.args.rules.now c.args.store.now c.requires.idle_store c.requires.formed c.requires.sound
+resume-requires-clause-over g c = shown_typed c.args.rules.now c.args.store.now c.requires.asked.idle c.requires.asked.formed c.requires.asked.sound
 
 pub resume-requires-clause-takes : goal.resume-requires-clause-takes
 resume-requires-clause-takes g c = let h = rw c.in-Need.is at c.loop-step.invariant.typed in

@@ -1,7 +1,14 @@
-use Rattle.std.proofs.Common.{◌≡◌, map}
+use Rattle.std.proofs.Common.{◌≡◌, map, rules}
 use Rattle.at_body.specs.Values.{value_view}
 use Rattle.at_body.proofs.FormKinds.{asks_completes}
 use Rattle.at_body.proofs.forming.Forming.asks.Goals as goal
+
+pub returns-in_ok-push_asks-in-Some-clause-does : goal.returns-in_ok-push_asks-in-Some-clause-does
+returns-in_ok-push_asks-in-Some-clause-does c =
+    record { same = search rules; less = search rules; reads = search rules }
+
+pub returns-in-None-clause-does : goal.returns-in-None-clause-does
+returns-in-None-clause-does c = record { same = search rules; less = search rules; reads = search rules }
 
 pub returns-in_ok-push_asks-in-Some-clause-typed : goal.returns-in_ok-push_asks-in-Some-clause-typed
 returns-in_ok-push_asks-in-Some-clause-typed c = λ rules at look over h.

@@ -10,10 +10,10 @@ use Rattle.at_body.proofs.TypedShown.{shown_typed}
 use Rattle.at_body.proofs.forming.Forming.restart.Goals as goal
 
 pub advance-requires-clause-over : goal.advance-requires-clause-over
-advance-requires-clause-over c = shown_typed c.args.rules.now c.args.store.now c.requires.idle_store c.requires.formed c.requires.sound
+advance-requires-clause-over c = shown_typed c.args.rules.now c.args.store.now c.requires.asked.idle c.requires.asked.formed c.requires.asked.sound
 
 pub advance-requires-clause-typed : goal.advance-requires-clause-typed
-advance-requires-clause-typed c = equation_forms c.args.rules.now (class_shown c.args.store.now) c.seek.new.self c.settle.new.self c.in_ok-body.body.now c.args.inst.now.attribute c.attribute.result c.requires.formed.typed c.in_ok-body.ensures.equation c.attribute.ensures
+advance-requires-clause-typed c = equation_forms c.args.rules.now (class_shown c.args.store.now) c.seek.new.self c.settle.new.self c.in_ok-body.body.now c.args.inst.now.attribute c.attribute.result c.requires.asked.formed.typed c.in_ok-body.ensures.equation c.attribute.ensures
     c.in_ok-settle.ensures.start c.in_ok-settle.ensures.place c.in_ok-settle.ensures.tasks c.in_ok-settle.ensures.pile
 
 pub returns-clause-found : goal.returns-clause-found

@@ -1,12 +1,11 @@
-use Rattle.std.proofs.Common.{◌≡◌, ◌∙◌, [], ap, map, refl, subst, sym}
+use Rattle.std.proofs.Common.{◌≡◌, ◌∙◌, [], ap, arith, map, refl, subst, sym}
 use Rattle.at_model.specs.Bodies.{truth_of}
 use Rattle.at_model.specs.Run.{Ref}
 use Rattle.at_rules.specs.Bodies.{body_view, bodies_view}
 use Rattle.at_store.specs.Shown.{contents}
-use Rattle.at_body.specs.Forms.{rest}
 use Rattle.at_body.specs.TypedForms.{Calls, Folds, IsTypedDoing}
 use Rattle.at_body.specs.Values.{value_view}
-use Rattle.at_body.proofs.FormRuns.{goes_on, one_argument}
+use Rattle.at_body.proofs.FormRuns.{goes_on, lighter_by, one_argument}
 use Rattle.at_body.proofs.FormKinds.{argument_calls, choice_forms, choice_truth, formula_truth, known_typed, node_folds, node_ref, receiver_calls, receiver_ref}
 use Rattle.at_body.proofs.forming.Forming.used.Goals as goal
 
@@ -30,16 +29,29 @@ returns-in-Choose-clause-typed c = λ rules at over h. let h' = rw c.in-Choose.i
     rw c.choose.ensures (choice_forms rules at c.args.self.now c.in-Choose.positive (truth_of (value_view c.args.value)) c.in-Choose.yes c.in-Choose.no (value_view c.args.value) h')
 
 pub returns-in-Arguments-clause-same : goal.returns-in-Arguments-clause-same
-returns-in-Arguments-clause-same c = λ rules. let h = rw c.node.ensures at c.first_argument.ensures.same rules in
-    rw c.in-Arguments.is (goes_on (contents c.args.store.now) _ _ c.first_argument.result _ _ (λ d. rest rules d c.first_argument.new.self) refl h c.first_argument.ensures.reads)
+returns-in-Arguments-clause-same c = λ rules. let h = rw c.node.ensures at c.first_argument.ensures.does in
+    rw c.in-Arguments.is (goes_on (contents c.args.store.now) rules c.first_argument.result _ _ _ _
+    c.first_argument.new.self refl h)
+
+pub returns-in-Arguments-clause-less : goal.returns-in-Arguments-clause-less
+returns-in-Arguments-clause-less c =
+    rw c.in-Arguments.is (lighter_by c.first_argument.result _ _ _ _ c.first_argument.new.self (omega arith)
+    c.first_argument.ensures.does)
 
 pub returns-in-Arguments-clause-typed : goal.returns-in-Arguments-clause-typed
 returns-in-Arguments-clause-typed c = λ rules at over h. let h' = rw c.in-Arguments.is at h in c.first_argument.ensures.typed rules at (contents c.args.store.now) over
     (subst (λ n. Calls rules at c.args.self.now c.in-Arguments.attribute n [] (bodies_view c.in-Arguments.arguments.now)) (sym c.node.ensures) (receiver_calls rules at c.args.self.now c.in-Arguments.attribute c.in-Arguments.arguments (value_view c.args.value) h'))
 
 pub returns-in-Argument-clause-same : goal.returns-in-Argument-clause-same
-returns-in-Argument-clause-same c = λ rules. rw c.in-Argument.is (goes_on (contents c.args.store.now) _ _ c.pass.result _ _ (λ d. rest rules d c.pass.new.self)
-    (one_argument rules c.args.self.now c.in-Argument.call.value.attribute (Ref c.in-Argument.call.value.node) (value_view c.args.value) (map value_view c.in-Argument.call.value.done.items) (bodies_view c.in-Argument.others.now)) (c.pass.ensures.same rules) c.pass.ensures.reads)
+returns-in-Argument-clause-same c = λ rules. rw c.in-Argument.is (goes_on (contents c.args.store.now) rules
+    c.pass.result _ _ _ _ c.pass.new.self
+    (one_argument rules c.args.self.now c.in-Argument.call.value.attribute (Ref c.in-Argument.call.value.node)
+    (value_view c.args.value) (map value_view c.in-Argument.call.value.done.items)
+    (bodies_view c.in-Argument.others.now)) c.pass.ensures.does)
+
+pub returns-in-Argument-clause-less : goal.returns-in-Argument-clause-less
+returns-in-Argument-clause-less c = rw c.in-Argument.is (lighter_by c.pass.result _ _ _ _ c.pass.new.self (omega arith)
+    c.pass.ensures.does)
 
 pub returns-in-Argument-clause-typed : goal.returns-in-Argument-clause-typed
 returns-in-Argument-clause-typed c = λ rules at over h. let h' = rw c.in-Argument.is at h in c.pass.ensures.typed rules at (contents c.args.store.now) over (argument_calls rules at c.args.self.now c.in-Argument.call c.in-Argument.others (value_view c.args.value) h')

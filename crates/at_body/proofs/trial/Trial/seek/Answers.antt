@@ -16,10 +16,10 @@ pub begin-requires-clause-formed : goal.begin-requires-clause-formed
 begin-requires-clause-formed c = c.requires.formed.typed
 
 pub begin-requires-clause-over : goal.begin-requires-clause-over
-begin-requires-clause-over c = shown_typed c.args.rules.now c.args.store.now c.requires.idle_store c.requires.formed c.requires.sound
+begin-requires-clause-over c = shown_typed c.args.rules.now c.args.store.now c.requires.idle c.requires.formed c.requires.sound
 
 pub begin-requires-clause-typed : goal.begin-requires-clause-typed
-begin-requires-clause-typed c = begins c.args.rules.now c.args.store.now c.requires.idle_store c.requires.formed c.requires.sound c.args.inst.now c.requires.typed _ _ _ (c.clear.ensures.this ∙ c.node-node.ensures) (ap (map value_view) c.clear.ensures.arguments ∙ c.in_ok-arguments.ensures) (c.class.ensures ∙ ap (λ n. contents c.args.store.now (Is n)) c.node-node.ensures) c.attribute.ensures
+begin-requires-clause-typed c = begins c.args.rules.now c.args.store.now c.requires.idle c.requires.formed c.requires.sound c.args.inst.now c.requires.typed _ _ _ (c.clear.ensures.this ∙ c.node-node.ensures) (ap (map value_view) c.clear.ensures.arguments ∙ c.in_ok-arguments.ensures) (c.class.ensures ∙ ap (λ n. contents c.args.store.now (Is n)) c.node-node.ensures) c.attribute.ensures
 
 pub returns-clause-same : goal.returns-clause-same
 returns-clause-same c = seek_same c.begin.result c.args.rules.now (contents c.args.store.now) c.args.inst.now c.look_at.new.reads _ _ c.class.result _ (λ b. follow (contents c.args.store.now) c.begin.new.self.reads (rest c.args.rules.now.classes (Enter b) c.begin.new.self))
