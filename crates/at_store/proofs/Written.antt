@@ -10,7 +10,7 @@ use Rattle.at_store.specs.declared.entry.Slot.{Slot}
 use Rattle.at_model.specs.Edits.{changed_at}
 use Rattle.at_store.specs.Memory.{Info, Kept}
 use Rattle.at_store.specs.Planting.{IsAsBefore}
-use Rattle.at_store.specs.View.{info, info_of, kept_view, stored_of, up_view}
+use Rattle.at_store.specs.View.{info, info_of, kept_view, leaves_in, marked, stored_of, up_view}
 
 pub written_same : (s : Slab Entry) (node : ℕ) (a : Entry) (cells : Vec Slot Global) → Some a ≡ get s node → map kept_view cells.items ≡ map kept_view a.cells.items →
     IsAsBefore (stored_of s) (stored_of (with_value s node (record { class = a.class; up = a.up; number = a.number; leaves = a.leaves; cells = cells })))
@@ -21,6 +21,17 @@ written_same s node a cells there same k =
     elim (cases_eq k node) [
       | inl p ↦ ap (stored_of (with_value s node new)) p ∙ ap info_of u.changed ∙ ap Some shown ∙ ap info_of there ∙ ap (stored_of s) (sym p)
       | inr q ↦ ap info_of (u.others k q)
+    ]
+
+-- and is marked as before
+pub marks_same : (s : Slab Entry) (node : ℕ) (a : Entry) (cells : Vec Slot Global) → Some a ≡ get s node → (k : ℕ) →
+    leaves_in (with_value s node (record { class = a.class; up = a.up; number = a.number; leaves = a.leaves; cells = cells })) k ≡ leaves_in s k
+marks_same s node a cells there k =
+    let new : Entry = record { class = a.class; up = a.up; number = a.number; leaves = a.leaves; cells = cells } in
+    let u = Updates-with_value s node new (ap is_some (sym there)) in
+    elim (cases_eq k node) [
+      | inl p ↦ ap (leaves_in (with_value s node new)) p ∙ ap marked u.changed ∙ ap marked there ∙ ap (leaves_in s) (sym p)
+      | inr q ↦ ap marked (u.others k q)
     ]
 
 -- a component that is written, found as slice_get or as get_or finds it

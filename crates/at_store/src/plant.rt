@@ -6,6 +6,7 @@ ghost use Rattle.at_model.specs.Trees.{Many, Tree as Numbered, class_of, to_tree
 ghost use Rattle.at_tree.specs.TreeView.{cell_view, tree_view};
 ghost use Rattle.at_store.specs.Memory.{IsCellFreed, IsFreed, Kids, with_numbers};
 ghost use Rattle.at_store.specs.Planting.{GainsCell, GainsTree, IsAdded, IsAsBefore, IsPlanted, IsPushed, IsPushedKid, StaysPlanted, holding};
+ghost use Rattle.at_store.specs.Writing.{Pushes};
 ghost use Rattle.at_store.specs.View.{MarksNoMore, form_view, kept_view, stored_of, viewed};
 
 use crate::entry::{Children, Entry, Form, Slot, small, small_index, small_place};
@@ -51,9 +52,7 @@ fn add(
     index: usize,
     parts: usize,
 ) -> Result<Node, AllocError>
-    ensures added { IfOk result (λ node. IsAdded node class (up, index) (stored_of slab.old) (stored_of slab.new)) }
-    ensures kept { OnErr result (IsAsBefore (stored_of slab.old) (stored_of slab.new)) }
-    ensures marks { MarksNoMore slab.old slab.new }
+    ensures { Pushes (IfOk result (λ node. IsAdded node class (up, index) (stored_of slab.old) (stored_of slab.new))) result slab.old slab.new }
 {
     let Some(node) = Node::of(slab.vacant_key()) else {
         return Err(AllocError)
@@ -71,9 +70,7 @@ fn add(
 
 /// One more component of a node.
 fn push_slot(slab: &mut Slab<Entry>, node: Node, slot: Slot) -> Result<(), AllocError>
-    ensures pushed { OnOk result (IsPushed node (kept_view slot) (stored_of slab.old) (stored_of slab.new)) }
-    ensures kept { OnErr result (IsAsBefore (stored_of slab.old) (stored_of slab.new)) }
-    ensures marks { MarksNoMore slab.old slab.new }
+    ensures { Pushes (OnOk result (IsPushed node (kept_view slot) (stored_of slab.old) (stored_of slab.new))) result slab.old slab.new }
 {
     if let Some(entry) = slab.get_mut(node.index()) {
         entry.cells.push(slot)?;
@@ -103,9 +100,7 @@ fn push_in_cells(cells: &mut Vec<Slot>, part: usize, kid: Node) -> Result<(), Al
 
 /// One more child in a component of a node.
 fn push_kid(slab: &mut Slab<Entry>, node: Node, part: usize, kid: Node) -> Result<(), AllocError>
-    ensures pushed { OnOk result (IsPushedKid node part kid (stored_of slab.old) (stored_of slab.new)) }
-    ensures kept { OnErr result (IsAsBefore (stored_of slab.old) (stored_of slab.new)) }
-    ensures marks { MarksNoMore slab.old slab.new }
+    ensures { Pushes (OnOk result (IsPushedKid node part kid (stored_of slab.old) (stored_of slab.new))) result slab.old slab.new }
 {
     if let Some(entry) = slab.get_mut(node.index()) {
         push_in_cells(&mut entry.cells, part, kid)?;
@@ -121,9 +116,7 @@ fn push_filled(
     form: Form,
     kid: Node,
 ) -> Result<(), AllocError>
-    ensures pushed { OnOk result (IsPushed node (Kids (form_view form) (kid ∷ [])) (stored_of slab.old) (stored_of slab.new)) }
-    ensures kept { OnErr result (IsAsBefore (stored_of slab.old) (stored_of slab.new)) }
-    ensures marks { MarksNoMore slab.old slab.new }
+    ensures { Pushes (OnOk result (IsPushed node (Kids (form_view form) (kid ∷ [])) (stored_of slab.old) (stored_of slab.new))) result slab.old slab.new }
 {
     let mut kids = Children::new(alloc);
     kids.push(kid)?;

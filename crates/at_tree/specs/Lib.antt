@@ -15,6 +15,7 @@ pub mod PlainNames
 pub mod Laws
 pub mod TreeView
 pub mod Separated
+pub mod Appending
 pub mod Fronts
 pub mod TermFronts
 pub mod Shape

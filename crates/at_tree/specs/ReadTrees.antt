@@ -1,8 +1,8 @@
 -- Which tree a text is written of.
-use Rattle.std.specs.Prelude.{◌≡◌, ℕ, List, Result, Ok, Err, ⊤}
+use Rattle.std.specs.Prelude.{◌≡◌, ℕ, IfErr, IfOk, List, Result, Ok, Err, true, ⊤}
 use Rattle.at_model.specs.Classes.{Classes}
-use Rattle.at_model.specs.Terms.{Term, IsTerm, term_text}
-use Rattle.at_model.specs.Trees.{Tree}
+use Rattle.at_model.specs.Terms.{Term, IsTerm, term_of, term_text, tree_text}
+use Rattle.at_model.specs.Trees.{Tree, conforms}
 use Rattle.at_tree.specs.Shape.{IsShaped, IsMisshaped}
 use Rattle.at_tree.specs.Stops.{IsTermText, StopsAt}
 use Rattle.at_tree.specs.TreeView.{tree_view}
@@ -33,6 +33,13 @@ IsUnread classes text b Memory = ⊤
 abbrev pub ReadsTree : Result TreeValue ReadFault → Tree → Type 0
 ReadsTree (Ok t) u = tree_view t ≡ u
 ReadsTree (Err e) u = e ≡ Memory
+
+-- What a reader of trees says of a text: what is read is the tree that it is written of; else there is no term, or no tree of it; and a
+-- tree that is written as the text is the one that is read, unless memory runs out.
+pub record ReadsTrees (classes : Classes) (text : List ℕ) (under : ℕ) (result : Result TreeValue ReadFault) : Type 0 where
+  pub found : IfOk result (λ t. IsReadAs classes text under (tree_view t))
+  pub refused : IfErr result (IsUnread classes text under)
+  pub again : (u : Tree) → conforms classes u under ≡ true → IsTerm (term_of classes u) → tree_text classes u ≡ text → ReadsTree result u
 
 -- what a fault of a term, and of its shape, is called of a tree's text
 abbrev pub of_term : TermFault → ReadFault

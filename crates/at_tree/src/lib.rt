@@ -4,7 +4,7 @@
 //! `Reads`, `ReadTrees` and `Shape` what the readers and `shape` answer; `Laws` and `TreeLaws` what is promised of
 //! texts. `Partial`, `PartialPath`, `Gives`, `Leads`, `Stops` and `Finishes` are the readers by characters,
 //! `Fronts`, `TermFronts`, `Runs` and `PlainNames` those that take whole names, cells and steps; `Seen`, `PathSeen` and
-//! `Separated` say what their values stand for.
+//! `Separated` say what their values stand for, `Appending` what a writer adds to an output.
 //!
 //! **Where to begin:** `term.rt` and `tree.rt`. A file is read in one pass, straight to its tree, and read again by
 //! characters where that fails, to tell the first fault; so are a path and a term in a line.

@@ -1,6 +1,7 @@
 //! Paths to nodes: as they are written, by the names of components.
-ghost use Rattle.std.specs.Prelude.{◌≡◌, ◌≤◌, ◌++◌, IfOk, OnOk, OnErr, take, length, vec_capacity};
+ghost use Rattle.std.specs.Prelude.{◌≡◌, ◌≤◌, ◌++◌, OnOk, OnErr, vec_capacity};
 ghost use Rattle.at_model.specs.Paths.{IsPath, path_text, step_text};
+ghost use Rattle.at_tree.specs.Appending.{Appends};
 ghost use Rattle.at_tree.specs.PathView.{path_view, step_view};
 
 use at_text::decimal::write_int;
@@ -55,8 +56,7 @@ pub use read::read_path;
 
 /// Appends a step's text. Where memory is wanting, it may have appended a part of it.
 fn write_step(step: &Step<'_>, out: &mut Vec<u8>) -> Result<(), AllocError>
-    ensures ok { OnOk result (out.new.items ≡ out.old.items ++ step_text (step_view step.now)) }
-    ensures err { OnErr result (take (length out.old.items) out.new.items ≡ out.old.items) }
+    ensures text { Appends (step_text (step_view step.now)) result out.old.items out.new.items }
     ensures grows { vec_capacity out.old ≤ vec_capacity out.new }
 {
     out.push(b'/')?;
@@ -70,8 +70,7 @@ fn write_step(step: &Step<'_>, out: &mut Vec<u8>) -> Result<(), AllocError>
 
 /// Appends a path's text. Where memory is wanting, it may have appended a part of it.
 fn write_steps(path: &Path<'_>, out: &mut Vec<u8>) -> Result<(), AllocError>
-    ensures ok { OnOk result (out.new.items ≡ out.old.items ++ path_text (path_view path.now)) }
-    ensures err { OnErr result (take (length out.old.items) out.new.items ≡ out.old.items) }
+    ensures text { Appends (path_text (path_view path.now)) result out.old.items out.new.items }
     ensures grows { vec_capacity out.old ≤ vec_capacity out.new }
 {
     if path.steps.is_empty() {

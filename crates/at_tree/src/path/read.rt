@@ -5,7 +5,7 @@ ghost use Rattle.at_tree.specs.PathView.{path_view, steps_view, step_view};
 ghost use Rattle.at_tree.specs.PartialPath.{InPart, whole_at, whole_path};
 ghost use Rattle.at_tree.specs.PathSeen.{partial_view};
 ghost use Rattle.at_tree.specs.Stops.{IsPathText};
-ghost use Rattle.at_tree.specs.Reads.{Reads, StopsWith};
+ghost use Rattle.at_tree.specs.Reads.{Reads, StopsWith, ReadsText};
 ghost use Rattle.at_tree.specs.Finishes.{Finishes};
 
 use super::direct::whole_path;
@@ -80,9 +80,7 @@ pub fn read_path<'a>(alloc: Global, text: &'a str) -> Result<Path<'a>, TermFault
 
 /// The same for any text, character by character, which shows where it stops.
 fn read_by_characters<'a>(alloc: Global, text: &'a str) -> Result<Path<'a>, TermFault>
-    ensures found { IfOk result (λ p. IsPath (path_view p) × (path_text (path_view p) ≡ text.now)) }
-    ensures only { (p : Steps) → IsPath p → path_text p ≡ text.now → Reads path_view result p }
-    ensures fault { IfErr result (StopsWith IsPathText text.now) }
+    ensures { ReadsText path_view IsPath path_text IsPathText text.now result }
 {
     let mut steps = Vec::new(alloc);
     let mut place = Place::Start;

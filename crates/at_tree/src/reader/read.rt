@@ -5,7 +5,7 @@ ghost use Rattle.at_tree.specs.View.{term_view};
 ghost use Rattle.at_tree.specs.Partial.{whole_term};
 ghost use Rattle.at_tree.specs.Seen.{partial_view};
 ghost use Rattle.at_tree.specs.Stops.{IsTermText};
-ghost use Rattle.at_tree.specs.Reads.{Reads, StopsWith};
+ghost use Rattle.at_tree.specs.Reads.{Reads, StopsWith, ReadsText};
 ghost use Rattle.at_tree.specs.Finishes.{Finishes};
 
 use super::advance::advance;
@@ -55,9 +55,7 @@ pub fn read_term(alloc: Global, text: &str) -> Result<Term, TermFault>
 
 /// The same for any text, character by character, which shows where it stops.
 fn read_by_characters(alloc: Global, text: &str) -> Result<Term, TermFault>
-    ensures found { IfOk result (λ t. IsTerm (term_view t) × (term_text (term_view t) ≡ text.now)) }
-    ensures only { (t : Words) → IsTerm t → term_text t ≡ text.now → Reads term_view result t }
-    ensures fault { IfErr result (StopsWith IsTermText text.now) }
+    ensures { ReadsText term_view IsTerm term_text IsTermText text.now result }
 {
     let mut partial = Partial {
         levels: Vec::new(alloc),

@@ -3,7 +3,7 @@ ghost use Rattle.std.specs.Prelude.{◌≡◌, IfOk, IfErr, true};
 ghost use Rattle.at_model.specs.Terms.{IsTerm, term_of, tree_text};
 ghost use Rattle.at_model.specs.Trees.{Tree as Nodes, conforms};
 ghost use Rattle.at_tree.specs.TreeView.{tree_view};
-ghost use Rattle.at_tree.specs.ReadTrees.{IsReadAs, IsUnread, ReadsTree};
+ghost use Rattle.at_tree.specs.ReadTrees.{IsReadAs, IsUnread, ReadsTree, ReadsTrees};
 
 use super::Tree;
 use super::direct::whole_tree;
@@ -91,10 +91,7 @@ fn read_by_term(
     text: &str,
     under: ClassId,
 ) -> Result<Tree, ReadFault>
-    ensures found { IfOk result (λ t. IsReadAs classes.now text.now under (tree_view t)) }
-    ensures refused { IfErr result (IsUnread classes.now text.now under) }
-    ensures again { (u : Nodes) → conforms classes.now u under ≡ true → IsTerm (term_of classes.now u) → tree_text classes.now u ≡ text.now
-        → ReadsTree result u }
+    ensures { ReadsTrees classes.now text.now under result }
 {
     let term = read_term(alloc, text)?;
     Ok(shape(alloc, classes, &term, under)?)

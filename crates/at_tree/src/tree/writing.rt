@@ -1,7 +1,8 @@
-ghost use Rattle.std.specs.Prelude.{◌≡◌, [], ◌∷◌, ◌++◌, OnOk, OnErr, length, take, map};
+ghost use Rattle.std.specs.Prelude.{◌≡◌, [], ◌∷◌, ◌++◌, OnOk, OnErr, map};
 ghost use Rattle.at_model.specs.Classes.{name_of};
 ghost use Rattle.at_model.specs.Terms.{tree_text, cell_text, cell_of, token_text};
 ghost use Rattle.at_model.specs.Trees.{Many, to_trees};
+ghost use Rattle.at_tree.specs.Appending.{Appends};
 ghost use Rattle.at_tree.specs.Token.{token_view};
 ghost use Rattle.at_tree.specs.TreeView.{tree_view, cell_view};
 ghost use Rattle.at_tree.specs.Separated.{separator};
@@ -38,8 +39,7 @@ fn name_or_none(classes: &ClassTable, class: ClassId) -> &str
 
 /// Appends a comma before each element but the first. Where memory is wanting, nothing is.
 pub fn separate(i: usize, out: &mut Vec<u8>) -> Result<(), AllocError>
-    ensures ok { OnOk result (out.new.items ≡ out.old.items ++ separator i) }
-    ensures err { OnErr result (take (length out.old.items) out.new.items ≡ out.old.items) }
+    ensures { Appends (separator i) result out.old.items out.new.items }
 {
     if i == 0 {
         return Ok(());
@@ -50,8 +50,7 @@ pub fn separate(i: usize, out: &mut Vec<u8>) -> Result<(), AllocError>
 /// Appends a class's name, none where its number is none of the table's, and a parenthesis. Where memory is wanting, a part may
 /// be appended.
 pub fn open(classes: &ClassTable, class: ClassId, out: &mut Vec<u8>) -> Result<(), AllocError>
-    ensures ok { OnOk result (out.new.items ≡ out.old.items ++ (name_of classes.now class ++ 40 ∷ [])) }
-    ensures err { OnErr result (take (length out.old.items) out.new.items ≡ out.old.items) }
+    ensures { Appends (name_of classes.now class ++ 40 ∷ []) result out.old.items out.new.items }
 {
     out.extend_from_slice(name_or_none(classes, class).as_bytes())?;
     Ok(out.push(b'(')?)
@@ -59,8 +58,7 @@ pub fn open(classes: &ClassTable, class: ClassId, out: &mut Vec<u8>) -> Result<(
 
 /// Appends the text of the value. Where memory is wanting, a part may be appended.
 pub fn append_value(value: &TokVal, out: &mut Vec<u8>) -> Result<(), AllocError>
-    ensures ok { OnOk result (out.new.items ≡ out.old.items ++ token_text (token_view value.now)) }
-    ensures err { OnErr result (take (length out.old.items) out.new.items ≡ out.old.items) }
+    ensures { Appends (token_text (token_view value.now)) result out.old.items out.new.items }
 {
     match value {
         TokVal::Str(text) => write_quoted(text.as_str(), out),
@@ -74,8 +72,7 @@ pub fn append_value(value: &TokVal, out: &mut Vec<u8>) -> Result<(), AllocError>
 // Appends the text. Where memory is wanting, it may have appended a part of it.
 #[cycle(append)]
 fn append_tree(classes: &ClassTable, tree: &Tree, out: &mut Vec<u8>) -> Result<(), AllocError>
-    ensures ok { OnOk result (out.new.items ≡ out.old.items ++ tree_text classes.now (tree_view tree.now)) }
-    ensures err { OnErr result (take (length out.old.items) out.new.items ≡ out.old.items) }
+    ensures { Appends (tree_text classes.now (tree_view tree.now)) result out.old.items out.new.items }
 {
     open(classes, tree.class, out)?;
     for (i, cell) in tree.cells.iter().enumerate() {
@@ -87,8 +84,7 @@ fn append_tree(classes: &ClassTable, tree: &Tree, out: &mut Vec<u8>) -> Result<(
 
 #[cycle(append)]
 fn append_cell(classes: &ClassTable, cell: &Cell, out: &mut Vec<u8>) -> Result<(), AllocError>
-    ensures ok { OnOk result (out.new.items ≡ out.old.items ++ cell_text (cell_of classes.now (cell_view cell.now))) }
-    ensures err { OnErr result (take (length out.old.items) out.new.items ≡ out.old.items) }
+    ensures { Appends (cell_text (cell_of classes.now (cell_view cell.now))) result out.old.items out.new.items }
 {
     match cell {
         Cell::One(tree) => append_tree(classes, tree, out),
@@ -101,8 +97,7 @@ fn append_cell(classes: &ClassTable, cell: &Cell, out: &mut Vec<u8>) -> Result<(
 
 #[cycle(append)]
 fn append_list(classes: &ClassTable, trees: &[Tree], out: &mut Vec<u8>) -> Result<(), AllocError>
-    ensures ok { OnOk result (out.new.items ≡ out.old.items ++ cell_text (cell_of classes.now (Many (to_trees (map tree_view trees.now))))) }
-    ensures err { OnErr result (take (length out.old.items) out.new.items ≡ out.old.items) }
+    ensures { Appends (cell_text (cell_of classes.now (Many (to_trees (map tree_view trees.now))))) result out.old.items out.new.items }
 {
     out.push(b'[')?;
     for (i, tree) in trees.iter().enumerate() {

@@ -3,5 +3,9 @@ use Rattle.at_store.specs.Memory.{with_index}
 use Rattle.at_store.proofs.of_edits.Alike.{indexed_index}
 use Rattle.at_store.proofs.changes.number_kid.Goals as goal
 
-pub returns-in-Some-clause-alike : goal.returns-in-Some-clause-alike
-returns-in-Some-clause-alike c = λ k. sym (ap (with_index 0) (c.write_number.ensures.written k) ∙ indexed_index c.in-Some.kid _ k _)
+pub returns-in-Some : goal.returns-in-Some
+returns-in-Some c = record {
+  written = λ k. sym (ap (with_index 0) (c.write_number.ensures.written k) ∙ indexed_index c.in-Some.kid _ k _);
+  marks = c.write_number.ensures.marks;
+  slots = c.write_number.ensures.slots;
+}

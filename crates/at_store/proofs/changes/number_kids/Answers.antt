@@ -5,7 +5,7 @@ pub loop-index-preserved : goal.loop-index-preserved
 loop-index-preserved c =
     let inv = c.loop-index.invariant in
     record {
-      alike = λ k. inv.alike k ∙ c.number_kid.ensures.alike k;
+      alike = λ k. inv.alike k ∙ c.number_kid.ensures.written k;
       marks = λ k. c.number_kid.ensures.marks k ∙ inv.marks k;
       slots = λ k. c.number_kid.ensures.slots k ∙ inv.slots k;
     }

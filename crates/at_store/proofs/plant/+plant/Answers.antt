@@ -44,7 +44,7 @@ plant-loop-part-init t c =
     record {
       len = ap into_iter_len same ∙ c.into_iter.ensures.len ∙ (out-Tree c.args.tree).cells.ok.0 ∙ ap length (sym all);
       has = subst (λ xs. HasFirstCells c.in_ok-node.node (out-Tree c.args.tree).class (c.args.up, c.args.index) (map cell_view (out-Tree c.args.tree).cells.items) (map cell_view xs) (enumerate_count c.into_iter-part-iterator.result) (stored_of c.args.slab.now) (stored_of c.add.new.slab)) (sym all)
-          (cells_begun c.in_ok-node.node (out-Tree c.args.tree).class (c.args.up, c.args.index) (map cell_view (out-Tree c.args.tree).cells.items) (enumerate_count c.into_iter-part-iterator.result) (stored_of c.args.slab.now) (stored_of c.add.new.slab) (ap enumerate_count it ∙ c.enumerate-part-items.ensures.count) c.in_ok-node.ensures.added);
+          (cells_begun c.in_ok-node.node (out-Tree c.args.tree).class (c.args.up, c.args.index) (map cell_view (out-Tree c.args.tree).cells.items) (enumerate_count c.into_iter-part-iterator.result) (stored_of c.args.slab.now) (stored_of c.add.new.slab) (ap enumerate_count it ∙ c.enumerate-part-items.ensures.count) c.in_ok-node.ensures.pushed);
       marks = c.add.ensures.marks;
     }
 

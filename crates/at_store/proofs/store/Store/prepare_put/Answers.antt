@@ -1,4 +1,4 @@
-use Rattle.std.proofs.Common.{ℕ, refl, subst}
+use Rattle.std.proofs.Common.{rules, ℕ, refl, subst}
 use Rattle.at_tree.specs.TreeView.{tree_view}
 use Rattle.at_store.specs.Checking.{Prepares}
 use Rattle.at_store.specs.declared.edit.Edit.TheVariants as asked
@@ -7,18 +7,23 @@ use Rattle.at_store.proofs.of_edits.Checked.{brings, put_prepared}
 use Rattle.at_store.proofs.of_planting.Gains.{at_err}
 use Rattle.at_store.proofs.store.Store.prepare_put.Goals as goal
 
-pub returns-clause-prepared : goal.returns-clause-prepared
-returns-clause-prepared c =
+pub returns : goal.returns
+returns c =
     let old = c.args.self.now in
     let new = c.bring_child.new.self in
     let root = c.in_ok-new.new in
     let (planted, waits, (root_stays, leaving, limit)) = c.in_ok-new.ensures.brought in
     let part = c.in_ok-part.part in
-    subst (λ (p : ℕ). Prepares old (asked.Put c.args.node p c.args.tree) new (plan.Put c.args.node part root)) c.in_ok-part.ensures
-    (put_prepared old new c.args.node part root c.args.tree (brings old new (tree_view c.args.tree) root c.in_ok-new.ensures.brought) leaving c.bring_child.ensures.marks c.in_ok-new.ensures.room)
+    record {
+      kept = search rules;
+      marks = search rules;
+      prepared = subst (λ (p : ℕ). Prepares old (asked.Put c.args.node p c.args.tree) new (plan.Put c.args.node part root)) c.in_ok-part.ensures
+          (put_prepared old new c.args.node part root c.args.tree (brings old new (tree_view c.args.tree) root c.in_ok-new.ensures.brought) leaving c.bring_child.ensures.marks c.in_ok-new.ensures.room);
+    }
 
-pub returns-in_err-part-clause-kept : goal.returns-in_err-part-clause-kept
-returns-in_err-part-clause-kept c = at_err c.from_residual.result (λ none. ((λ k. refl), refl, (refl, refl, refl)))
-
-pub returns-in_err-part-clause-marks : goal.returns-in_err-part-clause-marks
-returns-in_err-part-clause-marks c = at_err c.from_residual.result (λ k e. e)
+pub returns-in_err-part : goal.returns-in_err-part
+returns-in_err-part c = record {
+  prepared = search rules;
+  kept = at_err c.from_residual.result (λ none. ((λ k. refl), refl, (refl, refl, refl)));
+  marks = at_err c.from_residual.result (λ k e. e);
+}

@@ -26,22 +26,19 @@ refused c =
     stops_before path_machine c.args.text.now (length c.args.text.now - length c.loop-rest.rest.now) c.loop-rest.rest.now (partial_view c.loop-rest.steps.items c.loop-rest.place) c.loop-rest.invariant refl
     (c.in-Err-For.ensures.refused (c.in-Err-For.field-0-is ∙ ap (λ m. For m) (one_form _)))
 
-pub returns-in-Err-For-clause-only : goal.returns-in-Err-For-clause-only
-returns-in-Err-For-clause-only c = λ v fits is. absurd (no_value path_machine _ _ c.utf8.text (refused c) (v, fits, is))
-
-pub returns-in-Err-For-clause-fault : goal.returns-in-Err-For-clause-fault
-returns-in-Err-For-clause-fault c = refused c
+pub returns-in-Err-For : goal.returns-in-Err-For
+returns-in-Err-For c = record {
+  found = search rules;
+  only = λ v fits is. absurd (no_value path_machine _ _ c.utf8.text (refused c) (v, fits, is));
+  fault = refused c;
+}
 
 none : (c : goal.After-finish) → length c.loop-rest.rest.now ≡ 0
 none c = search rules
 
-pub returns-clause-found : goal.returns-clause-found
-returns-clause-found c = found path_machine path_view _ _ _ _ _ _ c.loop-rest.invariant.1 (none c) c.finish.ensures
-
-pub returns-clause-only : goal.returns-clause-only
-returns-clause-only c =
+pub returns : goal.returns
+returns c =
     let r = c.loop-rest.invariant.1 in
-    only path_machine path_view _ _ c.utf8.text (found path_machine path_view _ _ _ _ _ _ r (none c) c.finish.ensures) (fault path_machine path_view _ _ _ _ _ r (none c) c.finish.ensures)
-
-pub returns-clause-fault : goal.returns-clause-fault
-returns-clause-fault c = fault path_machine path_view _ _ _ _ _ c.loop-rest.invariant.1 (none c) c.finish.ensures
+    let is = found path_machine path_view _ _ _ _ _ _ r (none c) c.finish.ensures in
+    let stops = fault path_machine path_view _ _ _ _ _ r (none c) c.finish.ensures in
+    record { found = is; only = only path_machine path_view _ _ c.utf8.text is stops; fault = stops }
