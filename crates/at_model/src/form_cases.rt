@@ -6,6 +6,7 @@ ghost use Rattle.at_model.specs.Run.{
   Int,
   Is,
   Long,
+  Needs,
   Null,
   Ref,
   Slot,
@@ -65,6 +66,8 @@ ghost use Rattle.at_model.specs.Samples.{
   init_of,
   left_of,
   looked,
+  of_node,
+  of_node_with,
   one_by_zero,
   printed,
   right_of,
@@ -212,4 +215,17 @@ pub fn what_inner_folds_read()
         ≡ Slot block 0 ∷ Slot block 0 ∷ Is (statement 0) ∷ Is (statement 0) ∷ Slot block 0 ∷ Is (statement 0) ∷ Is (statement 1) ∷ [] }
     ensures sum { looked calc_tree block (Sum This 0 (Choose (InstanceOf (Name 0) 3) (TokenOf (Child (Name 0) 1) 0) (Count This 0)))
         ≡ Slot block 0 ∷ Is (statement 0) ∷ Slot (statement 0) 1 ∷ Tok (init_of 0) 0 ∷ Is (statement 1) ∷ Slot block 0 ∷ [] }
+{}
+
+/// Where nothing is known the first demand ends a try: that of the left operand, of the receiver, of an argument, of a fold's first
+/// element; a left operand that is known lets the right one come.
+pub fn what_is_demanded_first()
+    ensures left { evaluated tree_of_ones (printed 1) (Arithmetic Add (Call (Child This 0) 5 no_exprs) (Call (Child This 1) 5 no_exprs))
+        ≡ Needs (of_node (left_of 1) 5) }
+    ensures right { evaluated tree_of_ones (printed 1) (Arithmetic Add (IntLiteral (pos 1)) (Call (Child This 1) 5 no_exprs))
+        ≡ Needs (of_node (right_of 1) 5) }
+    ensures receiver { evaluated calc_tree (left_of 1) (Call (Call This 4 no_exprs) 6 no_exprs) ≡ Needs (of_node (left_of 1) 4) }
+    ensures argument { evaluated calc_tree (left_of 1) (Call This 0 (expr (Call This 4 no_exprs) no_exprs)) ≡ Needs (of_node (left_of 1) 4) }
+    ensures element { evaluated calc_tree block (Exists This 0 (Call (Name 0) 3 (expr (TextLiteral (codes "q")) no_exprs)))
+        ≡ Needs (of_node_with (statement 0) 3 (codes "q")) }
 {}
