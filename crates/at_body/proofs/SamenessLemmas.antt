@@ -1,16 +1,17 @@
 -- Instances in the code's words and in the model's.
 use Rattle.std.proofs.Common.{◌≡◌, ℕ, Bool, true, false, not, List, [], ◌∷◌, ◌++◌, map, length, suc, nat_eq, ◌==◌, ap, ◌∙◌, refl, sym}
 use Rattle.std.proofs.Common.{arith, eq-eqb, true≢false}
-use Rattle.std.proofs.lemmas.Bool.{eqb-true}
+use Rattle.std.proofs.lemmas.Bool.{and_parts, eqb-true}
 use Rattle.std.specs.List.{fold, flat_map}
 use Rattle.std.specs.Hash.{fed_then}
 use Rattle.std.specs.Hash as fed
-use Rattle.std.specs.Cmp.Lexicographic.{pointwise}
+use Rattle.std.specs.Cmp.Lexicographic.{pointwise, pointwise_decides}
 use Rattle.std.specs.Cmp.Derive.Mapped.{pointwise-map}
-use Rattle.at_model.specs.Run.{Instance}
+use Rattle.at_model.specs.Run.{Instance, Value}
 use Rattle.at_body.specs.declared.value.Value.{Value as ValueCode}
 use Rattle.at_body.specs.Values.{value_view}
 use Rattle.at_body.specs.Same.{same_value, same_instance, value_writes, place_number, arguments_writes, instance_writes}
+use Rattle.at_body.specs.Sameness.{values_decided}
 
 not_off : (b : Bool) → false ≡ not b → b ≡ true
 not_off true e = refl
@@ -19,6 +20,18 @@ not_off false e = e
 pub same_rest : (i j : Instance ℕ) (xs ys : List ValueCode) (r : Bool) → false ≡ not (nat_eq i.node j.node) → false ≡ not (nat_eq i.attribute j.attribute) → i.arguments ≡ map value_view xs → j.arguments ≡ map value_view ys →
     r ≡ pointwise (λ v w. same_value (value_view v) (value_view w)) xs ys → r ≡ same_instance i j
 same_rest i j xs ys r e f g h is = rw (not_off _ e, not_off _ f, g, h) (is ∙ sym (pointwise-map value_view same_value xs ys))
+
+abbrev instance : ℕ → ℕ → List (Value ℕ) → Instance ℕ
+instance n a vs = record { node = n; attribute = a; arguments = vs }
+
+-- instances that the test finds the same are equal
+pub same_true : (i j : Instance ℕ) → same_instance i j ≡ true → i ≡ j
+same_true i j e =
+    let b = and_parts _ _ e in
+    let c = and_parts _ _ b.1 in
+    ap (λ n. instance n i.attribute i.arguments) (eqb-true i.node j.node b.0)
+    ∙ ap (λ a. instance j.node a i.arguments) (eqb-true i.attribute j.attribute c.0)
+    ∙ ap (λ vs. instance j.node j.attribute vs) ((pointwise_decides values_decided i.arguments j.arguments).0 c.1)
 
 flat : (xs : List ValueCode) → flat_map (λ v. value_writes (value_view v)) xs ≡ flat_map value_writes (map value_view xs)
 flat [] = refl

@@ -8,7 +8,6 @@ pub mod Flushed
 pub mod Goes
 pub mod HeldSlots
 pub mod InTheWay
-pub mod Instances
 pub mod LeftHeld
 pub mod Lifting
 pub mod Losing

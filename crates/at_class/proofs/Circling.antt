@@ -38,7 +38,9 @@ leads_join classes from mid to (x ∷ xs) ys l m = (l.0, leads_join classes (par
 abbrev Rest : Classes → ℕ → Option ℕ → List ℕ → Type 0
 Rest classes x to way = (b : List ℕ) × Leads classes (Some x) (x ∷ b) to × (length (x ∷ b) ≤ length way)
 
-rest_by : (classes : Classes) (from to : Option ℕ) (y : ℕ) (ys : List ℕ) (x : ℕ) → Leads classes from (y ∷ ys) to → (list_any (nat_eq x) ys ≡ true → Rest classes x to ys) → (s : Bool) → nat_eq x y ≡ s → (s || list_any (nat_eq x) ys) ≡ true → Rest classes x to (y ∷ ys)
+rest_by : (classes : Classes) (from to : Option ℕ) (y : ℕ) (ys : List ℕ) (x : ℕ) → Leads classes from (y ∷ ys) to
+    → (list_any (nat_eq x) ys ≡ true → Rest classes x to ys) → (s : Bool) → nat_eq x y ≡ s
+    → (s || list_any (nat_eq x) ys) ≡ true → Rest classes x to (y ∷ ys)
 rest_by classes from to y ys x l more true f e = subst (λ z. Rest classes z to (y ∷ ys)) (sym (eqb-true x y f)) (ys, (refl, l.1), omega arith)
 rest_by classes from to y ys x l more false f e = let r = more e in (r.0, r.1, omega (arith, r.2))
 
@@ -55,7 +57,8 @@ reached classes from (x ∷ xs) c (suc k) l less =
 
 -- all classes on a circle, and so all above them, are above themselves
 circle : (classes : Classes) (x : ℕ) (cs : List ℕ) → Leads classes (Some x) (x ∷ cs) (Some x) → length (x ∷ cs) ≤ length classes
-    → (m : ℕ) (a b : List ℕ) (mid : Option ℕ) → Leads classes (Some x) a mid → Leads classes mid b (Some x) → length a + length b ≤ length classes → list_all (is_above_itself classes) (chain_within m classes mid) ≡ true
+    → (m : ℕ) (a b : List ℕ) (mid : Option ℕ) → Leads classes (Some x) a mid → Leads classes mid b (Some x)
+        → length a + length b ≤ length classes → list_all (is_above_itself classes) (chain_within m classes mid) ≡ true
 circle classes x cs whole most zero a b mid l r le = refl
 circle classes x cs whole most (suc m) a [] mid l r le =
     ap (λ o. list_all (is_above_itself classes) (chain_within (suc m) classes o)) r
@@ -76,7 +79,8 @@ not_above classes in_it closed c out zero from starts = refl
 not_above classes in_it closed c out (suc m) None starts = refl
 not_above classes in_it closed c out (suc m) (Some b) starts = by (nat_eq c b) refl (not_above classes in_it closed c out m (parent_of classes b) (λ d f. closed b d (starts b refl) f))
   where
-    by : (s : Bool) → nat_eq c b ≡ s → list_any (nat_eq c) (chain_within m classes (parent_of classes b)) ≡ false → (nat_eq c b || list_any (nat_eq c) (chain_within m classes (parent_of classes b))) ≡ false
+    by : (s : Bool) → nat_eq c b ≡ s → list_any (nat_eq c) (chain_within m classes (parent_of classes b)) ≡ false
+        → (nat_eq c b || list_any (nat_eq c) (chain_within m classes (parent_of classes b))) ≡ false
     by true e more = no_way (sym (sym (ap in_it (eqb-true c b e) ∙ starts b refl) ∙ out))
     by false e more = ap (λ s. s || list_any (nat_eq c) (chain_within m classes (parent_of classes b))) e ∙ more
 
@@ -122,7 +126,8 @@ left-most test (m ∷ ms) = by (test m) refl (left-most test ms)
     by false e more = rw e (omega (arith, more))
 
 -- one class less is left
-pub one_less : (test : Mark → Bool) (marks after : List Mark) (d : ℕ) (v : Mark) → d < length marks → test (mark_at marks d) ≡ false → test v ≡ true → after ≡ set marks d v → left_by test after < left_by test marks
+pub one_less : (test : Mark → Bool) (marks after : List Mark) (d : ℕ) (v : Mark) → d < length marks
+    → test (mark_at marks d) ≡ false → test v ≡ true → after ≡ set marks d v → left_by test after < left_by test marks
 one_less test marks after d v less out now same = subst (λ ms. left_by test ms < left_by test marks) (sym same) (omega (arith, left-set test marks d v less out now))
 
 -- what is marked ------------------------------------------------------------------------------------------------------
@@ -164,7 +169,8 @@ nothing_known classes marks e = subst (λ ms. IsMarked classes ms []) (sym e) (r
     none-some f = cc
 
 -- one mark more keeps what is settled, and what is met
-keeps : (test : Mark → Bool) (marks : List Mark) (d : ℕ) (v : Mark) (c : ℕ) → d < length marks → (test (mark_at marks d) ≡ true → test v ≡ true) → test (mark_at marks c) ≡ true → test (mark_at (set marks d v) c) ≡ true
+keeps : (test : Mark → Bool) (marks : List Mark) (d : ℕ) (v : Mark) (c : ℕ) → d < length marks → (test (mark_at marks d)
+    ≡ true → test v ≡ true) → test (mark_at marks c) ≡ true → test (mark_at (set marks d v) c) ≡ true
 keeps test marks d v c less now e = by (nat_eq c d) refl
   where
     by : (s : Bool) → nat_eq c d ≡ s → test (mark_at (set marks d v) c) ≡ true
@@ -218,7 +224,8 @@ marked_on classes marks way d m new = record {
         wider false true x y e g = e
         wider false false x y e g = no_way g
 
-pub climb_on : (classes : Classes) (from : ℕ) (marks after : List Mark) (way longer : List ℕ) (d : ℕ) (next on : Option ℕ) → Climbing classes from marks way next → next ≡ Some d → is_met (mark_at marks d) ≡ false
+pub climb_on : (classes : Classes) (from : ℕ) (marks after : List Mark) (way longer : List ℕ) (d : ℕ)
+    (next on : Option ℕ) → Climbing classes from marks way next → next ≡ Some d → is_met (mark_at marks d) ≡ false
     → after ≡ set marks d OnWay → longer ≡ way ++ d ∷ [] → on ≡ parent_of classes d → Climbing classes from after longer on
 climb_on classes from marks after way longer d next on k is new same more up =
     subst (λ ms. Climbing classes from ms longer on) (sym same)
@@ -241,7 +248,9 @@ climb_on classes from marks after way longer d next on k is new same more up =
     begun (inl e) = let here : from ≡ d = same_Some (sym e ∙ is) in ap (λ z. is_met (mark_at (set marks d OnWay) z)) here ∙ ap is_met (mark_here marks d OnWay less)
     begun (inr e) = keeps is_met marks d OnWay from less (λ _. refl) e
 
-pub climb_meets : (classes : Classes) (from : ℕ) (marks : List Mark) (way : List ℕ) (d : ℕ) (next : Option ℕ) → Climbing classes from marks way next → next ≡ Some d → is_met (mark_at marks d) ≡ true → Climbed classes from marks way (Some d)
+pub climb_meets : (classes : Classes) (from : ℕ) (marks : List Mark) (way : List ℕ) (d : ℕ) (next : Option ℕ)
+    → Climbing classes from marks way next → next ≡ Some d → is_met (mark_at marks d) ≡ true
+    → Climbed classes from marks way (Some d)
 climb_meets classes from marks way d next k is there = record {
   marked = k.marked;
   leads = subst (Leads classes (Some from) way) is k.leads;
@@ -284,13 +293,16 @@ round_begins classes from marks way end k = record {
   begun = k.begun;
 }
   where
-    by : (b : ℕ) → end ≡ Some b → (is_settled (mark_at marks b) ≡ true) ⊎ (list_any (nat_eq b) way ≡ true) → (is_settled (mark_at marks b) ≡ true) ⊎ ((m : ℕ) → list_all (is_above_itself classes) (chain_within m classes (Some b)) ≡ true)
+    by : (b : ℕ) → end ≡ Some b → (is_settled (mark_at marks b) ≡ true) ⊎ (list_any (nat_eq b) way ≡ true)
+        → (is_settled (mark_at marks b) ≡ true) ⊎
+        ((m : ℕ) → list_all (is_above_itself classes) (chain_within m classes (Some b)) ≡ true)
     by b e (inl h) = inl h
     by b e (inr h) =
         let r = rest classes (Some from) (Some b) way b (subst (Leads classes (Some from) way) e k.leads) h in
         inr (λ m. circle classes b r.0 r.1 (omega (arith, r.2, k.room)) m [] (b ∷ r.0) (Some b) refl r.1 (omega (arith, r.2, k.room)))
 
-pub round_on : (classes : Classes) (from : ℕ) (marks after : List Mark) (way : List ℕ) (end next : Option ℕ) (d : ℕ) (on : Option ℕ) → GoingRound classes from marks way end next → next ≡ Some d → is_settled (mark_at marks d) ≡ false
+pub round_on : (classes : Classes) (from : ℕ) (marks after : List Mark) (way : List ℕ) (end next : Option ℕ) (d : ℕ)
+    (on : Option ℕ) → GoingRound classes from marks way end next → next ≡ Some d → is_settled (mark_at marks d) ≡ false
     → after ≡ set marks d Circular → on ≡ parent_of classes d → GoingRound classes from after way end on
 round_on classes from marks after way end next d on k is new same up =
     subst (λ ms. GoingRound classes from ms way end on) (sym same) (record {
@@ -309,7 +321,9 @@ round_on classes from marks after way end next d on k is new same up =
 
     high : (m : ℕ) → list_all (is_above_itself classes) (chain_within m classes (Some d)) ≡ true
     high m = by (k.round d is) where
-      by : (is_settled (mark_at marks d) ≡ true) ⊎ ((m : ℕ) → list_all (is_above_itself classes) (chain_within m classes (Some d)) ≡ true) → list_all (is_above_itself classes) (chain_within m classes (Some d)) ≡ true
+      by : (is_settled (mark_at marks d) ≡ true) ⊎
+          ((m : ℕ) → list_all (is_above_itself classes) (chain_within m classes (Some d)) ≡ true)
+          → list_all (is_above_itself classes) (chain_within m classes (Some d)) ≡ true
       by (inl h) = no_way (sym new ∙ h)
       by (inr f) = f m
 
@@ -324,7 +338,8 @@ round_on classes from marks after way end next d on k is new same up =
     met c true f h = or_left (is_settled (mark_at (set marks d Circular) c)) _ (here c (eqb-true c d f))
     met c false f h = ap (λ j. is_settled j || list_any (nat_eq c) way) (mark_there marks d c Circular f) ∙ k.met c (ap is_met (sym (mark_there marks d c Circular f)) ∙ h)
 
-    closed : (c b : ℕ) (s : Bool) → nat_eq c d ≡ s → is_settled (mark_at (set marks d Circular) c) ≡ true → parent_of classes c ≡ Some b → (is_settled (mark_at (set marks d Circular) b) ≡ true) ⊎ (on ≡ Some b)
+    closed : (c b : ℕ) (s : Bool) → nat_eq c d ≡ s → is_settled (mark_at (set marks d Circular) c) ≡ true
+        → parent_of classes c ≡ Some b → (is_settled (mark_at (set marks d Circular) b) ≡ true) ⊎ (on ≡ Some b)
     closed c b true f h e = inr (up ∙ ap (parent_of classes) (sym (eqb-true c d f)) ∙ e)
     closed c b false f h e = now b (k.closed c b (ap is_settled (sym (mark_there marks d c Circular f)) ∙ h) e)
 
@@ -334,7 +349,9 @@ round_on classes from marks after way end next d on k is new same up =
         ∙ sym (ap (is_above_itself classes) (eqb-true c d f) ∙ (both (is_above_itself classes d) _ (high 1)).0)
     right c false f h = ap is_circular (mark_there marks d c Circular f) ∙ k.right c (ap is_settled (sym (mark_there marks d c Circular f)) ∙ h)
 
-round_closed : (classes : Classes) (from : ℕ) (marks : List Mark) (way : List ℕ) (end next : Option ℕ) → GoingRound classes from marks way end next → ((b : ℕ) → next ≡ Some b → is_settled (mark_at marks b) ≡ true) → Descending classes from marks way
+round_closed : (classes : Classes) (from : ℕ) (marks : List Mark) (way : List ℕ) (end next : Option ℕ)
+    → GoingRound classes from marks way end next → ((b : ℕ) → next ≡ Some b → is_settled (mark_at marks b) ≡ true)
+    → Descending classes from marks way
 round_closed classes from marks way end next k there = record {
   marked = record {
     count = k.count;
@@ -352,7 +369,9 @@ round_closed classes from marks way end next k there = record {
     settled b (inl h) = h
     settled b (inr e) = there b e
 
-pub round_meets : (classes : Classes) (from : ℕ) (marks : List Mark) (way : List ℕ) (end next : Option ℕ) (d : ℕ) → GoingRound classes from marks way end next → next ≡ Some d → is_settled (mark_at marks d) ≡ true → Descending classes from marks way
+pub round_meets : (classes : Classes) (from : ℕ) (marks : List Mark) (way : List ℕ) (end next : Option ℕ) (d : ℕ)
+    → GoingRound classes from marks way end next → next ≡ Some d → is_settled (mark_at marks d) ≡ true
+    → Descending classes from marks way
 round_meets classes from marks way end next d k is there = round_closed classes from marks way end next k (λ b e. subst (λ z. is_settled (mark_at marks z) ≡ true) (same_Some (sym is ∙ e)) there)
 
 pub round_ends : (classes : Classes) (from : ℕ) (marks : List Mark) (way : List ℕ) (end next : Option ℕ) → GoingRound classes from marks way end next → next ≡ None → Descending classes from marks way
@@ -364,7 +383,8 @@ round_ends classes from marks way end next k is = round_closed classes from mark
 -- and down ------------------------------------------------------------------------------------------------------------
 
 -- it is settled what is on the way behind this one
-pub down_settled : (classes : Classes) (from : ℕ) (marks : List Mark) (way left : List ℕ) (d : ℕ) → Descending classes from marks way → way ≡ left ++ d ∷ [] → is_settled (mark_at marks d) ≡ true → Descending classes from marks left
+pub down_settled : (classes : Classes) (from : ℕ) (marks : List Mark) (way left : List ℕ) (d : ℕ) → Descending classes
+    from marks way → way ≡ left ++ d ∷ [] → is_settled (mark_at marks d) ≡ true → Descending classes from marks left
 down_settled classes from marks way left d k is there = record {
   marked = record {
     count = k.marked.count;
@@ -387,12 +407,15 @@ down_settled classes from marks way left d k is there = record {
     less false false x true e f g = no_way (sym f)
     less false false x false e f g = sym e ∙ g
 
-    met : (c : ℕ) (s : Bool) → nat_eq c d ≡ s → (t : Bool) → is_settled (mark_at marks c) ≡ t → (is_settled (mark_at marks c) || list_any (nat_eq c) way) ≡ true → (is_settled (mark_at marks c) || list_any (nat_eq c) left) ≡ true
+    met : (c : ℕ) (s : Bool) → nat_eq c d ≡ s → (t : Bool) → is_settled (mark_at marks c) ≡ t
+        → (is_settled (mark_at marks c) || list_any (nat_eq c) way) ≡ true
+        → (is_settled (mark_at marks c) || list_any (nat_eq c) left) ≡ true
     met c true f t e h = or_left (is_settled (mark_at marks c)) _ (ap (λ z. is_settled (mark_at marks z)) (eqb-true c d f) ∙ there)
     met c false f t e h = less (is_settled (mark_at marks c)) (list_any (nat_eq c) left) _ (nat_eq c d) (last c) f h
 
 -- or it isn't above itself
-clear : (classes : Classes) (from : ℕ) (marks : List Mark) (way left : List ℕ) (d : ℕ) → Descending classes from marks way → way ≡ left ++ d ∷ [] → is_settled (mark_at marks d) ≡ false → Descending classes from (set marks d Clear) way
+clear : (classes : Classes) (from : ℕ) (marks : List Mark) (way left : List ℕ) (d : ℕ) → Descending classes from marks
+    way → way ≡ left ++ d ∷ [] → is_settled (mark_at marks d) ≡ false → Descending classes from (set marks d Clear) way
 clear classes from marks way left d k is new = record {
   marked = record {
     count = length-set marks d Clear ∙ k.marked.count;
@@ -430,7 +453,9 @@ clear classes from marks way left d k is new = record {
         ∙ not_above classes (λ c. is_settled (mark_at marks c)) (λ y b e g. k.marked.closed y e b g) d new (length classes) (parent_of classes d) (λ b e. k.ends b (sym up ∙ e)))
     right c false f h = ap is_circular (mark_there marks d c Clear f) ∙ k.marked.right c (ap is_settled (sym (mark_there marks d c Clear f)) ∙ h)
 
-pub down_clear : (classes : Classes) (from : ℕ) (marks after : List Mark) (way left : List ℕ) (d : ℕ) → Descending classes from marks way → way ≡ left ++ d ∷ [] → is_settled (mark_at marks d) ≡ false → after ≡ set marks d Clear → Descending classes from after left
+pub down_clear : (classes : Classes) (from : ℕ) (marks after : List Mark) (way left : List ℕ) (d : ℕ)
+    → Descending classes from marks way → way ≡ left ++ d ∷ [] → is_settled (mark_at marks d) ≡ false
+    → after ≡ set marks d Clear → Descending classes from after left
 down_clear classes from marks after way left d k is new same =
     subst (λ ms. Descending classes from ms left) (sym same)
     (down_settled classes from (set marks d Clear) way left d (clear classes from marks way left d k is new) is (ap is_settled (mark_here marks d Clear (within marks d new))))

@@ -31,7 +31,8 @@ nothing_before [] c rest e = absurd (cc)
 nothing_before (x ∷ xs) c rest e = absurd (cc)
 
 -- what follows a class in a chain is what is above it
-pub rest_above : (classes : Classes) → AreLed classes → (from : Option ℕ) (front : List ℕ) (c : ℕ) (rest : List ℕ) → chain_within (length classes) classes from ≡ front ++ c ∷ rest → rest ≡ above classes c
+pub rest_above : (classes : Classes) → AreLed classes → (from : Option ℕ) (front : List ℕ) (c : ℕ) (rest : List ℕ)
+    → chain_within (length classes) classes from ≡ front ++ c ∷ rest → rest ≡ above classes c
 rest_above classes led None front c rest e = absurd (nothing_before front c rest (sym (chain_within-none classes (length classes)) ∙ e))
 rest_above classes led (Some d) [] c rest e =
     let f : d ∷ above classes d ≡ c ∷ rest = sym (step classes led d) ∙ e in
@@ -93,7 +94,8 @@ pub none_left : {A : Type 0} (xs : List A) → length xs ≡ 0 → xs ≡ []
 none_left [] e = refl
 none_left (x ∷ xs) e = absurd (omega (arith, e))
 
-pub popped : (classes : Classes) (levels rest : List Level) (l : Level) (t s : TakenNames) → AreLed classes → levels ≡ rest ++ l ∷ [] → s.names.keys ≡ take l.names t.names.keys → s.accessors.keys ≡ take l.accessors t.accessors.keys
+pub popped : (classes : Classes) (levels rest : List Level) (l : Level) (t s : TakenNames) → AreLed classes → levels
+    ≡ rest ++ l ∷ [] → s.names.keys ≡ take l.names t.names.keys → s.accessors.keys ≡ take l.accessors t.accessors.keys
     → IsWay classes levels t → IsWay classes rest s
 popped classes levels rest l t s led e f g w =
     let n = length classes in
@@ -107,10 +109,14 @@ popped classes levels rest l t s led e f g w =
     }
 
 -- a way to the superclass is there, or none at all
-pub missing_none : (classes : Classes) (levels : List Level) (t : TakenNames) (class : Option ℕ) (v : List ℕ) → v ≡ [] → option_eq nat_eq (top_of levels) class ≡ true → IsWay classes levels t → chain_within (length classes) classes class ≡ v ++ on_way levels
+pub missing_none : (classes : Classes) (levels : List Level) (t : TakenNames) (class : Option ℕ) (v : List ℕ) → v ≡ []
+    → option_eq nat_eq (top_of levels) class ≡ true → IsWay classes levels t
+    → chain_within (length classes) classes class ≡ v ++ on_way levels
 missing_none classes levels t class v none e w = ap (chain_within (length classes) classes) (sym (same (top_of levels) class e)) ∙ sym w.led ∙ ap (λ ms. ms ++ on_way levels) (sym none)
 
-pub missing_all : (classes : Classes) (levels : List Level) (class : Option ℕ) (v : List ℕ) → v ≡ chain_within (length classes) classes class → option_eq nat_eq (top_of levels) class ≡ false → (top_of levels ≡ class) ⊎ (levels ≡ []) → chain_within (length classes) classes class ≡ v ++ on_way levels
+pub missing_all : (classes : Classes) (levels : List Level) (class : Option ℕ) (v : List ℕ)
+    → v ≡ chain_within (length classes) classes class → option_eq nat_eq (top_of levels) class ≡ false
+    → (top_of levels ≡ class) ⊎ (levels ≡ []) → chain_within (length classes) classes class ≡ v ++ on_way levels
 missing_all classes levels class v all e either = sym all ∙ sym (append-nil v) ∙ ap (λ ls. v ++ on_way ls) (sym none)
   where
     none : levels ≡ []
@@ -150,7 +156,8 @@ pub top_nowhere : (levels : List Level) → slice_get levels (length levels - 1)
 top_nowhere levels e = sym (ap top_of (last_nowhere levels e))
 
 -- the room that is left
-pub room_there : (classes : Classes) (levels : List Level) (l : Level) (t : TakenNames) → slice_get levels (length levels - 1) ≡ Some l → IsWay classes levels t → l.room ≡ suc max_parts - length (all_of classes (on_way levels))
+pub room_there : (classes : Classes) (levels : List Level) (l : Level) (t : TakenNames) → slice_get levels (length
+    levels - 1) ≡ Some l → IsWay classes levels t → l.room ≡ suc max_parts - length (all_of classes (on_way levels))
 room_there classes levels l t e w =
     let (rest, f) = last_there levels l e in
     let r : reverse levels ≡ l ∷ reverse rest = turned rest levels l f in
@@ -170,7 +177,9 @@ taken_there classes levels t w = by (reverse levels) w.holds
 less_room : (m n k : ℕ) (whole : ℕ) → whole ≡ n + k → (m - n) - k ≡ m - whole
 less_room m n k whole e = omega (arith, e)
 
-pub entered : (classes : Classes) (levels more : List Level) (l : Level) (t s : TakenNames) (c : ℕ) (own : List Component) → AreLed classes → IsWay classes levels t → on_way levels ≡ above classes c → own ≡ own_of classes c → more ≡ levels ++ l ∷ []
+pub entered : (classes : Classes) (levels more : List Level) (l : Level) (t s : TakenNames) (c : ℕ)
+    (own : List Component) → AreLed classes → IsWay classes levels t → on_way levels ≡ above classes c
+    → own ≡ own_of classes c → more ≡ levels ++ l ∷ []
     → l.class ≡ c → l.names ≡ length t.names.keys → l.accessors ≡ length t.accessors.keys → l.room ≡ (suc max_parts - length (all_of classes (on_way levels))) - length own
     → Grows t s → AreTaken (all_of classes (on_way levels) ++ own) s.names.keys s.accessors.keys → IsWay classes more s
 entered classes levels more l t s c own led w up is e f g h room grows taken =
@@ -182,13 +191,15 @@ entered classes levels more l t s c own led w up is e f g h room grows taken =
       led = on ∙ ap (λ cs. c ∷ cs) up ∙ sym (step classes led c) ∙ ap (chain_within n classes) (sym (ap end_of on));
       holds = subst (λ ls. Holds classes ls s.names.keys s.accessors.keys) (sym (turned levels more l e)) (
         subst (λ ps. AreTaken ps s.names.keys s.accessors.keys) (sym all) taken,
-        room ∙ less_room (suc max_parts) (length (all_of classes (on_way levels))) (length own) (length (all_of classes (classes_on (l ∷ reverse levels)))) (ap length all ∙ length-append (all_of classes (on_way levels)) own),
+        room ∙ less_room (suc max_parts) (length (all_of classes (on_way levels))) (length own) (length (all_of classes
+            (classes_on (l ∷ reverse levels)))) (ap length all ∙ length-append (all_of classes (on_way levels)) own),
         subst (λ ks. Holds classes (reverse levels) ks (take l.accessors s.accessors.keys)) (sym (ap (λ i. take i s.names.keys) g ∙ grows.0))
             (subst (λ ks. Holds classes (reverse levels) t.names.keys ks) (sym (ap (λ i. take i s.accessors.keys) h ∙ grows.1)) w.holds),
       );
     }
 
-pub found_there : (classes : Classes) (up : List ℕ) (f : Found) (c : ℕ) (own : List Component) → AreLed classes → up ≡ above classes c → own ≡ own_of classes c → IsFirst (is_taken_at (all_of classes up) own) f.twice
+pub found_there : (classes : Classes) (up : List ℕ) (f : Found) (c : ℕ) (own : List Component) → AreLed classes
+    → up ≡ above classes c → own ≡ own_of classes c → IsFirst (is_taken_at (all_of classes up) own) f.twice
     → f.room ≡ (suc max_parts - length (all_of classes up)) - length own → IsFound classes c f
 found_there classes up f c own led above_it is first room = record {
   twice = subst (λ ps. IsFirst (is_taken_at ps (own_of classes c)) f.twice) (ap (all_of classes) above_it) (subst (λ ps. IsFirst (is_taken_at (all_of classes up) ps) f.twice) is first);
@@ -211,7 +222,9 @@ known_set (o ∷ os) (suc c) (suc d) v = elim (known_set os c d v) [
 some_same : {a b : Found} → Some a ≡ Some b → a ≡ b
 some_same {a} e = ap (λ o. unwrap_or o a) e
 
-pub knows_more : (classes : Classes) (way : Way) (old new : List (Option Found)) (c : ℕ) (f : Found) → IsWay classes way.levels.items way.taken → ((d : ℕ) (g : Found) → known_at old d ≡ Some g → IsFound classes d g) → IsFound classes c f → new ≡ set old c (Some f) → Knows classes way new
+pub knows_more : (classes : Classes) (way : Way) (old new : List (Option Found)) (c : ℕ) (f : Found)
+    → IsWay classes way.levels.items way.taken → ((d : ℕ) (g : Found) → known_at old d ≡ Some g → IsFound classes d g)
+    → IsFound classes c f → new ≡ set old c (Some f) → Knows classes way new
 knows_more classes way old new c f w right found e = subst (Knows classes way) (sym e) (record {
   way = w;
   right = λ d g h. elim (known_set old c d (Some f)) [
@@ -234,7 +247,8 @@ knows_nothing classes way found n w e = subst (Knows classes way) (sym e) (recor
     none_some : {g : Found} → None ≡ Some g → ⊥
     none_some h = cc
 
-pub pushed_at : {X : Type 0} (fs : List X) (f : X) (c : ℕ) (d : X) → c < length fs + 1 → ((c < length fs) × (get_or (fs ++ f ∷ []) c d ≡ get_or fs c d)) ⊎ ((c ≡ length fs) × (get_or (fs ++ f ∷ []) c d ≡ f))
+pub pushed_at : {X : Type 0} (fs : List X) (f : X) (c : ℕ) (d : X) → c < length fs + 1 → ((c < length fs)
+    × (get_or (fs ++ f ∷ []) c d ≡ get_or fs c d)) ⊎ ((c ≡ length fs) × (get_or (fs ++ f ∷ []) c d ≡ f))
 pushed_at [] f zero d less = inr (refl, refl)
 pushed_at [] f (suc c) d less = absurd (omega (arith, less))
 pushed_at (g ∷ gs) f zero d less = inl (omega arith, refl)

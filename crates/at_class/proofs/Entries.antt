@@ -33,7 +33,8 @@ length-table names es n =
 pub length_of : {A : Type 0} (names : List (String A)) (es : List Entry) (classes : Classes) → length names ≡ length es → table_view names es ≡ classes → length classes ≡ length es
 length_of names es classes n is = ap length (sym is) ∙ length-table names es n
 
-names_beside : {A : Type 0} (all : List Entry) (names : List (String A)) (es : List Entry) → length names ≡ length es → map (λ (k : ModelClass). k.name) (map (λ p. entry_view all p.0 p.1) (zip names es)) ≡ map string_bytes names
+names_beside : {A : Type 0} (all : List Entry) (names : List (String A)) (es : List Entry) → length names ≡ length es
+    → map (λ (k : ModelClass). k.name) (map (λ p. entry_view all p.0 p.1) (zip names es)) ≡ map string_bytes names
 names_beside all [] es n = refl
 names_beside all (x ∷ xs) [] n = absurd (omega (arith, n))
 names_beside all (x ∷ xs) (e ∷ es) n = ap (λ ns. string_bytes x ∷ ns) (names_beside all xs es (omega (arith, n)))
@@ -43,15 +44,18 @@ names-table names es n = names_beside es names es n
 
 -- the class at a position ---------------------------------------------------------------------------------------------
 
-table_get : {A : Type 0} (names : List (String A)) (es : List Entry) (c : ℕ) (name : String A) (e : Entry) → slice_get names c ≡ Some name → slice_get es c ≡ Some e → slice_get (table_view names es) c ≡ Some (entry_view es name e)
+table_get : {A : Type 0} (names : List (String A)) (es : List Entry) (c : ℕ) (name : String A) (e : Entry) → slice_get
+    names c ≡ Some name → slice_get es c ≡ Some e → slice_get (table_view names es) c ≡ Some (entry_view es name e)
 table_get names es c name e f g = slice_get-map (λ p. entry_view es p.0 p.1) (zip names es) c ∙ ap (option_map (λ p. entry_view es p.0 p.1)) (slice_get-zip_some names es c name e f g)
 
-pub table_name : {A : Type 0} (names : List (String A)) (es : List Entry) (c : ℕ) (name : String A) → length names ≡ length es → slice_get names c ≡ Some name → name_of (table_view names es) c ≡ string_bytes name
+pub table_name : {A : Type 0} (names : List (String A)) (es : List Entry) (c : ℕ) (name : String A)
+    → length names ≡ length es → slice_get names c ≡ Some name → name_of (table_view names es) c ≡ string_bytes name
 table_name names es c name n f =
     let e = there es c (omega (arith, n, slice_get_within names c name f)) in
     ap (λ o. elim o [ None ↦ [] | Some k ↦ k.name ]) (table_get names es c name e.0 f e.1)
 
-pub table_concrete : {A : Type 0} (names : List (String A)) (es : List Entry) (c : ℕ) (e : Entry) → length names ≡ length es → slice_get es c ≡ Some e → is_concrete (table_view names es) c ≡ not e.is_abstract
+pub table_concrete : {A : Type 0} (names : List (String A)) (es : List Entry) (c : ℕ) (e : Entry)
+    → length names ≡ length es → slice_get es c ≡ Some e → is_concrete (table_view names es) c ≡ not e.is_abstract
 table_concrete names es c e n g =
     let s = there names c (omega (arith, n, slice_get_within es c e g)) in
     ap (λ o. elim o [ None ↦ false | Some k ↦ not k.is_abstract ]) (table_get names es c s.0 e s.1 g)
@@ -71,7 +75,8 @@ own_behind classes led c = ap (drop (length (all_of classes (above classes c))))
 
 -- the components of the superclass are counted
 counted : (ks : List Class) (es : List Entry) (n : ℕ) (o : Option ℕ) → AreEntries ks es n → length ks ≡ n → IfSome o (λ p. p < n)
-    → unwrap_or (option_map (λ (e : Entry). length e.parts.items) (option_and_then (slice_get es) o)) 0 ≡ length (all_of (classes_view ks) (chain_within (length (classes_view ks)) (classes_view ks) o))
+    → unwrap_or (option_map (λ (e : Entry). length e.parts.items) (option_and_then (slice_get es) o)) 0
+        ≡ length (all_of (classes_view ks) (chain_within (length (classes_view ks)) (classes_view ks) o))
 unfolding chain
 counted ks es n None are m less = sym (ap (λ up. length (all_of (classes_view ks) up)) (chain_within-none (classes_view ks) (length (classes_view ks))))
 counted ks es n (Some p) are m less =
@@ -88,7 +93,8 @@ made name is_abstract parent own = record { name = name; is_abstract = is_abstra
 same_class : (a b : List ℕ) (s t : Bool) (o p : Option ℕ) (us vs : List Component) → a ≡ b → s ≡ t → o ≡ p → us ≡ vs → made a s o us ≡ made b t p vs
 same_class a b s t o p us vs e f g h = ap (λ x. made x s o us) e ∙ ap (λ x. made b x o us) f ∙ ap (λ x. made b t x us) g ∙ ap (λ x. made b t p x) h
 
-entry_class : {A : Type 0} (ks : List Class) (es : List Entry) (name : String A) (c : ℕ) (k : Class) (e : Entry) → AreEntries ks es (length ks) → AreLed (classes_view ks) → IsHierarchy (classes_view ks)
+entry_class : {A : Type 0} (ks : List Class) (es : List Entry) (name : String A) (c : ℕ) (k : Class) (e : Entry)
+    → AreEntries ks es (length ks) → AreLed (classes_view ks) → IsHierarchy (classes_view ks)
     → slice_get ks c ≡ Some k → slice_get es c ≡ Some e → string_bytes name ≡ string_bytes k.name → entry_view es name e ≡ class_view k
 entry_class ks es name c k e are led h f g same =
     let classes = classes_view ks in
@@ -109,9 +115,13 @@ entry_class ks es name c k e are led h f g same =
     ∙ ap (drop (length (all_of classes (above classes c)))) kept.parts
     ∙ own_behind classes led c
     ∙ ap (λ o. elim o [ None ↦ [] | Some d ↦ d.own ]) there in
-    same_class (string_bytes name) (string_bytes k.name) e.is_abstract k.is_abstract e.parent k.parent _ _ same (ap (λ (d : Entry). d.is_abstract) (sym e-is) ∙ kept.is_abstract ∙ ap (λ (d : Class). d.is_abstract) k-is) parent own
+    same_class (string_bytes name) (string_bytes k.name) e.is_abstract k.is_abstract e.parent k.parent _ _ same
+        (ap (λ (d : Entry). d.is_abstract) (sym e-is) ∙ kept.is_abstract
+        ∙ ap (λ (d : Class). d.is_abstract) k-is) parent own
 
-name_at : {A : Type 0} (names : List (String A)) (classes : Classes) (c : ℕ) (name : String A) (k : ModelClass) → map string_bytes names ≡ map (λ (k : ModelClass). k.name) classes → slice_get names c ≡ Some name → slice_get classes c ≡ Some k → string_bytes name ≡ k.name
+name_at : {A : Type 0} (names : List (String A)) (classes : Classes) (c : ℕ) (name : String A) (k : ModelClass)
+    → map string_bytes names ≡ map (λ (k : ModelClass). k.name) classes → slice_get names c ≡ Some name
+    → slice_get classes c ≡ Some k → string_bytes name ≡ k.name
 name_at names classes c name k same f g =
     ap (λ o. unwrap_or o []) (
     ap (option_map string_bytes) (sym f)
@@ -121,7 +131,9 @@ name_at names classes c name k same f g =
     ∙ ap (option_map (λ (k : ModelClass). k.name)) g
     )
 
-class_at : {A : Type 0} (names : List (String A)) (ks : List Class) (es : List Entry) (c : ℕ) (d : ModelClass) → length names ≡ length es → map string_bytes names ≡ map (λ (k : ModelClass). k.name) (classes_view ks) → AreEntries ks es (length ks) → AreLed (classes_view ks) → IsHierarchy (classes_view ks)
+class_at : {A : Type 0} (names : List (String A)) (ks : List Class) (es : List Entry) (c : ℕ) (d : ModelClass)
+    → length names ≡ length es → map string_bytes names ≡ map (λ (k : ModelClass). k.name) (classes_view ks)
+    → AreEntries ks es (length ks) → AreLed (classes_view ks) → IsHierarchy (classes_view ks)
     → c < length ks → get_or (table_view names es) c d ≡ get_or (classes_view ks) c d
 class_at names ks es c d n same are led h less =
     let k = there ks c less in
@@ -132,12 +144,16 @@ class_at names ks es c d n same are led h less =
     ∙ entry_class ks es s.0 c k.0 e.0 are led h k.1 e.1 (name_at names (classes_view ks) c s.0 (class_view k.0) same s.1 class)
     ∙ sym (get_or_from_slice_get (classes_view ks) c (class_view k.0) d class)
 
-pub table-declared : {A : Type 0} (names : List (String A)) (ks : List Class) (es : List Entry) → map string_bytes names ≡ map (λ (k : ModelClass). k.name) (classes_view ks) → AreEntries ks es (length ks) → AreLed (classes_view ks) → IsHierarchy (classes_view ks)
+pub table-declared : {A : Type 0} (names : List (String A)) (ks : List Class) (es : List Entry)
+    → map string_bytes names ≡ map (λ (k : ModelClass). k.name) (classes_view ks) → AreEntries ks es (length ks)
+    → AreLed (classes_view ks) → IsHierarchy (classes_view ks)
     → table_view names es ≡ classes_view ks
 table-declared names ks es same are led h =
     let as_many : length names ≡ length ks = sym (length-map names string_bytes) ∙ ap length same ∙ length-map (classes_view ks) (λ (k : ModelClass). k.name) ∙ length-map ks class_view in
     let n : length names ≡ length es = as_many ∙ sym are.count in
-    ext_get_or none (table_view names es) (classes_view ks) (length-table names es n ∙ are.count ∙ sym (length-map ks class_view)) (λ c less. class_at names ks es c none n same are led h (omega (arith, less, length-table names es n, are.count)))
+    ext_get_or none (table_view names es) (classes_view ks)
+        (length-table names es n ∙ are.count ∙ sym (length-map ks class_view)) (λ c less.
+        class_at names ks es c none n same are led h (omega (arith, less, length-table names es n, are.count)))
   where
     none : ModelClass
     none = record { name = []; is_abstract = false; parent = None; own = [] }
@@ -165,7 +181,8 @@ entries_none ks es e = record {
   each = λ c k d less. absurd (omega (arith, less));
 }
 
-pub entries_more : (ks : List Class) (es new : List Entry) (n : ℕ) (k : Class) (e : Entry) → AreEntries ks es n → n < length ks → k ≡ get_or ks n k → IsEntry (classes_view ks) n k e → new ≡ es ++ e ∷ [] → AreEntries ks new (n + 1)
+pub entries_more : (ks : List Class) (es new : List Entry) (n : ℕ) (k : Class) (e : Entry) → AreEntries ks es n → n <
+    length ks → k ≡ get_or ks n k → IsEntry (classes_view ks) n k e → new ≡ es ++ e ∷ [] → AreEntries ks new (n + 1)
 entries_more ks es new n k e are less is here g = subst (λ fs. AreEntries ks fs (n + 1)) (sym g) (record {
   count = length-append es (e ∷ []) ∙ ap (λ m. m + 1) are.count;
   each = λ c x d l. elim (pushed_at es e c d (subst (λ m. c < m + 1) (sym are.count) l)) [

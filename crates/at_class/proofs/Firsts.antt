@@ -27,10 +27,12 @@ first_given_here f v xs k x y less is some = rw (drop-cons xs k x less, ← is) 
 abbrev pub NoneBefore : {X A B : Type 0} → (ℕ → A → Option B) → (X → A) → List X → ℕ → Type 0
 NoneBefore f v xs k = first_given f 0 (map v xs) ≡ first_given f k (map v (drop k xs))
 
-pub none_more : {X A B : Type 0} (f : ℕ → A → Option B) (v : X → A) (xs : List X) (k : ℕ) (x : X) → k < length xs → x ≡ get_or xs k x → f k (v x) ≡ None → NoneBefore f v xs k → NoneBefore f v xs (k + 1)
+pub none_more : {X A B : Type 0} (f : ℕ → A → Option B) (v : X → A) (xs : List X) (k : ℕ) (x : X) → k < length xs
+    → x ≡ get_or xs k x → f k (v x) ≡ None → NoneBefore f v xs k → NoneBefore f v xs (k + 1)
 none_more f v xs k x less is none so_far = so_far ∙ first_given_more f v xs k x less is none
 
-pub first_here : {X A B : Type 0} (f : ℕ → A → Option B) (v : X → A) (xs : List X) (k : ℕ) (x : X) (y : B) → k < length xs → x ≡ get_or xs k x → NoneBefore f v xs k → f k (v x) ≡ Some y → first_given f 0 (map v xs) ≡ Some y
+pub first_here : {X A B : Type 0} (f : ℕ → A → Option B) (v : X → A) (xs : List X) (k : ℕ) (x : X) (y : B)
+    → k < length xs → x ≡ get_or xs k x → NoneBefore f v xs k → f k (v x) ≡ Some y → first_given f 0 (map v xs) ≡ Some y
 first_here f v xs k x y less is so_far some = so_far ∙ first_given_here f v xs k x y less is some
 
 pub none_at_all : {X A B : Type 0} (f : ℕ → A → Option B) (v : X → A) (xs : List X) (k : ℕ) → length xs ≤ k → NoneBefore f v xs k → first_given f 0 (map v xs) ≡ None

@@ -46,7 +46,8 @@ position-within p (x ∷ xs) = by (position p (x ∷ xs)) refl
     by (Some k) e = (position-Some p (x ∷ xs) k x e).0
 
 -- names that are those of the declarations name the same classes
-pub named_in-declared : {Z : Type 0} (keys : List (String Z)) (xs : List ClassDecl) → map string_bytes keys ≡ map (λ d. string_bytes d.name) xs → (name : List ℕ) → named_in keys name ≡ class_named (declarations_view xs) name
+pub named_in-declared : {Z : Type 0} (keys : List (String Z)) (xs : List ClassDecl) → map string_bytes keys
+    ≡ map (λ d. string_bytes d.name) xs → (name : List ℕ) → named_in keys name ≡ class_named (declarations_view xs) name
 named_in-declared keys xs same name =
     sym (position-map (bytes_eq name) string_bytes keys)
     ∙ ap (position (bytes_eq name)) same
@@ -54,7 +55,8 @@ named_in-declared keys xs same name =
     ∙ sym (position-map (λ d. bytes_eq name d.name) declaration_view xs)
 
 -- and those of the classes too
-pub named_in-classes : {Z : Type 0} (keys : List (String Z)) (classes : Classes) → map (λ (k : Class). k.name) classes ≡ map string_bytes keys → (name : List ℕ) → named_in keys name ≡ class_of_name classes name
+pub named_in-classes : {Z : Type 0} (keys : List (String Z)) (classes : Classes) → map (λ (k : Class). k.name) classes
+    ≡ map string_bytes keys → (name : List ℕ) → named_in keys name ≡ class_of_name classes name
 named_in-classes keys classes same name =
     sym (position-map (bytes_eq name) string_bytes keys)
     ∙ ap (position (bytes_eq name)) (sym same)
@@ -63,11 +65,14 @@ named_in-classes keys classes same name =
 same_names : {Z : Type 0} (keys : List (String Z)) (xs : List ClassDecl) → map string_bytes keys ≡ map (λ d. string_bytes d.name) xs → named_in keys ≡ class_named (declarations_view xs)
 same_names keys xs same = λ i name. named_in-declared keys xs same name i
 
-pub classes-declared : {Z : Type 0} (keys : List (String Z)) (xs : List ClassDecl) (classes : Classes) → map string_bytes keys ≡ map (λ d. string_bytes d.name) xs → classes ≡ map (class_by (named_in keys)) (declarations_view xs) → classes ≡ classes_of (declarations_view xs)
+pub classes-declared : {Z : Type 0} (keys : List (String Z)) (xs : List ClassDecl) (classes : Classes)
+    → map string_bytes keys ≡ map (λ d. string_bytes d.name) xs
+    → classes ≡ map (class_by (named_in keys)) (declarations_view xs) → classes ≡ classes_of (declarations_view xs)
 unfolding classes_of
 classes-declared keys xs classes same e = e ∙ ap (λ named. map (class_by named) (declarations_view xs)) (same_names keys xs same)
 
-pub unknown-declared : {Z : Type 0} (keys : List (String Z)) (xs : List ClassDecl) → map string_bytes keys ≡ map (λ d. string_bytes d.name) xs → unknown_by (named_in keys) (declarations_view xs) ≡ unknown_class (declarations_view xs)
+pub unknown-declared : {Z : Type 0} (keys : List (String Z)) (xs : List ClassDecl) → map string_bytes keys ≡ map (λ d.
+    string_bytes d.name) xs → unknown_by (named_in keys) (declarations_view xs) ≡ unknown_class (declarations_view xs)
 unfolding unknown_by unknown_class
 unknown-declared keys xs same = ap (λ named. unknown_by named (declarations_view xs)) (same_names keys xs same)
 

@@ -37,13 +37,16 @@ pub twice_nowhere : (classes : Classes) (c : ℕ) (ps : List PartDeclaration) �
 unfolding parts_twice
 twice_nowhere classes c ps none = given_none (is_twice classes c) 0 ps none
 
-twice_at_first : (classes : Classes) (c i : ℕ) (ps : List PartDeclaration) → IsFirst (is_twice classes c) (Some i) → parts_twice classes c ps ≡ option_map (λ (p : PartDeclaration). p.at) (slice_get ps i)
+twice_at_first : (classes : Classes) (c i : ℕ) (ps : List PartDeclaration) → IsFirst (is_twice classes c) (Some i)
+    → parts_twice classes c ps ≡ option_map (λ (p : PartDeclaration). p.at) (slice_get ps i)
 unfolding parts_twice
 twice_at_first classes c i ps first =
     let n : 0 + i ≡ i = omega arith in
     given_at (is_twice classes c) 0 i ps (ap (is_twice classes c) n ∙ first.0) (λ j less. first.1 j (omega (arith, less, n)))
 
-pub twice_there : (classes : Classes) (c i : ℕ) (parts : List PartDecl) (p : PartDecl) → IsFirst (is_twice classes c) (Some i) → i < length parts → p ≡ get_or parts i p → parts_twice classes c (map part_declaration_view parts) ≡ Some (place_view p.at)
+pub twice_there : (classes : Classes) (c i : ℕ) (parts : List PartDecl) (p : PartDecl)
+    → IsFirst (is_twice classes c) (Some i) → i < length parts → p ≡ get_or parts i p
+    → parts_twice classes c (map part_declaration_view parts) ≡ Some (place_view p.at)
 twice_there classes c i parts p first less is =
     twice_at_first classes c i (map part_declaration_view parts) first
     ∙ ap (option_map (λ (q : PartDeclaration). q.at)) (slice_get-map part_declaration_view parts i ∙ ap (option_map part_declaration_view) (slice_get_read parts (length parts) i p refl less is))
@@ -69,7 +72,8 @@ room_none n r e = by (nat_eq r 0) (nat_lt max_parts n) refl refl
     by true false f g = absurd (omega (arith, e, eqb-true r 0 f, ltb-false max_parts n g))
     by false true f g = absurd (true≢false (sym (eq-eqb r 0 (omega (arith, e, ltb-true max_parts n g))) ∙ f))
 
-pub over_test : (classes : Classes) (k : ℕ) (f : Found) (r : Bool) → IsFound classes k f → r ≡ (nat_le max_classes k || nat_eq f.room 0) → (nat_le max_classes k || nat_lt max_parts (length (parts classes k))) ≡ r
+pub over_test : (classes : Classes) (k : ℕ) (f : Found) (r : Bool) → IsFound classes k f → r ≡ (nat_le max_classes k
+    || nat_eq f.room 0) → (nat_le max_classes k || nat_lt max_parts (length (parts classes k))) ≡ r
 over_test classes k f r found e = sym (e ∙ ap (λ b. nat_le max_classes k || b) (room_none (length (parts classes k)) f.room found.room))
 
 -- there are as many classes as declarations

@@ -51,7 +51,8 @@ kept_there : {Z : Type 0} (keys : List (String Z)) (text : String Z) (n : List �
 kept_there [] text n e f = no_name e
 kept_there (k ∷ ks) text n e f = by (string_eq text k) refl (kept_there ks text n) e
   where
-    by : (s : Bool) → string_eq text k ≡ s → (list_any (string_eq text) ks ≡ true → bytes_eq n (string_bytes text) ≡ true → has_key ks n ≡ true) → (s || list_any (string_eq text) ks) ≡ true → has_key (k ∷ ks) n ≡ true
+    by : (s : Bool) → string_eq text k ≡ s → (list_any (string_eq text) ks ≡ true → bytes_eq n (string_bytes text)
+        ≡ true → has_key ks n ≡ true) → (s || list_any (string_eq text) ks) ≡ true → has_key (k ∷ ks) n ≡ true
     by true same more g = or_left (bytes_eq n (string_bytes k)) _ (ap (bytes_eq n) (sym (bytes_eq-is (string_bytes text) (string_bytes k) same)) ∙ f)
     by false same more g = or_right (bytes_eq n (string_bytes k)) _ (more g f)
 
@@ -81,7 +82,8 @@ any_or f g (x ∷ xs) = ap (λ b. (f x || g x) || b) (any_or f g xs) ∙ by (f x
     by false false c d = refl
 
 -- three reasons for a clash
-three : (p : Component) (before : List Component) → list_any (clash p) before ≡ ((list_any (λ q. bytes_eq p.name q.name) before || list_any (λ q. takes p q.name) before) || list_any (λ q. takes q p.name) before)
+three : (p : Component) (before : List Component) → list_any (clash p) before ≡ ((list_any (λ q. bytes_eq p.name q.name)
+    before || list_any (λ q. takes p q.name) before) || list_any (λ q. takes q p.name) before)
 three p before =
     any_or (λ q. bytes_eq p.name q.name || takes p q.name) (λ q. takes q p.name) before
     ∙ ap (λ b. b || list_any (λ q. takes q p.name) before) (any_or (λ q. bytes_eq p.name q.name) (λ q. takes p q.name) before)
@@ -102,21 +104,28 @@ of_list p before e = each before ∙ any_or (λ q. bytes_eq (codes "Num" ++ p.na
         ∙ ap (λ b. (bytes_eq (codes "Num" ++ p.name) q.name || bytes_eq (p.name ++ codes "List") q.name) || b) (each qs)
 
 pub by_name : (p : Component) (before : List Component) (t : TakenNames) → AreTaken before t.names.keys t.accessors.keys → has_key t.names.keys p.name ≡ true → list_any (clash p) before ≡ true
-by_name p before t k e = three p before ∙ or_left (list_any (λ q. bytes_eq p.name q.name) before || list_any (λ q. takes p q.name) before) _ (or_left (list_any (λ q. bytes_eq p.name q.name) before) _ (sym (k.names p.name) ∙ e))
+by_name p before t k e = three p before ∙ or_left (list_any (λ q. bytes_eq p.name q.name) before || list_any (λ q.
+    takes p q.name) before) _ (or_left (list_any (λ q. bytes_eq p.name q.name) before) _ (sym (k.names p.name) ∙ e))
 
 pub by_accessor : (p : Component) (before : List Component) (t : TakenNames) → AreTaken before t.names.keys t.accessors.keys → has_key t.accessors.keys p.name ≡ true → list_any (clash p) before ≡ true
 by_accessor p before t k e = three p before ∙ or_right (list_any (λ q. bytes_eq p.name q.name) before || list_any (λ q. takes p q.name) before) _ (sym (k.accessors p.name) ∙ e)
 
-only_own : (p : Component) (before : List Component) (t : TakenNames) → AreTaken before t.names.keys t.accessors.keys → has_key t.names.keys p.name ≡ false → has_key t.accessors.keys p.name ≡ false → list_any (clash p) before ≡ list_any (λ q. takes p q.name) before
+only_own : (p : Component) (before : List Component) (t : TakenNames) → AreTaken before t.names.keys t.accessors.keys
+    → has_key t.names.keys p.name ≡ false → has_key t.accessors.keys p.name ≡ false
+    → list_any (clash p) before ≡ list_any (λ q. takes p q.name) before
 only_own p before t k e f =
     three p before
     ∙ ap₂ (λ a b. (a || list_any (λ q. takes p q.name) before) || b) (sym (k.names p.name) ∙ e) (sym (k.accessors p.name) ∙ f)
     ∙ or_false (list_any (λ q. takes p q.name) before)
 
-pub by_nothing : (p : Component) (before : List Component) (t : TakenNames) → AreTaken before t.names.keys t.accessors.keys → has_key t.names.keys p.name ≡ false → has_key t.accessors.keys p.name ≡ false → is_list p.shape ≡ false → list_any (clash p) before ≡ false
+pub by_nothing : (p : Component) (before : List Component) (t : TakenNames)
+    → AreTaken before t.names.keys t.accessors.keys → has_key t.names.keys p.name ≡ false
+    → has_key t.accessors.keys p.name ≡ false → is_list p.shape ≡ false → list_any (clash p) before ≡ false
 by_nothing p before t k e f g = only_own p before t k e f ∙ no_list p before g
 
-pub by_own : (p : Component) (before : List Component) (t : TakenNames) (count list : List ℕ) → AreTaken before t.names.keys t.accessors.keys → has_key t.names.keys p.name ≡ false → has_key t.accessors.keys p.name ≡ false → is_list p.shape ≡ true
+pub by_own : (p : Component) (before : List Component) (t : TakenNames) (count list : List ℕ)
+    → AreTaken before t.names.keys t.accessors.keys → has_key t.names.keys p.name ≡ false
+    → has_key t.accessors.keys p.name ≡ false → is_list p.shape ≡ true
     → count ≡ codes "Num" ++ p.name → list ≡ p.name ++ codes "List" → (has_key t.names.keys count || has_key t.names.keys list) ≡ list_any (clash p) before
 by_own p before t count list k e f g first second =
     ap₂ (λ a b. has_key t.names.keys a || has_key t.names.keys b) first second
@@ -181,13 +190,15 @@ begins_insert keys new text e = ap (take (length keys)) e ∙ by (list_any (stri
 pub part_at : (parts : List Part) (i : ℕ) (p : Part) → i < length parts → p ≡ get_or parts i p → slice_get (map part_view parts) i ≡ Some (part_view p)
 part_at parts i p less is = slice_get-map part_view parts i ∙ ap (option_map part_view) (slice_get_read parts (length parts) i p refl less is)
 
-pub taken_here : (before : List Component) (parts : List Part) (i : ℕ) (p : Part) → i < length parts → p ≡ get_or parts i p → is_taken (before ++ map part_view (take i parts)) (part_view p) ≡ is_taken_at before (map part_view parts) i
+pub taken_here : (before : List Component) (parts : List Part) (i : ℕ) (p : Part) → i < length parts → p ≡ get_or parts
+    i p → is_taken (before ++ map part_view (take i parts)) (part_view p) ≡ is_taken_at before (map part_view parts) i
 taken_here before parts i p less is =
     ap (λ ps. is_taken (before ++ ps) (part_view p)) (sym (take-map part_view i parts))
     ∙ ap (λ o. elim o [ None ↦ false | Some q ↦ is_taken (before ++ take i (map part_view parts)) q ]) (sym (part_at parts i p less is))
 
 -- those that are gone over, with one more
-pub one_more : (before : List Component) (parts : List Part) (i : ℕ) (p : Part) → i < length parts → p ≡ get_or parts i p → (before ++ map part_view (take i parts)) ++ part_view p ∷ [] ≡ before ++ map part_view (take (i + 1) parts)
+pub one_more : (before : List Component) (parts : List Part) (i : ℕ) (p : Part) → i < length parts → p ≡ get_or parts i
+    p → (before ++ map part_view (take i parts)) ++ part_view p ∷ [] ≡ before ++ map part_view (take (i + 1) parts)
 one_more before parts i p less is =
     append_assoc before (map part_view (take i parts)) (part_view p ∷ [])
     ∙ ap (λ ps. before ++ ps) (sym (map_more part_view parts i p less ∙ ap (λ q. map part_view (take i parts) ++ part_view q ∷ []) (sym is)))
@@ -225,7 +236,8 @@ pub none_first : (before : List Component) (ps : List Component) → IsFirstBelo
 none_first before ps = λ j less. absurd (omega (arith, less))
 
 -- no component stands behind the last one
-pub first_of_all : (before : List Component) (parts : List Part) (i : ℕ) (r : Option ℕ) → length parts ≤ i → IsFirstBelow (is_taken_at before (map part_view parts)) i r → IsFirst (is_taken_at before (map part_view parts)) r
+pub first_of_all : (before : List Component) (parts : List Part) (i : ℕ) (r : Option ℕ) → length parts ≤ i
+    → IsFirstBelow (is_taken_at before (map part_view parts)) i r → IsFirst (is_taken_at before (map part_view parts)) r
 first_of_all before parts i (Some k) past f = f
 first_of_all before parts i None past f = λ j. by j (nat_lt j i) refl
   where

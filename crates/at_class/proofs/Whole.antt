@@ -46,20 +46,30 @@ unfolding classes_of
 names_declared xs = names_of (class_named (declarations_view xs)) xs
 
 -- the table stands for the classes that are declared
-pub table_of_declared : {A : Type 0} (keys : List (String A)) (ks lent : List Class) (es : List Entry) (xs : List ClassDecl) → map string_bytes keys ≡ map (λ d. string_bytes d.name) xs → classes_view ks ≡ classes_of (declarations_view xs)
-    → lent ≡ ks → AreEntries lent es (length lent) → AreSound (classes_of (declarations_view xs)) → IsHierarchy (classes_of (declarations_view xs)) → table_view keys es ≡ classes_of (declarations_view xs)
+pub table_of_declared : {A : Type 0} (keys : List (String A)) (ks lent : List Class) (es : List Entry)
+    (xs : List ClassDecl) → map string_bytes keys ≡ map (λ d. string_bytes d.name) xs
+    → classes_view ks ≡ classes_of (declarations_view xs)
+    → lent ≡ ks → AreEntries lent es (length lent) → AreSound (classes_of (declarations_view xs))
+        → IsHierarchy (classes_of (declarations_view xs)) → table_view keys es ≡ classes_of (declarations_view xs)
 table_of_declared keys ks lent es xs same e is are sound hierarchy =
     let f : classes_view lent ≡ classes_of (declarations_view xs) = ap classes_view is ∙ e in
-    table-declared keys lent es (same ∙ sym (ap (map (λ (k : ModelClass). k.name)) f ∙ names_declared xs)) are (subst AreLed (sym f) (led (classes_of (declarations_view xs)) hierarchy sound.some)) (subst IsHierarchy (sym f) hierarchy) ∙ f
+    table-declared keys lent es (same ∙ sym (ap (map (λ (k : ModelClass). k.name)) f ∙ names_declared xs)) are
+        (subst AreLed (sym f) (led (classes_of (declarations_view xs)) hierarchy sound.some))
+        (subst IsHierarchy (sym f) hierarchy) ∙ f
 
-pub is_table : {A : Type 0} (keys : List (String A)) (ks lent : List Class) (es : List Entry) (is : List Interval) (start : ℕ) (xs : List ClassDecl) → start ≡ 0 → map string_bytes keys ≡ map (λ d. string_bytes d.name) xs → classes_view ks ≡ classes_of (declarations_view xs)
-    → lent ≡ ks → AreEntries lent es (length lent) → AreSound (classes_of (declarations_view xs)) → IsHierarchy (classes_of (declarations_view xs)) → component_twice (declarations_view xs) ≡ None → AreIntervals (classes_view lent) is → IsTable keys es is start
+pub is_table : {A : Type 0} (keys : List (String A)) (ks lent : List Class) (es : List Entry) (is : List Interval)
+    (start : ℕ) (xs : List ClassDecl) → start ≡ 0 → map string_bytes keys ≡ map (λ d. string_bytes d.name) xs
+    → classes_view ks ≡ classes_of (declarations_view xs)
+    → lent ≡ ks → AreEntries lent es (length lent) → AreSound (classes_of (declarations_view xs))
+        → IsHierarchy (classes_of (declarations_view xs)) → component_twice (declarations_view xs) ≡ None
+        → AreIntervals (classes_view lent) is → IsTable keys es is start
 is_table keys ks lent es numbers start xs first same e is are sound hierarchy once right =
     let t : table_view keys es ≡ classes_of (declarations_view xs) = table_of_declared keys ks lent es xs same e is are sound hierarchy in
     let f : classes_view lent ≡ table_view keys es = ap classes_view is ∙ e ∙ sym t in
     record {
       count = sym (length-map keys string_bytes) ∙ ap length same ∙ length-map xs (λ (d : ClassDecl). string_bytes d.name) ∙ sym (as_many lent xs (ap classes_view is ∙ e)) ∙ sym are.count;
-      parts = λ c d less. subst (λ classes. map part_view (get_or es c d).parts.items ≡ parts classes c) f (are.each c (spare lent c (subst (λ n. c < n) are.count less)) d (subst (λ n. c < n) are.count less)).parts;
+      parts = λ c d less. subst (λ classes. map part_view (get_or es c d).parts.items ≡ parts classes c) f
+          (are.each c (spare lent c (subst (λ n. c < n) are.count less)) d (subst (λ n. c < n) are.count less)).parts;
       numbers = subst (λ classes. AreIntervals classes numbers) f right;
       first = first;
       sound = subst AreSound (sym t) sound;

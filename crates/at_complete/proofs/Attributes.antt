@@ -61,7 +61,8 @@ inherited_at rules attribute a there = ap (λ (o : Option Attribute). elim o [ N
 name_at : (rules : Rules) (attribute : ℕ) (a : Attribute) → slice_get rules.attributes attribute ≡ Some a → attribute_name rules attribute ≡ a.name
 name_at rules attribute a there = ap (λ (o : Option Attribute). elim o [ None ↦ [] | Some x ↦ x.name ]) there
 
-class_at : (rules : Rules) (attribute : ℕ) (a : Attribute) → slice_get rules.attributes attribute ≡ Some a → option_map (λ (x : Attribute). x.class) (slice_get rules.attributes attribute) ≡ Some a.class
+class_at : (rules : Rules) (attribute : ℕ) (a : Attribute) → slice_get rules.attributes attribute ≡ Some a
+    → option_map (λ (x : Attribute). x.class) (slice_get rules.attributes attribute) ≡ Some a.class
 class_at rules attribute a there = ap (option_map (λ (x : Attribute). x.class)) there
 
 -- synthesized ones ----------------------------------------------------------------------------------------------------
@@ -76,7 +77,8 @@ pub no_attribute : (rules : Rules) (attribute : ℕ) → None ≡ option_map (λ
 no_attribute rules attribute none (a, there, synthesized, lacks) = none-some a.class (none ∙ class_at rules attribute a there)
 
 -- a synthesized attribute lacks an equation where a class that fits its class does
-pub is_synthesized : (rules : Rules) (attribute class : ℕ) (b : Bool) → is_inherited rules attribute ≡ false → Some class ≡ option_map (λ (a : Attribute). a.class) (slice_get rules.attributes attribute)
+pub is_synthesized : (rules : Rules) (attribute class : ℕ) (b : Bool) → is_inherited rules attribute ≡ false
+    → Some class ≡ option_map (λ (a : Attribute). a.class) (slice_get rules.attributes attribute)
     → Tells b (LacksBelow rules class attribute) → Tells b (LacksOwn rules attribute)
 is_synthesized rules attribute class b synthesized declared told = by (slice_get rules.attributes attribute) refl declared
   where
@@ -101,7 +103,8 @@ module _ {S : Type 0} (rules : Rules) where
   none_met m empty = λ name w there. absurd (none-some w (sym (ap (lookup (λ (k : Bor (List ℕ)). bytes_eq name k.now)) empty) ∙ there))
 
   -- one more walk is noted
-  pub meets_more : (key : Bor (List ℕ)) (name : List ℕ) (old new : IndexMap (Bor (List ℕ)) Walk S) (w : Walk) → key.now ≡ name → ((q : Bor (List ℕ)) → walk_for q.now new ≡ cond (bytes_eq key.now q.now) (Some w) (walk_for q.now old))
+  pub meets_more : (key : Bor (List ℕ)) (name : List ℕ) (old new : IndexMap (Bor (List ℕ)) Walk S) (w : Walk) → key.now
+      ≡ name → ((q : Bor (List ℕ)) → walk_for q.now new ≡ cond (bytes_eq key.now q.now) (Some w) (walk_for q.now old))
       → MeetsExposed rules name w → MeetExposed rules old → MeetExposed rules new
   meets_more key name old new w is updates meets known = λ n v there. by n (bytes_eq key.now n) refl v (sym (updates (record { ref_ptr = key.ref_ptr; now = n })) ∙ there)
     where
@@ -110,18 +113,24 @@ module _ {S : Type 0} (rules : Rules) where
       by n false other v there = known n v there
 
   -- what the walk of the name tells
-  pub tells_met : (attribute : ℕ) (m : IndexMap (Bor (List ℕ)) Walk S) (o : Option Walk) (class : Option ℕ) → walk_for (attribute_name rules attribute) m ≡ o → is_some o ≡ true → MeetExposed rules m → is_inherited rules attribute ≡ true
+  pub tells_met : (attribute : ℕ) (m : IndexMap (Bor (List ℕ)) Walk S) (o : Option Walk) (class : Option ℕ)
+      → walk_for (attribute_name rules attribute) m ≡ o → is_some o ≡ true → MeetExposed rules m
+      → is_inherited rules attribute ≡ true
       → class ≡ option_map (λ (a : Attribute). a.class) (slice_get rules.attributes attribute) → Tells (is_among o class) (LacksInherited rules attribute)
   tells_met attribute m None class at some known inherited declared = absurd (true≢false (sym some))
   tells_met attribute m (Some w) class at some known inherited declared = by (slice_get rules.attributes attribute) refl
     where
-      here : (a : Attribute) → slice_get rules.attributes attribute ≡ Some a → (t : Bool) → Tells t (IsExposedBelow rules (attribute_name rules attribute) a.class) → Tells t (LacksInherited rules attribute)
+      here : (a : Attribute) → slice_get rules.attributes attribute ≡ Some a → (t : Bool) → Tells t
+          (IsExposedBelow rules (attribute_name rules attribute) a.class) → Tells t (LacksInherited rules attribute)
       here a there true told = (a, there, sym (inherited_at rules attribute a there) ∙ inherited, subst (λ name. IsExposedBelow rules name a.class) (name_at rules attribute a there) told)
       here a there false told = λ lacks.
-          told (subst (λ name. IsExposedBelow rules name a.class) (sym (name_at rules attribute a there)) (subst (λ (x : Attribute). IsExposedBelow rules x.name x.class) (some_is lacks.0 a (sym lacks.1 ∙ there)) lacks.3))
+          told (subst (λ name. IsExposedBelow rules name a.class) (sym (name_at rules attribute a there))
+              (subst (λ (x : Attribute). IsExposedBelow rules x.name x.class)
+              (some_is lacks.0 a (sym lacks.1 ∙ there)) lacks.3))
 
       by : (o : Option Attribute) → slice_get rules.attributes attribute ≡ o → Tells (is_among (Some w) class) (LacksInherited rules attribute)
-      by None none = subst (λ c. Tells (is_among (Some w) c) (LacksInherited rules attribute)) (sym (declared ∙ ap (option_map (λ (a : Attribute). a.class)) none)) (λ lacks. none-some lacks.0 (sym none ∙ lacks.1))
+      by None none = subst (λ c. Tells (is_among (Some w) c) (LacksInherited rules attribute)) (sym (declared
+          ∙ ap (option_map (λ (a : Attribute). a.class)) none)) (λ lacks. none-some lacks.0 (sym none ∙ lacks.1))
       by (Some a) there =
           subst (λ c. Tells (is_among (Some w) c) (LacksInherited rules attribute)) (sym (declared ∙ class_at rules attribute a there))
           (here a there (has_met w.met.items a.class) (known (attribute_name rules attribute) w at a.class))

@@ -36,7 +36,9 @@ off true s t e = refl
 off false s t e = sym (ap (λ u. u && t) e)
 
 -- one class more in one list
-pub one_more : {Z : Type 0} (lists : List (Vec ℕ Z)) (p : ℕ) (v : Vec ℕ Z) (x : ℕ) → p < length lists → v.items ≡ listed_at lists p ++ x ∷ [] → (c d : ℕ) → is_in d (listed_at (slice_set lists p v) c) ≡ (is_in d (listed_at lists c) || (nat_eq c p && nat_eq d x))
+pub one_more : {Z : Type 0} (lists : List (Vec ℕ Z)) (p : ℕ) (v : Vec ℕ Z) (x : ℕ) → p < length lists
+    → v.items ≡ listed_at lists p ++ x ∷ [] → (c d : ℕ)
+    → is_in d (listed_at (slice_set lists p v) c) ≡ (is_in d (listed_at lists c) || (nat_eq c p && nat_eq d x))
 one_more [] p v x less is c d = absurd (omega (arith, less))
 one_more (w ∷ ws) zero v x less is zero d = ap (is_in d) is ∙ list_any-append (nat_eq d) w.items (x ∷ []) ∙ ap (λ b. is_in d w.items || b) (off (nat_eq d x))
   where
@@ -100,7 +102,8 @@ listed_more classes i o before after is old new c d =
     next false false false x y z = refl
 
 -- all of them are listed
-pub listed_all : (classes : Classes) (n : ℕ) (listed : ℕ → ℕ → Bool) → n ≡ length classes → ((c d : ℕ) → listed c d ≡ (nat_lt d n && is_child classes c d)) → (c d : ℕ) → listed c d ≡ is_child classes c d
+pub listed_all : (classes : Classes) (n : ℕ) (listed : ℕ → ℕ → Bool) → n ≡ length classes
+    → ((c d : ℕ) → listed c d ≡ (nat_lt d n && is_child classes c d)) → (c d : ℕ) → listed c d ≡ is_child classes c d
 listed_all classes n listed count each c d = each c d ∙ by (nat_lt d n) refl
   where
     by : (b : Bool) → nat_lt d n ≡ b → (b && is_child classes c d) ≡ is_child classes c d
@@ -145,11 +148,14 @@ read_list (w ∷ ws) (suc p) d less = read_list ws p d (omega (arith, less))
 some_within : (o : Option ℕ) (p q m : ℕ) → IfSome o (λ x. x < m) → o ≡ Some q → p ≡ q → p < m
 some_within o p q m less is e = subst (λ x. x < m) (sym e) (subst (λ x. IfSome x (λ y. y < m)) is less)
 
-pub listed_put : {Z : Type 0} (lists : List (Vec ℕ Z)) (p q class : ℕ) (v w e : Vec ℕ Z) (o : Option ℕ) → IfSome o (λ x. x < length lists) → o ≡ Some q → p ≡ q → w ≡ get_or lists p e → v.items ≡ w.items ++ class ∷ []
+pub listed_put : {Z : Type 0} (lists : List (Vec ℕ Z)) (p q class : ℕ) (v w e : Vec ℕ Z) (o : Option ℕ)
+    → IfSome o (λ x. x < length lists) → o ≡ Some q → p ≡ q → w ≡ get_or lists p e → v.items ≡ w.items ++ class ∷ []
     → (c d : ℕ) → is_in d (listed_at (slice_set lists p v) c) ≡ (is_in d (listed_at lists c) || (option_eq nat_eq (Some c) o && nat_eq d class))
 listed_put {Z} lists p q class v w e o less is at' read pushed =
     let there = some_within o p q (length lists) less is at' in
     listed_one lists p class v o (is ∙ ap (λ x. Some x) (sym at')) there (pushed ∙ ap (λ (x : Vec ℕ Z). x.items ++ class ∷ []) read ∙ ap (λ xs. xs ++ class ∷ []) (read_list lists p e there))
 
-pub one_empty_more : {Z : Type 0} (lists new : List (Vec ℕ Z)) (v : Vec ℕ Z) (i : ℕ) → new ≡ lists ++ v ∷ [] → v.items ≡ [] → length lists ≡ i → ((c : ℕ) → listed_at lists c ≡ []) → (length new ≡ i + 1) × ((c : ℕ) → listed_at new c ≡ [])
-one_empty_more {Z} lists new v i is none count each = (omega (arith, ap length is, length-append lists (v ∷ []), count), λ c. ap (λ (xs : List (Vec ℕ Z)). listed_at xs c) is ∙ one_empty lists v none each c)
+pub one_empty_more : {Z : Type 0} (lists new : List (Vec ℕ Z)) (v : Vec ℕ Z) (i : ℕ) → new ≡ lists ++ v ∷ [] → v.items ≡
+    [] → length lists ≡ i → ((c : ℕ) → listed_at lists c ≡ []) → (length new ≡ i + 1) × ((c : ℕ) → listed_at new c ≡ [])
+one_empty_more {Z} lists new v i is none count each = (omega (arith, ap length is, length-append lists (v ∷ []), count),
+    λ c. ap (λ (xs : List (Vec ℕ Z)). listed_at xs c) is ∙ one_empty lists v none each c)

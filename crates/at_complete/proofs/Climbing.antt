@@ -125,7 +125,8 @@ longer classes b (suc k) (suc l) le (Some c) e = elim (in_either b c (chain_with
   | inr f ↦ or_right (nat_eq b c) (is_in b (chain_within l classes (parent_of classes c))) (longer classes b k l (omega (arith, le)) (parent_of classes c) f)
 ]
 
-joined : (classes : Classes) (a b m k l : ℕ) → m + k ≤ l → (o : Option ℕ) → is_in b (chain_within m classes o) ≡ true → is_in a (chain_within k classes (Some b)) ≡ true → is_in a (chain_within l classes o) ≡ true
+joined : (classes : Classes) (a b m k l : ℕ) → m + k ≤ l → (o : Option ℕ) → is_in b (chain_within m classes o) ≡ true
+    → is_in a (chain_within k classes (Some b)) ≡ true → is_in a (chain_within l classes o) ≡ true
 joined classes a b zero k l le o e f = no_list e
 joined classes a b (suc m) k zero le o e f = absurd (omega (arith, le))
 joined classes a b (suc m) k (suc l) le None e f = no_list e
@@ -142,7 +143,8 @@ sub_itself classes c less = on_chain classes c c (c ∷ []) (length classes) (re
 -- a class below one is below what is above it
 pub sub_above : (classes : Classes) → AreSound classes → (c b a : ℕ) → c < length classes → is_sub classes c b ≡ true → is_sub classes b a ≡ true → is_sub classes c a ≡ true
 unfolding chain
-sub_above classes sound c b a less e f = within classes sound c a (length classes + length classes) less (joined classes a b (length classes) (length classes) (length classes + length classes) (omega arith) (Some c) e f)
+sub_above classes sound c b a less e f = within classes sound c a (length classes + length classes) less
+    (joined classes a b (length classes) (length classes) (length classes + length classes) (omega arith) (Some c) e f)
 
 -- a class is below its superclass
 pub sub_parent : (classes : Classes) → AreSound classes → (c p : ℕ) → parent_of classes c ≡ Some p → is_sub classes c p ≡ true

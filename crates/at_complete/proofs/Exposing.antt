@@ -48,23 +48,31 @@ fits_above classes sound c b a e f =
     and_from (is_concrete classes c) _ parts.0 (sub_above classes sound c b a (concrete_within classes c parts.0) parts.1 f)
 
 pub above_within : (classes : Classes) → AreSound classes → (c b : ℕ) → fits classes c b ≡ true → b < length classes
-above_within classes sound c b e = ascends classes (λ d. d < length classes) (λ p d up less. parent_within classes sound d p up) c b (and_both (is_concrete classes c) (is_sub classes c b) e).1 (fits_within classes c b e)
+above_within classes sound c b e = ascends classes (λ d. d < length classes) (λ p d up less. parent_within classes sound
+    d p up) c b (and_both (is_concrete classes c) (is_sub classes c b) e).1 (fits_within classes c b e)
 
-pub passed_parts : (rules : Rules) (name : List ℕ) (c part d : ℕ) → passed rules name c part ≡ Some d → (inherited_equation rules c part name ≡ None) × (option_and_then (λ p. class_in p.shape) (slice_get (parts rules.classes c) part) ≡ Some d)
+pub passed_parts : (rules : Rules) (name : List ℕ) (c part d : ℕ) → passed rules name c part ≡ Some d
+    → (inherited_equation rules c part name ≡ None)
+    × (option_and_then (λ p. class_in p.shape) (slice_get (parts rules.classes c) part) ≡ Some d)
 passed_parts rules name c part d e = by (inherited_equation rules c part name) refl
   where
-    by : (o : Option Expr) → inherited_equation rules c part name ≡ o → (inherited_equation rules c part name ≡ None) × (option_and_then (λ p. class_in p.shape) (slice_get (parts rules.classes c) part) ≡ Some d)
+    by : (o : Option Expr) → inherited_equation rules c part name ≡ o → (inherited_equation rules c part name ≡ None)
+        × (option_and_then (λ p. class_in p.shape) (slice_get (parts rules.classes c) part) ≡ Some d)
     by None f = (f, sym (ap (λ (o : Option Expr). if is_none o then option_and_then (λ p. class_in p.shape) (slice_get (parts rules.classes c) part) else None) f) ∙ e)
     by (Some x) f = absurd (none-some d (sym (ap (λ (o : Option Expr). if is_none o then option_and_then (λ p. class_in p.shape) (slice_get (parts rules.classes c) part) else None) f) ∙ e))
 
-pub passed_from : (rules : Rules) (name : List ℕ) (c part d : ℕ) → inherited_equation rules c part name ≡ None → option_and_then (λ p. class_in p.shape) (slice_get (parts rules.classes c) part) ≡ Some d → passed rules name c part ≡ Some d
+pub passed_from : (rules : Rules) (name : List ℕ) (c part d : ℕ) → inherited_equation rules c part name ≡ None
+    → option_and_then (λ p. class_in p.shape) (slice_get (parts rules.classes c) part) ≡ Some d
+    → passed rules name c part ≡ Some d
 passed_from rules name c part d none there = ap (λ (o : Option Expr). if is_none o then option_and_then (λ p. class_in p.shape) (slice_get (parts rules.classes c) part) else None) none ∙ there
 
 -- what the code finds of one component
 pub passed_over : (rules : Rules) (name : List ℕ) (c part : ℕ) (e : Expr) → Some e ≡ inherited_equation rules c part name → None ≡ passed rules name c part
 passed_over rules name c part e has = ap (λ (o : Option Expr). if is_none o then option_and_then (λ p. class_in p.shape) (slice_get (parts rules.classes c) part) else None) has
 
-pub passed_down : (rules : Rules) (name : List ℕ) (c part : ℕ) (ps : List Component) → ps ≡ parts rules.classes c → None ≡ inherited_equation rules c part name → option_and_then (λ p. class_in p.shape) (slice_get ps part) ≡ passed rules name c part
+pub passed_down : (rules : Rules) (name : List ℕ) (c part : ℕ) (ps : List Component) → ps ≡ parts rules.classes c
+    → None ≡ inherited_equation rules c part name
+    → option_and_then (λ p. class_in p.shape) (slice_get ps part) ≡ passed rules name c part
 passed_down rules name c part ps same none =
     ap (λ (qs : List Component). option_and_then (λ p. class_in p.shape) (slice_get qs part)) same
     ∙ ap (λ (o : Option Expr). if is_none o then option_and_then (λ p. class_in p.shape) (slice_get (parts rules.classes c) part) else None) none
@@ -101,9 +109,13 @@ pub exposed_concrete : (rules : Rules) (name : List ℕ) (c : ℕ) → Exposed r
 exposed_concrete rules name c (as_root _ e) = (and_both (is_concrete rules.classes c) _ e).0
 exposed_concrete rules name d (below c _ x passes) = (and_both (is_concrete rules.classes d) _ passes.fit).0
 
-met_below : (rules : Rules) (name : List ℕ) (met : List Bool) → ((c d : ℕ) → has_met met c ≡ true → d < length rules.classes → leads rules name c d ≡ true → has_met met d ≡ true) → (c b : ℕ) → fits rules.classes c b ≡ true → has_met met b ≡ true → has_met met c ≡ true
+met_below : (rules : Rules) (name : List ℕ) (met : List Bool)
+    → ((c d : ℕ) → has_met met c ≡ true → d < length rules.classes → leads rules name c d ≡ true → has_met met d ≡ true)
+    → (c b : ℕ) → fits rules.classes c b ≡ true → has_met met b ≡ true → has_met met c ≡ true
 met_below rules name met closed c b e there =
-    descends rules.classes (λ d. has_met met d ≡ true) (λ p d up m. closed p d m (child_within rules.classes d p up) (or_left (is_child rules.classes p d) _ (is_some_from _ p up))) c b (and_both (is_concrete rules.classes c) _ e).1 there
+    descends rules.classes (λ d. has_met met d ≡ true) (λ p d up m.
+        closed p d m (child_within rules.classes d p up) (or_left (is_child rules.classes p d) _ (is_some_from _ p up)))
+        c b (and_both (is_concrete rules.classes c) _ e).1 there
 
 there : (rules : Rules) (c part b : ℕ) → option_and_then (λ p. class_in p.shape) (slice_get (parts rules.classes c) part) ≡ Some b → part < length (parts rules.classes c)
 there rules c part b e = by (slice_get (parts rules.classes c) part) refl
@@ -113,12 +125,16 @@ there rules c part b e = by (slice_get (parts rules.classes c) part) refl
     by (Some p) f = slice_get_within (parts rules.classes c) part p f
 
 -- what is closed under leading has all that is exposed
-pub exposed_met : (rules : Rules) → AreSound rules.classes → (name : List ℕ) (met : List Bool) → has_met met 0 ≡ true → ((c d : ℕ) → has_met met c ≡ true → d < length rules.classes → leads rules name c d ≡ true → has_met met d ≡ true) → (c : ℕ) → Exposed rules name c → has_met met c ≡ true
+pub exposed_met : (rules : Rules) → AreSound rules.classes → (name : List ℕ) (met : List Bool) → has_met met 0 ≡ true
+    → ((c d : ℕ) → has_met met c ≡ true → d < length rules.classes → leads rules name c d ≡ true → has_met met d ≡ true)
+    → (c : ℕ) → Exposed rules name c → has_met met c ≡ true
 exposed_met rules sound name met start closed c (as_root _ e) = met_below rules name met closed c 0 e start
 exposed_met rules sound name met start closed d (below c _ x passes) =
     let b = passes.class in
     met_below rules name met closed d b passes.fit (closed c b (exposed_met rules sound name met start closed c x) (above_within rules.classes sound d b passes.fit)
-    (or_right (is_child rules.classes c b) _ (and_from (is_concrete rules.classes c) _ (exposed_concrete rules name c x) (passed_among rules name (length (parts rules.classes c)) c b passes.part (there rules c passes.part b passes.trees) (passed_from rules name c passes.part b passes.without passes.trees)))))
+    (or_right (is_child rules.classes c b) _ (and_from (is_concrete rules.classes c) _ (exposed_concrete rules name c x)
+        (passed_among rules name (length (parts rules.classes c)) c b passes.part (there rules c passes.part b
+        passes.trees) (passed_from rules name c passes.part b passes.without passes.trees)))))
 
 pub has_below_itself : (classes : Classes) (met : List Bool) (c : ℕ) → (has_met met c && is_concrete classes c) ≡ true → HasBelow classes met c
 has_below_itself classes met c e = let (x, y) = and_both (has_met met c) (is_concrete classes c) e in (c, fits_itself classes c y, x)
@@ -139,7 +155,8 @@ marked rules sound name met marks passes both w v b = by (has_met marks b) refl
         let met_too = exposed_met rules sound name met (w.started 0 sound.some refl) w.closed c x in
         let concrete = exposed_concrete rules name c x in
         let there = ascends rules.classes (λ d. has_met marks d ≡ true) (λ p d up m. v.closed d p m (parent_within rules.classes sound d p up) (some_is_from (parent_of rules.classes d) p up))
-        c b (and_both (is_concrete rules.classes c) (is_sub rules.classes c b) f).1 (v.started c (concrete_within rules.classes c concrete) (and_from (has_met met c) (is_concrete rules.classes c) met_too concrete)) in
+        c b (and_both (is_concrete rules.classes c) (is_sub rules.classes c b) f).1 (v.started c (concrete_within
+            rules.classes c concrete) (and_from (has_met met c) (is_concrete rules.classes c) met_too concrete)) in
         true≢false (sym there ∙ e)
 
 -- each class is looked at, up to the last one
@@ -175,13 +192,15 @@ picks_more classes met i o a b c p q r is m k =
     spread false true false = refl
     spread false false t = refl
 
-    by : (e : ℕ) → ((nat_lt e i && is_met_concrete classes met e) || option_eq nat_eq (Some e) (if is_met_concrete classes met i then Some i else None)) ≡ (nat_lt e (i + 1) && is_met_concrete classes met e)
+    by : (e : ℕ) → ((nat_lt e i && is_met_concrete classes met e) || option_eq nat_eq (Some e)
+        (if is_met_concrete classes met i then Some i else None)) ≡ (nat_lt e (i + 1) && is_met_concrete classes met e)
     by e =
         ap (λ b. (nat_lt e i && is_met_concrete classes met e) || b) (chosen e (is_met_concrete classes met i) (nat_eq e i) refl ∙ moved e (nat_eq e i) refl)
         ∙ spread (nat_eq e i) (nat_lt e i) (is_met_concrete classes met e)
         ∙ ap (λ b. b && is_met_concrete classes met e) (sym (next e (nat_eq e i) (nat_lt e i) (nat_lt e (i + 1)) refl refl refl))
 
-pub picked_all : (classes : Classes) (met a b : List Bool) (p q : List ℕ) → Meets (λ e. nat_lt e (length classes) && is_met_concrete classes met e) a b p q → Meets (is_met_concrete classes met) a b p q
+pub picked_all : (classes : Classes) (met a b : List Bool) (p q : List ℕ) → Meets (λ e. nat_lt e (length classes)
+    && is_met_concrete classes met e) a b p q → Meets (is_met_concrete classes met) a b p q
 picked_all classes met a b p q m = meets_like _ _ (λ e. by e (is_met_concrete classes met e) refl) a b p q m
   where
     by : (e : ℕ) (t : Bool) → is_met_concrete classes met e ≡ t → (nat_lt e (length classes) && is_met_concrete classes met e) ≡ is_met_concrete classes met e
@@ -201,23 +220,31 @@ passes_more rules name class i o a b c p q r is m k =
     (meets_like _ _ (λ e. ap (λ o. is_passed rules name i class e || option_eq nat_eq (Some e) o) is) a c p r (meets_more _ _ a b c p q r m k))
 
 -- the classes to which a class leads: below it, and, where it isn't abstract, in its components
-pub leads_concrete : (rules : Rules) (name : List ℕ) (class n : ℕ) (t : ℕ → Bool) (a b c : List Bool) (p q r : List ℕ) → ((e : ℕ) → t e ≡ is_child rules.classes class e) → is_concrete rules.classes class ≡ true → n ≡ length (parts rules.classes class)
+pub leads_concrete : (rules : Rules) (name : List ℕ) (class n : ℕ) (t : ℕ → Bool) (a b c : List Bool) (p q r : List ℕ)
+    → ((e : ℕ) → t e ≡ is_child rules.classes class e) → is_concrete rules.classes class ≡ true
+    → n ≡ length (parts rules.classes class)
     → Meets t a b p q → Meets (is_passed rules name n class) b c q r → Meets (leads rules name class) a c p r
 leads_concrete rules name class n t a b c p q r child concrete count m k =
-    meets_like _ _ (λ e. ap₂ (λ u v. u || is_passed rules name v class e) (child e) count ∙ ap (λ u. is_child rules.classes class e || (u && is_passed rules name (length (parts rules.classes class)) class e)) (sym concrete)) a c p r
+    meets_like _ _ (λ e. ap₂ (λ u v. u || is_passed rules name v class e) (child e) count
+        ∙ ap (λ u. is_child rules.classes class e
+        || (u && is_passed rules name (length (parts rules.classes class)) class e)) (sym concrete)) a c p r
     (meets_more _ _ a b c p q r m k)
 
-pub leads_abstract : (rules : Rules) (name : List ℕ) (class : ℕ) (t : ℕ → Bool) (a b : List Bool) (p q : List ℕ) → ((e : ℕ) → t e ≡ is_child rules.classes class e) → is_concrete rules.classes class ≡ false
+pub leads_abstract : (rules : Rules) (name : List ℕ) (class : ℕ) (t : ℕ → Bool) (a b : List Bool) (p q : List ℕ)
+    → ((e : ℕ) → t e ≡ is_child rules.classes class e) → is_concrete rules.classes class ≡ false
     → Meets t a b p q → Meets (leads rules name class) a b p q
 leads_abstract rules name class t a b p q child abstract' m =
-    meets_like _ _ (λ e. child e ∙ off (is_child rules.classes class e) ∙ ap (λ u. is_child rules.classes class e || (u && is_passed rules name (length (parts rules.classes class)) class e)) (sym abstract')) a b p q m
+    meets_like _ _ (λ e. child e ∙ off (is_child rules.classes class e) ∙ ap (λ u. is_child rules.classes class e
+        || (u && is_passed rules name (length (parts rules.classes class)) class e)) (sym abstract')) a b p q m
   where
     off : (b : Bool) → b ≡ (b || false)
     off true = refl
     off false = refl
 
 -- the walk, step by step
-pub exposing_begins : (rules : Rules) → AreSound rules.classes → (name : List ℕ) (count first : ℕ) (met : List Bool) (pending : List ℕ) → count ≡ length rules.classes → first ≡ 0 → Meets (λ c. nat_eq c first) (replicate count false) met [] pending
+pub exposing_begins : (rules : Rules) → AreSound rules.classes
+    → (name : List ℕ) (count first : ℕ) (met : List Bool) (pending : List ℕ) → count ≡ length rules.classes → first ≡ 0
+    → Meets (λ c. nat_eq c first) (replicate count false) met [] pending
     → Walking (length rules.classes) (λ c. nat_eq c 0) (leads rules name) (λ c. true) (AllExposed rules name) 0 met pending
 exposing_begins rules sound name count first met pending all start m =
     begins (length rules.classes) (λ c. nat_eq c 0) (leads rules name) (λ c. true) (AllExposed rules name) met pending
@@ -226,10 +253,13 @@ exposing_begins rules sound name count first met pending all start m =
     (λ c less e. subst (AllExposed rules name) (sym (eqb-true c 0 e)) (λ k f. as_root k f))
 
 pub exposing_on : (rules : Rules) → AreSound rules.classes → (name : List ℕ) (i c : ℕ) (o : Option ℕ) (met old after : List Bool) (pending rest waiting : List ℕ)
-    → Walking (length rules.classes) (λ c. nat_eq c 0) (leads rules name) (λ c. true) (AllExposed rules name) i met pending → old ≡ met → pending ≡ rest ++ option_to_list o → o ≡ Some c → Meets (leads rules name c) old after rest waiting
+    → Walking (length rules.classes) (λ c. nat_eq c 0) (leads rules name) (λ c. true) (AllExposed rules name) i met
+        pending → old ≡ met → pending ≡ rest ++ option_to_list o → o ≡ Some c
+        → Meets (leads rules name c) old after rest waiting
     → Walking (length rules.classes) (λ c. nat_eq c 0) (leads rules name) (λ c. true) (AllExposed rules name) (i + 1) after waiting
 exposing_on rules sound name i c o met old after pending rest waiting w same_met taken is m =
-    steps (length rules.classes) (λ c. nat_eq c 0) (leads rules name) (λ c. true) (AllExposed rules name) i c o met old after pending rest waiting w same_met taken is m refl (λ d good less l. leads_on rules sound name c d good l)
+    steps (length rules.classes) (λ c. nat_eq c 0) (leads rules name) (λ c. true) (AllExposed rules name) i c o met old
+        after pending rest waiting w same_met taken is m refl (λ d good less l. leads_on rules sound name c d good l)
 
 pub exposing_stops : (rules : Rules) (name : List ℕ) (i : ℕ) (o : Option ℕ) (met old : List Bool) (pending : List ℕ)
     → Walking (length rules.classes) (λ c. nat_eq c 0) (leads rules name) (λ c. true) (AllExposed rules name) i met pending → old ≡ met → o ≡ None → IfNone o (length pending ≡ 0)
@@ -240,7 +270,8 @@ exposing_stops rules name i o met old pending w same_met is none =
 pub marking_begins : (classes : Classes) (exposed met : List Bool) (pending : List ℕ) → Meets (is_met_concrete classes exposed) (replicate (length classes) false) met [] pending
     → Walking (length classes) (is_met_concrete classes exposed) (leads_up classes) (λ c. true) (HasBelow classes exposed) 0 met pending
 marking_begins classes exposed met pending m =
-    begins (length classes) (is_met_concrete classes exposed) (leads_up classes) (λ c. true) (HasBelow classes exposed) met pending m (length-replicate (length classes) false) (λ c less e. has_below_itself classes exposed c e)
+    begins (length classes) (is_met_concrete classes exposed) (leads_up classes) (λ c. true) (HasBelow classes exposed)
+        met pending m (length-replicate (length classes) false) (λ c less e. has_below_itself classes exposed c e)
 
 pub marking_on : (classes : Classes) → AreSound classes → (exposed : List Bool) (i c : ℕ) (o up : Option ℕ) (met old after : List Bool) (pending rest waiting : List ℕ)
     → Walking (length classes) (is_met_concrete classes exposed) (leads_up classes) (λ c. true) (HasBelow classes exposed) i met pending → old ≡ met → pending ≡ rest ++ option_to_list o → o ≡ Some c
@@ -256,7 +287,8 @@ pub marking_stops : (classes : Classes) (exposed : List Bool) (i : ℕ) (o : Opt
 marking_stops classes exposed i o met old pending w same_met is none =
     stops (length classes) (is_met_concrete classes exposed) (leads_up classes) (λ c. true) (HasBelow classes exposed) i met old pending w same_met (subst (λ x. IfNone x (length pending ≡ 0)) is none)
 
-pub picks_begin : (test : ℕ → Bool) (count n : ℕ) (fresh : List Bool) (pending : List ℕ) → count ≡ n → fresh ≡ replicate count false → pending ≡ [] → Meets (λ c. nat_lt c 0 && test c) (replicate n false) fresh [] pending
+pub picks_begin : (test : ℕ → Bool) (count n : ℕ) (fresh : List Bool) (pending : List ℕ) → count ≡ n → fresh
+    ≡ replicate count false → pending ≡ [] → Meets (λ c. nat_lt c 0 && test c) (replicate n false) fresh [] pending
 picks_begin test count n fresh pending all is none =
     subst (λ ms. Meets (λ c. nat_lt c 0 && test c) (replicate n false) ms [] pending) (sym (is ∙ ap (λ k. replicate k false) all))
     (subst (λ ps. Meets (λ c. nat_lt c 0 && test c) (replicate n false) (replicate n false) [] ps) (sym none)

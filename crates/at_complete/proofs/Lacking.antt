@@ -55,7 +55,9 @@ lacks_none_above rules sound b attribute e has (c, f, none) =
     none-some e (sym (without_each rules attribute b (λ x s. each_without rules attribute c none x (sub_above rules.classes sound c b x (fits_within rules.classes c b f) sub s))) ∙ has)
 
 -- where the walk is over
-pub lacks_none : (rules : Rules) → AreSound rules.classes → (b attribute : ℕ) (met : List Bool) → Walked (length rules.classes) (λ c. nat_eq c b) (leads_own rules attribute) (passes_own rules attribute) (IsWithoutAbove rules b attribute) met → LacksBelow rules b attribute → ⊥
+pub lacks_none : (rules : Rules) → AreSound rules.classes → (b attribute : ℕ) (met : List Bool)
+    → Walked (length rules.classes) (λ c. nat_eq c b) (leads_own rules attribute) (passes_own rules attribute)
+    (IsWithoutAbove rules b attribute) met → LacksBelow rules b attribute → ⊥
 lacks_none rules sound b attribute met w (c, f, none) = elim (or_cases (is_some (own_in rules attribute c)) (not (is_concrete rules.classes c)) (w.passed c there)) [
   | inl e ↦ true≢false (sym e ∙ ap is_some own)
   | inr e ↦ true≢false (sym (sym (ap not concrete) ∙ e.1))
@@ -70,14 +72,17 @@ lacks_none rules sound b attribute met w (c, f, none) = elim (or_cases (is_some 
     on : (p d : ℕ) → parent_of rules.classes d ≡ Some p → (is_sub rules.classes c p ≡ true → has_met met p ≡ true) → is_sub rules.classes c d ≡ true → has_met met d ≡ true
     on p d up rest s =
         let above = sub_above rules.classes sound c d p (fits_within rules.classes c b f) s (sub_parent rules.classes sound d p up) in
-        w.closed p d (rest above) (child_within rules.classes d p up) (and_from (is_none (own_in rules attribute p)) (is_child rules.classes p d) (ap is_none (each_without rules attribute c none p above)) (is_some_from (parent_of rules.classes d) p up))
+        w.closed p d (rest above) (child_within rules.classes d p up)
+            (and_from (is_none (own_in rules attribute p)) (is_child rules.classes p d)
+            (ap is_none (each_without rules attribute c none p above)) (is_some_from (parent_of rules.classes d) p up))
 
     there : has_met met c ≡ true
     there = descends rules.classes (λ d. is_sub rules.classes c d ≡ true → has_met met d ≡ true) on c b (both (is_concrete rules.classes c) (is_sub rules.classes c b) f).1
         (λ s. w.started b (above_within rules.classes sound c b f) (same b b refl)) (sub_itself rules.classes c (fits_within rules.classes c b f))
 
 -- the walk, step by step
-pub lacking_begins : (rules : Rules) (b attribute count : ℕ) (met : List Bool) (pending : List ℕ) → own_equation rules b attribute ≡ None → count ≡ length rules.classes → Meets (λ c. nat_eq c b) (replicate count false) met [] pending
+pub lacking_begins : (rules : Rules) (b attribute count : ℕ) (met : List Bool) (pending : List ℕ) → own_equation rules b
+    attribute ≡ None → count ≡ length rules.classes → Meets (λ c. nat_eq c b) (replicate count false) met [] pending
     → Walking (length rules.classes) (λ c. nat_eq c b) (leads_own rules attribute) (passes_own rules attribute) (IsWithoutAbove rules b attribute) 0 met pending
 lacking_begins rules b attribute count met pending none all m =
     begins (length rules.classes) (λ c. nat_eq c b) (leads_own rules attribute) (passes_own rules attribute) (IsWithoutAbove rules b attribute) met pending
@@ -85,39 +90,51 @@ lacking_begins rules b attribute count met pending none all m =
     (λ c less e. without_begins rules b attribute none c less (eqb-true c b e))
 
 pub lacking_on : (rules : Rules) → AreSound rules.classes → (b attribute i c : ℕ) (o : Option ℕ) (met old after : List Bool) (pending rest waiting : List ℕ)
-    → Walking (length rules.classes) (λ c. nat_eq c b) (leads_own rules attribute) (passes_own rules attribute) (IsWithoutAbove rules b attribute) i met pending → old ≡ met → pending ≡ rest ++ option_to_list o → o ≡ Some c
+    → Walking (length rules.classes) (λ c. nat_eq c b) (leads_own rules attribute) (passes_own rules attribute)
+        (IsWithoutAbove rules b attribute) i met pending → old ≡ met → pending ≡ rest ++ option_to_list o → o ≡ Some c
     → (passes_own rules attribute c ≡ true) × Meets (leads_own rules attribute c) old after rest waiting
     → Walking (length rules.classes) (λ c. nat_eq c b) (leads_own rules attribute) (passes_own rules attribute) (IsWithoutAbove rules b attribute) (i + 1) after waiting
 lacking_on rules sound b attribute i c o met old after pending rest waiting w same_met taken is m =
-    steps (length rules.classes) (λ c. nat_eq c b) (leads_own rules attribute) (passes_own rules attribute) (IsWithoutAbove rules b attribute) i c o met old after pending rest waiting w same_met taken is m.1 m.0 (λ d good less l. without_on rules sound b attribute c d good l)
+    steps (length rules.classes) (λ c. nat_eq c b) (leads_own rules attribute) (passes_own rules attribute)
+        (IsWithoutAbove rules b attribute) i c o met old after pending rest waiting w same_met taken is m.1 m.0
+        (λ d good less l. without_on rules sound b attribute c d good l)
 
 pub lacking_found : (rules : Rules) (b attribute i c : ℕ) (o : Option ℕ) (met : List Bool) (pending rest : List ℕ)
-    → Walking (length rules.classes) (λ c. nat_eq c b) (leads_own rules attribute) (passes_own rules attribute) (IsWithoutAbove rules b attribute) i met pending → pending ≡ rest ++ option_to_list o → o ≡ Some c
+    → Walking (length rules.classes) (λ c. nat_eq c b) (leads_own rules attribute) (passes_own rules attribute)
+        (IsWithoutAbove rules b attribute) i met pending → pending ≡ rest ++ option_to_list o → o ≡ Some c
     → (own_in rules attribute c ≡ None) × (is_concrete rules.classes c ≡ true) → LacksBelow rules b attribute
 lacking_found rules b attribute i c o met pending rest w taken is (own, concrete) =
-    lacks_there rules b attribute c (taken_good (length rules.classes) (λ c. nat_eq c b) (leads_own rules attribute) (passes_own rules attribute) (IsWithoutAbove rules b attribute) i c o met pending rest w taken is) own concrete
+    lacks_there rules b attribute c (taken_good (length rules.classes) (λ c. nat_eq c b) (leads_own rules attribute)
+        (passes_own rules attribute) (IsWithoutAbove rules b attribute) i c o met pending rest w taken is) own concrete
 
 pub lacking_stops : (rules : Rules) → AreSound rules.classes → (b attribute i : ℕ) (o : Option ℕ) (met : List Bool) (pending : List ℕ)
-    → Walking (length rules.classes) (λ c. nat_eq c b) (leads_own rules attribute) (passes_own rules attribute) (IsWithoutAbove rules b attribute) i met pending → o ≡ None → IfNone o (length pending ≡ 0)
+    → Walking (length rules.classes) (λ c. nat_eq c b) (leads_own rules attribute) (passes_own rules attribute)
+        (IsWithoutAbove rules b attribute) i met pending → o ≡ None → IfNone o (length pending ≡ 0)
     → LacksBelow rules b attribute → ⊥
 lacking_stops rules sound b attribute i o met pending w is none =
-    lacks_none rules sound b attribute met (ends (length rules.classes) (λ c. nat_eq c b) (leads_own rules attribute) (passes_own rules attribute) (IsWithoutAbove rules b attribute) i met pending (subst (λ x. IfNone x (length pending ≡ 0)) is none) w)
+    lacks_none rules sound b attribute met
+        (ends (length rules.classes) (λ c. nat_eq c b) (leads_own rules attribute) (passes_own rules attribute)
+        (IsWithoutAbove rules b attribute) i met pending (subst (λ x. IfNone x (length pending ≡ 0)) is none) w)
 
 pub lacking_out : (rules : Rules) → AreSound rules.classes → (b attribute i : ℕ) (met : List Bool) (pending : List ℕ)
     → Walking (length rules.classes) (λ c. nat_eq c b) (leads_own rules attribute) (passes_own rules attribute) (IsWithoutAbove rules b attribute) i met pending → i ≡ length rules.classes
     → LacksBelow rules b attribute → ⊥
 lacking_out rules sound b attribute i met pending w full =
-    lacks_none rules sound b attribute met (ends_full (length rules.classes) (λ c. nat_eq c b) (leads_own rules attribute) (passes_own rules attribute) (IsWithoutAbove rules b attribute) i met pending full w)
+    lacks_none rules sound b attribute met (ends_full (length rules.classes) (λ c. nat_eq c b) (leads_own rules
+        attribute) (passes_own rules attribute) (IsWithoutAbove rules b attribute) i met pending full w)
 
 -- a class that has an equation is passed, and leads nowhere
-pub looks_past : (rules : Rules) (attribute c : ℕ) (e : Expr) (met : List Bool) (pending : List ℕ) → Some e ≡ own_in rules attribute c → (passes_own rules attribute c ≡ true) × Meets (leads_own rules attribute c) met met pending pending
+pub looks_past : (rules : Rules) (attribute c : ℕ) (e : Expr) (met : List Bool) (pending : List ℕ)
+    → Some e ≡ own_in rules attribute c → (passes_own rules attribute c ≡ true)
+    × Meets (leads_own rules attribute c) met met pending pending
 looks_past rules attribute c e met pending has = (
   ap (λ o. is_some o || not (is_concrete rules.classes c)) (sym has),
   meets_like _ _ (λ d. ap (λ o. is_none o && is_child rules.classes c d) has) met met pending pending (meets_none met pending),
 )
 
 -- one that is abstract is passed, and leads to those below
-pub looks_below : (rules : Rules) (attribute c : ℕ) (t : ℕ → Bool) (met after : List Bool) (pending waiting : List ℕ) → None ≡ own_in rules attribute c → is_concrete rules.classes c ≡ false → ((d : ℕ) → t d ≡ is_child rules.classes c d)
+pub looks_below : (rules : Rules) (attribute c : ℕ) (t : ℕ → Bool) (met after : List Bool) (pending waiting : List ℕ) →
+    None ≡ own_in rules attribute c → is_concrete rules.classes c ≡ false → ((d : ℕ) → t d ≡ is_child rules.classes c d)
     → Meets t met after pending waiting → (passes_own rules attribute c ≡ true) × Meets (leads_own rules attribute c) met after pending waiting
 looks_below rules attribute c t met after pending waiting has abstract' child m = (
   ap (λ o. is_some o || not (is_concrete rules.classes c)) (sym has) ∙ ap not abstract',

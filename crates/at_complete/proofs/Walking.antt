@@ -75,7 +75,8 @@ meets_more p q a b c x y z m n = record {
   met_too = λ e. n.met_too e ∙ ap₂ (λ s t. s || (nat_lt e t && q e)) (m.met_too e) m.size ∙ met (has_met a e) (nat_lt e (length a)) (p e) (q e);
   waits = λ e. n.waits e
       ∙ ap (λ s. s || (has_met c e && not (has_met b e))) (m.waits e)
-      ∙ waits (is_in e x) (has_met a e) (has_met b e) (has_met c e) (wider (has_met a e) (nat_lt e (length a) && p e) (has_met b e) (m.met_too e)) (wider (has_met b e) (nat_lt e (length b) && q e) (has_met c e) (n.met_too e));
+      ∙ waits (is_in e x) (has_met a e) (has_met b e) (has_met c e) (wider (has_met a e) (nat_lt e (length a) && p e)
+          (has_met b e) (m.met_too e)) (wider (has_met b e) (nat_lt e (length b) && q e) (has_met c e) (n.met_too e));
   count = omega (arith, m.count, n.count);
 }
   where
@@ -146,11 +147,15 @@ set_there met d c less = by (nat_eq c d) refl
         ∙ off (has_met met c) (nat_lt c (length met)) ∙ ap (λ b. has_met met c || (nat_lt c (length met) && b)) (sym e)
 
 -- a class that wasn't met
-pub meets_new : (met : List Bool) (pending : List ℕ) (d : ℕ) → d < length met → has_met met d ≡ false → length (set met d true) ≡ length met → Meets (λ c. nat_eq c d) met (set met d true) pending (pending ++ d ∷ [])
+pub meets_new : (met : List Bool) (pending : List ℕ) (d : ℕ) → d < length met → has_met met d ≡ false
+    → length (set met d true) ≡ length met → Meets (λ c. nat_eq c d) met (set met d true) pending (pending ++ d ∷ [])
 meets_new met pending d less new kept = record {
   size = kept;
   met_too = λ c. set_there met d c less;
-  waits = λ c. list_any-append (nat_eq c) pending (d ∷ []) ∙ ap (λ b. is_in c pending || b) (by (has_met met c) (nat_lt c (length met)) (nat_eq c d) (λ e. ap (has_met met) (eqb-true c d e) ∙ new) (λ e. lt-ltb c (length met) (subst (λ z. z < length met) (sym (eqb-true c d e)) less)) ∙ ap (λ b. b && not (has_met met c)) (sym (set_there met d c less)));
+  waits = λ c. list_any-append (nat_eq c) pending (d ∷ []) ∙ ap (λ b. is_in c pending || b)
+      (by (has_met met c) (nat_lt c (length met)) (nat_eq c d) (λ e. ap (has_met met) (eqb-true c d e) ∙ new)
+      (λ e. lt-ltb c (length met) (subst (λ z. z < length met) (sym (eqb-true c d e)) less))
+      ∙ ap (λ b. b && not (has_met met c)) (sym (set_there met d c less)));
   count = omega (arith, met_count-set met d less new, length-append pending (d ∷ []));
 }
   where
@@ -179,7 +184,9 @@ beyond_at met pending d class e out = subst (λ z. Meets (λ c. nat_eq c z) met 
 pub again_at : (met : List Bool) (pending : List ℕ) (d class : ℕ) (x y : Bool) → d ≡ class → d < length met → x ≡ get_or met d y → x ≡ true → Meets (λ c. nat_eq c class) met met pending pending
 again_at met pending d class x y e less read is = subst (λ z. Meets (λ c. nat_eq c z) met met pending pending) e (meets_again met pending d (unread met d x y less read ∙ is))
 
-pub new_at : (met : List Bool) (pending waiting : List ℕ) (d class : ℕ) (x y : Bool) → d ≡ class → d < length met → x ≡ get_or met d y → x ≡ false → waiting ≡ pending ++ class ∷ [] → Meets (λ c. nat_eq c class) met (set met d true) pending waiting
+pub new_at : (met : List Bool) (pending waiting : List ℕ) (d class : ℕ) (x y : Bool) → d ≡ class → d < length met
+    → x ≡ get_or met d y → x ≡ false → waiting ≡ pending ++ class ∷ []
+    → Meets (λ c. nat_eq c class) met (set met d true) pending waiting
 new_at met pending waiting d class x y e less read is joined =
     subst (λ ws. Meets (λ c. nat_eq c class) met (set met d true) pending ws) (sym joined)
     (subst (λ z. Meets (λ c. nat_eq c z) met (set met d true) pending (pending ++ z ∷ [])) e (meets_new met pending d less (unread met d x y less read ∙ is) (length-set met d true)))
@@ -192,25 +199,32 @@ pub none_at : (o : Option ℕ) (met : List Bool) (pending : List ℕ) → o ≡ 
 none_at o met pending is = meets_like _ _ (λ c. ap (λ x. option_eq nat_eq (Some c) x) (sym is)) met met pending pending (meets_none met pending)
 
 -- one more of a row
-pub row_more : (xs : List ℕ) (i x y : ℕ) (a b c : List Bool) (p q r : List ℕ) → i < length xs → x ≡ get_or xs i y → Meets (λ e. list_any (nat_eq e) (take i xs)) a b p q → Meets (λ e. nat_eq e x) b c q r → Meets (λ e. list_any (nat_eq e) (take (i + 1) xs)) a c p r
+pub row_more : (xs : List ℕ) (i x y : ℕ) (a b c : List Bool) (p q r : List ℕ) → i < length xs → x ≡ get_or xs i y
+    → Meets (λ e. list_any (nat_eq e) (take i xs)) a b p q → Meets (λ e. nat_eq e x) b c q r
+    → Meets (λ e. list_any (nat_eq e) (take (i + 1) xs)) a c p r
 row_more xs i x y a b c p q r less read m k =
     meets_like _ _ (λ e. ap (λ z. list_any (nat_eq e) (take i xs) || nat_eq e z) read ∙ sym (list_any_more (nat_eq e) xs i y less)) a c p r
     (meets_more _ _ a b c p q r m k)
 
 module _ (n : ℕ) (start : ℕ → Bool) (leads : ℕ → ℕ → Bool) (passes : ℕ → Bool) (Good : ℕ → Type 0) where
   -- from where it begins
-  pub begins : (met : List Bool) (pending : List ℕ) → Meets start (replicate n false) met [] pending → length (replicate n false) ≡ n → ((c : ℕ) → c < n → start c ≡ true → Good c) → Walking n start leads passes Good 0 met pending
+  pub begins : (met : List Bool) (pending : List ℕ) → Meets start (replicate n false) met [] pending → length (replicate
+      n false) ≡ n → ((c : ℕ) → c < n → start c ≡ true → Good c) → Walking n start leads passes Good 0 met pending
   begins met pending m wide good = record {
     size = m.size ∙ wide;
     count = omega (arith, m.count, met_count-none n);
     known = λ c e. (both (has_met met c) _ (sym (m.waits c) ∙ e)).0;
-    good = λ c e. let f = both (nat_lt c (length (replicate n false))) (start c) (sym (ap (λ b. b || (nat_lt c (length (replicate n false)) && start c)) (has_met-none n c)) ∙ sym (m.met_too c) ∙ e) in good c (omega (arith, ltb-true c _ f.0, wide)) f.1;
+    good = λ c e. let f = both (nat_lt c (length (replicate n false))) (start c)
+        (sym (ap (λ b. b || (nat_lt c (length (replicate n false)) && start c)) (has_met-none n c)) ∙ sym (m.met_too c)
+        ∙ e) in good c (omega (arith, ltb-true c _ f.0, wide)) f.1;
     started = λ c less e. m.met_too c ∙ or_right (has_met (replicate n false) c) _ (and_from _ (start c) (lt-ltb c (length (replicate n false)) (omega (arith, less, wide))) e);
     looked = λ c e. inl (m.waits c ∙ and_from (has_met met c) _ e (ap not (has_met-none n c)));
   }
 
   -- one class is looked at
-  pub goes_on : (i c : ℕ) (met after : List Bool) (rest waiting : List ℕ) → Walking n start leads passes Good i met (rest ++ c ∷ []) → Meets (leads c) met after rest waiting → passes c ≡ true → ((d : ℕ) → Good c → d < n → leads c d ≡ true → Good d) → Walking n start leads passes Good (i + 1) after waiting
+  pub goes_on : (i c : ℕ) (met after : List Bool) (rest waiting : List ℕ) → Walking n start leads passes Good i met
+      (rest ++ c ∷ []) → Meets (leads c) met after rest waiting → passes c ≡ true
+      → ((d : ℕ) → Good c → d < n → leads c d ≡ true → Good d) → Walking n start leads passes Good (i + 1) after waiting
   goes_on i c met after rest waiting w m pass good = record {
     size = m.size ∙ w.size;
     count = omega (arith, w.count, m.count, length-append rest (c ∷ []));
@@ -269,15 +283,19 @@ module _ (n : ℕ) (start : ℕ → Bool) (leads : ℕ → ℕ → Bool) (passes
   ends_full i met (c ∷ cs) full w = absurd (omega (arith, full, w.count, w.size, met_count-le met))
 
   -- the same by what is taken from those that wait
-  pub steps : (i c : ℕ) (o : Option ℕ) (met old after : List Bool) (pending rest waiting : List ℕ) → Walking n start leads passes Good i met pending → old ≡ met → pending ≡ rest ++ option_to_list o → o ≡ Some c
+  pub steps : (i c : ℕ) (o : Option ℕ) (met old after : List Bool) (pending rest waiting : List ℕ)
+      → Walking n start leads passes Good i met pending → old ≡ met → pending ≡ rest ++ option_to_list o → o ≡ Some c
       → Meets (leads c) old after rest waiting → passes c ≡ true → ((d : ℕ) → Good c → d < n → leads c d ≡ true → Good d) → Walking n start leads passes Good (i + 1) after waiting
   steps i c o met old after pending rest waiting w same_met taken is m pass good =
-      goes_on i c old after rest waiting (subst (λ ms. Walking n start leads passes Good i ms (rest ++ c ∷ [])) (sym same_met) (subst (λ ps. Walking n start leads passes Good i met ps) (taken ∙ ap (λ p. rest ++ option_to_list p) is) w)) m pass good
+      goes_on i c old after rest waiting (subst (λ ms. Walking n start leads passes Good i ms (rest ++ c ∷ []))
+          (sym same_met) (subst (λ ps. Walking n start leads passes Good i met ps)
+          (taken ∙ ap (λ p. rest ++ option_to_list p) is) w)) m pass good
 
   -- what is taken from those that wait was met
   pub taken_good : (i c : ℕ) (o : Option ℕ) (met : List Bool) (pending rest : List ℕ) → Walking n start leads passes Good i met pending → pending ≡ rest ++ option_to_list o → o ≡ Some c → Good c
   taken_good i c o met pending rest w taken is =
-      w.good c (w.known c (ap (is_in c) (taken ∙ ap (λ p. rest ++ option_to_list p) is) ∙ list_any-append (nat_eq c) rest (c ∷ []) ∙ or_right (is_in c rest) _ (or_left (nat_eq c c) false (same c c refl))))
+      w.good c (w.known c (ap (is_in c) (taken ∙ ap (λ p. rest ++ option_to_list p) is) ∙ list_any-append (nat_eq c)
+          rest (c ∷ []) ∙ or_right (is_in c rest) _ (or_left (nat_eq c c) false (same c c refl))))
 
   pub stops : (i : ℕ) (met old : List Bool) (pending : List ℕ) → Walking n start leads passes Good i met pending → old ≡ met → length pending ≡ 0 → Walked n start leads passes Good old
   stops i met old pending w same_met none = subst (λ ms. Walked n start leads passes Good ms) (sym same_met) (ends i met pending none w)

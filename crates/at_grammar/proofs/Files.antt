@@ -72,7 +72,9 @@ met r ts rest s =
 
 -- ---- the text's tokens
 
-pub stops_at : (text : List ℕ) (r : Reason) (ts rest : List Placed) (at : Place) → HasTokens text (map placed ts) → (m : Met r ts rest) → at ≡ next_place text (map placed (drop (length ts - length rest) ts)) → StopsAt text (map placed m.front) (map placed m.back) at
+pub stops_at : (text : List ℕ) (r : Reason) (ts rest : List Placed) (at : Place) → HasTokens text (map placed ts)
+    → (m : Met r ts rest) → at ≡ next_place text (map placed (drop (length ts - length rest) ts))
+    → StopsAt text (map placed m.front) (map placed m.back) at
 stops_at text r ts rest at (ps, cut, e) m p = record {
   tokens = (ps, cut, sym (map-append placed m.front m.back) ∙ ap (map placed) (sym m.whole) ∙ e);
   fault = m.fault;
@@ -108,12 +110,15 @@ same_classes ts us ds es e a b = ap (map class_means) (file_unique ds es a.0 b.0
 
 -- ---- a text that can't be cut into tokens
 
-pub cut_fault : (text : List ℕ) (fault : ScanFault) (offset : ℕ) (at : Place) → at ≡ place_of text offset → (fault ≡ scan.Bad offset) ⊎ ((fault ≡ scan.OpenText offset) ⊎ (fault ≡ scan.OpenComment offset)) → FaultsAt text fault → IsScanFaultAt text at fault
+pub cut_fault : (text : List ℕ) (fault : ScanFault) (offset : ℕ) (at : Place) → at ≡ place_of text offset
+    → (fault ≡ scan.Bad offset) ⊎ ((fault ≡ scan.OpenText offset) ⊎ (fault ≡ scan.OpenComment offset))
+    → FaultsAt text fault → IsScanFaultAt text at fault
 cut_fault text fault offset at p (inl e) f = subst (λ (x : ScanFault). FaultsAt text x → IsScanFaultAt text at x) (sym e) (λ g. (g, p)) f
 cut_fault text fault offset at p (inr (inl e)) f = subst (λ (x : ScanFault). FaultsAt text x → IsScanFaultAt text at x) (sym e) (λ g. (g, p)) f
 cut_fault text fault offset at p (inr (inr e)) f = subst (λ (x : ScanFault). FaultsAt text x → IsScanFaultAt text at x) (sym e) (λ g. (g, p)) f
 
-pub place_behind : (text : List ℕ) (ts vs : List Placed) (n m : ℕ) (at : Place) → vs ≡ ts → n ≡ m → at ≡ next_place text (map placed (drop (length vs - n) vs)) → at ≡ next_place text (map placed (drop (length ts - m) ts))
+pub place_behind : (text : List ℕ) (ts vs : List Placed) (n m : ℕ) (at : Place) → vs ≡ ts → n ≡ m → at ≡ next_place text
+    (map placed (drop (length vs - n) vs)) → at ≡ next_place text (map placed (drop (length ts - m) ts))
 place_behind text ts vs n m at e f p = p ∙ ap (λ l. next_place text (map placed (drop (length l - n) l))) e ∙ ap (λ k. next_place text (map placed (drop (length ts - k) ts))) f
 
 -- where reading stops for a reason, that is the fault of the text

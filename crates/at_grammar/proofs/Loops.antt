@@ -23,7 +23,8 @@ use Rattle.at_grammar.proofs.Tokens.{same_left, next_word}
 
 -- ---- { part } ";"
 
-part_never_skips : (a b c : Bool) → is_skip {W = Want} (cond a (takes (want.Token ∷ [])) (cond b (takes (want.Optional ∷ [])) (and_then (and_then (cond c (takes []) Refuses) (want.Kind ∷ [])) (want.Star ∷ [])))) ≡ false
+part_never_skips : (a b c : Bool) → is_skip {W = Want} (cond a (takes (want.Token ∷ [])) (cond b (takes
+    (want.Optional ∷ [])) (and_then (and_then (cond c (takes []) Refuses) (want.Kind ∷ [])) (want.Star ∷ [])))) ≡ false
 part_never_skips true b c = refl
 part_never_skips false true c = refl
 part_never_skips false false true = refl
@@ -45,7 +46,9 @@ parts_end old mid rest m e = record {
 
 -- components in front of others
 more_parts_spelled : (ps us : List grammar.Part) → grammar.parts (ps ++ us) ≡ flat_map grammar.part ps ++ (grammar.parts us ++ [])
-more_parts_spelled ps us = ap (λ l. l ++ sign (codes ";") ∷ []) (flat_map-append grammar.part ps us) ∙ append_assoc (flat_map grammar.part ps) (flat_map grammar.part us) (sign (codes ";") ∷ []) ∙ ap (λ l. flat_map grammar.part ps ++ l) (sym (append-nil (grammar.parts us)))
+more_parts_spelled ps us = ap (λ l. l ++ sign (codes ";") ∷ []) (flat_map-append grammar.part ps us)
+    ∙ append_assoc (flat_map grammar.part ps) (flat_map grammar.part us) (sign (codes ";") ∷ [])
+    ∙ ap (λ l. flat_map grammar.part ps ++ l) (sym (append-nil (grammar.parts us)))
 
 pub more_left_out : (ps : List grammar.Part) (front : List Symbol) (s : Option Symbol) → AreParts ps → LeftOutOfParts front s → LeftOutOfParts (flat_map grammar.part ps ++ front) s
 more_left_out ps front s are h = (
@@ -64,7 +67,8 @@ parts_stop_first : (q : Reason) (old rest : List Symbol) → is_sign (codes ";")
 parts_stop_first q old rest e f s = stops_within table part parts q old old rest [] (want.Parts ∷ []) (λ u. u ∷ []) (sign (codes ";") ∷ []) refl (parts_begin old e f)
     (λ u is. (is, tt)) (λ u. ap (λ l. l ++ sign (codes ";") ∷ []) (one_more grammar.part [] u)) (λ xs x h. ([], xs, tt, refl, inr h)) s
 
-pub parts_stop : (q : Reason) (old mid rest : List Symbol) → Many table part want.Parts old mid → is_sign (codes ";") (first mid) ≡ false → is_sign (codes "/") (first mid) ≡ false → Stops part q mid rest → Stops parts q old rest
+pub parts_stop : (q : Reason) (old mid rest : List Symbol) → Many table part want.Parts old mid → is_sign (codes ";")
+    (first mid) ≡ false → is_sign (codes "/") (first mid) ≡ false → Stops part q mid rest → Stops parts q old rest
 parts_stop q old mid rest m e f s = parts_stop_behind q old mid rest m (parts_stop_first q mid rest e f s)
 
 slash_leaves : (old : List Symbol) → first old ≡ Some (sign (codes "/")) → Stops parts LeftOut old old
@@ -85,20 +89,26 @@ part_shorter (grammar.Token t) old rest r = let l = ap length r.text in omega (a
 
 body_goes : (old : List Symbol) → is_sign (codes ";") (first old) ≡ false → Goes (want.Body ∷ []) old (want.Mark (codes "::=") ∷ want.Parts ∷ []) old
 unfolding table
-body_goes old e ws = run-begins table want.Body (want.Mark (codes "::=")) (want.Parts ∷ []) ws old (ap (λ b. cond b (takes []) (and_then (mark_answer (codes "::=") (first old)) (want.Parts ∷ []))) e) (on_never_skips (is_sign (codes "::=") (first old)))
+body_goes old e ws = run-begins table want.Body (want.Mark (codes "::=")) (want.Parts ∷ []) ws old
+    (ap (λ b. cond b (takes []) (and_then (mark_answer (codes "::=") (first old)) (want.Parts ∷ []))) e)
+    (on_never_skips (is_sign (codes "::=") (first old)))
 
 pub body_none : (old rest : List Symbol) → old ≡ sign (codes ";") ∷ rest → Reads body None old rest
 unfolding table
 body_none old rest e = record { is = tt; text = e; goes = λ ws. ap (run table (want.Body ∷ ws)) e ∙ run-takes table want.Body [] ws (sign (codes ";")) rest refl }
 
-pub body_some : (ps : List grammar.Part) (old mid rest : List Symbol) → is_sign (codes ";") (first old) ≡ false → Reads (mark (codes "::=")) tt old mid → Reads parts ps mid rest → Reads body (Some ps) old rest
+pub body_some : (ps : List grammar.Part) (old mid rest : List Symbol) → is_sign (codes ";") (first old) ≡ false
+    → Reads (mark (codes "::=")) tt old mid → Reads parts ps mid rest → Reads body (Some ps) old rest
 body_some ps old mid rest e m r = record { is = r.is; text = m.text ∙ ap (λ l. sign (codes "::=") ∷ l) r.text; goes = λ ws. body_goes old e ws ∙ m.goes (want.Parts ∷ ws) ∙ r.goes ws }
 
 pub body_stops_mark : (q : Reason) (old rest : List Symbol) → is_sign (codes ";") (first old) ≡ false → Stops (mark (codes "::=")) q old rest → Stops body q old rest
-body_stops_mark q old rest e s = stops_within table (mark (codes "::=")) body q old old rest [] (want.Parts ∷ []) (λ _. Some []) (sign (codes ";") ∷ []) refl (body_goes old e) (λ u is. tt) (λ u. refl) (λ xs x h. absurd h) s
+body_stops_mark q old rest e s = stops_within table (mark (codes "::=")) body q old old rest [] (want.Parts ∷ [])
+    (λ _. Some []) (sign (codes ";") ∷ []) refl (body_goes old e) (λ u is. tt) (λ u. refl) (λ xs x h. absurd h) s
 
 pub body_stops_parts : (q : Reason) (old mid rest : List Symbol) → is_sign (codes ";") (first old) ≡ false → Reads (mark (codes "::=")) tt old mid → Stops parts q mid rest → Stops body q old rest
-body_stops_parts q old mid rest e m s = stops_within table parts body q old mid rest (sign (codes "::=") ∷ []) [] (λ ps. Some ps) [] m.text (λ ws. body_goes old e ws ∙ m.goes (want.Parts ∷ ws)) (λ u is. is) (λ u. ap (λ l. sign (codes "::=") ∷ l) (sym (append-nil (grammar.parts u)))) (λ xs x h. (xs, refl, h)) s
+body_stops_parts q old mid rest e m s = stops_within table parts body q old mid rest (sign (codes "::=") ∷ []) []
+    (λ ps. Some ps) [] m.text (λ ws. body_goes old e ws ∙ m.goes (want.Parts ∷ ws)) (λ u is. is)
+    (λ u. ap (λ l. sign (codes "::=") ∷ l) (sym (append-nil (grammar.parts u)))) (λ xs x h. (xs, refl, h)) s
 
 -- ---- ["abstract"]
 
@@ -110,7 +120,10 @@ pub modifier_some : (at : Place) (old rest : List Symbol) → old ≡ word (code
 unfolding table
 modifier_some at old rest e = record { is = tt; text = e; goes = λ ws. ap (run table (want.Modifier ∷ ws)) e ∙ run-takes table want.Modifier [] ws (word (codes "abstract") at) rest refl }
 
-pub modifier_reads : (r : Option Place) (old new : Cursor) → MatchOption r ((new ≡ old) × (rows.next_is (rows.is_word (codes "abstract")) (rows.left old.rest.now) ≡ false)) (λ at. rows.left old.rest.now ≡ rows.word (codes "abstract") at ∷ rows.left new.rest.now) → Reads modifier r (left old.rest.now) (left new.rest.now)
+pub modifier_reads : (r : Option Place) (old new : Cursor)
+    → MatchOption r ((new ≡ old) × (rows.next_is (rows.is_word (codes "abstract")) (rows.left old.rest.now) ≡ false))
+    (λ at. rows.left old.rest.now ≡ rows.word (codes "abstract") at ∷ rows.left new.rest.now)
+    → Reads modifier r (left old.rest.now) (left new.rest.now)
 modifier_reads None old new h = modifier_none _ _ (same_left new old h.0) (sym (next_word (codes "abstract") (rows.left old.rest.now)) ∙ h.1)
 modifier_reads (Some at) old new h = modifier_some at _ _ (ap (symbols words_keep) h)
 
@@ -129,7 +142,9 @@ abstract_goes (s ∷ ss) e ws =
 plain_goes : (old : List Symbol) → is_word (codes "abstract") (first old) ≡ false → Goes (want.Declaration ∷ []) old (want.Modifier ∷ after_modifier []) old
 unfolding table
 plain_goes old e ws =
-    run-begins table want.Declaration want.Name (want.Kind ∷ want.Body ∷ []) ws old (ap (λ b. cond b (takes (after_modifier [])) (and_then (name_answer (first old)) (want.Kind ∷ want.Body ∷ []))) e) (on_never_skips (is_name_next (first old)))
+    run-begins table want.Declaration want.Name (want.Kind ∷ want.Body ∷ []) ws old
+        (ap (λ b. cond b (takes (after_modifier [])) (and_then (name_answer (first old)) (want.Kind ∷ want.Body ∷ [])))
+        e) (on_never_skips (is_name_next (first old)))
     ∙ sym (run-skips table want.Modifier (after_modifier ws) old (ap (λ b. cond b (takes []) skips) e))
 
 goes_either : (b : Bool) (old : List Symbol) → is_word (codes "abstract") (first old) ≡ b → Goes (want.Declaration ∷ []) old (want.Modifier ∷ after_modifier []) old
@@ -157,7 +172,9 @@ head_read m n p old a b rest x y z = record {
   goes = λ ws. declaration_goes old ws ∙ x.goes (after_modifier ws) ∙ y.goes (want.Kind ∷ want.Body ∷ ws) ∙ z.goes (want.Body ∷ ws);
 }
 
-pub declaration_reads : (m : Option Place) (n : Word) (p : Option Word) (b : Option (List grammar.Part)) (old mid rest : List Symbol) → HeadRead (head_of m n p) old mid → Reads body b mid rest → Reads declaration (record { abstract_at = m; name = n; parent = p; parts = b }) old rest
+pub declaration_reads : (m : Option Place) (n : Word) (p : Option Word) (b : Option (List grammar.Part))
+    (old mid rest : List Symbol) → HeadRead (head_of m n p) old mid → Reads body b mid rest
+    → Reads declaration (record { abstract_at = m; name = n; parent = p; parts = b }) old rest
 declaration_reads m n p b old mid rest h r = record {
   is = (h.named, h.below, r.is);
   text = h.text ∙ ap (λ l. grammar.head (head_of m n p) ++ l) r.text ∙ sym (append_assoc (grammar.head (head_of m n p)) (grammar.body b) rest);
@@ -169,12 +186,15 @@ declaration_stops_name m q old a rest x s = stops_within table name declaration 
     (λ ws. declaration_goes old ws ∙ x.goes (after_modifier ws)) (λ u is. (is, tt, tt)) (λ u. append_assoc (grammar.modifier m) (grammar.name u ∷ []) (sign (codes ";") ∷ [])) (λ xs y h. absurd h) s
 
 pub declaration_stops_parent : (m : Option Place) (n : Word) (q : Reason) (old a b rest : List Symbol) → Reads modifier m old a → Reads name n a b → Stops kind q b rest → Stops declaration q old rest
-declaration_stops_parent m n q old a b rest x y s = stops_within table kind declaration q old b rest (grammar.modifier m ++ grammar.name n ∷ []) (want.Body ∷ []) (λ p. head_of m n p) (sign (codes ";") ∷ [])
+declaration_stops_parent m n q old a b rest x y s = stops_within table kind declaration q old b rest
+    (grammar.modifier m ++ grammar.name n ∷ []) (want.Body ∷ []) (λ p. head_of m n p) (sign (codes ";") ∷ [])
     (x.text ∙ ap (λ l. grammar.modifier m ++ l) y.text ∙ sym (append_assoc (grammar.modifier m) (grammar.name n ∷ []) b))
     (λ ws. declaration_goes old ws ∙ x.goes (after_modifier ws) ∙ y.goes (want.Kind ∷ want.Body ∷ ws)) (λ u is. (y.is, is, tt)) (λ u. simp append_assoc) (λ xs z h. absurd h) s
 
-pub declaration_stops_body : (m : Option Place) (n : Word) (p : Option Word) (q : Reason) (old mid rest : List Symbol) → HeadRead (head_of m n p) old mid → Stops body q mid rest → Stops declaration q old rest
-declaration_stops_body m n p q old mid rest h s = stops_within table body declaration q old mid rest (grammar.head (head_of m n p)) [] (λ b. record { abstract_at = m; name = n; parent = p; parts = b }) [] h.text h.goes
+pub declaration_stops_body : (m : Option Place) (n : Word) (p : Option Word) (q : Reason) (old mid rest : List Symbol)
+    → HeadRead (head_of m n p) old mid → Stops body q mid rest → Stops declaration q old rest
+declaration_stops_body m n p q old mid rest h s = stops_within table body declaration q old mid rest (grammar.head
+    (head_of m n p)) [] (λ b. record { abstract_at = m; name = n; parent = p; parts = b }) [] h.text h.goes
     (λ u is. (h.named, h.below, is)) (λ u. ap (λ l. grammar.head (head_of m n p) ++ l) (sym (append-nil (grammar.body u))))
     (λ xs z k. (head_of m n p, k.0, (h.named, h.below, tt), ap (λ l. grammar.head (head_of m n p) ++ l) k.1, k.2)) s
 
@@ -195,11 +215,13 @@ unfolding table
 file_ends old mid m e = record { is = m.are; text = m.text; goes = λ ws. m.goes ws ∙ run-skips table want.File ws mid (ap (λ l. table want.File (first l)) e) }
 
 pub file_stops : (q : Reason) (old mid rest : List Symbol) → (m : Many table declaration want.File old mid) → 0 < length mid → Stops declaration q mid rest → Stops file q old rest
-file_stops q old mid rest m h s = stops_within table declaration file q old mid rest (flat_map grammar.declaration m.items) (want.File ∷ []) (λ u. m.items ++ u ∷ []) [] m.text (λ ws. m.goes ws ∙ file_begins mid h ws)
+file_stops q old mid rest m h s = stops_within table declaration file q old mid rest (flat_map grammar.declaration
+    m.items) (want.File ∷ []) (λ u. m.items ++ u ∷ []) [] m.text (λ ws. m.goes ws ∙ file_begins mid h ws)
     (λ u is. all_push IsDeclaration m.items u m.are is) (λ u. one_more grammar.declaration m.items u ∙ ap (λ l. flat_map grammar.declaration m.items ++ l) (sym (append-nil (grammar.declaration u))))
     (λ xs x k. (m.items, k.0, k.1, m.are, k.2, ap (λ l. flat_map grammar.declaration m.items ++ l) k.3, k.4)) s
 
 pub declaration_shorter : (d : Declaration) (old rest : List Symbol) → Reads declaration d old rest → length rest < length old
 declaration_shorter d old rest r =
     let l = ap length r.text in
-    omega (arith, length-append (grammar.declaration d) rest, length-append (grammar.head d) (grammar.body d.parts), length-append (grammar.modifier d.abstract_at) (grammar.name d.name ∷ grammar.kind d.parent))
+    omega (arith, length-append (grammar.declaration d) rest, length-append (grammar.head d) (grammar.body d.parts),
+        length-append (grammar.modifier d.abstract_at) (grammar.name d.name ∷ grammar.kind d.parent))

@@ -4,7 +4,8 @@ use Rattle.at_text.specs.declared.place.Place.{Place}
 use Rattle.at_grammar.specs.declared.syntax.Shape.{Shape}
 use Rattle.at_grammar.specs.Meaning.{Component, Class, kind_or}
 
-pub component_is : (n m k l : List ℕ) (s : Shape) (p q : Place) → n ≡ m → k ≡ l → p ≡ q → ◌≡◌ {A = Component} (record { name = n; kind = k; shape = s; at = p }) (record { name = m; kind = l; shape = s; at = q })
+pub component_is : (n m k l : List ℕ) (s : Shape) (p q : Place) → n ≡ m → k ≡ l → p ≡ q → ◌≡◌ {A = Component}
+    (record { name = n; kind = k; shape = s; at = p }) (record { name = m; kind = l; shape = s; at = q })
 component_is n m k l s p q e f g = cc
 
 pub kind_same : (n m : List ℕ) (k l : Option (List ℕ)) → n ≡ m → k ≡ l → kind_or n k ≡ kind_or m l

@@ -41,7 +41,8 @@ typed_unique s t x y f g e =
     let k = kind_unique s.kind t.kind x y f g (tail_is _ _ _ _ e) in
     ((λ i. record { name = name i; kind = k.0 i }), k.1)
 
-closed_unique : (s t : Typed) (mark : List ℕ) (x y : List Symbol) → is_sign (codes ":") (Some (sign mark)) ≡ false → (grammar.typed s ++ sign mark ∷ []) ++ x ≡ (grammar.typed t ++ sign mark ∷ []) ++ y → (s ≡ t) × (x ≡ y)
+closed_unique : (s t : Typed) (mark : List ℕ) (x y : List Symbol) → is_sign (codes ":") (Some (sign mark)) ≡ false
+    → (grammar.typed s ++ sign mark ∷ []) ++ x ≡ (grammar.typed t ++ sign mark ∷ []) ++ y → (s ≡ t) × (x ≡ y)
 closed_unique s t mark x y f e =
     let k = typed_unique s t (sign mark ∷ x) (sign mark ∷ y) f f (sym (append_assoc (grammar.typed s) (sign mark ∷ []) x) ∙ e ∙ append_assoc (grammar.typed t) (sign mark ∷ []) y) in
     (k.0, tail_is _ _ _ _ k.1)
@@ -95,7 +96,8 @@ named_abstract n at is e =
     let same : n.text ≡ codes "abstract" = ap (λ (s : Symbol). s.text) e in
     absurd (let h : true ≡ false = sym is ∙ ap is_name same ∙ abstract_is_no_name in cc)
 
-modifier_unique : (a b : Option Place) (m n : Word) (x y : List Symbol) → IsName m → IsName n → grammar.modifier a ++ grammar.name m ∷ x ≡ grammar.modifier b ++ grammar.name n ∷ y → (a ≡ b) × (m ≡ n) × (x ≡ y)
+modifier_unique : (a b : Option Place) (m n : Word) (x y : List Symbol) → IsName m → IsName n
+    → grammar.modifier a ++ grammar.name m ∷ x ≡ grammar.modifier b ++ grammar.name n ∷ y → (a ≡ b) × (m ≡ n) × (x ≡ y)
 modifier_unique None None m n x y i j e = (refl, word_unique m n (head_is _ _ _ _ e), tail_is _ _ _ _ e)
 modifier_unique None (Some at) m n x y i j e = absurd (named_abstract m at i (head_is _ _ _ _ e))
 modifier_unique (Some at) None m n x y i j e = absurd (named_abstract n at j (head_is _ _ _ _ (sym e)))
@@ -116,7 +118,8 @@ declaration_unique c d x y i j e =
     ((λ i. record { abstract_at = m.0 i; name = m.1 i; parent = k.0 i; parts = b.0 i }), b.1)
 
 some_declaration : (d : Declaration) (x : List Symbol) → grammar.declaration d ++ x ≡ [] → ⊥
-some_declaration d x e = absurd (let l = ap length (sym (opened d x) ∙ e) in omega (arith, l, length-append (grammar.modifier d.abstract_at) (grammar.name d.name ∷ (grammar.kind d.parent ++ (grammar.body d.parts ++ x)))))
+some_declaration d x e = absurd (let l = ap length (sym (opened d x) ∙ e) in omega (arith, l, length-append
+    (grammar.modifier d.abstract_at) (grammar.name d.name ∷ (grammar.kind d.parent ++ (grammar.body d.parts ++ x)))))
 
 pub file_unique : (ds es : List Declaration) → IsFile ds → IsFile es → grammar.file ds ≡ grammar.file es → ds ≡ es
 file_unique [] [] i j e = refl

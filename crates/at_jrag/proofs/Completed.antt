@@ -42,7 +42,8 @@ pub file_wanted : (forms : Forms) → Completes true (want.File forms ∷ []) 0
 file_wanted forms = (false, (λ h. absurd cc), (tt, refl, tt))
 
 -- What was taken where the machine is stuck, begins what is taken whole.
-pub begins_whole : (forms : Forms) (r : Reason) (front rest : Row) → run true table (want.File forms ∷ []) 0 (front ++ rest) ≡ Stuck r rest → (more : Row) × (run true table (want.File forms ∷ []) 0 (front ++ more) ≡ Whole)
+pub begins_whole : (forms : Forms) (r : Reason) (front rest : Row) → run true table (want.File forms ∷ []) 0
+    (front ++ rest) ≡ Stuck r rest → (more : Row) × (run true table (want.File forms ∷ []) 0 (front ++ more) ≡ Whole)
 begins_whole forms r front rest h =
     let x = leads r front rest (want.File forms ∷ []) 0 h (file_wanted forms) in
     (closing x.0, x.3 true (closing x.0) ∙ completed true x.2.0 x.0 x.1 x.2.2)

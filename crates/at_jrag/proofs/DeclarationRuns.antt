@@ -40,7 +40,8 @@ pub pass_then : (l : Bool) (w : Want) (us : List Want) (old mid rest : Row) → 
 pass_then l w us old mid rest p q ws d = let a = p (us ++ ws) d in let b = q ws a.0 in (b.0, a.1 ∙ b.1)
 
 -- the want takes the next token, and then others are wanted
-pub pass_takes : (l : Bool) (w : Want) (us : List Want) (t : PlacedToken) (old mid rest : Row) → old ≡ t ∷ mid → ((d : ℕ) → (e : ℕ) × (table w d (Some t) ≡ Takes true us e)) → Pass l us mid rest → Pass l (w ∷ []) old rest
+pub pass_takes : (l : Bool) (w : Want) (us : List Want) (t : PlacedToken) (old mid rest : Row) → old ≡ t ∷ mid
+    → ((d : ℕ) → (e : ℕ) × (table w d (Some t) ≡ Takes true us e)) → Pass l us mid rest → Pass l (w ∷ []) old rest
 pass_takes l w us t old mid rest front row p ws d =
     let r = row d in
     let b = p ws r.0 in
@@ -59,7 +60,8 @@ pub stay_first : (w : Want) (us : List Want) (r : Option Reason) (old rest : Row
 stay_first w us None old rest s d = tt
 stay_first w us (Some r) old rest s d = λ ws. s d (us ++ ws)
 
-pub stay_takes : (w : Want) (us : List Want) (t : PlacedToken) (r : Option Reason) (old mid rest : Row) → old ≡ t ∷ mid → ((d : ℕ) → (e : ℕ) × (table w d (Some t) ≡ Takes true us e)) → Stay us r mid rest → Stay (w ∷ []) r old rest
+pub stay_takes : (w : Want) (us : List Want) (t : PlacedToken) (r : Option Reason) (old mid rest : Row) → old ≡ t ∷ mid
+    → ((d : ℕ) → (e : ℕ) × (table w d (Some t) ≡ Takes true us e)) → Stay us r mid rest → Stay (w ∷ []) r old rest
 stay_takes w us t None old mid rest front row s d = tt
 stay_takes w us t (Some r) old mid rest front row s d = λ ws.
     let a = row d in ap (run true table (w ∷ ws) d) front ∙ run-takes true table w true us ws d a.0 t mid a.1 (λ h. refl) ∙ s a.0 ws
@@ -77,7 +79,9 @@ next_same test [] = refl
 next_same test (t ∷ ts) = refl
 
 -- a want of one token, which is missing
-pub missing_stays : (w : Want) (test : PlacedToken → Bool) (e : Failure JragCode) (old rest : Row) → ((d : ℕ) (s : Option PlacedToken) → next test s ≡ false → table w d s ≡ Refuses) → Missing test e old rest → Stay (w ∷ []) (reason_of e) old rest
+pub missing_stays : (w : Want) (test : PlacedToken → Bool) (e : Failure JragCode) (old rest : Row)
+    → ((d : ℕ) (s : Option PlacedToken) → next test s ≡ false → table w d s ≡ Refuses) → Missing test e old rest
+    → Stay (w ∷ []) (reason_of e) old rest
 missing_stays w test failure.Memory old rest row m = λ d. tt
 missing_stays w test (failure.For code.Syntax) old rest row m = stay_refuses w old rest m.0 (λ d. row d (first old) (next_same test old ∙ m.1))
 missing_stays w test (failure.For code.LeftOut) old rest row m = absurd m
@@ -122,10 +126,12 @@ kind_is_kind (syntax.Class name) at is = name_is_kind name at is
 
 pub kind_pass : (l : Bool) (k : KindWord) (old rest : Row) → KindOf k old rest → Pass l (want.Kind ∷ []) old rest
 unfolding table
-kind_pass l k old rest h = pass_takes l want.Kind [] (word (kind_text k.kind) k.at) old rest rest h.1 (λ d. (0, ap (λ b. on b (Takes true [] 0) Refuses) (kind_is_kind k.kind k.at h.0))) (pass_none l rest)
+kind_pass l k old rest h = pass_takes l want.Kind [] (word (kind_text k.kind) k.at) old rest rest h.1
+    (λ d. (0, ap (λ b. on b (Takes true [] 0) Refuses) (kind_is_kind k.kind k.at h.0))) (pass_none l rest)
 
 -- a kind is none of these words
-kind_not : (k : syntax.Kind) (at : Place) (text : List ℕ) → is_word text (word (codes "int") at) ≡ false → is_word text (word (codes "boolean") at) ≡ false → is_word text (word (codes "String") at) ≡ false
+kind_not : (k : syntax.Kind) (at : Place) (text : List ℕ) → is_word text (word (codes "int") at) ≡ false
+    → is_word text (word (codes "boolean") at) ≡ false → is_word text (word (codes "String") at) ≡ false
     → ((name : List ℕ) → is_name name ≡ true → bytes_eq name text ≡ false) → IsKind k → is_word text (word (kind_text k) at) ≡ false
 kind_not syntax.Int at text a b c n is = a
 kind_not syntax.Bool' at text a b c n is = b
@@ -171,7 +177,8 @@ PassTo l us e old rest = (ws : List Want) (d : ℕ) → run l table (us ++ ws) d
 to_then : (l : Bool) (w : Want) (us : List Want) (e : ℕ) (old mid rest : Row) → Pass l (w ∷ []) old mid → PassTo l us e mid rest → PassTo l (w ∷ us) e old rest
 to_then l w us e old mid rest p q ws d = let a = p (us ++ ws) d in a.1 ∙ q ws a.0
 
-to_takes : (l : Bool) (w : Want) (us : List Want) (t : PlacedToken) (e f : ℕ) (old mid rest : Row) → old ≡ t ∷ mid → ((d : ℕ) → table w d (Some t) ≡ Takes true us f) → PassTo l us e mid rest → PassTo l (w ∷ []) e old rest
+to_takes : (l : Bool) (w : Want) (us : List Want) (t : PlacedToken) (e f : ℕ) (old mid rest : Row) → old ≡ t ∷ mid
+    → ((d : ℕ) → table w d (Some t) ≡ Takes true us f) → PassTo l us e mid rest → PassTo l (w ∷ []) e old rest
 to_takes l w us t e f old mid rest front row p ws d = ap (run l table (w ∷ ws) d) front ∙ run-takes l table w true us ws d f t mid (row d) (λ h. refl) ∙ p ws f
 
 to_last : (l : Bool) (w : Want) (t : PlacedToken) (e : ℕ) (old rest : Row) → old ≡ t ∷ rest → ((d : ℕ) → table w d (Some t) ≡ Takes true [] e) → PassTo l (w ∷ []) e old rest
@@ -182,14 +189,19 @@ unfolding table
 more_go l [] end old rest h = to_last l want.MoreParams (sign (codes ")") end) 1 old rest h (λ d. refl)
 more_go l (p ∷ ps) end old rest (one, more, c, (mid, k, n), m) =
     to_takes l want.MoreParams (want.Kind ∷ want.Name ∷ want.MoreParams ∷ []) (sign (codes ",") c.0) 1 0 old one rest c.1 (λ d. refl)
-    (to_then l want.Kind (want.Name ∷ want.MoreParams ∷ []) 1 one mid rest (kind_pass l p.kind one mid k) (to_then l want.Name (want.MoreParams ∷ []) 1 mid more rest (name_pass l p.name mid more n) (more_go l ps end more rest m)))
+    (to_then l want.Kind (want.Name ∷ want.MoreParams ∷ []) 1 one mid rest (kind_pass l p.kind one mid k)
+        (to_then l want.Name (want.MoreParams ∷ []) 1 mid more rest (name_pass l p.name mid more n)
+        (more_go l ps end more rest m)))
 
-one_go : (l : Bool) (p : Param) (ps : List Param) (end : Place) (old rest : Row) → p.kind.kind ≡ syntax.Int → MoreParams ps end old rest → PassTo l (want.OneParam ∷ []) (cond (is_getter (p ∷ ps)) 0 1) old rest
+one_go : (l : Bool) (p : Param) (ps : List Param) (end : Place) (old rest : Row) → p.kind.kind ≡ syntax.Int
+    → MoreParams ps end old rest → PassTo l (want.OneParam ∷ []) (cond (is_getter (p ∷ ps)) 0 1) old rest
 unfolding table
 one_go l p [] end old rest int h = to_last l want.OneParam (sign (codes ")") end) (cond (is_int p.kind.kind) 0 1) old rest h (λ d. ap (λ k. Takes true [] (cond (is_int k) 0 1)) (sym int))
 one_go l p (q ∷ ps) end old rest int (one, more, c, (mid, k, n), m) =
     to_takes l want.OneParam (want.Kind ∷ want.Name ∷ want.MoreParams ∷ []) (sign (codes ",") c.0) 1 0 old one rest c.1 (λ d. refl)
-    (to_then l want.Kind (want.Name ∷ want.MoreParams ∷ []) 1 one mid rest (kind_pass l q.kind one mid k) (to_then l want.Name (want.MoreParams ∷ []) 1 mid more rest (name_pass l q.name mid more n) (more_go l ps end more rest m)))
+    (to_then l want.Kind (want.Name ∷ want.MoreParams ∷ []) 1 one mid rest (kind_pass l q.kind one mid k)
+        (to_then l want.Name (want.MoreParams ∷ []) 1 mid more rest (name_pass l q.name mid more n)
+        (more_go l ps end more rest m)))
 
 -- the first parameter's kind
 pub kind_cases : (k : syntax.Kind) (at : Place) → IsKind k → (k ≡ syntax.Int) ⊎ ((is_word (codes "int") (word (kind_text k) at) ≡ false) × (is_int k ≡ false))
@@ -210,26 +222,39 @@ other_register p (q ∷ ps) h = refl
 third_row : (a b c : Bool) (x y z w : Answer Want) → a ≡ false → b ≡ false → c ≡ true → on a x (on b y (on c z w)) ≡ z
 third_row a b c x y z w ea eb ec = ap (λ v. on v x (on b y (on c z w))) ea ∙ ap (λ v. on v y (on c z w)) eb ∙ ap (λ v. on v z w) ec
 
-pub int_row : (g : Bool) (k : syntax.Kind) (at : Place) (d : ℕ) → k ≡ syntax.Int → g && is_word (codes "int") (word (kind_text k) at) ≡ false → table (want.Params g) d (Some (word (kind_text k) at)) ≡ Takes true (want.Name ∷ want.OneParam ∷ []) 0
+pub int_row : (g : Bool) (k : syntax.Kind) (at : Place) (d : ℕ) → k ≡ syntax.Int
+    → g && is_word (codes "int") (word (kind_text k) at) ≡ false
+    → table (want.Params g) d (Some (word (kind_text k) at)) ≡ Takes true (want.Name ∷ want.OneParam ∷ []) 0
 unfolding table
 int_row g k at d e none =
     let no : g ≡ false = and_true g (sym (ap (λ x. g && is_word (codes "int") (word (kind_text x) at)) e) ∙ none) in
     ap (λ x. table (want.Params g) d (Some (word (kind_text x) at))) e ∙ ap (λ b. on b LeavesOut (Takes true (want.Name ∷ want.OneParam ∷ []) 0)) (ap (λ b. b && true) no)
 
-pub kind_row : (g : Bool) (k : syntax.Kind) (at : Place) (d : ℕ) → IsKind k → is_word (codes "int") (word (kind_text k) at) ≡ false → table (want.Params g) d (Some (word (kind_text k) at)) ≡ Takes true (want.Name ∷ want.MoreParams ∷ []) 0
+pub kind_row : (g : Bool) (k : syntax.Kind) (at : Place) (d : ℕ) → IsKind k
+    → is_word (codes "int") (word (kind_text k) at) ≡ false
+    → table (want.Params g) d (Some (word (kind_text k) at)) ≡ Takes true (want.Name ∷ want.MoreParams ∷ []) 0
 unfolding table
-kind_row g k at d is none = third_row (g && is_word (codes "int") (word (kind_text k) at)) (is_word (codes "int") (word (kind_text k) at)) (is_kind (word (kind_text k) at)) LeavesOut _ _ Refuses (and_off g _ none) none (kind_is_kind k at is)
+kind_row g k at d is none = third_row (g && is_word (codes "int") (word (kind_text k) at))
+    (is_word (codes "int") (word (kind_text k) at)) (is_kind (word (kind_text k) at)) LeavesOut _ _ Refuses
+    (and_off g _ none) none (kind_is_kind k at is)
 
-first_go : (l g : Bool) (p : Param) (ps : List Param) (end : Place) (old mid more rest : Row) → KindOf p.kind old mid → grammar.Name p.name mid more → MoreParams ps end more rest → g && next_is (is_word (codes "int")) old ≡ false
-    → (p.kind.kind ≡ syntax.Int) ⊎ ((is_word (codes "int") (word (kind_text p.kind.kind) p.kind.at) ≡ false) × (is_int p.kind.kind ≡ false)) → PassTo l (want.Params g ∷ []) (cond (is_getter (p ∷ ps)) 0 1) old rest
+first_go : (l g : Bool) (p : Param) (ps : List Param) (end : Place) (old mid more rest : Row) → KindOf p.kind old mid
+    → grammar.Name p.name mid more → MoreParams ps end more rest → g && next_is (is_word (codes "int")) old ≡ false
+    → (p.kind.kind ≡ syntax.Int) ⊎ ((is_word (codes "int") (word (kind_text p.kind.kind) p.kind.at) ≡ false)
+        × (is_int p.kind.kind ≡ false)) → PassTo l (want.Params g ∷ []) (cond (is_getter (p ∷ ps)) 0 1) old rest
 first_go l g p ps end old mid more rest k n m none (inl int) =
-    to_takes l (want.Params g) (want.Name ∷ want.OneParam ∷ []) (word (kind_text p.kind.kind) p.kind.at) _ 0 old mid rest k.1 (λ d. int_row g p.kind.kind p.kind.at d int (sym (ap (λ r. g && next_is (is_word (codes "int")) r) k.1) ∙ none))
+    to_takes l (want.Params g) (want.Name ∷ want.OneParam ∷ [])
+        (word (kind_text p.kind.kind) p.kind.at) _ 0 old mid rest k.1
+        (λ d. int_row g p.kind.kind p.kind.at d int (sym (ap (λ r. g && next_is (is_word (codes "int")) r) k.1) ∙ none))
     (to_then l want.Name (want.OneParam ∷ []) _ mid more rest (name_pass l p.name mid more n) (one_go l p ps end more rest int m))
 first_go l g p ps end old mid more rest k n m none (inr other) =
     to_takes l (want.Params g) (want.Name ∷ want.MoreParams ∷ []) (word (kind_text p.kind.kind) p.kind.at) _ 0 old mid rest k.1 (λ d. kind_row g p.kind.kind p.kind.at d k.0 other.0)
-    (to_then l want.Name (want.MoreParams ∷ []) _ mid more rest (name_pass l p.name mid more n) (subst (λ (e : ℕ). PassTo l (want.MoreParams ∷ []) e more rest) (sym (other_register p ps other.1)) (more_go l ps end more rest m)))
+    (to_then l want.Name (want.MoreParams ∷ []) _ mid more rest (name_pass l p.name mid more n)
+        (subst (λ (e : ℕ). PassTo l (want.MoreParams ∷ []) e more rest) (sym (other_register p ps other.1))
+        (more_go l ps end more rest m)))
 
-listed_go : (l g : Bool) (ps : List Param) (end : Place) (list rest : Row) → Listed ps end list rest → g && next_is (is_word (codes "int")) list ≡ false → PassTo l (want.Params g ∷ []) (cond (is_getter ps) 0 1) list rest
+listed_go : (l g : Bool) (ps : List Param) (end : Place) (list rest : Row) → Listed ps end list rest → g
+    && next_is (is_word (codes "int")) list ≡ false → PassTo l (want.Params g ∷ []) (cond (is_getter ps) 0 1) list rest
 unfolding table
 listed_go l g [] end list rest h none = to_last l (want.Params g) (sign (codes ")") end) 0 list rest h (λ d. refl)
 listed_go l g (p ∷ ps) end list rest (more, (mid, k, n), m) none = first_go l g p ps end list mid more rest k n m none (kind_cases p.kind.kind p.kind.at k.0)
@@ -245,15 +270,18 @@ opening_go l g e paren list rest s p = to_takes l (want.Opening g) (want.Params 
 pub signature_goes : (l : Bool) (name : Word) (ps : Params) (old rest : Row) → Signature name ps old rest → PassTo l (want.Signed ∷ []) (cond (is_getter ps.items) 0 1) old rest
 signature_goes l name ps old rest (paren, list, n, o, h) =
     let g = bytes_eq name.text (codes "getChild") in
-    to_takes l want.Signed (want.Opening g ∷ []) (word name.text name.at) _ 0 old paren rest n.1 (λ d. signed_row name.text name.at d n.0) (opening_go l g _ paren list rest o.0 (listed_go l g ps.items ps.end list rest h o.1))
+    to_takes l want.Signed (want.Opening g ∷ []) (word name.text name.at) _ 0 old paren rest n.1 (λ d. signed_row
+        name.text name.at d n.0) (opening_go l g _ paren list rest o.0 (listed_go l g ps.items ps.end list rest h o.1))
 
 -- ---- bodies
 
 ends_at_semicolon : (at : Place) (end rest : Row) → end ≡ sign (codes ";") at ∷ rest → EndsWhole (first end)
-ends_at_semicolon at end rest e = subst (λ (x : Option PlacedToken). EndsWhole x) (sym (ap first e)) (record { ends = record { cast = refl; dot = refl; links = λ j h k. omega (arith, k) }; choice = refl })
+ends_at_semicolon at end rest e = subst (λ (x : Option PlacedToken). EndsWhole x) (sym (ap first e))
+    (record { ends = record { cast = refl; dot = refl; links = λ j h k. omega (arith, k) }; choice = refl })
 
 -- an expression before a `;` is gone over, with a limit where it fits
-expression_pass : (l : Bool) (e : Expr) (at : Place) (old end rest : Row) → (l ≡ true → depth e ≤ max_nesting) → Spells e old end → end ≡ sign (codes ";") at ∷ rest → Pass l (want.Expression max_nesting ∷ []) old end
+expression_pass : (l : Bool) (e : Expr) (at : Place) (old end rest : Row) → (l ≡ true → depth e ≤ max_nesting)
+    → Spells e old end → end ≡ sign (codes ";") at ∷ rest → Pass l (want.Expression max_nesting ∷ []) old end
 expression_pass l e at old end rest fits h s ws d = (depth e, (accepted e old end h).whole (ends_at_semicolon at end rest s) l max_nesting fits ws d)
 
 pub return_pass : (l : Bool) (old rest : Row) → Keyword (codes "return") old rest → Pass l (want.Return ∷ []) old rest
@@ -265,7 +293,8 @@ unfolding table
 close_pass l old rest (at, e) = pass_takes l want.Close [] (sign (codes "}") at) old rest rest e (λ d. (0, refl)) (pass_none l rest)
 
 -- a want whose row is that of a body at this token
-body_pass : (w : Want) (l : Bool) (f : syntax.BodyForm) (e : Expr) (at : Place) (old rest : Row) → ((t : PlacedToken) → is_sign (codes ".") t ≡ false → is_sign (codes ";") t ≡ false → (d : ℕ) → table w d (Some t) ≡ body_answer (Some t))
+body_pass : (w : Want) (l : Bool) (f : syntax.BodyForm) (e : Expr) (at : Place) (old rest : Row) → ((t : PlacedToken) →
+    is_sign (codes ".") t ≡ false → is_sign (codes ";") t ≡ false → (d : ℕ) → table w d (Some t) ≡ body_answer (Some t))
     → (l ≡ true → depth e ≤ max_nesting) → BodyOf (record { at = at; form = f; expr = e }) old rest → Pass l (w ∷ []) old rest
 body_pass w l syntax.Equation' e at old rest row fits (one, end, s, r, z) =
     pass_takes l w (want.Expression max_nesting ∷ want.Mark (codes ";") ∷ []) (sign (codes "=") at) old one rest s (λ d. (0, row (sign (codes "=") at) refl refl d))
@@ -302,7 +331,9 @@ ending_goes l (syntax.Semicolon at) old rest fits h = pass_takes l want.Ending [
 -- ---- declarations
 
 pub owner_then : (l : Bool) (us : List Want) (class : Word) (old mid rest : Row) → Owner class old mid → Pass l us mid rest → Pass l (want.Name ∷ want.Mark (codes ".") ∷ us) old rest
-owner_then l us class old mid rest (dot, n, s) p = pass_then l want.Name (want.Mark (codes ".") ∷ us) old dot rest (name_pass l class old dot n) (pass_then l (want.Mark (codes ".")) us dot mid rest (mark_pass l (codes ".") dot mid s) p)
+owner_then l us class old mid rest (dot, n, s) p =
+    pass_then l want.Name (want.Mark (codes ".") ∷ us) old dot rest (name_pass l class old dot n)
+    (pass_then l (want.Mark (codes ".")) us dot mid rest (mark_pass l (codes ".") dot mid s) p)
 
 to_pass : (l : Bool) (us : List Want) (e : ℕ) (old rest : Row) → PassTo l us e old rest → Pass l us old rest
 to_pass l us e old rest p ws d = (e, p ws d)
@@ -315,7 +346,8 @@ unfolding table
 none_pass l m old n =
     pass_skips l (want.Circular m) old (λ d. (0, ap (λ b. on b (cond m (Takes true (want.Bracket ∷ want.Mark (codes "]") ∷ want.Circular false ∷ []) 0) LeavesOut) (Skips 0)) n))
 
-pub circular_row : (m : Bool) (at : Place) (d : ℕ) → m ≡ true → table (want.Circular m) d (Some (word (codes "circular") at)) ≡ Takes true (want.Bracket ∷ want.Mark (codes "]") ∷ want.Circular false ∷ []) 0
+pub circular_row : (m : Bool) (at : Place) (d : ℕ) → m ≡ true → table (want.Circular m) d
+    (Some (word (codes "circular") at)) ≡ Takes true (want.Bracket ∷ want.Mark (codes "]") ∷ want.Circular false ∷ []) 0
 unfolding table
 circular_row m at d may = ap (λ b. cond b (Takes true (want.Bracket ∷ want.Mark (codes "]") ∷ want.Circular false ∷ []) 0) LeavesOut) may
 
@@ -358,9 +390,11 @@ is_boolean (syntax.Class name) at forms is = ap (λ b. b && forms.circular) (no_
 pub attribute_row : (forms : Forms) (k : syntax.Kind) (at : Place) (d : ℕ) → IsKind k → table (want.Attribute forms) d (Some (word (kind_text k) at)) ≡ Takes true (named (may_be_circular forms k)) 0
 unfolding table
 attribute_row forms k at d is =
-    ap (λ b. on b (Takes true (named (is_word (codes "boolean") (word (kind_text k) at) && forms.circular)) 0) Refuses) (kind_is_kind k at is) ∙ ap (λ m. Takes true (named m) 0) (is_boolean k at forms is)
+    ap (λ b. on b (Takes true (named (is_word (codes "boolean") (word (kind_text k) at) && forms.circular)) 0) Refuses)
+        (kind_is_kind k at is) ∙ ap (λ m. Takes true (named m) 0) (is_boolean k at forms is)
 
-attribute_pass : (l : Bool) (forms : Forms) (k : KindWord) (class name : Word) (ps : Params) (start : Option Bool) (old rest : Row) → AttributeOf forms k class name ps start old rest → NoWord (codes "circular") rest
+attribute_pass : (l : Bool) (forms : Forms) (k : KindWord) (class name : Word) (ps : Params) (start : Option Bool)
+    (old rest : Row) → AttributeOf forms k class name ps start old rest → NoWord (codes "circular") rest
     → Pass l (want.Attribute forms ∷ []) old rest
 attribute_pass l forms k class name ps start old rest (owner, called, behind, t, o, s, c) n =
     let m = may_be_circular forms k.kind in
@@ -368,7 +402,8 @@ attribute_pass l forms k class name ps start old rest (owner, called, behind, t,
     (owner_then l (want.Signed ∷ want.Circular m ∷ []) class owner called rest o
     (pass_then l want.Signed (want.Circular m ∷ []) called behind rest (signed_pass l name ps called behind s) (circular_pass l m start behind rest c n)))
 
-pub declared_then : (l : Bool) (forms : Forms) (us : List Want) (lazy : Option Place) (k : KindWord) (class name : Word) (ps : Params) (start : Option Bool) (old end rest : Row) → Declared forms lazy k class name ps start old end
+pub declared_then : (l : Bool) (forms : Forms) (us : List Want) (lazy : Option Place) (k : KindWord) (class name : Word)
+    (ps : Params) (start : Option Bool) (old end rest : Row) → Declared forms lazy k class name ps start old end
     → NoWord (codes "circular") end → Pass l us end rest → Pass l (declared forms us) old rest
 declared_then l forms us lazy k class name ps start old end rest (kinds, z, a) n p =
     let begins = kind_begins k kinds a.0 a.3 in
@@ -391,7 +426,8 @@ pub inherited_row : (forms : Forms) (at : Place) (d : ℕ) → table (want.Decls
 unfolding table
 inherited_row forms at d = refl
 
-pub equation_row : (forms : Forms) (at : Place) (d : ℕ) → table (want.Decls forms) d (Some (word (codes "eq") at)) ≡ Takes true (want.Name ∷ want.Mark (codes ".") ∷ want.Signed ∷ want.Defined ∷ want.Decls forms ∷ []) 0
+pub equation_row : (forms : Forms) (at : Place) (d : ℕ) → table (want.Decls forms) d (Some (word (codes "eq") at))
+    ≡ Takes true (want.Name ∷ want.Mark (codes ".") ∷ want.Signed ∷ want.Defined ∷ want.Decls forms ∷ []) 0
 unfolding table
 equation_row forms at d = refl
 
@@ -407,42 +443,59 @@ indexed : (i : Option Word) (list rest : Row) → Index i list rest → IsIndexe
 indexed None list rest (end, h) = ([], end, refl, h)
 indexed (Some w) list rest (one, close, k, n, c) = (record { kind = record { kind = syntax.Int; at = k.0 }; name = w } ∷ [], c.0, refl, (close, (one, (tt, k.1), n), c.1))
 
-pub getter_goes : (l : Bool) (getter : Word) (i : Option Word) (old rest : Row) → (dot : Row) → (paren list : Row) → grammar.Name getter old paren → Opens getter.text paren list → IsIndexed list dot → PassTo l (want.Signed ∷ []) 0 old dot
+pub getter_goes : (l : Bool) (getter : Word) (i : Option Word) (old rest : Row) → (dot : Row) → (paren list : Row)
+    → grammar.Name getter old paren → Opens getter.text paren list → IsIndexed list dot
+    → PassTo l (want.Signed ∷ []) 0 old dot
 getter_goes l getter i old rest dot paren list n o (ps, end, is, h) =
     subst (λ (e : ℕ). PassTo l (want.Signed ∷ []) e old dot) (ap (λ b. cond {A = ℕ} b 0 1) is) (signature_goes l getter (record { items = ps; end = end }) old dot (paren, list, n, o, h))
 
-pub getter_then : (l : Bool) (us : List Want) (at : Place) (old dot called rest : Row) → PassTo l (want.Signed ∷ []) 0 old dot → dot ≡ sign (codes ".") at ∷ called → Pass l (want.Signed ∷ want.Body ∷ us) called rest → Pass l (want.Signed ∷ want.Defined ∷ us) old rest
+pub getter_then : (l : Bool) (us : List Want) (at : Place) (old dot called rest : Row)
+    → PassTo l (want.Signed ∷ []) 0 old dot → dot ≡ sign (codes ".") at ∷ called
+    → Pass l (want.Signed ∷ want.Body ∷ us) called rest → Pass l (want.Signed ∷ want.Defined ∷ us) old rest
 getter_then l us at old dot called rest p e q ws d =
     let a = q ws 0 in
-    (a.0, p (want.Defined ∷ (us ++ ws)) d ∙ ap (run l table (want.Defined ∷ (us ++ ws)) 0) e ∙ run-takes l table want.Defined true (want.Signed ∷ want.Body ∷ []) (us ++ ws) 0 0 (sign (codes ".") at) called (dot_row at) (λ h. refl) ∙ a.1)
+    (a.0, p (want.Defined ∷ (us ++ ws)) d ∙ ap (run l table (want.Defined ∷ (us ++ ws)) 0) e
+        ∙ run-takes l table want.Defined true (want.Signed ∷ want.Body ∷ []) (us ++ ws) 0 0 (sign (codes ".") at) called
+        (dot_row at) (λ h. refl) ∙ a.1)
 
 -- Where these are wanted, the machine comes to where those are.
 abbrev pub Comes : Bool → List Want → List Want → Row → Row → Type 0
 Comes l us vs old rest = (ws : List Want) (d : ℕ) → (e : ℕ) × (run l table (us ++ ws) d old ≡ run l table (vs ++ ws) e rest)
 
 decl_comes : (forms : Forms) (l : Bool) (us : List Want) (t : PlacedToken) (old behind more : Row) → old ≡ t ∷ behind
-    → ((ws : List Want) (d : ℕ) → run l table (want.Decls forms ∷ ws) d (t ∷ behind) ≡ run l table (us ++ want.Decls forms ∷ ws) 0 behind) → Pass l us behind more → Comes l (want.Decls forms ∷ []) (want.Decls forms ∷ []) old more
+    → ((ws : List Want) (d : ℕ) → run l table (want.Decls forms ∷ ws) d (t ∷ behind) ≡ run l table (us ++ want.Decls
+        forms ∷ ws) 0 behind) → Pass l us behind more → Comes l (want.Decls forms ∷ []) (want.Decls forms ∷ []) old more
 decl_comes forms l us t old behind more e row p ws d = let a = p (want.Decls forms ∷ ws) 0 in (a.0, ap (run l table (want.Decls forms ∷ ws) d) e ∙ row ws d ∙ a.1)
 
-behind_comes : (forms : Forms) (l : Bool) (f : DeclForm) (at : Place) (old behind more : Row) → (l ≡ true → nesting f ≤ max_nesting) → old ≡ word (grammar.keyword f) at ∷ behind → Behind forms f behind more → Comes l (want.Decls forms ∷ []) (want.Decls forms ∷ []) old more
+behind_comes : (forms : Forms) (l : Bool) (f : DeclForm) (at : Place) (old behind more : Row)
+    → (l ≡ true → nesting f ≤ max_nesting) → old ≡ word (grammar.keyword f) at ∷ behind → Behind forms f behind more
+    → Comes l (want.Decls forms ∷ []) (want.Decls forms ∷ []) old more
 behind_comes forms l (syntax.Synthesized lazy k class name ps start ending) at old behind more fits e (end, h, z) =
-    decl_comes forms l (declared forms (want.Ending ∷ [])) (word (codes "syn") at) old behind more e (λ ws d. run-takes l table (want.Decls forms) true (declared forms (want.Ending ∷ want.Decls forms ∷ [])) ws d 0 (word (codes "syn") at) behind (synthesized_row forms at d) (λ h. refl))
+    decl_comes forms l (declared forms (want.Ending ∷ [])) (word (codes "syn") at) old behind more e
+        (λ ws d. run-takes l table (want.Decls forms) true (declared forms (want.Ending ∷ want.Decls forms ∷ [])) ws d 0
+        (word (codes "syn") at) behind (synthesized_row forms at d) (λ h. refl))
     (declared_then l forms (want.Ending ∷ []) lazy k class name ps start behind end more h (no_circular ending end more z) (ending_goes l ending end more fits z))
 behind_comes forms l (syntax.Inherited lazy k class name ps start) at old behind more fits e (end, h, z) =
-    decl_comes forms l (declared forms (want.Mark (codes ";") ∷ [])) (word (codes "inh") at) old behind more e (λ ws d. run-takes l table (want.Decls forms) true (declared forms (want.Mark (codes ";") ∷ want.Decls forms ∷ [])) ws d 0 (word (codes "inh") at) behind (inherited_row forms at d) (λ h. refl))
+    decl_comes forms l (declared forms (want.Mark (codes ";") ∷ [])) (word (codes "inh") at) old behind more e (λ ws d.
+        run-takes l table (want.Decls forms) true (declared forms (want.Mark (codes ";") ∷ want.Decls forms ∷ [])) ws d
+        0 (word (codes "inh") at) behind (inherited_row forms at d) (λ h. refl))
     (declared_then l forms (want.Mark (codes ";") ∷ []) lazy k class name ps start behind end more h (ap (λ r. next (is_word (codes "circular")) (first r)) z.1) (mark_pass l (codes ";") end more z))
 behind_comes forms l (syntax.Equation class name ps b) at old behind more fits e (called, body, o, s, z) =
     decl_comes forms l (want.Name ∷ want.Mark (codes ".") ∷ want.Signed ∷ want.Defined ∷ []) (word (codes "eq") at) old behind more e
-    (λ ws d. run-takes l table (want.Decls forms) true (want.Name ∷ want.Mark (codes ".") ∷ want.Signed ∷ want.Defined ∷ want.Decls forms ∷ []) ws d 0 (word (codes "eq") at) behind (equation_row forms at d) (λ h. refl))
-    (owner_then l (want.Signed ∷ want.Defined ∷ []) class behind called more o (pass_then l want.Signed (want.Defined ∷ []) called body more (signed_pass l name ps called body s) (defined_goes l b body more fits z)))
+    (λ ws d. run-takes l table (want.Decls forms) true (want.Name ∷ want.Mark (codes ".") ∷ want.Signed ∷ want.Defined ∷
+        want.Decls forms ∷ []) ws d 0 (word (codes "eq") at) behind (equation_row forms at d) (λ h. refl))
+    (owner_then l (want.Signed ∷ want.Defined ∷ []) class behind called more o (pass_then l want.Signed
+        (want.Defined ∷ []) called body more (signed_pass l name ps called body s) (defined_goes l b body more fits z)))
 behind_comes forms l (syntax.InheritedEquation class getter i name ps b) at old behind more fits e (got, called, body, o, (paren, list, dot, n, opens, x, s), g, z) =
     decl_comes forms l (want.Name ∷ want.Mark (codes ".") ∷ want.Signed ∷ want.Defined ∷ []) (word (codes "eq") at) old behind more e
-    (λ ws d. run-takes l table (want.Decls forms) true (want.Name ∷ want.Mark (codes ".") ∷ want.Signed ∷ want.Defined ∷ want.Decls forms ∷ []) ws d 0 (word (codes "eq") at) behind (equation_row forms at d) (λ h. refl))
+    (λ ws d. run-takes l table (want.Decls forms) true (want.Name ∷ want.Mark (codes ".") ∷ want.Signed ∷ want.Defined ∷
+        want.Decls forms ∷ []) ws d 0 (word (codes "eq") at) behind (equation_row forms at d) (λ h. refl))
     (owner_then l (want.Signed ∷ want.Defined ∷ []) class behind got more o
     (getter_then l [] s.0 got dot called more (getter_goes l getter i got more dot paren list n opens (indexed i list dot x)) s.1
     (pass_then l want.Signed (want.Body ∷ []) called body more (signed_pass l name ps called body g) (body_goes l b body more fits z))))
 
-pub decls_come : (forms : Forms) (l : Bool) (ds : List Decl) (old rest : Row) → (l ≡ true → AllByRecursion NestsWithin ds) → grammar.Decls forms ds old rest → Comes l (want.Decls forms ∷ []) (want.Decls forms ∷ []) old rest
+pub decls_come : (forms : Forms) (l : Bool) (ds : List Decl) (old rest : Row) → (l ≡ true → AllByRecursion NestsWithin
+    ds) → grammar.Decls forms ds old rest → Comes l (want.Decls forms ∷ []) (want.Decls forms ∷ []) old rest
 decls_come forms l [] old rest fits e ws d = (d, ap (run l table (want.Decls forms ∷ ws) d) e)
 decls_come forms l (x ∷ ds) old rest fits (more, (behind, e, h), k) ws d =
     let a = behind_comes forms l x.form x.at old behind more (λ e. (fits e).0) e h ws d in
@@ -453,13 +506,15 @@ decls_end : (forms : Forms) (l : Bool) (close rest : Row) → Sign (codes "}") c
 unfolding table
 decls_end forms l close rest s = pass_takes l (want.Decls forms) [] (sign (codes "}") s.0) close rest rest s.1 (λ d. (0, refl)) (pass_none l rest)
 
-decls_pass : (forms : Forms) (l : Bool) (ds : List Decl) (old close rest : Row) → (l ≡ true → AllByRecursion NestsWithin ds) → grammar.Decls forms ds old close → Sign (codes "}") close rest → Pass l (want.Decls forms ∷ []) old rest
+decls_pass : (forms : Forms) (l : Bool) (ds : List Decl) (old close rest : Row) → (l ≡ true → AllByRecursion NestsWithin
+    ds) → grammar.Decls forms ds old close → Sign (codes "}") close rest → Pass l (want.Decls forms ∷ []) old rest
 decls_pass forms l ds old close rest fits h s ws d =
     let a = decls_come forms l ds old close fits h ws d in
     let b = decls_end forms l close rest s ws a.0 in
     (b.0, a.1 ∙ b.1)
 
-pub aspect_row : (forms : Forms) (at : Place) (d : ℕ) → table (want.File forms) d (Some (word (codes "aspect") at)) ≡ Takes true (want.Name ∷ want.Mark (codes "{") ∷ want.Decls forms ∷ want.File forms ∷ []) 0
+pub aspect_row : (forms : Forms) (at : Place) (d : ℕ) → table (want.File forms) d (Some (word (codes "aspect") at))
+    ≡ Takes true (want.Name ∷ want.Mark (codes "{") ∷ want.Decls forms ∷ want.File forms ∷ []) 0
 unfolding table
 aspect_row forms at d = refl
 
@@ -471,7 +526,9 @@ file_comes forms l (a ∷ as') old rest fits (more, (named, brace, inner, close,
     (pass_then l (want.Mark (codes "{")) (want.Decls forms ∷ []) brace inner more (mark_pass l (codes "{") brace inner b) (decls_pass forms l a.decls inner close more (λ e. (fits e).0) h c)) in
     let q = p (want.File forms ∷ ws) 0 in
     let r = file_comes forms l as' more rest (λ e. (fits e).1) t ws q.0 in
-    (r.0, ap (run l table (want.File forms ∷ ws) d) k.1 ∙ run-takes l table (want.File forms) true (want.Name ∷ want.Mark (codes "{") ∷ want.Decls forms ∷ want.File forms ∷ []) ws d 0 (word (codes "aspect") k.0) named (aspect_row forms k.0 d) (λ h. refl) ∙ q.1 ∙ r.1)
+    (r.0, ap (run l table (want.File forms ∷ ws) d) k.1 ∙ run-takes l table (want.File forms) true
+        (want.Name ∷ want.Mark (codes "{") ∷ want.Decls forms ∷ want.File forms ∷ []) ws d 0 (word (codes "aspect") k.0)
+        named (aspect_row forms k.0 d) (λ h. refl) ∙ q.1 ∙ r.1)
 
 ends_whole : (forms : Forms) (l : Bool) (d : ℕ) → run l table (want.File forms ∷ []) d [] ≡ Whole
 unfolding run table

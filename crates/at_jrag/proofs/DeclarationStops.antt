@@ -35,7 +35,8 @@ at_same w f old rest same s = subst (λ (x : Row). Stay (w ∷ []) (reason_of (f
 abbrev no_keyword : Row → Failure JragCode
 no_keyword old = cond (next_is (λ t. is_word_kind t.kind) old) (failure.For code.LeftOut) (failure.For code.Syntax)
 
-keyword_stays : (w : Want) (t : PlacedToken) (ts : Row) (b : Bool) → ((d : ℕ) → table w d (Some t) ≡ cond b LeavesOut Refuses) → Stay (w ∷ []) (reason_of (cond b (failure.For code.LeftOut) (failure.For code.Syntax))) (t ∷ ts) (t ∷ ts)
+keyword_stays : (w : Want) (t : PlacedToken) (ts : Row) (b : Bool) → ((d : ℕ) → table w d (Some t) ≡ cond b LeavesOut
+    Refuses) → Stay (w ∷ []) (reason_of (cond b (failure.For code.LeftOut) (failure.For code.Syntax))) (t ∷ ts) (t ∷ ts)
 keyword_stays w t ts true row = stay_leaves_out w t (t ∷ ts) ts (t ∷ ts) refl refl row
 keyword_stays w t ts false row = stay_refuses w (t ∷ ts) (t ∷ ts) refl row
 
@@ -50,7 +51,9 @@ aspect_at forms (t ∷ ts) some h = keyword_stays (want.File forms) t ts (is_wor
 pub aspect_stays : (forms : Forms) (old rest : Row) → rest ≡ old → 0 < length old → next_is (is_word (codes "aspect")) old ≡ false → Stay (want.File forms ∷ []) (reason_of (no_keyword rest)) old rest
 aspect_stays forms old rest same some h = at_same (want.File forms) no_keyword old rest same (aspect_at forms old some h)
 
-decl_none : (forms : Forms) (t : PlacedToken) (d : ℕ) → is_sign (codes "}") t ≡ false → is_word (codes "syn") t ≡ false → is_word (codes "inh") t ≡ false → is_word (codes "eq") t ≡ false → table (want.Decls forms) d (Some t) ≡ cond (is_word_kind t.kind) LeavesOut Refuses
+decl_none : (forms : Forms) (t : PlacedToken) (d : ℕ) → is_sign (codes "}") t ≡ false → is_word (codes "syn") t ≡ false
+    → is_word (codes "inh") t ≡ false → is_word (codes "eq") t ≡ false
+    → table (want.Decls forms) d (Some t) ≡ cond (is_word_kind t.kind) LeavesOut Refuses
 unfolding table
 decl_none forms t d close syn inh eq = last_row (is_sign (codes "}") t) (is_word (codes "syn") t) (is_word (codes "inh") t) (is_word (codes "eq") t) _ _ _ _ _ close syn inh eq
 
@@ -58,12 +61,15 @@ decls_end : (forms : Forms) (d : ℕ) → table (want.Decls forms) d None ≡ Re
 unfolding table
 decls_end forms d = refl
 
-decl_at : (forms : Forms) (old : Row) → next_is (is_sign (codes "}")) old ≡ false → next_is (is_word (codes "syn")) old ≡ false → next_is (is_word (codes "inh")) old ≡ false → next_is (is_word (codes "eq")) old ≡ false
+decl_at : (forms : Forms) (old : Row) → next_is (is_sign (codes "}")) old ≡ false → next_is (is_word (codes "syn")) old
+    ≡ false → next_is (is_word (codes "inh")) old ≡ false → next_is (is_word (codes "eq")) old ≡ false
     → Stay (want.Decls forms ∷ []) (reason_of (no_keyword old)) old old
 decl_at forms [] close syn inh eq = stay_refuses (want.Decls forms) [] [] refl (decls_end forms)
 decl_at forms (t ∷ ts) close syn inh eq = keyword_stays (want.Decls forms) t ts (is_word_kind t.kind) (λ d. decl_none forms t d close syn inh eq)
 
-pub decl_stays : (forms : Forms) (old rest : Row) → rest ≡ old → next_is (is_sign (codes "}")) old ≡ false → next_is (is_word (codes "syn")) old ≡ false → next_is (is_word (codes "inh")) old ≡ false → next_is (is_word (codes "eq")) old ≡ false
+pub decl_stays : (forms : Forms) (old rest : Row) → rest ≡ old → next_is (is_sign (codes "}")) old ≡ false
+    → next_is (is_word (codes "syn")) old ≡ false → next_is (is_word (codes "inh")) old ≡ false
+    → next_is (is_word (codes "eq")) old ≡ false
     → Stay (want.Decls forms ∷ []) (reason_of (no_keyword rest)) old rest
 decl_stays forms old rest same close syn inh eq = at_same (want.Decls forms) no_keyword old rest same (decl_at forms old close syn inh eq)
 
@@ -72,7 +78,8 @@ decl_stays forms old rest same close syn inh eq = at_same (want.Decls forms) no_
 abbrev no_block : Row → Failure JragCode
 no_block old = cond (next_is (λ t. true) old) (failure.For code.LeftOut) (failure.For code.Syntax)
 
-alone_at : (w : Want) (test : PlacedToken → Bool) (old : Row) → ((d : ℕ) (s : Option PlacedToken) → table w d s ≡ alone test s) → next_is test old ≡ false → Stay (w ∷ []) (reason_of (no_block old)) old old
+alone_at : (w : Want) (test : PlacedToken → Bool) (old : Row) → ((d : ℕ) (s : Option PlacedToken)
+    → table w d s ≡ alone test s) → next_is test old ≡ false → Stay (w ∷ []) (reason_of (no_block old)) old old
 alone_at w test [] row h = stay_refuses w [] [] refl (λ d. row d None)
 alone_at w test (t ∷ ts) row h = stay_leaves_out w t (t ∷ ts) ts (t ∷ ts) refl refl (λ d. row d (Some t) ∙ ap (λ b. on b (Takes true [] 0) LeavesOut) h)
 
@@ -92,12 +99,14 @@ close_stays old rest same h = at_same want.Close no_block old rest same (alone_a
 
 -- ---- a word that is taken, or not
 
-pub word_missing : {R : Type 0} (old rest : R) (f : R → Row) (text : List ℕ) (o : Option Place) → is_some o ≡ false → MatchOption o ((rest ≡ old) × (next_is (is_word text) (f old) ≡ false)) (λ at. f old ≡ word text at ∷ f rest)
+pub word_missing : {R : Type 0} (old rest : R) (f : R → Row) (text : List ℕ) (o : Option Place) → is_some o ≡ false
+    → MatchOption o ((rest ≡ old) × (next_is (is_word text) (f old) ≡ false)) (λ at. f old ≡ word text at ∷ f rest)
     → (f rest ≡ f old) × (next_is (is_word text) (f old) ≡ false)
 word_missing old rest f text None n h = (ap f h.0, h.1)
 word_missing old rest f text (Some at) n h = absurd cc
 
-pub word_taken : {R : Type 0} (old rest : R) (f : R → Row) (text : List ℕ) (o : Option Place) → is_some o ≡ true → MatchOption o ((rest ≡ old) × (next_is (is_word text) (f old) ≡ false)) (λ at. f old ≡ word text at ∷ f rest)
+pub word_taken : {R : Type 0} (old rest : R) (f : R → Row) (text : List ℕ) (o : Option Place) → is_some o ≡ true
+    → MatchOption o ((rest ≡ old) × (next_is (is_word text) (f old) ≡ false)) (λ at. f old ≡ word text at ∷ f rest)
     → Keyword text (f old) (f rest)
 word_taken old rest f text None n h = absurd cc
 word_taken old rest f text (Some at) n h = (at, h)
@@ -109,7 +118,9 @@ abbrev pub TookLazy : Option Place → Row → Row → Type 0
 TookLazy None old rest = (rest ≡ old) × (next_is (is_word (codes "lazy")) old ≡ false)
 TookLazy (Some at) old rest = old ≡ word (codes "lazy") at ∷ rest
 
-pub took_lazy : {R : Type 0} (old rest : R) (f : R → Row) (o : Option Place) → MatchOption o ((rest ≡ old) × (next_is (is_word (codes "lazy")) (f old) ≡ false)) (λ at. f old ≡ word (codes "lazy") at ∷ f rest) → TookLazy o (f old) (f rest)
+pub took_lazy : {R : Type 0} (old rest : R) (f : R → Row) (o : Option Place) → MatchOption o
+    ((rest ≡ old) × (next_is (is_word (codes "lazy")) (f old) ≡ false)) (λ at. f old ≡ word (codes "lazy") at ∷ f rest)
+    → TookLazy o (f old) (f rest)
 took_lazy old rest f None (e, n) = (ap f e, n)
 took_lazy old rest f (Some at) h = h
 
@@ -151,14 +162,18 @@ owner_stays class us r old mid rest (dot, n, s) st =
 pub no_class : (us : List Want) (e : Failure JragCode) (old rest : Row) → Missing is_name_token e old rest → Stay (want.Name ∷ us) (reason_of e) old rest
 no_class us e old rest m = stay_first want.Name us (reason_of e) old rest (name_missing e old rest m)
 
-pub no_dot : (us : List Want) (class : Word) (e : Failure JragCode) (old dot rest : Row) → grammar.Name class old dot → Missing (is_sign (codes ".")) e dot rest → Stay (want.Name ∷ want.Mark (codes ".") ∷ us) (reason_of e) old rest
+pub no_dot : (us : List Want) (class : Word) (e : Failure JragCode) (old dot rest : Row) → grammar.Name class old dot
+    → Missing (is_sign (codes ".")) e dot rest → Stay (want.Name ∷ want.Mark (codes ".") ∷ us) (reason_of e) old rest
 no_dot us class e old dot rest n m =
-    stay_then want.Name (want.Mark (codes ".") ∷ us) (reason_of e) old dot rest (name_pass true class old dot n) (stay_first (want.Mark (codes ".")) us (reason_of e) dot rest (mark_missing (codes ".") e dot rest m))
+    stay_then want.Name (want.Mark (codes ".") ∷ us) (reason_of e) old dot rest (name_pass true class old dot n)
+        (stay_first (want.Mark (codes ".")) us (reason_of e) dot rest (mark_missing (codes ".") e dot rest m))
 
 pub no_name : (us : List Want) (e : Failure JragCode) (old rest : Row) → Missing is_name_token e old rest → Stay (want.Signed ∷ us) (reason_of e) old rest
 no_name us e old rest m = stay_first want.Signed us (reason_of e) old rest (signed_missing e old rest m)
 
-pub signed_stays : (us : List Want) (name : Word) (r : Option Reason) (old paren rest : Row) → grammar.Name name old paren → Stay (want.Opening (bytes_eq name.text (codes "getChild")) ∷ []) r paren rest → Stay (want.Signed ∷ us) r old rest
+pub signed_stays : (us : List Want) (name : Word) (r : Option Reason) (old paren rest : Row)
+    → grammar.Name name old paren → Stay (want.Opening (bytes_eq name.text (codes "getChild")) ∷ []) r paren rest
+    → Stay (want.Signed ∷ us) r old rest
 signed_stays us name r old paren rest n st =
     stay_first want.Signed us r old rest
     (stay_takes want.Signed (want.Opening (bytes_eq name.text (codes "getChild")) ∷ []) (word name.text name.at) r old paren rest n.1 (λ d. (0, signed_row name.text name.at d n.0)) st)
@@ -176,7 +191,8 @@ pub circular_stays : (m : Bool) (old : Row) → m ≡ false → next_is (is_word
 circular_stays m [] may h = absurd cc
 circular_stays m (t ∷ ts) may h = stay_leaves_out (want.Circular m) t (t ∷ ts) ts (t ∷ ts) refl refl (λ d. circular_left m t d may h)
 
-pub left_stays : (m : Bool) (e : Failure JragCode) (old : Row) → m ≡ false → e ≡ failure.For code.LeftOut → next_is (is_word (codes "circular")) old ≡ true → Stay (want.Circular m ∷ []) (reason_of e) old old
+pub left_stays : (m : Bool) (e : Failure JragCode) (old : Row) → m ≡ false → e ≡ failure.For code.LeftOut
+    → next_is (is_word (codes "circular")) old ≡ true → Stay (want.Circular m ∷ []) (reason_of e) old old
 left_stays m e old may is h = subst (λ x. Stay (want.Circular m ∷ []) (reason_of x) old old) (sym is) (circular_stays m old may h)
 
 -- behind the word
@@ -208,11 +224,13 @@ bracket_takes : (at : Place) (d : ℕ) → table want.Bracket d (Some (sign (cod
 unfolding table
 bracket_takes at d = refl
 
-pub bracket_stays : (us : List Want) (at : Place) (r : Option Reason) (old value rest : Row) → old ≡ sign (codes "[") at ∷ value → Stay (want.Start ∷ []) r value rest → Stay (want.Bracket ∷ us) r old rest
+pub bracket_stays : (us : List Want) (at : Place) (r : Option Reason) (old value rest : Row)
+    → old ≡ sign (codes "[") at ∷ value → Stay (want.Start ∷ []) r value rest → Stay (want.Bracket ∷ us) r old rest
 bracket_stays us at r old value rest front st =
     stay_first want.Bracket us r old rest (stay_takes want.Bracket (want.Start ∷ []) (sign (codes "[") at) r old value rest front (λ d. (0, bracket_takes at d)) st)
 
-pub no_end : (b : Bool) (at : Place) (e : Failure JragCode) (old value close rest : Row) → old ≡ sign (codes "[") at ∷ value → Keyword (truth_text b) value close → Missing (is_sign (codes "]")) e close rest
+pub no_end : (b : Bool) (at : Place) (e : Failure JragCode) (old value close rest : Row) → old
+    ≡ sign (codes "[") at ∷ value → Keyword (truth_text b) value close → Missing (is_sign (codes "]")) e close rest
     → Stay (want.Bracket ∷ want.Mark (codes "]") ∷ []) (reason_of e) old rest
 no_end b at e old value close rest front k m =
     stay_then want.Bracket (want.Mark (codes "]") ∷ []) (reason_of e) old close rest (bracket_pass true b old value close (at, front) k) (mark_missing (codes "]") e close rest m)
@@ -233,7 +251,8 @@ truth_at : (old : Row) → next_is (is_word (codes "true")) old ≡ false → ne
 truth_at [] a b = stay_refuses want.Start [] [] refl start_ended
 truth_at (t ∷ ts) a b = keyword_stays want.Start t ts (begins_other t) (λ d. start_row d t a b)
 
-pub truth_stays : (old rest : Row) → rest ≡ old → next_is (is_word (codes "true")) old ≡ false → next_is (is_word (codes "false")) old ≡ false → Stay (want.Start ∷ []) (reason_of (no_truth rest)) old rest
+pub truth_stays : (old rest : Row) → rest ≡ old → next_is (is_word (codes "true")) old ≡ false
+    → next_is (is_word (codes "false")) old ≡ false → Stay (want.Start ∷ []) (reason_of (no_truth rest)) old rest
 truth_stays old rest same a b = at_same want.Start no_truth old rest same (truth_at old a b)
 
 -- ---- a declared attribute
@@ -243,7 +262,8 @@ unfolding table
 attribute_missing forms d None h = refl
 attribute_missing forms d (Some t) h = ap (λ b. on b (Takes true (named (is_word (codes "boolean") t && forms.circular)) 0) Refuses) h
 
-pub no_kind : (forms : Forms) (us : List Want) (e : Failure JragCode) (old kinds rest : Row) → Pass true (want.Lazy ∷ []) old kinds → Missing is_kind e kinds rest → Stay (declared forms us) (reason_of e) old rest
+pub no_kind : (forms : Forms) (us : List Want) (e : Failure JragCode) (old kinds rest : Row) → Pass true
+    (want.Lazy ∷ []) old kinds → Missing is_kind e kinds rest → Stay (declared forms us) (reason_of e) old rest
 no_kind forms us e old kinds rest p m =
     stay_then want.Lazy (want.Attribute forms ∷ us) (reason_of e) old kinds rest p
     (stay_first (want.Attribute forms) us (reason_of e) kinds rest (missing_stays (want.Attribute forms) is_kind e kinds rest (attribute_missing forms) m))
@@ -255,13 +275,16 @@ no_target forms us k r old kinds owner rest p is st =
     (stay_first (want.Attribute forms) us r kinds rest
     (stay_takes (want.Attribute forms) (named (may_be_circular forms k.kind)) (word (kind_text k.kind) k.at) r kinds owner rest is.1 (λ d. (0, attribute_row forms k.kind k.at d is.0)) st))
 
-pub named_then : (m : Bool) (class name : Word) (ps : Params) (r : Option Reason) (owner called end rest : Row) → Owner class owner called → Signature name ps called end → Stay (want.Circular m ∷ []) r end rest
+pub named_then : (m : Bool) (class name : Word) (ps : Params) (r : Option Reason) (owner called end rest : Row)
+    → Owner class owner called → Signature name ps called end → Stay (want.Circular m ∷ []) r end rest
     → Stay (named m) r owner rest
 named_then m class name ps r owner called end rest o s st =
     owner_stays class (want.Signed ∷ want.Circular m ∷ []) r owner called rest o
     (stay_then want.Signed (want.Circular m ∷ []) r called end rest (signed_pass true name ps called end s) st)
 
-pub declared_stays : (forms : Forms) (us : List Want) (lazy : Option Place) (k : KindWord) (class name : Word) (ps : Params) (start : Option Bool) (r : Option Reason) (old end rest : Row) → Declared forms lazy k class name ps start old end
+pub declared_stays : (forms : Forms) (us : List Want) (lazy : Option Place) (k : KindWord) (class name : Word)
+    (ps : Params) (start : Option Bool) (r : Option Reason) (old end rest : Row)
+    → Declared forms lazy k class name ps start old end
     → next_is (is_word (codes "circular")) end ≡ false → Stay us r end rest → Stay (declared forms us) r old rest
 declared_stays forms us lazy k class name ps start None old end rest h n st d = tt
 declared_stays forms us lazy k class name ps start (Some q) old end rest h n st d = λ ws.
@@ -298,7 +321,9 @@ equation_stays at r old one rest front st =
     let vs = want.Mark (codes ";") ∷ [] in
     body_takes (want.Expression max_nesting ∷ vs) (sign (codes "=") at) r old one rest front refl (stay_first (want.Expression max_nesting) vs r one rest st)
 
-pub equation_ends : (at : Place) (n : ℕ) (e : Failure JragCode) (old one end rest : Row) → old ≡ sign (codes "=") at ∷ one → Goes want.Expression (λ b. []) n one end → n ≤ max_nesting → Missing (is_sign (codes ";")) e end rest → BodyStays (reason_of e) old rest
+pub equation_ends : (at : Place) (n : ℕ) (e : Failure JragCode) (old one end rest : Row)
+    → old ≡ sign (codes "=") at ∷ one → Goes want.Expression (λ b. []) n one end → n ≤ max_nesting
+    → Missing (is_sign (codes ";")) e end rest → BodyStays (reason_of e) old rest
 equation_ends at n e old one end rest front g fits m =
     let vs = want.Mark (codes ";") ∷ [] in
     body_takes (want.Expression max_nesting ∷ vs) (sign (codes "=") at) (reason_of e) old one rest front refl
@@ -309,15 +334,19 @@ block_wants = want.Expression max_nesting ∷ want.Mark (codes ";") ∷ want.Clo
 
 pub no_return : (at : Place) (old mid rest : Row) → old ≡ sign (codes "{") at ∷ mid → rest ≡ mid → next_is (is_word (codes "return")) mid ≡ false → BodyStays (reason_of (no_block rest)) old rest
 no_return at old mid rest front same h =
-    body_takes (want.Return ∷ block_wants) (sign (codes "{") at) (reason_of (no_block rest)) old mid rest front refl (stay_first want.Return block_wants (reason_of (no_block rest)) mid rest (return_stays mid rest same h))
+    body_takes (want.Return ∷ block_wants) (sign (codes "{") at) (reason_of (no_block rest)) old mid rest front refl
+        (stay_first want.Return block_wants (reason_of (no_block rest)) mid rest (return_stays mid rest same h))
 
 block_then : (at : Place) (r : Option Reason) (old mid one rest : Row) → old ≡ sign (codes "{") at ∷ mid → Keyword (codes "return") mid one → Stay block_wants r one rest → BodyStays r old rest
-block_then at r old mid one rest front k st = body_takes (want.Return ∷ block_wants) (sign (codes "{") at) r old mid rest front refl (stay_then want.Return block_wants r mid one rest (return_pass true mid one k) st)
+block_then at r old mid one rest front k st = body_takes (want.Return ∷ block_wants) (sign (codes "{") at) r old mid
+    rest front refl (stay_then want.Return block_wants r mid one rest (return_pass true mid one k) st)
 
-pub block_stays : (at : Place) (r : Option Reason) (old mid one rest : Row) → old ≡ sign (codes "{") at ∷ mid → Keyword (codes "return") mid one → Stay (want.Expression max_nesting ∷ []) r one rest → BodyStays r old rest
+pub block_stays : (at : Place) (r : Option Reason) (old mid one rest : Row) → old ≡ sign (codes "{") at ∷ mid
+    → Keyword (codes "return") mid one → Stay (want.Expression max_nesting ∷ []) r one rest → BodyStays r old rest
 block_stays at r old mid one rest front k st = block_then at r old mid one rest front k (stay_first (want.Expression max_nesting) (want.Mark (codes ";") ∷ want.Close ∷ []) r one rest st)
 
-pub block_ends : (at : Place) (n : ℕ) (e : Failure JragCode) (old mid one end rest : Row) → old ≡ sign (codes "{") at ∷ mid → Keyword (codes "return") mid one → Goes want.Expression (λ b. []) n one end → n ≤ max_nesting
+pub block_ends : (at : Place) (n : ℕ) (e : Failure JragCode) (old mid one end rest : Row) → old ≡ sign (codes "{")
+    at ∷ mid → Keyword (codes "return") mid one → Goes want.Expression (λ b. []) n one end → n ≤ max_nesting
     → Missing (is_sign (codes ";")) e end rest → BodyStays (reason_of e) old rest
 block_ends at n e old mid one end rest front k g fits m =
     block_then at (reason_of e) old mid one rest front k
@@ -357,18 +386,23 @@ defined_row : (d : ℕ) (s : Option PlacedToken) → (d == 0) && next (is_sign (
 unfolding table
 defined_row d s h = ap (λ x. on x (Takes true (want.Signed ∷ want.Body ∷ []) 0) (body_answer s)) h
 
-defined_stays : (us : List Want) (name : Word) (ps : Params) (r : Option Reason) (called mid rest : Row) → Signature name ps called mid → is_getter ps.items && next_is (is_sign (codes ".")) mid ≡ false → BodyStays r mid rest
+defined_stays : (us : List Want) (name : Word) (ps : Params) (r : Option Reason) (called mid rest : Row) → Signature
+    name ps called mid → is_getter ps.items && next_is (is_sign (codes ".")) mid ≡ false → BodyStays r mid rest
     → Stay (want.Signed ∷ want.Defined ∷ us) r called rest
 defined_stays us name ps None called mid rest s h b d = tt
 defined_stays us name ps (Some q) called mid rest s h b d = λ ws.
     let none = counted (is_getter ps.items) (next (is_sign (codes ".")) (first mid)) (ap (λ x. is_getter ps.items && x) (next_same (is_sign (codes ".")) mid) ∙ h) in
     signature_goes true name ps called mid s (want.Defined ∷ (us ++ ws)) d ∙ b want.Defined (cond (is_getter ps.items) 0 1) (defined_row (cond (is_getter ps.items) 0 1) (first mid) none) (us ++ ws)
 
-pub equation_body : (us : List Want) (class name : Word) (ps : Params) (r : Option Reason) (old called mid rest : Row) → Owner class old called → Signature name ps called mid → is_getter ps.items && next_is (is_sign (codes ".")) mid ≡ false
+pub equation_body : (us : List Want) (class name : Word) (ps : Params) (r : Option Reason) (old called mid rest : Row)
+    → Owner class old called → Signature name ps called mid
+    → is_getter ps.items && next_is (is_sign (codes ".")) mid ≡ false
     → BodyStays r mid rest → Stay (want.Name ∷ want.Mark (codes ".") ∷ want.Signed ∷ want.Defined ∷ us) r old rest
 equation_body us class name ps r old called mid rest o s h b = owner_stays class (want.Signed ∷ want.Defined ∷ us) r old called rest o (defined_stays us name ps r called mid rest s h b)
 
-dotted : (us : List Want) (name : Word) (ps : Params) (r : Option Reason) (called dot mid rest : Row) → Signature name ps called dot → is_getter ps.items ≡ true → Sign (codes ".") dot mid → Stay (want.Signed ∷ want.Body ∷ us) r mid rest
+dotted : (us : List Want) (name : Word) (ps : Params) (r : Option Reason) (called dot mid rest : Row)
+    → Signature name ps called dot → is_getter ps.items ≡ true → Sign (codes ".") dot mid
+    → Stay (want.Signed ∷ want.Body ∷ us) r mid rest
     → Stay (want.Signed ∷ want.Defined ∷ us) r called rest
 dotted us name ps None called dot mid rest s is c st d = tt
 dotted us name ps (Some q) called dot mid rest s is c st d = λ ws.
@@ -376,53 +410,82 @@ dotted us name ps (Some q) called dot mid rest s is c st d = λ ws.
     signature_goes true name ps called dot s vs d ∙ ap (λ n. run true table vs n dot) (ap (λ b. cond {A = ℕ} b 0 1) is) ∙ ap (run true table vs 0) c.1
     ∙ run-takes true table want.Defined true (want.Signed ∷ want.Body ∷ []) (us ++ ws) 0 0 (sign (codes ".") c.0) mid (dot_row c.0) (λ h. refl) ∙ st 0 ws
 
-pub getter_stays : (us : List Want) (class name : Word) (ps : Params) (r : Option Reason) (old called dot mid rest : Row) → Owner class old called → Signature name ps called dot → is_getter ps.items ≡ true → Sign (codes ".") dot mid
+pub getter_stays : (us : List Want) (class name : Word) (ps : Params) (r : Option Reason) (old called dot mid rest :
+    Row) → Owner class old called → Signature name ps called dot → is_getter ps.items ≡ true → Sign (codes ".") dot mid
     → Stay (want.Signed ∷ want.Body ∷ us) r mid rest → Stay (want.Name ∷ want.Mark (codes ".") ∷ want.Signed ∷ want.Defined ∷ us) r old rest
 getter_stays us class name ps r old called dot mid rest o s is c st = owner_stays class (want.Signed ∷ want.Defined ∷ us) r old called rest o (dotted us name ps r called dot mid rest s is c st)
 
 -- an error of what stands behind a getter is one of the equation
-pub behind_getter : {A : Type 0} (x : Result A (Failure JragCode)) (us : List Want) (class name : Word) (ps : Params) (old called dot mid rest : Row) → Owner class old called → Signature name ps called dot → is_getter ps.items ≡ true → Sign (codes ".") dot mid
+pub behind_getter : {A : Type 0} (x : Result A (Failure JragCode)) (us : List Want) (class name : Word) (ps : Params)
+    (old called dot mid rest : Row) → Owner class old called → Signature name ps called dot → is_getter ps.items ≡ true
+    → Sign (codes ".") dot mid
     → IfErr x (λ e. Stay (want.Signed ∷ want.Body ∷ us) (reason_of e) mid rest) → IfErr x (λ e. Stay (want.Name ∷ want.Mark (codes ".") ∷ want.Signed ∷ want.Defined ∷ us) (reason_of e) old rest)
 behind_getter (Ok a) us class name ps old called dot mid rest o s is c st = tt
 behind_getter (Err e) us class name ps old called dot mid rest o s is c st = getter_stays us class name ps (reason_of e) old called dot mid rest o s is c st
 
-pub inherited_body : (us : List Want) (name : Word) (ps : Params) (r : Option Reason) (old mid rest : Row) → Signature name ps old mid → BodyStays r mid rest → Stay (want.Signed ∷ want.Body ∷ us) r old rest
-inherited_body us name ps r old mid rest s b = stay_then want.Signed (want.Body ∷ us) r old mid rest (signed_pass true name ps old mid s) (body_stay want.Body us r mid rest (λ d. body_row d (first mid)) b)
+pub inherited_body : (us : List Want) (name : Word) (ps : Params) (r : Option Reason) (old mid rest : Row)
+    → Signature name ps old mid → BodyStays r mid rest → Stay (want.Signed ∷ want.Body ∷ us) r old rest
+inherited_body us name ps r old mid rest s b = stay_then want.Signed (want.Body ∷ us) r old mid rest
+    (signed_pass true name ps old mid s) (body_stay want.Body us r mid rest (λ d. body_row d (first mid)) b)
 
 -- ---- declarations
 
 -- an error behind a keyword is one of the declaration
-pub behind_keyword : (forms : Forms) {A : Type 0} (x : Result A (Failure JragCode)) (ws : List Want) (mid rest old : Row) → ((r : Option Reason) → Stay ws r mid rest → Stay (want.Decls forms ∷ []) r old rest)
+pub behind_keyword : (forms : Forms) {A : Type 0} (x : Result A (Failure JragCode)) (ws : List Want)
+    (mid rest old : Row) → ((r : Option Reason) → Stay ws r mid rest → Stay (want.Decls forms ∷ []) r old rest)
     → IfErr x (λ e. Stay ws (reason_of e) mid rest) → IfErr x (λ e. Stay (want.Decls forms ∷ []) (reason_of e) old rest)
 behind_keyword forms (Ok a) ws mid rest old h st = tt
 behind_keyword forms (Err e) ws mid rest old h st = h (reason_of e) st
 
-pub syn_stays : (forms : Forms) (at : Place) (r : Option Reason) (old mid rest : Row) → old ≡ word (codes "syn") at ∷ mid → Stay (declared forms (want.Ending ∷ want.Decls forms ∷ [])) r mid rest → Stay (want.Decls forms ∷ []) r old rest
-syn_stays forms at r old mid rest front st = stay_takes (want.Decls forms) (declared forms (want.Ending ∷ want.Decls forms ∷ [])) (word (codes "syn") at) r old mid rest front (λ d. (0, synthesized_row forms at d)) st
+pub syn_stays : (forms : Forms) (at : Place) (r : Option Reason) (old mid rest : Row)
+    → old ≡ word (codes "syn") at ∷ mid → Stay (declared forms (want.Ending ∷ want.Decls forms ∷ [])) r mid rest
+    → Stay (want.Decls forms ∷ []) r old rest
+syn_stays forms at r old mid rest front st = stay_takes (want.Decls forms) (declared forms (want.Ending ∷ want.Decls
+    forms ∷ [])) (word (codes "syn") at) r old mid rest front (λ d. (0, synthesized_row forms at d)) st
 
-pub inh_stays : (forms : Forms) (at : Place) (r : Option Reason) (old mid rest : Row) → old ≡ word (codes "inh") at ∷ mid → Stay (declared forms (want.Mark (codes ";") ∷ want.Decls forms ∷ [])) r mid rest → Stay (want.Decls forms ∷ []) r old rest
-inh_stays forms at r old mid rest front st = stay_takes (want.Decls forms) (declared forms (want.Mark (codes ";") ∷ want.Decls forms ∷ [])) (word (codes "inh") at) r old mid rest front (λ d. (0, inherited_row forms at d)) st
+pub inh_stays : (forms : Forms) (at : Place) (r : Option Reason) (old mid rest : Row) → old
+    ≡ word (codes "inh") at ∷ mid → Stay (declared forms (want.Mark (codes ";") ∷ want.Decls forms ∷ [])) r mid rest
+    → Stay (want.Decls forms ∷ []) r old rest
+inh_stays forms at r old mid rest front st =
+    stay_takes (want.Decls forms) (declared forms (want.Mark (codes ";") ∷ want.Decls forms ∷ []))
+    (word (codes "inh") at) r old mid rest front (λ d. (0, inherited_row forms at d)) st
 
-pub eq_stays : (forms : Forms) (at : Place) (r : Option Reason) (old mid rest : Row) → old ≡ word (codes "eq") at ∷ mid → Stay (want.Name ∷ want.Mark (codes ".") ∷ want.Signed ∷ want.Defined ∷ want.Decls forms ∷ []) r mid rest → Stay (want.Decls forms ∷ []) r old rest
+pub eq_stays : (forms : Forms) (at : Place) (r : Option Reason) (old mid rest : Row) → old ≡ word (codes "eq") at ∷ mid
+    → Stay (want.Name ∷ want.Mark (codes ".") ∷ want.Signed ∷ want.Defined ∷ want.Decls forms ∷ []) r mid rest
+    → Stay (want.Decls forms ∷ []) r old rest
 eq_stays forms at r old mid rest front st =
-    stay_takes (want.Decls forms) (want.Name ∷ want.Mark (codes ".") ∷ want.Signed ∷ want.Defined ∷ want.Decls forms ∷ []) (word (codes "eq") at) r old mid rest front (λ d. (0, equation_row forms at d)) st
+    stay_takes (want.Decls forms) (want.Name ∷ want.Mark (codes ".") ∷ want.Signed ∷ want.Defined ∷ want.Decls
+        forms ∷ []) (word (codes "eq") at) r old mid rest front (λ d. (0, equation_row forms at d)) st
 
 abbrev aspect_wants : Forms → List Want
 aspect_wants forms = want.Mark (codes "{") ∷ want.Decls forms ∷ want.File forms ∷ []
 
-pub aspect_no_name : (forms : Forms) (at : Place) (e : Failure JragCode) (old mid rest : Row) → old ≡ word (codes "aspect") at ∷ mid → Missing is_name_token e mid rest → Stay (want.File forms ∷ []) (reason_of e) old rest
-aspect_no_name forms at e old mid rest front m = stay_takes (want.File forms) (want.Name ∷ aspect_wants forms) (word (codes "aspect") at) (reason_of e) old mid rest front (λ d. (0, aspect_row forms at d)) (no_class (aspect_wants forms) e mid rest m)
+pub aspect_no_name : (forms : Forms) (at : Place) (e : Failure JragCode) (old mid rest : Row) → old ≡ word
+    (codes "aspect") at ∷ mid → Missing is_name_token e mid rest → Stay (want.File forms ∷ []) (reason_of e) old rest
+aspect_no_name forms at e old mid rest front m =
+    stay_takes (want.File forms) (want.Name ∷ aspect_wants forms) (word (codes "aspect") at) (reason_of e) old mid rest
+    front (λ d. (0, aspect_row forms at d)) (no_class (aspect_wants forms) e mid rest m)
 
-named_stays : (forms : Forms) (at : Place) (name : Word) (r : Option Reason) (old mid brace rest : Row) → old ≡ word (codes "aspect") at ∷ mid → grammar.Name name mid brace → Stay (aspect_wants forms) r brace rest → Stay (want.File forms ∷ []) r old rest
+named_stays : (forms : Forms) (at : Place) (name : Word) (r : Option Reason) (old mid brace rest : Row)
+    → old ≡ word (codes "aspect") at ∷ mid → grammar.Name name mid brace → Stay (aspect_wants forms) r brace rest
+    → Stay (want.File forms ∷ []) r old rest
 named_stays forms at name r old mid brace rest front n st =
-    stay_takes (want.File forms) (want.Name ∷ aspect_wants forms) (word (codes "aspect") at) r old mid rest front (λ d. (0, aspect_row forms at d)) (stay_then want.Name (aspect_wants forms) r mid brace rest (name_pass true name mid brace n) st)
+    stay_takes (want.File forms) (want.Name ∷ aspect_wants forms) (word (codes "aspect") at) r old mid rest
+        front (λ d. (0, aspect_row forms at d))
+        (stay_then want.Name (aspect_wants forms) r mid brace rest (name_pass true name mid brace n) st)
 
-pub aspect_no_brace : (forms : Forms) (at : Place) (name : Word) (e : Failure JragCode) (old mid brace rest : Row) → old ≡ word (codes "aspect") at ∷ mid → grammar.Name name mid brace → Missing (is_sign (codes "{")) e brace rest → Stay (want.File forms ∷ []) (reason_of e) old rest
+pub aspect_no_brace : (forms : Forms) (at : Place) (name : Word) (e : Failure JragCode) (old mid brace rest : Row)
+    → old ≡ word (codes "aspect") at ∷ mid → grammar.Name name mid brace → Missing (is_sign (codes "{")) e brace rest
+    → Stay (want.File forms ∷ []) (reason_of e) old rest
 aspect_no_brace forms at name e old mid brace rest front n m =
-    named_stays forms at name (reason_of e) old mid brace rest front n (stay_first (want.Mark (codes "{")) (want.Decls forms ∷ want.File forms ∷ []) (reason_of e) brace rest (mark_missing (codes "{") e brace rest m))
+    named_stays forms at name (reason_of e) old mid brace rest front n (stay_first (want.Mark (codes "{"))
+        (want.Decls forms ∷ want.File forms ∷ []) (reason_of e) brace rest (mark_missing (codes "{") e brace rest m))
 
-pub aspect_decls : (forms : Forms) (at : Place) (name : Word) (r : Option Reason) (old mid brace inner rest : Row) → old ≡ word (codes "aspect") at ∷ mid → grammar.Name name mid brace → Sign (codes "{") brace inner → Stay (want.Decls forms ∷ []) r inner rest
+pub aspect_decls : (forms : Forms) (at : Place) (name : Word) (r : Option Reason) (old mid brace inner rest : Row)
+    → old ≡ word (codes "aspect") at ∷ mid → grammar.Name name mid brace → Sign (codes "{") brace inner
+    → Stay (want.Decls forms ∷ []) r inner rest
     → Stay (want.File forms ∷ []) r old rest
 aspect_decls forms at name r old mid brace inner rest front n s st =
     named_stays forms at name r old mid brace rest front n
-    (stay_then (want.Mark (codes "{")) (want.Decls forms ∷ want.File forms ∷ []) r brace inner rest (mark_pass true (codes "{") brace inner s) (stay_first (want.Decls forms) (want.File forms ∷ []) r inner rest st))
+    (stay_then (want.Mark (codes "{")) (want.Decls forms ∷ want.File forms ∷ []) r brace inner rest (mark_pass true
+        (codes "{") brace inner s) (stay_first (want.Decls forms) (want.File forms ∷ []) r inner rest st))

@@ -63,7 +63,8 @@ circular_shorter m None old rest h = let l : length old ≡ length rest = ap len
 circular_shorter m (Some b) old rest (may, bracket, k, (value, close, s, j, z)) =
     omega (arith, takes_one _ old bracket k.1, takes_one _ bracket value s.1, takes_one _ value close j.1, takes_one _ close rest z.1)
 
-declared_shorter : (forms : Forms) (lazy : Option Place) (k : KindWord) (class name : Word) (ps : Params) (start : Option Bool) (old rest : Row) → Declared forms lazy k class name ps start old rest → length rest < length old
+declared_shorter : (forms : Forms) (lazy : Option Place) (k : KindWord) (class name : Word) (ps : Params) (start :
+    Option Bool) (old rest : Row) → Declared forms lazy k class name ps start old rest → length rest < length old
 declared_shorter forms lazy k class name ps start old rest (kinds, l, (owner, called, behind, t, o, s, c)) =
     omega (arith, lazy_shorter lazy old kinds l, takes_one _ kinds owner t.1, owner_shorter class owner called o, signature_shorter name ps called behind s, circular_shorter _ start behind rest c)
 
@@ -93,9 +94,11 @@ getter_shorter : (name : Word) (i : Option Word) (old rest : Row) → Getter nam
 getter_shorter name i old rest (paren, list, dot, n, o, x, d) = omega (arith, takes_one _ old paren n.1, takes_one _ paren list o.0.1, index_shorter i list dot x, takes_one _ dot rest d.1)
 
 behind_shorter : (forms : Forms) (f : DeclForm) (old rest : Row) → Behind forms f old rest → length rest < length old
-behind_shorter forms (syntax.Synthesized lazy k class name ps start ending) old rest (end, d, e) = omega (arith, declared_shorter forms lazy k class name ps start old end d, ending_shorter ending end rest e)
+behind_shorter forms (syntax.Synthesized lazy k class name ps start ending) old rest (end, d, e) =
+    omega (arith, declared_shorter forms lazy k class name ps start old end d, ending_shorter ending end rest e)
 behind_shorter forms (syntax.Inherited lazy k class name ps start) old rest (end, d, e) = omega (arith, declared_shorter forms lazy k class name ps start old end d, takes_one _ end rest e.1)
-behind_shorter forms (syntax.Equation class name ps b) old rest (called, body, o, s, e) = omega (arith, owner_shorter class old called o, signature_shorter name ps called body s, body_shorter b body rest e)
+behind_shorter forms (syntax.Equation class name ps b) old rest (called, body, o, s, e) =
+    omega (arith, owner_shorter class old called o, signature_shorter name ps called body s, body_shorter b body rest e)
 behind_shorter forms (syntax.InheritedEquation class getter i name ps b) old rest (got, called, body, o, g, s, e) =
     omega (arith, owner_shorter class old got o, getter_shorter getter i got called g, signature_shorter name ps called body s, body_shorter b body rest e)
 

@@ -45,7 +45,8 @@ pub record Met (forms : Forms) (text : List ℕ) (r : Reason) (ts rest : List Pl
   pub front_is : left (take (length ts - length rest) ts) ≡ left front
   pub rest_is : left (drop (length ts - length rest) ts) ≡ left rest
 
-pub met : (forms : Forms) (text : List ℕ) (r : Reason) (ts rest : List Placed) → HasTokens text (left ts) → run true table (want.File forms ∷ []) 0 (left ts) ≡ Stuck r (left rest) → Met forms text r ts rest
+pub met : (forms : Forms) (text : List ℕ) (r : Reason) (ts rest : List Placed) → HasTokens text (left ts)
+    → run true table (want.File forms ∷ []) 0 (left ts) ≡ Stuck r (left rest) → Met forms text r ts rest
 met forms text r ts rest has h =
     let s = stuck_behind true table r (want.File forms ∷ []) 0 (left ts) (left rest) h in
     let p = front_of ts s.0 (left rest) s.1 in
@@ -66,14 +67,17 @@ met forms text r ts rest has h =
 -- ---- what the tokens of a text spell
 
 -- a text that spells a file within the limit doesn't stop
-pub file_only : (forms : Forms) (text : List ℕ) (r : Reason) (ts us rest : List PlacedToken) (aspects : List Aspect) → HasTokens text ts → HasTokens text us → run true table (want.File forms ∷ []) 0 ts ≡ Stuck r rest → File forms aspects us [] → IsWithin aspects → ⊥
+pub file_only : (forms : Forms) (text : List ℕ) (r : Reason) (ts us rest : List PlacedToken) (aspects : List Aspect)
+    → HasTokens text ts → HasTokens text us → run true table (want.File forms ∷ []) 0 ts ≡ Stuck r rest
+    → File forms aspects us [] → IsWithin aspects → ⊥
 file_only forms text r ts us rest aspects h k stuck file within =
     let same = one_row text ts us h k in
     let whole : run true table (want.File forms ∷ []) 0 us ≡ Whole = file_taken forms true aspects us (λ e. within) file 0 in
     absurd (let q : Stuck r rest ≡ Whole = sym stuck ∙ ap (run true table (want.File forms ∷ []) 0) same ∙ whole in cc)
 
 -- what the tokens of a text spell, is what was read
-pub file_same : (forms : Forms) (text : List ℕ) (ts us rest : List PlacedToken) (read aspects : List Aspect) → HasTokens text ts → HasTokens text us → File forms read ts rest → rest ≡ [] → File forms aspects us [] → read ≡ aspects
+pub file_same : (forms : Forms) (text : List ℕ) (ts us rest : List PlacedToken) (read aspects : List Aspect) → HasTokens
+    text ts → HasTokens text us → File forms read ts rest → rest ≡ [] → File forms aspects us [] → read ≡ aspects
 file_same forms text ts us rest read aspects h k found end file = one_file forms read aspects us (subst₂ (λ (x y : List PlacedToken). File forms read x y) (one_row text ts us h k) end found) file
 
 -- ---- places
@@ -85,7 +89,8 @@ place_met text c ts vs n k front rest at e f p g h =
     p ∙ (λ i. fault_place text c (left (take (length (e i) - f i) (e i))) (left (drop (length (e i) - f i) (e i)))) ∙ (λ i. fault_place text c (g i) (h i))
 
 -- where reading stops for the reason of a code, there is the text's fault of that code
-pub is_met : (forms : Forms) (text : List ℕ) (c : JragCode) (ts rest : List Placed) (at : Place) (m : Met forms text (reason c) ts rest) → at ≡ fault_place text c (left m.front) (left rest) → IsFault forms text (fault.Refused c at)
+pub is_met : (forms : Forms) (text : List ℕ) (c : JragCode) (ts rest : List Placed) (at : Place) (m : Met forms text
+    (reason c) ts rest) → at ≡ fault_place text c (left m.front) (left rest) → IsFault forms text (fault.Refused c at)
 is_met forms text code.Syntax ts rest at m p =
     inr (left m.front, left rest, m.stops, none_at_all forms Refused (left m.front) (left rest) (λ other e. absurd cc) m.stuck, none_left_out_there forms (left m.front) (left rest) m.stuck, p)
 is_met forms text code.LeftOut ts rest at m p =

@@ -33,7 +33,9 @@ pub first_fault : (forms : Forms) (r : Reason) (front rest : List PlacedToken) �
 first_fault forms r front rest h = record { begins = begins_file forms r front rest h; ends = none_within forms r front rest h }
 
 -- where it is refused or left out, no file goes on, however deep its expressions nest
-pub none_at_all : (forms : Forms) (r : Reason) (front rest : List PlacedToken) → ((left : List PlacedToken) → Stuck r rest ≡ Stuck TooDeep left → ⊥) → run true table (want.File forms ∷ []) 0 (front ++ rest) ≡ Stuck r rest → GoesOn (IsFile forms) front rest → ⊥
+pub none_at_all : (forms : Forms) (r : Reason) (front rest : List PlacedToken)
+    → ((left : List PlacedToken) → Stuck r rest ≡ Stuck TooDeep left → ⊥)
+    → run true table (want.File forms ∷ []) 0 (front ++ rest) ≡ Stuck r rest → GoesOn (IsFile forms) front rest → ⊥
 none_at_all forms r front rest no_limit h (other, same, (aspects, file)) =
     let free : run false table (want.File forms ∷ []) 0 (front ++ rest) ≡ Stuck r rest = run-unlimited table (want.File forms ∷ []) 0 (front ++ rest) (Stuck r rest) no_limit h in
     let stuck : run false table (want.File forms ∷ []) 0 (front ++ other) ≡ Stuck r other = one_ahead false table r (want.File forms ∷ []) 0 front rest other same free in
@@ -58,7 +60,8 @@ unfolding run
 met_at front [] ws d r h = never_ended (may_end table ws d) [] h
 met_at front (t ∷ ts) ws d r h = is_left_out front ws d t r (none_grows true table LeftOut t ts (after true table ws d t) h)
 
-not_met_at : {forms : Forms} (front rest : List PlacedToken) (ws : List want.Want) (d : ℕ) → Reached forms front ws d → run true table ws d rest ≡ Stuck Refused rest → MeetsLeftOut forms front rest → ⊥
+not_met_at : {forms : Forms} (front rest : List PlacedToken) (ws : List want.Want) (d : ℕ) → Reached forms front ws d
+    → run true table ws d rest ≡ Stuck Refused rest → MeetsLeftOut forms front rest → ⊥
 unfolding run
 not_met_at front [] ws d r h m = m
 not_met_at front (t ∷ ts) ws d r h m = none_left_out front ws d t r (none_grows true table Refused t ts (after true table ws d t) h) m

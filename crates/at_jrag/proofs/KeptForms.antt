@@ -80,7 +80,8 @@ word_taker : (t : PlacedToken) → IsKeyword t → (ws : List Want) (d : ℕ) (m
 word_taker t k ws d m e o h = taker (TakesWord t) t (word_row t k) ws d m e o h
 
 -- it stands first
-takes_first : (H : Want → Type 0) (t : PlacedToken) → IsKeyword t → ((w : Want) → H w → firm w ≡ false) → ((w : Want) (m : List Want) → TakesWord t w m → H w) → (ws : List Want) (d : ℕ) → Stands ws → TakesIt ws d t → IsFirst H ws
+takes_first : (H : Want → Type 0) (t : PlacedToken) → IsKeyword t → ((w : Want) → H w → firm w ≡ false) → ((w : Want)
+    (m : List Want) → TakesWord t w m → H w) → (ws : List Want) (d : ℕ) → Stands ws → TakesIt ws d t → IsFirst H ws
 takes_first H t k f is ws d o (m, e, h) =
     let x = word_taker t k ws d m e o h in
     let w = is x.want x.left x.holds in
@@ -125,7 +126,8 @@ Kept us t a = answered true a us (λ e. after true table us e t) ≡ Halts Refus
 
 file_kept : (g : Forms) (us : List Want) (d : ℕ) (t : PlacedToken) → is_word_kind t.kind ≡ true → after true table (File g ∷ us) d t ≡ Halts Refused → ⊥
 unfolding table
-file_kept g us d t h = either (Kept us t) (is_word (codes "aspect") t) _ _ (λ x k. goes_not k) (λ x. either (Kept us t) (is_word_kind t.kind) LeavesOut Refuses (λ y k. left_not k) (λ y k. never (is_word_kind t.kind) h y))
+file_kept g us d t h = either (Kept us t) (is_word (codes "aspect") t) _ _ (λ x k. goes_not k) (λ x. either (Kept us t)
+    (is_word_kind t.kind) LeavesOut Refuses (λ y k. left_not k) (λ y k. never (is_word_kind t.kind) h y))
 
 decls_kept : (g : Forms) (us : List Want) (d : ℕ) (t : PlacedToken) → is_word_kind t.kind ≡ true → after true table (Decls g ∷ us) d t ≡ Halts Refused → ⊥
 unfolding table
@@ -164,7 +166,8 @@ nta_kept : (ws : List Want) (d : ℕ) (t : PlacedToken) → next_lazy ws ≡ tru
 unfolding table
 nta_kept [] d t n h k = off n
 nta_kept (Lazy ∷ us) d t n h k =
-    either (Kept us t) (is_word (codes "lazy") t) _ _ (λ x k. goes_not k) (λ x. either (Kept us t) (is_word (codes "nta") t) LeavesOut (Skips 0) (λ y k. left_not k) (λ y k. never (is_word (codes "nta") t) h y)) k
+    either (Kept us t) (is_word (codes "lazy") t) _ _ (λ x k. goes_not k) (λ x. either (Kept us t) (is_word
+        (codes "nta") t) LeavesOut (Skips 0) (λ y k. left_not k) (λ y k. never (is_word (codes "nta") t) h y)) k
 nta_kept (NotNta ∷ us) d t n h k = either (Kept us t) (is_word (codes "nta") t) LeavesOut (Skips 0) (λ y k. left_not k) (λ y k. never (is_word (codes "nta") t) h y) k
 nta_kept (w ∷ us) d t n h k = off n
 
@@ -262,7 +265,8 @@ walk_at w ws m e Refuses f c o b ih h = halts_not h
 walk_at w ws m e LeavesOut f c o b ih h = halts_not h
 
 -- Where `;` or `}` may stand, an expression ends there and `||` may, or a declaration, a block or an aspect does.
-walk : (x : Bool) (ws : List Want) (d : ℕ) (at : Place) (m : List Want) (e : ℕ) → Stands ws → barred ws ≡ true → after false table ws d (sign (end_text x) at) ≡ Goes m e → Bars ws ⊎ (next_closes ws ≡ true)
+walk : (x : Bool) (ws : List Want) (d : ℕ) (at : Place) (m : List Want) (e : ℕ) → Stands ws → barred ws ≡ true
+    → after false table ws d (sign (end_text x) at) ≡ Goes m e → Bars ws ⊎ (next_closes ws ≡ true)
 walk x [] d at m e o b h = halts_not h
 walk x (w ∷ ws) d at m e o b h =
     walk_at w ws m e (table w d (Some (sign (end_text x) at))) (λ y. after false table ws y (sign (end_text x) at)) (end_row x w d at) o b (λ y i k. walk x ws y at m e o.2 k i) h
@@ -282,7 +286,8 @@ semicolon_closes m us d at (more, e, h) = halts_not h
 circular_closes : (m : Bool) (us : List Want) (d : ℕ) (at : Place) → next_ends us ≡ true → TakesIt (Circular m ∷ us) d (sign (codes "}") at) → ⊥
 unfolding table
 circular_closes m [] d at h k = off h
-circular_closes m (Mark text ∷ us) d at h k = semicolon_closes m us d at (subst (λ (s : List ℕ). TakesIt (Circular m ∷ Mark s ∷ us) d (sign (codes "}") at)) ((bytes_eq-Decides text (codes ";")).0 h) k)
+circular_closes m (Mark text ∷ us) d at h k = semicolon_closes m us d at (subst (λ (s : List ℕ).
+    TakesIt (Circular m ∷ Mark s ∷ us) d (sign (codes "}") at)) ((bytes_eq-Decides text (codes ";")).0 h) k)
 circular_closes m (Ending ∷ us) d at h (more, e, k) = halts_not k
 circular_closes m (w ∷ us) d at h k = off h
 
@@ -334,7 +339,9 @@ last_step {forms} before t ws d r = elim (last_of (before ++ t ∷ []) ws d r) [
 
 -- ---- `nta`
 
-lazy_after : (t : PlacedToken) (w : Want) (m : List Want) → is_word (codes "circular") t ≡ false → is_word (codes "aspect") t ≡ false → is_word (codes "eq") t ≡ false → is_word (codes "return") t ≡ false → TakesWord t w m → next_lazy m ≡ true
+lazy_after : (t : PlacedToken) (w : Want) (m : List Want) → is_word (codes "circular") t ≡ false
+    → is_word (codes "aspect") t ≡ false → is_word (codes "eq") t ≡ false → is_word (codes "return") t ≡ false
+    → TakesWord t w m → next_lazy m ≡ true
 lazy_after t (File g) m c a q r h = never (is_word (codes "aspect") t) h a
 lazy_after t (Decls g) m c a q r (inl h) = never (is_word (codes "eq") t) h q
 lazy_after t (Decls g) m c a q r (inr (h, k)) = k
@@ -349,7 +356,9 @@ lazy_front (Lazy ∷ m) us ws e h = ap next_lazy e
 lazy_front (NotNta ∷ m) us ws e h = ap next_lazy e
 lazy_front (w ∷ m) us ws e h = off h
 
-lazy_stands : (t : PlacedToken) → IsKeyword t → is_word (codes "circular") t ≡ false → is_word (codes "aspect") t ≡ false → is_word (codes "eq") t ≡ false → is_word (codes "return") t ≡ false → (vs : List Want) (x : ℕ) (ws : List Want) (d : ℕ) → Stands vs
+lazy_stands : (t : PlacedToken) → IsKeyword t → is_word (codes "circular") t ≡ false
+    → is_word (codes "aspect") t ≡ false → is_word (codes "eq") t ≡ false → is_word (codes "return") t ≡ false
+    → (vs : List Want) (x : ℕ) (ws : List Want) (d : ℕ) → Stands vs
     → after false table vs x t ≡ Goes ws d → next_lazy ws ≡ true
 lazy_stands t k c a q r vs x ws d o h = let y = word_taker t k vs x ws d o h in lazy_front y.left y.behind ws y.now (lazy_after t y.want y.left c a q r y.holds)
 
@@ -358,10 +367,14 @@ lazy_behind : (t : PlacedToken) (vs : List Want) (x : ℕ) (ws : List Want) (d :
     → after false table vs x t ≡ Goes ws d → next_lazy ws ≡ true
 lazy_behind t vs x ws d o h k =
     or_case (is_word (codes "syn") t) (is_word (codes "inh") t || is_word (codes "lazy") t)
-    (λ y. let e = word_is (codes "syn") t y in lazy_stands t (syn_word t.at t e) (ap (is_word (codes "circular")) e) (ap (is_word (codes "aspect")) e) (ap (is_word (codes "eq")) e) (ap (is_word (codes "return")) e) vs x ws d o k)
+    (λ y. let e = word_is (codes "syn") t y in lazy_stands t (syn_word t.at t e) (ap (is_word (codes "circular")) e)
+        (ap (is_word (codes "aspect")) e) (ap (is_word (codes "eq")) e) (ap (is_word (codes "return")) e) vs x ws d o k)
     (λ y. or_case (is_word (codes "inh") t) (is_word (codes "lazy") t)
-    (λ z. let e = word_is (codes "inh") t z in lazy_stands t (inh_word t.at t e) (ap (is_word (codes "circular")) e) (ap (is_word (codes "aspect")) e) (ap (is_word (codes "eq")) e) (ap (is_word (codes "return")) e) vs x ws d o k)
-    (λ z. let e = word_is (codes "lazy") t z in lazy_stands t (lazy_word t.at t e) (ap (is_word (codes "circular")) e) (ap (is_word (codes "aspect")) e) (ap (is_word (codes "eq")) e) (ap (is_word (codes "return")) e) vs x ws d o k) y) h
+    (λ z. let e = word_is (codes "inh") t z in lazy_stands t (inh_word t.at t e) (ap (is_word (codes "circular")) e)
+        (ap (is_word (codes "aspect")) e) (ap (is_word (codes "eq")) e) (ap (is_word (codes "return")) e) vs x ws d o k)
+    (λ z. let e = word_is (codes "lazy") t z in
+        lazy_stands t (lazy_word t.at t e) (ap (is_word (codes "circular")) e) (ap (is_word (codes "aspect")) e)
+        (ap (is_word (codes "eq")) e) (ap (is_word (codes "return")) e) vs x ws d o k) y) h
 
 -- ---- `[`
 
@@ -399,9 +412,12 @@ loosely T w Refuses h = tt
 loosely T w LeavesOut h = tt
 
 -- behind a `getChild`
-get_stands : (at : Place) (vs : List Want) (x : ℕ) (ws : List Want) (d : ℕ) → Stands vs → after false table vs x (word (codes "getChild") at) ≡ Goes ws d → (next_firm ws ≡ true) ⊎ (next_asks ws ≡ true)
+get_stands : (at : Place) (vs : List Want) (x : ℕ) (ws : List Want) (d : ℕ) → Stands vs
+    → after false table vs x (word (codes "getChild") at) ≡ Goes ws d → (next_firm ws ≡ true) ⊎ (next_asks ws ≡ true)
 get_stands at vs x ws d o h =
-    let y = taker (λ w. Begins (λ v. Is (firm v || asks v)) (Is (loose w))) (word (codes "getChild") at) (λ w e. loosely (Begins (λ v. Is (firm v || asks v)) (Is (loose w))) w (table w e (Some (word (codes "getChild") at))) (get_row w e at)) vs x ws d o h in
+    let y = taker (λ w. Begins (λ v. Is (firm v || asks v)) (Is (loose w))) (word (codes "getChild") at)
+        (λ w e. loosely (Begins (λ v. Is (firm v || asks v)) (Is (loose w))) w
+        (table w e (Some (word (codes "getChild") at))) (get_row w e at)) vs x ws d o h in
     get_front y.want y.left y.behind ws y.now y.follows y.holds
 
 asked_at : (us ws : List Want) (d : ℕ) (a : Answer Want) (f : ℕ → Move Want) → Comes (Begins (λ v. takes_int v ≡ true) ⊥) ⊥ (Unit {0}) a → answered false a us f ≡ Goes ws d → next_int ws ≡ true
@@ -418,14 +434,16 @@ asked_stands at [] x ws d n h = off n
 asked_stands at (w ∷ us) x ws d n h = asked_at us ws d (table w x (Some (paren at))) (λ e. after false table us e (paren at)) (paren_asked w x at n) h
 
 -- and behind the `(` after it
-int_stands : (at : Place) (vs : List Want) (x : ℕ) (ws : List Want) (d : ℕ) → Stands vs → (next_firm vs ≡ true) ⊎ (next_asks vs ≡ true) → after false table vs x (paren at) ≡ Goes ws d → next_int ws ≡ true
+int_stands : (at : Place) (vs : List Want) (x : ℕ) (ws : List Want) (d : ℕ) → Stands vs
+    → (next_firm vs ≡ true) ⊎ (next_asks vs ≡ true) → after false table vs x (paren at) ≡ Goes ws d → next_int ws ≡ true
 int_stands at vs x ws d o (inr n) h = asked_stands at vs x ws d n h
 int_stands at vs x ws d o (inl n) h =
     let y = taker (λ w m. Is (not (firm w))) (paren at) (λ w e. loosely (λ m. Is (not (firm w))) w (table w e (Some (paren at))) (paren_row w e at)) vs x ws d o h in
     let f = is_not (firm y.want) y.holds in
     never (firm y.want) (ap next_firm (sym (y.first f)) ∙ n) f
 
-get_child_kept : {forms : Forms} (more : Row) (name p t : PlacedToken) (ws : List Want) (d : ℕ) → Reached forms ((more ++ name ∷ []) ++ p ∷ []) ws d → is_word (codes "getChild") name ≡ true → is_sign (codes "(") p ≡ true
+get_child_kept : {forms : Forms} (more : Row) (name p t : PlacedToken) (ws : List Want) (d : ℕ) → Reached forms
+    ((more ++ name ∷ []) ++ p ∷ []) ws d → is_word (codes "getChild") name ≡ true → is_sign (codes "(") p ≡ true
     → is_word (codes "int") t ≡ true → after true table ws d t ≡ Halts Refused → ⊥
 get_child_kept more name p t ws d r n s i k =
     let one = last_step (more ++ name ∷ []) p ws d r in
@@ -444,10 +462,12 @@ moved {forms} front other ws d e r = subst (λ (x : Row). Reached forms x ws d) 
 -- Where the table refuses the token, it begins no form that is left out.
 pub none_left_out : {forms : Forms} (front : Row) (ws : List Want) (d : ℕ) (t : PlacedToken) → Reached forms front ws d → after true table ws d t ≡ Halts Refused → IsLeftOut forms front t → ⊥
 none_left_out front ws d t r k (no_aspect h (at, g)) =
-    let x = takes_first WantsFile (word (codes "aspect") at) (aspect_word at) (λ w e. ap firm e.1) (at_aspect at) ws d (reached_shape front ws d r).1 (goes_taken front ws d (word (codes "aspect") at) r g) in
+    let x = takes_first WantsFile (word (codes "aspect") at) (aspect_word at) (λ w e. ap firm e.1) (at_aspect at) ws d
+        (reached_shape front ws d r).1 (goes_taken front ws d (word (codes "aspect") at) r g) in
     file_kept x.holds.0 x.behind d t h (ap (λ (vs : List Want). after true table vs d t) (sym (x.is ∙ ap (λ w. w ∷ x.behind) x.holds.1)) ∙ k)
 none_left_out front ws d t r k (no_declaration h (at, g)) =
-    let x = takes_first WantsDecls (word (codes "syn") at) (syn_word at (word (codes "syn") at) refl) (λ w e. ap firm e.1) (at_syn at) ws d (reached_shape front ws d r).1 (goes_taken front ws d (word (codes "syn") at) r g) in
+    let x = takes_first WantsDecls (word (codes "syn") at) (syn_word at (word (codes "syn") at) refl) (λ w e. ap firm
+        e.1) (at_syn at) ws d (reached_shape front ws d r).1 (goes_taken front ws d (word (codes "syn") at) r g) in
     decls_kept x.holds.0 x.behind d t h (ap (λ (vs : List Want). after true table vs d t) (sym (x.is ∙ ap (λ w. w ∷ x.behind) x.holds.1)) ∙ k)
 none_left_out front ws d t r k (nta more before e b h) =
     let s = last_step more before ws d (moved front (more ++ before ∷ []) ws d e r) in
@@ -465,7 +485,8 @@ none_left_out front ws d t r k (start more before e b h) =
     (ap (λ (x : PlacedToken). after false table s.wants s.register x) (sym (sign_is (codes "[") before b)) ∙ s.moves) in
     start_kept ws d t stands h k
 none_left_out front ws d t r k (no_return (at, g)) =
-    let x = takes_first (λ w. w ≡ Return) (word (codes "return") at) (return_word at) (λ w e. ap firm e) (at_return at) ws d (reached_shape front ws d r).1 (goes_taken front ws d (word (codes "return") at) r g) in
+    let x = takes_first (λ w. w ≡ Return) (word (codes "return") at) (return_word at) (λ w e. ap firm e) (at_return at)
+        ws d (reached_shape front ws d r).1 (goes_taken front ws d (word (codes "return") at) r g) in
     return_kept x.behind d t (ap (λ (vs : List Want). after true table vs d t) (sym (x.is ∙ ap (λ w. w ∷ x.behind) x.holds)) ∙ k)
 none_left_out front ws d t r k (no_close (at, g) n m) =
     let o = reached_shape front ws d r in

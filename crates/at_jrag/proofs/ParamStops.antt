@@ -164,14 +164,16 @@ before_next g p start old mid following b r s =
 comma_refused : (n : ℕ) (s : Option PlacedToken) → next (is_sign (codes ")")) s ≡ false → next (is_sign (codes ",")) s ≡ false → more_params_answer n s ≡ Refuses
 comma_refused n s a b = simp (a, b)
 
-more_missing : (w : Want) (e : Failure JragCode) (old rest : Row) → EndsParams w → next_is (is_sign (codes ")")) old ≡ false → Missing (is_sign (codes ",")) e old rest → Stay (w ∷ []) (reason_of e) old rest
+more_missing : (w : Want) (e : Failure JragCode) (old rest : Row) → EndsParams w → next_is (is_sign (codes ")")) old
+    ≡ false → Missing (is_sign (codes ",")) e old rest → Stay (w ∷ []) (reason_of e) old rest
 more_missing w failure.Memory old rest ends close m = λ d. tt
 more_missing w (failure.For code.Syntax) old rest ends close m =
     stay_refuses w old rest m.0 (λ d. let r = ends d (first old) in r.1 ∙ comma_refused r.0 (first old) (next_same (is_sign (codes ")")) old ∙ close) (next_same (is_sign (codes ",")) old ∙ m.1))
 more_missing w (failure.For code.LeftOut) old rest ends close m = absurd m
 more_missing w (failure.For code.Nesting) old rest ends close m = absurd m
 
-pub comma_stays : (g : Bool) (p : Param) (e : Failure JragCode) (start old mid rest : Row) → BeforeParam g start old → ParamOf p old mid → next_is (is_sign (codes ")")) mid ≡ false → Missing (is_sign (codes ",")) e mid rest
+pub comma_stays : (g : Bool) (p : Param) (e : Failure JragCode) (start old mid rest : Row) → BeforeParam g start old
+    → ParamOf p old mid → next_is (is_sign (codes ")")) mid ≡ false → Missing (is_sign (codes ",")) e mid rest
     → Stay (want.Opening g ∷ []) (reason_of e) start rest
 comma_stays g p e start old mid rest b r close m =
     let f = b.goes p mid r in
@@ -192,7 +194,8 @@ no_kind_row g d (Some t) a b =
 
 no_kind_stays : (g : Bool) (e : Failure JragCode) (old rest : Row) → next_is (is_sign (codes ")")) old ≡ false → Missing is_kind e old rest → Stay (want.Params g ∷ []) (reason_of e) old rest
 no_kind_stays g failure.Memory old rest close m = λ d. tt
-no_kind_stays g (failure.For code.Syntax) old rest close m = stay_refuses (want.Params g) old rest m.0 (λ d. no_kind_row g d (first old) (next_same (is_sign (codes ")")) old ∙ close) (next_same is_kind old ∙ m.1))
+no_kind_stays g (failure.For code.Syntax) old rest close m = stay_refuses (want.Params g) old rest m.0
+    (λ d. no_kind_row g d (first old) (next_same (is_sign (codes ")")) old ∙ close) (next_same is_kind old ∙ m.1))
 no_kind_stays g (failure.For code.LeftOut) old rest close m = absurd m
 no_kind_stays g (failure.For code.Nesting) old rest close m = absurd m
 
@@ -217,13 +220,15 @@ kind_comes_by g k old mid none is (inr other) = (
 kind_comes : (g : Bool) (k : KindWord) (old mid : Row) → g && next_is (is_word (codes "int")) old ≡ false → KindOf k old mid → BehindKind g old mid
 kind_comes g k old mid none is = kind_comes_by g k old mid none is (kind_cases k.kind k.at is.0)
 
-first_stays : (g : Bool) (e : Failure JragCode) (old rest : Row) → g && next_is (is_word (codes "int")) old ≡ false → next_is (is_sign (codes ")")) old ≡ false → NoParam e old rest → Stay (want.Params g ∷ []) (reason_of e) old rest
+first_stays : (g : Bool) (e : Failure JragCode) (old rest : Row) → g && next_is (is_word (codes "int")) old ≡ false
+    → next_is (is_sign (codes ")")) old ≡ false → NoParam e old rest → Stay (want.Params g ∷ []) (reason_of e) old rest
 first_stays g e old rest none close (inl m) = no_kind_stays g e old rest close m
 first_stays g e old rest none close (inr (k, mid, is, m)) =
     let f = kind_comes g k old mid none is in
     comes_stay (want.Params g ∷ []) (want.Name ∷ f.0 ∷ []) (reason_of e) old mid rest f.2 (stay_first want.Name (f.0 ∷ []) (reason_of e) mid rest (name_missing e mid rest m))
 
-first_comes : (g : Bool) (p : Param) (old mid : Row) → g && next_is (is_word (codes "int")) old ≡ false → ParamOf p old mid → (w : Want) × EndsParams w × Comes true (want.Params g ∷ []) (w ∷ []) old mid
+first_comes : (g : Bool) (p : Param) (old mid : Row) → g && next_is (is_word (codes "int")) old ≡ false
+    → ParamOf p old mid → (w : Want) × EndsParams w × Comes true (want.Params g ∷ []) (w ∷ []) old mid
 first_comes g p old mid none (one, k, n) =
     let f = kind_comes g p.kind old one none k in
     (f.0, f.1, comes_then (want.Params g ∷ []) (want.Name ∷ f.0 ∷ []) (f.0 ∷ []) old one mid f.2 (name_comes p.name (f.0 ∷ []) one mid n))

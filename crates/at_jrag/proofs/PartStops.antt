@@ -349,7 +349,8 @@ paren_answer b [] e = absurd cc
 paren_answer b (t ∷ ts) e = ap (λ x. primary_answer b (Some x)) (sign_is (codes "(") t e)
 
 -- a `(` where nothing may nest
-pub paren_too_deep : (b : ℕ) (e : Failure JragCode) (old rest : Row) → e ≡ (failure.For code.Nesting) → next_is (is_sign (codes "(")) old ≡ true → b ≤ 1 → rest ≡ old → Halts (Primary b) (reason_of e) old rest
+pub paren_too_deep : (b : ℕ) (e : Failure JragCode) (old rest : Row) → e ≡ (failure.For code.Nesting)
+    → next_is (is_sign (codes "(")) old ≡ true → b ≤ 1 → rest ≡ old → Halts (Primary b) (reason_of e) old rest
 unfolding table
 paren_too_deep b e old rest is p h s = λ d. by_nesting (Primary b ∷ []) d e old rest is
     (too_deep_at (is_sign (codes "(")) (Primary b) (Expression (b - 1) ∷ Mark (codes ")") ∷ Deeper ∷ []) 0 d (nat_lt 1 b) old rest p (paren_answer b old p) (le-ltb 1 b h) s)

@@ -36,7 +36,8 @@ then_comes H N K L us (Skips e) h k = tt
 then_comes H N K L us Refuses h k = tt
 then_comes H N K L us LeavesOut h k = k
 
-pub else_comes : (H : Want → Type 0) (N K L : Type 0) (us : List Want) (a : Answer Want) (f : ℕ → Answer Want) → Begins H N us → Comes (Begins H N) (Unit {0}) L a → ((e : ℕ) → Comes (Begins H N) K L (f e))
+pub else_comes : (H : Want → Type 0) (N K L : Type 0) (us : List Want) (a : Answer Want) (f : ℕ → Answer Want)
+    → Begins H N us → Comes (Begins H N) (Unit {0}) L a → ((e : ℕ) → Comes (Begins H N) K L (f e))
     → Comes (Begins H N) K L (or_else a us f)
 else_comes H N K L us (Takes within [] e) f h k g = h
 else_comes H N K L us (Takes within (v ∷ vs) e) f h k g = k
@@ -134,7 +135,9 @@ calls_do w t K L k b d = either (Does w t K L) (is_sign (codes ".") t) _ (Skips 
 named_does : (w : Want) (t : PlacedToken) (K L : Type 0) → K → (g : Bool) (b : ℕ) → asked w ≡ Some g → Does w t K L (named_answer g b (Some t))
 named_does w t K L k g b e = either (Does w t K L) (is_sign (codes "(") t) _ (Skips 1) (λ x. (x, e)) (λ x. k)
 
-tails_do : (w : Want) (t : PlacedToken) (K L : Type 0) (rank b : ℕ) (us : List Want) (f : ℕ → Answer Want) (d : ℕ) → Begins (Leaves w t) (Unit {0}) us → ((e : ℕ) → Does w t K L (f e)) → Does w t K L (tails_answer rank b us f d (Some t))
+tails_do : (w : Want) (t : PlacedToken) (K L : Type 0) (rank b : ℕ) (us : List Want) (f : ℕ → Answer Want) (d : ℕ)
+    → Begins (Leaves w t) (Unit {0}) us → ((e : ℕ) → Does w t K L (f e))
+    → Does w t K L (tails_answer rank b us f d (Some t))
 tails_do w t K L zero b us f d o h = h d
 tails_do w t K L (suc rank) b us f d o h =
     tails_do w t K L rank b (Links rank b ∷ us) (λ e. or_else (links_answer rank b e (Some t)) us f) d tt
@@ -181,7 +184,8 @@ row_does (Enclosed g b) d t =
     either (Row (Enclosed g b) t) (is_sign (codes ")") t) _ _ (λ x. tt)
     (λ y. then_comes (Leaves (Enclosed g b) t) (Unit {0}) _ _ (Deeper ∷ Calls b ∷ []) (enclosed_rest g (b - 1) d (Some t)) tt (enclosed_does (Enclosed g b) t (Unit {0}) _ g (b - 1) d refl))
 row_does (Parenthesized b) d t =
-    either (Row (Parenthesized b) t) (follows_cast t) _ _ (λ x. then_comes (Leaves (Parenthesized b) t) (Unit {0}) _ _ (Deeper ∷ []) (unary_answer (b - 1) (Some t)) tt (unary_does (Parenthesized b) t (Unit {0}) _ (b - 1)))
+    either (Row (Parenthesized b) t) (follows_cast t) _ _ (λ x. then_comes (Leaves (Parenthesized b) t) (Unit {0})
+        _ _ (Deeper ∷ []) (unary_answer (b - 1) (Some t)) tt (unary_does (Parenthesized b) t (Unit {0}) _ (b - 1)))
     (λ x. calls_do (Parenthesized b) t _ _ refl b d)
 row_does (Calls b) d t = calls_do (Calls b) t _ _ refl b d
 row_does (Called b) d t = either (Row (Called b) t) (is_name_token t) _ Refuses (λ x. is_named t x) (λ x. tt)

@@ -44,7 +44,8 @@ append_none : (xs : Row) → xs ≡ xs ++ []
 append_none [] = refl
 append_none (x ∷ xs) = ap (λ l. x ∷ l) (append_none xs)
 
-reached_from : {forms : Forms} (r : Reason) (front rest done : Row) (vs : List Want) (x : ℕ) → Reached forms done vs x → run true table vs x (front ++ rest) ≡ Stuck r rest → IsReached forms r (done ++ front) rest
+reached_from : {forms : Forms} (r : Reason) (front rest done : Row) (vs : List Want) (x : ℕ) → Reached forms done vs x
+    → run true table vs x (front ++ rest) ≡ Stuck r rest → IsReached forms r (done ++ front) rest
 reached_from r [] rest done vs x h k = moved (append_none done) (record { wants = vs; register = x; reached = h; stuck = k })
 reached_from r (t ∷ front) rest done vs x h k =
     reached_on r done t front rest vs x (after true table vs x t) h refl (λ before ws d i j. reached_from r front rest before ws d i j) (sym (run-cons true table vs x t (front ++ rest)) ∙ k)
@@ -60,7 +61,8 @@ reached_open {forms} _ _ _ start = file_wanted forms
 reached_open _ _ _ (step before t vs ws x d h a) = subst (GoesOpen true) a (symbol_keeps true vs x t (reached_open before vs x h))
 
 -- a run over the front comes to it
-pub reached_runs : {forms : Forms} (front : Row) (ws : List Want) (d : ℕ) → Reached forms front ws d → (l : Bool) (more : Row) → run l table (want.File forms ∷ []) 0 (front ++ more) ≡ run l table ws d more
+pub reached_runs : {forms : Forms} (front : Row) (ws : List Want) (d : ℕ) → Reached forms front ws d
+    → (l : Bool) (more : Row) → run l table (want.File forms ∷ []) 0 (front ++ more) ≡ run l table ws d more
 reached_runs _ _ _ start l more = refl
 reached_runs {forms} _ _ _ (step before t vs ws x d h a) l more =
     ap (run l table (want.File forms ∷ []) 0) (append_assoc before (t ∷ []) more) ∙ reached_runs before vs x h l (t ∷ more)

@@ -93,7 +93,8 @@ word_at : (t : PlacedToken) (k : IsKeyword t) (w : Want) (d : ℕ) → Worded (w
 unfolding table
 word_at t k (Expression b) d = refused _ _ _ _ (no_expression t k b)
 word_at t k (Binary rank b) d = refused _ _ _ _ (no_binary t k rank b)
-word_at t k (Links rank b) d = let u = word k.text k.at in either (Worded u (Links rank b)) (link_rank u == suc rank) (link_answer rank b d u) (Skips d) (λ h. absurd (no_rank (link_rank u) rank k.link h)) (λ h. refl)
+word_at t k (Links rank b) d = let u = word k.text k.at in either (Worded u (Links rank b)) (link_rank u == suc rank)
+    (link_answer rank b d u) (Skips d) (λ h. absurd (no_rank (link_rank u) rank k.link h)) (λ h. refl)
 word_at t k (Choice b) d = refl
 word_at t k (Unary b) d = refused _ _ _ _ (no_unary t k b)
 word_at t k (Minus b) d = refused _ _ _ _ (ap (λ a. and_then a (Deeper ∷ [])) (no_unary t k (b - 1)))

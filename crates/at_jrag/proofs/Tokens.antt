@@ -27,7 +27,8 @@ literal_read m t k old rest more e s is r l =
     (subst (λ (x : Row). Reads 8 m x rest) (sym front) (r rest), ap (next_is is_literal) front ∙ l)
 
 -- a `-` and a number are left
-pub negative_left : (ts : List Placed) (other : Placed) → 2 ≤ length ts → placed (slice_index_or ts 0 other) ≡ sign (codes "-") (slice_index_or ts 0 other).at → (slice_index_or ts 1 other).kind ≡ kind.Number
+pub negative_left : (ts : List Placed) (other : Placed) → 2 ≤ length ts → placed (slice_index_or ts 0 other)
+    ≡ sign (codes "-") (slice_index_or ts 0 other).at → (slice_index_or ts 1 other).kind ≡ kind.Number
     → left ts ≡ sign (codes "-") (slice_index_or ts 0 other).at ∷ number (slice_index_or ts 1 other).text.now (slice_index_or ts 1 other).at ∷ left (take (length ts - 2) (drop 2 ts))
 negative_left [] other h m k = absurd (omega (arith, h))
 negative_left (t ∷ []) other h m k = absurd (omega (arith, h))

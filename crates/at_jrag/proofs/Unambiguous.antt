@@ -125,7 +125,8 @@ record SameDeclared (l m : Option Place) (k j : KindWord) (c d v w : Word) (ps q
   start : a ≡ b
   rest : r ≡ s
 
-declared_one : (forms : Forms) (l m : Option Place) (k j : KindWord) (c d v w : Word) (ps qs : Params) (a b : Option Bool) (x y r s : Row) → x ≡ y → Declared forms l k c v ps a x r → Declared forms m j d w qs b y s
+declared_one : (forms : Forms) (l m : Option Place) (k j : KindWord) (c d v w : Word) (ps qs : Params)
+    (a b : Option Bool) (x y r s : Row) → x ≡ y → Declared forms l k c v ps a x r → Declared forms m j d w qs b y s
     → NoWord (codes "circular") r → NoWord (codes "circular") s → SameDeclared l m k j c d v w ps qs a b r s
 declared_one forms l m k j c d v w ps qs a b x y r s same (kinds, z, (owner, called, behind, p, o, n, i)) (others, e, (class, name, after, q, u, t, h)) f g =
     let front = lazy_one l m k j x y kinds others owner class same z p e q in
@@ -240,7 +241,8 @@ decl_one forms d e x y r s same (behind, k, h) (after, j, g) =
     let one = behind_one forms d.form e.form (text_one token.0) behind after r s token.1 h g in
     ((λ i. record { at = at_one token.0 i; form = one.0 i }), one.1)
 
-decls_one : (forms : Forms) (ds es : List Decl) (at by : Place) (x y r s rest other : Row) → x ≡ y → Decls forms ds x r → Decls forms es y s → r ≡ sign (codes "}") at ∷ rest → s ≡ sign (codes "}") by ∷ other → (ds ≡ es) × (r ≡ s)
+decls_one : (forms : Forms) (ds es : List Decl) (at by : Place) (x y r s rest other : Row) → x ≡ y → Decls forms ds x r
+    → Decls forms es y s → r ≡ sign (codes "}") at ∷ rest → s ≡ sign (codes "}") by ∷ other → (ds ≡ es) × (r ≡ s)
 decls_one forms [] [] at by x y r s rest other same h k p q = (refl, sym h ∙ same ∙ k)
 decls_one forms [] (e ∷ es) at by x y r s rest other same h (mid, (behind, k, g), m) p q = absurd (apart (is_sign (codes "}")) same (h ∙ p) k refl refl)
 decls_one forms (d ∷ ds) [] at by x y r s rest other same (mid, (behind, k, g), m) h p q = absurd (apart (is_sign (codes "}")) (sym same) (h ∙ q) k refl refl)

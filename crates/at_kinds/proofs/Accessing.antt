@@ -84,13 +84,17 @@ end_same (a ∷ name) end (b ∷ x) (suc n) le =
     turn false true r = refl
     turn false false r = refl
 
-pub behind_front : (name front head rest : List ℕ) → length front ≤ length name → head ≡ take (length front) name → rest ≡ drop (length front) name → bytes_eq head front ≡ true → (x : List ℕ) → bytes_eq name (front ++ x) ≡ bytes_eq rest x
-behind_front name front head rest le h r is x = front_same name front x le ∙ ap (λ b. b && bytes_eq (drop (length front) name) x) (ap (λ l. bytes_eq l front) (sym h) ∙ is) ∙ ap (λ l. bytes_eq l x) (sym r)
+pub behind_front : (name front head rest : List ℕ) → length front ≤ length name → head ≡ take (length front) name
+    → rest ≡ drop (length front) name → bytes_eq head front ≡ true → (x : List ℕ)
+    → bytes_eq name (front ++ x) ≡ bytes_eq rest x
+behind_front name front head rest le h r is x = front_same name front x le ∙ ap (λ b. b
+    && bytes_eq (drop (length front) name) x) (ap (λ l. bytes_eq l front) (sym h) ∙ is) ∙ ap (λ l. bytes_eq l x) (sym r)
 
 pub not_behind : (name front head : List ℕ) → length front ≤ length name → head ≡ take (length front) name → bytes_eq head front ≡ false → (x : List ℕ) → bytes_eq name (front ++ x) ≡ false
 not_behind name front head le h is x = front_same name front x le ∙ ap (λ b. b && bytes_eq (drop (length front) name) x) (ap (λ l. bytes_eq l front) (sym h) ∙ is)
 
-pub before_end : (name end rest tail : List ℕ) (n : ℕ) → n + length end ≡ length name → rest ≡ take n name → tail ≡ drop n name → bytes_eq tail end ≡ true → (x : List ℕ) → bytes_eq name (x ++ end) ≡ bytes_eq rest x
+pub before_end : (name end rest tail : List ℕ) (n : ℕ) → n + length end ≡ length name → rest ≡ take n name
+    → tail ≡ drop n name → bytes_eq tail end ≡ true → (x : List ℕ) → bytes_eq name (x ++ end) ≡ bytes_eq rest x
 before_end name end rest tail n le r t is x = end_same name end x n le ∙ ap (λ b. b && bytes_eq (take n name) x) (ap (λ l. bytes_eq l end) (sym t) ∙ is) ∙ ap (λ l. bytes_eq l x) (sym r)
 
 pub not_before : (name end tail : List ℕ) (n : ℕ) → n + length end ≡ length name → tail ≡ drop n name → bytes_eq tail end ≡ false → (x : List ℕ) → bytes_eq name (x ++ end) ≡ false

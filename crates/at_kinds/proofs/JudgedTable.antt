@@ -58,7 +58,8 @@ only : (b : Bool) (k m : ExprKind) → only_if b k ≡ Some m → (b ≡ true) �
 only true k m e = (refl, cc)
 only false k m e = absurd cc
 
-upper_is : (classes : Classes) (c b : ℕ) (m : ExprKind) (x y : Bool) → is_sub classes b c ≡ x → is_sub classes c b ≡ y → (if x then Some (Class c) else only_if y (Class b)) ≡ Some m → Wider classes (Class c) (Class b) m
+upper_is : (classes : Classes) (c b : ℕ) (m : ExprKind) (x y : Bool) → is_sub classes b c ≡ x → is_sub classes c b ≡ y
+    → (if x then Some (Class c) else only_if y (Class b)) ≡ Some m → Wider classes (Class c) (Class b) m
 upper_is classes c b m true y f g e = let same : Class c ≡ m = cc in subst (Wider classes (Class c) (Class b)) same (table.first c b f)
 upper_is classes c b m false true f g e = let same : Class b ≡ m = cc in subst (Wider classes (Class c) (Class b)) same (table.second c b f g)
 upper_is classes c b m false false f g e = absurd cc
@@ -155,7 +156,8 @@ module _ (s : Scope) (at between : Place) (a b : written.Expr) (j k m : Kinded) 
   abbrev Whole : written.Operator → Type 0
   Whole o = Gives s (written.Binary at o between a b) m.kind
 
-  of_ints : (o : written.Operator) (r : ExprKind) → (Gives s a Int → Gives s b Int → Gives s (written.Binary at o between a b) r) → (e : body.Expr) → kind_if (are_ints j.kind k.kind) at r e ≡ Is m → Whole o
+  of_ints : (o : written.Operator) (r : ExprKind) → (Gives s a Int → Gives s b Int → Gives s
+      (written.Binary at o between a b) r) → (e : body.Expr) → kind_if (are_ints j.kind k.kind) at r e ≡ Is m → Whole o
   of_ints o r f e is =
       let (t, same) = if_kind (are_ints j.kind k.kind) at r e m is in
       let (x, y) = ints_are j.kind k.kind t in
@@ -174,7 +176,8 @@ module _ (s : Scope) (at between : Place) (a b : written.Expr) (j k m : Kinded) 
 
   of_texts : (r : ExprKind) → k.kind ≡ r → j.kind ≡ Text → text_joined at j.body r k.body ≡ Is m → Whole written.Add
   of_texts Text f x is = subst (Gives s (written.Binary at written.Add between a b)) (kind_of at Text (body.Join j.body k.body) m is) (table.joins (subst (Gives s a) x ga) (subst (Gives s b) f gb))
-  of_texts Int f x is = subst (Gives s (written.Binary at written.Add between a b)) (kind_of at Text (body.JoinInt j.body k.body) m is) (table.joins_int (subst (Gives s a) x ga) (subst (Gives s b) f gb))
+  of_texts Int f x is = subst (Gives s (written.Binary at written.Add between a b)) (kind_of at Text
+      (body.JoinInt j.body k.body) m is) (table.joins_int (subst (Gives s a) x ga) (subst (Gives s b) f gb))
   of_texts r f x is = absurd cc
 
   of_add : (t : Bool) → is_text j.kind ≡ t → (if t then text_joined at j.body k.kind k.body else computed at body.Add j k) ≡ Is m → Whole written.Add
@@ -238,7 +241,9 @@ wider_of at e (Some k) m is = (ap Some (kind_of at k e m is), body_of at k e m i
 chosen_is : (classes : Classes) (at : Place) (c j k m : Kinded) → chosen classes at c j k ≡ Is m → (c.kind ≡ Truth) × Wider classes j.kind k.kind m.kind × (is_given_text m.body ≡ false)
 chosen_is classes at c j k m is = by_test (is_truth c.kind) refl is
   where
-    by_test : (b : Bool) → is_truth c.kind ≡ b → (if b then of_wider at (body.Choose c.body j.body k.body) (wider classes j.kind k.kind) else Wrong code.Kind at) ≡ Is m → (c.kind ≡ Truth) × Wider classes j.kind k.kind m.kind × (is_given_text m.body ≡ false)
+    by_test : (b : Bool) → is_truth c.kind ≡ b →
+        (if b then of_wider at (body.Choose c.body j.body k.body) (wider classes j.kind k.kind) else Wrong code.Kind at)
+        ≡ Is m → (c.kind ≡ Truth) × Wider classes j.kind k.kind m.kind × (is_given_text m.body ≡ false)
     by_test true f g =
         let (x, y) = wider_of at (body.Choose c.body j.body k.body) (wider classes j.kind k.kind) m g in
         (truth_is c.kind f, wider_is classes j.kind k.kind m.kind x, sym y)
@@ -246,7 +251,8 @@ chosen_is classes at c j k m is = by_test (is_truth c.kind) refl is
 
 -- names ----------------------------------------------------------------------------------------------------------------
 
-name_is : (s : Scope) (at : Place) (name : List ℕ) (m : Kinded) (o : Option (ℕ × WrittenKind)) → bound_to s.names name ≡ o → named_by at (index_eq s.index name) o ≡ Is m → Gives s (written.Name at name) m.kind
+name_is : (s : Scope) (at : Place) (name : List ℕ) (m : Kinded) (o : Option (ℕ × WrittenKind))
+    → bound_to s.names name ≡ o → named_by at (index_eq s.index name) o ≡ Is m → Gives s (written.Name at name) m.kind
 name_is s at name m (Some b) f is = subst (Gives s (written.Name at name)) (kind_of at (of_written b.1) (body.Name b.0) m is) (table.name b.0 b.1 f)
 name_is s at name m None f is = by_index (index_eq s.index name) refl is
   where
@@ -254,7 +260,9 @@ name_is s at name m None f is = by_index (index_eq s.index name) refl is
     by_index true g h = subst (Gives s (written.Name at name)) (kind_of at Int body.IndexName m h) (table.index f g)
     by_index false g h = absurd cc
 
-name_given : (s : Scope) (at : Place) (name : List ℕ) (m : Kinded) (o : Option (ℕ × WrittenKind)) → bound_to s.names name ≡ o → named_by at (index_eq s.index name) o ≡ Is m → is_given_text m.body ≡ true → IsGiven s (written.Name at name)
+name_given : (s : Scope) (at : Place) (name : List ℕ) (m : Kinded) (o : Option (ℕ × WrittenKind))
+    → bound_to s.names name ≡ o → named_by at (index_eq s.index name) o ≡ Is m → is_given_text m.body ≡ true
+    → IsGiven s (written.Name at name)
 name_given s at name m (Some b) f is t = table.parameter b.0 b.1 f
 name_given s at name m None f is t = by_index (index_eq s.index name) is
   where
@@ -316,7 +324,8 @@ fitting s _ _ (p ∷ ps) no_more e f = absurd (no_args (length ps) e)
 fitting s _ _ [] (more {ks = ks} k g t rest) e f = absurd (args_no (length ks) e)
 fitting s _ _ (p ∷ ps) (more {e = x} {es = es} {ks = ks} k g t rest) e f = by_test (is_argument s.classes k p) refl f (fitting s es ks ps rest (less_args (length ks) (length ps) e))
   where
-    by_test : (b : Bool) → is_argument s.classes k p ≡ b → (if b then misfit s.classes ks ps else Some k.at) ≡ None → (misfit s.classes ks ps ≡ None → AreArguments s es ps) → AreArguments s (written.expr x es) (p ∷ ps)
+    by_test : (b : Bool) → is_argument s.classes k p ≡ b → (if b then misfit s.classes ks ps else Some k.at) ≡ None
+        → (misfit s.classes ks ps ≡ None → AreArguments s es ps) → AreArguments s (written.expr x es) (p ∷ ps)
     by_test true h i go = let (w, is) = argument_is s.classes k p h in table.argument g w (λ y. t (is y)) (go i)
     by_test false h i go = absurd cc
 
@@ -324,47 +333,62 @@ bodies_are : (ks : List Kinded) (o : Option Place) (b : body.Exprs) → bodies_o
 bodies_are ks None b e = refl
 bodies_are ks (Some at) b e = absurd cc
 
-fitted_are : (classes : Classes) (at : Place) (ks : List Kinded) (ps : List WrittenKind) (b : body.Exprs) → fitted classes at ks ps ≡ Is b → (nat_eq (length ks) (length ps) ≡ true) × (misfit classes ks ps ≡ None)
+fitted_are : (classes : Classes) (at : Place) (ks : List Kinded) (ps : List WrittenKind) (b : body.Exprs)
+    → fitted classes at ks ps ≡ Is b → (nat_eq (length ks) (length ps) ≡ true) × (misfit classes ks ps ≡ None)
 fitted_are classes at ks ps b e = by_test (nat_eq (length ks) (length ps)) refl e
   where
-    by_test : (t : Bool) → nat_eq (length ks) (length ps) ≡ t → (if t then bodies_or ks (misfit classes ks ps) else Wrong code.Argument at) ≡ Is b → (nat_eq (length ks) (length ps) ≡ true) × (misfit classes ks ps ≡ None)
+    by_test : (t : Bool) → nat_eq (length ks) (length ps) ≡ t → (if t then bodies_or ks (misfit classes ks ps) else
+        Wrong code.Argument at) ≡ Is b → (nat_eq (length ks) (length ps) ≡ true) × (misfit classes ks ps ≡ None)
     by_test true f g = (f, bodies_are ks (misfit classes ks ps) b g)
     by_test false f g = absurd cc
 
 module _ (s : Scope) (at : Place) (name : List ℕ) (es : written.Exprs) (ks : List Kinded) (m : Kinded) (each : Each s es ks) where
   -- an accessor of a node
-  of_accessor : (c : ℕ) (e : body.Expr) → bytes_eq name (codes "equals") ≡ false → (a : Accessor) → accessor_named s.classes c name ≡ Some a → accessed at a e ks ≡ Is m → Answers s (Class c) name es m.kind
+  of_accessor : (c : ℕ) (e : body.Expr) → bytes_eq name (codes "equals") ≡ false → (a : Accessor)
+      → accessor_named s.classes c name ≡ Some a → accessed at a e ks ≡ Is m → Answers s (Class c) name es m.kind
   of_accessor c e n (accessor.Child part b) f is =
       let (none, g) = none_there at ks (of_kind at (Class b) (body.Child e part)) m is in
-      subst (λ z. Answers s (Class c) name z m.kind) (sym (each_none s es ks each none)) (subst (Answers s (Class c) name written.no_exprs) (kind_of at (Class b) (body.Child e part) m g) (table.child part b n f))
+      subst (λ z. Answers s (Class c) name z m.kind) (sym (each_none s es ks each none)) (subst (Answers s (Class c)
+          name written.no_exprs) (kind_of at (Class b) (body.Child e part) m g) (table.child part b n f))
   of_accessor c e n (accessor.Element part b) f is =
       let (i, g, h) = made (λ i. of_kind at (Class b) (body.Element e part i)) (one_argument is_int at ks) m is in
       let (k, one, t) = only_one is_int at ks i g in
       let (x, same, gives) = each_one s es ks k each one in
-      subst (λ z. Answers s (Class c) name z m.kind) (sym same) (subst (Answers s (Class c) name (written.expr x written.no_exprs)) (kind_of at (Class b) (body.Element e part i) m h) (table.element part b n f (subst (Gives s x) (int_is k.kind t) gives)))
+      subst (λ z. Answers s (Class c) name z m.kind) (sym same)
+          (subst (Answers s (Class c) name (written.expr x written.no_exprs)) (kind_of at (Class b)
+          (body.Element e part i) m h) (table.element part b n f (subst (Gives s x) (int_is k.kind t) gives)))
   of_accessor c e n (accessor.Token part k) f is =
       let (none, g) = none_there at ks (of_kind at (known k) (body.TokenOf e part)) m is in
-      subst (λ z. Answers s (Class c) name z m.kind) (sym (each_none s es ks each none)) (subst (Answers s (Class c) name written.no_exprs) (kind_of at (known k) (body.TokenOf e part) m g) (table.token part k n f))
+      subst (λ z. Answers s (Class c) name z m.kind) (sym (each_none s es ks each none)) (subst (Answers s (Class c)
+          name written.no_exprs) (kind_of at (known k) (body.TokenOf e part) m g) (table.token part k n f))
   of_accessor c e n (accessor.Has part) f is =
       let (none, g) = none_there at ks (of_kind at Truth (body.Has e part)) m is in
-      subst (λ z. Answers s (Class c) name z m.kind) (sym (each_none s es ks each none)) (subst (Answers s (Class c) name written.no_exprs) (kind_of at Truth (body.Has e part) m g) (table.has part n f))
+      subst (λ z. Answers s (Class c) name z m.kind) (sym (each_none s es ks each none)) (subst (Answers s (Class c)
+          name written.no_exprs) (kind_of at Truth (body.Has e part) m g) (table.has part n f))
   of_accessor c e n (accessor.Count part) f is =
       let (none, g) = none_there at ks (of_kind at Int (body.Count e part)) m is in
-      subst (λ z. Answers s (Class c) name z m.kind) (sym (each_none s es ks each none)) (subst (Answers s (Class c) name written.no_exprs) (kind_of at Int (body.Count e part) m g) (table.count part n f))
+      subst (λ z. Answers s (Class c) name z m.kind) (sym (each_none s es ks each none)) (subst (Answers s (Class c)
+          name written.no_exprs) (kind_of at Int (body.Count e part) m g) (table.count part n f))
   of_accessor c e n (accessor.List part) f is = let (none, g) = none_there at ks (Wrong code.Kind at) m is in absurd cc
 
-  of_declared : (c a : ℕ) (e : body.Expr) → bytes_eq name (codes "equals") ≡ false → accessor_named s.classes c name ≡ None → declared_named s.classes s.declared c name ≡ Some a → (o : Option Declared) → slice_get s.declared a ≡ o → demanded_of s.classes at a o e ks ≡ Is m → Answers s (Class c) name es m.kind
+  of_declared : (c a : ℕ) (e : body.Expr) → bytes_eq name (codes "equals") ≡ false → accessor_named s.classes c name
+      ≡ None → declared_named s.classes s.declared c name ≡ Some a → (o : Option Declared) → slice_get s.declared a ≡ o
+      → demanded_of s.classes at a o e ks ≡ Is m → Answers s (Class c) name es m.kind
   of_declared c a e n none named None f is = absurd cc
   of_declared c a e n none named (Some d) f is =
       let (b, g, h) = made (λ es. of_kind at (of_written d.result) (body.Call e a es)) (fitted s.classes at ks d.parameters) m is in
       let (count, fit) = fitted_are s.classes at ks d.parameters b g in
       subst (Answers s (Class c) name es) (kind_of at (of_written d.result) (body.Call e a b) m h) (table.attribute a d n none named f (fitting s es ks d.parameters each count fit))
 
-  of_attribute : (c : ℕ) (e : body.Expr) → bytes_eq name (codes "equals") ≡ false → accessor_named s.classes c name ≡ None → (o : Option ℕ) → declared_named s.classes s.declared c name ≡ o → demanded s at o e ks ≡ Is m → Answers s (Class c) name es m.kind
+  of_attribute : (c : ℕ) (e : body.Expr) → bytes_eq name (codes "equals") ≡ false
+      → accessor_named s.classes c name ≡ None → (o : Option ℕ) → declared_named s.classes s.declared c name ≡ o
+      → demanded s at o e ks ≡ Is m → Answers s (Class c) name es m.kind
   of_attribute c e n none None f is = absurd cc
   of_attribute c e n none (Some a) f is = of_declared c a e n none f (slice_get s.declared a) refl is
 
-  of_node : (c : ℕ) (e : body.Expr) → bytes_eq name (codes "equals") ≡ false → (o : Option Accessor) → accessor_named s.classes c name ≡ o → asked_by s at (declared_named s.classes s.declared c name) o e ks ≡ Is m → Answers s (Class c) name es m.kind
+  of_node : (c : ℕ) (e : body.Expr) → bytes_eq name (codes "equals") ≡ false → (o : Option Accessor)
+      → accessor_named s.classes c name ≡ o → asked_by s at (declared_named s.classes s.declared c name) o e ks ≡ Is m
+      → Answers s (Class c) name es m.kind
   of_node c e n (Some a) f is = of_accessor c e n a f is
   of_node c e n None f is = of_attribute c e n f (declared_named s.classes s.declared c name) refl is
 
@@ -373,7 +397,9 @@ module _ (s : Scope) (at : Place) (name : List ℕ) (es : written.Exprs) (ks : L
   of_kind_asked (Strange first) e n is = absurd cc
   of_kind_asked r e n is = absurd cc
 
-  of_equal : (r : Kinded) → bytes_eq name (codes "equals") ≡ true → (t : Bool) → is_text r.kind ≡ t → (if t then and_then (λ e. of_kind at Truth (body.Equals r.body e)) (one_argument is_text at ks) else Wrong code.Kind at) ≡ Is m → Answers s r.kind name es m.kind
+  of_equal : (r : Kinded) → bytes_eq name (codes "equals") ≡ true → (t : Bool) → is_text r.kind ≡ t
+      → (if t then and_then (λ e. of_kind at Truth (body.Equals r.body e)) (one_argument is_text at ks) else Wrong
+      code.Kind at) ≡ Is m → Answers s r.kind name es m.kind
   of_equal r n true f is =
       let (b, g, h) = made (λ e. of_kind at Truth (body.Equals r.body e)) (one_argument is_text at ks) m is in
       let (k, one, t) = only_one is_text at ks b g in
@@ -397,22 +423,30 @@ not_given b m e f t = absurd (true≢false (sym t ∙ sym e ∙ f))
 
 module _ (s : Scope) (at : Place) (name : List ℕ) (ks : List Kinded) (m : Kinded) (t : is_given_text m.body ≡ true) where
   token_by : (c : ℕ) (e : body.Expr) → bytes_eq name (codes "equals") ≡ false → (a : Accessor) → accessor_named s.classes c name ≡ Some a → accessed at a e ks ≡ Is m → IsToken s name (Class c)
-  token_by c e n (accessor.Child part b) f is = let (none, g) = none_there at ks (of_kind at (Class b) (body.Child e part)) m is in not_given (body.Child e part) m (body_of at (Class b) (body.Child e part) m g) refl t
-  token_by c e n (accessor.Element part b) f is = let (i, g, h) = made (λ i. of_kind at (Class b) (body.Element e part i)) (one_argument is_int at ks) m is in not_given (body.Element e part i) m (body_of at (Class b) (body.Element e part i) m h) refl t
+  token_by c e n (accessor.Child part b) f is = let (none, g) = none_there at ks (of_kind at (Class b)
+      (body.Child e part)) m is in not_given (body.Child e part) m (body_of at (Class b) (body.Child e part) m g) refl t
+  token_by c e n (accessor.Element part b) f is = let (i, g, h) =
+      made (λ i. of_kind at (Class b) (body.Element e part i)) (one_argument is_int at ks) m is in
+      not_given (body.Element e part i) m (body_of at (Class b) (body.Element e part i) m h) refl t
   token_by c e n (accessor.Token part k) f is = (c, part, k, refl, n, f)
   token_by c e n (accessor.Has part) f is = let (none, g) = none_there at ks (of_kind at Truth (body.Has e part)) m is in not_given (body.Has e part) m (body_of at Truth (body.Has e part) m g) refl t
-  token_by c e n (accessor.Count part) f is = let (none, g) = none_there at ks (of_kind at Int (body.Count e part)) m is in not_given (body.Count e part) m (body_of at Int (body.Count e part) m g) refl t
+  token_by c e n (accessor.Count part) f is = let (none, g) = none_there at ks (of_kind at Int (body.Count e part)) m
+      is in not_given (body.Count e part) m (body_of at Int (body.Count e part) m g) refl t
   token_by c e n (accessor.List part) f is = let (none, g) = none_there at ks (Wrong code.Kind at) m is in absurd cc
 
   token_demanded : (c a : ℕ) (e : body.Expr) (o : Option Declared) → demanded_of s.classes at a o e ks ≡ Is m → IsToken s name (Class c)
   token_demanded c a e None is = absurd cc
-  token_demanded c a e (Some d) is = let (b, g, h) = made (λ es. of_kind at (of_written d.result) (body.Call e a es)) (fitted s.classes at ks d.parameters) m is in not_given (body.Call e a b) m (body_of at (of_written d.result) (body.Call e a b) m h) refl t
+  token_demanded c a e (Some d) is = let (b, g, h) =
+      made (λ es. of_kind at (of_written d.result) (body.Call e a es)) (fitted s.classes at ks d.parameters) m is in
+      not_given (body.Call e a b) m (body_of at (of_written d.result) (body.Call e a b) m h) refl t
 
   token_attribute : (c : ℕ) (e : body.Expr) (o : Option ℕ) → demanded s at o e ks ≡ Is m → IsToken s name (Class c)
   token_attribute c e None is = absurd cc
   token_attribute c e (Some a) is = token_demanded c a e (slice_get s.declared a) is
 
-  token_node : (c : ℕ) (e : body.Expr) → bytes_eq name (codes "equals") ≡ false → (o : Option Accessor) → accessor_named s.classes c name ≡ o → asked_by s at (declared_named s.classes s.declared c name) o e ks ≡ Is m → IsToken s name (Class c)
+  token_node : (c : ℕ) (e : body.Expr) → bytes_eq name (codes "equals") ≡ false → (o : Option Accessor)
+      → accessor_named s.classes c name ≡ o → asked_by s at (declared_named s.classes s.declared c name) o e ks ≡ Is m
+      → IsToken s name (Class c)
   token_node c e n (Some a) f is = token_by c e n a f is
   token_node c e n None f is = token_attribute c e (declared_named s.classes s.declared c name) is
 
@@ -422,7 +456,8 @@ module _ (s : Scope) (at : Place) (name : List ℕ) (ks : List Kinded) (m : Kind
   token_kind r e n is = absurd cc
 
   token_equal : (r : Kinded) (b : Bool) → (if b then and_then (λ e. of_kind at Truth (body.Equals r.body e)) (one_argument is_text at ks) else Wrong code.Kind at) ≡ Is m → IsToken s name r.kind
-  token_equal r true is = let (b, g, h) = made (λ e. of_kind at Truth (body.Equals r.body e)) (one_argument is_text at ks) m is in not_given (body.Equals r.body b) m (body_of at Truth (body.Equals r.body b) m h) refl t
+  token_equal r true is = let (b, g, h) = made (λ e. of_kind at Truth (body.Equals r.body e)) (one_argument is_text at
+      ks) m is in not_given (body.Equals r.body b) m (body_of at Truth (body.Equals r.body b) m h) refl t
   token_equal r false is = absurd cc
 
   token_called : (r : Kinded) (b : Bool) → bytes_eq name (codes "equals") ≡ b → (if b then equal at r ks else asked_of s at name r.kind r.body ks) ≡ Is m → IsToken s name r.kind
@@ -614,7 +649,8 @@ mutual
   tabled_list s fold (written.Call at name es) l part is there =
       let (ks, f, g) = made (list_called s fold at name (this_node s at)) (judged_all s es) l is in
       let (c, p, x, a, none) = list_is s.classes fold at name (called s at name (this_node s at) ks) (this_node s at) ks l part (list_named s.classes (Class s.this) name) refl g there in
-      subst (λ z. IsList s (written.Call at name z) l.class) (sym (no_exprs_judged s es ks f none)) (table.own_list p l.class (subst (λ z. listed s.classes z name ≡ Some (p, l.class)) (sym (same_class s.this c x)) a))
+      subst (λ z. IsList s (written.Call at name z) l.class) (sym (no_exprs_judged s es ks f none)) (table.own_list p
+          l.class (subst (λ z. listed s.classes z name ≡ Some (p, l.class)) (sym (same_class s.this c x)) a))
     where
       same_class : (b c : ℕ) → Class b ≡ Class c → b ≡ c
       same_class b c e = cc

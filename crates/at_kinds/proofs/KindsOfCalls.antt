@@ -51,7 +51,8 @@ getter_gets classes c part (class.Many b) is = is
 getter_gets classes c part (class.Token k) is = (k, is, refl)
 
 -- the shape of the component that was found by its name
-shape_found : (classes : Classes) (c part : ℕ) (test : Component → Bool) → position test (parts classes c) ≡ Some part → (p : Component) × (shape_of_part classes c part ≡ Some p.shape) × (test p ≡ true)
+shape_found : (classes : Classes) (c part : ℕ) (test : Component → Bool) → position test (parts classes c) ≡ Some part
+    → (p : Component) × (shape_of_part classes c part ≡ Some p.shape) × (test p ≡ true)
 shape_found classes c part test is =
     let (p, there, passes, less) = element_found test (parts classes c) part is in
     (p, ap (option_map (λ (q : Component). q.shape)) there, passes)
@@ -83,7 +84,9 @@ module _ (classes : Classes) (c : ℕ) (name : List ℕ) (a : Accessor) where
   besides_gets : named_besides (parts classes c) name ≡ Some a → Gets classes c a
   besides_gets is = by (position (is_had name) (parts classes c)) refl (position (is_counted name) (parts classes c)) refl (position (is_listed name) (parts classes c)) is
     where
-      by : (o : Option ℕ) → position (is_had name) (parts classes c) ≡ o → (p : Option ℕ) → position (is_counted name) (parts classes c) ≡ p → (q : Option ℕ) → option_or (option_map accessor.Has o) (option_or (option_map accessor.Count p) (option_map accessor.List q)) ≡ Some a → Gets classes c a
+      by : (o : Option ℕ) → position (is_had name) (parts classes c) ≡ o → (p : Option ℕ)
+          → position (is_counted name) (parts classes c) ≡ p → (q : Option ℕ) → option_or (option_map accessor.Has o)
+          (option_or (option_map accessor.Count p) (option_map accessor.List q)) ≡ Some a → Gets classes c a
       by (Some part) had p counted q is = same_accessor classes c (accessor.Has part) a is (had_gets part had)
       by None had (Some part) counted q is = same_accessor classes c (accessor.Count part) a is (counted_gets part counted)
       by None had None counted (Some part) is = same_accessor classes c (accessor.List part) a is tt
@@ -160,12 +163,16 @@ module _ (rules : Rules) where
       by true is = (k.kind, is, all.0)
       by false is = tt
 
-  accessed_right : (t : ScopeKinds) (at : Place) (c : ℕ) (a : Accessor) (e : Expr) (ks : List Kinded) → Gets rules.classes c a → HasKind rules t e (model.Class c) → AllRight t ks → Holds (Right rules t) (accessed at a e ks)
+  accessed_right : (t : ScopeKinds) (at : Place) (c : ℕ) (a : Accessor) (e : Expr) (ks : List Kinded) → Gets
+      rules.classes c a → HasKind rules t e (model.Class c) → AllRight t ks → Holds (Right rules t) (accessed at a e ks)
   accessed_right t at c (accessor.Child part b) e ks gets h all = alone_right t at ks (of_kind at (found.Class b) (body.Child e part)) (has.child c part b gets h)
   accessed_right t at c (accessor.Element part b) e ks gets h all =
-      then_holds (Passes t is_int) (Right rules t) (λ i. of_kind at (found.Class b) (body.Element e part i)) (one_argument is_int at ks) (one_right t is_int at ks all) (λ i (k, is, x). has.element c part b gets h (int_has rules t k i is x))
+      then_holds (Passes t is_int) (Right rules t) (λ i. of_kind at (found.Class b) (body.Element e part i))
+          (one_argument is_int at ks) (one_right t is_int at ks all)
+          (λ i (k, is, x). has.element c part b gets h (int_has rules t k i is x))
   accessed_right t at c (accessor.Token part k) e ks (kind, shape, same) h all =
-      alone_right t at ks (of_kind at (known k) (body.TokenOf e part)) (subst (λ m. Has rules t (known m) (body.TokenOf e part)) same (known_right t kind (body.TokenOf e part) (has.token_of c part kind shape h)))
+      alone_right t at ks (of_kind at (known k) (body.TokenOf e part)) (subst (λ m. Has rules t (known m)
+          (body.TokenOf e part)) same (known_right t kind (body.TokenOf e part) (has.token_of c part kind shape h)))
   accessed_right t at c (accessor.Has part) e ks (b, shape) h all = alone_right t at ks (of_kind at found.Bool (body.Has e part)) (has.has c part b shape h)
   accessed_right t at c (accessor.Count part) e ks (b, shape) h all = alone_right t at ks (of_kind at found.Int (body.Count e part)) (has.count c part b shape h)
   accessed_right t at c (accessor.List part) e ks gets h all = alone_right t at ks (Wrong code.Kind at) tt
@@ -175,7 +182,9 @@ module _ (rules : Rules) where
   equal_right t at k ks h all = by (is_text k.kind) refl
     where
       by : (b : Bool) → is_text k.kind ≡ b → Holds (Right rules t) (if b then and_then (λ e. of_kind at found.Bool (body.Equals k.body e)) (one_argument is_text at ks) else Wrong code.Kind at)
-      by true is = then_holds (Passes t is_text) (Right rules t) (λ e. of_kind at found.Bool (body.Equals k.body e)) (one_argument is_text at ks) (one_right t is_text at ks all) (λ e (m, text, x). has.equals (text_has rules t k.kind k.body is h) (text_has rules t m e text x))
+      by true is = then_holds (Passes t is_text) (Right rules t) (λ e. of_kind at found.Bool (body.Equals k.body e))
+          (one_argument is_text at ks) (one_right t is_text at ks all)
+          (λ e (m, text, x). has.equals (text_has rules t k.kind k.body is h) (text_has rules t m e text x))
       by false is = tt
 
   -- arguments -----------------------------------------------------------------------------------------------------------
@@ -201,7 +210,8 @@ module _ (rules : Rules) where
       subst (λ n. IsArgumentForm n k.body × HasKind rules t k.body n) is (tt, within_has t b k.kind k.body one h)
   argument_right t k (Strange first) m is fit h = absurd is
 
-  arguments_right : (t : ScopeKinds) (ks : List Kinded) (ps : List WrittenKind) (ms : List Kind) → length ks ≡ length ps → AllZip IsKind ps ms → misfit rules.classes ks ps ≡ None → AllRight t ks → HaveKinds rules t (bodies ks) ms
+  arguments_right : (t : ScopeKinds) (ks : List Kinded) (ps : List WrittenKind) (ms : List Kind) → length ks ≡ length ps
+      → AllZip IsKind ps ms → misfit rules.classes ks ps ≡ None → AllRight t ks → HaveKinds rules t (bodies ks) ms
   arguments_right t [] [] [] same zip none all = has.no_more
   arguments_right t [] [] (m ∷ ms) same zip none all = absurd zip
   arguments_right t [] (p ∷ ps) ms same zip none all = absurd (omega (arith, same))
@@ -209,11 +219,14 @@ module _ (rules : Rules) where
   arguments_right t (k ∷ ks) (p ∷ ps) [] same zip none all = absurd zip
   arguments_right t (k ∷ ks) (p ∷ ps) (m ∷ ms) same zip none all = by (is_argument rules.classes k p) refl none (λ rest. arguments_right t ks ps ms (omega (arith, same)) zip.1 rest all.1)
     where
-      by : (b : Bool) → is_argument rules.classes k p ≡ b → (if b then misfit rules.classes ks ps else Some k.at) ≡ None → (misfit rules.classes ks ps ≡ None → HaveKinds rules t (bodies ks) ms) → HaveKinds rules t (body.expr k.body (bodies ks)) (m ∷ ms)
+      by : (b : Bool) → is_argument rules.classes k p ≡ b → (if b then misfit rules.classes ks ps else Some k.at)
+          ≡ None → (misfit rules.classes ks ps ≡ None → HaveKinds rules t (bodies ks) ms)
+          → HaveKinds rules t (body.expr k.body (bodies ks)) (m ∷ ms)
       by true fit none rest = let (form, x) = argument_right t k p m zip.0 fit all.0 in has.argument form x (rest none)
       by false fit none rest = absurd (none-some k.at (sym none))
 
-  fitted_right : (t : ScopeKinds) (at : Place) (ks : List Kinded) (ps : List WrittenKind) (ms : List Kind) → AllZip IsKind ps ms → AllRight t ks → Holds (λ es. HaveKinds rules t es ms) (fitted rules.classes at ks ps)
+  fitted_right : (t : ScopeKinds) (at : Place) (ks : List Kinded) (ps : List WrittenKind) (ms : List Kind)
+      → AllZip IsKind ps ms → AllRight t ks → Holds (λ es. HaveKinds rules t es ms) (fitted rules.classes at ks ps)
   fitted_right t at ks ps ms zip all = by (nat_eq (length ks) (length ps)) refl
     where
       none_wrong : (o : Option Place) → length ks ≡ length ps → misfit rules.classes ks ps ≡ o → Holds (λ es. HaveKinds rules t es ms) (bodies_or ks o)
@@ -238,25 +251,33 @@ module _ (rules : Rules) where
     abbrev pub scope_at : ℕ → List Bound → Option (List ℕ) → Scope
     scope_at this names index = record { classes = rules.classes; declared = declared; this = this; names = names; index = index }
 
-    declared_right : (t : ScopeKinds) (at : Place) (c n : ℕ) (name : List ℕ) (e : Expr) (ks : List Kinded) → declared_named rules.classes declared c name ≡ Some n → HasKind rules t e (model.Class c) → AllRight t ks → Holds (Right rules t) (demanded_of rules.classes at n (slice_get declared n) e ks)
+    declared_right : (t : ScopeKinds) (at : Place) (c n : ℕ) (name : List ℕ) (e : Expr) (ks : List Kinded)
+        → declared_named rules.classes declared c name ≡ Some n → HasKind rules t e (model.Class c) → AllRight t ks
+        → Holds (Right rules t) (demanded_of rules.classes at n (slice_get declared n) e ks)
     declared_right t at c n name e ks is h all =
         let (d, there, passes, less) = element_found (λ (x : Declared). bytes_eq x.name name && is_below rules.classes c x.class) declared n is in
         let (a, attribute, of) = beside_it IsDeclaredAs declared rules.attributes n d same there in
         let below = ap (is_below rules.classes c) (sym of.class) ∙ (both (bytes_eq d.name name) (is_below rules.classes c d.class) passes).1 in
         subst (λ o. Holds (Right rules t) (demanded_of rules.classes at n o e ks)) (sym there)
-        (then_holds (λ es. HaveKinds rules t es a.parameters) (Right rules t) (λ es. of_kind at (of_written d.result) (body.Call e n es)) (fitted rules.classes at ks d.parameters) (fitted_right t at ks d.parameters a.parameters of.parameters all) (λ es x.
+        (then_holds (λ es. HaveKinds rules t es a.parameters) (Right rules t)
+            (λ es. of_kind at (of_written d.result) (body.Call e n es)) (fitted rules.classes at ks d.parameters)
+            (fitted_right t at ks d.parameters a.parameters of.parameters all) (λ es x.
         result_right t (body.Call e n es) d.result a.result of.result (has.call c n a attribute below h x)))
 
     module _ (t : ScopeKinds) (this : ℕ) (names : List Bound) (index : Option (List ℕ)) where
-      asked_right : (at : Place) (name : List ℕ) (c : ℕ) (e : Expr) (ks : List Kinded) → HasKind rules t e (model.Class c) → AllRight t ks → Holds (Right rules t) (asked (scope_at this names index) at name c e ks)
+      asked_right : (at : Place) (name : List ℕ) (c : ℕ) (e : Expr) (ks : List Kinded) → HasKind rules t e
+          (model.Class c) → AllRight t ks → Holds (Right rules t) (asked (scope_at this names index) at name c e ks)
       asked_right at name c e ks h all = by (accessor_named rules.classes c name) refl (declared_named rules.classes declared c name) refl
         where
-          by : (o : Option Accessor) → accessor_named rules.classes c name ≡ o → (n : Option ℕ) → declared_named rules.classes declared c name ≡ n → Holds (Right rules t) (asked_by (scope_at this names index) at n o e ks)
+          by : (o : Option Accessor) → accessor_named rules.classes c name ≡ o → (n : Option ℕ)
+              → declared_named rules.classes declared c name ≡ n
+              → Holds (Right rules t) (asked_by (scope_at this names index) at n o e ks)
           by (Some a) is n named = accessed_right t at c a e ks (accessor_gets rules.classes c name a is) h all
           by None is (Some n) named = declared_right t at c n name e ks named h all
           by None is None named = tt
 
-      asked_of_right : (at : Place) (name : List ℕ) (k : ExprKind) (e : Expr) (ks : List Kinded) → Has rules t k e → AllRight t ks → Holds (Right rules t) (asked_of (scope_at this names index) at name k e ks)
+      asked_of_right : (at : Place) (name : List ℕ) (k : ExprKind) (e : Expr) (ks : List Kinded) → Has rules t k e
+          → AllRight t ks → Holds (Right rules t) (asked_of (scope_at this names index) at name k e ks)
       asked_of_right at name (found.Class c) e ks h all = asked_right at name c e ks h all
       asked_of_right at name (found.Strange first) e ks h all = tt
       asked_of_right at name k e ks h all = tt
@@ -286,13 +307,19 @@ module _ (rules : Rules) where
           by (Some l) is = alone_listed (record { node = k.body; part = Some l.0; class = l.1 }) ks (node_of k.kind l k.body is h)
 
   -- a fold over a list
-  pub folded_right : (t : ScopeKinds) (at : Place) (form : written.FoldForm) (l : Listed) (k : Kinded) → IsListOf t l → Right rules (bound_kinds t l.class) k → Holds (Right rules t) (folded at form l k)
+  pub folded_right : (t : ScopeKinds) (at : Place) (form : written.FoldForm) (l : Listed) (k : Kinded) → IsListOf t l
+      → Right rules (bound_kinds t l.class) k → Holds (Right rules t) (folded at form l k)
   folded_right t at form l k list g = by l.part list
     where
-      over : (form : written.FoldForm) (part c : ℕ) → shape_of_part rules.classes c part ≡ Some (class.Many l.class) → HasKind rules t l.node (model.Class c) → Holds (Right rules t) (folded_over at form l part k)
-      over written.Exists part c shape h = if_right rules t (is_truth k.kind) at found.Bool (body.Exists l.node part k.body) (λ is. has.exists c part l.class shape h (truth_has rules (bound_kinds t l.class) k.kind k.body is g))
-      over written.First part c shape h = if_right rules t (is_truth k.kind) at (found.Class l.class) (body.First l.node part k.body) (λ is. has.first c part l.class shape h (truth_has rules (bound_kinds t l.class) k.kind k.body is g))
-      over written.Sum part c shape h = if_right rules t (is_int k.kind) at found.Int (body.Sum l.node part k.body) (λ is. has.sum c part l.class shape h (int_has rules (bound_kinds t l.class) k.kind k.body is g))
+      over : (form : written.FoldForm) (part c : ℕ) → shape_of_part rules.classes c part ≡ Some (class.Many l.class)
+          → HasKind rules t l.node (model.Class c) → Holds (Right rules t) (folded_over at form l part k)
+      over written.Exists part c shape h = if_right rules t (is_truth k.kind) at found.Bool (body.Exists l.node part
+          k.body) (λ is. has.exists c part l.class shape h (truth_has rules (bound_kinds t l.class) k.kind k.body is g))
+      over written.First part c shape h = if_right rules t (is_truth k.kind) at
+          (found.Class l.class) (body.First l.node part k.body)
+          (λ is. has.first c part l.class shape h (truth_has rules (bound_kinds t l.class) k.kind k.body is g))
+      over written.Sum part c shape h = if_right rules t (is_int k.kind) at found.Int (body.Sum l.node part k.body)
+          (λ is. has.sum c part l.class shape h (int_has rules (bound_kinds t l.class) k.kind k.body is g))
 
       by : (o : Option ℕ) → IsListIn t l o → Holds (Right rules t) (folded_in at form l o k)
       by None x = tt

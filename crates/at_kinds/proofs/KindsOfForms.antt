@@ -168,7 +168,9 @@ module _ (rules : Rules) where
   moved t e k m is h = let same : k ≡ m = cc in subst (λ l. Has t l e) same h
 
   -- of two classes, the one that is the other or above it
-  upper_has : (t : ScopeKinds) (c a b : Expr) (d e : ℕ) (m : ExprKind) → HasKind rules t c model.Truth → HasKind rules t a (model.Class d) → HasKind rules t b (model.Class e) → upper rules.classes d e ≡ Some m → Has t m (body.Choose c a b)
+  upper_has : (t : ScopeKinds) (c a b : Expr) (d e : ℕ) (m : ExprKind) → HasKind rules t c model.Truth
+      → HasKind rules t a (model.Class d) → HasKind rules t b (model.Class e) → upper rules.classes d e ≡ Some m
+      → Has t m (body.Choose c a b)
   upper_has t c a b d e m hc ha hb is = by (is_sub rules.classes e d) refl is
     where
       by : (s : Bool) → is_sub rules.classes e d ≡ s → (if s then Some (found.Class d) else only_if (is_sub rules.classes d e) (found.Class e)) ≡ Some m → Has t m (body.Choose c a b)
@@ -177,7 +179,8 @@ module _ (rules : Rules) where
           let (up, same) = only_some (is_sub rules.classes d e) (found.Class e) m is in
           moved t (body.Choose c a b) (found.Class e) m (ap Some same) (has.choose (model.Class e) hc (has.widened d e up ha) hb)
 
-  wider_class_has : (t : ScopeKinds) (c a b : Expr) (d : ℕ) (k m : ExprKind) → HasKind rules t c model.Truth → HasKind rules t a (model.Class d) → Has t k b → wider_class rules.classes d k ≡ Some m → Has t m (body.Choose c a b)
+  wider_class_has : (t : ScopeKinds) (c a b : Expr) (d : ℕ) (k m : ExprKind) → HasKind rules t c model.Truth → HasKind
+      rules t a (model.Class d) → Has t k b → wider_class rules.classes d k ≡ Some m → Has t m (body.Choose c a b)
   wider_class_has t c a b d (found.Class e) m hc ha hb is = upper_has t c a b d e m hc ha hb is
   wider_class_has t c a b d found.Null m hc ha hb is = moved t (body.Choose c a b) (found.Class d) m is (has.choose (model.Class d) hc ha (hb d))
   wider_class_has t c a b d k m hc ha hb is = absurd (none-some m is)
@@ -213,7 +216,8 @@ module _ (rules : Rules) where
   chosen_right t at c j k hc hj hk = by (is_truth c.kind) refl
     where
       by : (b : Bool) → is_truth c.kind ≡ b → Holds (Right t) (if b then of_wider at (body.Choose c.body j.body k.body) (wider rules.classes j.kind k.kind) else Wrong code.Kind at)
-      by true is = of_wider_right t at (body.Choose c.body j.body k.body) (wider rules.classes j.kind k.kind) (λ m wide. wider_has t c.body j.body k.body j.kind k.kind m (truth_has t c.kind c.body is hc) hj hk wide)
+      by true is = of_wider_right t at (body.Choose c.body j.body k.body) (wider rules.classes j.kind k.kind)
+          (λ m wide. wider_has t c.body j.body k.body j.kind k.kind m (truth_has t c.kind c.body is hc) hj hk wide)
       by false is = tt
 
   -- casts and `instanceof` ----------------------------------------------------------------------------------------------
@@ -235,8 +239,10 @@ module _ (rules : Rules) where
 
   pub cast_right : (t : ScopeKinds) (at : Place) (class : Word) (k : Kinded) → Right t k → Holds (Right t) (cast rules.classes at class k)
   cast_right t at class k h =
-      then_holds (Beside t k.body) (Right t) (λ c. of_kind at (found.Class c) (body.CastTo c k.body)) (class_beside rules.classes at class k) (class_beside_right t at class k h) (λ c (less, d, x). has.cast_to d c less x)
+      then_holds (Beside t k.body) (Right t) (λ c. of_kind at (found.Class c) (body.CastTo c k.body)) (class_beside
+          rules.classes at class k) (class_beside_right t at class k h) (λ c (less, d, x). has.cast_to d c less x)
 
   pub tested_right : (t : ScopeKinds) (at : Place) (class : Word) (k : Kinded) → Right t k → Holds (Right t) (tested rules.classes at class k)
   tested_right t at class k h =
-      then_holds (Beside t k.body) (Right t) (λ c. of_kind at found.Bool (body.InstanceOf k.body c)) (class_beside rules.classes at class k) (class_beside_right t at class k h) (λ c (less, d, x). has.instance_of d c less x)
+      then_holds (Beside t k.body) (Right t) (λ c. of_kind at found.Bool (body.InstanceOf k.body c)) (class_beside
+          rules.classes at class k) (class_beside_right t at class k h) (λ c (less, d, x). has.instance_of d c less x)

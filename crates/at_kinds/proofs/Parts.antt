@@ -38,15 +38,19 @@ fault_of view whole f j (Refused c at) is = ap (and_then f) is
 fault_of view whole f j Memory is = tt
 
 -- what is made of a part
-pub made_of : {A B T U : Type 0} (view : T → A) (whole : U → B) (f : A → Judgement B) (j : Judgement A) (t : T) (r : Result U (Fault RuleCode)) → Judges view j (Ok t) → Judges whole (f (view t)) r → Judges whole (and_then f j) r
+pub made_of : {A B T U : Type 0} (view : T → A) (whole : U → B) (f : A → Judgement B) (j : Judgement A) (t : T)
+    (r : Result U (Fault RuleCode)) → Judges view j (Ok t) → Judges whole (f (view t)) r → Judges whole (and_then f j) r
 made_of view whole f j t (Ok u) is so = ap (and_then f) is ∙ so
 made_of view whole f j t (Err (Refused c at)) is so = ap (and_then f) is ∙ so
 made_of view whole f j t (Err Memory) is so = tt
 
-pub fault_in : {A B T U : Type 0} (view : T → A) (whole : U → B) (f : A → Judgement B) (j : Judgement A) (o : Result T (Fault RuleCode)) (e : Fault RuleCode) → o ≡ Err e → Judges view j o → Judges whole (and_then f j) (Err e)
+pub fault_in : {A B T U : Type 0} (view : T → A) (whole : U → B) (f : A → Judgement B) (j : Judgement A) (o : Result T
+    (Fault RuleCode)) (e : Fault RuleCode) → o ≡ Err e → Judges view j o → Judges whole (and_then f j) (Err e)
 fault_in view whole f j o e was is = fault_of view whole f j e (subst (λ p. Judges view j p) was is)
 
-pub made_in : {A B T U : Type 0} (view : T → A) (whole : U → B) (f : A → Judgement B) (j : Judgement A) (o : Result T (Fault RuleCode)) (t : T) (r : Result U (Fault RuleCode)) → o ≡ Ok t → Judges view j o → Judges whole (f (view t)) r → Judges whole (and_then f j) r
+pub made_in : {A B T U : Type 0} (view : T → A) (whole : U → B) (f : A → Judgement B) (j : Judgement A)
+    (o : Result T (Fault RuleCode)) (t : T) (r : Result U (Fault RuleCode)) → o ≡ Ok t → Judges view j o
+    → Judges whole (f (view t)) r → Judges whole (and_then f j) r
 made_in view whole f j o t r was is so = made_of view whole f j t r (subst (λ p. Judges view j p) was is) so
 
 -- where the condition holds
@@ -69,7 +73,9 @@ mapped i None = refl
 mapped i (Some b) = refl
 
 -- what is bound at a position
-bound_at : (bs : List BoundValue) (o : Option ℕ) → option_and_then (λ i. option_map (kind_in i) (option_map (λ (b : BoundValue). b.kind) (slice_get bs i))) o ≡ option_and_then (λ i. option_map (λ (b : Bound). kind_in i b.kind) (slice_get (map bound_view bs) i)) o
+bound_at : (bs : List BoundValue) (o : Option ℕ)
+    → option_and_then (λ i. option_map (kind_in i) (option_map (λ (b : BoundValue). b.kind) (slice_get bs i))) o
+    ≡ option_and_then (λ i. option_map (λ (b : Bound). kind_in i b.kind) (slice_get (map bound_view bs) i)) o
 bound_at bs None = refl
 bound_at bs (Some i) = mapped i (slice_get bs i) ∙ ap (option_map (λ (b : Bound). kind_in i b.kind)) (sym (slice_get-map bound_view bs i))
 
@@ -109,7 +115,8 @@ misfit_none classes (k ∷ ks) (p ∷ ps) zero is = absurd (none-some p (sym is)
 misfit_none classes (k ∷ ks) (p ∷ ps) (suc i) is = misfit_none classes (k ∷ ks) ps i is
 
 -- as many arguments as parameters
-pub fitted_same : (classes : Classes) (at : Place) (ks : List Kinded) (ps : List WrittenKind) (o : Option Place) → length ks ≡ length ps → misfit classes ks ps ≡ o → fitted classes at ks ps ≡ bodies_or ks o
+pub fitted_same : (classes : Classes) (at : Place) (ks : List Kinded) (ps : List WrittenKind) (o : Option Place)
+    → length ks ≡ length ps → misfit classes ks ps ≡ o → fitted classes at ks ps ≡ bodies_or ks o
 fitted_same classes at ks ps o same is = ap (λ b. if b then bodies_or ks (misfit classes ks ps) else Wrong code.Argument at) (eq-eqb (length ks) (length ps) same) ∙ ap (bodies_or ks) is
 
 -- more or less
@@ -144,7 +151,9 @@ accessed_crowded at (accessor.Count part) e k ks other = refl
 accessed_crowded at (accessor.List part) e k ks other = refl
 
 -- what is asked is an accessor, or else an attribute
-pub by_accessor : (s : Scope) (at : Place) (a : Option ℕ) (o : Option Accessor) (x : Accessor) (e : Expr) (ks : List Kinded) (r : Result Typed (Fault RuleCode)) → o ≡ Some x → Judges typed_view (accessed at x e ks) r → Judges typed_view (asked_by s at a o e ks) r
+pub by_accessor : (s : Scope) (at : Place) (a : Option ℕ) (o : Option Accessor) (x : Accessor) (e : Expr)
+    (ks : List Kinded) (r : Result Typed (Fault RuleCode)) → o ≡ Some x → Judges typed_view (accessed at x e ks) r
+    → Judges typed_view (asked_by s at a o e ks) r
 by_accessor s at a o x e ks r is so = subst (λ p. Judges typed_view (asked_by s at a p e ks) r) (sym is) so
 
 pub by_attribute : (s : Scope) (at : Place) (a : Option ℕ) (b : ℕ) (o : Option Accessor) (e : Expr) (ks : List Kinded) (r : Result Typed (Fault RuleCode)) → o ≡ None → a ≡ Some b
@@ -155,7 +164,9 @@ pub by_neither : (s : Scope) (at : Place) (a : Option ℕ) (o : Option Accessor)
 by_neither s at a o e ks none is = ap (λ p. asked_by s at a p e ks) none ∙ ap (λ p. demanded s at p e ks) is
 
 -- an attribute that is declared
-pub demanded_there : (classes : Classes) (at : Place) (a : ℕ) (o : Option Declared) (d : Declared) (e : Expr) (ks : List Kinded) (es : Exprs) → o ≡ Some d → fitted classes at ks d.parameters ≡ Is es → demanded_of classes at a o e ks ≡ of_kind at (of_written d.result) (Call e a es)
+pub demanded_there : (classes : Classes) (at : Place) (a : ℕ) (o : Option Declared) (d : Declared) (e : Expr)
+    (ks : List Kinded) (es : Exprs) → o ≡ Some d → fitted classes at ks d.parameters ≡ Is es
+    → demanded_of classes at a o e ks ≡ of_kind at (of_written d.result) (Call e a es)
 demanded_there classes at a o d e ks es is so = ap (λ p. demanded_of classes at a p e ks) is ∙ ap (and_then (λ xs. of_kind at (of_written d.result) (Call e a xs))) so
 
 -- the whole -----------------------------------------------------------------------------------------------------------------
@@ -165,17 +176,21 @@ not_fitting classes wanted here at k is other = ap (λ b. if b then Is k.body el
 
 -- the list of a fold ------------------------------------------------------------------------------------------------------
 
-pub no_list_fault : (fold at : Place) (o : Option (ℕ × ℕ)) (call : Judged) (k : Kinded) (ks : List Kinded) (e : Fault RuleCode) → o ≡ None → Judges typed_view call (Err e) → Judges list_view (list_by fold at o call k ks) (Err e)
+pub no_list_fault : (fold at : Place) (o : Option (ℕ × ℕ)) (call : Judged) (k : Kinded) (ks : List Kinded) (e : Fault
+    RuleCode) → o ≡ None → Judges typed_view call (Err e) → Judges list_view (list_by fold at o call k ks) (Err e)
 no_list_fault fold at None call k ks e is so = fault_of typed_view list_view (no_list fold) call e so
 no_list_fault fold at (Some l) call k ks e is so = absurd (none-some l (sym is))
 
-pub no_list_kind : (fold at : Place) (o : Option (ℕ × ℕ)) (call : Judged) (k : Kinded) (ks : List Kinded) (t : Typed) → o ≡ None → call ≡ Is (typed_view t) → list_by fold at o call k ks ≡ no_list fold (typed_view t)
+pub no_list_kind : (fold at : Place) (o : Option (ℕ × ℕ)) (call : Judged) (k : Kinded) (ks : List Kinded) (t : Typed)
+    → o ≡ None → call ≡ Is (typed_view t) → list_by fold at o call k ks ≡ no_list fold (typed_view t)
 no_list_kind fold at o call k ks t is so = ap (λ p. list_by fold at p call k ks) is ∙ ap (and_then (no_list fold)) so
 
-pub list_crowded : (fold at : Place) (o : Option (ℕ × ℕ)) (l : ℕ × ℕ) (call : Judged) (k : Kinded) (ks : List Kinded) (j : Kinded) (js : List Kinded) → o ≡ Some l → ks ≡ j ∷ js → list_by fold at o call k ks ≡ Wrong code.Argument at
+pub list_crowded : (fold at : Place) (o : Option (ℕ × ℕ)) (l : ℕ × ℕ) (call : Judged) (k : Kinded) (ks : List Kinded)
+    (j : Kinded) (js : List Kinded) → o ≡ Some l → ks ≡ j ∷ js → list_by fold at o call k ks ≡ Wrong code.Argument at
 list_crowded fold at o l call k ks j js is given = ap₂ (λ p xs. list_by fold at p call k xs) is given
 
-pub list_there : (fold at : Place) (o : Option (ℕ × ℕ)) (l : ℕ × ℕ) (call : Judged) (k : Kinded) (ks : List Kinded) → o ≡ Some l → ks ≡ [] → list_by fold at o call k ks ≡ Is (record { node = k.body; part = Some l.0; class = l.1 })
+pub list_there : (fold at : Place) (o : Option (ℕ × ℕ)) (l : ℕ × ℕ) (call : Judged) (k : Kinded) (ks : List Kinded)
+    → o ≡ Some l → ks ≡ [] → list_by fold at o call k ks ≡ Is (record { node = k.body; part = Some l.0; class = l.1 })
 list_there fold at o l call k ks is given = ap₂ (λ p xs. list_by fold at p call k xs) is given
 
 -- the name of a fold over nodes of class c
@@ -200,8 +215,10 @@ regroup : (done : List Kinded) (k : Kinded) (j : Judgement (List Kinded)) → be
 regroup done k (Is ks) = ap Is (sym (append_assoc done (k ∷ []) ks))
 regroup done k (Wrong c at) = refl
 
-pub all_more : (s : Scope) (es : List ExprValue) (i : ℕ) (e : ExprValue) (t : Typed) (done : List Typed) (whole : Judgement (List Kinded)) → i < length es → e ≡ get_or es i e → judged s (expr_view e) ≡ Is (typed_view t)
-    → whole ≡ behind (map typed_view done) (judged_all s (to_exprs (map expr_view (drop i es)))) → whole ≡ behind (map typed_view (done ++ t ∷ [])) (judged_all s (to_exprs (map expr_view (drop (i + 1) es))))
+pub all_more : (s : Scope) (es : List ExprValue) (i : ℕ) (e : ExprValue) (t : Typed) (done : List Typed)
+    (whole : Judgement (List Kinded)) → i < length es → e ≡ get_or es i e → judged s (expr_view e) ≡ Is (typed_view t)
+    → whole ≡ behind (map typed_view done) (judged_all s (to_exprs (map expr_view (drop i es))))
+        → whole ≡ behind (map typed_view (done ++ t ∷ [])) (judged_all s (to_exprs (map expr_view (drop (i + 1) es))))
 all_more s es i e t done whole less is here so_far =
     let others = λ (n : ℕ). judged_all s (to_exprs (map expr_view (drop n es))) in
     so_far
@@ -210,15 +227,19 @@ all_more s es i e t done whole less is here so_far =
     ∙ ap (λ l. behind l (others (suc i))) (sym (map-append typed_view done (t ∷ [])))
     ∙ ap (λ n. behind (map typed_view (done ++ t ∷ [])) (others n)) (sym (add-one i))
 
-pub all_wrong : (s : Scope) (es : List ExprValue) (i : ℕ) (e : ExprValue) (c : RuleCode) (at : Place) (done : List Kinded) (whole : Judgement (List Kinded)) → i < length es → e ≡ get_or es i e → judged s (expr_view e) ≡ Wrong c at
+pub all_wrong : (s : Scope) (es : List ExprValue) (i : ℕ) (e : ExprValue) (c : RuleCode) (at : Place) (done : List
+    Kinded) (whole : Judgement (List Kinded)) → i < length es → e ≡ get_or es i e → judged s (expr_view e) ≡ Wrong c at
     → whole ≡ behind done (judged_all s (to_exprs (map expr_view (drop i es)))) → whole ≡ Wrong c at
 all_wrong s es i e c at done whole less is here so_far =
     so_far ∙ ap (behind done) (next_all s es i e less is ∙ ap (and_then (λ k. and_then (λ ks. Is (k ∷ ks)) (judged_all s (to_exprs (map expr_view (drop (suc i) es)))))) here)
 
-pub all_fault : (s : Scope) (es : List ExprValue) (i : ℕ) (e : ExprValue) (f : Fault RuleCode) (done : List Kinded) (whole : Judgement (List Kinded)) → i < length es → e ≡ get_or es i e → Judges typed_view (judged s (expr_view e)) (Err f)
+pub all_fault : (s : Scope) (es : List ExprValue) (i : ℕ) (e : ExprValue) (f : Fault RuleCode) (done : List Kinded)
+    (whole : Judgement (List Kinded)) → i < length es → e ≡ get_or es i e
+    → Judges typed_view (judged s (expr_view e)) (Err f)
     → whole ≡ behind done (judged_all s (to_exprs (map expr_view (drop i es)))) → Judges {T = Vec Typed Global} all_view whole (Err f)
 all_fault s es i e (Refused c at) done whole less is here so_far = all_wrong s es i e c at done whole less is here so_far
 all_fault s es i e Memory done whole less is here so_far = tt
 
-pub all_there : (s : Scope) (es : List ExprValue) (i : ℕ) (done : List Kinded) (whole : Judgement (List Kinded)) → length es ≤ i → whole ≡ behind done (judged_all s (to_exprs (map expr_view (drop i es)))) → whole ≡ Is done
+pub all_there : (s : Scope) (es : List ExprValue) (i : ℕ) (done : List Kinded) (whole : Judgement (List Kinded))
+    → length es ≤ i → whole ≡ behind done (judged_all s (to_exprs (map expr_view (drop i es)))) → whole ≡ Is done
 all_there s es i done whole past so_far = so_far ∙ ap (λ l. behind done (judged_all s (to_exprs (map expr_view l)))) (drop_all i es past) ∙ ap Is (append-nil done)

@@ -73,7 +73,8 @@ module _ {Z : Type 0} (old new : List (String Z)) (keeps : Keeps old new) where
   keys_kept : (ds : List Declared) → ((text : List ℕ) → LacksText old text → list_any (λ d. bytes_eq d.name text) ds ≡ false) → map (key_in old) ds ≡ map (key_in new) ds
   keys_kept [] named = refl
   keys_kept (d ∷ ds) named =
-      ap₂ (λ k ks. k ∷ ks) (ap (keyed d.class) (sym (number_kept d.name (λ lacks. true≢false (ap (λ b. b || list_any (λ e. bytes_eq e.name d.name) ds) (sym (nat_list_eq_equiv.refl d.name)) ∙ named d.name lacks)))))
+      ap₂ (λ k ks. k ∷ ks) (ap (keyed d.class) (sym (number_kept d.name (λ lacks. true≢false (ap (λ b. b
+          || list_any (λ e. bytes_eq e.name d.name) ds) (sym (nat_list_eq_equiv.refl d.name)) ∙ named d.name lacks)))))
       (keys_kept ds (λ text lacks. second (bytes_eq d.name text) _ (named text lacks)))
 
   pub named_more : (first : FirstNamed) (ds : List Declared) → IsIndexed old first ds → IsIndexed new first ds
@@ -90,7 +91,8 @@ none_more names ds old new none index = record { noted = none (map (key_in names
 
 module _ {Z : Type 0} (names : List (String Z)) (ds : List Declared) (d : Declared) (n : ℕ) (number : number_in names d.name ≡ Some n) where
   -- no new name, since the attribute has one of them
-  still_named : ((text : List ℕ) → LacksText names text → list_any (λ d. bytes_eq d.name text) ds ≡ false) → (text : List ℕ) → LacksText names text → list_any (λ d. bytes_eq d.name text) (ds ++ d ∷ []) ≡ false
+  still_named : ((text : List ℕ) → LacksText names text → list_any (λ d. bytes_eq d.name text) ds ≡ false)
+      → (text : List ℕ) → LacksText names text → list_any (λ d. bytes_eq d.name text) (ds ++ d ∷ []) ≡ false
   still_named named text lacks =
       list_any-append (λ d. bytes_eq d.name text) ds (d ∷ [])
       ∙ ap₂ (λ a b. a || (b || false)) (named text lacks) (differs (bytes_eq d.name text) refl)

@@ -22,7 +22,8 @@ found_blank c text after is e u = (Blank c, e, is, refl, u)
 pub found_name : (c : ℕ) (text more after : List ℕ) → starts_name c ≡ true → text ≡ encode_utf8 c ++ more → EndsRun continues_name more after → IsUtf8 after → IsFound text (Some kind.Word) after
 found_name c text more after is e r u = (Name c r.0, e ∙ ap (λ l. encode_utf8 c ++ l) r.1 ∙ sym (append_assoc (encode_utf8 c) (encode_utf8_all r.0) after), (is, r.2), refl, u)
 
-pub found_number : (c : ℕ) (text more after : List ℕ) → is_ascii_digit c ≡ true → text ≡ encode_utf8 c ++ more → EndsRun is_ascii_digit more after → IsUtf8 after → IsFound text (Some kind.Number) after
+pub found_number : (c : ℕ) (text more after : List ℕ) → is_ascii_digit c ≡ true → text ≡ encode_utf8 c ++ more
+    → EndsRun is_ascii_digit more after → IsUtf8 after → IsFound text (Some kind.Number) after
 found_number c text more after is e r u =
     (Number c r.0, e ∙ (λ i. encode_ascii c (digit_small c is) i ++ (r.1 ∙ ap (λ l. l ++ after) (digits_encode r.0 r.2.0)) i), (is, r.2), refl, u)
 
@@ -64,7 +65,8 @@ found_sign text after f g s = (Sign s.0, s.1, (subst (λ (l : List ℕ). IsLonge
 pub other_family : (c : ℕ) → is_blank c ≡ false → starts_name c ≡ false → is_ascii_digit c ≡ false → (c == 34) ≡ false → family_at c ≡ 4
 other_family c b s d q = rw (b, s, d, q) refl
 
-no_piece : (c : ℕ) (text after : List ℕ) → family_at c ≡ 4 → text ≡ encode_utf8 c ++ after → opens_comment text ≡ false → BeginsNoSign text → (p : Piece) (rest : List ℕ) → IsPiece p rest → text ≡ spell p ++ rest → ⊥
+no_piece : (c : ℕ) (text after : List ℕ) → family_at c ≡ 4 → text ≡ encode_utf8 c ++ after → opens_comment text ≡ false
+    → BeginsNoSign text → (p : Piece) (rest : List ℕ) → IsPiece p rest → text ≡ spell p ++ rest → ⊥
 no_piece c text after f e free none (LineComment cs) rest is g = clash (opens_comment text) (ap opens_comment g) free
 no_piece c text after f e free none (BlockComment body) rest is g = clash (opens_comment text) (ap opens_comment g) free
 no_piece c text after f e free none (Sign s) rest is g = none s rest is.0.0 g

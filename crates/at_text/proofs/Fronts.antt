@@ -56,7 +56,9 @@ all_push P (x ∷ xs) c h q = (h.0, all_push P xs c h.1 q)
 pub one_passed : (p : ℕ → Bool) (c : ℕ) (text rest after : List ℕ) → rest ≡ encode_utf8 c ++ after → p c ≡ true → Passed p text rest → Passed p text after
 one_passed p c text rest after e t h = record {
   front = h.front ++ c ∷ [];
-  split = h.split ∙ ap (λ l. encode_utf8_all h.front ++ l) e ∙ sym (append_assoc (encode_utf8_all h.front) (encode_utf8 c) after) ∙ ap (λ l. l ++ after) (sym (encodes-append h.front (c ∷ []) ∙ ap (λ l. encode_utf8_all h.front ++ l) (append-nil (encode_utf8 c))));
+  split = h.split ∙ ap (λ l. encode_utf8_all h.front ++ l) e
+      ∙ sym (append_assoc (encode_utf8_all h.front) (encode_utf8 c) after) ∙ ap (λ l. l ++ after)
+      (sym (encodes-append h.front (c ∷ []) ∙ ap (λ l. encode_utf8_all h.front ++ l) (append-nil (encode_utf8 c))));
   each = all_push (λ d. p d ≡ true) h.front c h.each t;
 }
 
@@ -71,7 +73,8 @@ pub no_end : (text : List ℕ) → FindsText (42 ∷ 47 ∷ []) text None → Ha
 no_end text h before after e = h (length before) (omega (arith, ap length e, length-append before (42 ∷ 47 ∷ after))) after (ap (drop (length before)) e ∙ drop-append_seam before (42 ∷ 47 ∷ after))
 
 -- it finds the first
-pub comment_ended : (text front back : List ℕ) → SplitsAroundMatch (FindsText (42 ∷ 47 ∷ [])) text front back → IsUtf8 text → (body : List ℕ) × (text ≡ body ++ 42 ∷ 47 ∷ back) × HasNoEnd (body ++ 42 ∷ []) × IsUtf8 back
+pub comment_ended : (text front back : List ℕ) → SplitsAroundMatch (FindsText (42 ∷ 47 ∷ [])) text front back
+    → IsUtf8 text → (body : List ℕ) × (text ≡ body ++ 42 ∷ 47 ∷ back) × HasNoEnd (body ++ 42 ∷ []) × IsUtf8 back
 comment_ended text front back h u =
     let i = h.0 in
     let lacks = h.2.0 in

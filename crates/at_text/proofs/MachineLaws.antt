@@ -11,7 +11,8 @@ use Rattle.at_text.specs.Machine.{Reason, Refused, LeftOut, TooDeep, Answer, Tak
 abbrev pub goes_on : {S W : Type 0} → Bool → Table S W → Move W → S → List S → Outcome S
 goes_on limited table m s ss = elim m [ Goes more e ↦ run limited table more e ss | Halts reason ↦ Stuck reason (s ∷ ss) ]
 
-pub run-cons : {S W : Type 0} (limited : Bool) (table : Table S W) (ws : List W) (d : ℕ) (s : S) (ss : List S) → run limited table ws d (s ∷ ss) ≡ goes_on limited table (after limited table ws d s) s ss
+pub run-cons : {S W : Type 0} (limited : Bool) (table : Table S W) (ws : List W) (d : ℕ) (s : S) (ss : List S)
+    → run limited table ws d (s ∷ ss) ≡ goes_on limited table (after limited table ws d s) s ss
 unfolding run
 run-cons limited table ws d s ss = refl
 
@@ -31,17 +32,20 @@ passes false false h = refl
 passes true false h = h refl
 
 -- the want takes the next symbol, within the limit if there is one
-pub run-takes : {S W : Type 0} (limited : Bool) (table : Table S W) (w : W) (within : Bool) (more ws : List W) (d e : ℕ) (s : S) (ss : List S) → table w d (Some s) ≡ Takes within more e → (limited ≡ true → within ≡ true)
+pub run-takes : {S W : Type 0} (limited : Bool) (table : Table S W) (w : W) (within : Bool) (more ws : List W) (d e : ℕ)
+    (s : S) (ss : List S) → table w d (Some s) ≡ Takes within more e → (limited ≡ true → within ≡ true)
     → run limited table (w ∷ ws) d (s ∷ ss) ≡ run limited table (more ++ ws) e ss
 run-takes limited table w within more ws d e s ss h fits =
     run-answer limited table w ws d s ss (Takes within more e) h ∙ ap (λ b. goes_on limited table (cond b (Goes (more ++ ws) e) (Halts TooDeep)) s ss) (passes limited within fits)
 
 -- the symbol isn't within the limit
-pub run-too_deep : {S W : Type 0} (table : Table S W) (w : W) (more ws : List W) (d e : ℕ) (s : S) (ss : List S) → table w d (Some s) ≡ Takes false more e → run true table (w ∷ ws) d (s ∷ ss) ≡ Stuck TooDeep (s ∷ ss)
+pub run-too_deep : {S W : Type 0} (table : Table S W) (w : W) (more ws : List W) (d e : ℕ) (s : S) (ss : List S)
+    → table w d (Some s) ≡ Takes false more e → run true table (w ∷ ws) d (s ∷ ss) ≡ Stuck TooDeep (s ∷ ss)
 run-too_deep table w more ws d e s ss h = run-answer true table w ws d s ss (Takes false more e) h
 
 -- the want is there without the symbol
-pub run-skips : {S W : Type 0} (limited : Bool) (table : Table S W) (w : W) (ws : List W) (d e : ℕ) (ss : List S) → table w d (first ss) ≡ Skips e → run limited table (w ∷ ws) d ss ≡ run limited table ws e ss
+pub run-skips : {S W : Type 0} (limited : Bool) (table : Table S W) (w : W) (ws : List W) (d e : ℕ) (ss : List S)
+    → table w d (first ss) ≡ Skips e → run limited table (w ∷ ws) d ss ≡ run limited table ws e ss
 unfolding run
 run-skips limited table w ws d e [] h = run-ends limited table w ws d (Skips e) h
 run-skips limited table w ws d e (s ∷ ss) h = run-answer limited table w ws d s ss (Skips e) h
@@ -52,7 +56,8 @@ run-refuses limited table w ws d [] h = run-ends limited table w ws d Refuses h
 run-refuses limited table w ws d (s ∷ ss) h = run-answer limited table w ws d s ss Refuses h
 
 -- here begins what is left out
-pub run-leaves_out : {S W : Type 0} (limited : Bool) (table : Table S W) (w : W) (ws : List W) (d : ℕ) (s : S) (ss : List S) → table w d (Some s) ≡ LeavesOut → run limited table (w ∷ ws) d (s ∷ ss) ≡ Stuck LeftOut (s ∷ ss)
+pub run-leaves_out : {S W : Type 0} (limited : Bool) (table : Table S W) (w : W) (ws : List W) (d : ℕ) (s : S)
+    (ss : List S) → table w d (Some s) ≡ LeavesOut → run limited table (w ∷ ws) d (s ∷ ss) ≡ Stuck LeftOut (s ∷ ss)
 run-leaves_out limited table w ws d s ss h = run-answer limited table w ws d s ss LeavesOut h
 
 none_ended : {W : Type 0} (a : Answer W) (skipped : ℕ → Bool) → is_skip a ≡ false → ended a skipped ≡ false
@@ -67,7 +72,9 @@ run-ended limited table w ws d h = run-ends limited table w ws d (table w d None
 
 -- ---- wants that go on alike
 
-begins : {S W : Type 0} (limited : Bool) (table : Table S W) (a : Answer W) (w v : W) (us ws : List W) (d : ℕ) (ss : List S) → table w d (first ss) ≡ and_then a us → table v d (first ss) ≡ a → is_skip a ≡ false → run limited table (w ∷ ws) d ss ≡ run limited table (v ∷ (us ++ ws)) d ss
+begins : {S W : Type 0} (limited : Bool) (table : Table S W) (a : Answer W) (w v : W) (us ws : List W) (d : ℕ)
+    (ss : List S) → table w d (first ss) ≡ and_then a us → table v d (first ss) ≡ a → is_skip a ≡ false
+    → run limited table (w ∷ ws) d ss ≡ run limited table (v ∷ (us ++ ws)) d ss
 begins limited table (Skips x) w v us ws d ss e f h = absurd cc
 begins limited table Refuses w v us ws d ss e f h = run-refuses limited table w ws d ss e ∙ sym (run-refuses limited table v (us ++ ws) d ss f)
 begins limited table LeavesOut w v us ws d [] e f h = run-ended limited table w ws d (ap is_skip e) ∙ sym (run-ended limited table v (us ++ ws) d (ap is_skip f))
@@ -79,11 +86,14 @@ begins limited table (Takes within more x) w v us ws d (s ∷ ss) e f h =
     ∙ sym (run-answer limited table v (us ++ ws) d s ss (Takes within more x) f)
 
 -- a want that begins with another and goes on with us
-pub run-begins : {S W : Type 0} (limited : Bool) (table : Table S W) (w v : W) (us ws : List W) (d : ℕ) (ss : List S) → table w d (first ss) ≡ and_then (table v d (first ss)) us → is_skip (table v d (first ss)) ≡ false → run limited table (w ∷ ws) d ss ≡ run limited table (v ∷ (us ++ ws)) d ss
+pub run-begins : {S W : Type 0} (limited : Bool) (table : Table S W) (w v : W) (us ws : List W) (d : ℕ) (ss : List S)
+    → table w d (first ss) ≡ and_then (table v d (first ss)) us → is_skip (table v d (first ss)) ≡ false
+    → run limited table (w ∷ ws) d ss ≡ run limited table (v ∷ (us ++ ws)) d ss
 run-begins limited table w v us ws d ss e h = begins limited table (table v d (first ss)) w v us ws d ss e refl h
 
 -- two wants with one answer go on alike
-pub run-same : {S W : Type 0} (limited : Bool) (table : Table S W) (w v : W) (ws : List W) (d : ℕ) (ss : List S) → table w d (first ss) ≡ table v d (first ss) → run limited table (w ∷ ws) d ss ≡ run limited table (v ∷ ws) d ss
+pub run-same : {S W : Type 0} (limited : Bool) (table : Table S W) (w v : W) (ws : List W) (d : ℕ) (ss : List S)
+    → table w d (first ss) ≡ table v d (first ss) → run limited table (w ∷ ws) d ss ≡ run limited table (v ∷ ws) d ss
 run-same limited table w v ws d [] h = run-ends limited table w ws d (table v d None) h ∙ sym (run-ends limited table v ws d (table v d None) refl)
 run-same limited table w v ws d (s ∷ ss) h = run-answer limited table w ws d s ss (table v d (Some s)) h ∙ sym (run-answer limited table v ws d s ss (table v d (Some s)) refl)
 
@@ -108,7 +118,9 @@ ends_within : {S : Type 0} (b : Bool) (r : Reason) (left : List S) → cond b Wh
 ends_within true r left h = absurd cc
 ends_within false r left h = let l : 0 ≡ length left = ap length (stuck_is Refused r _ _ h) in omega arith
 
-left_within : {S W : Type 0} (limited : Bool) (table : Table S W) (r : Reason) (m : Move W) (s : S) (ss left : List S) → ((ws : List W) (d : ℕ) (xs : List S) → run limited table ws d ss ≡ Stuck r xs → length xs ≤ length ss) → goes_on limited table m s ss ≡ Stuck r left → length left ≤ suc (length ss)
+left_within : {S W : Type 0} (limited : Bool) (table : Table S W) (r : Reason) (m : Move W) (s : S) (ss left : List S)
+    → ((ws : List W) (d : ℕ) (xs : List S) → run limited table ws d ss ≡ Stuck r xs → length xs ≤ length ss)
+    → goes_on limited table m s ss ≡ Stuck r left → length left ≤ suc (length ss)
 left_within limited table r (Halts q) s ss left ih h = let l : suc (length ss) ≡ length left = ap length (stuck_is q r _ _ h) in omega arith
 left_within limited table r (Goes more e) s ss left ih h = let l = ih more e left h in omega arith
 
@@ -121,13 +133,16 @@ ends_behind : {S : Type 0} (b : Bool) (r : Reason) (left : List S) → cond b Wh
 ends_behind true r left h = absurd cc
 ends_behind false r left h = ([], stuck_is Refused r [] left h)
 
-behind_on : {S W : Type 0} (limited : Bool) (table : Table S W) (r : Reason) (m : Move W) (s : S) (ss left : List S) → ((ws : List W) (d : ℕ) (xs : List S) → run limited table ws d ss ≡ Stuck r xs → (front : List S) × (ss ≡ front ++ xs)) → goes_on limited table m s ss ≡ Stuck r left
+behind_on : {S W : Type 0} (limited : Bool) (table : Table S W) (r : Reason) (m : Move W) (s : S) (ss left : List S)
+    → ((ws : List W) (d : ℕ) (xs : List S) → run limited table ws d ss ≡ Stuck r xs
+    → (front : List S) × (ss ≡ front ++ xs)) → goes_on limited table m s ss ≡ Stuck r left
     → (front : List S) × (s ∷ ss ≡ front ++ left)
 behind_on limited table r (Halts q) s ss left ih h = ([], stuck_is q r (s ∷ ss) left h)
 behind_on limited table r (Goes more e) s ss left ih h = let f = ih more e left h in (s ∷ f.0, ap (λ l. s ∷ l) f.1)
 
 -- what is left where a run is stuck ends the symbols
-pub stuck_behind : {S W : Type 0} (limited : Bool) (table : Table S W) (r : Reason) (ws : List W) (d : ℕ) (ss left : List S) → run limited table ws d ss ≡ Stuck r left → (front : List S) × (ss ≡ front ++ left)
+pub stuck_behind : {S W : Type 0} (limited : Bool) (table : Table S W) (r : Reason) (ws : List W) (d : ℕ)
+    (ss left : List S) → run limited table ws d ss ≡ Stuck r left → (front : List S) × (ss ≡ front ++ left)
 unfolding run
 stuck_behind limited table r ws d [] left h = ends_behind (may_end table ws d) r left h
 stuck_behind limited table r ws d (s ∷ ss) left h = behind_on limited table r (after limited table ws d s) s ss left (λ vs e xs k. stuck_behind limited table r vs e ss xs k) h
@@ -136,14 +151,17 @@ pub none_grows : {S W : Type 0} (limited : Bool) (table : Table S W) (r : Reason
 none_grows limited table r s rest (Halts q) h = ap (λ x. Halts x) (halts_alike q r _ _ h)
 none_grows limited table r s rest (Goes more e) h = let l : suc (length rest) ≤ length rest = stuck_within limited table r more e rest (s ∷ rest) h in absurd (omega arith)
 
-pub one_ahead : {S W : Type 0} (limited : Bool) (table : Table S W) (r : Reason) (ws : List W) (d : ℕ) (front rest other : List S) → first other ≡ first rest → run limited table ws d (front ++ rest) ≡ Stuck r rest → run limited table ws d (front ++ other) ≡ Stuck r other
+pub one_ahead : {S W : Type 0} (limited : Bool) (table : Table S W) (r : Reason) (ws : List W) (d : ℕ)
+    (front rest other : List S) → first other ≡ first rest → run limited table ws d (front ++ rest) ≡ Stuck r rest
+    → run limited table ws d (front ++ other) ≡ Stuck r other
 one_ahead limited table r ws d [] [] [] e h = h
 one_ahead limited table r ws d [] [] (o ∷ os) e h = absurd cc
 one_ahead limited table r ws d [] (s ∷ rest) [] e h = absurd cc
 one_ahead {S = S} limited table r ws d [] (s ∷ rest) (o ∷ os) e h =
     let same : o ≡ s = cc in
     let none = none_grows limited table r s rest (after limited table ws d s) (sym (run-cons limited table ws d s rest) ∙ h) in
-    run-cons limited table ws d o os ∙ ap (λ a. goes_on limited table (after limited table ws d a) a os) same ∙ ap (λ a. goes_on limited table a s os) none ∙ ap (λ (x : S). Stuck r (x ∷ os)) (sym same)
+    run-cons limited table ws d o os ∙ ap (λ a. goes_on limited table (after limited table ws d a) a os) same
+        ∙ ap (λ a. goes_on limited table a s os) none ∙ ap (λ (x : S). Stuck r (x ∷ os)) (sym same)
 one_ahead limited table r ws d (f ∷ front) rest other e h =
     run-cons limited table ws d f (front ++ other)
     ∙ ahead limited table r (after limited table ws d f) f front rest other (λ vs x. one_ahead limited table r vs x front rest other e) (sym (run-cons limited table ws d f (front ++ rest)) ∙ h)
@@ -151,7 +169,8 @@ one_ahead limited table r ws d (f ∷ front) rest other e h =
 -- ---- a limited run, and the one without a limit
 
 -- at a symbol the two move alike, or the limited one stops for its limit
-answered_alike : {W : Type 0} (a : Answer W) (ws : List W) (f g : ℕ → Move W) → ((e : ℕ) → (f e ≡ Halts TooDeep) ⊎ (g e ≡ f e)) → (answered true a ws f ≡ Halts TooDeep) ⊎ (answered false a ws g ≡ answered true a ws f)
+answered_alike : {W : Type 0} (a : Answer W) (ws : List W) (f g : ℕ → Move W) → ((e : ℕ) → (f e ≡ Halts TooDeep) ⊎
+    (g e ≡ f e)) → (answered true a ws f ≡ Halts TooDeep) ⊎ (answered false a ws g ≡ answered true a ws f)
 answered_alike (Takes true more d) ws f g h = inr refl
 answered_alike (Takes false more d) ws f g h = inl refl
 answered_alike (Skips d) ws f g h = h d
@@ -162,12 +181,15 @@ pub after_alike : {S W : Type 0} (table : Table S W) (ws : List W) (d : ℕ) (s 
 after_alike table [] d s = inr refl
 after_alike table (w ∷ ws) d s = answered_alike (table w d (Some s)) ws (λ e. after true table ws e s) (λ e. after false table ws e s) (λ e. after_alike table ws e s)
 
-alike_on : {S W : Type 0} (table : Table S W) (m : Move W) (s : S) (ss : List S) (o : Outcome S) → ((ws : List W) (d : ℕ) → run true table ws d ss ≡ o → run false table ws d ss ≡ o) → goes_on true table m s ss ≡ o → goes_on false table m s ss ≡ o
+alike_on : {S W : Type 0} (table : Table S W) (m : Move W) (s : S) (ss : List S) (o : Outcome S)
+    → ((ws : List W) (d : ℕ) → run true table ws d ss ≡ o → run false table ws d ss ≡ o) → goes_on true table m s ss ≡ o
+    → goes_on false table m s ss ≡ o
 alike_on table (Halts q) s ss o ih h = h
 alike_on table (Goes more e) s ss o ih h = ih more e h
 
 -- a limited run that its limit doesn't stop is the run without a limit
-pub run-unlimited : {S W : Type 0} (table : Table S W) (ws : List W) (d : ℕ) (ss : List S) (o : Outcome S) → ((rest : List S) → o ≡ Stuck TooDeep rest → ⊥) → run true table ws d ss ≡ o → run false table ws d ss ≡ o
+pub run-unlimited : {S W : Type 0} (table : Table S W) (ws : List W) (d : ℕ) (ss : List S) (o : Outcome S)
+    → ((rest : List S) → o ≡ Stuck TooDeep rest → ⊥) → run true table ws d ss ≡ o → run false table ws d ss ≡ o
 unfolding run
 run-unlimited table ws d [] o never h = h
 run-unlimited table ws d (s ∷ ss) o never h = elim (after_alike table ws d s) [
@@ -177,7 +199,9 @@ run-unlimited table ws d (s ∷ ss) o never h = elim (after_alike table ws d s) 
 
 -- ---- the symbol at which the limit stops a run
 
-deep_answered : {W : Type 0} (a : Answer W) (ws : List W) (f g : ℕ → Move W) → ((e : ℕ) → f e ≡ Halts TooDeep → (more : List W) × (d : ℕ) × (g e ≡ Goes more d)) → answered true a ws f ≡ Halts TooDeep → (more : List W) × (d : ℕ) × (answered false a ws g ≡ Goes more d)
+deep_answered : {W : Type 0} (a : Answer W) (ws : List W) (f g : ℕ → Move W)
+    → ((e : ℕ) → f e ≡ Halts TooDeep → (more : List W) × (d : ℕ) × (g e ≡ Goes more d))
+    → answered true a ws f ≡ Halts TooDeep → (more : List W) × (d : ℕ) × (answered false a ws g ≡ Goes more d)
 deep_answered (Takes true more d) ws f g ih h = absurd cc
 deep_answered (Takes false more d) ws f g ih h = (more ++ ws, d, refl)
 deep_answered (Skips d) ws f g ih h = ih d h

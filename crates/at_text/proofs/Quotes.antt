@@ -97,11 +97,13 @@ escape_of c e =
     (λ h. by_cases Escapes 116 c (λ t. record { byte = 9; small = lit< tt; is = refl; spelled = refl })
     (λ k t. absurd (let z : makes_escape c ≡ false = rw (f, g, h, k) refl in clash (makes_escape c) t z))))) e
 
-pub escape_means : (c : ℕ) (text rest : List ℕ) → makes_escape c ≡ true → text ≡ encode_utf8 92 ++ (encode_utf8 c ++ rest) → IsUtf8 rest → (body : List ℕ) × Means body text rest × (length rest < length text)
+pub escape_means : (c : ℕ) (text rest : List ℕ) → makes_escape c ≡ true → text ≡ encode_utf8 92
+    ++ (encode_utf8 c ++ rest) → IsUtf8 rest → (body : List ℕ) × Means body text rest × (length rest < length text)
 escape_means c text rest t e u =
     let x = escape_of c t in
     let spelled : text ≡ 92 ∷ c ∷ rest = e ∙ (λ i. encode_ascii 92 (lit< tt) i ++ (encode_ascii c (escape_small c t) i ++ rest)) in
-    (x.byte ∷ [], (spelled ∙ ap (λ l. l ++ rest) (sym (append-nil (escaped x.byte) ∙ x.spelled)), subst IsUtf8 (encode_ascii x.byte x.small) (IsUtf8-encode x.byte x.is), u), omega (arith, ap length spelled))
+    (x.byte ∷ [], (spelled ∙ ap (λ l. l ++ rest) (sym (append-nil (escaped x.byte) ∙ x.spelled)),
+        subst IsUtf8 (encode_ascii x.byte x.small) (IsUtf8-encode x.byte x.is), u), omega (arith, ap length spelled))
 
 pub no_escape : (c : ℕ) (bs : List ℕ) → makes_escape c ≡ false → unescaped (92 ∷ c ∷ bs) ≡ None
 no_escape c bs e = grind (arith, nat_tests)
@@ -123,7 +125,9 @@ Plain d = stands_for_itself d ≡ true → escaped d ≡ d ∷ []
 
 -- a byte that stands for itself
 pub plain_escape : (b : ℕ) → stands_for_itself b ≡ true → escaped b ≡ b ∷ []
-plain_escape b e = by_cases Plain 34 b (λ t. absurd (clash false t refl)) (λ f. by_cases Plain 92 b (λ t. absurd (clash false t refl)) (λ g. by_cases Plain 10 b (λ t. absurd (clash false t refl)) (λ h. by_cases Plain 9 b (λ t. absurd (clash false t refl)) (λ k t. rw (f, g, h, k) refl)))) e
+plain_escape b e = by_cases Plain 34 b (λ t. absurd (clash false t refl)) (λ f.
+    by_cases Plain 92 b (λ t. absurd (clash false t refl)) (λ g. by_cases Plain 10 b (λ t. absurd (clash false t refl))
+    (λ h. by_cases Plain 9 b (λ t. absurd (clash false t refl)) (λ k t. rw (f, g, h, k) refl)))) e
 
 pub plain_bytes : (bs : List ℕ) → ((k : ℕ) → k < length bs → stands_for_itself (get_or bs k 0) ≡ true) → flat_map escaped bs ≡ bs
 plain_bytes [] h = refl
@@ -144,8 +148,11 @@ first_scalar c text rest u e =
     let p = cons_from_encodes u.0 rest c (u.1.1 ∙ e) in
     (both (scalar c) (all_scalars p.0) (ap all_scalars (sym p.1) ∙ u.1.0)).0
 
-pub plain_means : (c : ℕ) (text rest : List ℕ) → stands_for_itself c ≡ true → IsUtf8 text → text ≡ encode_utf8 c ++ rest → IsUtf8 rest → (body : List ℕ) × Means body text rest × (length rest < length text)
-plain_means c text rest t u e v = (encode_utf8 c, (e ∙ ap (λ l. l ++ rest) (sym (plain_character c t)), IsUtf8-encode c (first_scalar c text rest u e), v), omega (arith, ap length e, length-append (encode_utf8 c) rest, length-encode c, len_utf8_bounds c))
+pub plain_means : (c : ℕ) (text rest : List ℕ) → stands_for_itself c ≡ true → IsUtf8 text → text ≡ encode_utf8 c ++ rest
+    → IsUtf8 rest → (body : List ℕ) × Means body text rest × (length rest < length text)
+plain_means c text rest t u e v = (encode_utf8 c,
+    (e ∙ ap (λ l. l ++ rest) (sym (plain_character c t)), IsUtf8-encode c (first_scalar c text rest u e), v),
+    omega (arith, ap length e, length-append (encode_utf8 c) rest, length-encode c, len_utf8_bounds c))
 
 -- what a loop over the characters between quotes has read
 pub record Read (text rest : List ℕ) : Type 0 where
@@ -159,7 +166,8 @@ read_none text = record { body = []; split = refl; is = IsUtf8-nil }
 pub read_more : (text rest after more : List ℕ) → Read text rest → Means more rest after → Read text after
 read_more text rest after more r m = record {
   body = r.body ++ more;
-  split = r.split ∙ ap (λ l. flat_map escaped r.body ++ l) m.0 ∙ sym (append_assoc (flat_map escaped r.body) (flat_map escaped more) after) ∙ ap (λ l. l ++ after) (sym (flat_map-append escaped r.body more));
+  split = r.split ∙ ap (λ l. flat_map escaped r.body ++ l) m.0 ∙ sym (append_assoc (flat_map escaped r.body)
+      (flat_map escaped more) after) ∙ ap (λ l. l ++ after) (sym (flat_map-append escaped r.body more));
   is = IsUtf8-append r.body more r.is m.1;
 }
 
@@ -197,4 +205,5 @@ stays_open (b ∷ []) none unquoted placed =
 stays_open (b ∷ c ∷ bs) none unquoted placed =
     by_cases (IsNewline c bs) 92 b
     (λ n u p. absurd (clash (not (makes_escape c)) (ap not (escape_follows c bs n)) p))
-    (λ f n u p. let s = not_meant b (c ∷ bs) n in let q = no_quote b (c ∷ bs) u in let t : (b == 9) ≡ false = (neither (b == 9) ((b == 92) && not (makes_escape c)) p).0 in grind (arith, nat_tests)) none unquoted placed
+    (λ f n u p. let s = not_meant b (c ∷ bs) n in let q = no_quote b (c ∷ bs) u in let t : (b == 9) ≡ false =
+        (neither (b == 9) ((b == 92) && not (makes_escape c)) p).0 in grind (arith, nat_tests)) none unquoted placed

@@ -28,17 +28,22 @@ pub run-same : {S W : Type 0} (table : Table S W) (w v : W) (ws : List W) (ss : 
 run-same table w v ws ss e = machine.run-same true (by_next table) w v ws 0 ss e
 
 -- a form that begins with another and goes on with us
-pub run-begins : {S W : Type 0} (table : Table S W) (w v : W) (us ws : List W) (ss : List S) → table w (first ss) ≡ and_then (table v (first ss)) us → is_skip (table v (first ss)) ≡ false → run table (w ∷ ws) ss ≡ run table (v ∷ (us ++ ws)) ss
+pub run-begins : {S W : Type 0} (table : Table S W) (w v : W) (us ws : List W) (ss : List S)
+    → table w (first ss) ≡ and_then (table v (first ss)) us → is_skip (table v (first ss)) ≡ false
+    → run table (w ∷ ws) ss ≡ run table (v ∷ (us ++ ws)) ss
 run-begins table w v us ws ss e h = machine.run-begins true (by_next table) w v us ws 0 ss e h
 
 -- ---- the first fault
 
 -- where reading a form stops, is its first fault, if what it spells is taken whole
-pub first_fault : {S W V : Type 0} (table : Table S W) (form : Form S W V) (r : Reason) (old rest : List S) → ((v : V) → form.Is v → run table (form.want ∷ []) (form.spell v) ≡ Whole) → (s : Stops table form r old rest) → IsFirstFault form.Is form.spell s.front rest
+pub first_fault : {S W V : Type 0} (table : Table S W) (form : Form S W V) (r : Reason) (old rest : List S)
+    → ((v : V) → form.Is v → run table (form.want ∷ []) (form.spell v) ≡ Whole) → (s : Stops table form r old rest)
+    → IsFirstFault form.Is form.spell s.front rest
 first_fault table form r old rest accepts s = record {
   begins = s.begins;
   ends = λ v other is same text.
-      let stuck : run table (form.want ∷ []) (s.front ++ other) ≡ Stuck r other = machine.one_ahead true (by_next table) r (form.want ∷ []) 0 s.front rest other same (sym (ap (run table (form.want ∷ [])) s.split) ∙ s.stuck []) in
+      let stuck : run table (form.want ∷ []) (s.front ++ other) ≡ Stuck r other = machine.one_ahead true (by_next table)
+          r (form.want ∷ []) 0 s.front rest other same (sym (ap (run table (form.want ∷ [])) s.split) ∙ s.stuck []) in
       let whole : run table (form.want ∷ []) (s.front ++ other) ≡ Whole = sym (ap (run table (form.want ∷ [])) text) ∙ accepts v is in
       absurd cc;
 }
@@ -91,7 +96,9 @@ pub stops_here : {S W V : Type 0} (table : Table S W) (form : Form S W V) (v : V
 stops_here table form v old is e = record { front = []; split = refl; begins = (v, form.spell v, is, refl); why = tt; stuck = λ ws. machine.run-refuses true (by_next table) form.want ws 0 old e }
 
 -- The form stops at once, since its next symbol begins what is left out.
-pub leaves_here : {S W V : Type 0} (table : Table S W) (form : Form S W V) (v : V) (old : List S) (s : S) → first old ≡ Some s → form.Is v → table form.want (Some s) ≡ LeavesOut → form.LeavesAt [] (Some s) → Stops table form LeftOut old old
+pub leaves_here : {S W V : Type 0} (table : Table S W) (form : Form S W V) (v : V) (old : List S) (s : S)
+    → first old ≡ Some s → form.Is v → table form.want (Some s) ≡ LeavesOut → form.LeavesAt [] (Some s)
+    → Stops table form LeftOut old old
 leaves_here table form v [] s e is leaves at = absurd cc
 leaves_here {S = S} table form v (x ∷ rest) s e is leaves at =
     let same : s ≡ x = cc in
@@ -103,7 +110,9 @@ leaves_here {S = S} table form v (x ∷ rest) s e is leaves at =
       stuck = λ ws. run-leaves_out table form.want ws x rest (ap (λ y. table form.want (Some y)) (sym same) ∙ leaves);
     }
 
-reason_within : {S W U V : Type 0} (inner : Form S W U) (form : Form S W V) (r : Reason) (before front rest : List S) → ((xs : List S) (s : Option S) → inner.LeavesAt xs s → form.LeavesAt (before ++ xs) s) → IsReason inner r front rest → IsReason form r (before ++ front) rest
+reason_within : {S W U V : Type 0} (inner : Form S W U) (form : Form S W V) (r : Reason) (before front rest : List S)
+    → ((xs : List S) (s : Option S) → inner.LeavesAt xs s → form.LeavesAt (before ++ xs) s)
+    → IsReason inner r front rest → IsReason form r (before ++ front) rest
 reason_within inner form Refused before front rest leaves why = tt
 reason_within inner form LeftOut before front rest leaves why = leaves front (first rest) why
 reason_within inner form TooDeep before front rest leaves why = why
@@ -128,11 +137,14 @@ stops_within table inner form r old mid rest before us make tail split goes is s
 }
 
 -- what a call on a part returned, carried to the form
-pub fails_on : {S W U V : Type 0} (table : Table S W) (inner : Form S W U) (form : Form S W V) (r : Option Reason) (old mid rest : List S) → ((q : Reason) → Stops table inner q mid rest → Stops table form q old rest) → Fails table inner r mid rest → Fails table form r old rest
+pub fails_on : {S W U V : Type 0} (table : Table S W) (inner : Form S W U) (form : Form S W V) (r : Option Reason)
+    (old mid rest : List S) → ((q : Reason) → Stops table inner q mid rest → Stops table form q old rest)
+    → Fails table inner r mid rest → Fails table form r old rest
 fails_on table inner form None old mid rest stops f = tt
 fails_on table inner form (Some q) old mid rest stops f = stops q f
 
-pub parses_on : {S W U V A E : Type 0} (table : Table S W) (reason : E → Option Reason) (inner : Form S W U) (form : Form S W V) (M : U → A → Type 0) (N : V → A → Type 0) (r : Result A E) (old mid rest : List S)
+pub parses_on : {S W U V A E : Type 0} (table : Table S W) (reason : E → Option Reason) (inner : Form S W U)
+    (form : Form S W V) (M : U → A → Type 0) (N : V → A → Type 0) (r : Result A E) (old mid rest : List S)
     → ((u : U) (a : A) → M u a → Reads table inner u mid rest → (v : V) × N v a × Reads table form v old rest) → ((q : Reason) → Stops table inner q mid rest → Stops table form q old rest)
     → Parses table reason inner M r mid rest → Parses table reason form N r old rest
 parses_on table reason inner form M N (Ok a) old mid rest reads stops p = reads p.0 a p.1 p.2
@@ -168,7 +180,9 @@ all_append P (u ∷ us) vs h k = (h.0, all_append P us vs h.1 k)
 pub one_more : {S U : Type 0} (f : U → List S) (us : List U) (u : U) → flat_map f (us ++ u ∷ []) ≡ flat_map f us ++ f u
 one_more f us u = flat_map-append f us (u ∷ []) ∙ ap (λ l. flat_map f us ++ l) (flat_map-cons f u [] ∙ append-nil (f u))
 
-abbrev pub many_more : {S W U : Type 0} (table : Table S W) (one : Form S W U) (want : W) (u : U) (old mid rest : List S) → (m : Many table one want old mid) → ((ws : List W) → run table (want ∷ ws) mid ≡ run table (one.want ∷ want ∷ ws) mid) → Reads table one u mid rest → Many table one want old rest
+abbrev pub many_more : {S W U : Type 0} (table : Table S W) (one : Form S W U) (want : W) (u : U)
+    (old mid rest : List S) → (m : Many table one want old mid) → ((ws : List W) → run table (want ∷ ws) mid
+    ≡ run table (one.want ∷ want ∷ ws) mid) → Reads table one u mid rest → Many table one want old rest
 many_more table one want u old mid rest m begins r = record {
   items = m.items ++ u ∷ [];
   are = all_push one.Is m.items u m.are r.is;
@@ -179,5 +193,7 @@ many_more table one want u old mid rest m begins r = record {
 pub pushed : {X Y V : Type 0} (f : X → Y) (g : V → Y) (xs : List X) (vs : List V) (x : X) (v : V) → map f xs ≡ map g vs → f x ≡ g v → map f (xs ++ x ∷ []) ≡ map g (vs ++ v ∷ [])
 pushed f g xs vs x v e h = map_push f xs x ∙ ap (λ l. l ++ f x ∷ []) e ∙ ap (λ y. map g vs ++ y ∷ []) h ∙ sym (map_push g vs v)
 
-pub parses_at : {S W V A E : Type 0} (table : Table S W) (reason : E → Option Reason) (form : Form S W V) (M : V → A → Type 0) (r : Result A E) (mid old rest : List S) → mid ≡ old → Parses table reason form M r mid rest → Parses table reason form M r old rest
+pub parses_at : {S W V A E : Type 0} (table : Table S W) (reason : E → Option Reason) (form : Form S W V)
+    (M : V → A → Type 0) (r : Result A E) (mid old rest : List S) → mid ≡ old → Parses table reason form M r mid rest
+    → Parses table reason form M r old rest
 parses_at {S} {W} {V} {A} {E} table reason form M r mid old rest e p = subst (λ (x : List S). Parses table reason form M r x rest) e p

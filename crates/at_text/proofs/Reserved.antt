@@ -132,7 +132,9 @@ none_among has text h (word ∷ words) e =
     let f = both (not (has word)) (list_all (λ w. not (has w)) words) e in
     rw (differs has word text (not_false (has word) f.0) h) (none_among has text h words f.1)
 
-no_letter : (c : ℕ) → (97 == c) ≡ false → (98 == c) ≡ false → (99 == c) ≡ false → (101 == c) ≡ false → (102 == c) ≡ false → (105 == c) ≡ false → (108 == c) ≡ false → (110 == c) ≡ false → (114 == c) ≡ false → (115 == c) ≡ false → (116 == c) ≡ false → (83 == c) ≡ false
+no_letter : (c : ℕ) → (97 == c) ≡ false → (98 == c) ≡ false → (99 == c) ≡ false → (101 == c) ≡ false
+    → (102 == c) ≡ false → (105 == c) ≡ false → (108 == c) ≡ false → (110 == c) ≡ false → (114 == c) ≡ false
+    → (115 == c) ≡ false → (116 == c) ≡ false → (83 == c) ≡ false
     → list_all (λ w. not (begins_with c w)) reserved_words ≡ true
 unfolding reserved_words
 no_letter c e97 e98 e99 e101 e102 e105 e108 e110 e114 e115 e116 e83 = rw (e97, e98, e99, e101, e102, e105, e108, e110, e114, e115, e116, e83) refl
@@ -140,12 +142,16 @@ no_letter c e97 e98 e99 e101 e102 e105 e108 e110 e114 e115 e116 e83 = rw (e97, e
 other : (k n : ℕ) → n ≢ k → (k == n) ≡ false
 other k n e = grind (arith, nat_tests)
 
-pub reserved_with_no_other : (text : List ℕ) → get_or text 0 0 ≢ 97 → get_or text 0 0 ≢ 98 → get_or text 0 0 ≢ 99 → get_or text 0 0 ≢ 101 → get_or text 0 0 ≢ 102 → get_or text 0 0 ≢ 105 → get_or text 0 0 ≢ 108 → get_or text 0 0 ≢ 110 → get_or text 0 0 ≢ 114 → get_or text 0 0 ≢ 115 → get_or text 0 0 ≢ 116 → get_or text 0 0 ≢ 83
+pub reserved_with_no_other : (text : List ℕ) → get_or text 0 0 ≢ 97 → get_or text 0 0 ≢ 98 → get_or text 0 0 ≢ 99
+    → get_or text 0 0 ≢ 101 → get_or text 0 0 ≢ 102 → get_or text 0 0 ≢ 105 → get_or text 0 0 ≢ 108 → get_or text 0 0 ≢
+    110 → get_or text 0 0 ≢ 114 → get_or text 0 0 ≢ 115 → get_or text 0 0 ≢ 116 → get_or text 0 0 ≢ 83
     → false ≡ is_reserved text
 reserved_with_no_other text e97 e98 e99 e101 e102 e105 e108 e110 e114 e115 e116 e83 =
     let c = get_or text 0 0 in
     let begins : begins_with c text ≡ true = grind (arith, nat_tests) in
-    sym (none_among (begins_with c) text begins reserved_words (no_letter c (other 97 c e97) (other 98 c e98) (other 99 c e99) (other 101 c e101) (other 102 c e102) (other 105 c e105) (other 108 c e108) (other 110 c e110) (other 114 c e114) (other 115 c e115) (other 116 c e116) (other 83 c e83)))
+    sym (none_among (begins_with c) text begins reserved_words (no_letter c (other 97 c e97) (other 98 c e98)
+        (other 99 c e99) (other 101 c e101) (other 102 c e102) (other 105 c e105) (other 108 c e108) (other 110 c e110)
+        (other 114 c e114) (other 115 c e115) (other 116 c e116) (other 83 c e83)))
 
 apart : (c k : ℕ) → is_ascii_lowercase c ≡ false → is_ascii_lowercase k ≡ true → c ≢ k
 apart c k off on is = clash (is_ascii_lowercase k) on (ap is_ascii_lowercase (sym is) ∙ off)
@@ -154,4 +160,6 @@ pub reserved_with_no_letter : (text : List ℕ) (first : ℕ) → first ≡ get_
 reserved_with_no_letter text first is off other =
     let c = get_or text 0 0 in
     let small : is_ascii_lowercase (get_or text 0 0) ≡ false = ap is_ascii_lowercase (sym is) ∙ off in
-    reserved_with_no_other text (apart c 97 small refl) (apart c 98 small refl) (apart c 99 small refl) (apart c 101 small refl) (apart c 102 small refl) (apart c 105 small refl) (apart c 108 small refl) (apart c 110 small refl) (apart c 114 small refl) (apart c 115 small refl) (apart c 116 small refl) (λ e. other (is ∙ e))
+    reserved_with_no_other text (apart c 97 small refl) (apart c 98 small refl) (apart c 99 small refl) (apart c 101
+        small refl) (apart c 102 small refl) (apart c 105 small refl) (apart c 108 small refl) (apart c 110 small refl)
+        (apart c 114 small refl) (apart c 115 small refl) (apart c 116 small refl) (λ e. other (is ∙ e))

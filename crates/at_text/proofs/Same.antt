@@ -58,7 +58,8 @@ pub digits_encode : (ds : List ℕ) → AllByRecursion (λ c. is_ascii_digit c �
 digits_encode [] h = refl
 digits_encode (d ∷ ds) h = (λ i. encode_ascii d (digit_small d h.0) i ++ digits_encode ds h.1 i)
 
-same_name : (c d : ℕ) (cs ds x y : List ℕ) → IsLongestRun continues_name cs x → IsLongestRun continues_name ds y → encode_utf8_all (c ∷ cs) ++ x ≡ encode_utf8_all (d ∷ ds) ++ y → AreSame (Name c cs) (Name d ds) x y
+same_name : (c d : ℕ) (cs ds x y : List ℕ) → IsLongestRun continues_name cs x → IsLongestRun continues_name ds y
+    → encode_utf8_all (c ∷ cs) ++ x ≡ encode_utf8_all (d ∷ ds) ++ y → AreSame (Name c cs) (Name d ds) x y
 same_name c d cs ds x y g h e =
     let s = encode_same c d (encode_utf8_all cs ++ x) (encode_utf8_all ds ++ y) (sym (append_assoc (encode_utf8 c) (encode_utf8_all cs) x) ∙ e ∙ append_assoc (encode_utf8 d) (encode_utf8_all ds) y) in
     let r = same_run continues_name cs ds x y g h s.1 in
@@ -90,7 +91,8 @@ same_piece (Number c cs) q x y g h e = apart (family (Number c cs)) (family q) r
 same_piece (Quoted b) (Quoted d) x y g h e = same_quoted b d x y e
 same_piece (Quoted b) q x y g h e = apart (family (Quoted b)) (family q) refl (family_same (Quoted b) q x y g h e)
 same_piece (LineComment cs) (LineComment ds) x y g h e =
-    let r = same_run is_within_line cs ds x y g h (tail_same 47 47 (encode_utf8_all cs ++ x) (encode_utf8_all ds ++ y) (tail_same 47 47 (47 ∷ (encode_utf8_all cs ++ x)) (47 ∷ (encode_utf8_all ds ++ y)) e)) in
+    let r = same_run is_within_line cs ds x y g h (tail_same 47 47 (encode_utf8_all cs ++ x) (encode_utf8_all ds ++ y)
+        (tail_same 47 47 (47 ∷ (encode_utf8_all cs ++ x)) (47 ∷ (encode_utf8_all ds ++ y)) e)) in
     ((λ i. LineComment (r.0 i)), r.1)
 same_piece (LineComment cs) (BlockComment d) x y g h e = apart 47 42 refl (behind_slash 47 42 (encode_utf8_all cs ++ x) ((d ++ 42 ∷ 47 ∷ []) ++ y) e)
 same_piece (LineComment cs) (Sign t) x y g h e = absurd (clash (opens_comment (t ++ y)) (ap opens_comment (sym e)) h.1)

@@ -27,7 +27,8 @@ boundary_before text front after e u =
     let n : length front ≡ length text - length after = omega (arith, ap length e, length-append front after) in
     subst (λ k. IsCharBoundary text k) n (IsCharBoundary-at_seam text front after e u)
 
-pub bad_faults : (text rest tail : List ℕ) → IsUtf8 rest → (BeginsNone rest × (tail ≡ rest)) ⊎ ((body : List ℕ) × OpensText rest body tail × (is_misplaced tail ≡ true) × IsUtf8 tail) → (ps : List Piece) → Cut text ps rest
+pub bad_faults : (text rest tail : List ℕ) → IsUtf8 rest → (BeginsNone rest × (tail ≡ rest)) ⊎ ((body : List ℕ)
+    × OpensText rest body tail × (is_misplaced tail ≡ true) × IsUtf8 tail) → (ps : List Piece) → Cut text ps rest
     → (StandsAt BeginsNone text (length text - length tail) ⊎ HasMisplacedAt text (length text - length tail)) × IsCharBoundary text (length text - length tail)
 bad_faults text rest tail u (inl h) ps c =
     let front = flat_map spell ps in
@@ -186,6 +187,8 @@ lexed_more text rest after old new x s f u e v at pushed =
       pieces = s.pieces ++ p ∷ [];
       cut = cut_more text rest after s.pieces p s.cut f.1 f.2;
       are = ap (map spelled) pushed ∙ map-append spelled old (x ∷ []) ∙ ap (λ l. l ++ spelled x ∷ []) s.are ∙ sym one;
-      kinds = subst (λ (xs : List Lexeme). All (λ y. IsOfKind y.kind y.text.now) xs) (sym pushed) (All-push (λ y. IsOfKind y.kind y.text.now) old x s.kinds (subst (IsOfKind x.kind) same (form p after x.kind f.2 f.3 (subst IsUtf8 (sym same) v))));
+      kinds = subst (λ (xs : List Lexeme). All (λ y. IsOfKind y.kind y.text.now) xs) (sym pushed)
+          (All-push (λ y. IsOfKind y.kind y.text.now) old x s.kinds
+          (subst (IsOfKind x.kind) same (form p after x.kind f.2 f.3 (subst IsUtf8 (sym same) v))));
       starts = subst (λ (xs : List Lexeme). All (λ y. IsCharBoundary text y.start) xs) (sym pushed) (All-push (λ y. IsCharBoundary text y.start) old x s.starts here);
     }

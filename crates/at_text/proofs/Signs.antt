@@ -138,7 +138,9 @@ all_short = refl
 short_at : (i : ℕ) → i < 27 → 7 ≤ i → (x : ℕ) × (sign_at i ≡ encode_utf8 x) × (is_short_sign x ≡ true)
 short_at i h more = decide (nat_lt i 7) refl (below 27 is_short_at all_short i h)
   where
-    decide : (b : Bool) → nat_lt i 7 ≡ b → (b || (nat_lt (only_at i) 128 && (bytes_eq (sign_at i) (only_at i ∷ []) && is_short_sign (only_at i)))) ≡ true → (x : ℕ) × (sign_at i ≡ encode_utf8 x) × (is_short_sign x ≡ true)
+    decide : (b : Bool) → nat_lt i 7 ≡ b
+        → (b || (nat_lt (only_at i) 128 && (bytes_eq (sign_at i) (only_at i ∷ []) && is_short_sign (only_at i)))) ≡ true
+        → (x : ℕ) × (sign_at i ≡ encode_utf8 x) × (is_short_sign x ≡ true)
     decide true t e = absurd (omega (arith, ltb-true i 7 t, more))
     decide false t e =
         let p = both (nat_lt (only_at i) 128) _ e in

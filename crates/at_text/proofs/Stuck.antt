@@ -58,7 +58,8 @@ either false b e left right = right e
 -- where a text between quotes doesn't go on, nothing is meant
 pub open_means_none : (tail : List ℕ) → leaves_open tail ≡ true → unescaped tail ≡ None
 open_means_none [] e = refl
-open_means_none (b ∷ []) e = either (b == 10) (b == 92) e (λ f. subst (λ d. unescaped (d ∷ []) ≡ None) (sym (eqb-true b 10 f)) refl) (λ f. subst (λ d. unescaped (d ∷ []) ≡ None) (sym (eqb-true b 92 f)) refl)
+open_means_none (b ∷ []) e = either (b == 10) (b == 92) e (λ f. subst (λ d. unescaped (d ∷ []) ≡ None)
+    (sym (eqb-true b 10 f)) refl) (λ f. subst (λ d. unescaped (d ∷ []) ≡ None) (sym (eqb-true b 92 f)) refl)
 open_means_none (b ∷ c ∷ bs) e = subst (λ d. unescaped (d ∷ c ∷ bs) ≡ None) (sym (eqb-true b 10 e)) refl
 
 pub misplaced_means_none : (tail : List ℕ) → is_misplaced tail ≡ true → unescaped tail ≡ None

@@ -6,7 +6,7 @@ use Rattle.at_body.specs.Same.{same_instance}
 use Rattle.at_cache.specs.Kept.{Entries, Kept, PutsBy, value_at}
 use Rattle.at_cache.specs.Traced.{AreAllKept, IsNext, Memories, Settled, Trace, below, itself, nothing, one_more}
 use Rattle.at_cache.specs.Settling.{Settles}
-use Rattle.at_cache.proofs.of_cut.Instances.{same_true}
+use Rattle.at_body.proofs.SamenessLemmas.{same_true}
 
 -- what is kept is kept on
 abbrev pub KeepsOn : (old new : Entries) → Type 0

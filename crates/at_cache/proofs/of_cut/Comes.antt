@@ -19,7 +19,7 @@ use Rattle.at_cache.specs.Standings.{IsTied, held, instances_in, kept_held, stan
 use Rattle.at_cache.proofs.of_cut.Again.{held_as, held_on, is_among, tied_there}
 use Rattle.at_cache.proofs.Ending.{any_of, any_same, far_enough, has, is_in, opened, some_of}
 use Rattle.at_cache.proofs.of_cut.HeldSlots.{as_kept, covers_slots, entry_in, kept_none, kept_slot, off_slot, slot_of}
-use Rattle.at_cache.proofs.of_cut.Instances.{same_true}
+use Rattle.at_body.proofs.SamenessLemmas.{same_true}
 use Rattle.at_cache.proofs.Locations.{same_location-is, same_location-itself}
 use Rattle.at_cache.proofs.of_cut.Renewed.{held_indexed, held_links, held_since}
 use Rattle.at_cache.proofs.Testing.{indexed_by}

@@ -19,7 +19,7 @@ use Rattle.at_cache.specs.Standings.{IsTied, held, held_of, instances_in, kept_h
 use Rattle.at_cache.proofs.of_cut.Again.{again, covers_it, covers_still, held_as, held_on, is_among}
 use Rattle.at_cache.proofs.Dooming.{head_of}
 use Rattle.at_cache.proofs.Ending.{on_right}
-use Rattle.at_cache.proofs.of_cut.Instances.{same_true}
+use Rattle.at_body.proofs.SamenessLemmas.{same_true}
 use Rattle.at_cache.proofs.Moving.{at_none, at_some, table_by}
 use Rattle.at_cache.proofs.Shown.{entry_at, first_at, slot_taken}
 

@@ -133,7 +133,8 @@ cast_ahead (a ∷ b ∷ ts) h =
     record { text = a.text; at = a.at; close = b.at; rest = ts; begins = (λ i. name.0 i ∷ shut i ∷ ts); named = name.1; follows = two.1 }
 
 -- an expression in parentheses makes no cast
-no_cast : (test : Bool) (size : ℕ) → OneBehind size → (at : Place) (e : Expr) (one close rest : Row) → casts one ≡ test → length one < size → Spells e one close → close ≡ sign (codes ")") at ∷ rest → reach rest ≤ 9
+no_cast : (test : Bool) (size : ℕ) → OneBehind size → (at : Place) (e : Expr) (one close rest : Row) → casts one ≡ test
+    → length one < size → Spells e one close → close ≡ sign (codes ")") at ∷ rest → reach rest ≤ 9
     → test ≡ false
 no_cast false size behind at e one close rest is short p c h = refl
 no_cast true size behind at e one close rest is short p c h =
@@ -167,7 +168,8 @@ made size behind (syntax.Negate at e) old rest short h none l (one, p, plain, po
     front_at NegateFront _ old rest (ap front p ∙ ap (λ x. cond x NumberFront NegateFront) plain) (at, e, refl, (one, p, plain, post, q))
 made size behind (syntax.Not at e) old rest short h none l (one, p, post, q) = front_at NotFront _ old rest (ap front p) (at, e, refl, (one, p, post, q))
 made size behind (syntax.Cast at class e) old rest short h none l (named, close, one, p, n, c, f, post, q) =
-    front_at CastFront _ old rest (ap front p ∙ ap (λ row. cond (casts row) CastFront ParenFront) (n.1 ∙ ap (λ row. word class.text class.at ∷ row) c.1) ∙ (λ i. cond (n.0 i && f i) CastFront ParenFront))
+    front_at CastFront _ old rest (ap front p ∙ ap (λ row. cond (casts row) CastFront ParenFront)
+        (n.1 ∙ ap (λ row. word class.text class.at ∷ row) c.1) ∙ (λ i. cond (n.0 i && f i) CastFront ParenFront))
     (at, class, e, refl, (named, close, one, p, n, c, f, post, q))
 made size behind (syntax.InstanceOf at e behind' class) old rest short h none l p = absurd (omega (arith, h))
 made size behind (syntax.Binary at o between a b) old rest short h none l p = absurd (omega (arith, h, (operator_facts o between).level))

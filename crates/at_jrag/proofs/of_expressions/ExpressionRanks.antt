@@ -73,16 +73,21 @@ later_by false q r e h differ = absurd (differ (let n = ltb-false q r e in omega
 later : (q r : ℕ) → q ≤ r → (q ≡ r → ⊥) → suc q ≤ r
 later q r h differ = later_by (nat_lt q r) q r refl h differ
 
-linked_at : (x : Bool) (q r n : ℕ) (old rest : Row) → q == r ≡ x → (q ≡ r → Goes (Binary (suc r)) (λ b. Links r b ∷ []) n old rest) → (suc q ≤ r → Goes (Binary (suc r)) (λ b. Links r b ∷ []) n old rest) → q ≤ r → Goes (Binary (suc r)) (λ b. Links r b ∷ []) n old rest
+linked_at : (x : Bool) (q r n : ℕ) (old rest : Row) → q == r ≡ x → (q ≡ r → Goes (Binary (suc r)) (λ b. Links r b ∷ [])
+    n old rest) → (suc q ≤ r → Goes (Binary (suc r)) (λ b. Links r b ∷ []) n old rest) → q ≤ r
+    → Goes (Binary (suc r)) (λ b. Links r b ∷ []) n old rest
 linked_at true q r n old rest e g more h = g (eqb-true q r e)
 linked_at false q r n old rest e g more h = more (later q r h (λ s. absurd (let c : true ≡ false = sym (eq-eqb q r s) ∙ e in cc)))
 
-linked_from : (q n : ℕ) (old rest : Row) → (Ends q (first rest) → Goes (Binary (suc q)) (λ b. Links q b ∷ []) n old rest) → (r : ℕ) → q ≤ r → Ends r (first rest) → Goes (Binary (suc r)) (λ b. Links r b ∷ []) n old rest
+linked_from : (q n : ℕ) (old rest : Row) → (Ends q (first rest) → Goes (Binary (suc q)) (λ b. Links q b ∷ []) n old
+    rest) → (r : ℕ) → q ≤ r → Ends r (first rest) → Goes (Binary (suc r)) (λ b. Links r b ∷ []) n old rest
 linked_from q n old rest g zero h e = let z : q ≡ 0 = omega (arith, h) in subst (λ (k : ℕ). (Ends k (first rest) → Goes (Binary (suc k)) (λ b. Links k b ∷ []) n old rest)) z g e
 linked_from q n old rest g (suc r) h e = linked_at (q == suc r) q (suc r) n old rest refl (λ z. subst (λ (k : ℕ). (Ends k (first rest) → Goes (Binary (suc k)) (λ b. Links k b ∷ []) n old rest)) z g e)
     (λ s. up (suc r) n old rest (climb r n old rest e (linked_from q n old rest g r (omega (arith, s)) (ends_down r (first rest) e)))) h
 
-whole_at : (level q n : ℕ) (old rest : Row) → level + suc q ≡ 7 → (Ends q (first rest) → Goes (Binary (suc q)) (λ b. Links q b ∷ []) n old rest) → (r : ℕ) → 7 ≤ level + r → Ends r (first rest) → Goes (Binary r) (λ b. []) n old rest
+whole_at : (level q n : ℕ) (old rest : Row) → level + suc q ≡ 7
+    → (Ends q (first rest) → Goes (Binary (suc q)) (λ b. Links q b ∷ []) n old rest) → (r : ℕ) → 7 ≤ level + r
+    → Ends r (first rest) → Goes (Binary r) (λ b. []) n old rest
 whole_at level q n old rest at g zero h e = absurd (omega (arith, at, h))
 whole_at level q n old rest at g (suc r) h e = climb r n old rest e (linked_from q n old rest g r (omega (arith, at, h)) (ends_down r (first rest) e))
 

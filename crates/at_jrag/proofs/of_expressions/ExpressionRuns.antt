@@ -79,24 +79,30 @@ not_goes at n old one rest some e g l b f ws d =
     ∙ g l (b - 1) (λ h. omega (arith, f h)) (Deeper ∷ ws) 0
     ∙ run-skips l table Deeper ws n (1 + n) rest refl
 
-pub minus_goes : (at : Place) (n : ℕ) (old one rest : Row) → 1 ≤ n → old ≡ sign (codes "-") at ∷ one → next is_number (first one) ≡ false → Goes Unary (λ b. []) n one rest → Goes Unary (λ b. []) (1 + n) old rest
+pub minus_goes : (at : Place) (n : ℕ) (old one rest : Row) → 1 ≤ n → old ≡ sign (codes "-") at ∷ one
+    → next is_number (first one) ≡ false → Goes Unary (λ b. []) n one rest → Goes Unary (λ b. []) (1 + n) old rest
 unfolding table
 minus_goes at n old one rest some e none g l b f ws d =
     ap (run l table (Unary b ∷ ws) d) e
     ∙ run-takes l table (Unary b) (nat_lt 0 b) (Minus b ∷ []) ws d 0 (sign (codes "-") at) one refl (λ h. lt-ltb 0 b (omega (arith, some, f h)))
     ∙ run-begins l table (Minus b) (Unary (b - 1)) (Deeper ∷ []) ws 0 one
-    (ap (λ x. cond x (cond (next (is_number_within 2147483648) (first one)) (Takes true (Calls b ∷ []) 1) Refuses) (and_then (unary_answer (b - 1) (first one)) (Deeper ∷ []))) none) (unary_stays (b - 1) (first one))
+    (ap (λ x. cond x (cond (next (is_number_within 2147483648) (first one)) (Takes true (Calls b ∷ []) 1) Refuses)
+        (and_then (unary_answer (b - 1) (first one)) (Deeper ∷ []))) none) (unary_stays (b - 1) (first one))
     ∙ g l (b - 1) (λ h. omega (arith, f h)) (Deeper ∷ ws) 0
     ∙ run-skips l table Deeper ws n (1 + n) rest refl
 
-pub negative_goes : (at digits_at : Place) (digits : List ℕ) (old rest : Row) → old ≡ sign (codes "-") at ∷ number digits digits_at ∷ rest → is_number_within 2147483648 (number digits digits_at) ≡ true → Goes Unary (λ b. Calls b ∷ []) 1 old rest
+pub negative_goes : (at digits_at : Place) (digits : List ℕ) (old rest : Row)
+    → old ≡ sign (codes "-") at ∷ number digits digits_at ∷ rest
+    → is_number_within 2147483648 (number digits digits_at) ≡ true → Goes Unary (λ b. Calls b ∷ []) 1 old rest
 unfolding table
 negative_goes at digits_at digits old rest e is l b f ws d =
     ap (run l table (Unary b ∷ ws) d) e
     ∙ run-takes l table (Unary b) (nat_lt 0 b) (Minus b ∷ []) ws d 0 (sign (codes "-") at) (number digits digits_at ∷ rest) refl (λ h. lt-ltb 0 b (omega (arith, f h)))
     ∙ run-takes l table (Minus b) true (Calls b ∷ []) ws 0 1 (number digits digits_at) rest (ap (λ x. cond x (Takes true (Calls b ∷ []) 1) Refuses) is) (λ h. refl)
 
-pub cast_goes : (at name_at close_at : Place) (text : List ℕ) (n : ℕ) (old one rest : Row) → 1 ≤ n → old ≡ sign (codes "(") at ∷ word text name_at ∷ sign (codes ")") close_at ∷ one → is_name text ≡ true → next follows_cast (first one) ≡ true
+pub cast_goes : (at name_at close_at : Place) (text : List ℕ) (n : ℕ) (old one rest : Row) → 1 ≤ n
+    → old ≡ sign (codes "(") at ∷ word text name_at ∷ sign (codes ")") close_at ∷ one → is_name text ≡ true
+    → next follows_cast (first one) ≡ true
     → Goes Unary (λ b. []) n one rest → Goes Unary (λ b. []) (1 + n) old rest
 unfolding table
 cast_goes at name_at close_at text n old one rest some e is follows g l b f ws d =
@@ -104,9 +110,13 @@ cast_goes at name_at close_at text n old one rest some e is follows g l b f ws d
     ap (run l table (Unary b ∷ ws) d) e
     ∙ run-takes l table (Unary b) (nat_lt 1 b) (Opened b ∷ []) ws d 0 (sign (codes "(") at) (t ∷ sign (codes ")") close_at ∷ one) refl (λ h. lt-ltb 1 b (omega (arith, some, f h)))
     ∙ run-takes l table (Opened b) (nat_lt 0 (b - 1)) (Enclosed (is_get_child t) b ∷ []) ws 0 0 t (sign (codes ")") close_at ∷ one)
-    (ap (λ x. cond x (Takes (nat_lt 0 (b - 1)) (Enclosed (is_get_child t) b ∷ []) 0) (and_then (expression_answer (b - 1) (Some t)) (Mark (codes ")") ∷ Deeper ∷ Calls b ∷ []))) is) (λ h. lt-ltb 0 (b - 1) (omega (arith, some, f h)))
+    (ap (λ x. cond x (Takes (nat_lt 0 (b - 1)) (Enclosed (is_get_child t) b ∷ []) 0)
+        (and_then (expression_answer (b - 1) (Some t)) (Mark (codes ")") ∷ Deeper ∷ Calls b ∷ []))) is)
+        (λ h. lt-ltb 0 (b - 1) (omega (arith, some, f h)))
     ∙ run-takes l table (Enclosed (is_get_child t) b) true (Parenthesized b ∷ []) ws 0 2 (sign (codes ")") close_at) one refl (λ h. refl)
-    ∙ run-begins l table (Parenthesized b) (Unary (b - 1)) (Deeper ∷ []) ws 2 one (ap (λ x. cond x (and_then (unary_answer (b - 1) (first one)) (Deeper ∷ [])) (on (next (is_sign (codes ".")) (first one)) (Takes (nat_lt 2 b) (Called (b - 1) ∷ Join 2 ∷ Calls b ∷ []) 0) (Skips 2))) follows) (unary_stays (b - 1) (first one))
+    ∙ run-begins l table (Parenthesized b) (Unary (b - 1)) (Deeper ∷ []) ws 2 one (ap (λ x. cond x
+        (and_then (unary_answer (b - 1) (first one)) (Deeper ∷ [])) (on (next (is_sign (codes ".")) (first one)) (Takes
+        (nat_lt 2 b) (Called (b - 1) ∷ Join 2 ∷ Calls b ∷ []) 0) (Skips 2))) follows) (unary_stays (b - 1) (first one))
     ∙ g l (b - 1) (λ h. omega (arith, f h)) (Deeper ∷ ws) 2
     ∙ run-skips l table Deeper ws n (1 + n) rest refl
 
@@ -120,31 +130,39 @@ and_true : (a b : Bool) → a ≡ true → a && b ≡ b
 and_true true b e = refl
 and_true false b e = absurd cc
 
-no_cast_at : (at : Place) (t c : PlacedToken) (rest : Row) → opens_cast (sign (codes "(") at ∷ t ∷ c ∷ rest) ≡ false → is_name_token t ≡ true → is_sign (codes ")") c ≡ true → next follows_cast (first rest) ≡ false
+no_cast_at : (at : Place) (t c : PlacedToken) (rest : Row) → opens_cast (sign (codes "(") at ∷ t ∷ c ∷ rest) ≡ false
+    → is_name_token t ≡ true → is_sign (codes ")") c ≡ true → next follows_cast (first rest) ≡ false
 no_cast_at at t c [] none named closes = refl
-no_cast_at at t c (d ∷ rest) none named closes = sym (and_true (is_sign (codes ")") c) (follows_cast d) closes) ∙ sym (and_true (is_name_token t) (is_sign (codes ")") c && follows_cast d) named) ∙ none
+no_cast_at at t c (d ∷ rest) none named closes = sym (and_true (is_sign (codes ")") c) (follows_cast d) closes)
+    ∙ sym (and_true (is_name_token t) (is_sign (codes ")") c && follows_cast d) named) ∙ none
 
 -- where the reader sees no cast
 pub no_cast : (old : Row) → opens_cast old ≡ false → NoCastBehind old
 no_cast old none at one e t c rest f named closes = no_cast_at at t c rest (sym (ap opens_cast (e ∙ ap (λ r. sign (codes "(") at ∷ r) f)) ∙ none) named closes
 
-paren_unary : (l : Bool) (b : ℕ) (ws : List Want) (d : ℕ) (at : Place) (one : Row) → NoCast one → run l table (Unary b ∷ ws) d (sign (codes "(") at ∷ one) ≡ run l table (Primary b ∷ Calls b ∷ ws) d (sign (codes "(") at ∷ one)
+paren_unary : (l : Bool) (b : ℕ) (ws : List Want) (d : ℕ) (at : Place) (one : Row) → NoCast one → run l table
+    (Unary b ∷ ws) d (sign (codes "(") at ∷ one) ≡ run l table (Primary b ∷ Calls b ∷ ws) d (sign (codes "(") at ∷ one)
 unfolding table
 paren_unary l b ws d at one none =
     run-acts l (Unary b) ws d (sign (codes "(") at ∷ one)
     ∙ takes_alike (nat_lt 1 b || not l) l (Opened b ∷ ws) (Expression (b - 1) ∷ Mark (codes ")") ∷ Deeper ∷ Calls b ∷ ws) 0 (sign (codes "(") at) one (opened l b ws 0 one none)
     ∙ sym (run-acts l (Primary b) (Calls b ∷ ws) d (sign (codes "(") at ∷ one))
 
-plain_unary : (l : Bool) (b : ℕ) (ws : List Want) (d : ℕ) (old : Row) → next (is_sign (codes "-")) (first old) ≡ false → next (is_sign (codes "!")) (first old) ≡ false → next (is_sign (codes "(")) (first old) ≡ false
+plain_unary : (l : Bool) (b : ℕ) (ws : List Want) (d : ℕ) (old : Row) → next (is_sign (codes "-")) (first old) ≡ false
+    → next (is_sign (codes "!")) (first old) ≡ false → next (is_sign (codes "(")) (first old) ≡ false
     → run l table (Unary b ∷ ws) d old ≡ run l table (Primary b ∷ Calls b ∷ ws) d old
 unfolding table
 plain_unary l b ws d old m n p = run-begins l table (Unary b) (Primary b) (Calls b ∷ []) ws d old
-    (ap (λ x. cond x (Takes (nat_lt 0 b) (Minus b ∷ []) 0) (cond (next (is_sign (codes "!")) (first old)) (Takes (nat_lt 1 b) (Unary (b - 1) ∷ Deeper ∷ []) 0) (cond (next (is_sign (codes "(")) (first old)) (Takes (nat_lt 1 b) (Opened b ∷ []) 0) (and_then (primary_answer b (first old)) (Calls b ∷ []))))) m
-    ∙ ap (λ x. cond x (Takes (nat_lt 1 b) (Unary (b - 1) ∷ Deeper ∷ []) 0) (cond (next (is_sign (codes "(")) (first old)) (Takes (nat_lt 1 b) (Opened b ∷ []) 0) (and_then (primary_answer b (first old)) (Calls b ∷ [])))) n
+    (ap (λ x. cond x (Takes (nat_lt 0 b) (Minus b ∷ []) 0) (cond (next (is_sign (codes "!")) (first old))
+        (Takes (nat_lt 1 b) (Unary (b - 1) ∷ Deeper ∷ []) 0) (cond (next (is_sign (codes "(")) (first old))
+        (Takes (nat_lt 1 b) (Opened b ∷ []) 0) (and_then (primary_answer b (first old)) (Calls b ∷ []))))) m
+    ∙ ap (λ x. cond x (Takes (nat_lt 1 b) (Unary (b - 1) ∷ Deeper ∷ []) 0) (cond (next (is_sign (codes "("))
+        (first old)) (Takes (nat_lt 1 b) (Opened b ∷ []) 0) (and_then (primary_answer b (first old)) (Calls b ∷ [])))) n
     ∙ ap (λ x. cond x (Takes (nat_lt 1 b) (Opened b ∷ []) 0) (and_then (primary_answer b (first old)) (Calls b ∷ []))) p)
     (primary_stays b (first old))
 
-unary_at : (x l : Bool) (b : ℕ) (ws : List Want) (d : ℕ) (t : PlacedToken) (one : Row) → is_sign (codes "(") t ≡ x → is_sign (codes "-") t ≡ false → is_sign (codes "!") t ≡ false → NoCastBehind (t ∷ one)
+unary_at : (x l : Bool) (b : ℕ) (ws : List Want) (d : ℕ) (t : PlacedToken) (one : Row) → is_sign (codes "(") t ≡ x
+    → is_sign (codes "-") t ≡ false → is_sign (codes "!") t ≡ false → NoCastBehind (t ∷ one)
     → run l table (Unary b ∷ ws) d (t ∷ one) ≡ run l table (Primary b ∷ Calls b ∷ ws) d (t ∷ one)
 unary_at false l b ws d t one e m n none = plain_unary l b ws d (t ∷ one) m n e
 unary_at true l b ws d t one e m n none =
@@ -167,7 +185,8 @@ call_moves dot_at name_at text m n old paren rest e is g l b f ws =
     let t = word text name_at in
     ap (run l table (Calls b ∷ ws) m) e
     ∙ run-takes l table (Calls b) (nat_lt m b) (Called (b - 1) ∷ Join m ∷ Calls b ∷ []) ws m 0 (sign (codes ".") dot_at) (t ∷ paren) refl (λ h. lt-ltb m b (omega (arith, f h)))
-    ∙ run-takes l table (Called (b - 1)) true (Arguments (is_get_child t) (b - 1) ∷ []) (Join m ∷ Calls b ∷ ws) 0 0 t paren (ap (λ x. cond x (Takes true (Arguments (is_get_child t) (b - 1) ∷ []) 0) Refuses) is) (λ h. refl)
+    ∙ run-takes l table (Called (b - 1)) true (Arguments (is_get_child t) (b - 1) ∷ []) (Join m ∷ Calls b ∷ ws) 0 0 t
+        paren (ap (λ x. cond x (Takes true (Arguments (is_get_child t) (b - 1) ∷ []) 0) Refuses) is) (λ h. refl)
     ∙ g l (b - 1) (λ h. omega (arith, f h)) (Join m ∷ Calls b ∷ ws) 0
     ∙ run-skips l table (Join m) (Calls b ∷ ws) n (1 + max m n) rest refl
 
@@ -178,7 +197,8 @@ calls_end n rest e l b f ws = run-skips l table (Calls b) ws n n rest (ap (λ x.
 
 -- ---- arguments
 
-pub arguments_go : (g : Bool) (at : Place) (n : ℕ) (paren list rest : Row) → paren ≡ sign (codes "(") at ∷ list → Goes (FirstArgument g) (λ b. []) n list rest → Goes (Arguments g) (λ b. []) n paren rest
+pub arguments_go : (g : Bool) (at : Place) (n : ℕ) (paren list rest : Row) → paren ≡ sign (codes "(") at ∷ list
+    → Goes (FirstArgument g) (λ b. []) n list rest → Goes (Arguments g) (λ b. []) n paren rest
 unfolding table
 arguments_go g at n paren list rest e a l b f ws d =
     ap (run l table (Arguments g b ∷ ws) d) e
@@ -204,7 +224,8 @@ pub more_none : (at : Place) (n : ℕ) (more rest : Row) → more ≡ sign (code
 unfolding table
 more_none at n more rest e l b f ws = ap (run l table (MoreArguments b ∷ ws) n) e ∙ run-takes l table (MoreArguments b) true [] ws n n (sign (codes ")") at) rest refl (λ h. refl)
 
-pub more_moves : (at : Place) (m n : ℕ) (old one mid : Row) → old ≡ sign (codes ",") at ∷ one → Goes Expression (λ b. []) n one mid → Moves (λ b. MoreArguments b ∷ []) (λ b. MoreArguments b ∷ []) m (max m n) old mid
+pub more_moves : (at : Place) (m n : ℕ) (old one mid : Row) → old ≡ sign (codes ",") at ∷ one → Goes Expression
+    (λ b. []) n one mid → Moves (λ b. MoreArguments b ∷ []) (λ b. MoreArguments b ∷ []) m (max m n) old mid
 unfolding table
 more_moves at m n old one mid e g l b f ws =
     ap (run l table (MoreArguments b ∷ ws) m) e
@@ -224,9 +245,12 @@ literal_goes t old rest e is l b f ws d =
     ap (run l table (Primary b ∷ ws) d) e
     ∙ run-takes l table (Primary b) (nat_lt 0 b) [] ws d 1 t rest (cond_true (is_literal t) (Takes (nat_lt 0 b) [] 1) _ is) (λ h. lt-ltb 0 b (omega (arith, f h)))
 
-pub named_taken : (l : Bool) (b : ℕ) (ws : List Want) (d : ℕ) (text : List ℕ) (at : Place) (mid : Row) → is_name text ≡ true → (l ≡ true → 1 ≤ b) → run l table (Primary b ∷ ws) d (word text at ∷ mid) ≡ run l table (Named (is_get_child (word text at)) b ∷ ws) 0 mid
+pub named_taken : (l : Bool) (b : ℕ) (ws : List Want) (d : ℕ) (text : List ℕ) (at : Place) (mid : Row)
+    → is_name text ≡ true → (l ≡ true → 1 ≤ b) → run l table (Primary b ∷ ws) d (word text at ∷ mid)
+    ≡ run l table (Named (is_get_child (word text at)) b ∷ ws) 0 mid
 unfolding table
-named_taken l b ws d text at mid is f = run-takes l table (Primary b) (nat_lt 0 b) (Named (is_get_child (word text at)) b ∷ []) ws d 0 (word text at) mid (name_primary b text at is) (λ h. lt-ltb 0 b (omega (arith, f h)))
+named_taken l b ws d text at mid is f = run-takes l table (Primary b) (nat_lt 0 b) (Named (is_get_child (word text at))
+    b ∷ []) ws d 0 (word text at) mid (name_primary b text at is) (λ h. lt-ltb 0 b (omega (arith, f h)))
 
 pub name_goes : (text : List ℕ) (at : Place) (old rest : Row) → old ≡ word text at ∷ rest → is_name text ≡ true → next (is_sign (codes "(")) (first rest) ≡ false → Goes Primary (λ b. []) 1 old rest
 unfolding table
@@ -246,7 +270,9 @@ call_goes text at paren_at n old list rest e is g l b f ws d =
     ∙ g l (b - 1) (λ h. omega (arith, f h)) (Deeper ∷ ws) 0
     ∙ run-skips l table Deeper ws n (1 + n) rest refl
 
-pub paren_goes : (at close_at : Place) (n : ℕ) (old one close rest : Row) → 1 ≤ n → old ≡ sign (codes "(") at ∷ one → Goes Expression (λ b. []) n one close → close ≡ sign (codes ")") close_at ∷ rest → Goes Primary (λ b. []) (1 + n) old rest
+pub paren_goes : (at close_at : Place) (n : ℕ) (old one close rest : Row) → 1 ≤ n → old ≡ sign (codes "(") at ∷ one
+    → Goes Expression (λ b. []) n one close → close ≡ sign (codes ")") close_at ∷ rest
+    → Goes Primary (λ b. []) (1 + n) old rest
 unfolding table
 paren_goes at close_at n old one close rest some e g c l b f ws d =
     ap (run l table (Primary b ∷ ws) d) e
@@ -256,7 +282,9 @@ paren_goes at close_at n old one close rest some e g c l b f ws d =
     ∙ run-takes l table (Mark (codes ")")) true [] (Deeper ∷ ws) n n (sign (codes ")") close_at) rest refl (λ h. refl)
     ∙ run-skips l table Deeper ws n (1 + n) rest refl
 
-pub fold_taken : (form : FoldForm) (at : Place) (b : ℕ) → primary_answer b (Some (word (fold_text form) at)) ≡ Takes (nat_lt 1 b) (Mark (codes "(") ∷ Name ∷ Mark (codes ":") ∷ Primary (b - 1) ∷ Calls (b - 1) ∷ Mark (codes ")") ∷ FoldBody b ∷ []) 0
+pub fold_taken : (form : FoldForm) (at : Place) (b : ℕ)
+    → primary_answer b (Some (word (fold_text form) at)) ≡ Takes (nat_lt 1 b) (Mark (codes "(") ∷ Name ∷ Mark
+    (codes ":") ∷ Primary (b - 1) ∷ Calls (b - 1) ∷ Mark (codes ")") ∷ FoldBody b ∷ []) 0
 fold_taken syntax.Exists at b = refl
 fold_taken syntax.First at b = refl
 fold_taken syntax.Sum at b = refl
@@ -271,8 +299,12 @@ fold_goes form at paren_at name_at colon_at close_at brace_at end_at text m n ol
     ap (run l table (Primary b ∷ ws) d) e
     ∙ run-takes l table (Primary b) (nat_lt 1 b) (Mark (codes "(") ∷ Name ∷ Mark (codes ":") ∷ Primary (b - 1) ∷ Calls (b - 1) ∷ Mark (codes ")") ∷ FoldBody b ∷ []) ws d 0 (word (fold_text form) at)
     (sign (codes "(") paren_at ∷ word text name_at ∷ sign (codes ":") colon_at ∷ items) (fold_taken form at b) (λ h. lt-ltb 1 b (omega (arith, some, f h)))
-    ∙ run-takes l table (Mark (codes "(")) true [] (Name ∷ Mark (codes ":") ∷ Primary (b - 1) ∷ Calls (b - 1) ∷ Mark (codes ")") ∷ tail) 0 0 (sign (codes "(") paren_at) (word text name_at ∷ sign (codes ":") colon_at ∷ items) refl (λ h. refl)
-    ∙ run-takes l table Name true [] (Mark (codes ":") ∷ Primary (b - 1) ∷ Calls (b - 1) ∷ Mark (codes ")") ∷ tail) 0 0 (word text name_at) (sign (codes ":") colon_at ∷ items) (ap (λ x. cond x (Takes true [] 0) Refuses) is) (λ h. refl)
+    ∙ run-takes l table (Mark (codes "(")) true []
+        (Name ∷ Mark (codes ":") ∷ Primary (b - 1) ∷ Calls (b - 1) ∷ Mark (codes ")") ∷ tail) 0 0
+        (sign (codes "(") paren_at) (word text name_at ∷ sign (codes ":") colon_at ∷ items) refl (λ h. refl)
+    ∙ run-takes l table Name true [] (Mark (codes ":") ∷ Primary (b - 1) ∷ Calls (b - 1) ∷ Mark (codes ")") ∷ tail) 0
+        0 (word text name_at) (sign (codes ":") colon_at ∷ items)
+        (ap (λ x. cond x (Takes true [] 0) Refuses) is) (λ h. refl)
     ∙ run-takes l table (Mark (codes ":")) true [] (Primary (b - 1) ∷ Calls (b - 1) ∷ Mark (codes ")") ∷ tail) 0 0 (sign (codes ":") colon_at) items refl (λ h. refl)
     ∙ p l (b - 1) (λ h. omega (arith, f h)) (Mark (codes ")") ∷ tail) 0
     ∙ ap (run l table (Mark (codes ")") ∷ tail) m) c

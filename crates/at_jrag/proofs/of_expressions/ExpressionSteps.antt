@@ -67,7 +67,8 @@ acts-then l Refuses us ws (s ∷ ss) h = refl
 acts-then l LeavesOut us ws [] h = refl
 acts-then l LeavesOut us ws (s ∷ ss) h = refl
 
-acts-else : (l : Bool) (a : Answer Want) (us ws : List Want) (f : ℕ → Answer Want) (ss : Row) → ((e : ℕ) → acts l (f e) ws ss ≡ run l table (us ++ ws) e ss) → acts l (or_else a us f) ws ss ≡ acts l a (us ++ ws) ss
+acts-else : (l : Bool) (a : Answer Want) (us ws : List Want) (f : ℕ → Answer Want) (ss : Row) → ((e : ℕ)
+    → acts l (f e) ws ss ≡ run l table (us ++ ws) e ss) → acts l (or_else a us f) ws ss ≡ acts l a (us ++ ws) ss
 acts-else l (Takes within more d) us ws f [] h = refl
 acts-else l (Takes within more d) us ws f (s ∷ ss) h = ap (λ x. goes_on l table (cond (within || not l) (Goes x d) (Halts TooDeep)) s ss) (append_assoc more us ws)
 acts-else l (Skips d) us ws f ss h = h d ∙ sym (acts-skips l d (us ++ ws) ss)
@@ -76,7 +77,9 @@ acts-else l Refuses us ws f (s ∷ ss) h = refl
 acts-else l LeavesOut us ws f [] h = refl
 acts-else l LeavesOut us ws f (s ∷ ss) h = refl
 
-or_else_goes : (l : Bool) (w : Want) (us ws : List Want) (d : ℕ) (f : ℕ → Answer Want) (ss : Row) → ((e : ℕ) → acts l (f e) ws ss ≡ run l table (us ++ ws) e ss) → acts l (or_else (table w d (first ss)) us f) ws ss ≡ run l table (w ∷ (us ++ ws)) d ss
+or_else_goes : (l : Bool) (w : Want) (us ws : List Want) (d : ℕ) (f : ℕ → Answer Want) (ss : Row)
+    → ((e : ℕ) → acts l (f e) ws ss ≡ run l table (us ++ ws) e ss)
+    → acts l (or_else (table w d (first ss)) us f) ws ss ≡ run l table (w ∷ (us ++ ws)) d ss
 or_else_goes l w us ws d f ss h = acts-else l (table w d (first ss)) us ws f ss h ∙ sym (run-acts l w (us ++ ws) d ss)
 
 -- operators of each rank below this, and what is wanted behind them
@@ -101,7 +104,8 @@ then_stays Refuses ws = refl
 then_stays LeavesOut ws = refl
 
 pub unary_stays : (b : ℕ) (s : Option PlacedToken) → is_skip (unary_answer b s) ≡ false
-unary_stays b s = on_stays (next (is_sign (codes "-")) s) _ _ refl (on_stays (next (is_sign (codes "!")) s) _ _ refl (on_stays (next (is_sign (codes "(")) s) _ _ refl (then_stays (primary_answer b s) (Calls b ∷ []))))
+unary_stays b s = on_stays (next (is_sign (codes "-")) s) _ _ refl (on_stays (next (is_sign (codes "!")) s) _ _ refl
+    (on_stays (next (is_sign (codes "(")) s) _ _ refl (then_stays (primary_answer b s) (Calls b ∷ []))))
 
 pub primary_stays : (b : ℕ) (s : Option PlacedToken) → is_skip (primary_answer b s) ≡ false
 primary_stays b None = refl
@@ -138,7 +142,9 @@ enclosed_goes : (l g : Bool) (b d : ℕ) (ws : List Want) (ss : Row) → next (i
 unfolding table
 enclosed_goes l g b d ws ss none =
     let behind = Choice b ∷ Mark (codes ")") ∷ [] in
-    or_else_goes l (Named g b) (Calls b ∷ (links_from 6 b ++ behind)) ws d (λ e. or_else (calls_answer b e (first ss)) (links_from 6 b ++ behind) (λ x. tails_answer 6 b behind (λ y. or_else (choice_answer b y (first ss)) (Mark (codes ")") ∷ []) (λ z. Refuses)) x (first ss))) ss
+    or_else_goes l (Named g b) (Calls b ∷ (links_from 6 b ++ behind)) ws d
+        (λ e. or_else (calls_answer b e (first ss)) (links_from 6 b ++ behind) (λ x. tails_answer 6 b behind
+        (λ y. or_else (choice_answer b y (first ss)) (Mark (codes ")") ∷ []) (λ z. Refuses)) x (first ss))) ss
     (λ e. or_else_goes l (Calls b) (links_from 6 b ++ behind) ws e (λ x. tails_answer 6 b behind (λ y. or_else (choice_answer b y (first ss)) (Mark (codes ")") ∷ []) (λ z. Refuses)) x (first ss)) ss
     (λ x. tails_go l 6 b behind ws (λ y. or_else (choice_answer b y (first ss)) (Mark (codes ")") ∷ []) (λ z. Refuses)) x ss
     (λ y. or_else_goes l (Choice b) (Mark (codes ")") ∷ []) ws y (λ z. Refuses) ss (λ z. mark_refuses l (codes ")") ws z ss none))))
@@ -186,7 +192,8 @@ name_alone l g b d ws at rest =
     ∙ run-takes l table (Mark (codes ")")) true [] (Deeper ∷ ws) 1 1 (sign (codes ")") at) rest refl (λ h. refl)
     ∙ run-skips l table Deeper ws 1 2 rest refl
 
-enclosed_alone : (l g : Bool) (b : ℕ) (ws : List Want) (at : Place) (rest : Row) → next follows_cast (first rest) ≡ false → run l table (Enclosed g b ∷ ws) 0 (sign (codes ")") at ∷ rest) ≡ run l table (Calls b ∷ ws) 2 rest
+enclosed_alone : (l g : Bool) (b : ℕ) (ws : List Want) (at : Place) (rest : Row) → next follows_cast (first rest)
+    ≡ false → run l table (Enclosed g b ∷ ws) 0 (sign (codes ")") at ∷ rest) ≡ run l table (Calls b ∷ ws) 2 rest
 unfolding table
 enclosed_alone l g b ws at rest h =
     run-takes l table (Enclosed g b) true (Parenthesized b ∷ []) ws 0 2 (sign (codes ")") at) rest refl (λ h. refl)
@@ -195,7 +202,8 @@ enclosed_alone l g b ws at rest h =
     ∙ sym (run-acts l (Calls b) ws 2 rest)
 
 -- behind `( NAME`, in both cases; where a `)` follows, nothing that makes a cast may stand behind it
-enclosed_either : (x l g : Bool) (b : ℕ) (ws : List Want) (ss : Row) → next (is_sign (codes ")")) (first ss) ≡ x → ((t : PlacedToken) (rest : Row) → ss ≡ t ∷ rest → is_sign (codes ")") t ≡ true → next follows_cast (first rest) ≡ false)
+enclosed_either : (x l g : Bool) (b : ℕ) (ws : List Want) (ss : Row) → next (is_sign (codes ")")) (first ss) ≡ x → ((t :
+    PlacedToken) (rest : Row) → ss ≡ t ∷ rest → is_sign (codes ")") t ≡ true → next follows_cast (first rest) ≡ false)
     → run l table (Enclosed g b ∷ ws) 0 ss ≡ run l table (within_parenthesis g (b - 1) (Deeper ∷ Calls b ∷ ws)) 0 ss
 unfolding table
 enclosed_either false l g b ws ss e h =
@@ -213,11 +221,18 @@ enclosed_either true l g b ws (t ∷ rest) e h =
 -- a name begins a primary
 pub name_primary : (b : ℕ) (text : List ℕ) (at : Place) → is_name text ≡ true → primary_answer b (Some (word text at)) ≡ Takes (nat_lt 0 b) (Named (is_get_child (word text at)) b ∷ []) 0
 name_primary b text at is =
-    ap (λ x. cond x (Takes (nat_lt 0 b) [] 1) (cond (begins_fold (word text at)) (Takes (nat_lt 1 b) (Mark (codes "(") ∷ Name ∷ Mark (codes ":") ∷ Primary (b - 1) ∷ Calls (b - 1) ∷ Mark (codes ")") ∷ FoldBody b ∷ []) 0) (cond (is_name text) (Takes (nat_lt 0 b) (Named (is_get_child (word text at)) b ∷ []) 0) Refuses))) (name_is_no_literal text at is)
-    ∙ ap (λ x. cond x (Takes (nat_lt 1 b) (Mark (codes "(") ∷ Name ∷ Mark (codes ":") ∷ Primary (b - 1) ∷ Calls (b - 1) ∷ Mark (codes ")") ∷ FoldBody b ∷ []) 0) (cond (is_name text) (Takes (nat_lt 0 b) (Named (is_get_child (word text at)) b ∷ []) 0) Refuses)) (name_begins_no_fold text at is)
+    ap (λ x. cond x (Takes (nat_lt 0 b) [] 1) (cond (begins_fold (word text at)) (Takes (nat_lt 1 b) (Mark
+        (codes "(") ∷ Name ∷ Mark (codes ":") ∷ Primary (b - 1) ∷ Calls (b - 1) ∷ Mark (codes ")") ∷ FoldBody b ∷ []) 0)
+        (cond (is_name text) (Takes (nat_lt 0 b) (Named (is_get_child (word text at)) b ∷ []) 0) Refuses)))
+        (name_is_no_literal text at is)
+    ∙ ap (λ x. cond x (Takes (nat_lt 1 b) (Mark (codes "(") ∷ Name ∷ Mark (codes ":") ∷ Primary (b - 1) ∷ Calls
+        (b - 1) ∷ Mark (codes ")") ∷ FoldBody b ∷ []) 0) (cond (is_name text)
+        (Takes (nat_lt 0 b) (Named (is_get_child (word text at)) b ∷ []) 0) Refuses)) (name_begins_no_fold text at is)
     ∙ ap (λ x. cond x (Takes (nat_lt 0 b) (Named (is_get_child (word text at)) b ∷ []) 0) Refuses) is
 
-pub takes_alike : (x l : Bool) (us vs : List Want) (e : ℕ) (s : PlacedToken) (ss : Row) → run l table us e ss ≡ run l table vs e ss → goes_on l table (cond x (Goes us e) (Halts TooDeep)) s ss ≡ goes_on l table (cond x (Goes vs e) (Halts TooDeep)) s ss
+pub takes_alike : (x l : Bool) (us vs : List Want) (e : ℕ) (s : PlacedToken) (ss : Row)
+    → run l table us e ss ≡ run l table vs e ss → goes_on l table (cond x (Goes us e) (Halts TooDeep)) s ss
+    ≡ goes_on l table (cond x (Goes vs e) (Halts TooDeep)) s ss
 takes_alike true l us vs e s ss h = h
 takes_alike false l us vs e s ss h = refl
 
@@ -231,11 +246,15 @@ unfolding table
 opened_name l b ws d text at ss is h =
     let t = word text at in
     run-acts l (Opened b) ws d (t ∷ ss)
-    ∙ ap (λ x. acts l (cond x (Takes (nat_lt 0 (b - 1)) (Enclosed (is_get_child t) b ∷ []) 0) (and_then (expression_answer (b - 1) (Some t)) (Mark (codes ")") ∷ Deeper ∷ Calls b ∷ []))) ws (t ∷ ss)) is
+    ∙ ap (λ x. acts l (cond x (Takes (nat_lt 0 (b - 1)) (Enclosed (is_get_child t) b ∷ []) 0)
+        (and_then (expression_answer (b - 1) (Some t)) (Mark (codes ")") ∷ Deeper ∷ Calls b ∷ []))) ws (t ∷ ss)) is
     ∙ takes_alike (nat_lt 0 (b - 1) || not l) l (Enclosed (is_get_child t) b ∷ ws) (within_parenthesis (is_get_child t) (b - 1) (Deeper ∷ Calls b ∷ ws)) 0 t ss
     (enclosed_either (next (is_sign (codes ")")) (first ss)) l (is_get_child t) b ws ss refl (λ c rest e f. h t c rest (ap (λ x. t ∷ x) e) is f))
     ∙ sym (run-acts l (Expression (b - 1)) (Mark (codes ")") ∷ Deeper ∷ Calls b ∷ ws) d (t ∷ ss)
-    ∙ ap (λ a. acts l (and_then (and_then (and_then (and_then (and_then (and_then (and_then (and_then a (Calls (b - 1) ∷ [])) (Links 0 (b - 1) ∷ [])) (Links 1 (b - 1) ∷ [])) (Links 2 (b - 1) ∷ [])) (Links 3 (b - 1) ∷ [])) (Links 4 (b - 1) ∷ [])) (Links 5 (b - 1) ∷ [])) (Choice (b - 1) ∷ [])) (Mark (codes ")") ∷ Deeper ∷ Calls b ∷ ws) (t ∷ ss)) (name_primary (b - 1) text at is))
+    ∙ ap (λ a. acts l (and_then (and_then (and_then (and_then
+        (and_then (and_then (and_then (and_then a (Calls (b - 1) ∷ [])) (Links 0 (b - 1) ∷ [])) (Links 1 (b - 1) ∷ []))
+        (Links 2 (b - 1) ∷ [])) (Links 3 (b - 1) ∷ [])) (Links 4 (b - 1) ∷ [])) (Links 5 (b - 1) ∷ []))
+        (Choice (b - 1) ∷ [])) (Mark (codes ")") ∷ Deeper ∷ Calls b ∷ ws) (t ∷ ss)) (name_primary (b - 1) text at is))
 
 opened_either : (x l : Bool) (b : ℕ) (ws : List Want) (d : ℕ) (t : PlacedToken) (ss : Row) → is_name_token t ≡ x → NoCast (t ∷ ss)
     → run l table (Opened b ∷ ws) d (t ∷ ss) ≡ run l table (Expression (b - 1) ∷ Mark (codes ")") ∷ Deeper ∷ Calls b ∷ ws) d (t ∷ ss)
@@ -251,7 +270,8 @@ opened_either true l b ws d t ss e h =
     ∙ opened_name l b ws d t.text t.at ss n.1 (subst (λ (x : PlacedToken). NoCast (x ∷ ss)) n.0 h)
     ∙ sym (ap (λ x. run l table (Expression (b - 1) ∷ Mark (codes ")") ∷ Deeper ∷ Calls b ∷ ws) d (x ∷ ss)) n.0)
 
-pub opened : (l : Bool) (b : ℕ) (ws : List Want) (d : ℕ) (one : Row) → NoCast one → run l table (Opened b ∷ ws) d one ≡ run l table (Expression (b - 1) ∷ Mark (codes ")") ∷ Deeper ∷ Calls b ∷ ws) d one
+pub opened : (l : Bool) (b : ℕ) (ws : List Want) (d : ℕ) (one : Row) → NoCast one → run l table (Opened b ∷ ws) d one
+    ≡ run l table (Expression (b - 1) ∷ Mark (codes ")") ∷ Deeper ∷ Calls b ∷ ws) d one
 unfolding table
 opened l b ws d [] h = run-ended l table (Opened b) ws d refl ∙ sym (run-ended l table (Expression (b - 1)) (Mark (codes ")") ∷ Deeper ∷ Calls b ∷ ws) d refl)
 opened l b ws d (t ∷ ss) h = opened_either (is_name_token t) l b ws d t ss refl h

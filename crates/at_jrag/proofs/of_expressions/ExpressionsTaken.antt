@@ -113,7 +113,9 @@ by_taken level n old rest low high t = record {
   whole = λ w. expression_of level n old rest low t w;
 }
 
-by_post : (level n : ℕ) (old rest : Row) → 1 ≤ level → (next follows_cast (first rest) ≡ false → Goes Unary (λ b. Calls b ∷ []) n old rest) → (next follows_cast (first rest) ≡ false → next (is_sign (codes "-")) (first old) ≡ false → PrimaryCalls n old rest) → Accepted level n old rest
+by_post : (level n : ℕ) (old rest : Row) → 1 ≤ level → (next follows_cast (first rest) ≡ false
+    → Goes Unary (λ b. Calls b ∷ []) n old rest) → (next follows_cast (first rest) ≡ false
+    → next (is_sign (codes "-")) (first old) ≡ false → PrimaryCalls n old rest) → Accepted level n old rest
 unfolding table
 by_post level n old rest low post primary =
     let t : Taken level n old rest = taken_unary level n old rest (λ e l b f ws d. run-same l table (Binary 0 b) (Unary b) ws d old refl ∙ post e.cast l b f ws d ∙ calls_end n rest e.dot l b f ws) in
@@ -125,7 +127,8 @@ by_post level n old rest low post primary =
     }
 
 -- a primary that begins with no sign
-by_primary : (level n : ℕ) (old rest : Row) → 1 ≤ level → next (is_sign (codes "-")) (first old) ≡ false → next (is_sign (codes "!")) (first old) ≡ false → (next follows_cast (first rest) ≡ false → NoCastBehind old)
+by_primary : (level n : ℕ) (old rest : Row) → 1 ≤ level → next (is_sign (codes "-")) (first old) ≡ false
+    → next (is_sign (codes "!")) (first old) ≡ false → (next follows_cast (first rest) ≡ false → NoCastBehind old)
     → (next follows_cast (first rest) ≡ false → Goes Primary (λ b. []) n old rest) → Accepted level n old rest
 by_primary level n old rest low m e none p = by_post level n old rest low
     (λ f l b g ws d. unary_is_primary l b ws d old m e (none f) ∙ p f l b g (Calls b ∷ ws) d)
@@ -164,7 +167,8 @@ deep (syntax.Choose at c behind a b) = omega arith
 deep (syntax.Fold at form name list body) = omega arith
 
 -- a literal of one token that is no sign
-literal_accepted : (t : PlacedToken) (old rest : Row) → old ≡ t ∷ rest → is_literal t ≡ true → is_sign (codes "-") t ≡ false → is_sign (codes "!") t ≡ false → is_sign (codes "(") t ≡ false → Accepted 8 1 old rest
+literal_accepted : (t : PlacedToken) (old rest : Row) → old ≡ t ∷ rest → is_literal t ≡ true → is_sign (codes "-") t
+    ≡ false → is_sign (codes "!") t ≡ false → is_sign (codes "(") t ≡ false → Accepted 8 1 old rest
 literal_accepted t old rest e is m n p = by_primary 8 1 old rest (omega arith) (ap (λ r. next (is_sign (codes "-")) (first r)) e ∙ m) (ap (λ r. next (is_sign (codes "!")) (first r)) e ∙ n)
     (λ f. no_paren old (ap (λ r. next (is_sign (codes "(")) (first r)) e ∙ p)) (λ f. literal_goes t old rest e is)
 
@@ -176,7 +180,8 @@ pub number_literal : (t : PlacedToken) → is_number_within 2147483647 t ≡ tru
 number_literal t e = or_first (is_number_within 2147483647 t) _ e
 
 number_accepted : (at : Place) (n : ℤ) (old rest : Row) → grammar.NumberOf at n old rest → Accepted 8 1 old rest
-number_accepted at n old rest (inl (m, small, is, e)) = literal_accepted (number (decimal m) at) old rest e (number_literal (number (decimal m) at) (number_is 2147483647 m at (omega arith) small)) refl refl refl
+number_accepted at n old rest (inl (m, small, is, e)) = literal_accepted (number (decimal m) at) old rest e
+    (number_literal (number (decimal m) at) (number_is 2147483647 m at (omega arith) small)) refl refl refl
 number_accepted at n old rest (inr (m, digits, small, is, e)) = by_post 8 1 old rest (omega arith)
     (λ f. negative_goes at digits (decimal m) old rest e (number_is 2147483648 m digits (omega arith) small))
     (λ f minus. absurd (let q : true ≡ false = sym (ap (λ r. next (is_sign (codes "-")) (first r)) e) ∙ minus in cc))
@@ -211,19 +216,26 @@ stuck_close : (n : ℕ) (at : Place) (rest : Row) → run false table [] n (sign
 unfolding run
 stuck_close n at rest = refl
 
-paren_is_no_cast : (at close_at : Place) (n : ℕ) (old one close rest : Row) → old ≡ sign (codes "(") at ∷ one → Goes Expression (λ b. []) n one close → close ≡ sign (codes ")") close_at ∷ rest → next follows_cast (first rest) ≡ false → NoCastBehind old
+paren_is_no_cast : (at close_at : Place) (n : ℕ) (old one close rest : Row) → old ≡ sign (codes "(") at ∷ one
+    → Goes Expression (λ b. []) n one close → close ≡ sign (codes ")") close_at ∷ rest
+    → next follows_cast (first rest) ≡ false → NoCastBehind old
 paren_is_no_cast at close_at n old one close rest e g c f at2 one2 e2 t u rest2 split named closes =
     let same : one ≡ one2 = tail_is _ _ one one2 (sym e ∙ e2) in
     let name = name_is t named in
     let shut = sign_is (codes ")") u closes in
-    let other = (name_accepted t.text t.at one2 (u ∷ rest2) (split ∙ ap (λ x. x ∷ u ∷ rest2) name.0) name.1).whole (whole_at (sign (codes ")") u.at) (u ∷ rest2) rest2 (ap (λ x. x ∷ rest2) shut) (close_ends u.at)) in
-    let left : run false table (Expression 0 ∷ []) 0 one ≡ Stuck Refused (sign (codes ")") close_at ∷ rest) = g false 0 (λ l. absurd cc) [] 0 ∙ ap (run false table [] n) c ∙ stuck_close n close_at rest in
-    let right : run false table (Expression 0 ∷ []) 0 one2 ≡ Stuck Refused (sign (codes ")") u.at ∷ rest2) = other false 0 (λ l. absurd cc) [] 0 ∙ ap (λ x. run false table [] 1 (x ∷ rest2)) shut ∙ stuck_close 1 u.at rest2 in
+    let other = (name_accepted t.text t.at one2 (u ∷ rest2) (split ∙ ap (λ x. x ∷ u ∷ rest2) name.0) name.1).whole
+        (whole_at (sign (codes ")") u.at) (u ∷ rest2) rest2 (ap (λ x. x ∷ rest2) shut) (close_ends u.at)) in
+    let left : run false table (Expression 0 ∷ []) 0 one ≡ Stuck Refused (sign (codes ")") close_at ∷ rest) =
+        g false 0 (λ l. absurd cc) [] 0 ∙ ap (run false table [] n) c ∙ stuck_close n close_at rest in
+    let right : run false table (Expression 0 ∷ []) 0 one2 ≡ Stuck Refused (sign (codes ")") u.at ∷ rest2) = other false
+        0 (λ l. absurd cc) [] 0 ∙ ap (λ x. run false table [] 1 (x ∷ rest2)) shut ∙ stuck_close 1 u.at rest2 in
     let met : sign (codes ")") close_at ∷ rest ≡ sign (codes ")") u.at ∷ rest2 = stuck_tail _ _ (sym left ∙ ap (run false table (Expression 0 ∷ []) 0) same ∙ right) in
     ap (λ r. next follows_cast (first r)) (sym (tail_is _ _ rest rest2 met)) ∙ f
 
-paren_accepted : (at close_at : Place) (n : ℕ) (old one close rest : Row) → 1 ≤ n → old ≡ sign (codes "(") at ∷ one → Goes Expression (λ b. []) n one close → close ≡ sign (codes ")") close_at ∷ rest → Accepted 8 (1 + n) old rest
-paren_accepted at close_at n old one close rest some e g c = by_primary 8 (1 + n) old rest (omega arith) (ap (λ r. next (is_sign (codes "-")) (first r)) e) (ap (λ r. next (is_sign (codes "!")) (first r)) e)
+paren_accepted : (at close_at : Place) (n : ℕ) (old one close rest : Row) → 1 ≤ n → old ≡ sign (codes "(") at ∷ one
+    → Goes Expression (λ b. []) n one close → close ≡ sign (codes ")") close_at ∷ rest → Accepted 8 (1 + n) old rest
+paren_accepted at close_at n old one close rest some e g c = by_primary 8 (1 + n) old rest (omega arith)
+    (ap (λ r. next (is_sign (codes "-")) (first r)) e) (ap (λ r. next (is_sign (codes "!")) (first r)) e)
     (λ f. paren_is_no_cast at close_at n old one close rest e g c f) (λ f. paren_goes at close_at n old one close rest some e g c)
 
 operation_accepted : (o : syntax.Operator) (at : Place) (f : Facts o at) (j k m n : ℕ) (old link right rest : Row) → grammar.operator_level o ≤ j → grammar.operator_level o + 1 ≤ k
@@ -234,7 +246,8 @@ operation_accepted o at f j k m n old link right rest lj lk a e b = by_taken (gr
     ((a.taken (omega (arith, f.low, lj))).linked f.rank (omega (arith, f.level, lj)) (ends_at f.rank (sign (grammar.operator_text o) at) link right e (ends_operator o at f)))
     (operation_moves o at f m n link right rest e ((b.taken (omega (arith, f.low, lk))).whole f.rank (omega (arith, f.level, lk)) ends))))
 
-instance_accepted : (at name_at : Place) (text : List ℕ) (j m : ℕ) (old link rest : Row) → 4 ≤ j → Accepted j m old link → link ≡ word (codes "instanceof") at ∷ word text name_at ∷ rest → is_name text ≡ true → Accepted 4 (1 + m) old rest
+instance_accepted : (at name_at : Place) (text : List ℕ) (j m : ℕ) (old link rest : Row) → 4 ≤ j → Accepted j m old link
+    → link ≡ word (codes "instanceof") at ∷ word text name_at ∷ rest → is_name text ≡ true → Accepted 4 (1 + m) old rest
 instance_accepted at name_at text j m old link rest h a e is = by_taken 4 (1 + m) old rest (omega arith) (omega arith)
     (taken_link 4 2 (1 + m) old rest refl (λ ends.
     then_moves (Binary 3) (λ b. Links 2 b ∷ []) (λ b. Links 2 b ∷ []) m (1 + m) old link rest (omega arith)
@@ -242,18 +255,21 @@ instance_accepted at name_at text j m old link rest h a e is = by_taken 4 (1 + m
     (instance_moves at name_at text m link rest e is)))
 
 choice_accepted : (at colon_at : Place) (j k m n : ℕ) (old link chosen colon other rest : Row) → 1 ≤ j → Accepted j k old link → link ≡ sign (codes "?") at ∷ chosen
-    → Goes Expression (λ b. []) m chosen colon → colon ≡ sign (codes ":") colon_at ∷ other → (EndsWhole (first rest) → Goes Expression (λ b. []) n other rest) → Accepted 0 (1 + max k (max m n)) old rest
+    → Goes Expression (λ b. []) m chosen colon → colon ≡ sign (codes ":") colon_at ∷ other
+        → (EndsWhole (first rest) → Goes Expression (λ b. []) n other rest) → Accepted 0 (1 + max k (max m n)) old rest
 choice_accepted at colon_at j k m n old link chosen colon other rest low c e t z o = record {
   post = λ h f. absurd (omega (arith, h));
   primary = λ h f x. absurd (omega (arith, h));
   taken = λ h. absurd (omega (arith, h));
-  whole = λ w. choice_goes k m n at colon_at old link chosen colon other rest ((c.taken low).whole 6 (omega (arith, low)) (ends_at 6 (sign (codes "?") at) link chosen e (question_ends at))) e t z (o w);
+  whole = λ w. choice_goes k m n at colon_at old link chosen colon other rest ((c.taken low).whole 6
+      (omega (arith, low)) (ends_at 6 (sign (codes "?") at) link chosen e (question_ends at))) e t z (o w);
 }
 
 dot_follows : (at : Place) (old rest : Row) → old ≡ sign (codes ".") at ∷ rest → next follows_cast (first old) ≡ false
 dot_follows at old rest e = ap (λ r. next follows_cast (first r)) e
 
-call_of_accepted : (dot_at name_at : Place) (text : List ℕ) (j m n : ℕ) (old dot paren rest : Row) → 8 ≤ j → Accepted j m old dot → dot ≡ sign (codes ".") dot_at ∷ word text name_at ∷ paren → is_name text ≡ true
+call_of_accepted : (dot_at name_at : Place) (text : List ℕ) (j m n : ℕ) (old dot paren rest : Row) → 8 ≤ j
+    → Accepted j m old dot → dot ≡ sign (codes ".") dot_at ∷ word text name_at ∷ paren → is_name text ≡ true
     → Goes (want.Arguments (is_get_child (word text name_at))) (λ b. []) n paren rest → Accepted 8 (1 + max m n) old rest
 call_of_accepted dot_at name_at text j m n old dot paren rest h a e is g =
     let moves = call_moves dot_at name_at text m n dot paren rest e is g in
@@ -261,8 +277,11 @@ call_of_accepted dot_at name_at text j m n old dot paren rest h a e is g =
     (λ f. then_moves Unary (λ b. Calls b ∷ []) (λ b. Calls b ∷ []) m (1 + max m n) old dot rest (omega arith) (a.post h (dot_follows dot_at dot _ e)) moves)
     (λ f minus l b fits ws d. a.primary h (dot_follows dot_at dot _ e) minus l b (λ x. omega (arith, fits x)) ws d ∙ moves l b fits ws)
 
-call_accepted : (text : List ℕ) (at paren_at : Place) (n : ℕ) (old list rest : Row) → old ≡ word text at ∷ sign (codes "(") paren_at ∷ list → is_name text ≡ true → Goes (FirstArgument (is_get_child (word text at))) (λ b. []) n list rest → Accepted 8 (1 + n) old rest
-call_accepted text at paren_at n old list rest e is g = by_primary 8 (1 + n) old rest (omega arith) (ap (λ r. next (is_sign (codes "-")) (first r)) e) (ap (λ r. next (is_sign (codes "!")) (first r)) e)
+call_accepted : (text : List ℕ) (at paren_at : Place) (n : ℕ) (old list rest : Row)
+    → old ≡ word text at ∷ sign (codes "(") paren_at ∷ list → is_name text ≡ true
+    → Goes (FirstArgument (is_get_child (word text at))) (λ b. []) n list rest → Accepted 8 (1 + n) old rest
+call_accepted text at paren_at n old list rest e is g = by_primary 8 (1 + n) old rest (omega arith)
+    (ap (λ r. next (is_sign (codes "-")) (first r)) e) (ap (λ r. next (is_sign (codes "!")) (first r)) e)
     (λ f. no_paren old (ap (λ r. next (is_sign (codes "(")) (first r)) e)) (λ f. call_goes text at paren_at n old list rest e is g)
 
 fold_accepted : (form : syntax.FoldForm) (at : Place) (n : ℕ) (old mid rest : Row) → old ≡ word (grammar.fold_text form) at ∷ mid → Goes Primary (λ b. []) n old rest → Accepted 8 n old rest
@@ -348,14 +367,17 @@ mutual
   accepted (syntax.Not at e) old rest (one, p, post, r) = by_unary 7 (1 + depth e) old rest (omega arith) (omega arith)
       (λ f. not_goes at (depth e) old one rest (deep e) p (operand (level e) (depth e) one rest post (accepted e one rest r) f))
   accepted (syntax.Cast at class e) old rest (named, close, one, p, n, c, f, post, r) = by_unary 7 (1 + depth e) old rest (omega arith) (omega arith)
-      (λ x. cast_goes at class.at c.0 class.text (depth e) old one rest (deep e) (p ∙ ap (λ r. sign (codes "(") at ∷ r) (n.1 ∙ ap (λ r. word class.text class.at ∷ r) c.1)) n.0 (sym (next_first follows_cast one) ∙ f)
+      (λ x. cast_goes at class.at c.0 class.text (depth e) old one rest (deep e) (p ∙ ap (λ r. sign (codes "(") at ∷ r)
+          (n.1 ∙ ap (λ r. word class.text class.at ∷ r) c.1)) n.0 (sym (next_first follows_cast one) ∙ f)
       (operand (level e) (depth e) one rest post (accepted e one rest r) x))
   accepted (syntax.InstanceOf at e behind class) old rest (link, named, same, lean, r, l, n) =
       instance_accepted behind class.at class.text (level e) (depth e) old link rest lean (accepted e old link r) (l ∙ ap (λ r. word (codes "instanceof") behind ∷ r) n.1) n.0
   accepted (syntax.Binary at o between a b) old rest (link, right, same, lean, strong, p, l, q) =
       operation_accepted o between (operator_facts o between) (level a) (level b) (depth a) (depth b) old link right rest lean strong (accepted a old link p) l (accepted b right rest q)
   accepted (syntax.Choose at c behind a b) old rest (link, chosen, colon, other, same, lean, p, l, q, m, r) =
-      choice_accepted behind m.0 (level c) (depth c) (depth a) (depth b) old link chosen colon other rest lean (accepted c old link p) l ((accepted a chosen colon q).whole (whole_at _ colon other m.1 (colon_ends m.0))) m.1 (λ w. (accepted b other rest r).whole w)
+      choice_accepted behind m.0 (level c) (depth c) (depth a) (depth b) old link chosen colon other rest lean
+          (accepted c old link p) l ((accepted a chosen colon q).whole (whole_at _ colon other m.1 (colon_ends m.0)))
+          m.1 (λ w. (accepted b other rest r).whole w)
   accepted (syntax.Fold at form name list body) old rest (paren, named, colon, items, close, brace, one, end, w, p, n, m, plain, post, q, c, b, r, z) =
       fold_accepted form at (1 + max (depth list) (depth body)) old paren rest w
       (fold_goes form at p.0 name.at m.0 c.0 b.0 z.0 name.text (depth list) (depth body) old items close one end rest (deep list)
@@ -368,7 +390,9 @@ mutual
   first_accepted syntax.no_exprs list rest h g = no_arguments_go g h.0 list rest h.1
   first_accepted (syntax.expr e es) list rest (more, r, m) g =
       let head = heads e list more r in
-      first_goes g (depth e) (max (depth e) (deepest es)) list more rest (omega arith) head.close (and_second g _ head.int) ((accepted e list more r).whole (more_ends es more rest m)) (more_accepted es (depth e) more rest m)
+      first_goes g (depth e) (max (depth e) (deepest es)) list more rest (omega arith) head.close
+          (and_second g _ head.int) ((accepted e list more r).whole (more_ends es more rest m))
+          (more_accepted es (depth e) more rest m)
 
   more_accepted : (es : Exprs) (m : ℕ) (more rest : Row) → grammar.MoreArguments es more rest → Moves (λ b. MoreArguments b ∷ []) (λ b. []) m (max m (deepest es)) more rest
   more_accepted syntax.no_exprs m more rest h = subst (λ (k : ℕ). Moves (λ b. MoreArguments b ∷ []) (λ b. []) m k more rest) (max_zero m) (more_none h.0 m more rest h.1)

@@ -35,7 +35,8 @@ more_one size behind syntax.no_exprs syntax.no_exprs x y r s short same h k = (r
 more_one size behind syntax.no_exprs (syntax.expr f fs) x y r s short same h (one, mid, c, p, m) = absurd (apart (is_sign (codes ")")) same h.1 c.1 refl refl)
 more_one size behind (syntax.expr e es) syntax.no_exprs x y r s short same (one, mid, c, p, m) k = absurd (apart (is_sign (codes ",")) same c.1 k.1 refl refl)
 more_one size behind (syntax.expr e es) (syntax.expr f fs) x y r s short same (one, mid, c, p, m) (other, inner, d, q, n) =
-    let item = behind 0 e f one other mid inner (omega (arith, short, takes_one _ x one c.1)) (omega arith) (token_one same c.1 d.1).1 (omega arith) (omega arith) p q (more_end es mid r m) (more_end fs inner s n) in
+    let item = behind 0 e f one other mid inner (omega (arith, short, takes_one _ x one c.1)) (omega arith)
+        (token_one same c.1 d.1).1 (omega arith) (omega arith) p q (more_end es mid r m) (more_end fs inner s n) in
     let more = more_one size behind es fs mid inner r s (omega (arith, short, takes_one _ x one c.1, spells_shorter e one mid p)) item.1 m n in
     ((λ i. syntax.expr (item.0 i) (more.0 i)), more.1)
 
@@ -84,17 +85,21 @@ operator_one : (o q : Operator) → operator_text o ≡ operator_text q → o �
 operator_one o q e = sym (operator_back o) ∙ ap operator_of e ∙ operator_back q
 
 -- behind one operand, links of one level that begin one row are the same
-link_one : (k : LinkForm) (size : ℕ) → OneBehind size → (l : ℕ) (a b e f : Expr) (x y r s : Row) → a ≡ b → length x ≤ size → x ≡ y → Link k l a e x r → Link k l b f y s → reach r ≤ l + 1 → reach s ≤ l + 1 → (e ≡ f) × (r ≡ s)
+link_one : (k : LinkForm) (size : ℕ) → OneBehind size → (l : ℕ) (a b e f : Expr) (x y r s : Row) → a ≡ b → length
+    x ≤ size → x ≡ y → Link k l a e x r → Link k l b f y s → reach r ≤ l + 1 → reach s ≤ l + 1 → (e ≡ f) × (r ≡ s)
 link_one OperatorLink size behind l a b e f x y r s same short rows (o, between, c, right, is, made, begins, strong, p) (q, other, d, next, also, makes, starts, stronger, t) er es =
     let token = token_one rows begins starts in
     let operator = operator_one o q (text_one token.0) in
-    let operand = behind (l + 1) c d right next r s (omega (arith, short, takes_one _ x right begins)) (omega (arith, is, (operator_facts o between).level)) token.1 (omega (arith, is, strong)) (omega (arith, also, stronger)) p t er es in
+    let operand = behind (l + 1) c d right next r s (omega (arith, short, takes_one _ x right begins))
+        (omega (arith, is, (operator_facts o between).level)) token.1 (omega (arith, is, strong))
+        (omega (arith, also, stronger)) p t er es in
     (made ∙ (λ i. syntax.Binary (place (same i)) (operator i) (at_one token.0 i) (same i) (operand.0 i)) ∙ sym makes, operand.1)
 link_one InstanceLink size behind l a b e f x y r s same short rows (at, class, named, is, made, begins, n) (other, parent, next, also, makes, starts, m) er es =
     let token = token_one rows begins starts in
     let name = name_one class parent token.1 n.1 m.1 in
     (made ∙ (λ i. syntax.InstanceOf (place (same i)) (same i) (at_one token.0 i) (name.0 i)) ∙ sym makes, name.1)
-link_one CallLink size behind l a b e f x y r s same short rows (at, name_at, name, es, called, paren, list, is, made, begins, n, o, p) (other, place_at, text, fs, named, brackets, items, also, makes, starts, m, q, t) er et =
+link_one CallLink size behind l a b e f x y r s same short rows (at, name_at, name, es, called, paren, list, is, made,
+    begins, n, o, p) (other, place_at, text, fs, named, brackets, items, also, makes, starts, m, q, t) er et =
     let dot = token_one rows begins starts in
     let word = token_one dot.1 n.1 m.1 in
     let inner = token_one word.1 o.0.1 q.0.1 in
@@ -102,7 +107,8 @@ link_one CallLink size behind l a b e f x y r s same short rows (at, name_at, na
     (made ∙ (λ i. syntax.CallOf (place (same i)) (same i) (text_one word.0 i) (given.0 i)) ∙ sym makes, given.1)
 
 -- behind one head, rows of links of one level that begin one row are the same
-links_one : (count number size : ℕ) → OneBehind size → (l : ℕ) (a b e f : Expr) (x y r s : Row) → a ≡ b → length x ≤ size → x ≡ y → Links count l a e x r → Links number l b f y s → reach r ≤ l → reach s ≤ l → (e ≡ f) × (r ≡ s)
+links_one : (count number size : ℕ) → OneBehind size → (l : ℕ) (a b e f : Expr) (x y r s : Row) → a ≡ b → length
+    x ≤ size → x ≡ y → Links count l a e x r → Links number l b f y s → reach r ≤ l → reach s ≤ l → (e ≡ f) × (r ≡ s)
 links_one zero zero size behind l a b e f x y r s same short rows h k er es = (sym h.0 ∙ same ∙ k.0, sym h.1 ∙ rows ∙ k.1)
 links_one zero (suc number) size behind l a b e f x y r s same short rows h (c, mid, first, more) er es =
     absurd (omega (arith, er, ap reach (sym h.1 ∙ rows), link_reaches (front_link y) l b c y mid first))
@@ -142,7 +148,8 @@ fold_back syntax.First = refl
 fold_back syntax.Sum = refl
 
 -- two expressions of one form
-front_one : (k : Front) (size : ℕ) → OneBehind size → (e f : Expr) (x y r s : Row) → length x ≤ size → x ≡ y → Made k e x r → Made k f y s → reach r ≤ front_level k → reach s ≤ front_level k → (e ≡ f) × (r ≡ s)
+front_one : (k : Front) (size : ℕ) → OneBehind size → (e f : Expr) (x y r s : Row) → length x ≤ size → x ≡ y
+    → Made k e x r → Made k f y s → reach r ≤ front_level k → reach s ≤ front_level k → (e ≡ f) × (r ≡ s)
 front_one NumberFront size behind e f x y r s short same (at, m, is, p) (by, n, also, q) er es =
     let one = number_one at by m n x y r s same p q in
     (is ∙ (λ i. syntax.Number (one.0 i) (one.1 i)) ∙ sym also, one.2)
@@ -178,7 +185,8 @@ front_one FoldFront size behind e f x y r s short same (at, form, name, list, bo
     let before : length items < size = omega (arith, short, takes_one _ x paren w, takes_one _ paren named p.1, takes_one _ named colon n.1, takes_one _ colon items m.1) in
     let lists = behind 8 list others items items' close close' before (omega arith) (token_one names.1 m.1 m'.1).1 post post' h h' (ended 8 c.1 refl) (ended 8 c'.1 refl) in
     let inner : length one < size = omega (arith, before, spells_shorter list items close h, takes_one _ close brace c.1, takes_one _ brace one b.1) in
-    let bodies = behind 0 body inside one one' end end' inner (omega arith) (token_one (token_one lists.1 c.1 c'.1).1 b.1 b'.1).1 (omega arith) (omega arith) k k' (ended 0 z.1 refl) (ended 0 z'.1 refl) in
+    let bodies = behind 0 body inside one one' end end' inner (omega arith) (token_one (token_one lists.1 c.1 c'.1).1
+        b.1 b'.1).1 (omega arith) (omega arith) k k' (ended 0 z.1 refl) (ended 0 z'.1 refl) in
     (is ∙ (λ i. syntax.Fold (at_one token.0 i) (forms i) (names.0 i) (lists.0 i) (bodies.0 i)) ∙ sym also, (token_one bodies.1 z.1 z'.1).1)
 front_one NegateFront size behind e f x y r s short same (at, a, is, (one, p, plain, post, h)) (by, b, also, (other, q, plain', post', k)) er es =
     let token = token_one same p q in
@@ -191,7 +199,8 @@ front_one NotFront size behind e f x y r s short same (at, a, is, (one, p, post,
 front_one CastFront size behind e f x y r s short same (at, class, a, is, (named, close, one, p, n, c, g, post, h)) (by, other, b, also, (named', close', one', p', n', c', g', post', k)) er es =
     let token = token_one same p p' in
     let names = name_one class other token.1 n.1 n'.1 in
-    let inner = behind 7 a b one one' r s (omega (arith, short, takes_one _ x named p, takes_one _ named close n.1, takes_one _ close one c.1)) (omega arith) (token_one names.1 c.1 c'.1).1 post post' h k er es in
+    let inner = behind 7 a b one one' r s (omega (arith, short, takes_one _ x named p, takes_one _ named close n.1,
+        takes_one _ close one c.1)) (omega arith) (token_one names.1 c.1 c'.1).1 post post' h k er es in
     (is ∙ (λ i. syntax.Cast (at_one token.0 i) (names.0 i) (inner.0 i)) ∙ sym also, inner.1)
 
 -- ---- each level
@@ -212,7 +221,8 @@ same_front size behind e f x y r s short same h k p q =
     let longer : length y ≤ size = omega (arith, short, ap length same) in
     (made size behind e x r short h.high h.plain h.ends p, subst (λ (k : Front). Made k f y s) (ap front (sym same)) (made size behind f y s longer k.high k.plain k.ends q))
 
-bare_one : (size : ℕ) → OneBehind size → (e f : Expr) (x y r s : Row) → length x ≤ size → x ≡ y → Bare e r → Bare f s → Spells e x r → Spells f y s → reach r ≤ strength e → reach s ≤ strength f → (e ≡ f) × (r ≡ s)
+bare_one : (size : ℕ) → OneBehind size → (e f : Expr) (x y r s : Row) → length x ≤ size → x ≡ y → Bare e r → Bare f s
+    → Spells e x r → Spells f y s → reach r ≤ strength e → reach s ≤ strength f → (e ≡ f) × (r ≡ s)
 bare_one size behind e f x y r s short same h k p q er es =
     let m = same_front size behind e f x y r s short same h k p q in
     front_one (front x) size behind e f x y r s short same m.0 m.1 (omega (arith, er, front_strength (front x) e x r m.0)) (omega (arith, es, front_strength (front x) f y s m.1))
@@ -249,7 +259,9 @@ prefix_apart size behind e f x y r s short same h k p q er es =
     absurd (omega (arith, level, h, j.strong))
 
 -- with a sign before an operand, or a primary with its calls
-unary_by : (size : ℕ) → OneBehind size → OneHere size 8 → (e f : Expr) (x y r s : Row) → length x ≤ size → x ≡ y → (7 ≡ strength e) ⊎ (7 < strength e) → (7 ≡ strength f) ⊎ (7 < strength f) → Spells e x r → Spells f y s → reach r ≤ 7 → reach s ≤ 7 → (e ≡ f) × (r ≡ s)
+unary_by : (size : ℕ) → OneBehind size → OneHere size 8 → (e f : Expr) (x y r s : Row) → length x ≤ size → x ≡ y
+    → (7 ≡ strength e) ⊎ (7 < strength e) → (7 ≡ strength f) ⊎ (7 < strength f) → Spells e x r → Spells f y s
+    → reach r ≤ 7 → reach s ≤ 7 → (e ≡ f) × (r ≡ s)
 unary_by size behind above e f x y r s short same (inl h) (inl k) p q er es =
     bare_one size behind e f x y r s short same (prefix_bare e r h er) (prefix_bare f s k es) p q (omega (arith, h, er)) (omega (arith, k, es))
 unary_by size behind above e f x y r s short same (inl h) (inr k) p q er es = absurd (prefix_apart size behind e f x y r s short same h (omega (arith, k)) p q er es)
@@ -286,8 +298,11 @@ choice_apart size above e f at behind x y link chosen s short same h k p t q es 
     let rows = (above e f x y link s short same h k p q (omega (arith, asks)) (omega (arith, es))).1 in
     absurd (omega (arith, asks, ap reach rows, es))
 
-choice_by : (size : ℕ) → OneBehind size → OneHere size 1 → (e f : Expr) (x y r s : Row) → length x ≤ size → x ≡ y → Choice e x r → Choice f y s → Spells e x r → Spells f y s → reach r ≤ 0 → reach s ≤ 0 → (e ≡ f) × (r ≡ s)
-choice_by size behind above e f x y r s short same (Chosen at c asks a b is (link, chosen, colon, other, at_c, low, p, t, u, m, v)) (Chosen at' c' asks' a' b' is' (link', chosen', colon', other', at_c', low', p', t', u', m', v')) h k er es =
+choice_by : (size : ℕ) → OneBehind size → OneHere size 1 → (e f : Expr) (x y r s : Row) → length x ≤ size → x ≡ y
+    → Choice e x r → Choice f y s → Spells e x r → Spells f y s → reach r ≤ 0 → reach s ≤ 0 → (e ≡ f) × (r ≡ s)
+choice_by size behind above e f x y r s short same
+    (Chosen at c asks a b is (link, chosen, colon, other, at_c, low, p, t, u, m, v))
+    (Chosen at' c' asks' a' b' is' (link', chosen', colon', other', at_c', low', p', t', u', m', v')) h k er es =
     let asked : reach link ≡ 1 = ap reach t in
     let asked' : reach link' ≡ 1 = ap reach t' in
     let test = above c c' x y link link' short same (omega (arith, low, at_least c)) (omega (arith, low', at_least c')) p p' (omega (arith, asked)) (omega (arith, asked')) in
@@ -296,7 +311,8 @@ choice_by size behind above e f x y r s short same (Chosen at c asks a b is (lin
     let one = behind 0 a a' chosen chosen' colon colon' before (omega arith) token.1 (omega arith) (omega arith) u u' (ended 0 m.1 refl) (ended 0 m'.1 refl) in
     let later : length other < size = omega (arith, before, spells_shorter a chosen colon u, takes_one _ colon other m.1) in
     let two = behind 0 b b' other other' r s later (omega arith) (token_one one.1 m.1 m'.1).1 (omega arith) (omega arith) v v' er es in
-    (is ∙ ap (λ z. syntax.Choose z c asks a b) at_c ∙ (λ i. syntax.Choose (place (test.0 i)) (test.0 i) (at_one token.0 i) (one.0 i) (two.0 i)) ∙ sym (ap (λ z. syntax.Choose z c' asks' a' b') at_c') ∙ sym is', two.1)
+    (is ∙ ap (λ z. syntax.Choose z c asks a b) at_c ∙ (λ i. syntax.Choose (place (test.0 i)) (test.0 i)
+        (at_one token.0 i) (one.0 i) (two.0 i)) ∙ sym (ap (λ z. syntax.Choose z c' asks' a' b') at_c') ∙ sym is', two.1)
 choice_by size behind above e f x y r s short same (Chosen at c asks a b is (link, chosen, colon, other, at_c, low, p, t, u, m, v)) (Stronger strong) h k er es =
     absurd (choice_apart size above c f at asks x y link chosen s short same (omega (arith, low, at_least c)) strong p t k es)
 choice_by size behind above e f x y r s short same (Stronger strong) (Chosen at c asks a b is (link, chosen, colon, other, at_c, low, p, t, u, m, v)) h k er es =

@@ -67,12 +67,14 @@ pub stays_missing : (us : List Want) (w : Want) (behind : List Want → List Wan
     → ((ws : List Want) → run true table (us ++ ws) m old ≡ run true table (w ∷ behind ws) n mid) → (next_is test mid ≡ false → table w n (first mid) ≡ Refuses)
     → Missing test e mid rest → Stays us m (reason_of e) old rest
 stays_missing us w behind m n test failure.Memory old mid rest g refuses h = tt
-stays_missing us w behind m n test (failure.For code.Syntax) old mid rest g refuses h = λ ws. g ws ∙ run-refuses true table w (behind ws) n mid (refuses h.1) ∙ ap (λ (x : Row). Stuck Refused x) (sym h.0)
+stays_missing us w behind m n test (failure.For code.Syntax) old mid rest g refuses h = λ ws. g ws
+    ∙ run-refuses true table w (behind ws) n mid (refuses h.1) ∙ ap (λ (x : Row). Stuck Refused x) (sym h.0)
 stays_missing us w behind m n test (failure.For code.LeftOut) old mid rest g refuses h = absurd h
 stays_missing us w behind m n test (failure.For code.Nesting) old mid rest g refuses h = absurd h
 
 -- the limit stops it
-pub stays_deep : (us : List Want) (m : ℕ) (e : Failure JragCode) (old mid rest : Row) → e ≡ (failure.For code.Nesting) → rest ≡ mid → ((ws : List Want) → run true table (us ++ ws) m old ≡ Stuck TooDeep mid)
+pub stays_deep : (us : List Want) (m : ℕ) (e : Failure JragCode) (old mid rest : Row) → e ≡ (failure.For code.Nesting)
+    → rest ≡ mid → ((ws : List Want) → run true table (us ++ ws) m old ≡ Stuck TooDeep mid)
     → Stays us m (reason_of e) old rest
 stays_deep us m e old mid rest is same g = subst (λ (x : Failure JragCode). Stays us m (reason_of x) old rest) (sym is) (λ ws. g ws ∙ ap (λ (x : Row). Stuck TooDeep x) (sym same))
 
@@ -105,7 +107,8 @@ number_opens_by x t k e = ap opens_unary (of_kind t kind.Number k) ∙ ap (λ b.
 pub number_opens : (t : PlacedToken) (o : Option ℤ) (r : Bool) → t.kind ≡ kind.Number → r ≡ is_some o → MatchOption o (Unit {0}) (IsNumber false t.text)
     → IfNone o (is_decimal_within 2147483647 t.text ≡ false) → r ≡ opens_unary t
 number_opens t None r k e some none = e ∙ sym (number_opens_by false t k none)
-number_opens t (Some n) r k e (m, small, is, digits) none = e ∙ sym (number_opens_by true t k (ap (λ d. is_decimal_within 2147483647 d) digits ∙ number_is 2147483647 m first_place (omega arith) small))
+number_opens t (Some n) r k e (m, small, is, digits) none = e ∙ sym (number_opens_by true t k
+    (ap (λ d. is_decimal_within 2147483647 d) digits ∙ number_is 2147483647 m first_place (omega arith) small))
 
 text_opens : (x : Bool) (t : PlacedToken) (old rest : Row) → old ≡ t ∷ rest → t.kind ≡ kind.Text → is_quoted t.text ≡ x → next_is opens_unary old ≡ x
 text_opens x t old rest front k e = ap (next_is opens_unary) front ∙ ap opens_unary (of_kind t kind.Text k) ∙ ap (λ b. (b || false) || false) e ∙ plain_or x
@@ -327,7 +330,9 @@ none_fits false (t ∷ ts) d e =
     (is_sign (codes "(") t) (is_literal t) (begins_fold t) (is_name_token t) (is_get_child t) e)
 
 -- what the reader says where no unary fits
-pub unary_too_deep : (b : ℕ) (e : Failure JragCode) (old : Row) → b ≡ 0 → (e ≡ failure.Memory) ⊎ (e ≡ cond (next_is opens_unary old) (failure.For code.Nesting) (failure.For code.Syntax)) → Halts (Unary b) (reason_of e) old old
+pub unary_too_deep : (b : ℕ) (e : Failure JragCode) (old : Row) → b ≡ 0
+    → (e ≡ failure.Memory) ⊎ (e ≡ cond (next_is opens_unary old) (failure.For code.Nesting) (failure.For code.Syntax))
+    → Halts (Unary b) (reason_of e) old old
 unary_too_deep b e old none (inl is) d = stays_memory (Unary b ∷ []) d e old old is
 unary_too_deep b e old none (inr is) d =
     subst (λ (k : ℕ). Stays (Unary k ∷ []) d (reason_of e) old old) (sym none) (subst (λ (x : Failure JragCode). Stays (Unary 0 ∷ []) d (reason_of x) old old) (sym is)

@@ -15,7 +15,7 @@ use Rattle.at_model.proofs.of_edits.Untouched.{in_cell as kids}
 use Rattle.at_model.proofs.of_edits.Untouching.{removed-behind}
 use Rattle.at_model.proofs.WithinTree.{tree_at-snoc}
 use Rattle.at_store.specs.Numbers.{path_in}
-use Rattle.at_store.specs.Memory.{AreFewIn, Info, IsLifted, IsPlacedIn, IsShallow, Keeps, Kept, Kids, List_of, Place, Stored, cut_in, index_in, kept, kept_of, kids_in, is_waiting, numbers_in, place_at, placed, placed_in, relinked, renumbered, rewritten, taken_out as gap_closed, top, up_in, with_kept, with_kids, with_numbers, with_place, AreAlike, come_to}
+use Rattle.at_store.specs.Memory.{Info, IsLifted, IsPlacedIn, IsShallow, Keeps, Kept, Kids, List_of, Place, Stored, cut_in, index_in, kept, kept_of, kids_in, is_waiting, numbers_in, place_at, placed, placed_in, relinked, renumbered, rewritten, taken_out as gap_closed, top, up_in, with_kept, with_kids, with_numbers, with_place, AreAlike, come_to}
 use Rattle.at_store.specs.Reserving.{ComesTo, HasRoom, IsRoomFor, KeepsRoom}
 use Rattle.at_store.specs.View.{leaves_in, memory_of, stored_of}
 use Rattle.at_store.proofs.Arranged.{settled, stands_once}
@@ -35,7 +35,7 @@ use Rattle.at_store.proofs.Looked.{kept_at}
 use Rattle.at_store.proofs.of_edits.Removed.{parent_stays, place_below, up_below, subtree_apart, subtree_stored}
 use Rattle.at_store.proofs.of_edits.Renumbered.{not_eq, renumbered_absent}
 use Rattle.at_store.proofs.Slots.{class_placed, class_renumbered, class_rewritten, map_length, renumbered_insert}
-use Rattle.at_store.proofs.of_edits.Taken.{cell_cut, cell_same, few_there, one_changed}
+use Rattle.at_store.proofs.of_edits.Taken.{cell_cut, cell_same, one_changed}
 use Rattle.at_store.proofs.Within.{stands_within}
 
 elsewhere : (p : Node) (w r : Way) → step_eq w r ≡ false → is_within (p ++ w ∷ []) (p ++ r ∷ []) ≡ false

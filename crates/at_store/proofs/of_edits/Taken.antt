@@ -9,7 +9,7 @@ use Rattle.at_model.specs.Edits.{Edit, changed_at, left_by, without_child, with_
 use Rattle.at_model.specs.Edits as edit
 use Rattle.at_model.specs.Paths.{Node, tree_at}
 use Rattle.at_store.specs.Numbers.{path_in}
-use Rattle.at_store.specs.Memory.{AreFew, AreFewIn, Info, IsFreed, IsShallow, IsTakenAway, Keeps, Kept, Place, place_at, cut_in, index_in, kept, kept_of, kids_in, numbers_in, relinked, renumbered, rewritten, taken_out, top, up_in, with_kept, with_kids, with_index, with_numbers}
+use Rattle.at_store.specs.Memory.{Info, IsFreed, IsShallow, IsTakenAway, Keeps, Kept, Place, place_at, cut_in, index_in, kept, kept_of, kids_in, numbers_in, relinked, renumbered, rewritten, taken_out, top, up_in, with_kept, with_kids, with_index, with_numbers}
 use Rattle.at_store.specs.View.{MarksNoMore, memory_of, stored_of}
 use Rattle.at_store.proofs.Arranged.{settled, stands_once}
 use Rattle.at_store.specs.Touching.{gone}
@@ -19,7 +19,6 @@ use Rattle.at_store.proofs.Classes.{classes_stay}
 use Rattle.at_store.proofs.of_edits.Commits.{dropped}
 use Rattle.at_store.proofs.of_edits.Committed.{changed_here, committed, root_stays, root_was, shallow_left}
 use Rattle.at_store.proofs.Looked.{kept_at}
-use Rattle.at_store.proofs.Reading.{few_kept}
 use Rattle.at_store.proofs.of_planting.MarkedLemmas.{gone_unmarked}
 use Rattle.at_store.proofs.of_edits.Removed.{freed_below, parent_stays, place_below}
 use Rattle.at_store.proofs.Slots.{class_renumbered, class_rewritten}
@@ -62,10 +61,6 @@ none_relinked n part f k = by_test (nat_eq k n)
 by_gone : (ns : List ℕ) (i n part : ℕ) (f : List ℕ → List ℕ) (k : ℕ) (o q : Option Info) (b : Bool) → relinked n part f k o ≡ q → renumbered ns i k (relinked n part f k (cond b None o)) ≡ cond b None (renumbered ns i k q)
 by_gone ns i n part f k o q true e = ap (renumbered ns i k) (none_relinked n part f k) ∙ none_renumbered ns i k
 by_gone ns i n part f k o q false e = ap (renumbered ns i k) e
-
--- the children of a node of the tree, before an edit is done
-pub few_there : (old : Shown) → IsIdle old → (memory : ℕ → Option Info) → Keeps memory (numbers old) None → (n : Node) (u : Tree) → tree_at (numbers old) n ≡ Some u → (part : ℕ) → AreFew (kids_in (memory (class_of u)) part)
-few_there old h memory keeps n u is part = let few = few_kept old h memory keeps n u is part in omega (arith, few)
 
 pub drop_committed : (classes : Classes) (old mid new : Shown) (e : Edit) (node : ℕ) → IsPrepared classes old e (DoesDrop node) mid →
     IsTakenAway node (memory_of mid.slab) (stored_of new.slab) → MarksNoMore mid.slab new.slab → new.root ≡ mid.root →

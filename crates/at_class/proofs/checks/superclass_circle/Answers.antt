@@ -13,7 +13,9 @@ pub loop-position-preserved : goal.loop-position-preserved
 loop-position-preserved c =
     let classes = classes_view c.args.classes.now in
     let told = ap (is_above_itself classes) (sym c.new-class.ensures) ∙ sym c.in_ok-is_above.ensures.told ∙ c.if-is_above.false in (
-      none_more (circle_at classes) declaration_view c.args.declarations.now c.loop-position.position c.index-declarations-position.result (omega arith) c.index-declarations-position.is (none_if _ _ told) c.loop-position.invariant.0,
+      none_more (circle_at classes) declaration_view c.args.declarations.now c.loop-position.position
+          c.index-declarations-position.result (omega arith) c.index-declarations-position.is (none_if _ _ told)
+          c.loop-position.invariant.0,
       c.in_ok-is_above.ensures.kept,
     )
 
@@ -23,7 +25,8 @@ returns-then-is_above c =
     let classes = classes_view c.args.classes.now in
     let d = c.index-declarations-position.result in
     let told = ap (is_above_itself classes) (sym c.new-class.ensures) ∙ sym c.in_ok-is_above.ensures.told ∙ c.if-is_above.true in
-    sym (first_here (circle_at classes) declaration_view c.args.declarations.now c.loop-position.position d (place_view d.at) (omega arith) c.index-declarations-position.is c.loop-position.invariant.0 (some_if _ _ told))
+    sym (first_here (circle_at classes) declaration_view c.args.declarations.now c.loop-position.position d
+        (place_view d.at) (omega arith) c.index-declarations-position.is c.loop-position.invariant.0 (some_if _ _ told))
 
 pub returns : goal.returns
 unfolding circle_in

@@ -6,4 +6,6 @@ use Rattle.at_complete.specs.Walks.{Walking}
 use Rattle.at_complete.proofs.exposure.exposed_walk.Given as goal
 
 abbrev pub invariant-loop-step : goal.invariant-loop-step
-invariant-loop-step l = Walking (length l.rules.classes) (λ c. nat_eq c 0) (leads l.rules (attribute_name l.rules l.attribute)) (λ c. true) (AllExposed l.rules (attribute_name l.rules l.attribute)) l.step l.walk.met.items l.walk.pending.items
+invariant-loop-step l = Walking (length l.rules.classes) (λ c. nat_eq c 0)
+    (leads l.rules (attribute_name l.rules l.attribute)) (λ c. true)
+    (AllExposed l.rules (attribute_name l.rules l.attribute)) l.step l.walk.met.items l.walk.pending.items

@@ -13,5 +13,7 @@ returns c =
     let rules = c.args.rules.now in
     let name = c.name_of-name.ensures in (
       ap (λ n. is_some (walk_for n c.insert.new.self)) (sym name) ∙ ap is_some c.in_ok-insert.ensures.updates.1,
-      meets_more rules c.name_of-name.result (attribute_name rules c.args.attribute) c.args.exposed.now c.insert.new.self c.in_ok-classes.classes name c.in_ok-insert.ensures.updates.0 c.in_ok-classes.ensures c.requires.1,
+      meets_more rules c.name_of-name.result (attribute_name rules c.args.attribute) c.args.exposed.now
+          c.insert.new.self c.in_ok-classes.classes name c.in_ok-insert.ensures.updates.0 c.in_ok-classes.ensures
+          c.requires.1,
     )

@@ -16,13 +16,15 @@ loop-step-preserved c =
 pub returns-in_default : goal.returns-in_default
 returns-in_default c = (
   c.len-count.ensures.sound,
-  marking_stops c.args.classes.now c.args.exposed.now.met.items c.loop-step.step c.next_pending.result _ _ _ c.loop-step.invariant c.next_pending.ensures.met c.in_default.is c.next_pending.ensures.none,
+  marking_stops c.args.classes.now c.args.exposed.now.met.items c.loop-step.step c.next_pending.result
+      _ _ _ c.loop-step.invariant c.next_pending.ensures.met c.in_default.is c.next_pending.ensures.none,
 )
 
 pub returns : goal.returns
 returns c =
     let same = c.len-count.ensures.len in (
       c.len-count.ensures.sound,
-      ends_full (length c.args.classes.now) (is_met_concrete c.args.classes.now c.args.exposed.now.met.items) (leads_up c.args.classes.now) (λ c. true) (HasBelow c.args.classes.now c.args.exposed.now.met.items)
+      ends_full (length c.args.classes.now) (is_met_concrete c.args.classes.now c.args.exposed.now.met.items)
+          (leads_up c.args.classes.now) (λ c. true) (HasBelow c.args.classes.now c.args.exposed.now.met.items)
           c.loop-step.step _ _ (omega (arith, same)) c.loop-step.invariant,
     )

@@ -9,7 +9,12 @@ use Rattle.at_kinds.proofs.accessors.position_counted.Goals as goal
 use Rattle.at_model.proofs.Options.{and_false}
 
 pub returns-in_err-component : goal.returns-in_err-component
-returns-in_err-component c = c.from_residual.ensures ∙ sym (position-never (is_counted c.args.name.now) (map part_view c.args.parts.now) (λ p. ap (λ b. is_list p.shape && b) (ap (λ n. bytes_eq n (codes "getNum" ++ p.name)) (sym c.as_bytes.ensures.value) ∙ c.in_err-component.ensures p.name) ∙ and_false (is_list p.shape)))
+returns-in_err-component c = c.from_residual.ensures ∙ sym (position-never (is_counted c.args.name.now) (map part_view
+    c.args.parts.now) (λ p. ap (λ b. is_list p.shape && b) (ap (λ n. bytes_eq n (codes "getNum" ++ p.name))
+    (sym c.as_bytes.ensures.value) ∙ c.in_err-component.ensures p.name) ∙ and_false (is_list p.shape)))
 
 pub returns : goal.returns
-returns c = c.position_list.ensures ∙ position-view (is_counted c.args.name.now) (λ (p : Part). is_list (shape_view p.shape) && bytes_eq c.in_ok-component.component.now (string_bytes p.name)) c.args.parts.now (λ p. ap (λ b. is_list (shape_view p.shape) && b) (sym (c.in_ok-component.ensures (string_bytes p.name)) ∙ ap (λ n. bytes_eq n (codes "getNum" ++ string_bytes p.name)) c.as_bytes.ensures.value))
+returns c = c.position_list.ensures ∙ position-view (is_counted c.args.name.now) (λ (p : Part).
+    is_list (shape_view p.shape) && bytes_eq c.in_ok-component.component.now (string_bytes p.name)) c.args.parts.now
+    (λ p. ap (λ b. is_list (shape_view p.shape) && b) (sym (c.in_ok-component.ensures (string_bytes p.name))
+    ∙ ap (λ n. bytes_eq n (codes "getNum" ++ string_bytes p.name)) c.as_bytes.ensures.value))

@@ -39,4 +39,5 @@ pub returns-in-83 : goal.returns-in-83
 returns-in-83 c = c.is_one_of-in-83.ensures ∙ reserved_with_capital_s c.args.word.now (sym c.first_byte.ensures ∙ c.in-83.is)
 
 pub returns-in_default : goal.returns-in_default
-returns-in_default c = reserved_with_no_other c.args.word.now (omega arith) (omega arith) (omega arith) (omega arith) (omega arith) (omega arith) (omega arith) (omega arith) (omega arith) (omega arith) (omega arith) (omega arith)
+returns-in_default c = reserved_with_no_other c.args.word.now (omega arith) (omega arith) (omega arith) (omega arith)
+    (omega arith) (omega arith) (omega arith) (omega arith) (omega arith) (omega arith) (omega arith) (omega arith)

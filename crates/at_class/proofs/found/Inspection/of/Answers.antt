@@ -12,5 +12,7 @@ go_to-requires c = (c.requires.0, c.requires.1.way)
 pub returns : goal.returns
 returns c = (
   c.in_ok-found.ensures.0,
-  knows_more (classes_view c.args.classes.now) c.go_to.new.self c.args.self.now.found.items c.keep.new.known.items c.args.class c.in_ok-found.found c.in_ok-found.ensures.1 c.requires.1.right c.in_ok-found.ensures.0 c.keep.ensures,
+  knows_more (classes_view c.args.classes.now) c.go_to.new.self c.args.self.now.found.items c.keep.new.known.items
+      c.args.class c.in_ok-found.found c.in_ok-found.ensures.1 c.requires.1.right c.in_ok-found.ensures.0
+      c.keep.ensures,
 )

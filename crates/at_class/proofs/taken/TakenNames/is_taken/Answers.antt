@@ -11,4 +11,6 @@ pub returns-then-is_common : goal.returns-then-is_common
 returns-then-is_common c = λ before k. sym (or_left (is_common (part_view c.args.part.now).name) _ (ap is_common (sym c.as_str.ensures.value) ∙ sym c.is_common.ensures ∙ c.if-is_common.true))
 
 pub returns : goal.returns
-returns c = IfOk-weaker c.has_clash.result _ _ (λ is e before k. e before k ∙ ap (λ b. b || list_any (clash (part_view c.args.part.now)) before) (sym (ap is_common (sym c.as_str.ensures.value) ∙ sym c.is_common.ensures ∙ c.if-is_common.false))) c.has_clash.ensures
+returns c = IfOk-weaker c.has_clash.result
+    _ _ (λ is e before k. e before k ∙ ap (λ b. b || list_any (clash (part_view c.args.part.now)) before) (sym
+    (ap is_common (sym c.as_str.ensures.value) ∙ sym c.is_common.ensures ∙ c.if-is_common.false))) c.has_clash.ensures

@@ -25,6 +25,7 @@ returns c =
     let room : c.saturating_sub-room.result ≡ (suc max_parts - length (all_of classes (on_way levels))) - length own =
     c.saturating_sub-room.ensures ∙ ap₂ (λ a b. a - b) (c.room.ensures classes w) (sym (length-map slice part_view)) in (
       found_there classes (on_way levels) (record { twice = c.in_ok-twice.twice; room = c.saturating_sub-room.result }) k own led up is took.1 room,
-      entered classes levels more level t c.take_all.new.self k own led w up is c.in_ok-push.ensures.items refl c.counts-names.ensures.names c.counts-names.ensures.accessors room c.in_ok-twice.ensures.0 took.0,
+      entered classes levels more level t c.take_all.new.self k own led w up is c.in_ok-push.ensures.items refl
+          c.counts-names.ensures.names c.counts-names.ensures.accessors room c.in_ok-twice.ensures.0 took.0,
       longer levels more level k c.in_ok-push.ensures.items refl,
     )

@@ -12,7 +12,10 @@ pub returns-then-takes : goal.returns-then-takes
 returns-then-takes c = let e = rw c.if-takes.true at c.takes.ensures in (None, ap (map seen_part) c.new.ensures.items, body_none _ _ e)
 
 pub returns-in_err-expects : goal.returns-in_err-expects
-returns-in_err-expects c = let e = rw c.if-takes.false at c.takes.ensures in let p = err_from_is_err_and c.from_residual.result c.from_residual.ensures.1 in rw (p.1, p.2) (fails_on table (mark (codes "::=")) body _ _ _ _ (λ q s. body_stops_mark q _ _ e.1 (stops_at table (mark (codes "::=")) q _ _ _ (ap left e.0) s)) c.in_err-expects.ensures)
+returns-in_err-expects c = let e = rw c.if-takes.false at c.takes.ensures in
+    let p = err_from_is_err_and c.from_residual.result c.from_residual.ensures.1 in
+    rw (p.1, p.2) (fails_on table (mark (codes "::=")) body _ _ _ _ (λ q s.
+    body_stops_mark q _ _ e.1 (stops_at table (mark (codes "::=")) q _ _ _ (ap left e.0) s)) c.in_err-expects.ensures)
 
 pub returns : goal.returns
 returns c = let e = rw c.if-takes.false at c.takes.ensures in

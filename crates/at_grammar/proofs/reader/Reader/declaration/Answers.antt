@@ -8,13 +8,21 @@ use Rattle.at_grammar.proofs.Loops.{modifier_reads}
 use Rattle.at_grammar.proofs.reader.Reader.declaration.Goals as goal
 
 pub returns-in_err-name : goal.returns-in_err-name
-returns-in_err-name c = let x = modifier_reads _ _ _ c.takes_word.ensures in let p = err_from_is_err_and c.from_residual.result c.from_residual.ensures.1 in rw (p.1, p.2) (fails_on table name declaration _ _ _ _ (λ q. declaration_stops_name _ q _ _ _ x) c.in_err-name.ensures)
+returns-in_err-name c = let x = modifier_reads _ _ _ c.takes_word.ensures in
+    let p = err_from_is_err_and c.from_residual.result c.from_residual.ensures.1 in rw (p.1, p.2)
+    (fails_on table name declaration _ _ _ _ (λ q. declaration_stops_name _ q _ _ _ x) c.in_err-name.ensures)
 
 pub returns-in_err-parent : goal.returns-in_err-parent
-returns-in_err-parent c = let x = modifier_reads _ _ _ c.takes_word.ensures in let n = c.in_ok-name.ensures in let p = err_from_is_err_and c.from_residual-in_err-parent.result c.from_residual-in_err-parent.ensures.1 in rw (p.1, p.2) (fails_on table kind declaration _ _ _ _ (λ q. declaration_stops_parent _ n.0 q _ _ _ _ x n.2) c.in_err-parent.ensures)
+returns-in_err-parent c = let x = modifier_reads _ _ _ c.takes_word.ensures in let n = c.in_ok-name.ensures in
+    let p = err_from_is_err_and c.from_residual-in_err-parent.result c.from_residual-in_err-parent.ensures.1 in
+    rw (p.1, p.2) (fails_on table kind declaration _ _ _ _ (λ q. declaration_stops_parent _ n.0 q _ _ _ _ x n.2)
+    c.in_err-parent.ensures)
 
 pub returns-in_err-parts : goal.returns-in_err-parts
-returns-in_err-parts c = let x = modifier_reads _ _ _ c.takes_word.ensures in let n = c.in_ok-name.ensures in let k = c.in_ok-parent.ensures in let p = err_from_is_err_and c.from_residual-in_err-parts.result c.from_residual-in_err-parts.ensures.1 in rw (p.1, p.2) (fails_on table body declaration _ _ _ _ (λ q. declaration_stops_body _ n.0 k.0 q _ _ _ (head_read _ n.0 k.0 _ _ _ _ x n.2 k.2)) c.in_err-parts.ensures)
+returns-in_err-parts c = let x = modifier_reads _ _ _ c.takes_word.ensures in let n = c.in_ok-name.ensures in
+    let k = c.in_ok-parent.ensures in let p = err_from_is_err_and c.from_residual-in_err-parts.result
+    c.from_residual-in_err-parts.ensures.1 in rw (p.1, p.2) (fails_on table body declaration _ _ _ _ (λ q.
+    declaration_stops_body _ n.0 k.0 q _ _ _ (head_read _ n.0 k.0 _ _ _ _ x n.2 k.2)) c.in_err-parts.ensures)
 
 pub returns : goal.returns
 returns c =

@@ -13,13 +13,17 @@ pub loop-self-init : goal.loop-self-init
 loop-self-init c = (many_none table declaration want.File _, ap (map seen_class) c.new-classes.ensures.items)
 
 pub returns-in_err-class-clause-read : goal.returns-in_err-class-clause-read
-returns-in_err-class-clause-read c = let m = c.loop-self.invariant in let p = err_from_is_err_and c.from_residual.result c.from_residual.ensures.1 in rw (p.1, p.2) (fails_on table declaration file _ _ _ _ (λ q. file_stops q _ _ _ m.0 (nonempty_left c.loop-self.self.cursor.rest.now c.loop-self-test.ensures)) c.in_err-class.ensures)
+returns-in_err-class-clause-read c = let m = c.loop-self.invariant in let p = err_from_is_err_and c.from_residual.result
+    c.from_residual.ensures.1 in rw (p.1, p.2) (fails_on table declaration file _ _ _ _ (λ q. file_stops q _ _ _ m.0
+    (nonempty_left c.loop-self.self.cursor.rest.now c.loop-self-test.ensures)) c.in_err-class.ensures)
 
 pub loop-self-preserved : goal.loop-self-preserved
 loop-self-preserved c =
     let m = c.loop-self.invariant in
     let p = c.in_ok-class.ensures in
-    (many_more table declaration want.File p.0 _ _ _ m.0 (file_begins _ (nonempty_left c.loop-self.self.cursor.rest.now c.loop-self-test.ensures)) p.2, ap (map seen_class) c.in_ok-push.ensures.items ∙ pushed seen_class class_means _ _ _ _ m.1 p.1)
+    (many_more table declaration want.File p.0 _ _ _ m.0
+        (file_begins _ (nonempty_left c.loop-self.self.cursor.rest.now c.loop-self-test.ensures)) p.2,
+        ap (map seen_class) c.in_ok-push.ensures.items ∙ pushed seen_class class_means _ _ _ _ m.1 p.1)
 
 pub returns-clause-read : goal.returns-clause-read
 returns-clause-read c = let m = c.loop-self.invariant in (m.0.items, m.1, file_ends _ _ m.0 (none_left c.loop-self.self.cursor.rest.now c.loop-self-test.ensures))

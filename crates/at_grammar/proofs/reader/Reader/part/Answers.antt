@@ -10,7 +10,9 @@ use Rattle.at_grammar.proofs.Paths.{part_token, part_token_stops, part_optional,
 use Rattle.at_grammar.proofs.reader.Reader.part.Goals as goal
 
 pub returns-then-takes : goal.returns-then-takes
-returns-then-takes c = let e = rw c.if-takes.true at c.takes.ensures in parses_on table reason_of token part _ _ _ _ _ _ (λ t p m r. (grammar.Token t, m, part_token t _ _ _ e r)) (λ q. part_token_stops q _ _ _ e) c.token.ensures
+returns-then-takes c = let e = rw c.if-takes.true at c.takes.ensures in
+    parses_on table reason_of token part _ _ _ _ _ _ (λ t p m r. (grammar.Token t, m, part_token t _ _ _ e r))
+    (λ q. part_token_stops q _ _ _ e) c.token.ensures
 
 pub returns-then-takes-2 : goal.returns-then-takes-2
 returns-then-takes-2 c =

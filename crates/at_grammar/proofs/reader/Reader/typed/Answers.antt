@@ -8,10 +8,15 @@ use Rattle.at_grammar.proofs.Meanings.{component_is, kind_same}
 use Rattle.at_grammar.proofs.reader.Reader.typed.Goals as goal
 
 pub returns-in_err-name : goal.returns-in_err-name
-returns-in_err-name c = let p = err_from_is_err_and c.from_residual.result c.from_residual.ensures.1 in rw (p.1, p.2) (fails_on table name typed _ _ _ _ (λ q. typed_stops_name q _ _) c.in_err-name.ensures)
+returns-in_err-name c = let p = err_from_is_err_and c.from_residual.result c.from_residual.ensures.1 in
+    rw (p.1, p.2) (fails_on table name typed _ _ _ _ (λ q. typed_stops_name q _ _) c.in_err-name.ensures)
 
 pub returns-in_err-written : goal.returns-in_err-written
-returns-in_err-written c = let n = c.in_ok-name.ensures in let p = err_from_is_err_and c.from_residual-in_err-written.result c.from_residual-in_err-written.ensures.1 in rw (p.1, p.2) (fails_on table kind typed _ _ _ _ (λ q. typed_stops_kind n.0 q _ _ _ n.2) c.in_err-written.ensures)
+returns-in_err-written c = let n = c.in_ok-name.ensures in
+    let p = err_from_is_err_and c.from_residual-in_err-written.result c.from_residual-in_err-written.ensures.1 in
+    rw (p.1, p.2) (fails_on table kind typed _ _ _ _ (λ q. typed_stops_kind n.0 q _ _ _ n.2) c.in_err-written.ensures)
 
 pub returns : goal.returns
-returns c = let n = c.in_ok-name.ensures in let k = c.in_ok-written.ensures in (record { name = n.0; kind = k.0 }, component_is _ _ _ _ _ _ _ n.1.0 (c.in_ok-kind.ensures ∙ kind_same _ _ _ _ (c.as_str.ensures.value ∙ n.1.0) k.1) n.1.1, typed_reads n.0 k.0 _ _ _ n.2 k.2)
+returns c = let n = c.in_ok-name.ensures in let k = c.in_ok-written.ensures in
+    (record { name = n.0; kind = k.0 }, component_is _ _ _ _ _ _ _ n.1.0 (c.in_ok-kind.ensures
+    ∙ kind_same _ _ _ _ (c.as_str.ensures.value ∙ n.1.0) k.1) n.1.1, typed_reads n.0 k.0 _ _ _ n.2 k.2)

@@ -39,7 +39,9 @@ pub loop-items-init : goal.loop-items-init
 loop-items-init c =
     let same = ap (λ r. left r.rest.now) c.in_default.ensures.0 in (
       subst (λ (x : List Param). Wanted x (left c.takes_sign.new.self.rest.now) (left c.takes_sign.new.self.rest.now)) (sym (ap (map param_view) c.new-items.ensures.items)) (wanted_first _),
-      subst (λ (x : Row). BeforeParam (bytes_eq c.args.name.now (codes "getChild")) (left c.args.self.now.cursor.rest.now) x) (sym same) (before_first c.args.name.now _ _ c.in_ok-opens.ensures.found c.in_default.ensures.1),
+      subst (λ (x : Row). BeforeParam (bytes_eq c.args.name.now (codes "getChild"))
+          (left c.args.self.now.cursor.rest.now) x) (sym same)
+          (before_first c.args.name.now _ _ c.in_ok-opens.ensures.found c.in_default.ensures.1),
     )
 
 -- ---- where it stops
@@ -58,6 +60,7 @@ pub returns-in_err-expects-clause-stays : goal.returns-in_err-expects-clause-sta
 returns-in_err-expects-clause-stays c =
     let p = err_from_is_err_and c.from_residual-in_err-expects.result c.from_residual-in_err-expects.ensures.1 in
     let d = c.in_default-takes_sign.ensures in
-    let m = subst (λ (x : Row). Missing (is_sign (codes ",")) c.in_err-expects.field-0.0 x (left c.expects.new.self.cursor.rest.now)) (ap (λ r. left r.rest.now) d.0) c.in_err-expects.ensures.missing in
+    let m = subst (λ (x : Row). Missing (is_sign (codes ",")) c.in_err-expects.field-0.0 x
+        (left c.expects.new.self.cursor.rest.now)) (ap (λ r. left r.rest.now) d.0) c.in_err-expects.ensures.missing in
     rw (p.1, p.2)
     (comma_stays _ (param_view c.in_ok-param.param) c.in_err-expects.field-0.0 _ _ _ (left c.expects.new.self.cursor.rest.now) c.loop-items.invariant.1 c.in_ok-param.ensures.found d.1 m)

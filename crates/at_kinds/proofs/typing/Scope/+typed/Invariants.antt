@@ -7,4 +7,5 @@ use Rattle.at_kinds.proofs.Parts.{behind}
 use Rattle.at_kinds.proofs.typing.Scope.+typed.Given as goal
 
 abbrev pub invariant-typed_all-loop-expr : goal.invariant-typed_all-loop-expr
-invariant-typed_all-loop-expr l = judged_all (scope_view l.self) (to_exprs (map expr_view l.exprs)) ≡ behind (map typed_view l.all.items) (judged_all (scope_view l.self) (to_exprs (map expr_view (drop l.expr-index l.exprs))))
+invariant-typed_all-loop-expr l = judged_all (scope_view l.self) (to_exprs (map expr_view l.exprs)) ≡ behind
+    (map typed_view l.all.items) (judged_all (scope_view l.self) (to_exprs (map expr_view (drop l.expr-index l.exprs))))
