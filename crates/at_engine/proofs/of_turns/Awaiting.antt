@@ -1,15 +1,17 @@
 -- Each command that doesn't wait is obeyed at once.
-use Rattle.std.proofs.Common.{◌≡◌, ℕ, ◌+◌, Bool, if◌then◌else◌, true, false, nat_eq, nat_le, List, [], ◌∷◌, ◌++◌, count_by, Option, Some, None, option_and_then, Result, Ok, Err, refl}
+use Rattle.std.specs.List.{list_all}
+use Rattle.std.proofs.Common.{◌≡◌, ℕ, ◌+◌, Bool, not, map, if◌then◌else◌, true, false, nat_eq, nat_le, List, [], ◌∷◌, ◌++◌, count_by, Option, Some, None, option_and_then, Result, Ok, Err, refl}
 use Rattle.at_model.specs.Classes.{Shape}
 use Rattle.at_model.specs.Trees.{Tree, class_of}
 use Rattle.at_model.specs.Terms.{Term, term_of}
 use Rattle.at_model.specs.Paths.{Node, part_named, tree_at}
-use Rattle.at_model.specs.Rules.{Rules}
+use Rattle.at_model.specs.Rules.{Rules, attribute_named}
+use Rattle.at_model.specs.Run.{Instance, Value}
 use Rattle.at_model.specs.Shaping.{names_classes, shaped}
 use Rattle.at_model.specs.Edits.{Edit, Refusal, class_asked, edited_within, list_class, optional_class, shape_at, token_kind}
 use Rattle.at_model.specs.Edits as edit
-use Rattle.at_model.specs.Lines.{Argument, Place, Post, last_post, last_version}
-use Rattle.at_model.specs.Machine.{State, Verdict, Edits, Leaves, Posted, Posts, Refuses, Tells, at_node, changed, code_of, is_marked, marked, marks_named, marks_used, max_marks, max_posted, node_named, obeyed, path_to, with_component, with_mark, with_tree}
+use Rattle.at_model.specs.Lines.{Argument, Ask, Place, Post, last_post, last_version}
+use Rattle.at_model.specs.Machine.{State, Verdict, Asks, Edits, Leaves, Posted, Posts, Refuses, Tells, at_node, changed, code_of, each, fit_parameters, is_marked, is_stale, marked, marks_named, marks_used, max_marks, max_posted, node_named, obeyed, parameters_of, path_to, questioned, value_named, verdict, with_component, with_mark, with_tree}
 use Rattle.at_model.specs.Replies.{At, Written}
 use Rattle.at_model.specs.Replies as code
 use Rattle.at_tree.specs.Token.{token_view}
@@ -75,6 +77,40 @@ module _ (rules : Rules) (s : State) (session : ℕ) where
       by true b = tt
       by false true = tt
       by false false = tt
+
+  at_ask : (place : Place) (attribute : List ℕ) (arguments : List Argument) → IsAtOnce (obeyed rules s session (Ask place attribute arguments))
+  at_ask place attribute arguments = at_place place _ (λ n. by n (each (map (value_named rules.classes s session) arguments)))
+    where
+      fits : (q : Instance Node) (b : Bool) → IsAtOnce (if b then Asks q else Refuses code.Arguments)
+      fits q true = tt
+      fits q false = tt
+
+      of_values : (n : Node) (vs : List (Value Node)) (o : Option ℕ) → IsAtOnce (elim o as (λ _. Verdict) [
+        | None ↦ Refuses code.Attribute
+        | Some a ↦ if fit_parameters rules.classes s.tree (parameters_of rules a) vs
+            then Asks (record { node = n; attribute = a; arguments = vs }) else Refuses code.Arguments
+      ])
+      of_values n vs None = tt
+      of_values n vs (Some a) = fits _ (fit_parameters rules.classes s.tree (parameters_of rules a) vs)
+
+      by : (n : Node) (o : Option (List (Value Node))) → IsAtOnce (elim o as (λ _. Verdict) [
+        | None ↦ Refuses code.Path
+        | Some vs ↦ questioned rules s.tree n attribute vs
+      ])
+      by n None = tt
+      by n (Some vs) = of_values n vs (option_and_then (λ u. attribute_named rules (class_of u) attribute) (tree_at s.tree n))
+
+  -- a line that asks doesn't wait
+  pub asked_at_once : (expected : Option ℕ) (place : Place) (attribute : List ℕ) (arguments : List Argument)
+      → IsAtOnce (verdict rules s (record { session = session; expected = expected; command = Ask place attribute arguments }))
+  asked_at_once expected place attribute arguments =
+      by (is_stale expected s.version) (not (list_all (is_marked s.marks session) (marks_used (Ask place attribute arguments))))
+    where
+      by : (a b : Bool) → IsAtOnce (if a then Refuses (code.Stale s.version) else (if b then Refuses code.Mark
+          else obeyed rules s session (Ask place attribute arguments)))
+      by true b = tt
+      by false true = tt
+      by false false = at_ask place attribute arguments
 
   at_shown : (o : Option Tree) → IsAtOnce (elim o as (λ _. Verdict) [ None ↦ Refuses code.Path | Some u ↦ Tells (Written (term_of rules.classes u)) ])
   at_shown None = tt
