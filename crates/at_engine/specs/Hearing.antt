@@ -1,5 +1,5 @@
 -- What a line is told, and what turns are given for it where it waits for an open question.
-use Rattle.std.specs.Prelude.{◌≡◌, ◌⊎◌, ℕ, ◌∷◌, Bool, true, List, Option, Some, None, IfOk, OnErr, option_map}
+use Rattle.std.specs.Prelude.{◌≡◌, ◌⊎◌, ℕ, Bool, true, List, Some, None, IfOk, OnErr, option_map}
 use Rattle.at_model.specs.Lines.{Line}
 use Rattle.at_model.specs.Machine.{Serves, Waits, numbered, verdict, without}
 use Rattle.at_model.specs.Replies.{Reply}

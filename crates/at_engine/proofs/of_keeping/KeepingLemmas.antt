@@ -1,5 +1,5 @@
 -- What is kept over the verdict of each command.
-use Rattle.std.proofs.Common.{◌≡◌, ◌↔◌, ℕ, ◌+◌, ◌<◌, Bool, true, false, nat_eq, nat_le, count_by, if◌then◌else◌, List, [], ◌∷◌, ◌++◌, length, Option, Some, None, Result, Ok, Err, IfOk, refl, sym, ap, ◌∙◌, subst, arith}
+use Rattle.std.proofs.Common.{◌≡◌, ◌↔◌, ℕ, ◌+◌, Bool, true, false, nat_eq, nat_le, count_by, if◌then◌else◌, List, [], ◌∷◌, ◌++◌, Option, Some, None, Result, Ok, Err, IfOk, refl, sym, ap, ◌∙◌, subst, arith}
 use Rattle.std.specs.Prelude.{IsSome}
 use Rattle.std.specs.declared.alloc.AllocError.{AllocError}
 use Rattle.at_model.specs.Trees.{Tree}
@@ -11,8 +11,8 @@ use Rattle.at_model.specs.Alike.{InstanceLike, Names}
 use Rattle.at_model.specs.Edits.{Edit as EditOf}
 use Rattle.at_model.specs.Terms.{term_of}
 use Rattle.at_model.specs.Lines.{Argument, Line, Place, Show, Mark, Where, Post, Spells, last_post}
-use Rattle.at_model.specs.Machine.{State, Posted, Verdict, Refuses, Tells, Leaves, Edits, Asks, Posts, Waits, Serves, after, marks_named, marks_used, max_posted, answer_form, at_node, obeyed, verdict, node_named, marked, path_to, with_mark, is_marked, max_marks}
-use Rattle.at_model.specs.Replies.{Done, Refused, Reply, At, Written, reply_text}
+use Rattle.at_model.specs.Machine.{State, Posted, Verdict, Refuses, Tells, Leaves, Edits, Asks, Posts, Waits, after, marks_named, marks_used, max_posted, answer_form, at_node, obeyed, verdict, node_named, marked, path_to, with_mark, is_marked, max_marks}
+use Rattle.at_model.specs.Replies.{Done, Refused, At, Written}
 use Rattle.at_model.specs.Replies as code
 use Rattle.at_protocol.specs.ReplyView.{code_view}
 use Rattle.at_protocol.specs.declared.reply.Refusal.{Refusal}

@@ -16,9 +16,11 @@ use Rattle.at_model.specs.Replies.{At, Written}
 use Rattle.at_model.specs.Replies as code
 use Rattle.at_tree.specs.Token.{token_view}
 use Rattle.at_tree.specs.View.{term_view}
-use Rattle.at_protocol.specs.LineView.{arguments_view, command_view, place_view}
+use Rattle.at_protocol.specs.LineView.{arguments_view, command_view, edit_view, place_view}
 use Rattle.at_protocol.specs.declared.line.Command.{Command}
 use Rattle.at_protocol.specs.declared.line.Command.TheVariants as command
+use Rattle.at_protocol.specs.declared.line.EditWords.{EditWords}
+use Rattle.at_protocol.specs.declared.line.EditWords.TheVariants as words
 use Rattle.at_engine.specs.Following.{IsAtOnce}
 
 module _ (rules : Rules) (s : State) (session : ℕ) where
@@ -120,13 +122,16 @@ module _ (rules : Rules) (s : State) (session : ℕ) where
   at_mark None = tt
   at_mark (Some n) = tt
 
+  at_words : (w : EditWords) → IsAtOnce (obeyed rules s session (edit_view w))
+  at_words (words.Set place t) = at_place (place_view place) _ (λ n. at_tree (term_view t) (class_asked rules.classes s.tree n) _ (λ u. at_edit (edit.Set n u)))
+  at_words (words.Put place part t) = at_place (place_view place) _ (λ n. at_part n part.now optional_class _ (λ p b. at_tree (term_view t) (Some b) _ (λ u. at_edit (edit.Put n p u))))
+  at_words (words.Drop place) = at_place (place_view place) _ (λ n. at_edit (edit.Drop n))
+  at_words (words.Insert place part index t) = at_place (place_view place) _ (λ n. at_part n part.now list_class _ (λ p b. at_tree (term_view t) (Some b) _ (λ u. at_edit (edit.Insert n p index u))))
+  at_words (words.Token place part value) = at_place (place_view place) _ (λ n. at_part n part.now token_kind _ (λ p kind. at_edit (edit.Token n p (token_view value))))
+  at_words (words.Move place to part index) = at_place (place_view place) _ (λ n. at_place (place_view to) _ (λ m. at_part m part.now list_class _ (λ p b. at_edit (edit.Move n m p index))))
+
   pub at_once : (c : Command) → ((number : ℕ) → c ≡ command.Wait number → ⊥) → IsAtOnce (obeyed rules s session (command_view c))
-  at_once (command.Set place t) other = at_place (place_view place) _ (λ n. at_tree (term_view t) (class_asked rules.classes s.tree n) _ (λ u. at_edit (edit.Set n u)))
-  at_once (command.Put place part t) other = at_place (place_view place) _ (λ n. at_part n part.now optional_class _ (λ p b. at_tree (term_view t) (Some b) _ (λ u. at_edit (edit.Put n p u))))
-  at_once (command.Drop place) other = at_place (place_view place) _ (λ n. at_edit (edit.Drop n))
-  at_once (command.Insert place part index t) other = at_place (place_view place) _ (λ n. at_part n part.now list_class _ (λ p b. at_tree (term_view t) (Some b) _ (λ u. at_edit (edit.Insert n p index u))))
-  at_once (command.Token place part value) other = at_place (place_view place) _ (λ n. at_part n part.now token_kind _ (λ p kind. at_edit (edit.Token n p (token_view value))))
-  at_once (command.Move place to part index) other = at_place (place_view place) _ (λ n. at_place (place_view to) _ (λ m. at_part m part.now list_class _ (λ p b. at_edit (edit.Move n m p index))))
+  at_once (command.Edit w) other = at_words w
   at_once (command.Show place) other = at_place (place_view place) _ (λ n. at_shown (tree_at s.tree n))
   at_once (command.Mark name place) other = at_place (place_view place) _ (at_name name.now)
   at_once (command.Unmark name) other = tt

@@ -69,18 +69,17 @@ fn all_turns<K: Keeper>(
 
 impl<K: Keeper> Engine<K> {
     ghost use Rattle.std.specs.Prelude.{◌≡◌, ◌+◌, ◌<◌, ◌≤◌, IfOk, MatchBool, None, [], length, vec_len, vec_capacity};
-    ghost use Rattle.at_store.specs.Shown.{contents, path as path_shown};
-    ghost use Rattle.at_engine.specs.Engines.{rules_of, state_of, IsSound};
+    ghost use Rattle.at_store.specs.Shown.{contents};
+    ghost use Rattle.at_engine.specs.Engines.{rules_of, IsSound};
     ghost use Rattle.at_engine.specs.Holding.{HasBegun};
     ghost use Rattle.at_engine.specs.Keeping.{IsSparingOn};
-    ghost use Rattle.at_engine.specs.Posted.{posted_view};
     ghost use Rattle.at_engine.specs.declared.posts.Posted.{Posted};
     ghost use Rattle.at_engine.specs.Hearing.{IsClosed};
     ghost use Rattle.at_engine.specs.Telling.{IsSaid};
     ghost use Rattle.at_protocol.specs.Writable.{IsWritable};
     ghost use Rattle.at_engine.specs.Serving.{Calls};
     ghost use Rattle.at_engine.specs.Turned.{HasGiven, HasTurned};
-    ghost use Rattle.at_engine.specs.Turning.{Attends, Begins, BeginsSparing, CanGoOn, CanSpend, CanTurn, HasEnded, HasGone, IsHeldAt, StandsAt, TakesOff, told_of};
+    ghost use Rattle.at_engine.specs.Turning.{Attends, Begins, BeginsSparing, CanGoOn, CanSpend, CanTurn, HasGone, IsHeldAt, StandsAt, TakesOff, told_of};
 
     /// Gives one turn to the open question with the least number, and appends the line with its answer, where it has one.
     /// Whether a question is open.
