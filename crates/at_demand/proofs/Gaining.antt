@@ -47,7 +47,7 @@ module _ (rules : Rules) (look : Contents ℕ) where
   pub worthy_none : (asked : Instance ℕ) (entries : Entries) → AddsWorthy rules look asked entries entries
   worthy_none asked entries = record { stays = λ i some. refl; worthy = λ i none some. absurd (not_none (kept_values entries i) some none) }
 
-  gain_none : (found : List (Instance ℕ × Find)) (entries : Entries) (i : Instance ℕ) → MayGain rules found entries entries i
+  pub gain_none : (found : List (Instance ℕ × Find)) (entries : Entries) (i : Instance ℕ) → MayGain rules found entries entries i
   gain_none found entries i = record { stays = λ j some. refl; lazy = λ j. inl refl; comes = λ j some. inl some }
 
   -- i may come to what is kept

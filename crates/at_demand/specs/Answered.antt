@@ -12,9 +12,9 @@ use Rattle.at_demand.specs.declared.question.Question.{Question}
 use Rattle.at_demand.specs.declared.trials.Trials.{Trials}
 use Rattle.at_demand.specs.Known.{meaning, kept_values, ArePlain, answer_view}
 use Rattle.at_demand.specs.Right.{AreRight, IsThere}
-use Rattle.at_demand.specs.Sparing.{AddsWorthy, AreSpare, Counts, HasWorthy, IsWork, MayAddLazy}
+use Rattle.at_demand.specs.Sparing.{AddsWorthy, AreSpare, Counts, HasWorthy, IsWork}
 use Rattle.at_demand.specs.KeptTrials.{FitAfter}
-use Rattle.at_demand.specs.Turns.{AreTurns, BreaksOff, HasGiven, IsSparingTurns, IsStanding, under_way}
+use Rattle.at_demand.specs.Turns.{AreTurns, BreaksOff, GainsInTurn, HasGiven, IsSparingTurns, IsStanding, under_way}
 
 -- The instance has its answer. What is kept stays right; with an exact keeper it stays spare, has all that is worth keeping, and the
 -- work counts that.
@@ -29,13 +29,13 @@ pub record HasAnswered {E : Type 0} (rules : Rules) (s : Shown) (exact : Bool) (
   pub right : IsThere s i → AreRight rules s before → AreRight rules s after
   pub plain : ArePlain rules after
 
--- A turn of the question lets at most its last instance come to what is kept, which stays right and, with an exact keeper, spare; the
--- work counts that.
+-- A turn of the question lets at most its last instance come to what is kept, and entries without a value of what it had found. That
+-- stays right and, with an exact keeper, spare; the work counts the value.
 pub record GainsAtMost (rules : Rules) (s : Shown) (exact : Bool) (before after : Entries) (earlier later : ℕ) (q : Question) : Type 0 where
   pub right : Right (contents s) (meaning rules) (kept_values after)
   pub stays : IsThere s (asked (under_way q)) → AreRight rules s before → AreRight rules s after
   pub plain : ArePlain rules after
-  pub last : MayAddLazy rules before after q.inst
+  pub last : GainsInTurn rules before after (under_way q)
   pub worthy : AddsWorthy rules (contents s) (asked (under_way q)) before after
   pub spare : IsTrue exact → AreSpare rules (contents s) before → IsSparingTurns rules (contents s) before q → AreSpare rules (contents s) after
   pub counts : IsTrue exact → Counts before after earlier later
@@ -62,7 +62,7 @@ pub record HasTurned {E : Type 0} (rules : Rules) (s : Shown) (exact : Bool) (be
   pub right : Right (contents s) (meaning rules) (kept_values after)
   pub stays : IsThere s (asked (under_way old)) → AreRight rules s before → AreRight rules s after
   pub plain : ArePlain rules after
-  pub last : MayAddLazy rules before after old.inst
+  pub last : GainsInTurn rules before after (under_way old)
   pub worthy : AddsWorthy rules (contents s) (asked (under_way old)) before after
   pub all : IsTrue exact → AreSpare rules (contents s) before → IsSparingTurns rules (contents s) before old
       → IfOk r (λ o. IfSome o (λ a. HasWorthy rules (contents s) (asked (under_way old)) after))

@@ -22,7 +22,7 @@ use Rattle.at_demand.specs.UnderWay.{HasStepped}
 use Rattle.at_demand.specs.Covering.{HasPassedTo, IsWhole}
 use Rattle.at_demand.specs.Only.{AreLean, IsLean, TakesOnly}
 use Rattle.at_demand.specs.Right.{AreRight, AreThere, IsThere}
-use Rattle.at_demand.specs.Sparing.{AddsWorthy, AreSettled, AreSpare, Counts, MayAddLazy}
+use Rattle.at_demand.specs.Sparing.{AddsWorthy, AreSettled, AreSpare, Counts, MayGain}
 
 -- The trial of an instance has come to this step, past values that hold; what it looked at and took is what its evaluation sees and
 -- comes to, all values are of their kinds, and what it took of what is kept is kept.
@@ -85,7 +85,7 @@ pub record HasAttempted {E : Type 0} (rules : Rules) (s : Shown) (exact : Bool) 
   pub right : Right (contents s) (meaning rules) (kept_values after)
   pub stays : IsThere s i → AreThere rules s found → AreRight rules s before → AreRight rules s after
   pub plain : ArePlain rules after
-  pub lazy : MayAddLazy rules before after i
+  pub gains : MayGain rules found before after i
   pub worthy : AddsWorthy rules (contents s) i before after
   pub spare : IsTrue exact → AreSpare rules (contents s) before → AreLean rules (contents s) found → AreSettled rules before found
       → AreSpare rules (contents s) after

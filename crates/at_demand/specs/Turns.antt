@@ -8,7 +8,7 @@ use Rattle.at_model.specs.Rules.{Rules}
 use Rattle.at_model.specs.Instances.{AnyText}
 use Rattle.at_model.specs.Meaning.{Answer, Equations, Among, HasValue}
 use Rattle.at_model.specs.TypedRuns.{IsWellTyped}
-use Rattle.at_model.specs.Turning.{UnderWay, chain, asked, IsOn, Silent, Turned}
+use Rattle.at_model.specs.Turning.{UnderWay, chain, asked, keys, IsOn, Silent, Turned}
 use Rattle.at_store.specs.Shown.{Shown, contents}
 use Rattle.at_body.specs.Typed.{class_shown}
 use Rattle.at_body.specs.Values.{value_view}
@@ -16,7 +16,7 @@ use Rattle.at_body.specs.declared.value.Value.{Value as ValueCode}
 use Rattle.at_cache.specs.Kept.{Entries}
 use Rattle.at_demand.specs.declared.evaluation.Find.{Find}
 use Rattle.at_demand.specs.declared.question.Question.{Question}
-use Rattle.at_demand.specs.Known.{meaning, kept_values, FoundKept, IsFound}
+use Rattle.at_demand.specs.Known.{meaning, kept_values, FoundKept, IsFound, IsKept}
 use Rattle.at_demand.specs.Covering.{AreWhole}
 use Rattle.at_demand.specs.Only.{AreLean}
 use Rattle.at_demand.specs.Sparing.{AreSettled, MayAddLazy}
@@ -69,20 +69,26 @@ HasGiven look equation limit given u new None = (given ≡ limit) × Silent look
 HasGiven look equation limit given u new (Some a) = (before : ℕ) × (mid : UnderWay ℕ) × (kept : Known ℕ) × (given ≡ before + 1) × (given ≤ limit)
     × Silent look equation before u mid × Turned look equation kept mid new (Some a)
 
--- So many single turns were given, one behind the other: each tried the one equation to which the question had come, and lets at
--- most the value of that instance come to what is kept, where it is lazy. None but the last one answers it.
+-- What a turn of the question lets come to what is kept: the value of the instance to which it had come, where that is lazy, and
+-- entries without a value of instances that it had found. Of these, how many come also hangs on how many turns go on with one trial.
+pub record GainsInTurn (rules : Rules) (old new : Entries) (u : UnderWay ℕ) : Type 0 where
+  pub last : MayAddLazy rules old new u.last
+  pub others : (j : Instance ℕ) → IsSome (new j) → IsSome (old j) ⊎ (IsKept new j ⊎ Among j (keys u.found))
+
+-- So many single turns were given, one behind the other: each tried the one equation to which the question had come, and lets no more
+-- come to what is kept than a turn may. None but the last one answers it.
 pub data AreTurns (rules : Rules) (s : Shown) : (given : ℕ) → (before : Entries) → UnderWay ℕ → (after : Entries) → UnderWay ℕ
     → Option (Answer ℕ) → Type 0 where
   none : (e : Entries) (u : UnderWay ℕ) → AreTurns rules s 0 e u e u None
   more : (n : ℕ) (d e f : Entries) (u v w : UnderWay ℕ) (o : Option (Answer ℕ)) → AreTurns rules s n d u e v None
-      → Turned (contents s) (meaning rules) (kept_values e) v w o → MayAddLazy rules e f v.last → AreTurns rules s (n + 1) d u f w o
+      → Turned (contents s) (meaning rules) (kept_values e) v w o → GainsInTurn rules e f v → AreTurns rules s (n + 1) d u f w o
 
--- Memory ran out in one of so many turns at most. Those before it were given so, and that one lets at most the value of the instance
--- to which the question had come then come to what is kept.
+-- Memory ran out in one of so many turns at most. Those before it were given so, and that one lets no more come to what is kept than
+-- a turn may.
 pub record BreaksOff (rules : Rules) (s : Shown) (limit : ℕ) (before : Entries) (u : UnderWay ℕ) (after : Entries) : Type 0 where
   pub given : ℕ
   pub fewer : given < limit
   pub mid : Entries
   pub way : UnderWay ℕ
   pub turns : AreTurns rules s given before u mid way None
-  pub last : MayAddLazy rules mid after way.last
+  pub last : GainsInTurn rules mid after way

@@ -1,85 +1,148 @@
 -- What comes of saying what a line is told.
-use Rattle.std.proofs.Common.{◌≡◌, ◌++◌, ℕ, true, false, List, [], ◌∷◌, length, ◌<◌, arith, Option, Some, None, option_map, refl, sym, ◌∙◌, subst, Result, Ok, Err, IfOk, OnErr, Bool}
+use Rattle.std.proofs.Common.{◌≡◌, ◌++◌, ℕ, true, false, List, [], ◌∷◌, length, ◌<◌, arith, Option, Some, None, option_map, refl, sym, ap, ◌∙◌, subst, inr, Result, Ok, Err, IfOk, OnErr, Bool}
 use Rattle.std.specs.declared.alloc.AllocError.{AllocError}
 use Rattle.at_model.specs.Rules.{Rules}
 use Rattle.at_model.specs.Lines.{Line, Spells}
-use Rattle.at_model.specs.Replies.{Memory, Reply, reply_text}
-use Rattle.at_model.specs.Machine.{State, Posted, Serves, Waits, last, answers, runs_out, done_reply, verdict, obeys, waits}
+use Rattle.at_model.specs.Replies.{Form, Memory, Reply, reply_text}
+use Rattle.at_model.specs.Machine.{State, Posted as PostedOf, Verdict, Answered, Serves, Waits, last, answers, runs_out, done_reply, verdict, obeys, waits, without}
 use Rattle.at_model.specs.Machine as machine
 use Rattle.at_protocol.specs.ReplyView.{IsForm, posting_view}
 use Rattle.at_protocol.specs.Writable.{IsShort, IsWritable}
 use Rattle.at_protocol.specs.declared.reply.Form.{Form as FormValue}
 use Rattle.at_protocol.specs.declared.reply.Posting.{Posting as PostingValue}
-use Rattle.at_engine.specs.KeptOver.{AreWaiting}
+use Rattle.at_protocol.proofs.Lines.{one_line}
+use Rattle.at_store.specs.Shown.{path}
+use Rattle.at_cache.specs.Kept.{Entries}
+use Rattle.at_engine.specs.Engines.{rules_of, state_of}
+use Rattle.at_engine.specs.Following.{IsAtOnce}
+use Rattle.at_engine.specs.Hearing.{Hears, IsClosed, IsStep}
+use Rattle.at_engine.specs.Hearing as hearing
+use Rattle.at_engine.specs.KeptOver.{AreWaiting, HasVerdict}
 use Rattle.at_engine.specs.KeptOver as kept
-use Rattle.at_engine.specs.Serving.{Steps}
-use Rattle.at_engine.specs.Telling.{Gets, Hears, IsAnswerTo, IsClosed, IsSaid, IsTold, Meets, memory_for}
-use Rattle.at_engine.specs.Telling as telling
+use Rattle.at_engine.specs.Posted.{posted_view}
+use Rattle.at_engine.specs.Serving.{IsServed, TakesLine}
+use Rattle.at_engine.specs.Telling.{Gets, IsSaid, Meets, memory_for}
+use Rattle.at_engine.specs.Turning.{AnswersIn, HasEnded, StandsAt}
+use Rattle.at_engine.specs.declared.engine.Engine.{Engine}
 use Rattle.at_engine.specs.declared.engine.saying.Told.{Told}
+use Rattle.at_engine.specs.declared.posts.Posted.{Posted}
 use Rattle.at_engine.proofs.Sessions.{session_of_line}
+use Rattle.at_engine.proofs.of_turns.Counted.{out_behind}
 
 -- what is told at once is heard so
-pub heard_at_once : (rules : Rules) (old new : State) (l : Line) (told : Told) (r : Result FormValue AllocError) → told.session ≡ Some l.session → told.done ≡ None → told.form ≡ r → IfOk r (λ f. Meets rules old l f new) → OnErr r (new ≡ old) → Hears rules old l new told
-heard_at_once rules old new l told r session done form meets err =
-    telling.at_once session done (subst (λ (x : Result FormValue AllocError). IfOk x (λ f. Meets rules old l f new)) (sym form) meets) (subst (λ (x : Result FormValue AllocError). OnErr x (new ≡ old)) (sym form) err)
+pub heard_at_once : {K : Type 0} (exact : Bool) (entries : K → Entries) (old new : Engine K) (l : Line) (told : Told) (r : Result FormValue AllocError)
+    → told.session ≡ Some l.session → told.done ≡ None → told.form ≡ r → IfOk r (λ f. Meets (rules_of old) (state_of old) l f (state_of new))
+    → OnErr r (state_of new ≡ state_of old) → IsAtOnce (verdict (rules_of old) (state_of old) l) → Hears exact entries old new l told
+heard_at_once exact entries old new l told r session done form meets err soon = hearing.at_once session done
+    (subst (λ (x : Result FormValue AllocError). IfOk x (λ f. Meets (rules_of old) (state_of old) l f (state_of new))) (sym form) meets)
+    (subst (λ (x : Result FormValue AllocError). OnErr x (state_of new ≡ state_of old)) (sym form) err) soon
 
 -- so it is of any bytes
-pub gets_at_once : (rules : Rules) (old new : State) (bytes : List ℕ) (told : Told) (session : Option ℕ) (r : Result FormValue AllocError) → told.session ≡ session → told.done ≡ None → told.form ≡ r → Gets rules old bytes new session None r → Gets rules old bytes new told.session told.done told.form
-gets_at_once rules old new bytes told session r is none form h =
-    subst (λ (o : Option ℕ). Gets rules old bytes new o told.done told.form) (sym is)
-    (subst (λ (o : Option PostingValue). Gets rules old bytes new session o told.form) (sym none)
-    (subst (λ (x : Result FormValue AllocError). Gets rules old bytes new session None x) (sym form) h))
+pub gets_at_once : (May : Bool × Reply → Type 0) (told : Told) (session : Option ℕ) (r : Result FormValue AllocError) → told.session ≡ session
+    → told.done ≡ None → told.form ≡ r → Gets May session None r → Gets May told.session told.done told.form
+gets_at_once May told session r is none form h =
+    subst (λ (o : Option ℕ). Gets May o told.done told.form) (sym is)
+    (subst (λ (o : Option PostingValue). Gets May session o told.form) (sym none)
+    (subst (λ (x : Result FormValue AllocError). Gets May session None x) (sym form) h))
 
 -- no test is both
 pub not_both : false ≡ true → ⊥
 not_both e = absurd cc
 
--- what a line is told at once is a reply to it
-module _ (rules : Rules) (old new : State) (bytes : List ℕ) (l : Line) (spells : Spells bytes l) where
-  told_at_once : (f : FormValue) → Meets rules old l f new → IsTold rules old bytes new (Some l.session) None f
-  told_at_once f m = record {
-    writable = m.writable;
-    form = m.form;
-    is_form = m.is_form;
-    serves = machine.handles (obeys l spells (record { session = refl; done = refl; state = m.state; says = m.says }));
-    unsaid = λ long. subst (λ (x : State). Serves rules old bytes x (true, memory_for (Some l.session) None)) (sym (m.kept long)) (machine.runs_out (session_of_line bytes l spells));
-  }
+-- what a line is told is a reply to it
+module _ {K : Type 0} (exact : Bool) (entries : K → Entries) (old new : Engine K) (bytes : List ℕ) (l : Line) (spells : Spells bytes l) where
+  abbrev May : Bool × Reply → Type 0
+  May = IsStep exact entries bytes old new
 
-  got_at_once : (r : Result FormValue AllocError) → IfOk r (λ f. Meets rules old l f new) → OnErr r (new ≡ old) → Gets rules old bytes new (Some l.session) None r
-  got_at_once (Ok f) meets err = told_at_once f meets
-  got_at_once (Err e) meets err = subst (λ (x : State). Serves rules old bytes x (true, memory_for (Some l.session) None)) (sym err) (machine.runs_out (session_of_line bytes l spells))
+  abbrev becomes : Verdict
+  becomes = verdict (rules_of old) (state_of old) l
+
+  abbrev Replies : State → Bool × Reply → Type 0
+  Replies = Serves (rules_of old) (state_of old) bytes
+
+  -- bytes spell one line
+  one_verdict : (v : Verdict) → HasVerdict (rules_of old) (state_of old) bytes v → v ≡ becomes
+  one_verdict v (kept.obeys k spelled is) = is ∙ ap (verdict (rules_of old) (state_of old)) (one_line bytes k l spelled spells)
+  one_verdict v (kept.refuses none is) = absurd (none l spells)
+
+  -- at once
+  module _ (soon : IsAtOnce becomes) where
+    step_at_once : (told : Bool × Reply) → Replies (state_of new) told → May told
+    step_at_once told serves = record {
+      serves = serves;
+      waits = λ number h. absurd (subst IsAtOnce (sym (one_verdict (Waits number) h)) soon);
+    }
+
+    unread_at_once : state_of new ≡ state_of old → May (true, memory_for (Some l.session) None)
+    unread_at_once same = step_at_once _ (subst (λ (x : State). Replies x (true, memory_for (Some l.session) None)) (sym same)
+        (machine.runs_out (session_of_line bytes l spells)))
+
+    got_at_once : (r : Result FormValue AllocError) → IfOk r (λ f. Meets (rules_of old) (state_of old) l f (state_of new))
+        → OnErr r (state_of new ≡ state_of old) → Gets May (Some l.session) None r
+    got_at_once (Ok f) m err = record {
+      writable = m.writable;
+      form = m.form;
+      is_form = m.is_form;
+      may = step_at_once _ (machine.handles (obeys l spells (record { session = refl; done = refl; state = m.state; says = m.says })));
+      unsaid = λ long. unread_at_once (m.kept long);
+    }
+    got_at_once (Err e) meets err = unread_at_once err
 
   -- a line that waits is told the answer to its question, or that memory ran out
-  module _ (q : Posted) (is : verdict rules old l ≡ Waits q.number) where
-    memory_answer : (told : Told) → IsClosed rules old q new told → Serves rules old bytes new (true, memory_for told.session told.done)
-    memory_answer told c =
-        let reply : memory_for told.session told.done ≡ done_reply old q Memory = λ i. record { session = c.session i; done = c.done i; form = Memory } in
-        subst (λ (r : Reply). Serves rules old bytes new (true, r)) (sym reply)
-        (subst (λ (x : State). Serves rules old bytes x (true, done_reply old q Memory)) (sym c.gone) (machine.handles (waits l q.number spells is (last (runs_out q c.there)))))
+  module _ (position : ℕ) (p : Posted) (there : StandsAt old.posts.items.items position p) (is : becomes ≡ Waits p.number) where
+    abbrev question : PostedOf
+    question = posted_view (path old.store) p
 
-    got_by_turns : (told : Told) → IsClosed rules old q new told → (r : Result FormValue AllocError) → told.form ≡ r → Gets rules old bytes new told.session told.done r
-    got_by_turns told c (Ok f) same =
-        let x : IsAnswerTo rules old q f = subst (λ (y : Result FormValue AllocError). IfOk y (IsAnswerTo rules old q)) same c.answer in
-        let reply : record { session = told.session; done = option_map posting_view told.done; form = x.form } ≡ done_reply old q x.form = λ i. record { session = c.session i; done = c.done i; form = x.form } in
-        record {
-          writable = x.writable;
-          form = x.form;
-          is_form = x.is_form;
-          serves = subst (λ (r : Reply). Serves rules old bytes new (false, r)) (sym reply)
-              (subst (λ (y : State). Serves rules old bytes y (false, done_reply old q x.form)) (sym c.gone) (machine.handles (waits l q.number spells is (last (answers q x.form c.there x.answers)))));
-          unsaid = λ long. memory_answer told c;
-        }
-    got_by_turns told c (Err e) same = memory_answer told c
+    waited_step : (told : Bool × Reply) (given : ℕ) → Replies (state_of new) told → AnswersIn exact entries None old new.demand p given told
+        → May told
+    waited_step told given serves tried = record {
+      serves = serves;
+      waits = λ number h. inr (record {
+        position = position;
+        question = p;
+        there = there;
+        numbered' = let same : Waits number ≡ Waits p.number = one_verdict (Waits number) h ∙ is in cc;
+        given = given;
+        answers = tried;
+      });
+    }
 
-  pub got : (told : Told) → Hears rules old l new told → Gets rules old bytes new told.session told.done told.form
-  got told (telling.at_once session done meets err) =
-      subst (λ (o : Option ℕ). Gets rules old bytes new o told.done told.form) (sym session)
-      (subst (λ (o : Option PostingValue). Gets rules old bytes new (Some l.session) o told.form) (sym done) (got_at_once told.form meets err))
-  got told (telling.by_turns q is c) = got_by_turns q is told c told.form refl
+    -- what turns told, in the words of what was told
+    replied : (told : Told) → IsClosed exact entries old new p told → (wants : Bool) (form : Form)
+        → Answered (rules_of old) p.number (state_of old) (without p.number (state_of old)) (wants, done_reply (state_of old) question form)
+        → Replies (state_of new) (wants, record { session = told.session; done = option_map posting_view told.done; form = form })
+    replied told c wants form answered =
+        let reply : record { session = told.session; done = option_map posting_view told.done; form = form } ≡ done_reply (state_of old) question form =
+        λ i. record { session = c.session i; done = c.done i; form = form } in
+        subst (λ (r : Reply). Replies (state_of new) (wants, r)) (sym reply)
+        (subst (λ (x : State). Replies x (wants, done_reply (state_of old) question form)) (sym c.gone)
+        (machine.handles (waits l p.number spells is answered)))
 
-pub writable_so : (rules : Rules) (old new : State) (bytes : List ℕ) (session : Option ℕ) (done : Option PostingValue) (r : Result FormValue AllocError) → Gets rules old bytes new session done r → IfOk r IsWritable
-writable_so rules old new bytes session _ (Ok f) g = g.writable
-writable_so rules old new bytes session _ (Err e) g = tt
+    memory_answer : (told : Told) → IsClosed exact entries old new p told → Replies (state_of new) (true, memory_for told.session told.done)
+    memory_answer told c = replied told c true Memory (last (runs_out question c.there))
+
+    got_by_turns : (told : Told) → IsClosed exact entries old new p told → (r : Result FormValue AllocError)
+        → HasEnded exact entries old new.demand p r → Gets May told.session told.done r
+    got_by_turns told c (Ok f) (given, said, ends) = record {
+      writable = said.writable;
+      form = said.form;
+      is_form = said.is_form;
+      may = waited_step _ given (replied told c false said.form (last (answers question said.form c.there said.answers))) ends;
+      unsaid = λ long. waited_step _ given (memory_answer told c)
+          (out_behind exact entries None old new.demand p given 0 f said.form tt ends);
+    }
+    got_by_turns told c (Err e) ended = waited_step _ 0 (memory_answer told c) ended
+
+  pub got : (told : Told) → Hears exact entries old new l told → Gets May told.session told.done told.form
+  got told (hearing.at_once session done meets err soon) =
+      subst (λ (o : Option ℕ). Gets May o told.done told.form) (sym session)
+      (subst (λ (o : Option PostingValue). Gets May (Some l.session) o told.form) (sym done) (got_at_once soon told.form meets err))
+  got told (hearing.by_turns position p there is c) = got_by_turns position p there is told c told.form c.ended
+
+pub writable_so : (May : Bool × Reply → Type 0) (session : Option ℕ) (done : Option PostingValue) (r : Result FormValue AllocError) → Gets May session done r
+    → IfOk r IsWritable
+writable_so May session done (Ok f) g = g.writable
+writable_so May session done (Err e) g = tt
 
 same_ok : {T E : Type 0} {a b : T} → ◌≡◌ {A = Result T E} (Ok a) (Ok b) → a ≡ b
 same_ok e = cc
@@ -88,13 +151,13 @@ not_ok : {T E : Type 0} {a : T} {e : E} → ◌≡◌ {A = Result T E} (Err e) (
 not_ok e = absurd cc
 
 -- what was said is a reply to the line
-module _ (rules : Rules) (old new : State) (bytes : List ℕ) (before after : List ℕ) where
-  pub answered : (told : Told) (r : Result FormValue AllocError) → told.form ≡ r → (wants : Bool) → Gets rules old bytes new told.session told.done r → IsSaid told wants before after
-      → (reply : Reply) × Serves rules old bytes new (wants, reply) × (after ≡ before ++ reply_text reply)
+module _ (May : Bool × Reply → Type 0) (before after : List ℕ) where
+  pub answered : (told : Told) (r : Result FormValue AllocError) → told.form ≡ r → (wants : Bool) → Gets May told.session told.done r → IsSaid told wants before after
+      → (reply : Reply) × May (wants, reply) × (after ≡ before ++ reply_text reply)
   answered told (Ok f) is false g (h, same, writes) =
       let e : f ≡ h = same_ok (sym is ∙ same) in
       let reply : Reply = record { session = told.session; done = option_map posting_view told.done; form = g.form } in
-      (reply, g.serves, writes reply (record { session = refl; done = refl; form = subst (λ (x : FormValue). IsForm x g.form) e g.is_form }))
+      (reply, g.may, writes reply (record { session = refl; done = refl; form = subst (λ (x : FormValue). IsForm x g.form) e g.is_form }))
   answered told (Ok f) is true g said =
       let long : IsShort (record { session = told.session; done = told.done; form = f }) → ⊥ = subst (λ (x : Result FormValue AllocError). IfOk x (λ f. IsShort (record { session = told.session; done = told.done; form = f }) → ⊥)) is said.0 in
       (memory_for told.session told.done, g.unsaid long, said.1)
@@ -113,13 +176,13 @@ stays_unless rules old new bytes said e (machine.handles (waits l number spells 
 stays_unless rules old _ bytes _ e (machine.handles (machine.refuses none session)) n = refl
 stays_unless rules old _ bytes _ e (machine.runs_out session) none = refl
 
--- a line that isn't empty is served so
-pub stepped : (rules : Rules) (old new : State) (line : List ℕ) (wants : Bool) (before after : List ℕ) → 0 < length line
-    → (reply : Reply) × Serves rules old line new (wants, reply) × (after ≡ before ++ reply_text reply) → Steps rules old line new before after
-stepped rules old new [] wants before after some s = absurd (omega (arith, some))
-stepped rules old new (b ∷ bs) wants before after some s = (wants, s.0, s.1, s.2)
+-- a line that isn't empty is served so, and an empty one changes nothing
+module _ {K : Type 0} (exact : Bool) (entries : K → Entries) (old : Engine K) (before after : List ℕ) where
+  pub taken : (new : Engine K) (wants : Bool) (line : List ℕ) → 0 < length line → IsServed exact entries line old new before after wants
+      → TakesLine exact entries line old new before after
+  taken new wants [] some s = absurd (omega (arith, some))
+  taken new wants (b ∷ bs) some s = (wants, s)
 
--- an empty one changes nothing
-pub stepped_nowhere : (rules : Rules) (s : State) (line : List ℕ) (before after : List ℕ) → length line ≡ 0 → after ≡ before → Steps rules s line s before after
-stepped_nowhere rules s [] before after none same = (refl, same)
-stepped_nowhere rules s (b ∷ bs) before after none same = absurd (omega (arith, none))
+  pub taken_nowhere : (line : List ℕ) → length line ≡ 0 → after ≡ before → TakesLine exact entries line old old before after
+  taken_nowhere [] none same = (refl, same)
+  taken_nowhere (b ∷ bs) none same = absurd (omega (arith, none))

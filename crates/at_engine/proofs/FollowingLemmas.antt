@@ -6,7 +6,7 @@ use Rattle.at_model.specs.Run.{Instance}
 use Rattle.at_model.specs.Rules.{Rules}
 use Rattle.at_model.specs.Meaning.{Answer}
 use Rattle.at_model.specs.Edits.{Edit}
-use Rattle.at_model.specs.Machine.{State, Marked, Verdict, Posted, Refuses, Tells, Leaves, Edits, Asks, Posts, AnswersIn, after, answer_form}
+use Rattle.at_model.specs.Machine.{State, Marked, Verdict, Posted, Refuses, Tells, Leaves, Edits, Asks, Posts, Waits, AnswersIn, after, answer_form}
 use Rattle.at_model.specs.Replies.{Done, Opened, Shows, Refused, Shown}
 use Rattle.at_protocol.specs.ReplyView.{IsShown, code_view}
 use Rattle.at_protocol.specs.Writable.{IsShownWritable}
@@ -14,7 +14,7 @@ use Rattle.at_protocol.specs.declared.reply.Refusal.{Refusal}
 use Rattle.at_protocol.specs.declared.reply.Shown.{Shown as ShownValue}
 use Rattle.at_protocol.specs.declared.reply.Form.{Form as FormValue}
 use Rattle.at_protocol.specs.declared.reply.Form.TheVariants as form
-use Rattle.at_engine.specs.Following.{Follows}
+use Rattle.at_engine.specs.Following.{Follows, IsAtOnce}
 use Rattle.at_engine.specs.Telling.{IsToldAs}
 
 module _ (rules : Rules) where
@@ -38,3 +38,13 @@ module _ (rules : Rules) where
 
   pub posts : (s : State) (v : Verdict) (q : Posted) (new : State) → v ≡ Posts q → new ≡ after s (Posts q) → Follows rules s v (form.Open q.number) new
   posts s v q new is state = as_verdict s v (Posts q) (form.Open q.number) new is (record { form = Opened q.number; is_form = refl; says = refl; state = state; writable = tt; kept = λ long. absurd (long tt) })
+
+  -- what a line is told at once doesn't wait
+  pub told_at_once : (s : State) (v : Verdict) (f : FormValue) (new : State) → Follows rules s v f new → IsAtOnce v
+  told_at_once s (Refuses c) f new h = tt
+  told_at_once s (Tells shown) f new h = tt
+  told_at_once s (Leaves marks) f new h = tt
+  told_at_once s (Edits e t) f new h = tt
+  told_at_once s (Asks q) f new h = tt
+  told_at_once s (Posts q) f new h = tt
+  told_at_once s (Waits number) f new h = absurd h.says

@@ -1,11 +1,10 @@
 -- What an engine does to what is kept, and to the work, by the paths of nodes.
-use Rattle.std.specs.Prelude.{◌≡◌, ℕ, Bool, true, false, List, [], ◌∷◌, ◌++◌, Option, Some, None, Result, Ok, Err}
+use Rattle.std.specs.Prelude.{◌≡◌, ℕ, Bool, true, false, List, Option, Some, None, Result, Ok, Err}
 use Rattle.std.specs.List.{AllByRecursion}
 use Rattle.at_model.specs.Paths.{Node}
 use Rattle.at_model.specs.Rules.{Rules}
 use Rattle.at_model.specs.Run.{Contents, Instance}
-use Rattle.at_model.specs.Machine.{Verdict, Serves, after}
-use Rattle.at_model.specs.Replies.{Reply, reply_text}
+use Rattle.at_model.specs.Machine.{Verdict, after}
 use Rattle.at_store.specs.Shown.{contents}
 use Rattle.at_cache.specs.Kept.{Entries}
 use Rattle.at_demand.specs.Sparing.{AreSpare}
@@ -80,10 +79,3 @@ SparesLine entries bytes (Err e) old new = IsSpare entries new × (AreAtOnce old
 abbrev pub KeepsServed : {K : Type 0} → (entries : K → Entries) → (out_of_memory : Bool) → List ℕ → (old new : Engine K) → Type 0
 KeepsServed entries false bytes old new = AreAtOnce old bytes → KeepsLine entries bytes old new
 KeepsServed entries true bytes old new = AreAtOnce old bytes → GrowsLine entries bytes old new
-
--- An empty line changes nothing. Any other one is a step of the machine whose reply is appended, and just what it leaves and
--- adds is kept, or some of that where its reply is `memory`, unless it waits for turns.
-abbrev pub KeepsStep : {K : Type 0} → (entries : K → Entries) → List ℕ → (old new : Engine K) → (before after : List ℕ) → Type 0
-KeepsStep entries [] old new before after = (new ≡ old) × (after ≡ before)
-KeepsStep entries (b ∷ bs) old new before after = (wants : Bool) × (reply : Reply) × Serves (rules_of old) (state_of old) (b ∷ bs) (state_of new) (wants, reply)
-    × (after ≡ before ++ reply_text reply) × KeepsServed entries wants (b ∷ bs) old new

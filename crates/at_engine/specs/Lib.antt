@@ -14,6 +14,7 @@ pub mod Naming
 pub mod Lasting
 pub mod Engines
 pub mod Telling
+pub mod Hearing
 pub mod Turned
 pub mod Turning
 pub mod Asking

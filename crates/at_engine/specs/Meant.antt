@@ -1,6 +1,6 @@
 -- What the words of a command come to, in whatever state shows the tree and the marks over which they are read.
 use Rattle.std.specs.Prelude.{◌≡◌, ⊤, ℕ, List, Some, Result, Ok, Err, is_some, true}
-use Rattle.at_model.specs.Lines.{Command, Ask, Set, Put, Drop, Insert, Token, Move, Show, Mark as MarkOf, Unmark, Where, Version, Post, Wait}
+use Rattle.at_model.specs.Lines.{Command}
 use Rattle.at_model.specs.Machine.{changed, obeyed}
 use Rattle.at_model.specs.Paths.{Node}
 use Rattle.at_model.specs.Rules.{Rules}
@@ -24,23 +24,6 @@ use Rattle.at_engine.specs.declared.posts.Posts.{Posts}
 abbrev pub Reports : Rules → Shown → List Mark → (session : ℕ) → Command → Form → Type 0
 Reports rules s marks session c value =
     (version : ℕ) (posts : Posts) → Obeys rules (state_in s version marks posts) session c value (state_in s version marks posts)
-
--- the command is one of those that edit the tree
-abbrev pub IsEdit : Command → Type 0
-IsEdit (Set place t) = Unit {0}
-IsEdit (Put place part t) = Unit {0}
-IsEdit (Drop place) = Unit {0}
-IsEdit (Insert place part index t) = Unit {0}
-IsEdit (Token place part v) = Unit {0}
-IsEdit (Move place to part index) = Unit {0}
-IsEdit (Ask place attribute arguments) = ⊥
-IsEdit (Show place) = ⊥
-IsEdit (MarkOf name place) = ⊥
-IsEdit (Unmark name) = ⊥
-IsEdit (Where name) = ⊥
-IsEdit Version = ⊥
-IsEdit (Post place attribute arguments) = ⊥
-IsEdit (Wait number) = ⊥
 
 -- the command means the edit, of nodes that are there
 pub record IsMeant (rules : Rules) (s : Shown) (marks : List Mark) (session : ℕ) (c : Command) (e : Edit) : Type 0 where

@@ -1,20 +1,13 @@
 -- What one call of the engine does.
 use Rattle.std.specs.Prelude.{◌≡◌, ℕ, ◌+◌, ◌≤◌, ◌<◌, Bool, List, [], ◌∷◌, ◌++◌, Result, Vec, vec_capacity, vec_len, IfOk, IsTrue, OnErr}
 use Rattle.std.specs.Global.{Global}
-use Rattle.at_model.specs.Rules.{Rules}
-use Rattle.at_model.specs.Machine.{State, Serves}
 use Rattle.at_model.specs.Replies.{Reply, reply_text}
 use Rattle.at_cache.specs.Kept.{Entries}
 use Rattle.at_cache.specs.Traced.{Memories}
-use Rattle.at_engine.specs.Engines.{rules_of, slice_of, state_of, IsSound}
-use Rattle.at_engine.specs.Keeping.{IsSpare, KeepsServed, KeepsStep}
+use Rattle.at_engine.specs.Engines.{rules_of, slice_of, IsSound}
+use Rattle.at_engine.specs.Hearing.{IsStep}
+use Rattle.at_engine.specs.Keeping.{IsSpare, KeepsServed}
 use Rattle.at_engine.specs.declared.engine.Engine.{Engine}
-
--- An empty line changes and appends nothing. Any other one is a step of the machine, and its reply is appended.
-abbrev pub Steps : Rules → State → List ℕ → State → (before after : List ℕ) → Type 0
-Steps rules old [] new before after = (new ≡ old) × (after ≡ before)
-Steps rules old (b ∷ bs) new before after = (wants : Bool) × (reply : Reply) × Serves rules old (b ∷ bs) new (wants, reply)
-    × (after ≡ before ++ reply_text reply)
 
 -- A call that appends to `out` has done that; or room for 64 bytes was refused, and nothing has changed. The engine is sound, its
 -- rules and how many turns follow each line are as they were, and what was kept spare is so still.
@@ -31,13 +24,14 @@ pub record Calls {K T E : Type 0} (exact : Bool) (entries : K → Entries) (memo
   pub slice : slice_of new ≡ slice_of old
   pub sound : IsSound entries memories new
 
--- a line was taken, and where what is kept was spare, just what the line leaves and adds is kept
-pub record TakesLine {K : Type 0} (exact : Bool) (entries : K → Entries) (line : List ℕ) (old new : Engine K) (before after : List ℕ) : Type 0 where
-  pub steps : Steps (rules_of old) (state_of old) line (state_of new) before after
-  pub keeps : IsTrue exact → IsSpare entries old → KeepsStep entries line old new before after
-
--- so it was of a line that isn't empty, which may be answered `memory`
+-- A line that isn't empty was served, and its reply, which may be `memory`, is appended. Where what is kept was spare, just what the
+-- line leaves and adds is kept.
 pub record IsServed {K : Type 0} (exact : Bool) (entries : K → Entries) (line : List ℕ) (old new : Engine K) (before after : List ℕ)
     (wants : Bool) : Type 0 where
-  pub served : (reply : Reply) × Serves (rules_of old) (state_of old) line (state_of new) (wants, reply) × (after ≡ before ++ reply_text reply)
+  pub served : (reply : Reply) × IsStep exact entries line old new (wants, reply) × (after ≡ before ++ reply_text reply)
   pub keeps : IsTrue exact → IsSpare entries old → KeepsServed entries wants line old new
+
+-- so it was; but an empty line changes and appends nothing
+abbrev pub TakesLine : {K : Type 0} → (exact : Bool) → (entries : K → Entries) → (line : List ℕ) → (old new : Engine K) → (before after : List ℕ) → Type 0
+TakesLine exact entries [] old new before after = (new ≡ old) × (after ≡ before)
+TakesLine exact entries (b ∷ bs) old new before after = (wants : Bool) × IsServed exact entries (b ∷ bs) old new before after wants

@@ -6,7 +6,7 @@ use Rattle.at_model.specs.Replies.{Reply}
 use Rattle.at_cache.specs.Kept.{Entries}
 use Rattle.at_demand.specs.declared.question.Question.{Question}
 use Rattle.at_engine.specs.Engines.{rules_of, state_of}
-use Rattle.at_engine.specs.Turning.{CountsTurns, EndsSo, RunsOut, StaysOpen}
+use Rattle.at_engine.specs.Turning.{AnswersIn, CountsTurns, StaysOpen}
 use Rattle.at_engine.specs.declared.engine.Engine.{Engine}
 use Rattle.at_engine.specs.declared.engine.turning.Spent.{Spent}
 use Rattle.at_engine.specs.declared.posts.Posted.{Posted}
@@ -16,14 +16,12 @@ abbrev pub listed : {A : Type 0} → Option A → List A
 listed None = []
 listed (Some a) = a ∷ []
 
--- What the turns of the question have tried, by what they tell: it stays open and has come so far; or it is answered, and its answer
--- is told; or it is told `memory`.
+-- What the turns of the question have tried, by what they tell: it stays open and has come so far; or it is told so.
 abbrev pub HasTried : {K : Type 0} → (exact : Bool) → (entries : K → Entries) → (limit : Option ℕ) → (old new : Engine K) → Posted → (others : List Posted)
     → (given : ℕ) → Option (Bool × Reply) → Type 0
 HasTried exact entries limit old new p others given None =
     (now : Option Question) × StaysOpen entries old new.demand p given now × (new.posts.items.items ≡ record p { question = now } ∷ others)
-HasTried exact entries limit old new p others given (Some (false, reply)) = EndsSo exact entries old new.demand p given reply.form
-HasTried exact entries limit old new p others given (Some (true, reply)) = RunsOut entries limit old new.demand p
+HasTried exact entries limit old new p others given (Some told) = AnswersIn exact entries limit old new.demand p given told
 
 -- Turns were given to the open question with the least number: as many as may be, or up to the one that had an answer, which is
 -- appended. Each tried one equation.

@@ -1,6 +1,6 @@
 -- What turns come to, by the position of their question.
 use Rattle.std.specs.declared.alloc.AllocError.{AllocError}
-use Rattle.std.specs.Prelude.{◌≡◌, ◌⊎◌, ℕ, ◌<◌, ◌≤◌, Bool, List, Option, Some, None, Result, Ok, Err, IfOk, IfSome, IsTrue, OnErr, length, remove, slice_get, slice_set}
+use Rattle.std.specs.Prelude.{◌≡◌, ◌⊎◌, ℕ, ◌<◌, ◌≤◌, Bool, true, false, List, Option, Some, None, Result, Ok, Err, IfOk, IfSome, IsTrue, OnErr, length, remove, slice_get, slice_set}
 use Rattle.std.specs.Option.{option_map}
 use Rattle.at_model.specs.Alike.{AnswerLike, InstanceLike, Names}
 use Rattle.at_model.specs.Asking.{IsWellFormed}
@@ -8,7 +8,7 @@ use Rattle.at_model.specs.Lines.{Command}
 use Rattle.at_model.specs.Machine.{State, Asks, Refuses, Waits, answer_form, obeyed}
 use Rattle.at_model.specs.Meaning.{Answer, Right}
 use Rattle.at_model.specs.Paths.{Node}
-use Rattle.at_model.specs.Replies.{Code, Form as FormOf}
+use Rattle.at_model.specs.Replies.{Code, Form as FormOf, Reply}
 use Rattle.at_model.specs.Rules.{Rules}
 use Rattle.at_model.specs.Run.{Contents, Instance}
 use Rattle.at_model.specs.Turning.{UnderWay, asked}
@@ -156,6 +156,12 @@ pub record HasGone {K E : Type 0} (exact : Bool) (entries : K → Entries) (limi
   pub now : Option Question
   pub reopens : Reopens position old.posts new.posts p now
   pub came : Came exact entries limit old new.demand p now r
+
+-- So many turns of the question have answered it, and it is told so; or they ended for want of memory.
+abbrev pub AnswersIn : {K : Type 0} → (exact : Bool) → (entries : K → Entries) → (limit : Option ℕ) → Engine K → Demand K → Posted → (given : ℕ)
+    → Bool × Reply → Type 0
+AnswersIn exact entries limit e d p given (false, reply) = EndsSo exact entries e d p given reply.form
+AnswersIn exact entries limit e d p given (true, reply) = RunsOut entries limit e d p
 
 -- so all turns have done that a question needs, whose answer is told
 abbrev pub HasEnded : {K E : Type 0} → (exact : Bool) → (entries : K → Entries) → Engine K → Demand K → Posted → Result Form E → Type 0

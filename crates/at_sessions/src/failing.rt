@@ -4,7 +4,7 @@ mod ends;
 
 use crate::hearing::calculator;
 use at_engine::{RunFault, Watched, run, run_for};
-use ends::{FailingReader, FailingWriter, first_lines};
+use ends::{FailingReader, FailingWriter, Refused, first_lines};
 use std::alloc::Global;
 use std::test::Fail;
 
@@ -85,11 +85,17 @@ impl Heard {
     }
 }
 
-/// What is heard of a fresh engine where each read brings one byte, the one after so many fails, and so many are allowed.
-fn read_for(alloc: Global, lines: &'static str, reads: usize, limit: u64) -> Result<Heard, Fail> {
+/// What is heard of a fresh engine where each read brings so many bytes, the one after so many fails, and so many are allowed.
+fn read_for(
+    alloc: Global,
+    lines: &'static str,
+    size: usize,
+    reads: usize,
+    limit: u64,
+) -> Result<Heard, Fail> {
     let mut engine = calculator(alloc)?;
     let bytes = lines.as_bytes();
-    let mut reader = Watched::new(FailingReader { bytes, reads });
+    let mut reader = Watched::new(FailingReader { bytes, size, reads });
     let mut writer = Watched::new(Vec::new(alloc));
     let fault = run_for(&mut engine, &mut reader, &mut writer, limit).err();
     Ok(Heard {
@@ -100,12 +106,11 @@ fn read_for(alloc: Global, lines: &'static str, reads: usize, limit: u64) -> Res
     })
 }
 
-/// What is heard of one where one read brings all lines, each write takes one byte, and the one after so many fails.
-fn written_for(alloc: Global, lines: &'static str, writes: usize) -> Result<Heard, Fail> {
+/// What is heard of one where one read brings all lines, and the replies go to that writer.
+fn written_to(alloc: Global, lines: &'static str, writer: FailingWriter) -> Result<Heard, Fail> {
     let mut engine = calculator(alloc)?;
     let mut reader = Watched::new(lines.as_bytes());
-    let told = Vec::new(alloc);
-    let mut writer = Watched::new(FailingWriter { told, writes });
+    let mut writer = Watched::new(writer);
     let fault = run(&mut engine, &mut reader, &mut writer).err();
     Ok(Heard {
         fault,
@@ -115,13 +120,23 @@ fn written_for(alloc: Global, lines: &'static str, writes: usize) -> Result<Hear
     })
 }
 
+/// A writer of which each write takes one byte, and the one after so many fails.
+fn writer_for(alloc: Global, writes: usize) -> FailingWriter {
+    FailingWriter {
+        told: Vec::new(alloc),
+        writes,
+        refused: Refused::Fails,
+        flushes: usize::MAX,
+    }
+}
+
 #[test]
 fn a_failed_read_leaves_whole_lines(rt: HostRuntime) -> Result<(), Fail> {
     for session in SESSIONS {
         let bytes = session.lines.as_bytes();
         let mut lines: usize = 0;
         for reads in 0..=bytes.len() {
-            let heard = read_for(rt.alloc(), session.lines, reads, u64::MAX)?;
+            let heard = read_for(rt.alloc(), session.lines, 1, reads, u64::MAX)?;
             let told = first_lines(session.replies.as_bytes(), lines);
             assert!(rt; heard.has_ended(told, Some(RunFault::Read)), "{reads}");
             if bytes.get(reads) == Some(&b'\n') {
@@ -137,7 +152,7 @@ fn a_failed_write_leaves_a_front(rt: HostRuntime) -> Result<(), Fail> {
     for session in SESSIONS {
         let replies = session.replies.as_bytes();
         for writes in 0..replies.len() {
-            let heard = written_for(rt.alloc(), session.lines, writes)?;
+            let heard = written_to(rt.alloc(), session.lines, writer_for(rt.alloc(), writes))?;
             assert!(rt;
                 heard.has_ended(&replies[..writes], Some(RunFault::Write)),
                 "{writes}"
@@ -148,29 +163,70 @@ fn a_failed_write_leaves_a_front(rt: HostRuntime) -> Result<(), Fail> {
 }
 
 #[test]
+fn a_write_that_takes_nothing_is_a_failed_one(rt: HostRuntime) -> Result<(), Fail> {
+    for session in SESSIONS {
+        let replies = session.replies.as_bytes();
+        for writes in 0..replies.len() {
+            let mut writer = writer_for(rt.alloc(), writes);
+            writer.refused = Refused::TakesNothing;
+            let heard = written_to(rt.alloc(), session.lines, writer)?;
+            assert!(rt;
+                heard.has_ended(&replies[..writes], Some(RunFault::Write)),
+                "{writes}"
+            );
+        }
+    }
+    Ok(())
+}
+
+#[test]
+fn a_failed_flush_leaves_what_was_written(rt: HostRuntime) -> Result<(), Fail> {
+    for session in SESSIONS {
+        let replies = session.replies.as_bytes();
+        for flushes in 0..session.replies.lines().count() {
+            let mut writer = writer_for(rt.alloc(), usize::MAX);
+            writer.flushes = flushes;
+            let heard = written_to(rt.alloc(), session.lines, writer)?;
+            let told = first_lines(replies, flushes.saturating_add(1));
+            assert!(rt; heard.has_ended(told, Some(RunFault::Write)), "{flushes}");
+        }
+    }
+    Ok(())
+}
+
+#[test]
 fn without_a_failure_all_is_told(rt: HostRuntime) -> Result<(), Fail> {
     for session in SESSIONS {
         let replies = session.replies.as_bytes();
-        let read = read_for(rt.alloc(), session.lines, usize::MAX, u64::MAX)?;
+        let read = read_for(rt.alloc(), session.lines, 1, usize::MAX, u64::MAX)?;
         assert!(rt; read.has_ended(replies, None));
-        let written = written_for(rt.alloc(), session.lines, replies.len())?;
+        let mut writer = writer_for(rt.alloc(), replies.len());
+        writer.flushes = session.replies.lines().count();
+        let written = written_to(rt.alloc(), session.lines, writer)?;
         assert!(rt; written.has_ended(replies, None));
     }
     Ok(())
 }
 
-/// How many reads a run may make for one line, the replies then, and the fault.
-const LIMITS: &[(u64, &[u8], Option<RunFault>)] = &[
-    (0, b"", Some(RunFault::TooManyReads)),
-    (10, b"0 ok 0\n", Some(RunFault::TooManyReads)),
-    (11, b"0 ok 0\n", None),
+/// How many bytes a read brings, how many reads a run may make for one line of ten bytes, the replies then, and the fault.
+const LIMITS: &[(usize, u64, &[u8], Option<RunFault>)] = &[
+    (1, 0, b"", Some(RunFault::TooManyReads)),
+    (1, 9, b"", Some(RunFault::TooManyReads)),
+    (1, 10, b"0 ok 0\n", Some(RunFault::TooManyReads)),
+    (1, 11, b"0 ok 0\n", None),
+    (4, 2, b"", Some(RunFault::TooManyReads)),
+    (4, 3, b"0 ok 0\n", Some(RunFault::TooManyReads)),
+    (4, 4, b"0 ok 0\n", None),
+    (10, 1, b"0 ok 0\n", Some(RunFault::TooManyReads)),
+    (10, 2, b"0 ok 0\n", None),
+    (11, 0, b"", Some(RunFault::TooManyReads)),
 ];
 
 #[test]
 fn reads_are_counted(rt: HostRuntime) -> Result<(), Fail> {
-    for (limit, told, fault) in LIMITS {
-        let heard = read_for(rt.alloc(), "0 version\n", usize::MAX, *limit)?;
-        assert!(rt; heard.has_ended(told, *fault), "{limit}");
+    for (size, limit, told, fault) in LIMITS {
+        let heard = read_for(rt.alloc(), "0 version\n", *size, usize::MAX, *limit)?;
+        assert!(rt; heard.has_ended(told, *fault), "{size} {limit}");
     }
     Ok(())
 }
@@ -198,9 +254,9 @@ const BROKEN: &[(usize, usize, &str)] = &[
 fn told_then(alloc: Global, reads: usize, writes: usize) -> Result<Vec<u8>, Fail> {
     let mut engine = calculator(alloc)?;
     let bytes = POSTS.as_bytes();
-    let mut reader = Watched::new(FailingReader { bytes, reads });
-    let told = Vec::new(alloc);
-    let mut writer = Watched::new(FailingWriter { told, writes });
+    let size = 1;
+    let mut reader = Watched::new(FailingReader { bytes, size, reads });
+    let mut writer = Watched::new(writer_for(alloc, writes));
     let _ = run(&mut engine, &mut reader, &mut writer);
     let mut nothing: &[u8] = b"";
     let mut then = Vec::new(alloc);

@@ -57,7 +57,8 @@ pub struct Script {
     pub replies: &'static str,
 }
 
-/// A question, each edit but a move, and a mark, and the question again; and another one twice where it was asked last.
+/// A question, each edit but a move, and a mark, and the question again; and another one twice where it was asked last. At the end the
+/// tree is shown, and the mark goes.
 pub const EDITS: &Script = &Script {
     name: "edits",
     way: Way::Run,
@@ -74,6 +75,9 @@ pub const EDITS: &Script = &Script {
 100 ask /Block/Stmt:1/Expr/Right value()
 0 where u
 0 ask /Block/Stmt:1/Expr value()
+0 show /
+0 unmark u
+0 where u
 ",
     replies: "0 = 3
 100 = 2
@@ -88,10 +92,14 @@ pub const EDITS: &Script = &Script {
 100 = 5
 0 = /Block/Stmt:1/Expr/Left
 0 = 9
+0 = Program(Block([Decl(\"x\",Num(4)),Print(Add(Use(\"x\"),Num(5)))]))
+0 ok 5
+0 refused 3 mark
 ",
 };
 
-/// A marked statement is moved into another list, out of it, and within a list, with questions before and after it.
+/// A marked statement is moved into another list, out of it, and within a list, with questions before and after it. At the end the
+/// tree is shown.
 pub const MOVES: &Script = &Script {
     name: "moves",
     way: Way::Run,
@@ -105,6 +113,7 @@ pub const MOVES: &Script = &Script {
 0 move /Block/Stmt:0 to /Block Stmt 2
 0 where u
 0 ask /Block/Stmt:2/Expr value()
+0 show /
 ",
     replies: "0 = 3
 0 ok 0
@@ -116,6 +125,7 @@ pub const MOVES: &Script = &Script {
 0 ok 4
 0 = /Block/Stmt:2/Expr/Left
 0 = 3
+0 = Program(Block([Decl(\"x\",Num(1)),Block([]),Print(Add(Use(\"x\"),Num(2)))]))
 ",
 };
 

@@ -1,5 +1,5 @@
 -- What is kept over the verdict of each command.
-use Rattle.std.proofs.Common.{◌≡◌, ◌↔◌, ℕ, ◌+◌, ◌<◌, Bool, true, false, nat_eq, nat_le, count_by, if◌then◌else◌, List, [], ◌∷◌, ◌++◌, length, Option, Some, None, Result, Ok, Err, IfOk, refl, sym, ap, ◌∙◌, subst, arith}
+use Rattle.std.proofs.Common.{◌≡◌, ◌↔◌, ℕ, ◌+◌, Bool, true, false, nat_eq, nat_le, count_by, if◌then◌else◌, List, [], ◌∷◌, ◌++◌, Option, Some, None, Result, Ok, Err, IfOk, refl, sym, ap, ◌∙◌, subst, arith}
 use Rattle.std.specs.Prelude.{IsSome}
 use Rattle.std.specs.declared.alloc.AllocError.{AllocError}
 use Rattle.at_model.specs.Trees.{Tree}
@@ -11,8 +11,8 @@ use Rattle.at_model.specs.Alike.{InstanceLike, Names}
 use Rattle.at_model.specs.Edits.{Edit as EditOf}
 use Rattle.at_model.specs.Terms.{term_of}
 use Rattle.at_model.specs.Lines.{Argument, Line, Place, Show, Mark, Where, Post, Spells, last_post}
-use Rattle.at_model.specs.Machine.{State, Posted, Verdict, Refuses, Tells, Leaves, Edits, Asks, Posts, Waits, Serves, after, marks_named, marks_used, max_posted, answer_form, at_node, obeyed, verdict, node_named, marked, path_to, with_mark, is_marked, max_marks}
-use Rattle.at_model.specs.Replies.{Done, Refused, Reply, At, Written, reply_text}
+use Rattle.at_model.specs.Machine.{State, Posted, Verdict, Refuses, Tells, Leaves, Edits, Asks, Posts, Waits, after, marks_named, marks_used, max_posted, answer_form, at_node, obeyed, verdict, node_named, marked, path_to, with_mark, is_marked, max_marks}
+use Rattle.at_model.specs.Replies.{Done, Refused, At, Written}
 use Rattle.at_model.specs.Replies as code
 use Rattle.at_protocol.specs.ReplyView.{code_view}
 use Rattle.at_protocol.specs.declared.reply.Refusal.{Refusal}
@@ -31,8 +31,9 @@ use Rattle.at_demand.specs.declared.demand.Demand.{Demand}
 use Rattle.at_engine.specs.Engines.{rules_of, state_of}
 use Rattle.at_engine.specs.Following.{Follows, IsAtOnce}
 use Rattle.at_engine.specs.KeptOver.{AreWaiting, Grows, HasVerdict, obeys, refuses, IsWorthFor, IsWorthIn}
-use Rattle.at_engine.specs.Keeping.{AreAtOnce, IsSpare, IsSpareWith, GrowsLine, GrowsOver, KeepsLine, KeepsOver, KeepsServed, KeepsStep, Spares, SparesLine, SparesVerdict, kept_of, work_of}
-use Rattle.at_engine.specs.Telling.{Hears, at_once, by_turns, IsToldFor, IsToldOf, Meets}
+use Rattle.at_engine.specs.Keeping.{AreAtOnce, IsSpare, IsSpareWith, GrowsLine, GrowsOver, KeepsLine, KeepsOver, KeepsServed, Spares, SparesLine, SparesVerdict, kept_of, work_of}
+use Rattle.at_engine.specs.Hearing.{Hears, at_once, by_turns}
+use Rattle.at_engine.specs.Telling.{IsToldFor, IsToldOf, Meets}
 use Rattle.at_engine.specs.declared.engine.Engine.{Engine}
 use Rattle.at_engine.specs.declared.engine.saying.Told.{Told}
 use Rattle.at_engine.specs.declared.engine.editing.Obstacle.{Obstacle}
@@ -202,8 +203,8 @@ at_once_unless rules s bytes (Posts q) h none = tt
 at_once_unless rules s bytes (Waits number) h none = none (number, h)
 
 -- a line that was read
-pub line_spares : {K : Type 0} (entries : K → Entries) (old new : Engine K) (bytes : List ℕ) (l : Line) (told : Told) → Spells bytes l → Hears (rules_of old) (state_of old) l (state_of new) told → SparesVerdict entries (verdict (rules_of old) (state_of old) l) told.form old new → SparesLine entries bytes told.form old new
-line_spares entries old new bytes l told spells heard spares = by told.form refl
+pub line_spares : {K : Type 0} (entries : K → Entries) (old new : Engine K) (bytes : List ℕ) (exact : Bool) (l : Line) (told : Told) → Spells bytes l → Hears exact entries old new l told → SparesVerdict entries (verdict (rules_of old) (state_of old) l) told.form old new → SparesLine entries bytes told.form old new
+line_spares entries old new bytes exact l told spells heard spares = by told.form refl
   where
     v : Verdict
     v = verdict (rules_of old) (state_of old) l
@@ -213,8 +214,8 @@ line_spares entries old new bytes l told spells heard spares = by told.form refl
 
     state : IsAtOnce v → (f : FormValue) → told.form ≡ Ok f → state_of new ≡ after (state_of old) v
     state soon f is = elim heard [
-      | at_once session done meets err ↦ (subst (λ (x : Result FormValue AllocError). IfOk x (λ f. Meets (rules_of old) (state_of old) l f (state_of new))) is meets).state
-      | by_turns q waits closes ↦ absurd (subst IsAtOnce waits soon)
+      | at_once session done meets err _ ↦ (subst (λ (x : Result FormValue AllocError). IfOk x (λ f. Meets (rules_of old) (state_of old) l f (state_of new))) is meets).state
+      | by_turns position p there waits closes ↦ absurd (subst IsAtOnce waits soon)
     ]
 
     by : (r : Result FormValue AllocError) → told.form ≡ r → SparesLine {T = FormValue} {E = AllocError} entries bytes told.form old new
@@ -313,14 +314,3 @@ module _ (rules : Rules) (s : State) (session : ℕ) where
 -- what is answered `true` is touched, where the answer is whether it is
 pub touched_by : (answer touched : Bool) → answer ≡ touched → true ≡ answer → touched ≡ true
 touched_by answer touched e f = sym (f ∙ e)
-
--- a line that isn't empty is served so
-pub kept_step : {K : Type 0} (entries : K → Entries) (line : List ℕ) (old new : Engine K) (wants : Bool) (before after : List ℕ) → 0 < length line
-    → (reply : Reply) × Serves (rules_of old) (state_of old) line (state_of new) (wants, reply) × (after ≡ before ++ reply_text reply) → KeepsServed entries wants line old new → KeepsStep entries line old new before after
-kept_step entries [] old new wants before after some s keeps = absurd (omega (arith, some))
-kept_step entries (b ∷ bs) old new wants before after some s keeps = (wants, s.0, s.1, s.2, keeps)
-
--- and an empty one changes nothing
-pub kept_empty : {K : Type 0} (entries : K → Entries) (line : List ℕ) (e : Engine K) (before after : List ℕ) → length line ≡ 0 → after ≡ before → KeepsStep entries line e e before after
-kept_empty entries [] e before after none same = (refl, same)
-kept_empty entries (b ∷ bs) e before after none same = absurd (omega (arith, none))

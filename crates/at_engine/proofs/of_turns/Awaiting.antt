@@ -1,22 +1,26 @@
 -- Each command that doesn't wait is obeyed at once.
-use Rattle.std.proofs.Common.{◌≡◌, ℕ, ◌+◌, Bool, if◌then◌else◌, true, false, nat_eq, nat_le, List, [], ◌∷◌, ◌++◌, count_by, Option, Some, None, option_and_then, Result, Ok, Err, refl}
+use Rattle.std.specs.List.{list_all}
+use Rattle.std.proofs.Common.{◌≡◌, ℕ, ◌+◌, Bool, not, map, if◌then◌else◌, true, false, nat_eq, nat_le, List, [], ◌∷◌, ◌++◌, count_by, Option, Some, None, option_and_then, Result, Ok, Err, refl}
 use Rattle.at_model.specs.Classes.{Shape}
 use Rattle.at_model.specs.Trees.{Tree, class_of}
 use Rattle.at_model.specs.Terms.{Term, term_of}
 use Rattle.at_model.specs.Paths.{Node, part_named, tree_at}
-use Rattle.at_model.specs.Rules.{Rules}
+use Rattle.at_model.specs.Rules.{Rules, attribute_named}
+use Rattle.at_model.specs.Run.{Instance, Value}
 use Rattle.at_model.specs.Shaping.{names_classes, shaped}
 use Rattle.at_model.specs.Edits.{Edit, Refusal, class_asked, edited_within, list_class, optional_class, shape_at, token_kind}
 use Rattle.at_model.specs.Edits as edit
-use Rattle.at_model.specs.Lines.{Argument, Place, Post, last_post, last_version}
-use Rattle.at_model.specs.Machine.{State, Verdict, Edits, Leaves, Posted, Posts, Refuses, Tells, at_node, changed, code_of, is_marked, marked, marks_named, marks_used, max_marks, max_posted, node_named, obeyed, path_to, with_component, with_mark, with_tree}
+use Rattle.at_model.specs.Lines.{Argument, Ask, Place, Post, last_post, last_version}
+use Rattle.at_model.specs.Machine.{State, Verdict, Asks, Edits, Leaves, Posted, Posts, Refuses, Tells, at_node, changed, code_of, each, fit_parameters, is_marked, is_stale, marked, marks_named, marks_used, max_marks, max_posted, node_named, obeyed, parameters_of, path_to, questioned, value_named, verdict, with_component, with_mark, with_tree}
 use Rattle.at_model.specs.Replies.{At, Written}
 use Rattle.at_model.specs.Replies as code
 use Rattle.at_tree.specs.Token.{token_view}
 use Rattle.at_tree.specs.View.{term_view}
-use Rattle.at_protocol.specs.LineView.{arguments_view, command_view, place_view}
+use Rattle.at_protocol.specs.LineView.{arguments_view, command_view, edit_view, place_view}
 use Rattle.at_protocol.specs.declared.line.Command.{Command}
 use Rattle.at_protocol.specs.declared.line.Command.TheVariants as command
+use Rattle.at_protocol.specs.declared.line.EditWords.{EditWords}
+use Rattle.at_protocol.specs.declared.line.EditWords.TheVariants as words
 use Rattle.at_engine.specs.Following.{IsAtOnce}
 
 module _ (rules : Rules) (s : State) (session : ℕ) where
@@ -76,6 +80,40 @@ module _ (rules : Rules) (s : State) (session : ℕ) where
       by false true = tt
       by false false = tt
 
+  at_ask : (place : Place) (attribute : List ℕ) (arguments : List Argument) → IsAtOnce (obeyed rules s session (Ask place attribute arguments))
+  at_ask place attribute arguments = at_place place _ (λ n. by n (each (map (value_named rules.classes s session) arguments)))
+    where
+      fits : (q : Instance Node) (b : Bool) → IsAtOnce (if b then Asks q else Refuses code.Arguments)
+      fits q true = tt
+      fits q false = tt
+
+      of_values : (n : Node) (vs : List (Value Node)) (o : Option ℕ) → IsAtOnce (elim o as (λ _. Verdict) [
+        | None ↦ Refuses code.Attribute
+        | Some a ↦ if fit_parameters rules.classes s.tree (parameters_of rules a) vs
+            then Asks (record { node = n; attribute = a; arguments = vs }) else Refuses code.Arguments
+      ])
+      of_values n vs None = tt
+      of_values n vs (Some a) = fits _ (fit_parameters rules.classes s.tree (parameters_of rules a) vs)
+
+      by : (n : Node) (o : Option (List (Value Node))) → IsAtOnce (elim o as (λ _. Verdict) [
+        | None ↦ Refuses code.Path
+        | Some vs ↦ questioned rules s.tree n attribute vs
+      ])
+      by n None = tt
+      by n (Some vs) = of_values n vs (option_and_then (λ u. attribute_named rules (class_of u) attribute) (tree_at s.tree n))
+
+  -- a line that asks doesn't wait
+  pub asked_at_once : (expected : Option ℕ) (place : Place) (attribute : List ℕ) (arguments : List Argument)
+      → IsAtOnce (verdict rules s (record { session = session; expected = expected; command = Ask place attribute arguments }))
+  asked_at_once expected place attribute arguments =
+      by (is_stale expected s.version) (not (list_all (is_marked s.marks session) (marks_used (Ask place attribute arguments))))
+    where
+      by : (a b : Bool) → IsAtOnce (if a then Refuses (code.Stale s.version) else (if b then Refuses code.Mark
+          else obeyed rules s session (Ask place attribute arguments)))
+      by true b = tt
+      by false true = tt
+      by false false = at_ask place attribute arguments
+
   at_shown : (o : Option Tree) → IsAtOnce (elim o as (λ _. Verdict) [ None ↦ Refuses code.Path | Some u ↦ Tells (Written (term_of rules.classes u)) ])
   at_shown None = tt
   at_shown (Some u) = tt
@@ -84,13 +122,16 @@ module _ (rules : Rules) (s : State) (session : ℕ) where
   at_mark None = tt
   at_mark (Some n) = tt
 
+  at_words : (w : EditWords) → IsAtOnce (obeyed rules s session (edit_view w))
+  at_words (words.Set place t) = at_place (place_view place) _ (λ n. at_tree (term_view t) (class_asked rules.classes s.tree n) _ (λ u. at_edit (edit.Set n u)))
+  at_words (words.Put place part t) = at_place (place_view place) _ (λ n. at_part n part.now optional_class _ (λ p b. at_tree (term_view t) (Some b) _ (λ u. at_edit (edit.Put n p u))))
+  at_words (words.Drop place) = at_place (place_view place) _ (λ n. at_edit (edit.Drop n))
+  at_words (words.Insert place part index t) = at_place (place_view place) _ (λ n. at_part n part.now list_class _ (λ p b. at_tree (term_view t) (Some b) _ (λ u. at_edit (edit.Insert n p index u))))
+  at_words (words.Token place part value) = at_place (place_view place) _ (λ n. at_part n part.now token_kind _ (λ p kind. at_edit (edit.Token n p (token_view value))))
+  at_words (words.Move place to part index) = at_place (place_view place) _ (λ n. at_place (place_view to) _ (λ m. at_part m part.now list_class _ (λ p b. at_edit (edit.Move n m p index))))
+
   pub at_once : (c : Command) → ((number : ℕ) → c ≡ command.Wait number → ⊥) → IsAtOnce (obeyed rules s session (command_view c))
-  at_once (command.Set place t) other = at_place (place_view place) _ (λ n. at_tree (term_view t) (class_asked rules.classes s.tree n) _ (λ u. at_edit (edit.Set n u)))
-  at_once (command.Put place part t) other = at_place (place_view place) _ (λ n. at_part n part.now optional_class _ (λ p b. at_tree (term_view t) (Some b) _ (λ u. at_edit (edit.Put n p u))))
-  at_once (command.Drop place) other = at_place (place_view place) _ (λ n. at_edit (edit.Drop n))
-  at_once (command.Insert place part index t) other = at_place (place_view place) _ (λ n. at_part n part.now list_class _ (λ p b. at_tree (term_view t) (Some b) _ (λ u. at_edit (edit.Insert n p index u))))
-  at_once (command.Token place part value) other = at_place (place_view place) _ (λ n. at_part n part.now token_kind _ (λ p kind. at_edit (edit.Token n p (token_view value))))
-  at_once (command.Move place to part index) other = at_place (place_view place) _ (λ n. at_place (place_view to) _ (λ m. at_part m part.now list_class _ (λ p b. at_edit (edit.Move n m p index))))
+  at_once (command.Edit w) other = at_words w
   at_once (command.Show place) other = at_place (place_view place) _ (λ n. at_shown (tree_at s.tree n))
   at_once (command.Mark name place) other = at_place (place_view place) _ (at_name name.now)
   at_once (command.Unmark name) other = tt

@@ -24,7 +24,8 @@ use Rattle.at_engine.specs.Holding.{state_in, IsSoundWith}
 use Rattle.at_engine.specs.Posted.{came_to, posted_view, turns_given}
 use Rattle.at_engine.specs.Keeping.{IsSpare}
 use Rattle.at_engine.specs.Serving.{Calls}
-use Rattle.at_engine.specs.Telling.{IsAnswerTo, IsClosed, IsSaid}
+use Rattle.at_engine.specs.Hearing.{IsClosed}
+use Rattle.at_engine.specs.Telling.{IsAnswerTo, IsSaid}
 use Rattle.at_engine.specs.Turned.{HasGiven, HasTried, HasTurned, gives, none_open}
 use Rattle.at_engine.specs.Turning.{Attends, Came, CountsTurns, EndsSo, HasEnded, HasGone, Reopens, RunsOut, StandsAt, TakesOff, told_of}
 use Rattle.at_engine.specs.declared.engine.Engine.{Engine}
@@ -32,7 +33,7 @@ use Rattle.at_engine.specs.declared.engine.saying.Told.{Told}
 use Rattle.at_engine.specs.declared.posts.Posted.{Posted}
 use Rattle.at_engine.specs.declared.engine.turning.Spent.{Spent}
 use Rattle.at_engine.proofs.of_turns.Counted.{counts_refused, counts_same, given_by, out_behind, silent_same, some_given, some_silent, turns_counted}
-use Rattle.at_engine.proofs.of_turns.Openings.{TurnTold, closed, gone, told_err, told_ok}
+use Rattle.at_engine.proofs.of_turns.Openings.{TurnTold, gone, is_numbered, told_err, told_ok}
 use Rattle.at_engine.proofs.Positions.{get_set, there_at}
 use Rattle.at_engine.proofs.of_turns.Turnings.{answered_at, ran_out_at, silent_one, silent_turns, told_turns, without_it}
 
@@ -90,10 +91,16 @@ module _ {K : Type 0} (kept : K → Entries) (e : Engine K) {memories : Memories
         (items ∙ ap (λ (l : List Posted). remove l position) opens.items ∙ removed_anew e.posts.items.items position (record p { question = o }))
         (ap (λ (x : Engine K). x.posts.count) tells ∙ opens.count)
 
-    pub closed_so : (r : Result Form AllocError) → IfOk r (IsAnswerTo (rules_of e) (state_of e) (posted_view (path e.store) p)) → (told : Told) → told ≡ told_of p m.version r → IsClosed (rules_of e) (state_of e) (posted_view (path e.store) p) (state_of n) told
-    closed_so r answer told is =
-        subst (IsClosed (rules_of e) (state_of e) (posted_view (path e.store) p) (state_of n)) (sym (is ∙ ap (λ (v : ℕ). told_of p v r) (ap (λ (x : Engine K). x.version) rest)))
-        (closed (rules_of e) e.store e.version (marks_of e) e.posts position p there sound.numbered r (state_of n) state_gone answer)
+    pub closed_so : (exact : Bool) (r : Result Form AllocError) → HasEnded exact kept e n.demand p r → (told : Told) → told ≡ told_of p m.version r
+        → IsClosed exact kept e n p told
+    closed_so exact r ended told is =
+        subst (IsClosed exact kept e n p) (sym (is ∙ ap (λ (v : ℕ). told_of p v r) (ap (λ (x : Engine K). x.version) rest))) (record {
+          there = is_numbered (rules_of e) e.store e.version (marks_of e) e.posts position p there sound.numbered;
+          gone = state_gone;
+          session = refl;
+          done = refl;
+          ended = ended;
+        })
 
 module _ {K : Type 0} (exact : Bool) (kept : K → Entries) (e : Engine K) {memories : Memories}
     (sound : IsSoundWith (rules_of e) e.store (marks_of e) e.posts (kept e.demand.keeper) memories) (p : Posted) (others : List Posted) (least : e.posts.items.items ≡ p ∷ others) where
@@ -294,18 +301,11 @@ IsResult (Err e') form = form ≡ Err e'
 
 module _ {K : Type 0} (exact : Bool) (kept : K
     → Entries) (e : Engine K) (d : Demand K) (p : Posted) (o : Option Question) where
-  ends_with : (r : Result (ℕ × Option Form) AllocError) (form : Result Form AllocError) → IsResult r form
-      → Came exact kept None e d p o r
-      → IfOk form (IsAnswerTo (rules_of e) (state_of e) (posted_view (path e.store) p)) × HasEnded exact kept e d p form
+  ends_with : (r : Result (ℕ × Option Form) AllocError) (form : Result Form AllocError) → IsResult r form → Came exact kept None e d p o r
+      → HasEnded exact kept e d p form
   ends_with (Ok (counted, None)) form is came = absurd is
-  ends_with (Ok (counted, Some f)) form is (given, counts, said, ends) =
-      subst (λ (x : Result Form AllocError). IfOk x (IsAnswerTo (rules_of e) (state_of e) (posted_view
-      (path e.store) p)) × HasEnded exact kept e d p x)
-      (sym is) (said, (given, said, ends))
-  ends_with (Err e') form is came =
-      subst (λ (x : Result Form AllocError). IfOk x (IsAnswerTo (rules_of e) (state_of e) (posted_view
-      (path e.store) p)) × HasEnded exact kept e d p x)
-      (sym is) (tt, came)
+  ends_with (Ok (counted, Some f)) form is (given, counts, said, ends) = subst (HasEnded exact kept e d p) (sym is) (given, said, ends)
+  ends_with (Err e') form is came = subst (HasEnded exact kept e d p) (sym is) came
 
 -- what a line that waits is told
 pub waited : {K : Type 0} (exact : Bool) (kept : K → Entries) (memories : K → Memories) (e : Engine K)
@@ -314,20 +314,16 @@ pub waited : {K : Type 0} (exact : Bool) (kept : K → Entries) (memories : K �
     → Attends exact kept memories e m position (λ p. HasGone exact kept None e m position p r)
     → (form : Result Form AllocError) → IsResult r form → (n : Engine K) (told : Told)
     → TakesOff exact kept memories m n position (λ p. told ≡ told_of p m.version form)
-    → Attends exact kept memories e n position (λ p. IsClosed (rules_of e) (state_of e) (posted_view (path e.store) p)
-    (state_of n) told
-    × HasEnded exact kept e n.demand p told.form)
+    → Attends exact kept memories e n position (λ p. IsClosed exact kept e n p told)
 waited {K} exact kept memories e held position m r a form is n told off = record {
   done = λ p there.
       let h = a.done p there in
-      let both = ends_with exact kept e m.demand p h.now r form is h.came in
+      let ended = ends_with exact kept e m.demand p h.now r form is h.came in
       let still = stands_open kept e held position p there m a.rest h.now h.reopens in
-      let is_told : told ≡ told_of p m.version form = off.told (record p { question = h.now }) still in
-      let same : n.demand ≡ m.demand = ap (λ (x : Engine K). x.demand) off.rest in (
-        closed_so kept e held position p there m a.rest h.now h.reopens n off.rest off.items form both.0 told is_told,
-        subst (HasEnded exact kept e n.demand p) (sym (ap (λ (t : Told). t.form) is_told))
-            (subst (λ (x : Demand K). HasEnded exact kept e x p form) (sym same) both.1),
-      );
+      let same : n.demand ≡ m.demand = ap (λ (x : Engine K). x.demand) off.rest in
+      closed_so kept e held position p there m a.rest h.now h.reopens n off.rest off.items exact form
+      (subst (λ (x : Demand K). HasEnded exact kept e x p form) (sym same) ended) told
+      (off.told (record p { question = h.now }) still);
   rest = rest_end e m n a.rest off.rest;
   spare = λ ex spare. off.spare ex (a.spare ex spare);
   sound = off.sound;

@@ -1,5 +1,5 @@
 -- Open questions, by their positions: what the state is when one has come farther, or is open no longer.
-use Rattle.std.proofs.Common.{◌≡◌, ℕ, ◌<◌, Bool, true, false, not, if◌then◌else◌, nat_eq, List, [], ◌∷◌, ◌++◌, filter, find, length, map, Option, Some, None, Result, Ok, Err, IfOk, refl, sym, ap, ◌∙◌, subst, true≢false}
+use Rattle.std.proofs.Common.{◌≡◌, ℕ, ◌<◌, Bool, true, false, not, if◌then◌else◌, nat_eq, List, [], ◌∷◌, ◌++◌, filter, find, length, map, Option, Some, None, Result, Ok, Err, refl, sym, ap, ◌∙◌, subst, true≢false}
 use Rattle.std.specs.Prelude.{remove, IsSome}
 use Rattle.std.specs.List.{AllByRecursion}
 use Rattle.std.specs.declared.alloc.AllocError.{AllocError}
@@ -23,7 +23,7 @@ use Rattle.at_engine.specs.Holding.{HasBegun, IsPostedOn, IsSoundWith, state_in}
 use Rattle.at_engine.specs.Keeping.{IsSpareWith, IsSparingOn}
 use Rattle.at_engine.specs.Marks.{Mark, marks_view}
 use Rattle.at_engine.specs.Posted.{posted_view}
-use Rattle.at_engine.specs.Telling.{IsAnswerTo, IsClosed, IsSaid}
+use Rattle.at_engine.specs.Telling.{IsAnswerTo, IsSaid}
 use Rattle.at_engine.specs.Turning.{Reopens, StandsAt, told_of}
 use Rattle.at_engine.specs.declared.posts.Posted.{Posted}
 use Rattle.at_engine.specs.declared.posts.Posts.{Posts}
@@ -119,9 +119,6 @@ module _ (rules : Rules) (s : Shown) (version : ℕ) (ms : List Mark) (old : Pos
       },
     )
     told_err e false (g, is, writes) = absurd (not_ok is)
-
-  pub closed : (r : Result FormValue AllocError) (new : State) → new ≡ without p.number now → IfOk r (IsAnswerTo rules now (view p)) → IsClosed rules now (view p) new (told_of p version r)
-  closed r new without_it answer = record { there = is_numbered; gone = without_it; session = refl; done = refl; answer = answer }
 
 -- where more is kept, the questions stand as they did
 module _ (rules : Rules) (s : Shown) (entries more : Entries) (grown : (i : Instance ℕ) → IsSome (entries i) → more i ≡ entries i) where

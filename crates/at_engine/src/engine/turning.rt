@@ -69,17 +69,17 @@ fn all_turns<K: Keeper>(
 
 impl<K: Keeper> Engine<K> {
     ghost use Rattle.std.specs.Prelude.{◌≡◌, ◌+◌, ◌<◌, ◌≤◌, IfOk, MatchBool, None, [], length, vec_len, vec_capacity};
-    ghost use Rattle.at_store.specs.Shown.{contents, path as path_shown};
-    ghost use Rattle.at_engine.specs.Engines.{rules_of, state_of, IsSound};
+    ghost use Rattle.at_store.specs.Shown.{contents};
+    ghost use Rattle.at_engine.specs.Engines.{rules_of, IsSound};
     ghost use Rattle.at_engine.specs.Holding.{HasBegun};
     ghost use Rattle.at_engine.specs.Keeping.{IsSparingOn};
-    ghost use Rattle.at_engine.specs.Posted.{posted_view};
     ghost use Rattle.at_engine.specs.declared.posts.Posted.{Posted};
-    ghost use Rattle.at_engine.specs.Telling.{IsClosed, IsSaid};
+    ghost use Rattle.at_engine.specs.Hearing.{IsClosed};
+    ghost use Rattle.at_engine.specs.Telling.{IsSaid};
     ghost use Rattle.at_protocol.specs.Writable.{IsWritable};
     ghost use Rattle.at_engine.specs.Serving.{Calls};
     ghost use Rattle.at_engine.specs.Turned.{HasGiven, HasTurned};
-    ghost use Rattle.at_engine.specs.Turning.{Attends, Begins, BeginsSparing, CanGoOn, CanSpend, CanTurn, HasEnded, HasGone, IsHeldAt, StandsAt, TakesOff, told_of};
+    ghost use Rattle.at_engine.specs.Turning.{Attends, Begins, BeginsSparing, CanGoOn, CanSpend, CanTurn, HasGone, IsHeldAt, StandsAt, TakesOff, told_of};
 
     /// Gives one turn to the open question with the least number, and appends the line with its answer, where it has one.
     /// Whether a question is open.
@@ -142,8 +142,7 @@ impl<K: Keeper> Engine<K> {
     pub(super) fn wait(&mut self, position: usize) -> Told
         requires { CanTurn K.contents K.memories self.old position }
         ensures { Attends K.exact K.contents K.memories self.old self.new position
-            (λ p. IsClosed (rules_of self.old) (state_of self.old) (posted_view (path_shown self.old.store) p) (state_of self.new) result
-            × HasEnded K.exact K.contents self.old self.new.demand p result.form) }
+            (λ p. IsClosed K.exact K.contents self.old self.new p result) }
     {
         let (_, form) = match self.go_on(position, None) {
             Ok(gone) => gone,

@@ -3,11 +3,11 @@
 ghost use Rattle.std.specs.Prelude.{◌≡◌, ◌++◌, ◌∷◌, [], IfOk, OnOk};
 ghost use Rattle.std.specs.List.{flat_map, list_all};
 ghost use Rattle.at_model.specs.Machine.{marks_in, marks_in_argument, marks_used};
-ghost use Rattle.at_protocol.specs.LineView.{argument_view, arguments_view, command_view, place_view};
+ghost use Rattle.at_protocol.specs.LineView.{argument_view, arguments_view, command_view, edit_view, place_view};
 ghost use Rattle.at_engine.specs.Marks.{has_mark, listed, Copies};
 
 use super::{Lookup, Marks, Noted};
-use at_protocol::line::{Argument, Command, Place};
+use at_protocol::line::{Argument, Command, EditWords, Place};
 use std::alloc::{AllocError, Global};
 
 /// Whether the session has the marks that its command uses.
@@ -20,20 +20,29 @@ pub fn has_used<M: Lookup>(marks: &M, session: u16, command: &Command<'_>) -> bo
             attribute: _,
             arguments,
         } => has_asked(marks, session, place, arguments),
-        Command::Set { place, .. } => has_in(marks, session, place),
-        Command::Put { place, .. } => has_in(marks, session, place),
-        Command::Drop { place } => has_in(marks, session, place),
-        Command::Insert { place, .. } => has_in(marks, session, place),
-        Command::Token { place, .. } => has_in(marks, session, place),
-        Command::Move { place, to, .. } => {
-            has_in(marks, session, place) && has_in(marks, session, to)
-        }
+        Command::Edit(words) => has_named(marks, session, words),
         Command::Show { place } => has_in(marks, session, place),
         Command::Mark { place, .. } => has_in(marks, session, place),
         Command::Unmark { name } => has_mark(marks, session, name),
         Command::Where { name } => has_mark(marks, session, name),
         Command::Version => true,
         Command::Wait { .. } => true,
+    }
+}
+
+/// Whether the session has the marks that the words of an edit use.
+fn has_named<M: Lookup>(marks: &M, session: u16, words: &EditWords<'_>) -> bool
+    ensures { result ≡ list_all (has_mark (M.marks marks.now) session) (marks_used (edit_view words.now)) }
+{
+    match words {
+        EditWords::Set { place, .. } => has_in(marks, session, place),
+        EditWords::Put { place, .. } => has_in(marks, session, place),
+        EditWords::Drop { place } => has_in(marks, session, place),
+        EditWords::Insert { place, .. } => has_in(marks, session, place),
+        EditWords::Token { place, .. } => has_in(marks, session, place),
+        EditWords::Move { place, to, .. } => {
+            has_in(marks, session, place) && has_in(marks, session, to)
+        }
     }
 }
 

@@ -2,10 +2,11 @@
 
 use std::io::{Error, ErrorKind, Read, Result, Write};
 
-/// Gives one byte a read. After so many reads, they fail.
+/// Gives so many bytes a read, or fewer at the end. After so many reads, they fail.
 #[derive(Drop)]
 pub struct FailingReader {
     pub bytes: &'static [u8],
+    pub size: usize,
     pub reads: usize,
 }
 
@@ -15,26 +16,36 @@ impl Read for FailingReader {
             return Err(Error::from(ErrorKind::Other));
         }
         self.reads -= 1;
-        if self.bytes.is_empty() || buf.is_empty() {
-            return Ok(0);
-        }
-        buf[0] = self.bytes[0];
-        self.bytes = &self.bytes[1..];
-        Ok(1)
+        let (mut front, _) = self.bytes.split_at(self.size.min(self.bytes.len()));
+        let count = front.read(buf)?;
+        self.bytes = self.bytes.split_at(count.min(self.bytes.len())).1;
+        Ok(count)
     }
 }
 
-/// Takes one byte a write. After so many writes, they fail.
+/// What becomes of a write after the last that succeeds.
+#[derive(Clone, Copy)]
+pub enum Refused {
+    Fails,
+    TakesNothing,
+}
+
+/// Takes one byte a write. After so many writes, they are refused; after so many flushes, these fail.
 #[derive(Drop)]
 pub struct FailingWriter {
     pub told: Vec<u8>,
     pub writes: usize,
+    pub refused: Refused,
+    pub flushes: usize,
 }
 
 impl Write for FailingWriter {
     fn write(&mut self, buf: &[u8]) -> Result<usize> {
         if self.writes == 0 {
-            return Err(Error::from(ErrorKind::Other));
+            return match self.refused {
+                Refused::Fails => Err(Error::from(ErrorKind::Other)),
+                Refused::TakesNothing => Ok(0),
+            };
         }
         self.writes -= 1;
         if buf.is_empty() {
@@ -47,6 +58,10 @@ impl Write for FailingWriter {
     }
 
     fn flush(&mut self) -> Result<()> {
+        if self.flushes == 0 {
+            return Err(Error::from(ErrorKind::Other));
+        }
+        self.flushes -= 1;
         Ok(())
     }
 }

@@ -20,7 +20,7 @@ give_turns-requires g c =
     let old = c.args.engine.now in
     let call = c.in-Ok.ensures in
     let s = call.done.served in
-    let serves = subst (λ (l : List ℕ). Serves (rules_of old) (state_of old) l (state_of c.serve.new.self) (c.in-Ok.wants, s.0)) c.as_slice.ensures.value s.1 in
+    let serves = subst (λ (l : List ℕ). Serves (rules_of old) (state_of old) l (state_of c.serve.new.self) (c.in-Ok.wants, s.0)) c.as_slice.ensures.value s.1.serves in
     record {
       sound = call.sound;
       few = omega (arith, c.requires.ready.few, counts_served (rules_of old) (state_of old) (state_of c.serve.new.self) c.args.desk.now.line.items (c.in-Ok.wants, s.0) c.args.desk.now c.count_answer.new.self serves (c.count_answer.ensures.rest.0 ∙ c.count_line.ensures.lines) (c.count_answer.ensures.memory ∙ ap (λ n. n + (if c.in-Ok.wants then 1 else 0)) c.count_line.ensures.rest.0));
@@ -34,7 +34,7 @@ returns-in_err-write_whole-in-Ok-clause-serves g c =
     let call = c.in-Ok.ensures in
     let s = call.done.served in
     let text = c.as_slice-in-Ok.ensures.value ∙ c.count_answer.ensures.rest.2 ∙ c.count_line.ensures.rest.2 ∙ s.2 ∙ ap (λ l. l ++ reply_text s.0) c.clear.ensures.items in
-    let serves = subst (λ (l : List ℕ). Serves (rules_of old) (state_of old) l (state_of c.serve.new.self) (c.in-Ok.wants, s.0)) c.as_slice.ensures.value s.1 in
+    let serves = subst (λ (l : List ℕ). Serves (rules_of old) (state_of old) l (state_of c.serve.new.self) (c.in-Ok.wants, s.0)) c.as_slice.ensures.value s.1.serves in
     record {
       served = rw (p.1, p.2) (w.0, halts_in_line (rules_of old) (slice_of old) _ _ c.args.desk.now.line.items (c.in-Ok.wants, s.0) _ _ w.1 w.2 serves (sym text ∙ w.3) w.4);
       keeps = λ exact spare. rw p.1 tt;
@@ -52,7 +52,7 @@ returns-clause-serves g c =
     let call = c.in-Ok.ensures in
     let s = call.done.served in
     let text = c.as_slice-in-Ok.ensures.value ∙ c.count_answer.ensures.rest.2 ∙ c.count_line.ensures.rest.2 ∙ s.2 ∙ ap (λ l. l ++ reply_text s.0) c.clear.ensures.items in
-    let serves = subst (λ (l : List ℕ). Serves (rules_of old) (state_of old) l (state_of mid) (c.in-Ok.wants, s.0)) c.as_slice.ensures.value s.1 in
+    let serves = subst (λ (l : List ℕ). Serves (rules_of old) (state_of old) l (state_of mid) (c.in-Ok.wants, s.0)) c.as_slice.ensures.value s.1.serves in
     let written = subst (Appends (contents c.args.writer.now) (contents c.write_whole.new.writer)) text c.in_ok-write_whole-in-Ok.ensures.written in
     let turns = c.give_turns.ensures in
     let counted = counts_served (rules_of old) (state_of old) (state_of mid) c.args.desk.now.line.items (c.in-Ok.wants, s.0) c.args.desk.now c.count_answer.new.self serves (c.count_answer.ensures.rest.0 ∙ c.count_line.ensures.lines) (c.count_answer.ensures.memory ∙ ap (λ n. n + (if c.in-Ok.wants then 1 else 0)) c.count_line.ensures.rest.0) in

@@ -1,4 +1,4 @@
-use Rattle.std.proofs.Common.{[], Some, inl, refl, sym, ap, ◌∙◌, subst, arith}
+use Rattle.std.proofs.Common.{[], Some, sym, ap, ◌∙◌, subst, arith}
 use Rattle.std.proofs.lemmas.Result.{err_from_is_err_and}
 use Rattle.at_store.specs.Shown.{contents}
 use Rattle.at_body.specs.Values.{value_view}
@@ -13,7 +13,7 @@ use Rattle.at_demand.specs.Known.{known_in, AreValued}
 use Rattle.at_demand.specs.UnderWay.{HasStepped, IsOpen}
 use Rattle.at_demand.specs.Covering.{HasPassedTo}
 use Rattle.at_demand.specs.Attempts.{HasFound}
-use Rattle.at_demand.proofs.Gaining.{settled_still, worthy_none}
+use Rattle.at_demand.proofs.Gaining.{gain_none, settled_still, worthy_none}
 use Rattle.at_demand.proofs.Counting.{counts_none}
 use Rattle.at_demand.proofs.Attempted.{has_found, has_failed, has_needed, right_added, right_stays, worthy_added, spare_added, settled_added}
 use Rattle.at_demand.proofs.of_traces.Justified.{stay_same}
@@ -27,7 +27,7 @@ returns-in_err-step g c = record {
   attempted =
       let is = (err_from_is_err_and c.from_residual.result c.from_residual.ensures.1).1 in
       let entries = g.K.Keeper.contents c.args.self.now.keeper in
-      record { tried = rw is tt; right = c.requires.kept_right; stays = λ there finds right. right; plain = c.requires.plain; lazy = λ j. inl refl; worthy = worthy_none c.args.rules.now (contents c.args.store.now) c.args.inst.now entries; spare = λ exact spare lean settled. spare; settles = λ exact spare settled. rw is tt; counts = λ exact. counts_none entries c.args.self.now.work c.args.self.now.few; keeps = rw is tt; waits = rw is tt };
+      record { tried = rw is tt; right = c.requires.kept_right; stays = λ there finds right. right; plain = c.requires.plain; gains = gain_none c.args.rules.now (contents c.args.store.now) c.args.found.now.entries entries c.args.inst.now; worthy = worthy_none c.args.rules.now (contents c.args.store.now) c.args.inst.now entries; spare = λ exact spare lean settled. spare; settles = λ exact spare settled. rw is tt; counts = λ exact. counts_none entries c.args.self.now.work c.args.self.now.few; keeps = rw is tt; waits = rw is tt };
   traces = stay_same (g.K.Keeper.memories c.args.self.now.keeper);
 }
 
@@ -57,7 +57,7 @@ returns-in_err-put-in-Value g c = record {
         right = right_added rules old new inst (value_view d.value) adds look has.value c.requires.kept_right;
         stays = right_stays rules old new inst (value_view d.value) adds c.args.store.now found c.keep.ensures.keeps.gains c.keep.ensures.keeps.plain has.value (c.keep.ensures.keeps.covers look c.requires.whole has.whole);
         plain = c.keep.ensures.keeps.plain;
-        lazy = c.keep.ensures.keeps.gains.lazy;
+        gains = c.keep.ensures.keeps.gains;
         worthy = worthy_added rules look old new inst (value_view d.value) found c.keep.ensures.keeps.gains has.value;
         spare = λ exact spare lean settled. spare_added rules look old new found inst d c.keep.ensures.keeps.gains c.requires.whole has settled spare (c.keep.ensures.keeps.only look exact lean has.lean spare.only);
         settles = λ exact spare settled. rw is tt;
@@ -91,7 +91,7 @@ returns-in-Kept g c = record {
         right = right_added rules old new inst (value_view d.value) adds look has.value c.requires.kept_right;
         stays = right_stays rules old new inst (value_view d.value) adds c.args.store.now found c.keep.ensures.keeps.gains c.keep.ensures.keeps.plain has.value (c.keep.ensures.keeps.covers look c.requires.whole has.whole);
         plain = c.keep.ensures.keeps.plain;
-        lazy = c.keep.ensures.keeps.gains.lazy;
+        gains = c.keep.ensures.keeps.gains;
         worthy = worthy_added rules look old new inst (value_view d.value) found c.keep.ensures.keeps.gains has.value;
         spare = λ exact spare lean settled. spare_added rules look old new found inst d c.keep.ensures.keeps.gains c.requires.whole has settled spare (c.keep.ensures.keeps.only look exact lean has.lean spare.only);
         settles = λ exact spare settled. settled_still rules look old new inst found c.keep.ensures.keeps.gains found settled;
@@ -124,7 +124,7 @@ returns-in-Left g c = record {
         right = right_added rules old new inst (value_view d.value) adds look has.value c.requires.kept_right;
         stays = right_stays rules old new inst (value_view d.value) adds c.args.store.now found c.keep.ensures.keeps.gains c.keep.ensures.keeps.plain has.value (c.keep.ensures.keeps.covers look c.requires.whole has.whole);
         plain = c.keep.ensures.keeps.plain;
-        lazy = c.keep.ensures.keeps.gains.lazy;
+        gains = c.keep.ensures.keeps.gains;
         worthy = worthy_added rules look old new inst (value_view d.value) found c.keep.ensures.keeps.gains has.value;
         spare = λ exact spare lean settled. spare_added rules look old new found inst d c.keep.ensures.keeps.gains c.requires.whole has settled spare (c.keep.ensures.keeps.only look exact lean has.lean spare.only);
         settles = λ exact spare settled. settled_added rules look old new found inst d c.keep.ensures.keeps.gains c.requires.whole has settled spare (c.in_ok-put-in-Value.ensures.keeps.keeps exact);
@@ -147,7 +147,7 @@ returns-in-Fault g c = record {
       let typed = subst (λ (s : Step). IsTypedStep rules (class_shown c.args.store.now) s c.go_on.new.self.trial) c.in-Fault.is c.in_ok-step.ensures.typed in
       let passed = subst (λ (s : Step). HasPassedTo rules look found inst c.go_on.new.self s) c.in-Fault.is (c.in_ok-step.ensures.passed inst c.requires.standing.passed) in
       let takes = c.in_ok-step.ensures.only inst c.requires.standing.stepped c.requires.standing.takes in
-      record { tried = has_failed rules look entries found inst c.go_on.new.self.trial c.in-Fault.kind stepped; right = c.requires.kept_right; stays = λ there finds right. right; plain = c.requires.plain; lazy = λ j. inl refl; worthy = worthy_none rules look inst entries; spare = λ exact spare lean settled. spare; settles = λ exact spare settled. settled; counts = λ exact. counts_none entries c.args.self.now.work c.args.self.now.few; keeps = tt; waits = record { stepped = stepped; passed = passed; takes = takes; typed = typed; kept = c.in_ok-step.ensures.kept } };
+      record { tried = has_failed rules look entries found inst c.go_on.new.self.trial c.in-Fault.kind stepped; right = c.requires.kept_right; stays = λ there finds right. right; plain = c.requires.plain; gains = gain_none rules look found entries inst; worthy = worthy_none rules look inst entries; spare = λ exact spare lean settled. spare; settles = λ exact spare settled. settled; counts = λ exact. counts_none entries c.args.self.now.work c.args.self.now.few; keeps = tt; waits = record { stepped = stepped; passed = passed; takes = takes; typed = typed; kept = c.in_ok-step.ensures.kept } };
   traces = stay_same (g.K.Keeper.memories c.args.self.now.keeper);
 }
 
@@ -165,6 +165,6 @@ returns-in-Need g c = record {
       let typed = subst (λ (s : Step). IsTypedStep rules (class_shown c.args.store.now) s trial) c.in-Need.is c.in_ok-step.ensures.typed in
       let passed = subst (λ (s : Step). HasPassedTo rules look found inst c.go_on.new.self s) c.in-Need.is (c.in_ok-step.ensures.passed inst c.requires.standing.passed) in
       let takes = c.in_ok-step.ensures.only inst c.requires.standing.stepped c.requires.standing.takes in
-      record { tried = has_needed rules look entries found inst (class_shown c.args.store.now) trial c.in-Need.needed stepped unknown typed; right = c.requires.kept_right; stays = λ there finds right. right; plain = c.requires.plain; lazy = λ j. inl refl; worthy = worthy_none rules look inst entries; spare = λ exact spare lean settled. spare; settles = λ exact spare settled. settled; counts = λ exact. counts_none entries c.args.self.now.work c.args.self.now.few; keeps = tt; waits = record { stepped = stepped; passed = passed; takes = takes; typed = typed; kept = c.in_ok-step.ensures.kept } };
+      record { tried = has_needed rules look entries found inst (class_shown c.args.store.now) trial c.in-Need.needed stepped unknown typed; right = c.requires.kept_right; stays = λ there finds right. right; plain = c.requires.plain; gains = gain_none rules look found entries inst; worthy = worthy_none rules look inst entries; spare = λ exact spare lean settled. spare; settles = λ exact spare settled. settled; counts = λ exact. counts_none entries c.args.self.now.work c.args.self.now.few; keeps = tt; waits = record { stepped = stepped; passed = passed; takes = takes; typed = typed; kept = c.in_ok-step.ensures.kept } };
   traces = stay_same (g.K.Keeper.memories c.args.self.now.keeper);
 }

@@ -1,8 +1,6 @@
 use Rattle.std.proofs.Common.{◌≡◌, ◌<◌, length, arith, refl}
 use Rattle.std.proofs.lemmas.Bool.Decides.{nat_tests}
-use Rattle.at_engine.specs.Engines.{rules_of, state_of}
-use Rattle.at_engine.proofs.Attempting.{stepped, stepped_nowhere}
-use Rattle.at_engine.proofs.of_keeping.KeepingLemmas.{kept_empty, kept_step}
+use Rattle.at_engine.proofs.Attempting.{taken, taken_nowhere}
 use Rattle.at_engine.proofs.engine.Engine.line.Goals as goal
 
 pub returns-then-is_empty : goal.returns-then-is_empty
@@ -13,10 +11,7 @@ returns-then-is_empty g c =
     let later = c.reserve.new.self.items in
     let none : length line ≡ 0 = grind (arith, nat_tests) in
     record {
-      done = record {
-        steps = stepped_nowhere (rules_of e) (state_of e) line before later none c.reserve.ensures.items;
-        keeps = λ exact spare. kept_empty g.K.Keeper.contents line e before later none c.reserve.ensures.items;
-      };
+      done = taken_nowhere g.K.Keeper.exact g.K.Keeper.contents e before later line none c.reserve.ensures.items;
       same = tt;
       full = tt;
       err = tt;
@@ -37,10 +32,7 @@ returns g c =
     let some : 0 < length line = grind (arith, nat_tests) in
     let s = c.in_ok-serve.ensures in
     record {
-      done = record {
-        steps = stepped (rules_of e) (state_of e) (state_of new) line c.in_ok-serve.field-0 before later some s.done.served;
-        keeps = λ exact spare. kept_step g.K.Keeper.contents line e new c.in_ok-serve.field-0 before later some s.done.served (s.done.keeps exact spare);
-      };
+      done = taken g.K.Keeper.exact g.K.Keeper.contents e before later new c.in_ok-serve.field-0 line some s.done;
       same = tt;
       full = tt;
       err = tt;

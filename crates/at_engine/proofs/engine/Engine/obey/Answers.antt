@@ -6,13 +6,12 @@ use Rattle.at_model.specs.Machine.{obeyed, verdict}
 use Rattle.at_protocol.specs.LineView.{command_view, line_with}
 use Rattle.at_protocol.specs.declared.reply.Form.{Form}
 use Rattle.at_protocol.specs.declared.reply.Form.TheVariants as form
-use Rattle.at_store.specs.Shown.{path}
 use Rattle.at_engine.specs.Engines.{rules_of, state_of}
 use Rattle.at_engine.specs.Keeping.{SparesVerdict}
-use Rattle.at_engine.specs.Posted.{posted_view}
-use Rattle.at_engine.specs.Telling.{by_turns}
+use Rattle.at_engine.specs.Following.{IsAtOnce}
+use Rattle.at_engine.specs.Hearing.{by_turns}
 use Rattle.at_engine.proofs.Attempting.{heard_at_once}
-use Rattle.at_engine.proofs.FollowingLemmas.{as_verdict}
+use Rattle.at_engine.proofs.FollowingLemmas.{as_verdict, told_at_once}
 use Rattle.at_engine.proofs.of_keeping.KeepingLemmas.{at_once_spares, refused_spares, turned_spares, waited_spares}
 use Rattle.at_engine.proofs.engine.Engine.obey.Goals as goal
 
@@ -20,7 +19,11 @@ pub returns-in-Some-clause-hears : goal.returns-in-Some-clause-hears
 returns-in-Some-clause-hears g c =
     let e = c.args.self.now in
     let is = c.at_once.ensures.form in
-    heard_at_once (rules_of e) (state_of e) (state_of e) (line_with c.args.session c.args.expected (command_view c.args.command.now)) c.at_once.result (Ok (form.Refused c.in-Some.refusal)) c.at_once.ensures.session c.at_once.ensures.done is (c.in-Some.ensures (line_with c.args.session c.args.expected (command_view c.args.command.now)) refl (sym c.has_used-is_marked.ensures)) tt
+    let l = line_with c.args.session c.args.expected (command_view c.args.command.now) in
+    let meets = c.in-Some.ensures l refl (sym c.has_used-is_marked.ensures) in
+    heard_at_once g.K.Keeper.exact g.K.Keeper.contents e e l c.at_once.result (Ok (form.Refused c.in-Some.refusal))
+    c.at_once.ensures.session c.at_once.ensures.done is meets tt
+    (told_at_once (rules_of e) (state_of e) (verdict (rules_of e) (state_of e) l) (form.Refused c.in-Some.refusal) (state_of e) meets)
 
 pub returns-in-Some-clause-spares : goal.returns-in-Some-clause-spares
 returns-in-Some-clause-spares g c exact spare =
@@ -42,9 +45,9 @@ pub returns-in-Some-awaited-clause-hears : goal.returns-in-Some-awaited-clause-h
 returns-in-Some-awaited-clause-hears g c =
     let e = c.args.self.now in
     let q = c.in-Some-awaited.ensures.question in
-    by_turns (posted_view (path e.store) q) ((c.in_default.ensures (line_with c.args.session c.args.expected (command_view c.args.command.now)) refl
+    by_turns c.in-Some-awaited.position q c.in-Some-awaited.ensures.there ((c.in_default.ensures (line_with c.args.session c.args.expected (command_view c.args.command.now)) refl
     (sym c.has_used-is_marked.ensures)) ∙ c.in-Some-awaited.ensures.waits)
-    (c.wait.ensures.done q c.in-Some-awaited.ensures.there).0
+    (c.wait.ensures.done q c.in-Some-awaited.ensures.there)
 
 pub returns-in-Some-awaited-clause-spares : goal.returns-in-Some-awaited-clause-spares
 returns-in-Some-awaited-clause-spares g c exact spare =
@@ -58,8 +61,10 @@ returns-in-None-clause-hears g c =
     let l = line_with c.args.session c.args.expected (command_view c.args.command.now) in
     let v = verdict (rules_of e) (state_of e) l in
     let o = obeyed (rules_of e) (state_of e) l.session l.command in
-    heard_at_once (rules_of e) (state_of e) (state_of c.command.new.self) l c.at_once-in-None.result c.command.result c.at_once-in-None.ensures.session c.at_once-in-None.ensures.done c.at_once-in-None.ensures.form
-    (IfOk-weaker c.command.result _ _ (λ f told. as_verdict (rules_of e) (state_of e) v o f (state_of c.command.new.self) (c.in_default.ensures (line_with c.args.session c.args.expected (command_view c.args.command.now)) refl (sym c.has_used-is_marked.ensures)) told) c.command.ensures.obeys) c.command.ensures.err
+    let same = c.in_default.ensures l refl (sym c.has_used-is_marked.ensures) in
+    heard_at_once g.K.Keeper.exact g.K.Keeper.contents e c.command.new.self l c.at_once-in-None.result c.command.result c.at_once-in-None.ensures.session c.at_once-in-None.ensures.done c.at_once-in-None.ensures.form
+    (IfOk-weaker c.command.result _ _ (λ f told. as_verdict (rules_of e) (state_of e) v o f (state_of c.command.new.self) same told) c.command.ensures.obeys) c.command.ensures.err
+    (subst IsAtOnce (sym same) c.in-None.ensures)
 
 pub returns-in-None-clause-spares : goal.returns-in-None-clause-spares
 returns-in-None-clause-spares g c exact spare =

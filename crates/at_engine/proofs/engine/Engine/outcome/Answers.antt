@@ -1,8 +1,8 @@
-use Rattle.std.proofs.Common.{◌≡◌, List, Result, Ok, Err, ap, subst, sym}
+use Rattle.std.proofs.Common.{◌≡◌, List, [], None, Result, Ok, Err, ap, subst, sym}
 use Rattle.std.specs.Allocator.{alloc_error}
 use Rattle.std.specs.declared.alloc.AllocError.{AllocError}
 use Rattle.at_model.specs.Lines.{Ask, Command as CommandOf, From_root, IsCommand, Line, Spells}
-use Rattle.at_model.specs.Machine.{runs_out, verdict}
+use Rattle.at_model.specs.Machine.{verdict}
 use Rattle.at_protocol.specs.Again.{bare_question}
 use Rattle.at_protocol.specs.Faults.{Refuses}
 use Rattle.at_protocol.specs.LineView.{arguments_view, command_view, line_view, line_with, place_view, request_view}
@@ -17,10 +17,13 @@ use Rattle.at_protocol.specs.declared.reply.Form.TheVariants as form
 use Rattle.at_protocol.specs.declared.reply.Refusal.TheVariants as refusal
 use Rattle.at_engine.specs.Commanding.{Fulfils}
 use Rattle.at_engine.specs.Engines.{rules_of, state_of}
+use Rattle.at_engine.specs.Following.{IsAtOnce}
+use Rattle.at_engine.specs.Hearing.{IsStep}
 use Rattle.at_engine.specs.Keeping.{SparesVerdict}
 use Rattle.at_engine.proofs.Attempting.{gets_at_once, got, heard_at_once}
 use Rattle.at_engine.proofs.of_keeping.KeepingLemmas.{at_once_spares, form_spares, line_spares, unknown_spares, unread_spares}
-use Rattle.at_engine.proofs.TellingLemmas.{told_unread}
+use Rattle.at_engine.proofs.TellingLemmas.{step_unread, told_unread}
+use Rattle.at_engine.proofs.of_turns.Awaiting.{asked_at_once}
 use Rattle.at_engine.proofs.engine.Engine.outcome.Goals as goal
 
 -- the line with this command in the place of its own
@@ -41,8 +44,10 @@ returns-in-Some-clause-gets g c =
     let l = bare_question e.last.session steps c.in-Some.attribute.now in
     let done = c.ask_of-form.ensures (From_root steps) number in
     let told = c.at_once.result in
-    let hears = heard_at_once (rules_of e) (state_of e) (state_of new) l told c.ask_of-form.result c.at_once.ensures.session c.at_once.ensures.done c.at_once.ensures.form done.obeys done.err in
-    got (rules_of e) (state_of e) (state_of new) c.args.line.now l spelled told hears
+    let soon = asked_at_once (rules_of e) (state_of e) e.last.session None (From_root steps) c.in-Some.attribute.now [] in
+    let hears = heard_at_once g.K.Keeper.exact k e new l told c.ask_of-form.result
+    c.at_once.ensures.session c.at_once.ensures.done c.at_once.ensures.form done.obeys done.err soon in
+    got g.K.Keeper.exact k e new c.args.line.now l spelled told hears
 
 pub returns-in-Some-clause-spares : goal.returns-in-Some-clause-spares
 returns-in-Some-clause-spares g c exact spare =
@@ -53,10 +58,12 @@ returns-in-Some-clause-spares g c exact spare =
     let l = bare_question e.last.session steps c.in-Some.attribute.now in
     let done = c.ask_of-form.ensures (From_root steps) number in
     let told = c.at_once.result in
-    let hears = heard_at_once (rules_of e) (state_of e) (state_of new) l told c.ask_of-form.result c.at_once.ensures.session c.at_once.ensures.done c.at_once.ensures.form done.obeys done.err in
+    let soon = asked_at_once (rules_of e) (state_of e) e.last.session None (From_root steps) c.in-Some.attribute.now [] in
+    let hears = heard_at_once g.K.Keeper.exact k e new l told c.ask_of-form.result
+    c.at_once.ensures.session c.at_once.ensures.done c.at_once.ensures.form done.obeys done.err soon in
     let v = verdict (rules_of e) (state_of e) l in
     let all = at_once_spares k e new v c.ask_of-form.result (done.spares exact spare) in
-    line_spares k e new c.args.line.now l told spelled hears (subst (λ (x : Result Form AllocError). SparesVerdict k v x e new) (sym c.at_once.ensures.form) all)
+    line_spares k e new c.args.line.now g.K.Keeper.exact l told spelled hears (subst (λ (x : Result Form AllocError). SparesVerdict k v x e new) (sym c.at_once.ensures.form) all)
 
 pub returns-in-Some-clause-stays : goal.returns-in-Some-clause-stays
 returns-in-Some-clause-stays g c =
@@ -80,14 +87,14 @@ returns-in-Ok-Command-clause-gets g c =
     let q = c.in-Ok-Command in
     let is : q.field-0.request ≡ request.Command q.command = cc in
     let spelled = subst (Spells c.args.line.now) (is_told q.field-0 q.command is) q.ensures.found in
-    got (rules_of e) (state_of e) (state_of c.obey.new.self) c.args.line.now _ spelled c.obey.result c.obey.ensures.hears
+    got g.K.Keeper.exact g.K.Keeper.contents e c.obey.new.self c.args.line.now _ spelled c.obey.result c.obey.ensures.hears
 
 pub returns-in-Ok-Command-clause-spares : goal.returns-in-Ok-Command-clause-spares
 returns-in-Ok-Command-clause-spares g c exact spare =
     let q = c.in-Ok-Command in
     let is : q.field-0.request ≡ request.Command q.command = cc in
     let spelled = subst (Spells c.args.line.now) (is_told q.field-0 q.command is) q.ensures.found in
-    line_spares g.K.Keeper.contents c.args.self.now c.obey.new.self c.args.line.now _ c.obey.result spelled c.obey.ensures.hears (c.obey.ensures.spares exact spare)
+    line_spares g.K.Keeper.contents c.args.self.now c.obey.new.self c.args.line.now g.K.Keeper.exact _ c.obey.result spelled c.obey.ensures.hears (c.obey.ensures.spares exact spare)
 
 pub returns-in-Ok-Ask-clause-gets : goal.returns-in-Ok-Ask-clause-gets
 returns-in-Ok-Ask-clause-gets g c =
@@ -100,8 +107,11 @@ returns-in-Ok-Ask-clause-gets g c =
     let Done : Request → Type 0 = λ words. Fulfils g.K.Keeper.exact k g.K.Keeper.memories e (verdict (rules_of e) (state_of e) (line_of q.field-0 (request_view words))) c.question.result new in
     let done = subst Done (sym is) (subst Listed c.deref.ensures.value c.question.ensures) in
     let told = c.at_once-in-Ok-Ask.result in
-    let hears = heard_at_once (rules_of e) (state_of e) (state_of new) (line_view q.field-0) told c.question.result c.at_once-in-Ok-Ask.ensures.session c.at_once-in-Ok-Ask.ensures.done c.at_once-in-Ok-Ask.ensures.form done.obeys done.err in
-    got (rules_of e) (state_of e) (state_of new) c.args.line.now (line_view q.field-0) q.ensures.found told hears
+    let soon = subst (λ (words : Request). IsAtOnce (verdict (rules_of e) (state_of e) (line_of q.field-0 (request_view words)))) (sym is)
+    (asked_at_once (rules_of e) (state_of e) q.field-0.session q.field-0.expected (place_view q.place) q.attribute.now (arguments_view q.arguments.items)) in
+    let hears = heard_at_once g.K.Keeper.exact k e new (line_view q.field-0) told c.question.result
+    c.at_once-in-Ok-Ask.ensures.session c.at_once-in-Ok-Ask.ensures.done c.at_once-in-Ok-Ask.ensures.form done.obeys done.err soon in
+    got g.K.Keeper.exact k e new c.args.line.now (line_view q.field-0) q.ensures.found told hears
 
 pub returns-in-Ok-Ask-clause-spares : goal.returns-in-Ok-Ask-clause-spares
 returns-in-Ok-Ask-clause-spares g c exact spare =
@@ -114,18 +124,21 @@ returns-in-Ok-Ask-clause-spares g c exact spare =
     let Done : Request → Type 0 = λ words. Fulfils g.K.Keeper.exact k g.K.Keeper.memories e (verdict (rules_of e) (state_of e) (line_of q.field-0 (request_view words))) c.question.result new in
     let done = subst Done (sym is) (subst Listed c.deref.ensures.value c.question.ensures) in
     let told = c.at_once-in-Ok-Ask.result in
-    let hears = heard_at_once (rules_of e) (state_of e) (state_of new) (line_view q.field-0) told c.question.result c.at_once-in-Ok-Ask.ensures.session c.at_once-in-Ok-Ask.ensures.done c.at_once-in-Ok-Ask.ensures.form done.obeys done.err in
+    let soon = subst (λ (words : Request). IsAtOnce (verdict (rules_of e) (state_of e) (line_of q.field-0 (request_view words)))) (sym is)
+    (asked_at_once (rules_of e) (state_of e) q.field-0.session q.field-0.expected (place_view q.place) q.attribute.now (arguments_view q.arguments.items)) in
+    let hears = heard_at_once g.K.Keeper.exact k e new (line_view q.field-0) told c.question.result
+    c.at_once-in-Ok-Ask.ensures.session c.at_once-in-Ok-Ask.ensures.done c.at_once-in-Ok-Ask.ensures.form done.obeys done.err soon in
     let v = verdict (rules_of e) (state_of e) (line_view q.field-0) in
     let all = at_once_spares k e new v c.question.result (done.spares exact spare) in
-    line_spares k e new c.args.line.now (line_view q.field-0) told q.ensures.found hears (subst (λ (x : Result Form AllocError). SparesVerdict k v x e new) (sym c.at_once-in-Ok-Ask.ensures.form) all)
+    line_spares k e new c.args.line.now g.K.Keeper.exact (line_view q.field-0) told q.ensures.found hears (subst (λ (x : Result Form AllocError). SparesVerdict k v x e new) (sym c.at_once-in-Ok-Ask.ensures.form) all)
 
 pub returns-in-Err-Syntax-clause-gets : goal.returns-in-Err-Syntax-clause-gets
 returns-in-Err-Syntax-clause-gets g c =
     let e = c.args.self.now in
     let is : c.in-Err-Syntax.field-0 ≡ Syntax c.in-Err-Syntax.session = cc in
     let refused = subst (Refuses c.args.line.now) is c.in-Err-Syntax.ensures.refused in
-    gets_at_once (rules_of e) (state_of e) (state_of e) c.args.line.now c.at_once-in-Err-Syntax.result c.in-Err-Syntax.session (Ok (form.Refused refusal.Syntax)) c.at_once-in-Err-Syntax.ensures.session c.at_once-in-Err-Syntax.ensures.done c.at_once-in-Err-Syntax.ensures.form
-    (told_unread (rules_of e) (state_of e) c.args.line.now c.in-Err-Syntax.session refused.0 refused.1)
+    gets_at_once (IsStep g.K.Keeper.exact g.K.Keeper.contents c.args.line.now e e) c.at_once-in-Err-Syntax.result c.in-Err-Syntax.session (Ok (form.Refused refusal.Syntax)) c.at_once-in-Err-Syntax.ensures.session c.at_once-in-Err-Syntax.ensures.done c.at_once-in-Err-Syntax.ensures.form
+    (told_unread g.K.Keeper.exact g.K.Keeper.contents e c.args.line.now c.in-Err-Syntax.session refused.1 refused.0)
 
 pub returns-in-Err-Syntax-clause-spares : goal.returns-in-Err-Syntax-clause-spares
 returns-in-Err-Syntax-clause-spares g c exact spare =
@@ -139,7 +152,8 @@ returns-in-Err-Memory-clause-gets g c =
     let e = c.args.self.now in
     let is : c.in-Err-Memory.field-0 ≡ Memory c.in-Err-Memory.session = cc in
     let session = subst (Refuses c.args.line.now) is c.in-Err-Memory.ensures.refused in
-    gets_at_once (rules_of e) (state_of e) (state_of e) c.args.line.now c.at_once-in-Err-Memory.result c.in-Err-Memory.session (Err alloc_error) c.at_once-in-Err-Memory.ensures.session c.at_once-in-Err-Memory.ensures.done c.at_once-in-Err-Memory.ensures.form (runs_out session)
+    gets_at_once (IsStep g.K.Keeper.exact g.K.Keeper.contents c.args.line.now e e) c.at_once-in-Err-Memory.result c.in-Err-Memory.session (Err alloc_error) c.at_once-in-Err-Memory.ensures.session c.at_once-in-Err-Memory.ensures.done c.at_once-in-Err-Memory.ensures.form
+    (step_unread g.K.Keeper.exact g.K.Keeper.contents e c.args.line.now c.in-Err-Memory.session session)
 
 pub returns-in-Err-Memory-clause-spares : goal.returns-in-Err-Memory-clause-spares
 returns-in-Err-Memory-clause-spares g c exact spare =

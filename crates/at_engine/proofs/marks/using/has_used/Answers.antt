@@ -12,23 +12,11 @@ returns-in-Post g c =
     let p = has_mark (g.M.Lookup.marks c.args.marks.now) c.args.session in
     rw c.in-Post.is (c.has_asked.ensures ∙ ap (λ (l : List Argument). list_all p (marks_in (place_view c.in-Post.place) ++ flat_map marks_in_argument (arguments_view l))) c.deref.ensures.value)
 
-pub returns-in-Set : goal.returns-in-Set
-returns-in-Set g c = rw c.in-Set.is c.has_in.ensures
-
-pub returns-in-Put : goal.returns-in-Put
-returns-in-Put g c = rw c.in-Put.is c.has_in-in-Put.ensures
-
-pub returns-in-Drop : goal.returns-in-Drop
-returns-in-Drop g c = rw c.in-Drop.is c.has_in-in-Drop.ensures
-
-pub returns-in-Insert : goal.returns-in-Insert
-returns-in-Insert g c = rw c.in-Insert.is c.has_in-in-Insert.ensures
-
-pub returns-in-Token : goal.returns-in-Token
-returns-in-Token g c = rw c.in-Token.is c.has_in-in-Token.ensures
+pub returns-in-Edit : goal.returns-in-Edit
+returns-in-Edit g c = rw c.in-Edit.is c.has_named.ensures
 
 pub returns-in-Show : goal.returns-in-Show
-returns-in-Show g c = rw c.in-Show.is c.has_in-in-Show.ensures
+returns-in-Show g c = rw c.in-Show.is c.has_in.ensures
 
 pub returns-in-Mark : goal.returns-in-Mark
 returns-in-Mark g c = rw c.in-Mark.is c.has_in-in-Mark.ensures
