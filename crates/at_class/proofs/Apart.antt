@@ -91,8 +91,8 @@ never_twice ds none c i p e =
 own_first : (classes : Classes) (c : ℕ) → ((i : ℕ) (p : Component) → slice_get (own_of classes c) i ≡ Some p → is_twice classes c i ≡ false) → AreFirst (inherited classes c) (own_of classes c)
 own_first classes c once i p e =
     let taken : is_taken (inherited classes c ++ take i (own_of classes c)) p ≡ false =
-        sym (ap (λ (o : Option Component). elim o
-        [ None ↦ false | Some q ↦ is_taken (inherited classes c ++ take i (own_of classes c)) q ]) e) ∙ once i p e in
+    sym (ap (λ (o : Option Component). elim o
+    [ None ↦ false | Some q ↦ is_taken (inherited classes c ++ take i (own_of classes c)) q ]) e) ∙ once i p e in
     unnamed p (inherited classes c ++ take i (own_of classes c)) (or_parts (is_common p.name) (list_any (clash p) (inherited classes c ++ take i (own_of classes c))) taken).1
 
 -- all components ------------------------------------------------------------------------------------------------------
@@ -109,7 +109,7 @@ of_chain classes led own (c ∷ cs) None e = absurd (nothing (sym (chain_within-
 of_chain classes led own (c ∷ cs) (Some b) e =
     let f : b ∷ above classes b ≡ c ∷ cs = sym (led b) ∙ e in
     let all : AreFirst [] (all_of classes (above classes b)) = subst (λ ds. AreFirst [] (all_of classes ds))
-        (sym (ap (drop 1) f)) (of_chain classes led own cs (parent_of classes b) (ap (drop 1) f)) in
+    (sym (ap (drop 1) f)) (of_chain classes led own cs (parent_of classes b) (ap (drop 1) f)) in
     subst (λ ds. AreFirst [] (all_of classes ds)) f
     (subst (AreFirst []) (sym (all_more classes b (above classes b))) (joined [] (all_of classes (above classes b)) (own_of classes b) all (own b)))
 

@@ -58,7 +58,7 @@ reached classes from (x ∷ xs) c (suc k) l less =
 -- all classes on a circle, and so all above them, are above themselves
 circle : (classes : Classes) (x : ℕ) (cs : List ℕ) → Leads classes (Some x) (x ∷ cs) (Some x) → length (x ∷ cs) ≤ length classes
     → (m : ℕ) (a b : List ℕ) (mid : Option ℕ) → Leads classes (Some x) a mid → Leads classes mid b (Some x)
-        → length a + length b ≤ length classes → list_all (is_above_itself classes) (chain_within m classes mid) ≡ true
+    → length a + length b ≤ length classes → list_all (is_above_itself classes) (chain_within m classes mid) ≡ true
 circle classes x cs whole most zero a b mid l r le = refl
 circle classes x cs whole most (suc m) a [] mid l r le =
     ap (λ o. list_all (is_above_itself classes) (chain_within (suc m) classes o)) r

@@ -76,7 +76,7 @@ own_behind classes led c = ap (drop (length (all_of classes (above classes c))))
 -- the components of the superclass are counted
 counted : (ks : List Class) (es : List Entry) (n : ℕ) (o : Option ℕ) → AreEntries ks es n → length ks ≡ n → IfSome o (λ p. p < n)
     → unwrap_or (option_map (λ (e : Entry). length e.parts.items) (option_and_then (slice_get es) o)) 0
-        ≡ length (all_of (classes_view ks) (chain_within (length (classes_view ks)) (classes_view ks) o))
+    ≡ length (all_of (classes_view ks) (chain_within (length (classes_view ks)) (classes_view ks) o))
 unfolding chain
 counted ks es n None are m less = sym (ap (λ up. length (all_of (classes_view ks) up)) (chain_within-none (classes_view ks) (length (classes_view ks))))
 counted ks es n (Some p) are m less =
@@ -116,8 +116,8 @@ entry_class ks es name c k e are led h f g same =
     ∙ own_behind classes led c
     ∙ ap (λ o. elim o [ None ↦ [] | Some d ↦ d.own ]) there in
     same_class (string_bytes name) (string_bytes k.name) e.is_abstract k.is_abstract e.parent k.parent _ _ same
-        (ap (λ (d : Entry). d.is_abstract) (sym e-is) ∙ kept.is_abstract
-        ∙ ap (λ (d : Class). d.is_abstract) k-is) parent own
+    (ap (λ (d : Entry). d.is_abstract) (sym e-is) ∙ kept.is_abstract
+    ∙ ap (λ (d : Class). d.is_abstract) k-is) parent own
 
 name_at : {A : Type 0} (names : List (String A)) (classes : Classes) (c : ℕ) (name : String A) (k : ModelClass)
     → map string_bytes names ≡ map (λ (k : ModelClass). k.name) classes → slice_get names c ≡ Some name
@@ -152,8 +152,8 @@ table-declared names ks es same are led h =
     let as_many : length names ≡ length ks = sym (length-map names string_bytes) ∙ ap length same ∙ length-map (classes_view ks) (λ (k : ModelClass). k.name) ∙ length-map ks class_view in
     let n : length names ≡ length es = as_many ∙ sym are.count in
     ext_get_or none (table_view names es) (classes_view ks)
-        (length-table names es n ∙ are.count ∙ sym (length-map ks class_view)) (λ c less.
-        class_at names ks es c none n same are led h (omega (arith, less, length-table names es n, are.count)))
+    (length-table names es n ∙ are.count ∙ sym (length-map ks class_view)) (λ c less.
+    class_at names ks es c none n same are led h (omega (arith, less, length-table names es n, are.count)))
   where
     none : ModelClass
     none = record { name = []; is_abstract = false; parent = None; own = [] }

@@ -30,8 +30,8 @@ first_by front [] e i p there = absurd cc
 first_by front (x ∷ xs) e zero p there =
     let same : x ≡ p = cc in
     ap (list_any (is_named p.name)) (append-nil front) ∙
-        subst (λ (q : Component). list_any (is_named q.name) front ≡ false) same (off (list_any (is_named x.name) front)
-        (both (not (list_any (is_named x.name) front)) (are_first (front ++ x ∷ []) xs) e).0)
+    subst (λ (q : Component). list_any (is_named q.name) front ≡ false) same (off (list_any (is_named x.name) front)
+    (both (not (list_any (is_named x.name) front)) (are_first (front ++ x ∷ []) xs) e).0)
 first_by front (x ∷ xs) e (suc i) p there =
     ap (list_any (is_named p.name)) (sym (append_assoc front (x ∷ []) (take i xs)))
     ∙ first_by (front ++ x ∷ []) xs (both (not (list_any (is_named x.name) front)) (are_first (front ++ x ∷ []) xs) e).1 i p there

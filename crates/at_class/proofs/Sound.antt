@@ -68,8 +68,8 @@ view_texts xs k d less =
       parts = λ i p more.
           let m : i < length x.parts.items = subst (λ n. i < n) (length-map x.parts.items part_declaration_view) more in
           subst (λ (q : PartDeclaration). IsUtf8 q.name)
-              (sym (get_or-map part_declaration_view x.parts.items i (spare x.parts.items i m) p m))
-              (IsUtf8-string_bytes (get_or x.parts.items i (spare x.parts.items i m)).name);
+          (sym (get_or-map part_declaration_view x.parts.items i (spare x.parts.items i m) p m))
+          (IsUtf8-string_bytes (get_or x.parts.items i (spare x.parts.items i m)).name);
     })
   where
     spare : {A : Type 0} (xs : List A) (k : ℕ) → k < length xs → A
@@ -89,7 +89,7 @@ class_sound ds d some named texts = record {
   own = λ k e less.
       let l : k < length d.parts = subst (λ n. k < n) (length-map d.parts (component_by (class_named ds))) less in
       subst (IsComponentSound (length ds)) (sym (get_or-map (component_by (class_named ds)) d.parts k (spare d) e l))
-          (component_sound ds (get_or d.parts k (spare d)) some (named.parts k (spare d) l, texts.parts k (spare d) l));
+      (component_sound ds (get_or d.parts k (spare d)) some (named.parts k (spare d) l, texts.parts k (spare d) l));
 }
   where
     spare : Declaration → PartDeclaration

@@ -50,19 +50,19 @@ pub table_of_declared : {A : Type 0} (keys : List (String A)) (ks lent : List Cl
     (xs : List ClassDecl) → map string_bytes keys ≡ map (λ d. string_bytes d.name) xs
     → classes_view ks ≡ classes_of (declarations_view xs)
     → lent ≡ ks → AreEntries lent es (length lent) → AreSound (classes_of (declarations_view xs))
-        → IsHierarchy (classes_of (declarations_view xs)) → table_view keys es ≡ classes_of (declarations_view xs)
+    → IsHierarchy (classes_of (declarations_view xs)) → table_view keys es ≡ classes_of (declarations_view xs)
 table_of_declared keys ks lent es xs same e is are sound hierarchy =
     let f : classes_view lent ≡ classes_of (declarations_view xs) = ap classes_view is ∙ e in
     table-declared keys lent es (same ∙ sym (ap (map (λ (k : ModelClass). k.name)) f ∙ names_declared xs)) are
-        (subst AreLed (sym f) (led (classes_of (declarations_view xs)) hierarchy sound.some))
-        (subst IsHierarchy (sym f) hierarchy) ∙ f
+    (subst AreLed (sym f) (led (classes_of (declarations_view xs)) hierarchy sound.some))
+    (subst IsHierarchy (sym f) hierarchy) ∙ f
 
 pub is_table : {A : Type 0} (keys : List (String A)) (ks lent : List Class) (es : List Entry) (is : List Interval)
     (start : ℕ) (xs : List ClassDecl) → start ≡ 0 → map string_bytes keys ≡ map (λ d. string_bytes d.name) xs
     → classes_view ks ≡ classes_of (declarations_view xs)
     → lent ≡ ks → AreEntries lent es (length lent) → AreSound (classes_of (declarations_view xs))
-        → IsHierarchy (classes_of (declarations_view xs)) → component_twice (declarations_view xs) ≡ None
-        → AreIntervals (classes_view lent) is → IsTable keys es is start
+    → IsHierarchy (classes_of (declarations_view xs)) → component_twice (declarations_view xs) ≡ None
+    → AreIntervals (classes_view lent) is → IsTable keys es is start
 is_table keys ks lent es numbers start xs first same e is are sound hierarchy once right =
     let t : table_view keys es ≡ classes_of (declarations_view xs) = table_of_declared keys ks lent es xs same e is are sound hierarchy in
     let f : classes_view lent ≡ table_view keys es = ap classes_view is ∙ e ∙ sym t in

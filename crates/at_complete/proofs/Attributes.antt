@@ -125,8 +125,8 @@ module _ {S : Type 0} (rules : Rules) where
       here a there true told = (a, there, sym (inherited_at rules attribute a there) ∙ inherited, subst (λ name. IsExposedBelow rules name a.class) (name_at rules attribute a there) told)
       here a there false told = λ lacks.
           told (subst (λ name. IsExposedBelow rules name a.class) (sym (name_at rules attribute a there))
-              (subst (λ (x : Attribute). IsExposedBelow rules x.name x.class)
-              (some_is lacks.0 a (sym lacks.1 ∙ there)) lacks.3))
+          (subst (λ (x : Attribute). IsExposedBelow rules x.name x.class)
+          (some_is lacks.0 a (sym lacks.1 ∙ there)) lacks.3))
 
       by : (o : Option Attribute) → slice_get rules.attributes attribute ≡ o → Tells (is_among (Some w) class) (LacksInherited rules attribute)
       by None none = subst (λ c. Tells (is_among (Some w) c) (LacksInherited rules attribute)) (sym (declared

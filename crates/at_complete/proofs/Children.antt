@@ -157,5 +157,7 @@ listed_put {Z} lists p q class v w e o less is at' read pushed =
 
 pub one_empty_more : {Z : Type 0} (lists new : List (Vec ℕ Z)) (v : Vec ℕ Z) (i : ℕ) → new ≡ lists ++ v ∷ [] → v.items ≡
     [] → length lists ≡ i → ((c : ℕ) → listed_at lists c ≡ []) → (length new ≡ i + 1) × ((c : ℕ) → listed_at new c ≡ [])
-one_empty_more {Z} lists new v i is none count each = (omega (arith, ap length is, length-append lists (v ∷ []), count),
-    λ c. ap (λ (xs : List (Vec ℕ Z)). listed_at xs c) is ∙ one_empty lists v none each c)
+one_empty_more {Z} lists new v i is none count each = (
+  omega (arith, ap length is, length-append lists (v ∷ []), count),
+  λ c. ap (λ (xs : List (Vec ℕ Z)). listed_at xs c) is ∙ one_empty lists v none each c,
+)

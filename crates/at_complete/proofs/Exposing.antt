@@ -114,8 +114,8 @@ met_below : (rules : Rules) (name : List ℕ) (met : List Bool)
     → (c b : ℕ) → fits rules.classes c b ≡ true → has_met met b ≡ true → has_met met c ≡ true
 met_below rules name met closed c b e there =
     descends rules.classes (λ d. has_met met d ≡ true) (λ p d up m.
-        closed p d m (child_within rules.classes d p up) (or_left (is_child rules.classes p d) _ (is_some_from _ p up)))
-        c b (and_both (is_concrete rules.classes c) _ e).1 there
+    closed p d m (child_within rules.classes d p up) (or_left (is_child rules.classes p d) _ (is_some_from _ p up)))
+    c b (and_both (is_concrete rules.classes c) _ e).1 there
 
 there : (rules : Rules) (c part b : ℕ) → option_and_then (λ p. class_in p.shape) (slice_get (parts rules.classes c) part) ≡ Some b → part < length (parts rules.classes c)
 there rules c part b e = by (slice_get (parts rules.classes c) part) refl
@@ -133,8 +133,8 @@ exposed_met rules sound name met start closed d (below c _ x passes) =
     let b = passes.class in
     met_below rules name met closed d b passes.fit (closed c b (exposed_met rules sound name met start closed c x) (above_within rules.classes sound d b passes.fit)
     (or_right (is_child rules.classes c b) _ (and_from (is_concrete rules.classes c) _ (exposed_concrete rules name c x)
-        (passed_among rules name (length (parts rules.classes c)) c b passes.part (there rules c passes.part b
-        passes.trees) (passed_from rules name c passes.part b passes.without passes.trees)))))
+    (passed_among rules name (length (parts rules.classes c)) c b passes.part (there rules c passes.part b
+    passes.trees) (passed_from rules name c passes.part b passes.without passes.trees)))))
 
 pub has_below_itself : (classes : Classes) (met : List Bool) (c : ℕ) → (has_met met c && is_concrete classes c) ≡ true → HasBelow classes met c
 has_below_itself classes met c e = let (x, y) = and_both (has_met met c) (is_concrete classes c) e in (c, fits_itself classes c y, x)
@@ -156,7 +156,7 @@ marked rules sound name met marks passes both w v b = by (has_met marks b) refl
         let concrete = exposed_concrete rules name c x in
         let there = ascends rules.classes (λ d. has_met marks d ≡ true) (λ p d up m. v.closed d p m (parent_within rules.classes sound d p up) (some_is_from (parent_of rules.classes d) p up))
         c b (and_both (is_concrete rules.classes c) (is_sub rules.classes c b) f).1 (v.started c (concrete_within
-            rules.classes c concrete) (and_from (has_met met c) (is_concrete rules.classes c) met_too concrete)) in
+        rules.classes c concrete) (and_from (has_met met c) (is_concrete rules.classes c) met_too concrete)) in
         true≢false (sym there ∙ e)
 
 -- each class is looked at, up to the last one
@@ -226,8 +226,8 @@ pub leads_concrete : (rules : Rules) (name : List ℕ) (class n : ℕ) (t : ℕ 
     → Meets t a b p q → Meets (is_passed rules name n class) b c q r → Meets (leads rules name class) a c p r
 leads_concrete rules name class n t a b c p q r child concrete count m k =
     meets_like _ _ (λ e. ap₂ (λ u v. u || is_passed rules name v class e) (child e) count
-        ∙ ap (λ u. is_child rules.classes class e
-        || (u && is_passed rules name (length (parts rules.classes class)) class e)) (sym concrete)) a c p r
+    ∙ ap (λ u. is_child rules.classes class e
+    || (u && is_passed rules name (length (parts rules.classes class)) class e)) (sym concrete)) a c p r
     (meets_more _ _ a b c p q r m k)
 
 pub leads_abstract : (rules : Rules) (name : List ℕ) (class : ℕ) (t : ℕ → Bool) (a b : List Bool) (p q : List ℕ)
@@ -235,7 +235,7 @@ pub leads_abstract : (rules : Rules) (name : List ℕ) (class : ℕ) (t : ℕ �
     → Meets t a b p q → Meets (leads rules name class) a b p q
 leads_abstract rules name class t a b p q child abstract' m =
     meets_like _ _ (λ e. child e ∙ off (is_child rules.classes class e) ∙ ap (λ u. is_child rules.classes class e
-        || (u && is_passed rules name (length (parts rules.classes class)) class e)) (sym abstract')) a b p q m
+    || (u && is_passed rules name (length (parts rules.classes class)) class e)) (sym abstract')) a b p q m
   where
     off : (b : Bool) → b ≡ (b || false)
     off true = refl
@@ -254,12 +254,12 @@ exposing_begins rules sound name count first met pending all start m =
 
 pub exposing_on : (rules : Rules) → AreSound rules.classes → (name : List ℕ) (i c : ℕ) (o : Option ℕ) (met old after : List Bool) (pending rest waiting : List ℕ)
     → Walking (length rules.classes) (λ c. nat_eq c 0) (leads rules name) (λ c. true) (AllExposed rules name) i met
-        pending → old ≡ met → pending ≡ rest ++ option_to_list o → o ≡ Some c
-        → Meets (leads rules name c) old after rest waiting
+    pending → old ≡ met → pending ≡ rest ++ option_to_list o → o ≡ Some c
+    → Meets (leads rules name c) old after rest waiting
     → Walking (length rules.classes) (λ c. nat_eq c 0) (leads rules name) (λ c. true) (AllExposed rules name) (i + 1) after waiting
 exposing_on rules sound name i c o met old after pending rest waiting w same_met taken is m =
     steps (length rules.classes) (λ c. nat_eq c 0) (leads rules name) (λ c. true) (AllExposed rules name) i c o met old
-        after pending rest waiting w same_met taken is m refl (λ d good less l. leads_on rules sound name c d good l)
+    after pending rest waiting w same_met taken is m refl (λ d good less l. leads_on rules sound name c d good l)
 
 pub exposing_stops : (rules : Rules) (name : List ℕ) (i : ℕ) (o : Option ℕ) (met old : List Bool) (pending : List ℕ)
     → Walking (length rules.classes) (λ c. nat_eq c 0) (leads rules name) (λ c. true) (AllExposed rules name) i met pending → old ≡ met → o ≡ None → IfNone o (length pending ≡ 0)
@@ -271,7 +271,7 @@ pub marking_begins : (classes : Classes) (exposed met : List Bool) (pending : Li
     → Walking (length classes) (is_met_concrete classes exposed) (leads_up classes) (λ c. true) (HasBelow classes exposed) 0 met pending
 marking_begins classes exposed met pending m =
     begins (length classes) (is_met_concrete classes exposed) (leads_up classes) (λ c. true) (HasBelow classes exposed)
-        met pending m (length-replicate (length classes) false) (λ c less e. has_below_itself classes exposed c e)
+    met pending m (length-replicate (length classes) false) (λ c less e. has_below_itself classes exposed c e)
 
 pub marking_on : (classes : Classes) → AreSound classes → (exposed : List Bool) (i c : ℕ) (o up : Option ℕ) (met old after : List Bool) (pending rest waiting : List ℕ)
     → Walking (length classes) (is_met_concrete classes exposed) (leads_up classes) (λ c. true) (HasBelow classes exposed) i met pending → old ≡ met → pending ≡ rest ++ option_to_list o → o ≡ Some c

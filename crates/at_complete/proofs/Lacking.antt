@@ -73,8 +73,8 @@ lacks_none rules sound b attribute met w (c, f, none) = elim (or_cases (is_some 
     on p d up rest s =
         let above = sub_above rules.classes sound c d p (fits_within rules.classes c b f) s (sub_parent rules.classes sound d p up) in
         w.closed p d (rest above) (child_within rules.classes d p up)
-            (and_from (is_none (own_in rules attribute p)) (is_child rules.classes p d)
-            (ap is_none (each_without rules attribute c none p above)) (is_some_from (parent_of rules.classes d) p up))
+        (and_from (is_none (own_in rules attribute p)) (is_child rules.classes p d)
+        (ap is_none (each_without rules attribute c none p above)) (is_some_from (parent_of rules.classes d) p up))
 
     there : has_met met c ≡ true
     there = descends rules.classes (λ d. is_sub rules.classes c d ≡ true → has_met met d ≡ true) on c b (both (is_concrete rules.classes c) (is_sub rules.classes c b) f).1
@@ -91,37 +91,37 @@ lacking_begins rules b attribute count met pending none all m =
 
 pub lacking_on : (rules : Rules) → AreSound rules.classes → (b attribute i c : ℕ) (o : Option ℕ) (met old after : List Bool) (pending rest waiting : List ℕ)
     → Walking (length rules.classes) (λ c. nat_eq c b) (leads_own rules attribute) (passes_own rules attribute)
-        (IsWithoutAbove rules b attribute) i met pending → old ≡ met → pending ≡ rest ++ option_to_list o → o ≡ Some c
+    (IsWithoutAbove rules b attribute) i met pending → old ≡ met → pending ≡ rest ++ option_to_list o → o ≡ Some c
     → (passes_own rules attribute c ≡ true) × Meets (leads_own rules attribute c) old after rest waiting
     → Walking (length rules.classes) (λ c. nat_eq c b) (leads_own rules attribute) (passes_own rules attribute) (IsWithoutAbove rules b attribute) (i + 1) after waiting
 lacking_on rules sound b attribute i c o met old after pending rest waiting w same_met taken is m =
     steps (length rules.classes) (λ c. nat_eq c b) (leads_own rules attribute) (passes_own rules attribute)
-        (IsWithoutAbove rules b attribute) i c o met old after pending rest waiting w same_met taken is m.1 m.0
-        (λ d good less l. without_on rules sound b attribute c d good l)
+    (IsWithoutAbove rules b attribute) i c o met old after pending rest waiting w same_met taken is m.1 m.0
+    (λ d good less l. without_on rules sound b attribute c d good l)
 
 pub lacking_found : (rules : Rules) (b attribute i c : ℕ) (o : Option ℕ) (met : List Bool) (pending rest : List ℕ)
     → Walking (length rules.classes) (λ c. nat_eq c b) (leads_own rules attribute) (passes_own rules attribute)
-        (IsWithoutAbove rules b attribute) i met pending → pending ≡ rest ++ option_to_list o → o ≡ Some c
+    (IsWithoutAbove rules b attribute) i met pending → pending ≡ rest ++ option_to_list o → o ≡ Some c
     → (own_in rules attribute c ≡ None) × (is_concrete rules.classes c ≡ true) → LacksBelow rules b attribute
 lacking_found rules b attribute i c o met pending rest w taken is (own, concrete) =
     lacks_there rules b attribute c (taken_good (length rules.classes) (λ c. nat_eq c b) (leads_own rules attribute)
-        (passes_own rules attribute) (IsWithoutAbove rules b attribute) i c o met pending rest w taken is) own concrete
+    (passes_own rules attribute) (IsWithoutAbove rules b attribute) i c o met pending rest w taken is) own concrete
 
 pub lacking_stops : (rules : Rules) → AreSound rules.classes → (b attribute i : ℕ) (o : Option ℕ) (met : List Bool) (pending : List ℕ)
     → Walking (length rules.classes) (λ c. nat_eq c b) (leads_own rules attribute) (passes_own rules attribute)
-        (IsWithoutAbove rules b attribute) i met pending → o ≡ None → IfNone o (length pending ≡ 0)
+    (IsWithoutAbove rules b attribute) i met pending → o ≡ None → IfNone o (length pending ≡ 0)
     → LacksBelow rules b attribute → ⊥
 lacking_stops rules sound b attribute i o met pending w is none =
     lacks_none rules sound b attribute met
-        (ends (length rules.classes) (λ c. nat_eq c b) (leads_own rules attribute) (passes_own rules attribute)
-        (IsWithoutAbove rules b attribute) i met pending (subst (λ x. IfNone x (length pending ≡ 0)) is none) w)
+    (ends (length rules.classes) (λ c. nat_eq c b) (leads_own rules attribute) (passes_own rules attribute)
+    (IsWithoutAbove rules b attribute) i met pending (subst (λ x. IfNone x (length pending ≡ 0)) is none) w)
 
 pub lacking_out : (rules : Rules) → AreSound rules.classes → (b attribute i : ℕ) (met : List Bool) (pending : List ℕ)
     → Walking (length rules.classes) (λ c. nat_eq c b) (leads_own rules attribute) (passes_own rules attribute) (IsWithoutAbove rules b attribute) i met pending → i ≡ length rules.classes
     → LacksBelow rules b attribute → ⊥
 lacking_out rules sound b attribute i met pending w full =
     lacks_none rules sound b attribute met (ends_full (length rules.classes) (λ c. nat_eq c b) (leads_own rules
-        attribute) (passes_own rules attribute) (IsWithoutAbove rules b attribute) i met pending full w)
+    attribute) (passes_own rules attribute) (IsWithoutAbove rules b attribute) i met pending full w)
 
 -- a class that has an equation is passed, and leads nowhere
 pub looks_past : (rules : Rules) (attribute c : ℕ) (e : Expr) (met : List Bool) (pending : List ℕ)

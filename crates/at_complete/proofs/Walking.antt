@@ -76,7 +76,7 @@ meets_more p q a b c x y z m n = record {
   waits = λ e. n.waits e
       ∙ ap (λ s. s || (has_met c e && not (has_met b e))) (m.waits e)
       ∙ waits (is_in e x) (has_met a e) (has_met b e) (has_met c e) (wider (has_met a e) (nat_lt e (length a) && p e)
-          (has_met b e) (m.met_too e)) (wider (has_met b e) (nat_lt e (length b) && q e) (has_met c e) (n.met_too e));
+      (has_met b e) (m.met_too e)) (wider (has_met b e) (nat_lt e (length b) && q e) (has_met c e) (n.met_too e));
   count = omega (arith, m.count, n.count);
 }
   where
@@ -288,14 +288,14 @@ module _ (n : ℕ) (start : ℕ → Bool) (leads : ℕ → ℕ → Bool) (passes
       → Meets (leads c) old after rest waiting → passes c ≡ true → ((d : ℕ) → Good c → d < n → leads c d ≡ true → Good d) → Walking n start leads passes Good (i + 1) after waiting
   steps i c o met old after pending rest waiting w same_met taken is m pass good =
       goes_on i c old after rest waiting (subst (λ ms. Walking n start leads passes Good i ms (rest ++ c ∷ []))
-          (sym same_met) (subst (λ ps. Walking n start leads passes Good i met ps)
-          (taken ∙ ap (λ p. rest ++ option_to_list p) is) w)) m pass good
+      (sym same_met) (subst (λ ps. Walking n start leads passes Good i met ps)
+      (taken ∙ ap (λ p. rest ++ option_to_list p) is) w)) m pass good
 
   -- what is taken from those that wait was met
   pub taken_good : (i c : ℕ) (o : Option ℕ) (met : List Bool) (pending rest : List ℕ) → Walking n start leads passes Good i met pending → pending ≡ rest ++ option_to_list o → o ≡ Some c → Good c
   taken_good i c o met pending rest w taken is =
       w.good c (w.known c (ap (is_in c) (taken ∙ ap (λ p. rest ++ option_to_list p) is) ∙ list_any-append (nat_eq c)
-          rest (c ∷ []) ∙ or_right (is_in c rest) _ (or_left (nat_eq c c) false (same c c refl))))
+      rest (c ∷ []) ∙ or_right (is_in c rest) _ (or_left (nat_eq c c) false (same c c refl))))
 
   pub stops : (i : ℕ) (met old : List Bool) (pending : List ℕ) → Walking n start leads passes Good i met pending → old ≡ met → length pending ≡ 0 → Walked n start leads passes Good old
   stops i met old pending w same_met none = subst (λ ms. Walked n start leads passes Good ms) (sym same_met) (ends i met pending none w)

@@ -56,7 +56,7 @@ part_spelled (grammar.Optional t) more is f =
     let r = typed_spelled t (sign (codes "]") ∷ more) is refl in
     let e : (grammar.typed t ++ sign (codes "]") ∷ []) ++ more ≡ grammar.typed t ++ sign (codes "]") ∷ more = append_assoc (grammar.typed t) (sign (codes "]") ∷ []) more in
     part_optional t _ ((grammar.typed t ++ sign (codes "]") ∷ []) ++ more) more refl (subst (λ (x : List Symbol).
-        Reads optional t x more) (sym e) (optional_reads t _ _ more r (reads_mark (codes "]") _ more refl)))
+    Reads optional t x more) (sym e) (optional_reads t _ _ more r (reads_mark (codes "]") _ more refl)))
 part_spelled (grammar.Token t) more is f = part_token t _ ((grammar.typed t ++ sign (codes ">") ∷ []) ++ more) more refl (token_spelled t more is)
 
 -- ---- components
@@ -83,7 +83,7 @@ parts_go (p ∷ ps) more is f ws =
     let text : flat_map grammar.part (p ∷ ps) ++ more ≡ grammar.part p ++ rest = simp append_assoc in
     let none = no_end p rest in
     ap (run table (want.Parts ∷ ws)) text ∙ parts_begin (grammar.part p ++ rest) none.0 none.1 ws
-        ∙ (part_spelled p rest is.0 (follows_parts ps more f)).goes (want.Parts ∷ ws) ∙ parts_go ps more is.1 f ws
+    ∙ (part_spelled p rest is.0 (follows_parts ps more f)).goes (want.Parts ∷ ws) ∙ parts_go ps more is.1 f ws
 
 pub parts_spelled : (ps : List grammar.Part) (more : List Symbol) → AreParts ps → Reads parts ps (grammar.parts ps ++ more) more
 parts_spelled ps more is =
@@ -125,7 +125,7 @@ head_spelled m n p more is below e =
     let text : grammar.head (head_of m n p) ++ more ≡ grammar.modifier m ++ (grammar.name n ∷ (grammar.kind p ++ more)) = append_assoc (grammar.modifier m) (grammar.name n ∷ grammar.kind p) more in
     subst (λ (x : List Symbol). HeadRead (head_of m n p) x more) (sym text)
     (head_read m n p _ (grammar.name n ∷ (grammar.kind p ++ more)) (grammar.kind p ++ more) more
-        (modifier_spelled m _ (no_name_is_abstract n.text is)) (reads_name n _ _ refl is) (kind_spelled p more below e))
+    (modifier_spelled m _ (no_name_is_abstract n.text is)) (reads_name n _ _ refl is) (kind_spelled p more below e))
 
 pub no_colon : (b : Option (List grammar.Part)) (more : List Symbol) → is_sign (codes ":") (first (grammar.body b ++ more)) ≡ false
 no_colon None more = refl
@@ -136,7 +136,7 @@ declaration_spelled d more is =
     let text : grammar.declaration d ++ more ≡ grammar.head d ++ (grammar.body d.parts ++ more) = append_assoc (grammar.head d) (grammar.body d.parts) more in
     subst (λ (x : List Symbol). Reads declaration d x more) (sym text)
     (declaration_reads d.abstract_at d.name d.parent d.parts _ (grammar.body d.parts ++ more) more (head_spelled
-        d.abstract_at d.name d.parent _ is.0 is.1 (no_colon d.parts more)) (body_spelled d.parts more is.2))
+    d.abstract_at d.name d.parent _ is.0 is.1 (no_colon d.parts more)) (body_spelled d.parts more is.2))
 
 -- ---- files
 
@@ -180,7 +180,7 @@ token_met name kind rest ws is isk h =
     parts_begin (sign (codes "<") ∷ grammar.name name ∷ sign (codes ":") ∷ grammar.name kind ∷ rest) refl refl ws
     ∙ run-takes table want.Part (want.Token ∷ []) (want.Parts ∷ ws) (sign (codes "<")) (grammar.name name ∷ sign (codes ":") ∷ grammar.name kind ∷ rest) refl
     ∙ run-takes table want.Token (want.TokenKind ∷ []) (want.Parts ∷ ws) (grammar.name name) (sign (codes ":") ∷
-        grammar.name kind ∷ rest) (ap (λ b. and_then (cond b (takes []) Refuses) (want.TokenKind ∷ [])) is)
+    grammar.name kind ∷ rest) (ap (λ b. and_then (cond b (takes []) Refuses) (want.TokenKind ∷ [])) is)
     ∙ run-takes table want.TokenKind (want.KindName ∷ want.Close ∷ []) (want.Parts ∷ ws) (sign (codes ":")) (grammar.name kind ∷ rest) refl
     ∙ run-takes table want.KindName [] (want.Close ∷ want.Parts ∷ ws) (grammar.name kind) rest (ap (λ b. cond b (takes []) Refuses) isk)
     ∙ more_kind_met rest (want.Parts ∷ ws) h
@@ -201,8 +201,8 @@ parts_met front rest ws (ps, more, are, e, inr h) =
     let t = h.0 in
     let behind = sign (codes "<") ∷ grammar.name t.0 ∷ sign (codes ":") ∷ grammar.name t.1 ∷ rest in
     let text : front ++ rest ≡ flat_map grammar.part ps ++ behind =
-        ap (λ l. l ++ rest) (e ∙ ap (λ l. flat_map grammar.part ps ++ l) t.4) ∙ append_assoc (flat_map grammar.part ps)
-        (sign (codes "<") ∷ grammar.name t.0 ∷ sign (codes ":") ∷ grammar.name t.1 ∷ []) rest in
+    ap (λ l. l ++ rest) (e ∙ ap (λ l. flat_map grammar.part ps ++ l) t.4) ∙ append_assoc (flat_map grammar.part ps)
+    (sign (codes "<") ∷ grammar.name t.0 ∷ sign (codes ":") ∷ grammar.name t.1 ∷ []) rest in
     ap (run table (want.Parts ∷ ws)) text ∙ parts_go ps behind are (refl, refl) ws ∙ token_met t.0 t.1 rest ws t.2 t.3 h.1
 
 body_met : (more rest : List Symbol) (ws : List Want) → LeftOutOfParts more (first rest) → run table (want.Body ∷ ws) (sign (codes "::=") ∷ (more ++ rest)) ≡ Stuck LeftOut rest
@@ -215,4 +215,4 @@ left_out_met front rest (ds, d, more, are, is, e, h) =
     let text : front ++ rest ≡ grammar.file ds ++ (grammar.head d ++ behind) = ap (λ l. l ++ rest) e ∙ simp append_assoc in
     let head = head_spelled d.abstract_at d.name d.parent behind is.0 is.1 refl in
     ap (run table (want.File ∷ [])) text ∙ file_goes ds (grammar.head d ++ behind) are [] ∙ file_begins (grammar.head d
-        ++ behind) (file_goes_on d behind) [] ∙ head.goes (want.File ∷ []) ∙ body_met more rest (want.File ∷ []) h
+    ++ behind) (file_goes_on d behind) [] ∙ head.goes (want.File ∷ []) ∙ body_met more rest (want.File ∷ []) h

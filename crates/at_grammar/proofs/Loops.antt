@@ -143,8 +143,8 @@ plain_goes : (old : List Symbol) → is_word (codes "abstract") (first old) ≡ 
 unfolding table
 plain_goes old e ws =
     run-begins table want.Declaration want.Name (want.Kind ∷ want.Body ∷ []) ws old
-        (ap (λ b. cond b (takes (after_modifier [])) (and_then (name_answer (first old)) (want.Kind ∷ want.Body ∷ [])))
-        e) (on_never_skips (is_name_next (first old)))
+    (ap (λ b. cond b (takes (after_modifier [])) (and_then (name_answer (first old)) (want.Kind ∷ want.Body ∷ [])))
+    e) (on_never_skips (is_name_next (first old)))
     ∙ sym (run-skips table want.Modifier (after_modifier ws) old (ap (λ b. cond b (takes []) skips) e))
 
 goes_either : (b : Bool) (old : List Symbol) → is_word (codes "abstract") (first old) ≡ b → Goes (want.Declaration ∷ []) old (want.Modifier ∷ after_modifier []) old
@@ -223,5 +223,9 @@ file_stops q old mid rest m h s = stops_within table declaration file q old mid 
 pub declaration_shorter : (d : Declaration) (old rest : List Symbol) → Reads declaration d old rest → length rest < length old
 declaration_shorter d old rest r =
     let l = ap length r.text in
-    omega (arith, length-append (grammar.declaration d) rest, length-append (grammar.head d) (grammar.body d.parts),
-        length-append (grammar.modifier d.abstract_at) (grammar.name d.name ∷ grammar.kind d.parent))
+    omega (
+      arith,
+      length-append (grammar.declaration d) rest,
+      length-append (grammar.head d) (grammar.body d.parts),
+      length-append (grammar.modifier d.abstract_at) (grammar.name d.name ∷ grammar.kind d.parent),
+    )

@@ -50,7 +50,7 @@ cut_alike : (text : List ℕ) (a b x y : List PlacedToken) (p q : Place) → Sto
 cut_alike text a b x y p q s t =
     let tokens = one_row text (a ++ x) (b ++ y) s.tokens t.tokens in
     let whole : symbols words_keep a ++ symbols words_keep x ≡ symbols words_keep b ++ symbols words_keep y = sym
-        (map-append (symbol words_keep) a x) ∙ ap (symbols words_keep) tokens ∙ map-append (symbol words_keep) b y in
+    (map-append (symbol words_keep) a x) ∙ ap (symbols words_keep) tokens ∙ map-append (symbol words_keep) b y in
     let size = one_first_fault IsFile grammar.file (symbols words_keep a) (symbols words_keep x) (symbols words_keep b) (symbols words_keep y) s.fault t.fault whole in
     cut_once a b x y (sym (length-map a (symbol words_keep)) ∙ size ∙ length-map b (symbol words_keep)) tokens
 

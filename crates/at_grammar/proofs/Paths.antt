@@ -36,8 +36,12 @@ same_bytes text = (bytes_eq-Decides text text).1 refl
 
 pub reads_mark : (text : List ℕ) (old rest : List Symbol) → old ≡ sign text ∷ rest → Reads (mark text) tt old rest
 unfolding table
-reads_mark text old rest e = record { is = tt; text = e; goes = λ ws. ap (run table (want.Mark text ∷ ws)) e
-    ∙ run-takes table (want.Mark text) [] ws (sign text) rest (ap (λ b. cond b (takes []) Refuses) (same_bytes text)) }
+reads_mark text old rest e = record {
+  is = tt;
+  text = e;
+  goes = λ ws. ap (run table (want.Mark text ∷ ws)) e
+      ∙ run-takes table (want.Mark text) [] ws (sign text) rest (ap (λ b. cond b (takes []) Refuses) (same_bytes text));
+}
 
 pub stops_mark : (text : List ℕ) (old rest : List Symbol) → rest ≡ old → is_sign text (first old) ≡ false → Stops (mark text) Refused old rest
 unfolding table
@@ -49,8 +53,12 @@ some_name = record { text = codes "_"; at = first_place }
 
 pub reads_name : (w : Word) (old rest : List Symbol) → old ≡ grammar.name w ∷ rest → IsName w → Reads name w old rest
 unfolding table
-reads_name w old rest e is = record { is = is; text = e; goes = λ ws. ap (run table (want.Name ∷ ws)) e
-    ∙ run-takes table want.Name [] ws (grammar.name w) rest (ap (λ b. cond b (takes []) Refuses) is) }
+reads_name w old rest e is = record {
+  is = is;
+  text = e;
+  goes = λ ws. ap (run table (want.Name ∷ ws)) e
+      ∙ run-takes table want.Name [] ws (grammar.name w) rest (ap (λ b. cond b (takes []) Refuses) is);
+}
 
 pub stops_name : (old rest : List Symbol) → rest ≡ old → is_name_next (first old) ≡ false → Stops name Refused old rest
 unfolding table some_name
@@ -58,8 +66,12 @@ stops_name old rest same e = rw same (stops_here table name some_name old is_som
 
 pub reads_kind_name : (w : Word) (old rest : List Symbol) → old ≡ grammar.name w ∷ rest → IsTokenKind w → Reads kind_name w old rest
 unfolding table
-reads_kind_name w old rest e is = record { is = is; text = e; goes = λ ws. ap (run table (want.KindName ∷ ws)) e
-    ∙ run-takes table want.KindName [] ws (grammar.name w) rest (ap (λ b. cond b (takes []) Refuses) is) }
+reads_kind_name w old rest e is = record {
+  is = is;
+  text = e;
+  goes = λ ws. ap (run table (want.KindName ∷ ws)) e
+      ∙ run-takes table want.KindName [] ws (grammar.name w) rest (ap (λ b. cond b (takes []) Refuses) is);
+}
 
 either : (a b : Bool) → a ≡ true → a || b ≡ true
 either a b e = ap (λ x. x || b) e
@@ -131,8 +143,11 @@ unfolding table
 star_takes mid rest ws e = ap (run table (want.Star ∷ ws)) e ∙ run-takes table want.Star [] ws (sign (codes "*")) rest refl
 
 pub child_reads : (t : Typed) (old mid rest : List Symbol) → Reads typed t old mid → rest ≡ mid → is_sign (codes "*") (first mid) ≡ false → Reads child (grammar.Child t) old rest
-child_reads t old mid rest a same e = record { is = a.is; text = a.text ∙ ap (λ l. grammar.typed t ++ l) (sym same);
-    goes = λ ws. child_goes old ws ∙ a.goes (want.Star ∷ ws) ∙ star_skips mid ws e ∙ ap (run table ws) (sym same) }
+child_reads t old mid rest a same e = record {
+  is = a.is;
+  text = a.text ∙ ap (λ l. grammar.typed t ++ l) (sym same);
+  goes = λ ws. child_goes old ws ∙ a.goes (want.Star ∷ ws) ∙ star_skips mid ws e ∙ ap (run table ws) (sym same);
+}
 
 pub children_reads : (t : Typed) (old mid rest : List Symbol) → Reads typed t old mid → mid ≡ sign (codes "*") ∷ rest → Reads child (grammar.Children t) old rest
 children_reads t old mid rest a e = record {

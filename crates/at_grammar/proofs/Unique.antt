@@ -118,8 +118,12 @@ declaration_unique c d x y i j e =
     ((λ i. record { abstract_at = m.0 i; name = m.1 i; parent = k.0 i; parts = b.0 i }), b.1)
 
 some_declaration : (d : Declaration) (x : List Symbol) → grammar.declaration d ++ x ≡ [] → ⊥
-some_declaration d x e = absurd (let l = ap length (sym (opened d x) ∙ e) in omega (arith, l, length-append
-    (grammar.modifier d.abstract_at) (grammar.name d.name ∷ (grammar.kind d.parent ++ (grammar.body d.parts ++ x)))))
+some_declaration d x e = absurd (let l = ap length (sym (opened d x) ∙ e) in omega (
+  arith,
+  l,
+  length-append
+      (grammar.modifier d.abstract_at) (grammar.name d.name ∷ (grammar.kind d.parent ++ (grammar.body d.parts ++ x))),
+))
 
 pub file_unique : (ds es : List Declaration) → IsFile ds → IsFile es → grammar.file ds ≡ grammar.file es → ds ≡ es
 file_unique [] [] i j e = refl

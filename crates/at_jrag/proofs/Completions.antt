@@ -427,7 +427,7 @@ ends l p (Otherwise b m) more n f =
 ends l p (Unary b) more n f = unary_ends l b more n f
 ends l p (Minus b) more n f =
     takes l (Minus b) (λ d. Calls b ∷ []) true (number (codes "0") first_place) more more (λ h. refl)
-        (λ d. (1, ap (λ x. on x (Takes true (Calls b ∷ []) 1) Refuses) is_zero)) (λ d. calls_end l b more f)
+    (λ d. (1, ap (λ x. on x (Takes true (Calls b ∷ []) 1) Refuses) is_zero)) (λ d. calls_end l b more f)
 ends l p (Opened b) more n f =
     let other = and_then (expression_answer (b - 1) (Some some_name)) (Mark (codes ")") ∷ Deeper ∷ Calls b ∷ []) in
     takes l (Opened b) (λ d. Enclosed false b ∷ []) (nat_lt 0 (b - 1)) some_name (mark (codes ")") ∷ more) more (λ h. lt-ltb 0 (b - 1) (omega (arith, n h)))
@@ -458,7 +458,7 @@ ends l p Lazy more n f = pass_skips l Lazy more (λ d. (0, ap lazy_answer f))
 ends l p NotNta more n f = pass_skips l NotNta more (λ d. (0, ap not_nta_answer f))
 ends l p (Attribute forms) more n f =
     takes l (Attribute forms) (λ d. named false) true int_word (some_name ∷ mark (codes ".") ∷ some_name ∷ mark
-        (codes "(") ∷ mark (codes ")") ∷ more) more (λ h. refl) (λ d. (0, refl)) (λ d. named_ends l more f)
+    (codes "(") ∷ mark (codes ")") ∷ more) more (λ h. refl) (λ d. (0, refl)) (λ d. named_ends l more f)
 ends l p Kind more n f = takes_one l Kind int_word more (λ d. (0, refl))
 ends l p Signed more n f = signed_ends l more
 ends l p (Opening g) more n f = params_end l g more

@@ -190,8 +190,8 @@ more_go l [] end old rest h = to_last l want.MoreParams (sign (codes ")") end) 1
 more_go l (p ∷ ps) end old rest (one, more, c, (mid, k, n), m) =
     to_takes l want.MoreParams (want.Kind ∷ want.Name ∷ want.MoreParams ∷ []) (sign (codes ",") c.0) 1 0 old one rest c.1 (λ d. refl)
     (to_then l want.Kind (want.Name ∷ want.MoreParams ∷ []) 1 one mid rest (kind_pass l p.kind one mid k)
-        (to_then l want.Name (want.MoreParams ∷ []) 1 mid more rest (name_pass l p.name mid more n)
-        (more_go l ps end more rest m)))
+    (to_then l want.Name (want.MoreParams ∷ []) 1 mid more rest (name_pass l p.name mid more n)
+    (more_go l ps end more rest m)))
 
 one_go : (l : Bool) (p : Param) (ps : List Param) (end : Place) (old rest : Row) → p.kind.kind ≡ syntax.Int
     → MoreParams ps end old rest → PassTo l (want.OneParam ∷ []) (cond (is_getter (p ∷ ps)) 0 1) old rest
@@ -200,8 +200,8 @@ one_go l p [] end old rest int h = to_last l want.OneParam (sign (codes ")") end
 one_go l p (q ∷ ps) end old rest int (one, more, c, (mid, k, n), m) =
     to_takes l want.OneParam (want.Kind ∷ want.Name ∷ want.MoreParams ∷ []) (sign (codes ",") c.0) 1 0 old one rest c.1 (λ d. refl)
     (to_then l want.Kind (want.Name ∷ want.MoreParams ∷ []) 1 one mid rest (kind_pass l q.kind one mid k)
-        (to_then l want.Name (want.MoreParams ∷ []) 1 mid more rest (name_pass l q.name mid more n)
-        (more_go l ps end more rest m)))
+    (to_then l want.Name (want.MoreParams ∷ []) 1 mid more rest (name_pass l q.name mid more n)
+    (more_go l ps end more rest m)))
 
 -- the first parameter's kind
 pub kind_cases : (k : syntax.Kind) (at : Place) → IsKind k → (k ≡ syntax.Int) ⊎ ((is_word (codes "int") (word (kind_text k) at) ≡ false) × (is_int k ≡ false))
@@ -241,17 +241,17 @@ kind_row g k at d is none = third_row (g && is_word (codes "int") (word (kind_te
 first_go : (l g : Bool) (p : Param) (ps : List Param) (end : Place) (old mid more rest : Row) → KindOf p.kind old mid
     → grammar.Name p.name mid more → MoreParams ps end more rest → g && next_is (is_word (codes "int")) old ≡ false
     → (p.kind.kind ≡ syntax.Int) ⊎ ((is_word (codes "int") (word (kind_text p.kind.kind) p.kind.at) ≡ false)
-        × (is_int p.kind.kind ≡ false)) → PassTo l (want.Params g ∷ []) (cond (is_getter (p ∷ ps)) 0 1) old rest
+    × (is_int p.kind.kind ≡ false)) → PassTo l (want.Params g ∷ []) (cond (is_getter (p ∷ ps)) 0 1) old rest
 first_go l g p ps end old mid more rest k n m none (inl int) =
     to_takes l (want.Params g) (want.Name ∷ want.OneParam ∷ [])
-        (word (kind_text p.kind.kind) p.kind.at) _ 0 old mid rest k.1
-        (λ d. int_row g p.kind.kind p.kind.at d int (sym (ap (λ r. g && next_is (is_word (codes "int")) r) k.1) ∙ none))
+    (word (kind_text p.kind.kind) p.kind.at) _ 0 old mid rest k.1
+    (λ d. int_row g p.kind.kind p.kind.at d int (sym (ap (λ r. g && next_is (is_word (codes "int")) r) k.1) ∙ none))
     (to_then l want.Name (want.OneParam ∷ []) _ mid more rest (name_pass l p.name mid more n) (one_go l p ps end more rest int m))
 first_go l g p ps end old mid more rest k n m none (inr other) =
     to_takes l (want.Params g) (want.Name ∷ want.MoreParams ∷ []) (word (kind_text p.kind.kind) p.kind.at) _ 0 old mid rest k.1 (λ d. kind_row g p.kind.kind p.kind.at d k.0 other.0)
     (to_then l want.Name (want.MoreParams ∷ []) _ mid more rest (name_pass l p.name mid more n)
-        (subst (λ (e : ℕ). PassTo l (want.MoreParams ∷ []) e more rest) (sym (other_register p ps other.1))
-        (more_go l ps end more rest m)))
+    (subst (λ (e : ℕ). PassTo l (want.MoreParams ∷ []) e more rest) (sym (other_register p ps other.1))
+    (more_go l ps end more rest m)))
 
 listed_go : (l g : Bool) (ps : List Param) (end : Place) (list rest : Row) → Listed ps end list rest → g
     && next_is (is_word (codes "int")) list ≡ false → PassTo l (want.Params g ∷ []) (cond (is_getter ps) 0 1) list rest
@@ -271,7 +271,7 @@ pub signature_goes : (l : Bool) (name : Word) (ps : Params) (old rest : Row) →
 signature_goes l name ps old rest (paren, list, n, o, h) =
     let g = bytes_eq name.text (codes "getChild") in
     to_takes l want.Signed (want.Opening g ∷ []) (word name.text name.at) _ 0 old paren rest n.1 (λ d. signed_row
-        name.text name.at d n.0) (opening_go l g _ paren list rest o.0 (listed_go l g ps.items ps.end list rest h o.1))
+    name.text name.at d n.0) (opening_go l g _ paren list rest o.0 (listed_go l g ps.items ps.end list rest h o.1))
 
 -- ---- bodies
 
@@ -391,7 +391,7 @@ pub attribute_row : (forms : Forms) (k : syntax.Kind) (at : Place) (d : ℕ) →
 unfolding table
 attribute_row forms k at d is =
     ap (λ b. on b (Takes true (named (is_word (codes "boolean") (word (kind_text k) at) && forms.circular)) 0) Refuses)
-        (kind_is_kind k at is) ∙ ap (λ m. Takes true (named m) 0) (is_boolean k at forms is)
+    (kind_is_kind k at is) ∙ ap (λ m. Takes true (named m) 0) (is_boolean k at forms is)
 
 attribute_pass : (l : Bool) (forms : Forms) (k : KindWord) (class name : Word) (ps : Params) (start : Option Bool)
     (old rest : Row) → AttributeOf forms k class name ps start old rest → NoWord (codes "circular") rest
@@ -453,10 +453,12 @@ pub getter_then : (l : Bool) (us : List Want) (at : Place) (old dot called rest 
     → PassTo l (want.Signed ∷ []) 0 old dot → dot ≡ sign (codes ".") at ∷ called
     → Pass l (want.Signed ∷ want.Body ∷ us) called rest → Pass l (want.Signed ∷ want.Defined ∷ us) old rest
 getter_then l us at old dot called rest p e q ws d =
-    let a = q ws 0 in
-    (a.0, p (want.Defined ∷ (us ++ ws)) d ∙ ap (run l table (want.Defined ∷ (us ++ ws)) 0) e
-        ∙ run-takes l table want.Defined true (want.Signed ∷ want.Body ∷ []) (us ++ ws) 0 0 (sign (codes ".") at) called
-        (dot_row at) (λ h. refl) ∙ a.1)
+    let a = q ws 0 in (
+      a.0,
+      p (want.Defined ∷ (us ++ ws)) d ∙ ap (run l table (want.Defined ∷ (us ++ ws)) 0) e
+          ∙ run-takes l table want.Defined true (want.Signed ∷ want.Body ∷ []) (us ++ ws) 0 0 (sign (codes ".") at) called
+          (dot_row at) (λ h. refl) ∙ a.1,
+    )
 
 -- Where these are wanted, the machine comes to where those are.
 abbrev pub Comes : Bool → List Want → List Want → Row → Row → Type 0
@@ -464,7 +466,7 @@ Comes l us vs old rest = (ws : List Want) (d : ℕ) → (e : ℕ) × (run l tabl
 
 decl_comes : (forms : Forms) (l : Bool) (us : List Want) (t : PlacedToken) (old behind more : Row) → old ≡ t ∷ behind
     → ((ws : List Want) (d : ℕ) → run l table (want.Decls forms ∷ ws) d (t ∷ behind) ≡ run l table (us ++ want.Decls
-        forms ∷ ws) 0 behind) → Pass l us behind more → Comes l (want.Decls forms ∷ []) (want.Decls forms ∷ []) old more
+    forms ∷ ws) 0 behind) → Pass l us behind more → Comes l (want.Decls forms ∷ []) (want.Decls forms ∷ []) old more
 decl_comes forms l us t old behind more e row p ws d = let a = p (want.Decls forms ∷ ws) 0 in (a.0, ap (run l table (want.Decls forms ∷ ws) d) e ∙ row ws d ∙ a.1)
 
 behind_comes : (forms : Forms) (l : Bool) (f : DeclForm) (at : Place) (old behind more : Row)
@@ -472,24 +474,24 @@ behind_comes : (forms : Forms) (l : Bool) (f : DeclForm) (at : Place) (old behin
     → Comes l (want.Decls forms ∷ []) (want.Decls forms ∷ []) old more
 behind_comes forms l (syntax.Synthesized lazy k class name ps start ending) at old behind more fits e (end, h, z) =
     decl_comes forms l (declared forms (want.Ending ∷ [])) (word (codes "syn") at) old behind more e
-        (λ ws d. run-takes l table (want.Decls forms) true (declared forms (want.Ending ∷ want.Decls forms ∷ [])) ws d 0
-        (word (codes "syn") at) behind (synthesized_row forms at d) (λ h. refl))
+    (λ ws d. run-takes l table (want.Decls forms) true (declared forms (want.Ending ∷ want.Decls forms ∷ [])) ws d 0
+    (word (codes "syn") at) behind (synthesized_row forms at d) (λ h. refl))
     (declared_then l forms (want.Ending ∷ []) lazy k class name ps start behind end more h (no_circular ending end more z) (ending_goes l ending end more fits z))
 behind_comes forms l (syntax.Inherited lazy k class name ps start) at old behind more fits e (end, h, z) =
     decl_comes forms l (declared forms (want.Mark (codes ";") ∷ [])) (word (codes "inh") at) old behind more e (λ ws d.
-        run-takes l table (want.Decls forms) true (declared forms (want.Mark (codes ";") ∷ want.Decls forms ∷ [])) ws d
-        0 (word (codes "inh") at) behind (inherited_row forms at d) (λ h. refl))
+    run-takes l table (want.Decls forms) true (declared forms (want.Mark (codes ";") ∷ want.Decls forms ∷ [])) ws d
+    0 (word (codes "inh") at) behind (inherited_row forms at d) (λ h. refl))
     (declared_then l forms (want.Mark (codes ";") ∷ []) lazy k class name ps start behind end more h (ap (λ r. next (is_word (codes "circular")) (first r)) z.1) (mark_pass l (codes ";") end more z))
 behind_comes forms l (syntax.Equation class name ps b) at old behind more fits e (called, body, o, s, z) =
     decl_comes forms l (want.Name ∷ want.Mark (codes ".") ∷ want.Signed ∷ want.Defined ∷ []) (word (codes "eq") at) old behind more e
     (λ ws d. run-takes l table (want.Decls forms) true (want.Name ∷ want.Mark (codes ".") ∷ want.Signed ∷ want.Defined ∷
-        want.Decls forms ∷ []) ws d 0 (word (codes "eq") at) behind (equation_row forms at d) (λ h. refl))
+    want.Decls forms ∷ []) ws d 0 (word (codes "eq") at) behind (equation_row forms at d) (λ h. refl))
     (owner_then l (want.Signed ∷ want.Defined ∷ []) class behind called more o (pass_then l want.Signed
-        (want.Defined ∷ []) called body more (signed_pass l name ps called body s) (defined_goes l b body more fits z)))
+    (want.Defined ∷ []) called body more (signed_pass l name ps called body s) (defined_goes l b body more fits z)))
 behind_comes forms l (syntax.InheritedEquation class getter i name ps b) at old behind more fits e (got, called, body, o, (paren, list, dot, n, opens, x, s), g, z) =
     decl_comes forms l (want.Name ∷ want.Mark (codes ".") ∷ want.Signed ∷ want.Defined ∷ []) (word (codes "eq") at) old behind more e
     (λ ws d. run-takes l table (want.Decls forms) true (want.Name ∷ want.Mark (codes ".") ∷ want.Signed ∷ want.Defined ∷
-        want.Decls forms ∷ []) ws d 0 (word (codes "eq") at) behind (equation_row forms at d) (λ h. refl))
+    want.Decls forms ∷ []) ws d 0 (word (codes "eq") at) behind (equation_row forms at d) (λ h. refl))
     (owner_then l (want.Signed ∷ want.Defined ∷ []) class behind got more o
     (getter_then l [] s.0 got dot called more (getter_goes l getter i got more dot paren list n opens (indexed i list dot x)) s.1
     (pass_then l want.Signed (want.Body ∷ []) called body more (signed_pass l name ps called body g) (body_goes l b body more fits z))))
@@ -525,10 +527,12 @@ file_comes forms l (a ∷ as') old rest fits (more, (named, brace, inner, close,
     let p = pass_then l want.Name (want.Mark (codes "{") ∷ want.Decls forms ∷ []) named brace more (name_pass l a.name named brace n)
     (pass_then l (want.Mark (codes "{")) (want.Decls forms ∷ []) brace inner more (mark_pass l (codes "{") brace inner b) (decls_pass forms l a.decls inner close more (λ e. (fits e).0) h c)) in
     let q = p (want.File forms ∷ ws) 0 in
-    let r = file_comes forms l as' more rest (λ e. (fits e).1) t ws q.0 in
-    (r.0, ap (run l table (want.File forms ∷ ws) d) k.1 ∙ run-takes l table (want.File forms) true
-        (want.Name ∷ want.Mark (codes "{") ∷ want.Decls forms ∷ want.File forms ∷ []) ws d 0 (word (codes "aspect") k.0)
-        named (aspect_row forms k.0 d) (λ h. refl) ∙ q.1 ∙ r.1)
+    let r = file_comes forms l as' more rest (λ e. (fits e).1) t ws q.0 in (
+      r.0,
+      ap (run l table (want.File forms ∷ ws) d) k.1 ∙ run-takes l table (want.File forms) true
+          (want.Name ∷ want.Mark (codes "{") ∷ want.Decls forms ∷ want.File forms ∷ []) ws d 0 (word (codes "aspect") k.0)
+          named (aspect_row forms k.0 d) (λ h. refl) ∙ q.1 ∙ r.1,
+    )
 
 ends_whole : (forms : Forms) (l : Bool) (d : ℕ) → run l table (want.File forms ∷ []) d [] ≡ Whole
 unfolding run table

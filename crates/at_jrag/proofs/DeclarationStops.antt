@@ -166,7 +166,7 @@ pub no_dot : (us : List Want) (class : Word) (e : Failure JragCode) (old dot res
     → Missing (is_sign (codes ".")) e dot rest → Stay (want.Name ∷ want.Mark (codes ".") ∷ us) (reason_of e) old rest
 no_dot us class e old dot rest n m =
     stay_then want.Name (want.Mark (codes ".") ∷ us) (reason_of e) old dot rest (name_pass true class old dot n)
-        (stay_first (want.Mark (codes ".")) us (reason_of e) dot rest (mark_missing (codes ".") e dot rest m))
+    (stay_first (want.Mark (codes ".")) us (reason_of e) dot rest (mark_missing (codes ".") e dot rest m))
 
 pub no_name : (us : List Want) (e : Failure JragCode) (old rest : Row) → Missing is_name_token e old rest → Stay (want.Signed ∷ us) (reason_of e) old rest
 no_name us e old rest m = stay_first want.Signed us (reason_of e) old rest (signed_missing e old rest m)
@@ -335,7 +335,7 @@ block_wants = want.Expression max_nesting ∷ want.Mark (codes ";") ∷ want.Clo
 pub no_return : (at : Place) (old mid rest : Row) → old ≡ sign (codes "{") at ∷ mid → rest ≡ mid → next_is (is_word (codes "return")) mid ≡ false → BodyStays (reason_of (no_block rest)) old rest
 no_return at old mid rest front same h =
     body_takes (want.Return ∷ block_wants) (sign (codes "{") at) (reason_of (no_block rest)) old mid rest front refl
-        (stay_first want.Return block_wants (reason_of (no_block rest)) mid rest (return_stays mid rest same h))
+    (stay_first want.Return block_wants (reason_of (no_block rest)) mid rest (return_stays mid rest same h))
 
 block_then : (at : Place) (r : Option Reason) (old mid one rest : Row) → old ≡ sign (codes "{") at ∷ mid → Keyword (codes "return") mid one → Stay block_wants r one rest → BodyStays r old rest
 block_then at r old mid one rest front k st = body_takes (want.Return ∷ block_wants) (sign (codes "{") at) r old mid
@@ -455,7 +455,7 @@ pub eq_stays : (forms : Forms) (at : Place) (r : Option Reason) (old mid rest : 
     → Stay (want.Decls forms ∷ []) r old rest
 eq_stays forms at r old mid rest front st =
     stay_takes (want.Decls forms) (want.Name ∷ want.Mark (codes ".") ∷ want.Signed ∷ want.Defined ∷ want.Decls
-        forms ∷ []) (word (codes "eq") at) r old mid rest front (λ d. (0, equation_row forms at d)) st
+    forms ∷ []) (word (codes "eq") at) r old mid rest front (λ d. (0, equation_row forms at d)) st
 
 abbrev aspect_wants : Forms → List Want
 aspect_wants forms = want.Mark (codes "{") ∷ want.Decls forms ∷ want.File forms ∷ []
@@ -471,15 +471,15 @@ named_stays : (forms : Forms) (at : Place) (name : Word) (r : Option Reason) (ol
     → Stay (want.File forms ∷ []) r old rest
 named_stays forms at name r old mid brace rest front n st =
     stay_takes (want.File forms) (want.Name ∷ aspect_wants forms) (word (codes "aspect") at) r old mid rest
-        front (λ d. (0, aspect_row forms at d))
-        (stay_then want.Name (aspect_wants forms) r mid brace rest (name_pass true name mid brace n) st)
+    front (λ d. (0, aspect_row forms at d))
+    (stay_then want.Name (aspect_wants forms) r mid brace rest (name_pass true name mid brace n) st)
 
 pub aspect_no_brace : (forms : Forms) (at : Place) (name : Word) (e : Failure JragCode) (old mid brace rest : Row)
     → old ≡ word (codes "aspect") at ∷ mid → grammar.Name name mid brace → Missing (is_sign (codes "{")) e brace rest
     → Stay (want.File forms ∷ []) (reason_of e) old rest
 aspect_no_brace forms at name e old mid brace rest front n m =
     named_stays forms at name (reason_of e) old mid brace rest front n (stay_first (want.Mark (codes "{"))
-        (want.Decls forms ∷ want.File forms ∷ []) (reason_of e) brace rest (mark_missing (codes "{") e brace rest m))
+    (want.Decls forms ∷ want.File forms ∷ []) (reason_of e) brace rest (mark_missing (codes "{") e brace rest m))
 
 pub aspect_decls : (forms : Forms) (at : Place) (name : Word) (r : Option Reason) (old mid brace inner rest : Row)
     → old ≡ word (codes "aspect") at ∷ mid → grammar.Name name mid brace → Sign (codes "{") brace inner
@@ -488,4 +488,4 @@ pub aspect_decls : (forms : Forms) (at : Place) (name : Word) (r : Option Reason
 aspect_decls forms at name r old mid brace inner rest front n s st =
     named_stays forms at name r old mid brace rest front n
     (stay_then (want.Mark (codes "{")) (want.Decls forms ∷ want.File forms ∷ []) r brace inner rest (mark_pass true
-        (codes "{") brace inner s) (stay_first (want.Decls forms) (want.File forms ∷ []) r inner rest st))
+    (codes "{") brace inner s) (stay_first (want.Decls forms) (want.File forms ∷ []) r inner rest st))

@@ -167,7 +167,7 @@ unfolding table
 nta_kept [] d t n h k = off n
 nta_kept (Lazy ∷ us) d t n h k =
     either (Kept us t) (is_word (codes "lazy") t) _ _ (λ x k. goes_not k) (λ x. either (Kept us t) (is_word
-        (codes "nta") t) LeavesOut (Skips 0) (λ y k. left_not k) (λ y k. never (is_word (codes "nta") t) h y)) k
+    (codes "nta") t) LeavesOut (Skips 0) (λ y k. left_not k) (λ y k. never (is_word (codes "nta") t) h y)) k
 nta_kept (NotNta ∷ us) d t n h k = either (Kept us t) (is_word (codes "nta") t) LeavesOut (Skips 0) (λ y k. left_not k) (λ y k. never (is_word (codes "nta") t) h y) k
 nta_kept (w ∷ us) d t n h k = off n
 
@@ -368,13 +368,13 @@ lazy_behind : (t : PlacedToken) (vs : List Want) (x : ℕ) (ws : List Want) (d :
 lazy_behind t vs x ws d o h k =
     or_case (is_word (codes "syn") t) (is_word (codes "inh") t || is_word (codes "lazy") t)
     (λ y. let e = word_is (codes "syn") t y in lazy_stands t (syn_word t.at t e) (ap (is_word (codes "circular")) e)
-        (ap (is_word (codes "aspect")) e) (ap (is_word (codes "eq")) e) (ap (is_word (codes "return")) e) vs x ws d o k)
+    (ap (is_word (codes "aspect")) e) (ap (is_word (codes "eq")) e) (ap (is_word (codes "return")) e) vs x ws d o k)
     (λ y. or_case (is_word (codes "inh") t) (is_word (codes "lazy") t)
     (λ z. let e = word_is (codes "inh") t z in lazy_stands t (inh_word t.at t e) (ap (is_word (codes "circular")) e)
-        (ap (is_word (codes "aspect")) e) (ap (is_word (codes "eq")) e) (ap (is_word (codes "return")) e) vs x ws d o k)
+    (ap (is_word (codes "aspect")) e) (ap (is_word (codes "eq")) e) (ap (is_word (codes "return")) e) vs x ws d o k)
     (λ z. let e = word_is (codes "lazy") t z in
-        lazy_stands t (lazy_word t.at t e) (ap (is_word (codes "circular")) e) (ap (is_word (codes "aspect")) e)
-        (ap (is_word (codes "eq")) e) (ap (is_word (codes "return")) e) vs x ws d o k) y) h
+    lazy_stands t (lazy_word t.at t e) (ap (is_word (codes "circular")) e) (ap (is_word (codes "aspect")) e)
+    (ap (is_word (codes "eq")) e) (ap (is_word (codes "return")) e) vs x ws d o k) y) h
 
 -- ---- `[`
 
@@ -416,8 +416,8 @@ get_stands : (at : Place) (vs : List Want) (x : ℕ) (ws : List Want) (d : ℕ) 
     → after false table vs x (word (codes "getChild") at) ≡ Goes ws d → (next_firm ws ≡ true) ⊎ (next_asks ws ≡ true)
 get_stands at vs x ws d o h =
     let y = taker (λ w. Begins (λ v. Is (firm v || asks v)) (Is (loose w))) (word (codes "getChild") at)
-        (λ w e. loosely (Begins (λ v. Is (firm v || asks v)) (Is (loose w))) w
-        (table w e (Some (word (codes "getChild") at))) (get_row w e at)) vs x ws d o h in
+    (λ w e. loosely (Begins (λ v. Is (firm v || asks v)) (Is (loose w))) w
+    (table w e (Some (word (codes "getChild") at))) (get_row w e at)) vs x ws d o h in
     get_front y.want y.left y.behind ws y.now y.follows y.holds
 
 asked_at : (us ws : List Want) (d : ℕ) (a : Answer Want) (f : ℕ → Move Want) → Comes (Begins (λ v. takes_int v ≡ true) ⊥) ⊥ (Unit {0}) a → answered false a us f ≡ Goes ws d → next_int ws ≡ true
@@ -463,11 +463,11 @@ moved {forms} front other ws d e r = subst (λ (x : Row). Reached forms x ws d) 
 pub none_left_out : {forms : Forms} (front : Row) (ws : List Want) (d : ℕ) (t : PlacedToken) → Reached forms front ws d → after true table ws d t ≡ Halts Refused → IsLeftOut forms front t → ⊥
 none_left_out front ws d t r k (no_aspect h (at, g)) =
     let x = takes_first WantsFile (word (codes "aspect") at) (aspect_word at) (λ w e. ap firm e.1) (at_aspect at) ws d
-        (reached_shape front ws d r).1 (goes_taken front ws d (word (codes "aspect") at) r g) in
+    (reached_shape front ws d r).1 (goes_taken front ws d (word (codes "aspect") at) r g) in
     file_kept x.holds.0 x.behind d t h (ap (λ (vs : List Want). after true table vs d t) (sym (x.is ∙ ap (λ w. w ∷ x.behind) x.holds.1)) ∙ k)
 none_left_out front ws d t r k (no_declaration h (at, g)) =
     let x = takes_first WantsDecls (word (codes "syn") at) (syn_word at (word (codes "syn") at) refl) (λ w e. ap firm
-        e.1) (at_syn at) ws d (reached_shape front ws d r).1 (goes_taken front ws d (word (codes "syn") at) r g) in
+    e.1) (at_syn at) ws d (reached_shape front ws d r).1 (goes_taken front ws d (word (codes "syn") at) r g) in
     decls_kept x.holds.0 x.behind d t h (ap (λ (vs : List Want). after true table vs d t) (sym (x.is ∙ ap (λ w. w ∷ x.behind) x.holds.1)) ∙ k)
 none_left_out front ws d t r k (nta more before e b h) =
     let s = last_step more before ws d (moved front (more ++ before ∷ []) ws d e r) in
@@ -486,7 +486,7 @@ none_left_out front ws d t r k (start more before e b h) =
     start_kept ws d t stands h k
 none_left_out front ws d t r k (no_return (at, g)) =
     let x = takes_first (λ w. w ≡ Return) (word (codes "return") at) (return_word at) (λ w e. ap firm e) (at_return at)
-        ws d (reached_shape front ws d r).1 (goes_taken front ws d (word (codes "return") at) r g) in
+    ws d (reached_shape front ws d r).1 (goes_taken front ws d (word (codes "return") at) r g) in
     return_kept x.behind d t (ap (λ (vs : List Want). after true table vs d t) (sym (x.is ∙ ap (λ w. w ∷ x.behind) x.holds)) ∙ k)
 none_left_out front ws d t r k (no_close (at, g) n m) =
     let o = reached_shape front ws d r in

@@ -154,7 +154,7 @@ start_left front us d t r h =
 
 nta_left : {forms : Forms} (front : Row) (w : Want) (us : List Want) (d : ℕ) (t : PlacedToken) → Reached forms front (w ∷ us) d → ((f : Forms) → w ≡ File f → ⊥) → second w ≡ false
     → ((by : Want) (p : PlacedToken) → Leaves by p w → is_word (codes "syn") p || (is_word (codes "inh") p
-        || is_word (codes "lazy") p) ≡ true) → is_word (codes "nta") t ≡ true → IsLeftOut forms front t
+    || is_word (codes "lazy") p) ≡ true) → is_word (codes "nta") t ≡ true → IsLeftOut forms front t
 nta_left front w us d t r never s before h =
     let l = has_last front w us d r never in
     let p = pushed true l.wants l.register l.token w us d (reached_shape l.before l.wants l.register l.reached).1 s l.moves in

@@ -64,10 +64,17 @@ unfit v none = at_least (nat_lt v 2147483648) v refl (λ h. none (omega (arith, 
 
 pub negative_reads : (m : Measured) (v : ℤ) (at digits_at : Place) (text : List ℕ) (old rest : Row) → old ≡ sign (codes "-") at ∷ number text digits_at ∷ rest → IsNumber true text v
     → expr_view m.expr ≡ form_view (form.Number v) at → m.depth ≡ 1 → Reads 8 m old rest × (m.depth ≡ 1)
-negative_reads m v at digits_at text old rest front (n, small, is, digits) made deep =
-    (reads_made 8 m (syntax.Number at v) old rest (made ∙ ap (λ f. form_view f at) (sym (form.rolls-Number v))
-        ∙ ap (λ f. f at) (fold-roll-Form (Place → Expr) Expr see_form see_expr (Form-F.Number v))) (inr (n, digits_at,
-        small, is, front ∙ ap (λ t. sign (codes "-") at ∷ number t digits_at ∷ rest) digits)) (omega arith) deep, deep)
+negative_reads m v at digits_at text old rest front (n, small, is, digits) made deep = (
+  reads_made 8 m (syntax.Number at v) old rest (made ∙ ap (λ f. form_view f at) (sym (form.rolls-Number v))
+      ∙ ap (λ f. f at) (fold-roll-Form (Place → Expr) Expr see_form see_expr (Form-F.Number v))) (inr (
+        n,
+        digits_at,
+        small,
+        is,
+        front ∙ ap (λ t. sign (codes "-") at ∷ number t digits_at ∷ rest) digits,
+      )) (omega arith) deep,
+  deep,
+)
 
 pub no_negative : (text : List ℕ) (at digits_at : Place) (old here rest : Row) → old ≡ sign (codes "-") at ∷ number text
     digits_at ∷ rest → here ≡ number text digits_at ∷ rest → is_decimal_within 2147483648 text ≡ false

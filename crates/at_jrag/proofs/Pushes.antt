@@ -185,7 +185,7 @@ row_does (Enclosed g b) d t =
     (λ y. then_comes (Leaves (Enclosed g b) t) (Unit {0}) _ _ (Deeper ∷ Calls b ∷ []) (enclosed_rest g (b - 1) d (Some t)) tt (enclosed_does (Enclosed g b) t (Unit {0}) _ g (b - 1) d refl))
 row_does (Parenthesized b) d t =
     either (Row (Parenthesized b) t) (follows_cast t) _ _ (λ x. then_comes (Leaves (Parenthesized b) t) (Unit {0})
-        _ _ (Deeper ∷ []) (unary_answer (b - 1) (Some t)) tt (unary_does (Parenthesized b) t (Unit {0}) _ (b - 1)))
+    _ _ (Deeper ∷ []) (unary_answer (b - 1) (Some t)) tt (unary_does (Parenthesized b) t (Unit {0}) _ (b - 1)))
     (λ x. calls_do (Parenthesized b) t _ _ refl b d)
 row_does (Calls b) d t = calls_do (Calls b) t _ _ refl b d
 row_does (Called b) d t = either (Row (Called b) t) (is_name_token t) _ Refuses (λ x. is_named t x) (λ x. tt)

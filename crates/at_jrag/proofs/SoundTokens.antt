@@ -79,8 +79,13 @@ literal_at t u e h = subst IsLiteral (sym e) h
 number_literal : (t : PlacedToken) → is_number_within 2147483647 t ≡ true → IsLiteral t
 number_literal t e =
     let n = number_of 2147483647 t e in
-    literal_at t (number (decimal n.value) t.at) n.is (record { expr = syntax.Number t.at (pos n.value);
-        spells = λ rest. inl (n.value, n.small, refl, refl); strong = omega arith; one = refl; plain = refl })
+    literal_at t (number (decimal n.value) t.at) n.is (record {
+      expr = syntax.Number t.at (pos n.value);
+      spells = λ rest. inl (n.value, n.small, refl, refl);
+      strong = omega arith;
+      one = refl;
+      plain = refl;
+    })
 
 quotation_kind : (k : TokenKind) (text : List ℕ) → elim k [ kind.Word ↦ false | kind.Number ↦ false | kind.Text ↦ is_quoted text | kind.Sign ↦ false ] ≡ true
     → (k ≡ kind.Text) × (is_quoted text ≡ true)

@@ -154,8 +154,15 @@ taker_at T w us m d (Takes within more e) f c o ih k =
     record { want = w; left = more; holds = c; behind = us; now = sym (goes_to (within || not false) (more ++ us) m e d k); follows = o; first = λ x. refl }
 taker_at T w us m d (Skips e) f c o ih k =
     let r = ih e k in
-    record { want = r.want; left = r.left; holds = r.holds; behind = r.behind; now = r.now; follows = r.follows;
-        first = λ x. never (firm r.want) (ap next_firm (sym (r.first x)) ∙ loose_firm w us c o) x }
+    record {
+      want = r.want;
+      left = r.left;
+      holds = r.holds;
+      behind = r.behind;
+      now = r.now;
+      follows = r.follows;
+      first = λ x. never (firm r.want) (ap next_firm (sym (r.first x)) ∙ loose_firm w us c o) x;
+    }
 taker_at T w us m d Refuses f c o ih k = absurd cc
 taker_at T w us m d LeavesOut f c o ih k = absurd cc
 

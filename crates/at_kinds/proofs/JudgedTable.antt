@@ -349,26 +349,26 @@ module _ (s : Scope) (at : Place) (name : List ℕ) (es : written.Exprs) (ks : L
   of_accessor c e n (accessor.Child part b) f is =
       let (none, g) = none_there at ks (of_kind at (Class b) (body.Child e part)) m is in
       subst (λ z. Answers s (Class c) name z m.kind) (sym (each_none s es ks each none)) (subst (Answers s (Class c)
-          name written.no_exprs) (kind_of at (Class b) (body.Child e part) m g) (table.child part b n f))
+      name written.no_exprs) (kind_of at (Class b) (body.Child e part) m g) (table.child part b n f))
   of_accessor c e n (accessor.Element part b) f is =
       let (i, g, h) = made (λ i. of_kind at (Class b) (body.Element e part i)) (one_argument is_int at ks) m is in
       let (k, one, t) = only_one is_int at ks i g in
       let (x, same, gives) = each_one s es ks k each one in
       subst (λ z. Answers s (Class c) name z m.kind) (sym same)
-          (subst (Answers s (Class c) name (written.expr x written.no_exprs)) (kind_of at (Class b)
-          (body.Element e part i) m h) (table.element part b n f (subst (Gives s x) (int_is k.kind t) gives)))
+      (subst (Answers s (Class c) name (written.expr x written.no_exprs)) (kind_of at (Class b)
+      (body.Element e part i) m h) (table.element part b n f (subst (Gives s x) (int_is k.kind t) gives)))
   of_accessor c e n (accessor.Token part k) f is =
       let (none, g) = none_there at ks (of_kind at (known k) (body.TokenOf e part)) m is in
       subst (λ z. Answers s (Class c) name z m.kind) (sym (each_none s es ks each none)) (subst (Answers s (Class c)
-          name written.no_exprs) (kind_of at (known k) (body.TokenOf e part) m g) (table.token part k n f))
+      name written.no_exprs) (kind_of at (known k) (body.TokenOf e part) m g) (table.token part k n f))
   of_accessor c e n (accessor.Has part) f is =
       let (none, g) = none_there at ks (of_kind at Truth (body.Has e part)) m is in
       subst (λ z. Answers s (Class c) name z m.kind) (sym (each_none s es ks each none)) (subst (Answers s (Class c)
-          name written.no_exprs) (kind_of at Truth (body.Has e part) m g) (table.has part n f))
+      name written.no_exprs) (kind_of at Truth (body.Has e part) m g) (table.has part n f))
   of_accessor c e n (accessor.Count part) f is =
       let (none, g) = none_there at ks (of_kind at Int (body.Count e part)) m is in
       subst (λ z. Answers s (Class c) name z m.kind) (sym (each_none s es ks each none)) (subst (Answers s (Class c)
-          name written.no_exprs) (kind_of at Int (body.Count e part) m g) (table.count part n f))
+      name written.no_exprs) (kind_of at Int (body.Count e part) m g) (table.count part n f))
   of_accessor c e n (accessor.List part) f is = let (none, g) = none_there at ks (Wrong code.Kind at) m is in absurd cc
 
   of_declared : (c a : ℕ) (e : body.Expr) → bytes_eq name (codes "equals") ≡ false → accessor_named s.classes c name
@@ -650,7 +650,7 @@ mutual
       let (ks, f, g) = made (list_called s fold at name (this_node s at)) (judged_all s es) l is in
       let (c, p, x, a, none) = list_is s.classes fold at name (called s at name (this_node s at) ks) (this_node s at) ks l part (list_named s.classes (Class s.this) name) refl g there in
       subst (λ z. IsList s (written.Call at name z) l.class) (sym (no_exprs_judged s es ks f none)) (table.own_list p
-          l.class (subst (λ z. listed s.classes z name ≡ Some (p, l.class)) (sym (same_class s.this c x)) a))
+      l.class (subst (λ z. listed s.classes z name ≡ Some (p, l.class)) (sym (same_class s.this c x)) a))
     where
       same_class : (b c : ℕ) → Class b ≡ Class c → b ≡ c
       same_class b c e = cc

@@ -168,11 +168,11 @@ module _ (rules : Rules) where
   accessed_right t at c (accessor.Child part b) e ks gets h all = alone_right t at ks (of_kind at (found.Class b) (body.Child e part)) (has.child c part b gets h)
   accessed_right t at c (accessor.Element part b) e ks gets h all =
       then_holds (Passes t is_int) (Right rules t) (λ i. of_kind at (found.Class b) (body.Element e part i))
-          (one_argument is_int at ks) (one_right t is_int at ks all)
-          (λ i (k, is, x). has.element c part b gets h (int_has rules t k i is x))
+      (one_argument is_int at ks) (one_right t is_int at ks all)
+      (λ i (k, is, x). has.element c part b gets h (int_has rules t k i is x))
   accessed_right t at c (accessor.Token part k) e ks (kind, shape, same) h all =
       alone_right t at ks (of_kind at (known k) (body.TokenOf e part)) (subst (λ m. Has rules t (known m)
-          (body.TokenOf e part)) same (known_right t kind (body.TokenOf e part) (has.token_of c part kind shape h)))
+      (body.TokenOf e part)) same (known_right t kind (body.TokenOf e part) (has.token_of c part kind shape h)))
   accessed_right t at c (accessor.Has part) e ks (b, shape) h all = alone_right t at ks (of_kind at found.Bool (body.Has e part)) (has.has c part b shape h)
   accessed_right t at c (accessor.Count part) e ks (b, shape) h all = alone_right t at ks (of_kind at found.Int (body.Count e part)) (has.count c part b shape h)
   accessed_right t at c (accessor.List part) e ks gets h all = alone_right t at ks (Wrong code.Kind at) tt
@@ -260,8 +260,8 @@ module _ (rules : Rules) where
         let below = ap (is_below rules.classes c) (sym of.class) ∙ (both (bytes_eq d.name name) (is_below rules.classes c d.class) passes).1 in
         subst (λ o. Holds (Right rules t) (demanded_of rules.classes at n o e ks)) (sym there)
         (then_holds (λ es. HaveKinds rules t es a.parameters) (Right rules t)
-            (λ es. of_kind at (of_written d.result) (body.Call e n es)) (fitted rules.classes at ks d.parameters)
-            (fitted_right t at ks d.parameters a.parameters of.parameters all) (λ es x.
+        (λ es. of_kind at (of_written d.result) (body.Call e n es)) (fitted rules.classes at ks d.parameters)
+        (fitted_right t at ks d.parameters a.parameters of.parameters all) (λ es x.
         result_right t (body.Call e n es) d.result a.result of.result (has.call c n a attribute below h x)))
 
     module _ (t : ScopeKinds) (this : ℕ) (names : List Bound) (index : Option (List ℕ)) where

@@ -240,9 +240,9 @@ module _ (rules : Rules) where
   pub cast_right : (t : ScopeKinds) (at : Place) (class : Word) (k : Kinded) → Right t k → Holds (Right t) (cast rules.classes at class k)
   cast_right t at class k h =
       then_holds (Beside t k.body) (Right t) (λ c. of_kind at (found.Class c) (body.CastTo c k.body)) (class_beside
-          rules.classes at class k) (class_beside_right t at class k h) (λ c (less, d, x). has.cast_to d c less x)
+      rules.classes at class k) (class_beside_right t at class k h) (λ c (less, d, x). has.cast_to d c less x)
 
   pub tested_right : (t : ScopeKinds) (at : Place) (class : Word) (k : Kinded) → Right t k → Holds (Right t) (tested rules.classes at class k)
   tested_right t at class k h =
       then_holds (Beside t k.body) (Right t) (λ c. of_kind at found.Bool (body.InstanceOf k.body c)) (class_beside
-          rules.classes at class k) (class_beside_right t at class k h) (λ c (less, d, x). has.instance_of d c less x)
+      rules.classes at class k) (class_beside_right t at class k h) (λ c (less, d, x). has.instance_of d c less x)

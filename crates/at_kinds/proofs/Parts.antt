@@ -218,7 +218,7 @@ regroup done k (Wrong c at) = refl
 pub all_more : (s : Scope) (es : List ExprValue) (i : ℕ) (e : ExprValue) (t : Typed) (done : List Typed)
     (whole : Judgement (List Kinded)) → i < length es → e ≡ get_or es i e → judged s (expr_view e) ≡ Is (typed_view t)
     → whole ≡ behind (map typed_view done) (judged_all s (to_exprs (map expr_view (drop i es))))
-        → whole ≡ behind (map typed_view (done ++ t ∷ [])) (judged_all s (to_exprs (map expr_view (drop (i + 1) es))))
+    → whole ≡ behind (map typed_view (done ++ t ∷ [])) (judged_all s (to_exprs (map expr_view (drop (i + 1) es))))
 all_more s es i e t done whole less is here so_far =
     let others = λ (n : ℕ). judged_all s (to_exprs (map expr_view (drop n es))) in
     so_far

@@ -75,7 +75,7 @@ pub seen_call_of : (e : ExprValue) (p : Box ExprValue Global) (s : String Global
     → xs ≡ es.items → expr_view e ≡ written.CallOf e.at (expr_view x) t (to_exprs (map expr_view xs))
 seen_call_of e p s es x t xs is is_x is_t is_xs =
     seen_expr e ∙ ap (λ g. form_view g e.at) is ∙ ap (λ g. form_view g e.at) (sym (form.rolls-CallOf p s es))
-        ∙ ap (λ g. g e.at) (fold-roll-Form (Place → Expr) Expr see_form see_expr (Form-F.CallOf p s es))
+    ∙ ap (λ g. g e.at) (fold-roll-Form (Place → Expr) Expr see_form see_expr (Form-F.CallOf p s es))
     ∙ ap (λ (v : ExprValue). written.CallOf e.at (expr_view v) (string_bytes s) (to_exprs (map expr_view es.items))) (sym is_x)
     ∙ ap (λ (v : List ℕ). written.CallOf e.at (expr_view x) v (to_exprs (map expr_view es.items))) (sym is_t)
     ∙ ap (λ (v : List ExprValue). written.CallOf e.at (expr_view x) t (to_exprs (map expr_view v))) (sym is_xs)
@@ -104,7 +104,7 @@ pub seen_instance : (e : ExprValue) (p : Box ExprValue Global) (b : Place) (w : 
     → e.form ≡ form.InstanceOf p b w → x ≡ p.value → expr_view e ≡ written.InstanceOf e.at (expr_view x) b (word_view w)
 seen_instance e p b w x is is_x =
     seen_expr e ∙ ap (λ g. form_view g e.at) is ∙ ap (λ g. form_view g e.at) (sym (form.rolls-InstanceOf p b w))
-        ∙ ap (λ g. g e.at) (fold-roll-Form (Place → Expr) Expr see_form see_expr (Form-F.InstanceOf p b w))
+    ∙ ap (λ g. g e.at) (fold-roll-Form (Place → Expr) Expr see_form see_expr (Form-F.InstanceOf p b w))
     ∙ ap (λ (v : ExprValue). written.InstanceOf e.at (expr_view v) b (word_view w)) (sym is_x)
 
 pub seen_binary : (e : ExprValue) (o : OperatorWord) (p : Box ExprValue Global) (q : Box ExprValue Global)
@@ -112,7 +112,7 @@ pub seen_binary : (e : ExprValue) (o : OperatorWord) (p : Box ExprValue Global) 
     → expr_view e ≡ written.Binary e.at (operator_view o.operator) o.at (expr_view x) (expr_view y)
 seen_binary e o p q x y is is_x is_y =
     seen_expr e ∙ ap (λ g. form_view g e.at) is ∙ ap (λ g. form_view g e.at) (sym (form.rolls-Binary o p q))
-        ∙ ap (λ g. g e.at) (fold-roll-Form (Place → Expr) Expr see_form see_expr (Form-F.Binary o p q))
+    ∙ ap (λ g. g e.at) (fold-roll-Form (Place → Expr) Expr see_form see_expr (Form-F.Binary o p q))
     ∙ ap (λ (v : ExprValue). written.Binary e.at (operator_view o.operator) o.at (expr_view v) (expr_view q.value)) (sym is_x)
     ∙ ap (λ (v : ExprValue). written.Binary e.at (operator_view o.operator) o.at (expr_view x) (expr_view v)) (sym is_y)
 
@@ -121,7 +121,7 @@ pub seen_choose : (e : ExprValue) (p : Box ExprValue Global) (b : Place) (q : Bo
     → z ≡ r.value → expr_view e ≡ written.Choose e.at (expr_view x) b (expr_view y) (expr_view z)
 seen_choose e p b q r x y z is is_x is_y is_z =
     seen_expr e ∙ ap (λ g. form_view g e.at) is ∙ ap (λ g. form_view g e.at) (sym (form.rolls-Choose p b q r))
-        ∙ ap (λ g. g e.at) (fold-roll-Form (Place → Expr) Expr see_form see_expr (Form-F.Choose p b q r))
+    ∙ ap (λ g. g e.at) (fold-roll-Form (Place → Expr) Expr see_form see_expr (Form-F.Choose p b q r))
     ∙ ap (λ (v : ExprValue). written.Choose e.at (expr_view v) b (expr_view q.value) (expr_view r.value)) (sym is_x)
     ∙ ap (λ (v : ExprValue). written.Choose e.at (expr_view x) b (expr_view v) (expr_view r.value)) (sym is_y)
     ∙ ap (λ (v : ExprValue). written.Choose e.at (expr_view x) b (expr_view y) (expr_view v)) (sym is_z)
@@ -131,7 +131,7 @@ pub seen_fold : (e : ExprValue) (f : FoldFormValue) (w : WordValue) (p : Box Exp
     → expr_view e ≡ written.Fold e.at (fold_view f) (word_view w) (expr_view x) (expr_view y)
 seen_fold e f w p q x y is is_x is_y =
     seen_expr e ∙ ap (λ g. form_view g e.at) is ∙ ap (λ g. form_view g e.at) (sym (form.rolls-Fold f w p q))
-        ∙ ap (λ g. g e.at) (fold-roll-Form (Place → Expr) Expr see_form see_expr (Form-F.Fold f w p q))
+    ∙ ap (λ g. g e.at) (fold-roll-Form (Place → Expr) Expr see_form see_expr (Form-F.Fold f w p q))
     ∙ ap (λ (v : ExprValue). written.Fold e.at (fold_view f) (word_view w) (expr_view v) (expr_view q.value)) (sym is_x)
     ∙ ap (λ (v : ExprValue). written.Fold e.at (fold_view f) (word_view w) (expr_view x) (expr_view v)) (sym is_y)
 

@@ -74,7 +74,7 @@ module _ {Z : Type 0} (old new : List (String Z)) (keeps : Keeps old new) where
   keys_kept [] named = refl
   keys_kept (d ∷ ds) named =
       ap₂ (λ k ks. k ∷ ks) (ap (keyed d.class) (sym (number_kept d.name (λ lacks. true≢false (ap (λ b. b
-          || list_any (λ e. bytes_eq e.name d.name) ds) (sym (nat_list_eq_equiv.refl d.name)) ∙ named d.name lacks)))))
+      || list_any (λ e. bytes_eq e.name d.name) ds) (sym (nat_list_eq_equiv.refl d.name)) ∙ named d.name lacks)))))
       (keys_kept ds (λ text lacks. second (bytes_eq d.name text) _ (named text lacks)))
 
   pub named_more : (first : FirstNamed) (ds : List Declared) → IsIndexed old first ds → IsIndexed new first ds

@@ -183,7 +183,7 @@ by_attribute : (s : Scope) (at : Place) (name : List ℕ) (r : Kinded) (ks : Lis
     → called s at name r ks ≡ demanded_of s.classes at a (Some d) r.body ks
 by_attribute s at name r ks c a d e f g h i =
     asked_node s at name r ks c e f ∙ ap (λ o. asked_by s at (declared_named s.classes s.declared c name) o r.body ks) g
-        ∙ ap (λ o. demanded s at o r.body ks) h ∙ ap (λ o. demanded_of s.classes at a o r.body ks) i
+    ∙ ap (λ o. demanded s at o r.body ks) h ∙ ap (λ o. demanded_of s.classes at a o r.body ks) i
 
 one_fits : (test : ExprKind → Bool) (at : Place) (k : Kinded) → test k.kind ≡ true → one_argument test at (k ∷ []) ≡ Is k.body
 one_fits test at k e = rw e refl
@@ -261,15 +261,15 @@ mutual
   found (table.compares {s = s} {at = at} {a = a} {b = b} {o = o} w x g h) =
       let (j, e, f) = found g in let (k, i, l) = found h in
       comes_by (ap (and_then (λ j. and_then (joined at o j) (judged s b))) e ∙ ap (and_then (joined at o j)) i)
-          (compares_truth w at j k (ap (λ z. are_alike z k.kind) f ∙ ap (are_alike _) l ∙ alike_true x))
+      (compares_truth w at j k (ap (λ z. are_alike z k.kind) f ∙ ap (are_alike _) l ∙ alike_true x))
   found (table.decides {s = s} {at = at} {a = a} {b = b} {o = o} w g h) =
       let (j, e, f) = found g in let (k, i, l) = found h in
       comes_by (ap (and_then (λ j. and_then (joined at o j) (judged s b))) e ∙ ap (and_then (joined at o j)) i) (decides_truth w at j k (both_truths j.kind k.kind f l))
   found (table.chooses {s = s} {at = at} {c = c} {a = a} {b = b} {m = m} w g h i) =
       let (x, e, f) = found g in let (j, l, n) = found h in let (k, o, p) = found i in
       comes_by (ap (and_then (λ i. and_then (λ j. and_then (chosen s.classes at i j) (judged s b)) (judged s a))) e
-          ∙ ap (and_then (λ j. and_then (chosen s.classes at x j) (judged s b))) l
-          ∙ ap (and_then (chosen s.classes at x j)) o)
+      ∙ ap (and_then (λ j. and_then (chosen s.classes at x j) (judged s b))) l
+      ∙ ap (and_then (chosen s.classes at x j)) o)
       (chooses_wider s.classes at x j k m f (ap (λ z. wider s.classes z k.kind) n ∙ ap (wider s.classes _) p ∙ wider_some w))
   found (table.call {s = s} {at = at} {name = name} a) = let (ks, e, f) = answers a in comes_by (ap (and_then (called s at name (this_node s at))) e) (f at (this_node s at) refl)
   found (table.call_of {s = s} {at = at} {name = name} {es = es} g a) =
@@ -278,19 +278,19 @@ mutual
   found (table.exists {s = s} {at = at} {name = name} {e = e} {c = c} l g) =
       let (m, part, h, there, i) = lists l at in let (k, f, n) = found g in
       comes_by (ap (and_then (λ l. and_then (folded at written.Exists l) (judged (within s name.text l.class) e))) h
-          ∙ ap (λ z. and_then (folded at written.Exists m) (judged (within s name.text z) e)) i
-          ∙ ap (and_then (folded at written.Exists m)) f) (folds_truth at m part k there n)
+      ∙ ap (λ z. and_then (folded at written.Exists m) (judged (within s name.text z) e)) i
+      ∙ ap (and_then (folded at written.Exists m)) f) (folds_truth at m part k there n)
   found (table.first {s = s} {at = at} {name = name} {list = list} {e = e} {c = c} l g) =
       let (m, part, h, there, i) = lists l at in let (k, f, n) = found g in
       subst (Comes (judged s (written.Fold at written.First name list e))) (ap (λ z. Class z) i)
       (comes_by (ap (and_then (λ l. and_then (folded at written.First l) (judged (within s name.text l.class) e))) h
-          ∙ ap (λ z. and_then (folded at written.First m) (judged (within s name.text z) e)) i
-          ∙ ap (and_then (folded at written.First m)) f) (folds_first at m part k there n))
+      ∙ ap (λ z. and_then (folded at written.First m) (judged (within s name.text z) e)) i
+      ∙ ap (and_then (folded at written.First m)) f) (folds_first at m part k there n))
   found (table.sum {s = s} {at = at} {name = name} {e = e} {c = c} l g) =
       let (m, part, h, there, i) = lists l at in let (k, f, n) = found g in
       comes_by (ap (and_then (λ l. and_then (folded at written.Sum l) (judged (within s name.text l.class) e))) h
-          ∙ ap (λ z. and_then (folded at written.Sum m) (judged (within s name.text z) e)) i
-          ∙ ap (and_then (folded at written.Sum m)) f) (folds_sum at m part k there n)
+      ∙ ap (λ z. and_then (folded at written.Sum m) (judged (within s name.text z) e)) i
+      ∙ ap (and_then (folded at written.Sum m)) f) (folds_sum at m part k there n)
 
   answers : {s : Scope} {j : ExprKind} {name : List ℕ} {es : written.Exprs} {k : ExprKind} → Answers s j name es k → AreAsked s j name es k
   answers (table.equals {s = s} {name = name} {e = e} n g) =
@@ -300,8 +300,12 @@ mutual
         λ at r is. comes_by (rw n (rw (ap is_text is) (ap (and_then (λ z. of_kind at Truth (body.Equals r.body z)))
             (one_fits is_text at k (ap is_text h))))) (comes at Truth (body.Equals r.body k.body)),
       )
-  answers (table.child {s = s} {c = c} {name = name} part b n a) = ([], refl, λ at r is. comes_by
-      (by_accessor s at name r [] c (accessor.Child part b) is n a) (comes at (Class b) (body.Child r.body part)))
+  answers (table.child {s = s} {c = c} {name = name} part b n a) = (
+    [],
+    refl,
+    λ at r is. comes_by
+        (by_accessor s at name r [] c (accessor.Child part b) is n a) (comes at (Class b) (body.Child r.body part)),
+  )
   answers (table.element {s = s} {c = c} {name = name} {e = e} part b n a g) =
       let (k, f, h) = found g in (
         k ∷ [],
@@ -310,8 +314,12 @@ mutual
             ap (and_then (λ i. of_kind at (Class b) (body.Element r.body part i))) (one_fits is_int at k (ap is_int h)))
             (comes at (Class b) (body.Element r.body part k.body)),
       )
-  answers (table.token {s = s} {c = c} {name = name} part k n a) = ([], refl, λ at r is. comes_by
-      (by_accessor s at name r [] c (accessor.Token part k) is n a) (comes at (known k) (body.TokenOf r.body part)))
+  answers (table.token {s = s} {c = c} {name = name} part k n a) = (
+    [],
+    refl,
+    λ at r is. comes_by
+        (by_accessor s at name r [] c (accessor.Token part k) is n a) (comes at (known k) (body.TokenOf r.body part)),
+  )
   answers (table.has {s = s} {c = c} {name = name} part n a) = ([], refl, λ at r is. comes_by (by_accessor s at name r [] c (accessor.Has part) is n a) (comes at Truth (body.Has r.body part)))
   answers (table.count {s = s} {c = c} {name = name} part n a) = ([], refl, λ at r is. comes_by (by_accessor s at name r [] c (accessor.Count part) is n a) (comes at Int (body.Count r.body part)))
   answers (table.attribute {s = s} {c = c} {name = name} a d n none declared is_there args) =

@@ -75,8 +75,13 @@ broken_from text Memory memory f = absurd (memory refl)
 broken_from text (OpenComment at) memory f = record { pieces = f.0; rest = f.1; cut = f.2; breaks = subst (λ n. Breaks f.1 (length (flat_map spell f.0)) (OpenComment n)) (sym f.3) (comment f.4) }
 broken_from text (OpenText at) memory f = record { pieces = f.0; rest = f.1; cut = f.2; breaks = subst (λ n. Breaks f.1 (length (flat_map spell f.0)) (OpenText n)) (sym f.3) (unclosed f.4) }
 broken_from text (Bad at) memory (inl f) = record { pieces = f.0; rest = f.1; cut = f.2; breaks = subst (λ n. Breaks f.1 (length (flat_map spell f.0)) (Bad n)) (sym f.3) (none f.4) }
-broken_from text (Bad at) memory (inr f) = record { pieces = f.0; rest = f.1; cut = f.2; breaks =
-    subst (λ n. Breaks f.1 (length (flat_map spell f.0)) (Bad n)) (sym f.3.4) (misplaced f.3.0 f.3.1 f.3.2 f.3.3) }
+broken_from text (Bad at) memory (inr f) = record {
+  pieces = f.0;
+  rest = f.1;
+  cut = f.2;
+  breaks =
+      subst (λ n. Breaks f.1 (length (flat_map spell f.0)) (Bad n)) (sym f.3.4) (misplaced f.3.0 f.3.1 f.3.2 f.3.3);
+}
 
 pub to_faults : (text : List ℕ) (e : ScanFault) → Broken text e → FaultsAt text e
 to_faults text e b = from b.pieces b.rest e b.cut b.breaks
@@ -105,5 +110,5 @@ one_broken text e f a b =
     let t = breaks_stuck b.rest (length (flat_map spell b.pieces)) f b.breaks in
     let w = one_way text a.rest b.rest a.pieces b.pieces s t a.cut b.cut in
     same_fault b.rest (length (flat_map spell b.pieces)) e f
-        (subst (λ (r : List ℕ). Breaks r (length (flat_map spell b.pieces)) e) w.1
-        (subst (λ (ps : List Piece). Breaks a.rest (length (flat_map spell ps)) e) w.0 a.breaks)) b.breaks
+    (subst (λ (r : List ℕ). Breaks r (length (flat_map spell b.pieces)) e) w.1
+    (subst (λ (ps : List Piece). Breaks a.rest (length (flat_map spell ps)) e) w.0 a.breaks)) b.breaks

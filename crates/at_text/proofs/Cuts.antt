@@ -51,8 +51,8 @@ tokens_push start (q ∷ ps) p =
     let n = start + length (spell q) in
     let same : n + length (flat_map spell ps) ≡ start + length (spell q ++ flat_map spell ps) = omega (arith, length-append (spell q) (flat_map spell ps)) in
     ap (λ l. token_of (kind_of q) start n ++ l)
-        (tokens_push n ps p ∙ ap (λ l. tokens_at n ps ++ l) (token_moved (kind_of p) (n + length (flat_map spell ps))
-        (start + length (spell q ++ flat_map spell ps)) (length (spell p)) same))
+    (tokens_push n ps p ∙ ap (λ l. tokens_at n ps ++ l) (token_moved (kind_of p) (n + length (flat_map spell ps))
+    (start + length (spell q ++ flat_map spell ps)) (length (spell p)) same))
     ∙ sym (append_assoc (token_of (kind_of q) start n) (tokens_at n ps) _)
 
 pub spelled_push : (start : ℕ) (ps : List Piece) (p : Piece) → spelled_at start (ps ++ p ∷ []) ≡ spelled_at start ps ++ spelled_of (kind_of p) (spell p) (start + length (flat_map spell ps))

@@ -161,7 +161,7 @@ one_ahead {S = S} limited table r ws d [] (s ∷ rest) (o ∷ os) e h =
     let same : o ≡ s = cc in
     let none = none_grows limited table r s rest (after limited table ws d s) (sym (run-cons limited table ws d s rest) ∙ h) in
     run-cons limited table ws d o os ∙ ap (λ a. goes_on limited table (after limited table ws d a) a os) same
-        ∙ ap (λ a. goes_on limited table a s os) none ∙ ap (λ (x : S). Stuck r (x ∷ os)) (sym same)
+    ∙ ap (λ a. goes_on limited table a s os) none ∙ ap (λ (x : S). Stuck r (x ∷ os)) (sym same)
 one_ahead limited table r ws d (f ∷ front) rest other e h =
     run-cons limited table ws d f (front ++ other)
     ∙ ahead limited table r (after limited table ws d f) f front rest other (λ vs x. one_ahead limited table r vs x front rest other e) (sym (run-cons limited table ws d f (front ++ rest)) ∙ h)

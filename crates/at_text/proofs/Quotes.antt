@@ -101,9 +101,15 @@ pub escape_means : (c : ℕ) (text rest : List ℕ) → makes_escape c ≡ true 
     ++ (encode_utf8 c ++ rest) → IsUtf8 rest → (body : List ℕ) × Means body text rest × (length rest < length text)
 escape_means c text rest t e u =
     let x = escape_of c t in
-    let spelled : text ≡ 92 ∷ c ∷ rest = e ∙ (λ i. encode_ascii 92 (lit< tt) i ++ (encode_ascii c (escape_small c t) i ++ rest)) in
-    (x.byte ∷ [], (spelled ∙ ap (λ l. l ++ rest) (sym (append-nil (escaped x.byte) ∙ x.spelled)),
-        subst IsUtf8 (encode_ascii x.byte x.small) (IsUtf8-encode x.byte x.is), u), omega (arith, ap length spelled))
+    let spelled : text ≡ 92 ∷ c ∷ rest = e ∙ (λ i. encode_ascii 92 (lit< tt) i ++ (encode_ascii c (escape_small c t) i ++ rest)) in (
+      x.byte ∷ [],
+      (
+        spelled ∙ ap (λ l. l ++ rest) (sym (append-nil (escaped x.byte) ∙ x.spelled)),
+        subst IsUtf8 (encode_ascii x.byte x.small) (IsUtf8-encode x.byte x.is),
+        u,
+      ),
+      omega (arith, ap length spelled),
+    )
 
 pub no_escape : (c : ℕ) (bs : List ℕ) → makes_escape c ≡ false → unescaped (92 ∷ c ∷ bs) ≡ None
 no_escape c bs e = grind (arith, nat_tests)
@@ -150,9 +156,11 @@ first_scalar c text rest u e =
 
 pub plain_means : (c : ℕ) (text rest : List ℕ) → stands_for_itself c ≡ true → IsUtf8 text → text ≡ encode_utf8 c ++ rest
     → IsUtf8 rest → (body : List ℕ) × Means body text rest × (length rest < length text)
-plain_means c text rest t u e v = (encode_utf8 c,
-    (e ∙ ap (λ l. l ++ rest) (sym (plain_character c t)), IsUtf8-encode c (first_scalar c text rest u e), v),
-    omega (arith, ap length e, length-append (encode_utf8 c) rest, length-encode c, len_utf8_bounds c))
+plain_means c text rest t u e v = (
+  encode_utf8 c,
+  (e ∙ ap (λ l. l ++ rest) (sym (plain_character c t)), IsUtf8-encode c (first_scalar c text rest u e), v),
+  omega (arith, ap length e, length-append (encode_utf8 c) rest, length-encode c, len_utf8_bounds c),
+)
 
 -- what a loop over the characters between quotes has read
 pub record Read (text rest : List ℕ) : Type 0 where
@@ -206,4 +214,4 @@ stays_open (b ∷ c ∷ bs) none unquoted placed =
     by_cases (IsNewline c bs) 92 b
     (λ n u p. absurd (clash (not (makes_escape c)) (ap not (escape_follows c bs n)) p))
     (λ f n u p. let s = not_meant b (c ∷ bs) n in let q = no_quote b (c ∷ bs) u in let t : (b == 9) ≡ false =
-        (neither (b == 9) ((b == 92) && not (makes_escape c)) p).0 in grind (arith, nat_tests)) none unquoted placed
+    (neither (b == 9) ((b == 92) && not (makes_escape c)) p).0 in grind (arith, nat_tests)) none unquoted placed

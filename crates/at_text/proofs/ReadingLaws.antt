@@ -43,7 +43,7 @@ first_fault table form r old rest accepts s = record {
   begins = s.begins;
   ends = λ v other is same text.
       let stuck : run table (form.want ∷ []) (s.front ++ other) ≡ Stuck r other = machine.one_ahead true (by_next table)
-          r (form.want ∷ []) 0 s.front rest other same (sym (ap (run table (form.want ∷ [])) s.split) ∙ s.stuck []) in
+      r (form.want ∷ []) 0 s.front rest other same (sym (ap (run table (form.want ∷ [])) s.split) ∙ s.stuck []) in
       let whole : run table (form.want ∷ []) (s.front ++ other) ≡ Whole = sym (ap (run table (form.want ∷ [])) text) ∙ accepts v is in
       absurd cc;
 }

@@ -150,8 +150,8 @@ reserved_with_no_other text e97 e98 e99 e101 e102 e105 e108 e110 e114 e115 e116 
     let c = get_or text 0 0 in
     let begins : begins_with c text ≡ true = grind (arith, nat_tests) in
     sym (none_among (begins_with c) text begins reserved_words (no_letter c (other 97 c e97) (other 98 c e98)
-        (other 99 c e99) (other 101 c e101) (other 102 c e102) (other 105 c e105) (other 108 c e108) (other 110 c e110)
-        (other 114 c e114) (other 115 c e115) (other 116 c e116) (other 83 c e83)))
+    (other 99 c e99) (other 101 c e101) (other 102 c e102) (other 105 c e105) (other 108 c e108) (other 110 c e110)
+    (other 114 c e114) (other 115 c e115) (other 116 c e116) (other 83 c e83)))
 
 apart : (c k : ℕ) → is_ascii_lowercase c ≡ false → is_ascii_lowercase k ≡ true → c ≢ k
 apart c k off on is = clash (is_ascii_lowercase k) on (ap is_ascii_lowercase (sym is) ∙ off)
@@ -161,5 +161,5 @@ reserved_with_no_letter text first is off other =
     let c = get_or text 0 0 in
     let small : is_ascii_lowercase (get_or text 0 0) ≡ false = ap is_ascii_lowercase (sym is) ∙ off in
     reserved_with_no_other text (apart c 97 small refl) (apart c 98 small refl) (apart c 99 small refl) (apart c 101
-        small refl) (apart c 102 small refl) (apart c 105 small refl) (apart c 108 small refl) (apart c 110 small refl)
-        (apart c 114 small refl) (apart c 115 small refl) (apart c 116 small refl) (λ e. other (is ∙ e))
+    small refl) (apart c 102 small refl) (apart c 105 small refl) (apart c 108 small refl) (apart c 110 small refl)
+    (apart c 114 small refl) (apart c 115 small refl) (apart c 116 small refl) (λ e. other (is ∙ e))

@@ -92,7 +92,7 @@ same_piece (Quoted b) (Quoted d) x y g h e = same_quoted b d x y e
 same_piece (Quoted b) q x y g h e = apart (family (Quoted b)) (family q) refl (family_same (Quoted b) q x y g h e)
 same_piece (LineComment cs) (LineComment ds) x y g h e =
     let r = same_run is_within_line cs ds x y g h (tail_same 47 47 (encode_utf8_all cs ++ x) (encode_utf8_all ds ++ y)
-        (tail_same 47 47 (47 ∷ (encode_utf8_all cs ++ x)) (47 ∷ (encode_utf8_all ds ++ y)) e)) in
+    (tail_same 47 47 (47 ∷ (encode_utf8_all cs ++ x)) (47 ∷ (encode_utf8_all ds ++ y)) e)) in
     ((λ i. LineComment (r.0 i)), r.1)
 same_piece (LineComment cs) (BlockComment d) x y g h e = apart 47 42 refl (behind_slash 47 42 (encode_utf8_all cs ++ x) ((d ++ 42 ∷ 47 ∷ []) ++ y) e)
 same_piece (LineComment cs) (Sign t) x y g h e = absurd (clash (opens_comment (t ++ y)) (ap opens_comment (sym e)) h.1)

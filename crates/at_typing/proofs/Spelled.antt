@@ -27,7 +27,7 @@ module _ (P : DeclForm → Type 0) (forms : Forms)
   file_each file (a ∷ as') old rest (more, (named, brace, inner, close, word, name, opens, is, closes), others) =
       subst (AllByRecursion (OfForm P)) (sym (flat_map-cons (from_aspect file) a as'))
       (all_both (OfForm P) (from_aspect file a) (from_file file as') (decls_each file a.decls inner close is)
-          (file_each file as' more rest others))
+      (file_each file as' more rest others))
 
 -- of those of all files
 pub located_each : (P : DeclForm → Type 0)

@@ -38,7 +38,7 @@ boolean : (forms : Forms) (word : KindWord) (start : Option Bool) (old rest : Ro
 boolean forms word start old rest is = λ k b same at.
     let e : word ≡ k = cc in
     subst (λ (w : KindWord). w.kind ≡ Bool') e
-        (boolean_kind forms word.kind (may_stand (may_be_circular forms word.kind) start old rest is b at))
+    (boolean_kind forms word.kind (may_stand (may_be_circular forms word.kind) start old rest is b at))
 
 form_boolean : (forms : Forms) (form : DeclForm) (old rest : Row) → Behind forms form old rest → IsBooleanForm form
 form_boolean forms (Synthesized lazy word class name ps start ending) old rest

@@ -169,7 +169,7 @@ made size behind (syntax.Negate at e) old rest short h none l (one, p, plain, po
 made size behind (syntax.Not at e) old rest short h none l (one, p, post, q) = front_at NotFront _ old rest (ap front p) (at, e, refl, (one, p, post, q))
 made size behind (syntax.Cast at class e) old rest short h none l (named, close, one, p, n, c, f, post, q) =
     front_at CastFront _ old rest (ap front p ∙ ap (λ row. cond (casts row) CastFront ParenFront)
-        (n.1 ∙ ap (λ row. word class.text class.at ∷ row) c.1) ∙ (λ i. cond (n.0 i && f i) CastFront ParenFront))
+    (n.1 ∙ ap (λ row. word class.text class.at ∷ row) c.1) ∙ (λ i. cond (n.0 i && f i) CastFront ParenFront))
     (at, class, e, refl, (named, close, one, p, n, c, f, post, q))
 made size behind (syntax.InstanceOf at e behind' class) old rest short h none l p = absurd (omega (arith, h))
 made size behind (syntax.Binary at o between a b) old rest short h none l p = absurd (omega (arith, h, (operator_facts o between).level))

@@ -87,7 +87,7 @@ minus_goes at n old one rest some e none g l b f ws d =
     ∙ run-takes l table (Unary b) (nat_lt 0 b) (Minus b ∷ []) ws d 0 (sign (codes "-") at) one refl (λ h. lt-ltb 0 b (omega (arith, some, f h)))
     ∙ run-begins l table (Minus b) (Unary (b - 1)) (Deeper ∷ []) ws 0 one
     (ap (λ x. cond x (cond (next (is_number_within 2147483648) (first one)) (Takes true (Calls b ∷ []) 1) Refuses)
-        (and_then (unary_answer (b - 1) (first one)) (Deeper ∷ []))) none) (unary_stays (b - 1) (first one))
+    (and_then (unary_answer (b - 1) (first one)) (Deeper ∷ []))) none) (unary_stays (b - 1) (first one))
     ∙ g l (b - 1) (λ h. omega (arith, f h)) (Deeper ∷ ws) 0
     ∙ run-skips l table Deeper ws n (1 + n) rest refl
 
@@ -111,12 +111,12 @@ cast_goes at name_at close_at text n old one rest some e is follows g l b f ws d
     ∙ run-takes l table (Unary b) (nat_lt 1 b) (Opened b ∷ []) ws d 0 (sign (codes "(") at) (t ∷ sign (codes ")") close_at ∷ one) refl (λ h. lt-ltb 1 b (omega (arith, some, f h)))
     ∙ run-takes l table (Opened b) (nat_lt 0 (b - 1)) (Enclosed (is_get_child t) b ∷ []) ws 0 0 t (sign (codes ")") close_at ∷ one)
     (ap (λ x. cond x (Takes (nat_lt 0 (b - 1)) (Enclosed (is_get_child t) b ∷ []) 0)
-        (and_then (expression_answer (b - 1) (Some t)) (Mark (codes ")") ∷ Deeper ∷ Calls b ∷ []))) is)
-        (λ h. lt-ltb 0 (b - 1) (omega (arith, some, f h)))
+    (and_then (expression_answer (b - 1) (Some t)) (Mark (codes ")") ∷ Deeper ∷ Calls b ∷ []))) is)
+    (λ h. lt-ltb 0 (b - 1) (omega (arith, some, f h)))
     ∙ run-takes l table (Enclosed (is_get_child t) b) true (Parenthesized b ∷ []) ws 0 2 (sign (codes ")") close_at) one refl (λ h. refl)
     ∙ run-begins l table (Parenthesized b) (Unary (b - 1)) (Deeper ∷ []) ws 2 one (ap (λ x. cond x
-        (and_then (unary_answer (b - 1) (first one)) (Deeper ∷ [])) (on (next (is_sign (codes ".")) (first one)) (Takes
-        (nat_lt 2 b) (Called (b - 1) ∷ Join 2 ∷ Calls b ∷ []) 0) (Skips 2))) follows) (unary_stays (b - 1) (first one))
+    (and_then (unary_answer (b - 1) (first one)) (Deeper ∷ [])) (on (next (is_sign (codes ".")) (first one)) (Takes
+    (nat_lt 2 b) (Called (b - 1) ∷ Join 2 ∷ Calls b ∷ []) 0) (Skips 2))) follows) (unary_stays (b - 1) (first one))
     ∙ g l (b - 1) (λ h. omega (arith, f h)) (Deeper ∷ ws) 2
     ∙ run-skips l table Deeper ws n (1 + n) rest refl
 
@@ -154,10 +154,10 @@ plain_unary : (l : Bool) (b : ℕ) (ws : List Want) (d : ℕ) (old : Row) → ne
 unfolding table
 plain_unary l b ws d old m n p = run-begins l table (Unary b) (Primary b) (Calls b ∷ []) ws d old
     (ap (λ x. cond x (Takes (nat_lt 0 b) (Minus b ∷ []) 0) (cond (next (is_sign (codes "!")) (first old))
-        (Takes (nat_lt 1 b) (Unary (b - 1) ∷ Deeper ∷ []) 0) (cond (next (is_sign (codes "(")) (first old))
-        (Takes (nat_lt 1 b) (Opened b ∷ []) 0) (and_then (primary_answer b (first old)) (Calls b ∷ []))))) m
+    (Takes (nat_lt 1 b) (Unary (b - 1) ∷ Deeper ∷ []) 0) (cond (next (is_sign (codes "(")) (first old))
+    (Takes (nat_lt 1 b) (Opened b ∷ []) 0) (and_then (primary_answer b (first old)) (Calls b ∷ []))))) m
     ∙ ap (λ x. cond x (Takes (nat_lt 1 b) (Unary (b - 1) ∷ Deeper ∷ []) 0) (cond (next (is_sign (codes "("))
-        (first old)) (Takes (nat_lt 1 b) (Opened b ∷ []) 0) (and_then (primary_answer b (first old)) (Calls b ∷ [])))) n
+    (first old)) (Takes (nat_lt 1 b) (Opened b ∷ []) 0) (and_then (primary_answer b (first old)) (Calls b ∷ [])))) n
     ∙ ap (λ x. cond x (Takes (nat_lt 1 b) (Opened b ∷ []) 0) (and_then (primary_answer b (first old)) (Calls b ∷ []))) p)
     (primary_stays b (first old))
 
@@ -186,7 +186,7 @@ call_moves dot_at name_at text m n old paren rest e is g l b f ws =
     ap (run l table (Calls b ∷ ws) m) e
     ∙ run-takes l table (Calls b) (nat_lt m b) (Called (b - 1) ∷ Join m ∷ Calls b ∷ []) ws m 0 (sign (codes ".") dot_at) (t ∷ paren) refl (λ h. lt-ltb m b (omega (arith, f h)))
     ∙ run-takes l table (Called (b - 1)) true (Arguments (is_get_child t) (b - 1) ∷ []) (Join m ∷ Calls b ∷ ws) 0 0 t
-        paren (ap (λ x. cond x (Takes true (Arguments (is_get_child t) (b - 1) ∷ []) 0) Refuses) is) (λ h. refl)
+    paren (ap (λ x. cond x (Takes true (Arguments (is_get_child t) (b - 1) ∷ []) 0) Refuses) is) (λ h. refl)
     ∙ g l (b - 1) (λ h. omega (arith, f h)) (Join m ∷ Calls b ∷ ws) 0
     ∙ run-skips l table (Join m) (Calls b ∷ ws) n (1 + max m n) rest refl
 
@@ -300,11 +300,11 @@ fold_goes form at paren_at name_at colon_at close_at brace_at end_at text m n ol
     ∙ run-takes l table (Primary b) (nat_lt 1 b) (Mark (codes "(") ∷ Name ∷ Mark (codes ":") ∷ Primary (b - 1) ∷ Calls (b - 1) ∷ Mark (codes ")") ∷ FoldBody b ∷ []) ws d 0 (word (fold_text form) at)
     (sign (codes "(") paren_at ∷ word text name_at ∷ sign (codes ":") colon_at ∷ items) (fold_taken form at b) (λ h. lt-ltb 1 b (omega (arith, some, f h)))
     ∙ run-takes l table (Mark (codes "(")) true []
-        (Name ∷ Mark (codes ":") ∷ Primary (b - 1) ∷ Calls (b - 1) ∷ Mark (codes ")") ∷ tail) 0 0
-        (sign (codes "(") paren_at) (word text name_at ∷ sign (codes ":") colon_at ∷ items) refl (λ h. refl)
+    (Name ∷ Mark (codes ":") ∷ Primary (b - 1) ∷ Calls (b - 1) ∷ Mark (codes ")") ∷ tail) 0 0
+    (sign (codes "(") paren_at) (word text name_at ∷ sign (codes ":") colon_at ∷ items) refl (λ h. refl)
     ∙ run-takes l table Name true [] (Mark (codes ":") ∷ Primary (b - 1) ∷ Calls (b - 1) ∷ Mark (codes ")") ∷ tail) 0
-        0 (word text name_at) (sign (codes ":") colon_at ∷ items)
-        (ap (λ x. cond x (Takes true [] 0) Refuses) is) (λ h. refl)
+    0 (word text name_at) (sign (codes ":") colon_at ∷ items)
+    (ap (λ x. cond x (Takes true [] 0) Refuses) is) (λ h. refl)
     ∙ run-takes l table (Mark (codes ":")) true [] (Primary (b - 1) ∷ Calls (b - 1) ∷ Mark (codes ")") ∷ tail) 0 0 (sign (codes ":") colon_at) items refl (λ h. refl)
     ∙ p l (b - 1) (λ h. omega (arith, f h)) (Mark (codes ")") ∷ tail) 0
     ∙ ap (run l table (Mark (codes ")") ∷ tail) m) c

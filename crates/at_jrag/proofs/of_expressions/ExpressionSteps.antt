@@ -143,8 +143,8 @@ unfolding table
 enclosed_goes l g b d ws ss none =
     let behind = Choice b ∷ Mark (codes ")") ∷ [] in
     or_else_goes l (Named g b) (Calls b ∷ (links_from 6 b ++ behind)) ws d
-        (λ e. or_else (calls_answer b e (first ss)) (links_from 6 b ++ behind) (λ x. tails_answer 6 b behind
-        (λ y. or_else (choice_answer b y (first ss)) (Mark (codes ")") ∷ []) (λ z. Refuses)) x (first ss))) ss
+    (λ e. or_else (calls_answer b e (first ss)) (links_from 6 b ++ behind) (λ x. tails_answer 6 b behind
+    (λ y. or_else (choice_answer b y (first ss)) (Mark (codes ")") ∷ []) (λ z. Refuses)) x (first ss))) ss
     (λ e. or_else_goes l (Calls b) (links_from 6 b ++ behind) ws e (λ x. tails_answer 6 b behind (λ y. or_else (choice_answer b y (first ss)) (Mark (codes ")") ∷ []) (λ z. Refuses)) x (first ss)) ss
     (λ x. tails_go l 6 b behind ws (λ y. or_else (choice_answer b y (first ss)) (Mark (codes ")") ∷ []) (λ z. Refuses)) x ss
     (λ y. or_else_goes l (Choice b) (Mark (codes ")") ∷ []) ws y (λ z. Refuses) ss (λ z. mark_refuses l (codes ")") ws z ss none))))
@@ -222,12 +222,12 @@ enclosed_either true l g b ws (t ∷ rest) e h =
 pub name_primary : (b : ℕ) (text : List ℕ) (at : Place) → is_name text ≡ true → primary_answer b (Some (word text at)) ≡ Takes (nat_lt 0 b) (Named (is_get_child (word text at)) b ∷ []) 0
 name_primary b text at is =
     ap (λ x. cond x (Takes (nat_lt 0 b) [] 1) (cond (begins_fold (word text at)) (Takes (nat_lt 1 b) (Mark
-        (codes "(") ∷ Name ∷ Mark (codes ":") ∷ Primary (b - 1) ∷ Calls (b - 1) ∷ Mark (codes ")") ∷ FoldBody b ∷ []) 0)
-        (cond (is_name text) (Takes (nat_lt 0 b) (Named (is_get_child (word text at)) b ∷ []) 0) Refuses)))
-        (name_is_no_literal text at is)
+    (codes "(") ∷ Name ∷ Mark (codes ":") ∷ Primary (b - 1) ∷ Calls (b - 1) ∷ Mark (codes ")") ∷ FoldBody b ∷ []) 0)
+    (cond (is_name text) (Takes (nat_lt 0 b) (Named (is_get_child (word text at)) b ∷ []) 0) Refuses)))
+    (name_is_no_literal text at is)
     ∙ ap (λ x. cond x (Takes (nat_lt 1 b) (Mark (codes "(") ∷ Name ∷ Mark (codes ":") ∷ Primary (b - 1) ∷ Calls
-        (b - 1) ∷ Mark (codes ")") ∷ FoldBody b ∷ []) 0) (cond (is_name text)
-        (Takes (nat_lt 0 b) (Named (is_get_child (word text at)) b ∷ []) 0) Refuses)) (name_begins_no_fold text at is)
+    (b - 1) ∷ Mark (codes ")") ∷ FoldBody b ∷ []) 0) (cond (is_name text)
+    (Takes (nat_lt 0 b) (Named (is_get_child (word text at)) b ∷ []) 0) Refuses)) (name_begins_no_fold text at is)
     ∙ ap (λ x. cond x (Takes (nat_lt 0 b) (Named (is_get_child (word text at)) b ∷ []) 0) Refuses) is
 
 pub takes_alike : (x l : Bool) (us vs : List Want) (e : ℕ) (s : PlacedToken) (ss : Row)
@@ -247,14 +247,14 @@ opened_name l b ws d text at ss is h =
     let t = word text at in
     run-acts l (Opened b) ws d (t ∷ ss)
     ∙ ap (λ x. acts l (cond x (Takes (nat_lt 0 (b - 1)) (Enclosed (is_get_child t) b ∷ []) 0)
-        (and_then (expression_answer (b - 1) (Some t)) (Mark (codes ")") ∷ Deeper ∷ Calls b ∷ []))) ws (t ∷ ss)) is
+    (and_then (expression_answer (b - 1) (Some t)) (Mark (codes ")") ∷ Deeper ∷ Calls b ∷ []))) ws (t ∷ ss)) is
     ∙ takes_alike (nat_lt 0 (b - 1) || not l) l (Enclosed (is_get_child t) b ∷ ws) (within_parenthesis (is_get_child t) (b - 1) (Deeper ∷ Calls b ∷ ws)) 0 t ss
     (enclosed_either (next (is_sign (codes ")")) (first ss)) l (is_get_child t) b ws ss refl (λ c rest e f. h t c rest (ap (λ x. t ∷ x) e) is f))
     ∙ sym (run-acts l (Expression (b - 1)) (Mark (codes ")") ∷ Deeper ∷ Calls b ∷ ws) d (t ∷ ss)
     ∙ ap (λ a. acts l (and_then (and_then (and_then (and_then
-        (and_then (and_then (and_then (and_then a (Calls (b - 1) ∷ [])) (Links 0 (b - 1) ∷ [])) (Links 1 (b - 1) ∷ []))
-        (Links 2 (b - 1) ∷ [])) (Links 3 (b - 1) ∷ [])) (Links 4 (b - 1) ∷ [])) (Links 5 (b - 1) ∷ []))
-        (Choice (b - 1) ∷ [])) (Mark (codes ")") ∷ Deeper ∷ Calls b ∷ ws) (t ∷ ss)) (name_primary (b - 1) text at is))
+    (and_then (and_then (and_then (and_then a (Calls (b - 1) ∷ [])) (Links 0 (b - 1) ∷ [])) (Links 1 (b - 1) ∷ []))
+    (Links 2 (b - 1) ∷ [])) (Links 3 (b - 1) ∷ [])) (Links 4 (b - 1) ∷ [])) (Links 5 (b - 1) ∷ []))
+    (Choice (b - 1) ∷ [])) (Mark (codes ")") ∷ Deeper ∷ Calls b ∷ ws) (t ∷ ss)) (name_primary (b - 1) text at is))
 
 opened_either : (x l : Bool) (b : ℕ) (ws : List Want) (d : ℕ) (t : PlacedToken) (ss : Row) → is_name_token t ≡ x → NoCast (t ∷ ss)
     → run l table (Opened b ∷ ws) d (t ∷ ss) ≡ run l table (Expression (b - 1) ∷ Mark (codes ")") ∷ Deeper ∷ Calls b ∷ ws) d (t ∷ ss)

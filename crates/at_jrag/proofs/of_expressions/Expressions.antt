@@ -53,9 +53,18 @@ mutual
   spells_shorter (syntax.Choose at c behind a b) old rest (link, then, colon, other, same, lean, p, l, q, m, r) =
       omega (arith, spells_shorter c old link p, takes_one _ link then l, spells_shorter a then colon q, takes_one _ colon other m.1, spells_shorter b other rest r)
   spells_shorter (syntax.Fold at form name list body) old rest (paren, named, colon, items, close, brace, one, end, w, p, n, m, plain, post, q, c, b, r, z) =
-      omega (arith, takes_one _ old paren w, takes_one _ paren named p.1, takes_one _ named colon n.1,
-          takes_one _ colon items m.1, spells_shorter list items close q, takes_one _ close brace c.1,
-          takes_one _ brace one b.1, spells_shorter body one end r, takes_one _ end rest z.1)
+      omega (
+        arith,
+        takes_one _ old paren w,
+        takes_one _ paren named p.1,
+        takes_one _ named colon n.1,
+        takes_one _ colon items m.1,
+        spells_shorter list items close q,
+        takes_one _ close brace c.1,
+        takes_one _ brace one b.1,
+        spells_shorter body one end r,
+        takes_one _ end rest z.1,
+      )
 
   arguments_shorter : (es : Exprs) (old rest : Row) → Arguments es old rest → length rest < length old
   arguments_shorter syntax.no_exprs old rest h = takes_one _ old rest h.1

@@ -224,11 +224,11 @@ paren_is_no_cast at close_at n old one close rest e g c f at2 one2 e2 t u rest2 
     let name = name_is t named in
     let shut = sign_is (codes ")") u closes in
     let other = (name_accepted t.text t.at one2 (u ∷ rest2) (split ∙ ap (λ x. x ∷ u ∷ rest2) name.0) name.1).whole
-        (whole_at (sign (codes ")") u.at) (u ∷ rest2) rest2 (ap (λ x. x ∷ rest2) shut) (close_ends u.at)) in
+    (whole_at (sign (codes ")") u.at) (u ∷ rest2) rest2 (ap (λ x. x ∷ rest2) shut) (close_ends u.at)) in
     let left : run false table (Expression 0 ∷ []) 0 one ≡ Stuck Refused (sign (codes ")") close_at ∷ rest) =
-        g false 0 (λ l. absurd cc) [] 0 ∙ ap (run false table [] n) c ∙ stuck_close n close_at rest in
+    g false 0 (λ l. absurd cc) [] 0 ∙ ap (run false table [] n) c ∙ stuck_close n close_at rest in
     let right : run false table (Expression 0 ∷ []) 0 one2 ≡ Stuck Refused (sign (codes ")") u.at ∷ rest2) = other false
-        0 (λ l. absurd cc) [] 0 ∙ ap (λ x. run false table [] 1 (x ∷ rest2)) shut ∙ stuck_close 1 u.at rest2 in
+    0 (λ l. absurd cc) [] 0 ∙ ap (λ x. run false table [] 1 (x ∷ rest2)) shut ∙ stuck_close 1 u.at rest2 in
     let met : sign (codes ")") close_at ∷ rest ≡ sign (codes ")") u.at ∷ rest2 = stuck_tail _ _ (sym left ∙ ap (run false table (Expression 0 ∷ []) 0) same ∙ right) in
     ap (λ r. next follows_cast (first r)) (sym (tail_is _ _ rest rest2 met)) ∙ f
 
@@ -256,7 +256,7 @@ instance_accepted at name_at text j m old link rest h a e is = by_taken 4 (1 + m
 
 choice_accepted : (at colon_at : Place) (j k m n : ℕ) (old link chosen colon other rest : Row) → 1 ≤ j → Accepted j k old link → link ≡ sign (codes "?") at ∷ chosen
     → Goes Expression (λ b. []) m chosen colon → colon ≡ sign (codes ":") colon_at ∷ other
-        → (EndsWhole (first rest) → Goes Expression (λ b. []) n other rest) → Accepted 0 (1 + max k (max m n)) old rest
+    → (EndsWhole (first rest) → Goes Expression (λ b. []) n other rest) → Accepted 0 (1 + max k (max m n)) old rest
 choice_accepted at colon_at j k m n old link chosen colon other rest low c e t z o = record {
   post = λ h f. absurd (omega (arith, h));
   primary = λ h f x. absurd (omega (arith, h));
@@ -368,7 +368,7 @@ mutual
       (λ f. not_goes at (depth e) old one rest (deep e) p (operand (level e) (depth e) one rest post (accepted e one rest r) f))
   accepted (syntax.Cast at class e) old rest (named, close, one, p, n, c, f, post, r) = by_unary 7 (1 + depth e) old rest (omega arith) (omega arith)
       (λ x. cast_goes at class.at c.0 class.text (depth e) old one rest (deep e) (p ∙ ap (λ r. sign (codes "(") at ∷ r)
-          (n.1 ∙ ap (λ r. word class.text class.at ∷ r) c.1)) n.0 (sym (next_first follows_cast one) ∙ f)
+      (n.1 ∙ ap (λ r. word class.text class.at ∷ r) c.1)) n.0 (sym (next_first follows_cast one) ∙ f)
       (operand (level e) (depth e) one rest post (accepted e one rest r) x))
   accepted (syntax.InstanceOf at e behind class) old rest (link, named, same, lean, r, l, n) =
       instance_accepted behind class.at class.text (level e) (depth e) old link rest lean (accepted e old link r) (l ∙ ap (λ r. word (codes "instanceof") behind ∷ r) n.1) n.0
@@ -376,8 +376,8 @@ mutual
       operation_accepted o between (operator_facts o between) (level a) (level b) (depth a) (depth b) old link right rest lean strong (accepted a old link p) l (accepted b right rest q)
   accepted (syntax.Choose at c behind a b) old rest (link, chosen, colon, other, same, lean, p, l, q, m, r) =
       choice_accepted behind m.0 (level c) (depth c) (depth a) (depth b) old link chosen colon other rest lean
-          (accepted c old link p) l ((accepted a chosen colon q).whole (whole_at _ colon other m.1 (colon_ends m.0)))
-          m.1 (λ w. (accepted b other rest r).whole w)
+      (accepted c old link p) l ((accepted a chosen colon q).whole (whole_at _ colon other m.1 (colon_ends m.0)))
+      m.1 (λ w. (accepted b other rest r).whole w)
   accepted (syntax.Fold at form name list body) old rest (paren, named, colon, items, close, brace, one, end, w, p, n, m, plain, post, q, c, b, r, z) =
       fold_accepted form at (1 + max (depth list) (depth body)) old paren rest w
       (fold_goes form at p.0 name.at m.0 c.0 b.0 z.0 name.text (depth list) (depth body) old items close one end rest (deep list)
@@ -391,8 +391,8 @@ mutual
   first_accepted (syntax.expr e es) list rest (more, r, m) g =
       let head = heads e list more r in
       first_goes g (depth e) (max (depth e) (deepest es)) list more rest (omega arith) head.close
-          (and_second g _ head.int) ((accepted e list more r).whole (more_ends es more rest m))
-          (more_accepted es (depth e) more rest m)
+      (and_second g _ head.int) ((accepted e list more r).whole (more_ends es more rest m))
+      (more_accepted es (depth e) more rest m)
 
   more_accepted : (es : Exprs) (m : ℕ) (more rest : Row) → grammar.MoreArguments es more rest → Moves (λ b. MoreArguments b ∷ []) (λ b. []) m (max m (deepest es)) more rest
   more_accepted syntax.no_exprs m more rest h = subst (λ (k : ℕ). Moves (λ b. MoreArguments b ∷ []) (λ b. []) m k more rest) (max_zero m) (more_none h.0 m more rest h.1)

@@ -36,7 +36,7 @@ more_one size behind syntax.no_exprs (syntax.expr f fs) x y r s short same h (on
 more_one size behind (syntax.expr e es) syntax.no_exprs x y r s short same (one, mid, c, p, m) k = absurd (apart (is_sign (codes ",")) same c.1 k.1 refl refl)
 more_one size behind (syntax.expr e es) (syntax.expr f fs) x y r s short same (one, mid, c, p, m) (other, inner, d, q, n) =
     let item = behind 0 e f one other mid inner (omega (arith, short, takes_one _ x one c.1)) (omega arith)
-        (token_one same c.1 d.1).1 (omega arith) (omega arith) p q (more_end es mid r m) (more_end fs inner s n) in
+    (token_one same c.1 d.1).1 (omega arith) (omega arith) p q (more_end es mid r m) (more_end fs inner s n) in
     let more = more_one size behind es fs mid inner r s (omega (arith, short, takes_one _ x one c.1, spells_shorter e one mid p)) item.1 m n in
     ((λ i. syntax.expr (item.0 i) (more.0 i)), more.1)
 
@@ -91,15 +91,28 @@ link_one OperatorLink size behind l a b e f x y r s same short rows (o, between,
     let token = token_one rows begins starts in
     let operator = operator_one o q (text_one token.0) in
     let operand = behind (l + 1) c d right next r s (omega (arith, short, takes_one _ x right begins))
-        (omega (arith, is, (operator_facts o between).level)) token.1 (omega (arith, is, strong))
-        (omega (arith, also, stronger)) p t er es in
+    (omega (arith, is, (operator_facts o between).level)) token.1 (omega (arith, is, strong))
+    (omega (arith, also, stronger)) p t er es in
     (made ∙ (λ i. syntax.Binary (place (same i)) (operator i) (at_one token.0 i) (same i) (operand.0 i)) ∙ sym makes, operand.1)
 link_one InstanceLink size behind l a b e f x y r s same short rows (at, class, named, is, made, begins, n) (other, parent, next, also, makes, starts, m) er es =
     let token = token_one rows begins starts in
     let name = name_one class parent token.1 n.1 m.1 in
     (made ∙ (λ i. syntax.InstanceOf (place (same i)) (same i) (at_one token.0 i) (name.0 i)) ∙ sym makes, name.1)
-link_one CallLink size behind l a b e f x y r s same short rows (at, name_at, name, es, called, paren, list, is, made,
-    begins, n, o, p) (other, place_at, text, fs, named, brackets, items, also, makes, starts, m, q, t) er et =
+link_one CallLink size behind l a b e f x y r s same short rows (
+  at,
+  name_at,
+  name,
+  es,
+  called,
+  paren,
+  list,
+  is,
+  made,
+  begins,
+  n,
+  o,
+  p,
+) (other, place_at, text, fs, named, brackets, items, also, makes, starts, m, q, t) er et =
     let dot = token_one rows begins starts in
     let word = token_one dot.1 n.1 m.1 in
     let inner = token_one word.1 o.0.1 q.0.1 in
@@ -186,7 +199,7 @@ front_one FoldFront size behind e f x y r s short same (at, form, name, list, bo
     let lists = behind 8 list others items items' close close' before (omega arith) (token_one names.1 m.1 m'.1).1 post post' h h' (ended 8 c.1 refl) (ended 8 c'.1 refl) in
     let inner : length one < size = omega (arith, before, spells_shorter list items close h, takes_one _ close brace c.1, takes_one _ brace one b.1) in
     let bodies = behind 0 body inside one one' end end' inner (omega arith) (token_one (token_one lists.1 c.1 c'.1).1
-        b.1 b'.1).1 (omega arith) (omega arith) k k' (ended 0 z.1 refl) (ended 0 z'.1 refl) in
+    b.1 b'.1).1 (omega arith) (omega arith) k k' (ended 0 z.1 refl) (ended 0 z'.1 refl) in
     (is ∙ (λ i. syntax.Fold (at_one token.0 i) (forms i) (names.0 i) (lists.0 i) (bodies.0 i)) ∙ sym also, (token_one bodies.1 z.1 z'.1).1)
 front_one NegateFront size behind e f x y r s short same (at, a, is, (one, p, plain, post, h)) (by, b, also, (other, q, plain', post', k)) er es =
     let token = token_one same p q in
@@ -199,8 +212,13 @@ front_one NotFront size behind e f x y r s short same (at, a, is, (one, p, post,
 front_one CastFront size behind e f x y r s short same (at, class, a, is, (named, close, one, p, n, c, g, post, h)) (by, other, b, also, (named', close', one', p', n', c', g', post', k)) er es =
     let token = token_one same p p' in
     let names = name_one class other token.1 n.1 n'.1 in
-    let inner = behind 7 a b one one' r s (omega (arith, short, takes_one _ x named p, takes_one _ named close n.1,
-        takes_one _ close one c.1)) (omega arith) (token_one names.1 c.1 c'.1).1 post post' h k er es in
+    let inner = behind 7 a b one one' r s (omega (
+      arith,
+      short,
+      takes_one _ x named p,
+      takes_one _ named close n.1,
+      takes_one _ close one c.1,
+    )) (omega arith) (token_one names.1 c.1 c'.1).1 post post' h k er es in
     (is ∙ (λ i. syntax.Cast (at_one token.0 i) (names.0 i) (inner.0 i)) ∙ sym also, inner.1)
 
 -- ---- each level
@@ -310,9 +328,11 @@ choice_by size behind above e f x y r s short same
     let before : length chosen < size = omega (arith, short, spells_shorter c x link p, takes_one _ link chosen t) in
     let one = behind 0 a a' chosen chosen' colon colon' before (omega arith) token.1 (omega arith) (omega arith) u u' (ended 0 m.1 refl) (ended 0 m'.1 refl) in
     let later : length other < size = omega (arith, before, spells_shorter a chosen colon u, takes_one _ colon other m.1) in
-    let two = behind 0 b b' other other' r s later (omega arith) (token_one one.1 m.1 m'.1).1 (omega arith) (omega arith) v v' er es in
-    (is ∙ ap (λ z. syntax.Choose z c asks a b) at_c ∙ (λ i. syntax.Choose (place (test.0 i)) (test.0 i)
-        (at_one token.0 i) (one.0 i) (two.0 i)) ∙ sym (ap (λ z. syntax.Choose z c' asks' a' b') at_c') ∙ sym is', two.1)
+    let two = behind 0 b b' other other' r s later (omega arith) (token_one one.1 m.1 m'.1).1 (omega arith) (omega arith) v v' er es in (
+      is ∙ ap (λ z. syntax.Choose z c asks a b) at_c ∙ (λ i. syntax.Choose (place (test.0 i)) (test.0 i)
+          (at_one token.0 i) (one.0 i) (two.0 i)) ∙ sym (ap (λ z. syntax.Choose z c' asks' a' b') at_c') ∙ sym is',
+      two.1,
+    )
 choice_by size behind above e f x y r s short same (Chosen at c asks a b is (link, chosen, colon, other, at_c, low, p, t, u, m, v)) (Stronger strong) h k er es =
     absurd (choice_apart size above c f at asks x y link chosen s short same (omega (arith, low, at_least c)) strong p t k es)
 choice_by size behind above e f x y r s short same (Stronger strong) (Chosen at c asks a b is (link, chosen, colon, other, at_c, low, p, t, u, m, v)) h k er es =

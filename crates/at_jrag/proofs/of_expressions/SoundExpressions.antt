@@ -206,7 +206,7 @@ instance_means : (l : Bool) (r b d : ℕ) (old : Row) (e : ℕ) (rest : Row) (at
 instance_means l r b d old e rest at behind start two some front (mid, m, (w, n, e1), (more, k, (e2, s), tail)) x =
     only_says l (Links r b) k more e rest tail start
     (put e2 s (subst (λ (q : ℕ). IsRead l (2 + q) b (1 + d) start mid) (sym two) (instance_read l b d at w start old
-        behind mid some front n (subst (λ (q : ℕ). IsRead l (2 + q) b d start old) two x))))
+    behind mid some front n (subst (λ (q : ℕ). IsRead l (2 + q) b d start old) two x))))
 
 operation_means : (l : Bool) (r b d : ℕ) (old : Row) (e : ℕ) (rest : Row) (o : syntax.Operator) (at : Place) (behind start : Row) → operator_level o + suc r ≡ 7 → (l ≡ true → suc d ≤ b)
     → old ≡ sign (operator_text o) at ∷ behind

@@ -18,7 +18,7 @@ returns-in-Ok-file-clause-only c = λ ts aspects given file within.
     let has = has_tokens c.args.text.now l.0 _ _ l.1 l.2 placing in
     let read = map aspect_view c.in-Ok-file.aspects.items in
     file_same c.args.forms c.args.text.now (left c.new-reader.result.cursor.rest.now) ts (left
-        c.file.new.self.cursor.rest.now) read aspects has given c.in-Ok-file.ensures.found c.in-Ok-file.ensures.end file
+    c.file.new.self.cursor.rest.now) read aspects has given c.in-Ok-file.ensures.found c.in-Ok-file.ensures.end file
 
 -- ---- what is refused
 
@@ -40,7 +40,7 @@ returns-in-Err-For-clause-only c = λ ts aspects given file within.
     let has = has_tokens c.args.text.now l.0 _ _ l.1 l.2 placing in
     let s = rw c.in-Err-For.field-0-is at c.in-Err-For.ensures.stays in
     absurd (file_only c.args.forms c.args.text.now (reason c.in-Err-For.code) (left c.new-reader.result.cursor.rest.now)
-        ts (left c.file.new.self.cursor.rest.now) aspects has given (s 0 []) file within)
+    ts (left c.file.new.self.cursor.rest.now) aspects has given (s 0 []) file within)
 
 pub returns-in-Err-For-clause-fault : goal.returns-in-Err-For-clause-fault
 returns-in-Err-For-clause-fault c =
@@ -51,6 +51,6 @@ returns-in-Err-For-clause-fault c =
     let s = rw c.in-Err-For.field-0-is at c.in-Err-For.ensures.stays in
     let m = met c.args.forms c.args.text.now (reason c.in-Err-For.code) c.new-reader.result.cursor.rest.now c.file.new.self.cursor.rest.now has (s 0 []) in
     let at = place_met c.args.text.now c.in-Err-For.code c.new-reader.result.cursor.rest.now
-        _ _ _ _ _ _ (c.deref-in-Err-For.ensures.value ∙ sym same) c.count_left.ensures c.fault_place-at.ensures
-        m.front_is m.rest_is in
+    _ _ _ _ _ _ (c.deref-in-Err-For.ensures.value ∙ sym same) c.count_left.ensures c.fault_place-at.ensures
+    m.front_is m.rest_is in
     is_met c.args.forms c.args.text.now c.in-Err-For.code _ _ _ m at

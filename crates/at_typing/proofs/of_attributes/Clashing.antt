@@ -118,7 +118,7 @@ alike_like d e f same =
 differs_like : (d e f : DeclForm) → differs e f ≡ false → differs d e ≡ differs d f
 differs_like d e f same =
     by (is_inherited d) (is_inherited e) (is_inherited f) (is_alike e f) (is_alike d e) (is_alike d f)
-        (alike_like d e f) same
+    (alike_like d e f) same
   where
     by : (i j k s t u : Bool) → (s ≡ true → t ≡ u) → (if j then not (k && s) else k) ≡ false → (if i then not (j && t) else j) ≡ (if i then not (k && u) else k)
     by i true true true t u like e = ap (λ b. if i then not b else true) (like refl)

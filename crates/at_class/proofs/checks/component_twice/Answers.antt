@@ -24,8 +24,8 @@ loop-position-preserved c = λ classes are.
     let less : k < length c.args.found.now = omega (arith, c.requires) in
     none_more (twice_at classes) declaration_view c.args.declarations.now k d (omega arith) c.index-declarations-position.is
     (ap (λ ps. parts_twice classes k (map part_declaration_view ps)) (sym c.deref.ensures.value)
-        ∙ sym (c.twice_at.ensures classes k (are.each k _ less)) ∙ ap (option_map place_view) c.in_default.is)
-        (c.loop-position.invariant classes are)
+    ∙ sym (c.twice_at.ensures classes k (are.each k _ less)) ∙ ap (option_map place_view) c.in_default.is)
+    (c.loop-position.invariant classes are)
 
 pub returns : goal.returns
 unfolding twice_in

@@ -16,8 +16,8 @@ returns-then-is_over c = λ classes are.
     let less : k < length c.args.found.now = omega (arith, c.requires) in
     let test = over_test classes k _ c.is_over.result (are.each k _ less) c.is_over.ensures in
     sym (first_here (over_at classes) declaration_view c.args.declarations.now k d (place_view d.at) (omega arith)
-        c.index-declarations-position.is (c.loop-position.invariant classes are)
-        (some_if _ _ (test ∙ c.if-is_over.true)))
+    c.index-declarations-position.is (c.loop-position.invariant classes are)
+    (some_if _ _ (test ∙ c.if-is_over.true)))
 
 pub loop-position-preserved : goal.loop-position-preserved
 loop-position-preserved c = λ classes are.
@@ -26,8 +26,8 @@ loop-position-preserved c = λ classes are.
     let less : k < length c.args.found.now = omega (arith, c.requires) in
     let test = over_test classes k _ c.is_over.result (are.each k _ less) c.is_over.ensures in
     none_more (over_at classes) declaration_view c.args.declarations.now k d (omega arith)
-        c.index-declarations-position.is (none_if _ _ (test ∙ c.if-is_over.false))
-        (c.loop-position.invariant classes are)
+    c.index-declarations-position.is (none_if _ _ (test ∙ c.if-is_over.false))
+    (c.loop-position.invariant classes are)
 
 pub returns : goal.returns
 unfolding over_in

@@ -26,7 +26,7 @@ returns-then-is_above c =
     let d = c.index-declarations-position.result in
     let told = ap (is_above_itself classes) (sym c.new-class.ensures) ∙ sym c.in_ok-is_above.ensures.told ∙ c.if-is_above.true in
     sym (first_here (circle_at classes) declaration_view c.args.declarations.now c.loop-position.position d
-        (place_view d.at) (omega arith) c.index-declarations-position.is c.loop-position.invariant.0 (some_if _ _ told))
+    (place_view d.at) (omega arith) c.index-declarations-position.is c.loop-position.invariant.0 (some_if _ _ told))
 
 pub returns : goal.returns
 unfolding circle_in

@@ -11,15 +11,15 @@ unfolding unknown_by
 returns-then-not-is_known c =
     let f = unknown_at (named_in c.args.names.now.keys) in
     sym (first_here f declaration_view c.args.declarations.now c.loop-declaration.declaration-index
-        c.declaration-item.result (place_view c.declaration-item.result.at) (omega arith) c.declaration-item.is
-        c.loop-declaration.invariant (some_if _ _ (ap not (sym c.is_known.ensures ∙ c.if-not-is_known.true))))
+    c.declaration-item.result (place_view c.declaration-item.result.at) (omega arith) c.declaration-item.is
+    c.loop-declaration.invariant (some_if _ _ (ap not (sym c.is_known.ensures ∙ c.if-not-is_known.true))))
 
 pub loop-declaration-preserved : goal.loop-declaration-preserved
 loop-declaration-preserved c =
     let f = unknown_at (named_in c.args.names.now.keys) in
     none_more f declaration_view c.args.declarations.now c.loop-declaration.declaration-index c.declaration-item.result
-        (omega arith) c.declaration-item.is (none_if _ _ (ap not (sym c.is_known.ensures ∙ c.if-not-is_known.false)))
-        c.loop-declaration.invariant
+    (omega arith) c.declaration-item.is (none_if _ _ (ap not (sym c.is_known.ensures ∙ c.if-not-is_known.false)))
+    c.loop-declaration.invariant
 
 pub returns : goal.returns
 unfolding unknown_by

@@ -9,8 +9,8 @@ unfolding kind_in
 returns-then-has_wrong_kind c =
     let p = c.part-item.result in
     sym (first_here kind_at part_declaration_view c.args.parts.now c.loop-part.part-index p (place_view p.at)
-        (omega arith) c.part-item.is c.loop-part.invariant
-        (some_if _ _ (sym c.has_wrong_kind.ensures ∙ c.if-has_wrong_kind.true)))
+    (omega arith) c.part-item.is c.loop-part.invariant
+    (some_if _ _ (sym c.has_wrong_kind.ensures ∙ c.if-has_wrong_kind.true)))
 
 pub returns : goal.returns
 unfolding kind_in

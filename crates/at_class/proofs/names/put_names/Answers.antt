@@ -18,8 +18,8 @@ returns-then-not-is_new-clause-err c =
     let d = c.declaration-item.result in
     let there : list_any (λ e. bytes_eq (string_bytes d.name) e.name) (take k ds) ≡ not c.in_ok-is_new.is_new =
     names_same c.loop-declaration.names.keys xs k c.in_ok-name.name (string_bytes d.name) c.in_ok-is_new.is_new
-        c.loop-declaration.invariant.0 (c.in_ok-name.ensures.ok ∙ c.as_str.ensures.value)
-        c.in_ok-is_new.ensures.added in
+    c.loop-declaration.invariant.0 (c.in_ok-name.ensures.ok ∙ c.as_str.ensures.value)
+    c.in_ok-is_new.ensures.added in
     let given : twice_test ds k (declaration_view d) ≡ Some (place_view d.at) =
     elim c.then-not-is_new.branch [
       | then-not-is_new-via-then-not-is_new w ↦ twice_there ds k (declaration_view d) (there ∙ ap not w.if-not-is_new.true)
@@ -40,7 +40,7 @@ loop-declaration-preserved c =
     names_same c.loop-declaration.names.keys xs k c.in_ok-name.name (string_bytes d.name) c.in_ok-is_new.is_new c.loop-declaration.invariant.0 text c.in_ok-is_new.ensures.added in
     let none : twice_test ds k (declaration_view d) ≡ None =
     twice_nowhere ds k (declaration_view d) (ap is_predefined (sym c.as_str-else-not-is_new.ensures.value)
-        ∙ sym c.is_predefined.ensures ∙ c.if-is_predefined.false) (there ∙ ap not c.if-not-is_new.false) in (
+    ∙ sym c.is_predefined.ensures ∙ c.if-is_predefined.false) (there ∙ ap not c.if-not-is_new.false) in (
       names_more c.loop-declaration.names.keys c.insert_full.new.self.keys xs k d c.in_ok-name.name (omega arith)
           c.declaration-item.is text (sym c.if-not-is_new.false ∙ c.in_ok-is_new.ensures.added)
           c.in_ok-is_new.ensures.keys c.loop-declaration.invariant.0,

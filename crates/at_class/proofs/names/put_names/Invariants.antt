@@ -9,5 +9,5 @@ abbrev pub invariant-loop-declaration : goal.invariant-loop-declaration
 invariant-loop-declaration l =
     (map string_bytes l.names.keys ≡ map (λ d. string_bytes d.name) (take l.declaration-index l.declarations))
     × (first_given (twice_test (declarations_view l.declarations)) 0 (declarations_view l.declarations)
-        ≡ first_given (twice_test (declarations_view l.declarations)) l.declaration-index
-        (map declaration_view (drop l.declaration-index l.declarations)))
+    ≡ first_given (twice_test (declarations_view l.declarations)) l.declaration-index
+    (map declaration_view (drop l.declaration-index l.declarations)))

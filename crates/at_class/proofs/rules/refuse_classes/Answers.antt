@@ -21,7 +21,7 @@ returns-in_err-refuse-clause-refused c =
     let to-s = sym (circle-declared ds (classes_view c.args.classes.now) c.requires.declared) ∙ sym c.in_ok-superclass_circle.ensures in
     let p = err_from_is_err_and c.from_residual-in_err-refuse.result c.from_residual-in_err-refuse.ensures.1 in
     rw (p.1, p.2) (refused_for ds SuperclassCircle (option_map place_view c.in_ok-superclass_circle.field-0)
-        _ (λ at there. fault_circle ds at k.some k.once k.known (to-s ∙ there)) c.in_err-refuse.ensures.err)
+    _ (λ at there. fault_circle ds at k.some k.once k.known (to-s ∙ there)) c.in_err-refuse.ensures.err)
 
 pub returns-in_err-refuse-2-clause-refused : goal.returns-in_err-refuse-2-clause-refused
 returns-in_err-refuse-2-clause-refused c =
@@ -30,8 +30,8 @@ returns-in_err-refuse-2-clause-refused c =
     let s = sym (circle-declared ds (classes_view c.args.classes.now) c.requires.declared) ∙ sym c.in_ok-superclass_circle.ensures ∙ ap (option_map place_view) c.in_ok-refuse.ensures.ok in
     let p = err_from_is_err_and c.from_residual-in_err-refuse-2.result c.from_residual-in_err-refuse-2.ensures.1 in
     rw (p.1, p.2) (refused_for ds TokenKind (option_map place_view c.wrong_token_kind.result)
-        _ (λ at there. fault_token_kind ds at k.some k.once k.known s (sym c.wrong_token_kind.ensures ∙ there))
-        c.in_err-refuse-2.ensures.err)
+    _ (λ at there. fault_token_kind ds at k.some k.once k.known s (sym c.wrong_token_kind.ensures ∙ there))
+    c.in_err-refuse-2.ensures.err)
 
 pub found_of_all-requires : goal.found_of_all-requires
 found_of_all-requires c =
@@ -55,7 +55,7 @@ returns-in_err-refuse-3-clause-refused c =
     let to-c = sym (twice-declared ds (classes_of ds) refl) ∙ sym (c.component_twice.ensures (classes_of ds) are) in
     let p = err_from_is_err_and c.from_residual-in_err-refuse-3.result c.from_residual-in_err-refuse-3.ensures.1 in
     rw (p.1, p.2) (refused_for ds ComponentTwice (option_map place_view c.component_twice.result) _ (λ at there.
-        fault_component_twice ds at k.some k.once k.known s t (to-c ∙ there)) c.in_err-refuse-3.ensures.err)
+    fault_component_twice ds at k.some k.once k.known s t (to-c ∙ there)) c.in_err-refuse-3.ensures.err)
 
 pub returns-clause-refused : goal.returns-clause-refused
 returns-clause-refused c =
@@ -68,8 +68,8 @@ returns-clause-refused c =
     let still = found_of (classes_view c.args.classes.now) (classes_of ds) c.in_ok-found.found.items c.deref-2.result.now _ c.requires.declared c.deref-2.ensures.value c.in_ok-found.ensures in
     let to-l = sym (over-declared ds (classes_of ds) refl) ∙ sym (c.over_limit.ensures (classes_of ds) still) in
     IfErr-weaker c.refuse-4.result (IsAt Limit (option_map place_view c.over_limit.result)) (IsRefusedFor ds)
-        (λ e. refused_for ds Limit (option_map place_view c.over_limit.result) e
-        (λ at there. fault_limit ds at k.some k.once k.known s t w (to-l ∙ there))) c.refuse-4.ensures.err
+    (λ e. refused_for ds Limit (option_map place_view c.over_limit.result) e
+    (λ at there. fault_limit ds at k.some k.once k.known s t w (to-l ∙ there))) c.refuse-4.ensures.err
 
 pub returns-clause-regular : goal.returns-clause-regular
 returns-clause-regular c =

@@ -56,9 +56,9 @@ invariant_of-result c =
     let e = classes-declared c.in_ok-names.names.keys xs (classes_view ks) names.0 c.in_ok-classes.ensures in
     let sound = classes_sound ds (longer xs names.1.some) c.requires (view_texts xs) names.1.once in
     is_table c.in_ok-names.names.keys ks c.deref-2.result.now c.in_ok-entries.entries.items
-        c.in_ok-intervals.intervals.items c.new.result xs c.new.ensures names.0 e c.deref-2.ensures.value
-        c.in_ok-entries.ensures sound (hierarchy ds sound c.in_ok-refuse_classes.ensures.regular.circle)
-        c.in_ok-refuse_classes.ensures.regular.twice
+    c.in_ok-intervals.intervals.items c.new.result xs c.new.ensures names.0 e c.deref-2.ensures.value
+    c.in_ok-entries.ensures sound (hierarchy ds sound c.in_ok-refuse_classes.ensures.regular.circle)
+    c.in_ok-refuse_classes.ensures.regular.twice
     (subst (λ lent. AreIntervals (classes_view lent) c.in_ok-intervals.intervals.items) (c.deref-3.ensures.value ∙ sym c.deref-2.ensures.value) c.in_ok-intervals.ensures)
 
 pub returns-clause-faultless : goal.returns-clause-faultless
@@ -76,8 +76,8 @@ returns-clause-built c =
     let e = classes-declared c.in_ok-names.names.keys xs (classes_view ks) names.0 c.in_ok-classes.ensures in
     let sound = classes_sound ds (longer xs names.1.some) c.requires (view_texts xs) names.1.once in
     table_of_declared c.in_ok-names.names.keys ks c.deref-2.result.now c.in_ok-entries.entries.items xs names.0 e
-        c.deref-2.ensures.value c.in_ok-entries.ensures sound
-        (hierarchy ds sound c.in_ok-refuse_classes.ensures.regular.circle)
+    c.deref-2.ensures.value c.in_ok-entries.ensures sound
+    (hierarchy ds sound c.in_ok-refuse_classes.ensures.regular.circle)
 
 pub returns-clause-hierarchy : goal.returns-clause-hierarchy
 returns-clause-hierarchy c =

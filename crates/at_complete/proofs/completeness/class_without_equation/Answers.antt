@@ -20,11 +20,15 @@ pub returns-then-lacks : goal.returns-then-lacks
 returns-then-lacks c =
     let rules = c.args.rules.now in
     first_here (LacksOwn rules) c.loop-position.position c.new-attribute.result
-        c.new-attribute.ensures c.loop-position.invariant
-        (it_is (LacksOwn rules c.new-attribute.result) c.in_ok-lacks.lacks c.if-lacks.true c.in_ok-lacks.ensures)
+    c.new-attribute.ensures c.loop-position.invariant
+    (it_is (LacksOwn rules c.new-attribute.result) c.in_ok-lacks.lacks c.if-lacks.true c.in_ok-lacks.ensures)
 
 pub returns : goal.returns
 returns c =
     let rules = c.args.rules.now in
-    first_none (LacksOwn rules) c.loop-position.position (length rules.attributes) (omega (arith, c.len-count.ensures,
-        c.loop-position-test.false, c.loop-position.auto)) c.loop-position.invariant (own_inside rules)
+    first_none (LacksOwn rules) c.loop-position.position (length rules.attributes) (omega (
+      arith,
+      c.len-count.ensures,
+      c.loop-position-test.false,
+      c.loop-position.auto,
+    )) c.loop-position.invariant (own_inside rules)

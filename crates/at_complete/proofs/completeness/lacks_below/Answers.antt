@@ -19,32 +19,32 @@ goes_on false rules attribute c old new e m = m
 pub returns-in-Some : goal.returns-in-Some
 returns-in-Some c =
     lacks_none_above c.args.rules.now (subst AreSound c.classes.ensures c.len-count.ensures.sound) c.args.class
-        c.args.attribute _ (sym c.own_body.ensures ∙ ap (option_map (λ b. body_view b.now)) c.in-Some.is)
+    c.args.attribute _ (sym c.own_body.ensures ∙ ap (option_map (λ b. body_view b.now)) c.in-Some.is)
 
 pub loop-step-init : goal.loop-step-init
 loop-step-init c =
     lacking_begins c.args.rules.now c.args.class c.args.attribute c.len-count.result
-        _ _ (sym c.own_body.ensures ∙ ap (option_map (λ b. body_view b.now)) c.in_default.is)
-        (c.len-count.ensures.len ∙ ap length c.classes.ensures) c.in_ok-walk.ensures
+    _ _ (sym c.own_body.ensures ∙ ap (option_map (λ b. body_view b.now)) c.in_default.is)
+    (c.len-count.ensures.len ∙ ap length c.classes.ensures) c.in_ok-walk.ensures
 
 pub loop-step-preserved : goal.loop-step-preserved
 loop-step-preserved c =
     lacking_on c.args.rules.now (subst AreSound c.classes.ensures c.len-count.ensures.sound) c.args.class
-        c.args.attribute c.loop-step.step c.in-Some-next_pending.next c.next_pending.result _ _ _ _ _ _
+    c.args.attribute c.loop-step.step c.in-Some-next_pending.next c.next_pending.result _ _ _ _ _ _
     c.loop-step.invariant c.next_pending.ensures.met c.next_pending.ensures.pending c.in-Some-next_pending.is
-        (goes_on c.in_ok-lacks.lacks c.args.rules.now c.args.attribute c.in-Some-next_pending.next
-        c.next_pending.new.self c.looks_at.new.walk c.if-lacks.false c.in_ok-lacks.ensures)
+    (goes_on c.in_ok-lacks.lacks c.args.rules.now c.args.attribute c.in-Some-next_pending.next
+    c.next_pending.new.self c.looks_at.new.walk c.if-lacks.false c.in_ok-lacks.ensures)
 
 pub returns-in_default-next_pending : goal.returns-in_default-next_pending
 returns-in_default-next_pending c =
     lacking_stops c.args.rules.now (subst AreSound c.classes.ensures c.len-count.ensures.sound) c.args.class
-        c.args.attribute c.loop-step.step c.next_pending.result _ _ c.loop-step.invariant c.in_default-next_pending.is
-        c.next_pending.ensures.none
+    c.args.attribute c.loop-step.step c.next_pending.result _ _ c.loop-step.invariant c.in_default-next_pending.is
+    c.next_pending.ensures.none
 
 pub returns-then-lacks : goal.returns-then-lacks
 returns-then-lacks c =
     lacking_found c.args.rules.now c.args.class c.args.attribute c.loop-step.step c.in-Some-next_pending.next
-        c.next_pending.result _ _ _ c.loop-step.invariant c.next_pending.ensures.pending c.in-Some-next_pending.is
+    c.next_pending.result _ _ _ c.loop-step.invariant c.next_pending.ensures.pending c.in-Some-next_pending.is
     (found c.in_ok-lacks.lacks c.args.rules.now c.args.attribute c.in-Some-next_pending.next c.next_pending.new.self c.looks_at.new.walk c.if-lacks.true c.in_ok-lacks.ensures)
 
 pub returns : goal.returns

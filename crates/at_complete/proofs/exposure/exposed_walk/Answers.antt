@@ -15,19 +15,19 @@ loop-step-init c =
 pub loop-step-preserved : goal.loop-step-preserved
 loop-step-preserved c =
     exposing_on c.args.rules.now (subst AreSound c.classes-classes.ensures c.len-count.ensures.sound) (attribute_name
-        c.args.rules.now c.args.attribute) c.loop-step.step c.in-Some.class c.next_pending.result _ _ _ _ _ _
+    c.args.rules.now c.args.attribute) c.loop-step.step c.in-Some.class c.next_pending.result _ _ _ _ _ _
     c.loop-step.invariant c.next_pending.ensures.met c.next_pending.ensures.pending c.in-Some.is c.in_ok-meet_from.ensures
 
 pub returns-in_default : goal.returns-in_default
 returns-in_default c =
     exposing_stops c.args.rules.now (attribute_name c.args.rules.now c.args.attribute) c.loop-step.step
-        c.next_pending.result _ _ _ c.loop-step.invariant c.next_pending.ensures.met c.in_default.is
-        c.next_pending.ensures.none
+    c.next_pending.result _ _ _ c.loop-step.invariant c.next_pending.ensures.met c.in_default.is
+    c.next_pending.ensures.none
 
 pub returns : goal.returns
 returns c =
     let same = c.len-count.ensures.len ∙ ap length c.classes-classes.ensures in
     ends_full (length c.args.rules.now.classes) (λ c. nat_eq c 0)
-        (leads c.args.rules.now (attribute_name c.args.rules.now c.args.attribute)) (λ c. true)
-        (AllExposed c.args.rules.now (attribute_name c.args.rules.now c.args.attribute))
+    (leads c.args.rules.now (attribute_name c.args.rules.now c.args.attribute)) (λ c. true)
+    (AllExposed c.args.rules.now (attribute_name c.args.rules.now c.args.attribute))
     c.loop-step.step _ _ (omega (arith, same)) c.loop-step.invariant

@@ -22,12 +22,12 @@ pub returns-then-lacks : goal.returns-then-lacks
 returns-then-lacks c =
     let rules = c.args.rules.now in
     first_here (LacksInherited rules) c.loop-position.position c.new-attribute.result c.new-attribute.ensures
-        c.loop-position.invariant.0 (it_is (LacksInherited rules c.new-attribute.result) c.in_ok-lacks.lacks
-        c.if-lacks.true c.in_ok-lacks.ensures.1)
+    c.loop-position.invariant.0 (it_is (LacksInherited rules c.new-attribute.result) c.in_ok-lacks.lacks
+    c.if-lacks.true c.in_ok-lacks.ensures.1)
 
 pub returns : goal.returns
 returns c =
     let rules = c.args.rules.now in
     first_none (LacksInherited rules) c.loop-position.position (length rules.attributes)
-        (omega (arith, c.len-count.ensures, c.loop-position-test.false, c.loop-position.auto))
-        c.loop-position.invariant.0 (inherited_inside rules)
+    (omega (arith, c.len-count.ensures, c.loop-position-test.false, c.loop-position.auto))
+    c.loop-position.invariant.0 (inherited_inside rules)

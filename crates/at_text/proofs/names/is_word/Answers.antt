@@ -13,5 +13,5 @@ returns-then-starts_name c =
     let split : text ≡ encode_utf8 c.in-Some.c ++ rest = sym c.chars-chars.ensures.rest ∙ c.in-Some.ensures.steps.0 in
     let starts : starts_name c.in-Some.c ≡ true = sym c.starts_name.ensures ∙ c.if-starts_name.true in
     let all = all_from_yields_List continues_name _ _ c.all.result c.all.ensures.ran (YieldsList-from_chars rest
-        (IsUtf8-past_char text rest _ c.utf8.text split) (cc)) (λ x b q k. search (rules, tests)) in
+    (IsUtf8-past_char text rest _ c.utf8.text split) (cc)) (λ x b q k. search (rules, tests)) in
     rw (chars_past_char text rest _ c.utf8.text split, starts) all

@@ -21,10 +21,12 @@ pub loop-rest-preserved-in_ok-push : goal.loop-rest-preserved-in_ok-push
 loop-rest-preserved-in_ok-push c =
     let f = c.in-Ok.ensures in
     let i = c.loop-rest.invariant in
-    let x : Lexeme = record { kind = c.in-Some.kind; text = c.before-in-Some.result; start = length c.args.text.now - length c.loop-rest.rest.now } in
-    (f.4, lexed_more c.args.text.now c.loop-rest.rest.now c.in-Ok.found.1.now c.loop-rest.lexemes.items
-        c.push.new.self.items x i.1 (f.0, f.1, f.2, f.3 ∙ c.in-Some.is, f.4) i.0 c.before-in-Some.ensures
-        c.before-in-Some.utf8 refl c.in_ok-push.ensures.items)
+    let x : Lexeme = record { kind = c.in-Some.kind; text = c.before-in-Some.result; start = length c.args.text.now - length c.loop-rest.rest.now } in (
+      f.4,
+      lexed_more c.args.text.now c.loop-rest.rest.now c.in-Ok.found.1.now c.loop-rest.lexemes.items
+          c.push.new.self.items x i.1 (f.0, f.1, f.2, f.3 ∙ c.in-Some.is, f.4) i.0 c.before-in-Some.ensures
+          c.before-in-Some.utf8 refl c.in_ok-push.ensures.items,
+    )
 
 pub loop-rest-preserved : goal.loop-rest-preserved
 loop-rest-preserved c =

@@ -14,9 +14,9 @@ loop-next-init c = climb_begins (classes_view c.args.classes.now) c.args.from c.
 pub loop-next-preserved : goal.loop-next-preserved
 loop-next-preserved c =
     climb_on (classes_view c.args.classes.now) c.args.from c.loop-next.self.marks.items c.mark.new.self.marks.items
-        c.loop-next.self.way.items c.mark.new.self.way.items c.in-Some.class c.loop-next.next c.parent_of-next.result
+    c.loop-next.self.way.items c.mark.new.self.way.items c.in-Some.class c.loop-next.next c.parent_of-next.result
     c.loop-next.invariant c.in-Some.is (ap is_met (sym c.mark_of.ensures) ∙ sym c.is_met.ensures ∙ c.if-is_met.false)
-        c.mark.ensures.marks (c.mark.ensures.way ∙ c.in_ok-push.ensures.items) c.parent_of-next.ensures
+    c.mark.ensures.marks (c.mark.ensures.way ∙ c.in_ok-push.ensures.items) c.parent_of-next.ensures
 
 pub loop-next-smaller : goal.loop-next-smaller
 loop-next-smaller c =

@@ -15,7 +15,7 @@ pub loop-next-preserved : goal.loop-next-preserved
 loop-next-preserved c = λ from k.
     subst (λ w. GoingRound (classes_view c.args.classes.now) from c.mark.new.self.marks.items w c.args.end c.parent_of-next.result) (sym c.mark.ensures.way)
     (round_on (classes_view c.args.classes.now) from c.loop-next.self.marks.items c.mark.new.self.marks.items
-        c.loop-next.self.way.items c.args.end c.loop-next.next c.in-Some.class c.parent_of-next.result
+    c.loop-next.self.way.items c.args.end c.loop-next.next c.in-Some.class c.parent_of-next.result
     (c.loop-next.invariant from k) c.in-Some.is (ap is_settled (sym c.mark_of.ensures) ∙ sym c.is_settled.ensures ∙ c.if-is_settled.false) c.mark.ensures.marks c.parent_of-next.ensures)
 
 pub loop-next-smaller : goal.loop-next-smaller

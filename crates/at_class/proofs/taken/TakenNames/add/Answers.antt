@@ -26,8 +26,8 @@ returns c =
       λ before k. one_taken p old (record { names = c.insert.new.set; accessors = c.insert-3.new.set }) before k
           (λ n. c.in_ok-insert.ensures.1 n ∙ ap (λ t. has_key old.names.keys n || bytes_eq n t) text)
           (λ n. takes_two p (has_key old.accessors.keys n) (has_key c.insert-2.new.set.keys n)
-              (has_key c.insert-3.new.set.keys n) n (string_bytes c.in_ok-count_name.field-0)
-              (string_bytes c.in_ok-list_name.field-0)
+          (has_key c.insert-3.new.set.keys n) n (string_bytes c.in_ok-count_name.field-0)
+          (string_bytes c.in_ok-list_name.field-0)
           (sym c.is_list.ensures ∙ c.if-not-is_list.false)
           (c.in_ok-count_name.ensures ∙ ap (λ t. codes "Num" ++ t) c.as_str-name.ensures.value)
           (c.in_ok-list_name.ensures ∙ ap (λ t. t ++ codes "List") c.as_str-name.ensures.value)

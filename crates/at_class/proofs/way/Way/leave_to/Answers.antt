@@ -11,8 +11,8 @@ loop-class-init c = λ led w. w
 pub loop-class-preserved : goal.loop-class-preserved
 loop-class-preserved c = λ led w.
     popped (classes_view c.args.classes.now) c.loop-class.self.levels.items c.pop.new.self.items c.in-Some.level
-        c.loop-class.self.taken c.cut.new.self led c.in-Some.ensures.items c.cut.ensures.names c.cut.ensures.accessors
-        (c.loop-class.invariant led w)
+    c.loop-class.self.taken c.cut.new.self led c.in-Some.ensures.items c.cut.ensures.names c.cut.ensures.accessors
+    (c.loop-class.invariant led w)
 
 pub loop-class-smaller : goal.loop-class-smaller
 loop-class-smaller c = one_less c.loop-class.self.levels.items c.pop.new.self.items c.in-Some.level c.in-Some.ensures.items

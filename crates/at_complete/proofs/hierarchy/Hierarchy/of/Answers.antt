@@ -27,5 +27,9 @@ list_below-requires c = parent_there c.args.classes.now c.len-count.ensures.soun
 pub returns : goal.returns
 returns c =
     listed_all c.args.classes.now c.loop-position.position
-        (λ x d. list_any (nat_eq d) (listed_at c.loop-position.below.items x)) (omega (arith, c.len-count.ensures.len,
-        c.loop-position-test.false, c.loop-position.auto)) c.loop-position.invariant.listed
+    (λ x d. list_any (nat_eq d) (listed_at c.loop-position.below.items x)) (omega (
+      arith,
+      c.len-count.ensures.len,
+      c.loop-position-test.false,
+      c.loop-position.auto,
+    )) c.loop-position.invariant.listed

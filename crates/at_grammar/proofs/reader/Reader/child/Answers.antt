@@ -19,7 +19,11 @@ pub returns : goal.returns
 returns c =
     let t = c.in_ok-part.ensures in
     elim c.if-takes.branch [
-      | then-takes w ↦ (grammar.Children t.0, ap seen_part w.part-is ∙ ap (λ (x : Component).
-          record x { shape = shape.Many }) t.1, children_reads t.0 _ _ _ t.2 (rw w.if-takes.true at c.takes.ensures))
+      | then-takes w ↦ (
+        grammar.Children t.0,
+        ap seen_part w.part-is ∙ ap (λ (x : Component).
+            record x { shape = shape.Many }) t.1,
+        children_reads t.0 _ _ _ t.2 (rw w.if-takes.true at c.takes.ensures),
+      )
       | else-takes w ↦ (let e = rw w.if-takes.false at c.takes.ensures in (grammar.Child t.0, ap seen_part w.part-is ∙ t.1, child_reads t.0 _ _ _ t.2 (ap left e.0) e.1))
     ]

@@ -20,10 +20,11 @@ returns-in_err-class-clause-read c = let m = c.loop-self.invariant in let p = er
 pub loop-self-preserved : goal.loop-self-preserved
 loop-self-preserved c =
     let m = c.loop-self.invariant in
-    let p = c.in_ok-class.ensures in
-    (many_more table declaration want.File p.0 _ _ _ m.0
-        (file_begins _ (nonempty_left c.loop-self.self.cursor.rest.now c.loop-self-test.ensures)) p.2,
-        ap (map seen_class) c.in_ok-push.ensures.items ∙ pushed seen_class class_means _ _ _ _ m.1 p.1)
+    let p = c.in_ok-class.ensures in (
+      many_more table declaration want.File p.0 _ _ _ m.0
+          (file_begins _ (nonempty_left c.loop-self.self.cursor.rest.now c.loop-self-test.ensures)) p.2,
+      ap (map seen_class) c.in_ok-push.ensures.items ∙ pushed seen_class class_means _ _ _ _ m.1 p.1,
+    )
 
 pub returns-clause-read : goal.returns-clause-read
 returns-clause-read c = let m = c.loop-self.invariant in (m.0.items, m.1, file_ends _ _ m.0 (none_left c.loop-self.self.cursor.rest.now c.loop-self-test.ensures))

@@ -23,7 +23,7 @@ pub returns-then-is_before : goal.returns-then-is_before
 returns-then-is_before c = let e = rw c.if-takes.false at c.takes.ensures in
     let m = c.loop-parts.invariant in
     subst (λ (x : List Symbol). Stops parts LeftOut (left c.args.self.now.cursor.rest.now) x) (sym (ap left e.0))
-        (parts_leave _ _ m.0 (sym (ap (λ l. first (left l)) e.0) ∙ c.if-is_before.ensures.same refl))
+    (parts_leave _ _ m.0 (sym (ap (λ l. first (left l)) e.0) ∙ c.if-is_before.ensures.same refl))
 
 pub returns-in_err-part : goal.returns-in_err-part
 returns-in_err-part c =

@@ -19,6 +19,9 @@ returns-in_err-written c = let n = c.in_ok-name.ensures in let p =
     (fails_on table token_kind token _ _ _ _ (λ q. token_stops_kind n.0 q _ _ _ n.2) c.in_err-written.ensures)
 
 pub returns : goal.returns
-returns c = let n = c.in_ok-name.ensures in let k = c.in_ok-written.ensures in
-    (record { name = n.0; kind = k.0 }, component_is _ _ _ _ _ _ _ n.1.0
-    (c.in_ok-kind.ensures ∙ ap (kind_or (codes "String")) k.1) n.1.1, token_reads n.0 k.0 _ _ _ n.2 k.2)
+returns c = let n = c.in_ok-name.ensures in let k = c.in_ok-written.ensures in (
+  record { name = n.0; kind = k.0 },
+  component_is _ _ _ _ _ _ _ n.1.0
+      (c.in_ok-kind.ensures ∙ ap (kind_or (codes "String")) k.1) n.1.1,
+  token_reads n.0 k.0 _ _ _ n.2 k.2,
+)

@@ -109,15 +109,15 @@ linked-returns-in_ok-operation-in-Operator-clause-found t c = λ old rest r l.
     let s = rw c.in-Operator.is at l in
     operation_reads _ c.args.operand c.in_ok-right-in-Operator.right (operator_view c.in-Operator.operator.operator) c.in-Operator.operator.at c.args.level old rest _ _
     r s.1.0 (s.2 ∙ ap (λ t. t ∷ left c.args.self.now.cursor.rest.now) s.1.1)
-        (rw c.right_level.ensures at c.in_ok-right-in-Operator.ensures.found)
-        (c.in_ok-operation-in-Operator).ensures.made (c.in_ok-operation-in-Operator).ensures.depth
+    (rw c.right_level.ensures at c.in_ok-right-in-Operator.ensures.found)
+    (c.in_ok-operation-in-Operator).ensures.made (c.in_ok-operation-in-Operator).ensures.depth
 
 pub linked-returns-in_ok-instance_of-in-InstanceOf-clause-found : goal.linked-returns-in_ok-instance_of-in-InstanceOf-clause-found
 linked-returns-in_ok-instance_of-in-InstanceOf-clause-found t c = λ old rest r l.
     let s = rw c.in-InstanceOf.is at l in
     instance_reads _ c.args.operand c.in-InstanceOf.behind (word_view c.in_ok-class-in-InstanceOf.class) c.args.level old rest _ _
     r s.1.0 (s.2 ∙ ap (λ t. t ∷ left c.args.self.now.cursor.rest.now) s.1.1) c.in_ok-class-in-InstanceOf.ensures.found
-        (c.in_ok-instance_of-in-InstanceOf).ensures.made (c.in_ok-instance_of-in-InstanceOf).ensures.depth
+    (c.in_ok-instance_of-in-InstanceOf).ensures.made (c.in_ok-instance_of-in-InstanceOf).ensures.depth
 
 pub primary-returns-in-Some-2-clause-found : goal.primary-returns-in-Some-2-clause-found
 primary-returns-in-Some-2-clause-found t c =
@@ -183,7 +183,7 @@ expression-returns-in_err-expects-clause-halts t c =
     let k = c.in_ok-condition.ensures in
     let m = c.in_ok-then.ensures in
     let h = colon_halts c.args.budget c.in_ok-condition.condition.depth c.in_ok-then.then.depth
-        c.in_err-expects.field-0.0 _ (left c.args.self.now.cursor.rest.now) (left c.binary.new.self.cursor.rest.now)
+    c.in_err-expects.field-0.0 _ (left c.args.self.now.cursor.rest.now) (left c.binary.new.self.cursor.rest.now)
     (left c.takes_within.new.self.cursor.rest.now)
     (left c.expression.new.self.cursor.rest.now) (left c.expects.new.self.cursor.rest.now) b.1 m.depth k.goes b.0 m.goes c.in_err-expects.ensures.missing in
     at_error _ c.in_err-expects.field-0.0 _ c.from_residual-in_err-expects.ensures.1 h
@@ -196,8 +196,8 @@ expression-returns-in_err-other-clause-halts t c =
     let h = other_halts c.args.budget c.in_ok-condition.condition.depth c.in_ok-then.then.depth (reason_of c.in_err-other.field-0.0) _ _ (left c.args.self.now.cursor.rest.now)
     (left c.binary.new.self.cursor.rest.now) (left c.takes_within.new.self.cursor.rest.now)
     (left c.expression.new.self.cursor.rest.now) (left c.expects.new.self.cursor.rest.now)
-        (left c.expression-2.new.self.cursor.rest.now) b.1 m.depth k.goes b.0 m.goes c.in_ok-expects.ensures.found
-        c.in_err-other.ensures.halts in
+    (left c.expression-2.new.self.cursor.rest.now) b.1 m.depth k.goes b.0 m.goes c.in_ok-expects.ensures.found
+    c.in_err-other.ensures.halts in
     at_error _ c.in_err-other.field-0.0 _ c.from_residual-in_err-other.ensures.1 h
 
 pub expression-returns-clause-goes : goal.expression-returns-clause-goes
@@ -298,8 +298,8 @@ linked-returns-in_err-class-in-InstanceOf-clause-halts t c =
     let h = λ (start : Row) (l : LinksTo c.args.level c.args.link start (left c.args.self.now.cursor.rest.now)).
     let s = rw c.in-InstanceOf.is at l in
     instance_stays c.in-InstanceOf.behind c.args.level c.args.budget c.args.operand.depth
-        c.in_err-class-in-InstanceOf.field-0.0 start (left c.args.self.now.cursor.rest.now)
-        (left c.name.new.self.cursor.rest.now)
+    c.in_err-class-in-InstanceOf.field-0.0 start (left c.args.self.now.cursor.rest.now)
+    (left c.name.new.self.cursor.rest.now)
     s.1.0 c.requires.operand (s.2 ∙ ap (λ t. t ∷ left c.args.self.now.cursor.rest.now) s.1.1) c.in_err-class-in-InstanceOf.ensures.missing in
     at_error _ c.in_err-class-in-InstanceOf.field-0.0 _ c.from_residual-in_err-class-in-InstanceOf.ensures.1 h
 
@@ -307,7 +307,7 @@ pub linked-returns-in_ok-instance_of-in-InstanceOf-clause-goes : goal.linked-ret
 linked-returns-in_ok-instance_of-in-InstanceOf-clause-goes t c = λ start l.
     let s = rw c.in-InstanceOf.is at l in
     instance_goes c.in-InstanceOf.behind (word_view c.in_ok-class-in-InstanceOf.class) c.args.level c.args.operand.depth
-        _ start (left c.args.self.now.cursor.rest.now) (left c.name.new.self.cursor.rest.now)
+    _ start (left c.args.self.now.cursor.rest.now) (left c.name.new.self.cursor.rest.now)
     s.1.0 (c.in_ok-instance_of-in-InstanceOf).ensures.depth (s.2 ∙ ap (λ t. t ∷ left c.args.self.now.cursor.rest.now) s.1.1) c.in_ok-class-in-InstanceOf.ensures.found
 
 pub unary-returns-then-budget-eq0-clause-halts : goal.unary-returns-then-budget-eq0-clause-halts
@@ -327,7 +327,7 @@ unary-returns-in-Some-clause-goes t c =
     (λ m. Moves (λ b. Calls b ∷ []) (λ b. []) c.in-Some.number.depth m.depth (left c.negative.new.self.cursor.rest.now) (left c.calls.new.self.cursor.rest.now))
     (λ m. Goes Unary (λ b. []) m.depth (left c.args.self.now.cursor.rest.now) (left c.calls.new.self.cursor.rest.now))
     (λ m h g. negative_moves c.in-Some.number.depth m.depth (left c.args.self.now.cursor.rest.now) (left
-        c.negative.new.self.cursor.rest.now) (left c.calls.new.self.cursor.rest.now) one (omega (arith, one, h)) n g)
+    c.negative.new.self.cursor.rest.now) (left c.calls.new.self.cursor.rest.now) one (omega (arith, one, h)) n g)
     c.calls.ensures.deeper c.calls.ensures.goes
 
 pub unary-returns-in-Some-clause-halts : goal.unary-returns-in-Some-clause-halts
@@ -498,7 +498,7 @@ arguments-returns-in_err-expects-clause-halts t c =
     let p = err_from_is_err_and c.from_residual-in_err-expects.result c.from_residual-in_err-expects.ensures.1 in
     rw (p.1, p.2) (arguments_halt g c.args.budget _ o.0 (left c.args.self.now.cursor.rest.now) (left c.skips.new.self.cursor.rest.now) (left c.expects.new.self.cursor.rest.now) (o.1 ∙ same)
     (among_no_comma g c.args.budget c.loop-items.depth c.in_ok-next.next.depth _ (left c.skips.new.self.cursor.rest.now)
-        (left c.loop-items.self.cursor.rest.now) (left c.expression.new.self.cursor.rest.now)
+    (left c.loop-items.self.cursor.rest.now) (left c.expression.new.self.cursor.rest.now)
     (left c.skips-in-loop-items.new.self.cursor.rest.now)
     (left c.expects.new.self.cursor.rest.now) i.3 c.in_ok-next.ensures.goes i.0 c.in_ok-next.ensures.depth s.1 (ap (λ r. left r.rest.now) s.0) c.in_err-expects.ensures.missing))
 
@@ -535,7 +535,7 @@ primary-returns-in_err-expects-clause-halts t c =
     let b = rw c.in-Some-2.is at c.in_ok-at.ensures.found in
     let p = err_from_is_err_and c.from_residual-in_err-expects.result c.from_residual-in_err-expects.ensures.1 in
     rw (p.1, p.2) (paren_open c.args.budget c.in_ok-inner.inner.depth _ _ (left c.args.self.now.cursor.rest.now)
-        (left c.takes_within.new.self.cursor.rest.now) (left c.expression.new.self.cursor.rest.now)
+    (left c.takes_within.new.self.cursor.rest.now) (left c.expression.new.self.cursor.rest.now)
     (left c.expects.new.self.cursor.rest.now)
     b.1 (sym (ap (λ r. left r.rest.now) l.0) ∙ b.0) c.in_ok-inner.ensures.goes c.in_ok-inner.ensures.depth c.in_err-expects.ensures.missing)
 
@@ -546,8 +546,8 @@ primary-returns-in-Some-2-clause-goes t c =
     let some = subst (λ (x : ℕ). 1 ≤ x) (sym c.in_ok-inner.ensures.found.2) (deep (expr_view c.in_ok-inner.inner.expr)) in
     subst (λ (x : ℕ). Goes want.Primary (λ b. []) x (left c.args.self.now.cursor.rest.now) (left c.expects.new.self.cursor.rest.now)) (sym c.in_ok-parenthesized.ensures.depth)
     (paren_goes _ _ c.in_ok-inner.inner.depth (left c.args.self.now.cursor.rest.now)
-        (left c.takes_within.new.self.cursor.rest.now) (left c.expression.new.self.cursor.rest.now)
-        (left c.expects.new.self.cursor.rest.now)
+    (left c.takes_within.new.self.cursor.rest.now) (left c.expression.new.self.cursor.rest.now)
+    (left c.expects.new.self.cursor.rest.now)
     some (sym (ap (λ r. left r.rest.now) l.0) ∙ b.0) c.in_ok-inner.ensures.goes c.in_ok-expects.ensures.found)
 
 pub primary-returns-in_err-at-2-clause-halts : goal.primary-returns-in_err-at-2-clause-halts
@@ -566,7 +566,7 @@ primary-returns-in-Some-3-clause-halts t c =
     let b = rw c.in_default-2.is at c.in_ok-at.ensures.found in
     let f = rw c.in-Some-3.is at c.in_ok-at-2.ensures.found in
     fold_here _ c.args.budget _ (left c.args.self.now.cursor.rest.now) (left c.fold_word.new.self.cursor.rest.now)
-        (left c.fold.new.self.cursor.rest.now) (sym (ap (λ r. left r.rest.now) (b.0 ∙ l.0)) ∙ f.1)
+    (left c.fold.new.self.cursor.rest.now) (sym (ap (λ r. left r.rest.now) (b.0 ∙ l.0)) ∙ f.1)
     c.fold.ensures.halts
 
 pub primary-returns-clause-halts : goal.primary-returns-clause-halts
@@ -599,8 +599,8 @@ named-returns-in_err-arguments-clause-halts t c =
     let h = rw c.as_str.ensures.value at c.in_err-arguments.ensures.halts in
     let p = err_from_is_err_and c.from_residual-in_err-arguments.result c.from_residual-in_err-arguments.ensures.1 in
     rw (p.1, p.2) (λ o. named_halts (word_view c.in_ok-name.name) c.args.budget
-        _ (left c.args.self.now.cursor.rest.now) (left c.name.new.self.cursor.rest.now)
-        (left c.arguments.new.self.cursor.rest.now)
+    _ (left c.args.self.now.cursor.rest.now) (left c.name.new.self.cursor.rest.now)
+    (left c.arguments.new.self.cursor.rest.now)
     c.requires.some c.in_ok-name.ensures.found (sym c.if-not-is_before_sign.ensures) h)
 
 pub named-returns-clause-goes : goal.named-returns-clause-goes

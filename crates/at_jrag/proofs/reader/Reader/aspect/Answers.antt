@@ -15,14 +15,14 @@ returns-in_err-name-clause-stays c =
     let p = err_from_is_err_and c.from_residual.result c.from_residual.ensures.1 in
     rw (p.1, p.2)
     (aspect_no_name c.args.forms w.0 c.in_err-name.field-0.0 (left c.args.self.now.cursor.rest.now)
-        (left c.takes_word.new.self.rest.now) (left c.name.new.self.cursor.rest.now) w.1 c.in_err-name.ensures.missing)
+    (left c.takes_word.new.self.rest.now) (left c.name.new.self.cursor.rest.now) w.1 c.in_err-name.ensures.missing)
 
 pub returns-then-is_none-clause-stays : goal.returns-then-is_none-clause-stays
 returns-then-is_none-clause-stays c =
     let w = word_missing c.args.self.now.cursor c.takes_word.new.self (λ r. left r.rest.now) (codes "aspect") c.takes_word.result c.if-is_none.ensures c.takes_word.ensures in
     rw c.no_keyword.ensures
-        (aspect_stays c.args.forms (left c.args.self.now.cursor.rest.now) (left c.takes_word.new.self.rest.now) w.0
-        (omega (arith, c.requires, length-map c.args.self.now.cursor.rest.now placed)) w.1)
+    (aspect_stays c.args.forms (left c.args.self.now.cursor.rest.now) (left c.takes_word.new.self.rest.now) w.0
+    (omega (arith, c.requires, length-map c.args.self.now.cursor.rest.now placed)) w.1)
 
 pub returns-in_err-expects-clause-stays : goal.returns-in_err-expects-clause-stays
 returns-in_err-expects-clause-stays c =
@@ -39,5 +39,5 @@ returns-in_err-decls-clause-stays c =
     rw (p.1, p.2)
     (aspect_decls c.args.forms w.0 (word_view c.in_ok-name.name) (reason_of c.in_err-decls.field-0.0) (left c.args.self.now.cursor.rest.now) (left c.takes_word.new.self.rest.now)
     (left c.name.new.self.cursor.rest.now) (left c.expects.new.self.cursor.rest.now)
-        (left c.decls.new.self.cursor.rest.now) w.1 c.in_ok-name.ensures.found (_, c.in_ok-expects.ensures.found)
-        c.in_err-decls.ensures.stays)
+    (left c.decls.new.self.cursor.rest.now) w.1 c.in_ok-name.ensures.found (_, c.in_ok-expects.ensures.found)
+    c.in_err-decls.ensures.stays)

@@ -57,4 +57,4 @@ returns-then-not-skips-clause-stays c =
     (no_close c.in_ok-at.at _ (left c.args.self.now.cursor.rest.now) (left c.expects-2.new.self.cursor.rest.now) (left c.takes_word.new.self.rest.now) (left c.expression-2.new.self.cursor.rest.now)
     (left c.expects-3.new.self.cursor.rest.now) (left c.skips.new.self.cursor.rest.now) (sym (ap
     (λ r. left r.rest.now) c.in_default.ensures.0) ∙ c.in_ok-at.ensures.found) k c.in_ok-expr-2.ensures.goes
-        c.in_ok-expr-2.ensures.depth (_, c.in_ok-expects-2.ensures.found) (ap (λ r. left r.rest.now) s.0) s.1)
+    c.in_ok-expr-2.ensures.depth (_, c.in_ok-expects-2.ensures.found) (ap (λ r. left r.rest.now) s.0) s.1)

@@ -12,7 +12,7 @@ returns-in_err-not_circular-clause-stays c =
     let p = err_from_is_err_and c.from_residual.result c.from_residual.ensures.1 in
     rw (p.1, p.2)
     (left_stays c.args.may_stand c.in_err-not_circular.field-0.0 (left c.args.self.now.cursor.rest.now)
-        c.if-not-may_stand.true c.in_err-not_circular.ensures.refused.0 c.in_err-not_circular.ensures.refused.1)
+    c.if-not-may_stand.true c.in_err-not_circular.ensures.refused.0 c.in_err-not_circular.ensures.refused.1)
 
 pub returns-in_err-start-clause-stays : goal.returns-in_err-start-clause-stays
 returns-in_err-start-clause-stays c =
@@ -21,7 +21,7 @@ returns-in_err-start-clause-stays c =
     rw (p.1, p.2)
     (start_stays c.args.may_stand w.0 (reason_of c.in_err-start.field-0.0) (left c.args.self.now.cursor.rest.now) (left c.takes_word.new.self.rest.now) (left c.start.new.self.cursor.rest.now)
     c.if-not-may_stand.false w.1 (brackets_stay (want.Circular _ ∷ []) (reason_of c.in_err-start.field-0.0)
-        (left c.takes_word.new.self.rest.now) (left c.start.new.self.cursor.rest.now) c.in_err-start.ensures.stays))
+    (left c.takes_word.new.self.rest.now) (left c.start.new.self.cursor.rest.now) c.in_err-start.ensures.stays))
 
 pub returns-in_err-not_circular-2-clause-stays : goal.returns-in_err-not_circular-2-clause-stays
 returns-in_err-not_circular-2-clause-stays c =
@@ -31,4 +31,4 @@ returns-in_err-not_circular-2-clause-stays c =
     rw (p.1, p.2)
     (start_stays c.args.may_stand w.0 (reason_of c.in_err-not_circular-2.field-0.0) (left c.args.self.now.cursor.rest.now) (left c.takes_word.new.self.rest.now) (left c.start.new.self.cursor.rest.now)
     c.if-not-may_stand.false w.1 (again_stays c.in_ok-start.start c.in_err-not_circular-2.field-0.0 (left
-        c.takes_word.new.self.rest.now) (left c.start.new.self.cursor.rest.now) c.in_ok-start.ensures.found e.0 e.1))
+    c.takes_word.new.self.rest.now) (left c.start.new.self.cursor.rest.now) c.in_ok-start.ensures.found e.0 e.1))

@@ -31,9 +31,9 @@ returns-then-skips_getter-clause-stays c = λ forms.
     let s = c.if-skips_getter.ensures in
     let t = c.in_ok-target.ensures.found in
     behind_getter c.inherited_equation.result (want.Decls forms ∷ []) (word_view c.in_ok-target.target.class) (word_view
-        c.in_ok-target.target.name) (params_view c.in_ok-target.target.params) (left c.args.self.now.cursor.rest.now)
-        t.0 (left c.target.new.self.cursor.rest.now) (left c.skips_getter.new.self.cursor.rest.now)
-        (left c.inherited_equation.new.self.cursor.rest.now) t.1 t.2 s.0 s.1 (c.inherited_equation.ensures.stays forms)
+    c.in_ok-target.target.name) (params_view c.in_ok-target.target.params) (left c.args.self.now.cursor.rest.now)
+    t.0 (left c.target.new.self.cursor.rest.now) (left c.skips_getter.new.self.cursor.rest.now)
+    (left c.inherited_equation.new.self.cursor.rest.now) t.1 t.2 s.0 s.1 (c.inherited_equation.ensures.stays forms)
 
 pub returns-in_err-body-clause-stays : goal.returns-in_err-body-clause-stays
 returns-in_err-body-clause-stays c =

@@ -35,4 +35,4 @@ returns-in_err-aspect-clause-stays c =
     rw (p.1, p.2)
     (comes_stay (want.File c.args.forms ∷ []) (want.File c.args.forms ∷ []) (reason_of c.in_err-aspect.field-0.0) (left c.args.self.now.cursor.rest.now) (left c.loop-forms.self.cursor.rest.now)
     (left c.aspect.new.self.cursor.rest.now) (file_comes c.args.forms true _ (left c.args.self.now.cursor.rest.now)
-        (left c.loop-forms.self.cursor.rest.now) (λ e. i.1) i.0) c.in_err-aspect.ensures.stays)
+    (left c.loop-forms.self.cursor.rest.now) (λ e. i.1) i.0) c.in_err-aspect.ensures.stays)

@@ -21,8 +21,8 @@ returns-in_err-kind-clause-stays c =
     let p = err_from_is_err_and c.from_residual-in_err-kind.result c.from_residual-in_err-kind.ensures.1 in
     rw (p.1, p.2)
     (λ us. no_kind c.args.forms us c.in_err-kind.field-0.0 (left c.args.self.now.cursor.rest.now)
-        (left c.lazy.new.self.cursor.rest.now) (left c.kind.new.self.cursor.rest.now) c.in_ok-lazy.ensures.goes
-        c.in_err-kind.ensures.missing)
+    (left c.lazy.new.self.cursor.rest.now) (left c.kind.new.self.cursor.rest.now) c.in_ok-lazy.ensures.goes
+    c.in_err-kind.ensures.missing)
 
 pub returns-in_err-target-clause-stays : goal.returns-in_err-target-clause-stays
 returns-in_err-target-clause-stays c =

@@ -21,8 +21,8 @@ pub returns-in_err-expects-clause-stays : goal.returns-in_err-expects-clause-sta
 returns-in_err-expects-clause-stays c = let p = err_from_is_err_and c.from_residual-in_err-expects.result c.from_residual-in_err-expects.ensures.1 in rw (p.1, p.2)
     (declared_stays c.args.forms (want.Mark (codes ";") ∷ want.Decls c.args.forms ∷ []) c.in_ok-head.head.lazy (kind_word_view c.in_ok-head.head.kind) (word_view c.in_ok-head.head.class)
     (word_view c.in_ok-head.head.name) (params_view c.in_ok-head.head.params) c.in_ok-head.head.start (reason_of
-        c.in_err-expects.field-0.0) (left c.args.self.now.cursor.rest.now) (left c.head.new.self.cursor.rest.now)
-        (left c.expects.new.self.cursor.rest.now) c.in_ok-head.ensures.found c.in_ok-head.ensures.behind
+    c.in_err-expects.field-0.0) (left c.args.self.now.cursor.rest.now) (left c.head.new.self.cursor.rest.now)
+    (left c.expects.new.self.cursor.rest.now) c.in_ok-head.ensures.found c.in_ok-head.ensures.behind
     (stay_first (want.Mark (codes ";")) (want.Decls c.args.forms ∷ []) (reason_of c.in_err-expects.field-0.0)
-        (left c.head.new.self.cursor.rest.now) (left c.expects.new.self.cursor.rest.now) (mark_missing
+    (left c.head.new.self.cursor.rest.now) (left c.expects.new.self.cursor.rest.now) (mark_missing
     (codes ";") c.in_err-expects.field-0.0 (left c.head.new.self.cursor.rest.now) (left c.expects.new.self.cursor.rest.now) c.in_err-expects.ensures.missing)))

@@ -21,7 +21,7 @@ pub returns-in_err-name-clause-stays : goal.returns-in_err-name-clause-stays
 returns-in_err-name-clause-stays c =
     let p = err_from_is_err_and c.from_residual.result c.from_residual.ensures.1 in
     rw (p.1, p.2) (λ forms. no_name (want.Body ∷ want.Decls forms ∷ []) c.in_err-name.field-0.0
-        (left c.args.self.now.cursor.rest.now) (left c.name.new.self.cursor.rest.now) c.in_err-name.ensures.missing)
+    (left c.args.self.now.cursor.rest.now) (left c.name.new.self.cursor.rest.now) c.in_err-name.ensures.missing)
 
 pub returns-in_err-params-clause-stays : goal.returns-in_err-params-clause-stays
 returns-in_err-params-clause-stays c =
@@ -29,7 +29,7 @@ returns-in_err-params-clause-stays c =
     let p = err_from_is_err_and c.from_residual-in_err-params.result c.from_residual-in_err-params.ensures.1 in
     rw (p.1, p.2)
     (λ forms. signed_stays (want.Body ∷ want.Decls forms ∷ []) (word_view c.in_ok-name.name) (reason_of
-        c.in_err-params.field-0.0) (left c.args.self.now.cursor.rest.now) (left c.name.new.self.cursor.rest.now)
+    c.in_err-params.field-0.0) (left c.args.self.now.cursor.rest.now) (left c.name.new.self.cursor.rest.now)
     (left c.params.new.self.cursor.rest.now) c.in_ok-name.ensures.found s)
 
 pub returns-in_err-body-clause-stays : goal.returns-in_err-body-clause-stays

@@ -61,6 +61,6 @@ returns-in_err-expects-clause-stays c =
     let p = err_from_is_err_and c.from_residual-in_err-expects.result c.from_residual-in_err-expects.ensures.1 in
     let d = c.in_default-takes_sign.ensures in
     let m = subst (λ (x : Row). Missing (is_sign (codes ",")) c.in_err-expects.field-0.0 x
-        (left c.expects.new.self.cursor.rest.now)) (ap (λ r. left r.rest.now) d.0) c.in_err-expects.ensures.missing in
+    (left c.expects.new.self.cursor.rest.now)) (ap (λ r. left r.rest.now) d.0) c.in_err-expects.ensures.missing in
     rw (p.1, p.2)
     (comma_stays _ (param_view c.in_ok-param.param) c.in_err-expects.field-0.0 _ _ _ (left c.expects.new.self.cursor.rest.now) c.loop-items.invariant.1 c.in_ok-param.ensures.found d.1 m)

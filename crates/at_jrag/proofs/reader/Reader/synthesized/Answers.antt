@@ -20,7 +20,7 @@ pub returns-in_err-ending-clause-stays : goal.returns-in_err-ending-clause-stays
 returns-in_err-ending-clause-stays c = let p = err_from_is_err_and c.from_residual-in_err-ending.result c.from_residual-in_err-ending.ensures.1 in rw (p.1, p.2)
     (declared_stays c.args.forms (want.Ending ∷ want.Decls c.args.forms ∷ []) c.in_ok-head.head.lazy (kind_word_view c.in_ok-head.head.kind) (word_view c.in_ok-head.head.class)
     (word_view c.in_ok-head.head.name) (params_view c.in_ok-head.head.params) c.in_ok-head.head.start (reason_of
-        c.in_err-ending.field-0.0) (left c.args.self.now.cursor.rest.now) (left c.head.new.self.cursor.rest.now)
-        (left c.ending.new.self.cursor.rest.now) c.in_ok-head.ensures.found c.in_ok-head.ensures.behind
+    c.in_err-ending.field-0.0) (left c.args.self.now.cursor.rest.now) (left c.head.new.self.cursor.rest.now)
+    (left c.ending.new.self.cursor.rest.now) c.in_ok-head.ensures.found c.in_ok-head.ensures.behind
     (stay_first want.Ending (want.Decls c.args.forms ∷ []) (reason_of c.in_err-ending.field-0.0)
-        (left c.head.new.self.cursor.rest.now) (left c.ending.new.self.cursor.rest.now) c.in_err-ending.ensures.stays))
+    (left c.head.new.self.cursor.rest.now) (left c.ending.new.self.cursor.rest.now) c.in_err-ending.ensures.stays))

@@ -40,7 +40,7 @@ returns-in_err-params-clause-stays c =
     let p = err_from_is_err_and c.from_residual-in_err-params.result c.from_residual-in_err-params.ensures.1 in
     rw (p.1, p.2) (λ us.
     owner_stays (word_view c.in_ok-class.class) (want.Signed ∷ us) (reason_of c.in_err-params.field-0.0)
-        (left c.args.self.now.cursor.rest.now) (left c.expects.new.self.cursor.rest.now)
-        (left c.params.new.self.cursor.rest.now) (_, c.in_ok-class.ensures.found, (_, c.in_ok-expects.ensures.found))
+    (left c.args.self.now.cursor.rest.now) (left c.expects.new.self.cursor.rest.now)
+    (left c.params.new.self.cursor.rest.now) (_, c.in_ok-class.ensures.found, (_, c.in_ok-expects.ensures.found))
     (signed_stays us (word_view c.in_ok-name.name) (reason_of c.in_err-params.field-0.0) (left c.expects.new.self.cursor.rest.now) (left c.name-2.new.self.cursor.rest.now)
     (left c.params.new.self.cursor.rest.now) c.in_ok-name.ensures.found s))

@@ -17,10 +17,12 @@ use Rattle.at_jrag.proofs.reader.Reader.text.Goals as goal
 pub returns-in-Ok-clause-found : goal.returns-in-Ok-clause-found
 returns-in-Ok-clause-found c =
     let made : expr_view c.leaf.result.expr ≡ TextLiteral c.args.at (string_bytes c.in-Ok.value) = c.leaf.ensures.made
-        ∙ ap (λ f. form_view f c.args.at) (sym (rolls-Text c.in-Ok.value))
-        ∙ ap (λ f. f c.args.at) (fold-roll-Form (Place → Expr) Expr see_form see_expr (Form-F.Text c.in-Ok.value)) in
-    (λ rest. reads_made 8 c.leaf.result (TextLiteral c.args.at (string_bytes c.in-Ok.value)) _ rest made (ap (λ t.
-        quotation t c.args.at ∷ rest) (sym c.in-Ok.ensures)) (omega arith) c.leaf.ensures.depth, c.leaf.ensures.depth)
+    ∙ ap (λ f. form_view f c.args.at) (sym (rolls-Text c.in-Ok.value))
+    ∙ ap (λ f. f c.args.at) (fold-roll-Form (Place → Expr) Expr see_form see_expr (Form-F.Text c.in-Ok.value)) in (
+      λ rest. reads_made 8 c.leaf.result (TextLiteral c.args.at (string_bytes c.in-Ok.value)) _ rest made (ap (λ t.
+          quotation t c.args.at ∷ rest) (sym c.in-Ok.ensures)) (omega arith) c.leaf.ensures.depth,
+      c.leaf.ensures.depth,
+    )
 
 pub returns-in-Ok-clause-spelled : goal.returns-in-Ok-clause-spelled
 returns-in-Ok-clause-spelled c = ap is_quoted (sym c.in-Ok.ensures) ∙ quoted_is (string_bytes c.in-Ok.value)

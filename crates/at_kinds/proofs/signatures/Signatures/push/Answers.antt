@@ -32,7 +32,7 @@ invariant_of-self-in_default c =
     let number = ap (number_in names) (sym c.as_str.ensures.value) ∙ c.in_ok-number.ensures.number in
     subst (IsIndexed names first) (pushed items c.reserve.new.self.items c.push.new.self.items c.args.signature c.in_ok-push.ensures.items c.in_ok-reserve.ensures.items)
     (declared_nowhere names ds (declared_view c.args.signature) c.in_ok-number.number number first (named_more
-        c.self.inside.names.keys names c.number_for.ensures.keeps first ds c.self.invariant) c.in_default.is)
+    c.self.inside.names.keys names c.number_for.ensures.keeps first ds c.self.invariant) c.in_default.is)
 
 pub invariant_of-self-2 : goal.invariant_of-self-2
 invariant_of-self-2 c =
@@ -45,4 +45,4 @@ invariant_of-self-2 c =
     subst (IsIndexed names c.note.new.self) (pushed items c.reserve.new.self.items c.push-2.new.self.items c.args.signature c.in_ok-push-2.ensures.items c.in_ok-reserve.ensures.items)
     (declared_more names ds (declared_view c.args.signature) c.in_ok-number.number number c.index.result c.new-attribute.result first c.note.new.self
     (named_more c.self.inside.names.keys names c.number_for.ensures.keeps first ds c.self.invariant) (c.in-Some.is
-        ∙ ap Some (sym c.index.ensures)) (which ∙ sym (length-map items declared_view)) c.in_ok-note.ensures.noted)
+    ∙ ap Some (sym c.index.ensures)) (which ∙ sym (length-map items declared_view)) c.in_ok-note.ensures.noted)

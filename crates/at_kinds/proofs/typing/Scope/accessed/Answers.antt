@@ -9,7 +9,7 @@ pub returns-then-not-is_empty : goal.returns-then-not-is_empty
 returns-then-not-is_empty c =
     let g = some_given c.args.arguments (sym c.is_empty.ensures ∙ c.if-not-is_empty.true) in
     rw c.refused.ensures (ap (accessed c.args.at c.args.accessor (body_view c.args.node.value)) g.2
-        ∙ accessed_crowded c.args.at c.args.accessor (body_view c.args.node.value) g.0 g.1 c.in_default.not-Element)
+    ∙ accessed_crowded c.args.at c.args.accessor (body_view c.args.node.value) g.0 g.1 c.in_default.not-Element)
 
 pub returns : goal.returns
 returns c = subst (λ ks. Judges typed_view (accessed c.args.at c.args.accessor (body_view c.args.node.value) ks)

@@ -6,9 +6,12 @@ use Rattle.at_text.proofs.scan.front.past.Goals as goal
 pub loop-c-preserved : goal.loop-c-preserved
 loop-c-preserved c =
     let i = c.loop-c.invariant in
-    let t : takes c.args.run c.in-Some.c ≡ true = search rules in
-    (c.as_str-rest.utf8, one_passed (takes c.args.run) c.in-Some.c _ _ _ (sym i.2 ∙ c.in-Some.ensures.steps.0
-        ∙ ap (λ l. encode_utf8 c.in-Some.c ++ l) (sym c.as_str-rest.ensures)) t i.1, sym c.as_str-rest.ensures)
+    let t : takes c.args.run c.in-Some.c ≡ true = search rules in (
+      c.as_str-rest.utf8,
+      one_passed (takes c.args.run) c.in-Some.c _ _ _ (sym i.2 ∙ c.in-Some.ensures.steps.0
+          ∙ ap (λ l. encode_utf8 c.in-Some.c ++ l) (sym c.as_str-rest.ensures)) t i.1,
+      sym c.as_str-rest.ensures,
+    )
 
 pub returns-then-not-takes : goal.returns-then-not-takes
 returns-then-not-takes c =
