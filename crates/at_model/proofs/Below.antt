@@ -28,7 +28,8 @@ parts_below : (classes : Classes) → AreChained classes → (c b : ℕ) → is_
 parts_below classes lined c b e =
     let (front, g) = lined c b e in (
       flat_map (own_of classes) (reverse front),
-      ap (λ xs. flat_map (own_of classes) (reverse xs)) g ∙ ap (flat_map (own_of classes)) (reverse-append front (chain classes b)) ∙ flat_map-append (own_of classes) (reverse (chain classes b)) (reverse front),
+      ap (λ xs. flat_map (own_of classes) (reverse xs)) g ∙ ap (flat_map (own_of classes)) (reverse-append front
+          (chain classes b)) ∙ flat_map-append (own_of classes) (reverse (chain classes b)) (reverse front),
     )
 
 -- a component has one shape in the class and in those below
@@ -38,7 +39,9 @@ shape_below classes lined c b part s e f =
     let (p, h, k) = mapped (λ (p : Component). p.shape) (slice_get (parts classes b) part) s f in
     ap (λ xs. option_map (λ (p : Component). p.shape) (slice_get xs part)) g ∙ ap (option_map (λ (p : Component). p.shape)) (slice_get-front (parts classes b) more part p h) ∙ ap Some k
 
-pub asked_below : (classes : Classes) → AreChained classes → (c b part d : ℕ) (f : Shape → Option ℕ) → is_sub classes c b ≡ true → option_and_then f (shape_of_part classes b part) ≡ Some d → option_and_then f (shape_of_part classes c part) ≡ Some d
+pub asked_below : (classes : Classes) → AreChained classes → (c b part d : ℕ) (f : Shape → Option ℕ)
+    → is_sub classes c b ≡ true → option_and_then f (shape_of_part classes b part) ≡ Some d
+    → option_and_then f (shape_of_part classes c part) ≡ Some d
 asked_below classes lined c b part d f e g =
     let (s, h, k) = led f (shape_of_part classes b part) d g in
     ap (option_and_then f) (shape_below classes lined c b part s e h) ∙ k

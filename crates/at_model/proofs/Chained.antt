@@ -49,7 +49,9 @@ all_apart : (c : ℕ) (xs : List ℕ) → (list_any (nat_eq c) xs ≡ true → �
 all_apart c [] h = tt
 all_apart c (x ∷ xs) h = by_test (nat_eq c x) refl h (all_apart c xs)
   where
-    by_test : (b : Bool) → nat_eq c x ≡ b → ((b || list_any (nat_eq c) xs) ≡ true → ⊥) → ((list_any (nat_eq c) xs ≡ true → ⊥) → AllByRecursion (λ y. nat_eq c y ≡ false) xs) → AllByRecursion (λ y. nat_eq c y ≡ false) (x ∷ xs)
+    by_test : (b : Bool) → nat_eq c x ≡ b → ((b || list_any (nat_eq c) xs) ≡ true → ⊥)
+        → ((list_any (nat_eq c) xs ≡ true → ⊥) → AllByRecursion (λ y. nat_eq c y ≡ false) xs)
+        → AllByRecursion (λ y. nat_eq c y ≡ false) (x ∷ xs)
     by_test true e h rest = absurd (h refl)
     by_test false e h rest = (e, rest h)
 
@@ -59,7 +61,9 @@ true_or_false b e f = let g : false ≡ true = sym e ∙ f in absurd (cc)
 pub nat_same : (m n : ℕ) → nat_eq m n ≡ true → m ≡ n
 nat_same m n e = grind (arith, nat_tests)
 
-module _ (classes : Classes) (parents : (c : ℕ) → IfSome (parent_of classes c) (λ b. b < length classes)) (free : (c : ℕ) → c < length classes → list_any (nat_eq c) (chain_within (length classes) classes (parent_of classes c)) ≡ false) where
+module _ (classes : Classes) (parents : (c : ℕ) → IfSome (parent_of classes c) (λ b. b < length classes))
+    (free : (c : ℕ) → c < length classes
+    → list_any (nat_eq c) (chain_within (length classes) classes (parent_of classes c)) ≡ false) where
   distinct : (m : ℕ) (o : Option ℕ) → m ≤ suc (length classes) → IfSome o (λ b. b < length classes) → IsDistinct nat_eq (chain_within m classes o)
   unfolding IsDistinct
   distinct zero o l h = tt
@@ -78,7 +82,9 @@ module _ (classes : Classes) (parents : (c : ℕ) → IfSome (parent_of classes 
   ]
 
   full_below : (c : ℕ) → c < length classes → length (chain_within (suc (length classes)) classes (Some c)) ≤ length classes
-  full_below c h = length-le_from_distinct_below (chain_within (suc (length classes)) classes (Some c)) (length classes) (distinct (suc (length classes)) (Some c) (omega arith) h) (λ q e. all_below (suc (length classes)) q (Some c) h e)
+  full_below c h = length-le_from_distinct_below (chain_within (suc (length classes)) classes (Some c)) (length classes)
+      (distinct (suc (length classes)) (Some c) (omega arith) h)
+      (λ q e. all_below (suc (length classes)) q (Some c) h e)
 
   full_past : (c : ℕ) → 0 < length classes → length classes ≤ c → length (chain_within (suc (length classes)) classes (Some c)) ≤ length classes
   full_past c some h =
@@ -97,7 +103,8 @@ module _ (classes : Classes) (parents : (c : ℕ) → IfSome (parent_of classes 
       by_test false e = full_past c some (grind (arith, nat_tests))
 
   -- a longer chain runs over the class to a longer one from there
-  split : (m b : ℕ) (o : Option ℕ) → list_any (nat_eq b) (chain_within m classes o) ≡ true → (front : List ℕ) × (j : ℕ) × ((d : ℕ) → chain_within (d + m) classes o ≡ front ++ chain_within (d + j) classes (Some b))
+  split : (m b : ℕ) (o : Option ℕ) → list_any (nat_eq b) (chain_within m classes o) ≡ true → (front : List ℕ) × (j : ℕ)
+      × ((d : ℕ) → chain_within (d + m) classes o ≡ front ++ chain_within (d + j) classes (Some b))
   split zero b o e = absurd (cc)
   split (suc m) b None e = absurd (cc)
   split (suc m) b (Some c) e = elim (either_true (nat_eq b c) _ e) [

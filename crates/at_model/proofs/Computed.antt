@@ -218,7 +218,11 @@ go_values e (v ∷ vs) ws h =
 
 go : (e : Edit) (i j : Instance Node) → carried_instance e i ≡ Some j → InstanceLike (Names (carried e)) i j
 go e i j h =
-    let (n, node, f) = led (λ (n : Node). option_map (λ (vs : List (Value Node)). record { node = n; attribute = i.attribute; arguments = vs }) (carried_values e i.arguments)) (carried e i.node) j h in
+    let (n, node, f) = led (λ (n : Node). option_map (λ (vs : List (Value Node)). record {
+      node = n;
+      attribute = i.attribute;
+      arguments = vs;
+    }) (carried_values e i.arguments)) (carried e i.node) j h in
     let (vs, arguments, s) = mapped (λ (vs : List (Value Node)). record { node = n; attribute = i.attribute; arguments = vs }) (carried_values e i.arguments) j f in
     subst (InstanceLike (Names (carried e)) i) s (record { node = node; attribute = refl; arguments = go_values e i.arguments vs arguments })
 
@@ -282,7 +286,9 @@ module _ (rules : Rules) (height : ℕ) where
       not_among true is f m = absurd cc
       not_among false is f m = let g : is_among x ks ≡ true = among_is x ks m in absurd cc
 
-      at_head : (b : Bool) → (is_worth t x && not (is_among x ks)) ≡ b → Among a (cond b (x ∷ added t (x ∷ ks) xs) (added t ks xs)) → (Among a (added t (x ∷ ks) xs) → IsNew t (x ∷ ks) xs a) → (Among a (added t ks xs) → IsNew t ks xs a) → IsNew t ks (x ∷ xs) a
+      at_head : (b : Bool) → (is_worth t x && not (is_among x ks)) ≡ b → Among a
+          (cond b (x ∷ added t (x ∷ ks) xs) (added t ks xs)) → (Among a (added t (x ∷ ks) xs) → IsNew t (x ∷ ks) xs a)
+          → (Among a (added t ks xs) → IsNew t ks xs a) → IsNew t ks (x ∷ xs) a
       at_head true is (inl s) one other =
           let (w, n) = both_of (is_worth t x) (not (is_among x ks)) is in
           (inl s, subst (λ y. is_worth t y ≡ true) (sym s) w, λ m. not_among (is_among x ks) refl n (subst (λ y. Among y ks) s m))
@@ -300,7 +306,9 @@ module _ (rules : Rules) (height : ℕ) where
       no_less : (a ≡ x) → (is_worth t x && not (is_among x ks)) ≡ true
       no_less s = and_true (is_worth t x) (not (is_among x ks)) (subst (λ y. is_worth t y ≡ true) s w) (free (is_among x ks) refl (λ m. n (subst (λ y. Among y ks) (sym s) m)))
 
-      at_head : (b c : Bool) → (is_worth t x && not (is_among x ks)) ≡ b → same a x ≡ c → Among a (x ∷ xs) → (Among a xs → (¬ (Among a (x ∷ ks))) → Among a (added t (x ∷ ks) xs)) → (Among a xs → Among a (added t ks xs)) → Among a (cond b (x ∷ added t (x ∷ ks) xs) (added t ks xs))
+      at_head : (b c : Bool) → (is_worth t x && not (is_among x ks)) ≡ b → same a x ≡ c → Among a (x ∷ xs)
+          → (Among a xs → (¬ (Among a (x ∷ ks))) → Among a (added t (x ∷ ks) xs))
+          → (Among a xs → Among a (added t ks xs)) → Among a (cond b (x ∷ added t (x ∷ ks) xs) (added t ks xs))
       at_head true true is also m one other = inl (same_sound a x also)
       at_head true false is also (inl s) one other = inl s
       at_head true false is also (inr m) one other = inr (one m (λ k. elim k [ inl s ↦ (let f : same a x ≡ true = subst (λ y. same a y ≡ true) s (same_is a) in absurd cc) | inr k ↦ n k ]))
@@ -398,7 +406,11 @@ module _ (rules : Rules) (height : ℕ) where
   touched t e i rs is some none =
       let (l, m, f) = passing_one (touches e) (flat_map (reads_of t) rs) some in
       let (j, n, seen) = in_flat (reads_of t) rs l m in
-      let g : touches e l ≡ false = none l (j, in_leads (content t) (equations rules) (values t) (lost t) (right t) (are_lost t) height i j rs is n, in_sees (content t) (equations rules) (values t) (right t) (equations rules j) l seen) in cc
+      let g : touches e l ≡ false = none l (
+        j,
+        in_leads (content t) (equations rules) (values t) (lost t) (right t) (are_lost t) height i j rs is n,
+        in_sees (content t) (equations rules) (values t) (right t) (equations rules j) l seen,
+      ) in cc
 
   -- kept among these, not touched, and then called this
   abbrev Stays : Tree → Edit → List (Instance Node) → Instance Node → Type 0
@@ -410,11 +422,13 @@ module _ (rules : Rules) (height : ℕ) where
   spares : (t : Tree) (e : Edit) (ks js : List (Instance Node)) → spared t e ks ≡ Some js → (j : Instance Node) → Stays t e ks j ↔ Among j js
   spares t e [] js h j = let s : [] ≡ js = cc in (λ (i, m, free, like). absurd m, λ m. let n : Among j [] = subst (Among j) (sym s) m in absurd n)
   spares t e (k ∷ ks) js h j =
-      let (rs, is, f) = led (λ (rs : List (Instance Node)). option_map (λ (js : List (Instance Node)). cond (is_touched t e rs) js (and_more (carried_instance e k) js)) (spared t e ks)) (reach t k) js h in
+      let (rs, is, f) = led (λ (rs : List (Instance Node)). option_map (λ (js : List (Instance Node)).
+      cond (is_touched t e rs) js (and_more (carried_instance e k) js)) (spared t e ks)) (reach t k) js h in
       let (us, rest, s) = mapped (λ (js : List (Instance Node)). cond (is_touched t e rs) js (and_more (carried_instance e k) js)) (spared t e ks) js f in
       subst (λ (xs : List (Instance Node)). Stays t e (k ∷ ks) j ↔ Among j xs) s (by_touch rs us is (is_touched t e rs) refl (spares t e ks us rest j))
     where
-      by_call : (us : List (Instance Node)) → IsUntouched rules t e k → (o : Option (Instance Node)) → carried_instance e k ≡ o → (Stays t e ks j ↔ Among j us) → Stays t e (k ∷ ks) j ↔ Among j (and_more o us)
+      by_call : (us : List (Instance Node)) → IsUntouched rules t e k → (o : Option (Instance Node))
+          → carried_instance e k ≡ o → (Stays t e ks j ↔ Among j us) → Stays t e (k ∷ ks) j ↔ Among j (and_more o us)
       by_call us free None is rest = (
         λ (i, m, clear, like). elim m [
           | inl s ↦ (let g : carried_instance e k ≡ Some j = goes e k j (subst (λ x. InstanceLike (Names (carried e)) x j) s like) in absurd cc)
@@ -433,7 +447,8 @@ module _ (rules : Rules) (height : ℕ) where
         ],
       )
 
-      by_touch : (rs us : List (Instance Node)) → reach t k ≡ Some rs → (b : Bool) → is_touched t e rs ≡ b → (Stays t e ks j ↔ Among j us) → Stays t e (k ∷ ks) j ↔ Among j (cond b us (and_more (carried_instance e k) us))
+      by_touch : (rs us : List (Instance Node)) → reach t k ≡ Some rs → (b : Bool) → is_touched t e rs ≡ b → (Stays t e
+          ks j ↔ Among j us) → Stays t e (k ∷ ks) j ↔ Among j (cond b us (and_more (carried_instance e k) us))
       by_touch rs us is true f rest = (
         λ (i, m, clear, like). elim m [
           | inl s ↦ absurd (touched t e k rs is f (subst (IsUntouched rules t e) s clear))
@@ -478,7 +493,9 @@ module _ (rules : Rules) (height : ℕ) where
       let (rs, is, f) = led (λ (rs : List (Instance Node)). cond (list_all (is_told s.tree) rs) (Some (ks ++ added s.tree ks rs, length (added s.tree ks rs))) None) (reach s.tree q) p h in
       by_told rs is (list_all (is_told s.tree) rs) refl f
     where
-      by_told : (rs : List (Instance Node)) → reach s.tree q ≡ Some rs → (b : Bool) → list_all (is_told s.tree) rs ≡ b → cond b (Some (ks ++ added s.tree ks rs, length (added s.tree ks rs))) None ≡ Some p → IsAfter s (Asks q) Kept p
+      by_told : (rs : List (Instance Node)) → reach s.tree q ≡ Some rs → (b : Bool) → list_all (is_told s.tree) rs ≡ b
+          → cond b (Some (ks ++ added s.tree ks rs, length (added s.tree ks rs))) None ≡ Some p
+          → IsAfter s (Asks q) Kept p
       by_told rs is true told f =
           let equal : (ks ++ added s.tree ks rs, length (added s.tree ks rs)) ≡ p = some_is _ _ f in
           subst (IsAfter s (Asks q) Kept) equal ((added s.tree ks rs, are_added s.tree q rs is told Kept ks just, refl), kept_asked s.tree q rs is told Kept ks just)
@@ -491,14 +508,19 @@ module _ (rules : Rules) (height : ℕ) where
   have_works s (l ∷ ls) ks [] = false
   have_works s (l ∷ ls) ks (w ∷ ws) = elim (after_verdict s (heard rules s l) ks) [ None ↦ false | Some p ↦ nat_eq p.1 w && have_works (after s (heard rules s l)) ls p.0 ws ]
 
-  worked : (s : State) (ls : List (Option Line)) (Kept : Instance Node → Type 0) (ks : List (Instance Node)) (ws : List ℕ) → Exactly Kept ks → have_works s ls ks ws ≡ true → AreWorks rules s ls Kept ws
+  worked : (s : State) (ls : List (Option Line)) (Kept : Instance Node → Type 0) (ks : List (Instance Node))
+      (ws : List ℕ) → Exactly Kept ks → have_works s ls ks ws ≡ true → AreWorks rules s ls Kept ws
   worked s [] Kept ks [] just e = tt
   worked s [] Kept ks (w ∷ ws) just e = absurd cc
   worked s (l ∷ ls) Kept ks [] just e = absurd cc
-  worked s (l ∷ ls) Kept ks (w ∷ ws) just e = by_verdict (after_verdict s (heard rules s l) ks) refl e (λ js also f. worked (after s (heard rules s l)) ls (KeptAfter rules s (heard rules s l) Kept) js ws also f)
+  worked s (l ∷ ls) Kept ks (w ∷ ws) just e = by_verdict (after_verdict s (heard rules s l) ks) refl e
+      (λ js also f. worked (after s (heard rules s l)) ls (KeptAfter rules s (heard rules s l) Kept) js ws also f)
     where
-      by_verdict : (o : Option (List (Instance Node) × ℕ)) → after_verdict s (heard rules s l) ks ≡ o → elim o as (λ _. Bool) [ None ↦ false | Some p ↦ nat_eq p.1 w && have_works (after s (heard rules s l)) ls p.0 ws ] ≡ true →
-          ((js : List (Instance Node)) → Exactly (KeptAfter rules s (heard rules s l) Kept) js → have_works (after s (heard rules s l)) ls js ws ≡ true → AreWorks rules (after s (heard rules s l)) ls (KeptAfter rules s (heard rules s l) Kept) ws) →
+      by_verdict : (o : Option (List (Instance Node) × ℕ)) → after_verdict s (heard rules s l) ks ≡ o → elim o as (λ _.
+          Bool) [ None ↦ false | Some p ↦ nat_eq p.1 w && have_works (after s (heard rules s l)) ls p.0 ws ] ≡ true →
+          ((js : List (Instance Node)) → Exactly (KeptAfter rules s (heard rules s l) Kept) js
+          → have_works (after s (heard rules s l)) ls js ws ≡ true
+          → AreWorks rules (after s (heard rules s l)) ls (KeptAfter rules s (heard rules s l) Kept) ws) →
           IsWork rules s (heard rules s l) Kept w × AreWorks rules (after s (heard rules s l)) ls (KeptAfter rules s (heard rules s l) Kept) ws
       by_verdict None is f rest = absurd cc
       by_verdict (Some p) is f rest =

@@ -137,7 +137,8 @@ module _ (passes : Refusal → Bool) where
       let (g, rg) = stage_ok Limit u _ rf in
       (each a b c d e f g, same_ok t u (Ok t) refl rg)
     where
-      each : passes Component ≡ true → passes Fit ≡ true → passes Index ≡ true → passes Taken ≡ true → passes Fixed ≡ true → passes Inside ≡ true → passes Limit ≡ true → (q : Refusal) → passes q ≡ true
+      each : passes Component ≡ true → passes Fit ≡ true → passes Index ≡ true → passes Taken ≡ true
+          → passes Fixed ≡ true → passes Inside ≡ true → passes Limit ≡ true → (q : Refusal) → passes q ≡ true
       each a b c d e f g Component = a
       each a b c d e f g Fit = b
       each a b c d e f g Index = c

@@ -27,12 +27,22 @@ module _ {N : Type 0} (look : Contents N) (equation : Equations N) (i : Instance
   place_at zero q e = absurd cc
   place_at (suc n) q e = by_try (tried look (λ j. value_in (outcome_at look equation n j)) (equation q)) refl e (place_at n)
     where
-      by_try : (t : Tried N (Value N)) → tried look (λ j. value_in (outcome_at look equation n j)) (equation q) ≡ t → settled (outcome_at look equation n) q t ≡ Some (Faults f i) → ((j : Instance N) → outcome_at look equation n j ≡ Some (Faults f i) → IsPlaceFrom j) → IsPlaceFrom q
+      by_try : (t : Tried N (Value N)) → tried look (λ j. value_in (outcome_at look equation n j)) (equation q) ≡ t
+          → settled (outcome_at look equation n) q t ≡ Some (Faults f i)
+          → ((j : Instance N) → outcome_at look equation n j ≡ Some (Faults f i) → IsPlaceFrom j) → IsPlaceFrom q
       by_try (Valued v) is h below = absurd cc
       by_try (Faulted x) is h below =
           let same : q ≡ i = cc in
-          let kind : x ≡ f = cc in
-          (inl same, ((λ j. value_in (outcome_at look equation n j)), below_right look equation n, subst (λ j. tried look (λ j. value_in (outcome_at look equation n j)) (equation j) ≡ Faulted f) same (subst (λ y. tried look (λ j. value_in (outcome_at look equation n j)) (equation q) ≡ Faulted y) kind is)))
+          let kind : x ≡ f = cc in (
+            inl same,
+            (
+              (λ j. value_in (outcome_at look equation n j)),
+              below_right look equation n,
+              subst (λ j.
+                  tried look (λ j. value_in (outcome_at look equation n j)) (equation j) ≡ Faulted f) same (subst (λ y.
+                  tried look (λ j. value_in (outcome_at look equation n j)) (equation q) ≡ Faulted y) kind is),
+            ),
+          )
       by_try (Needs j) is h below =
           let (leads, fails) = below j h in
           (first_led look equation q j i (needed look equation (λ j. value_in (outcome_at look equation n j)) (below_right look equation n) (equation q) j is).0 leads, fails)

@@ -39,7 +39,8 @@ module _ {A B : Type 0} (f : ℕ → A → Option B) where
   none_given k [] h = refl
   none_given k (y ∷ ys) h =
       let n : k + 0 ≡ k = omega arith in
-      both_none (f k y) (first_given f (k + 1) ys) (subst (λ m. f m y ≡ None) n (h 0 y refl)) (none_given (k + 1) ys (λ i x e. let m : k + suc i ≡ (k + 1) + i = omega arith in subst (λ z. f z x ≡ None) m (h (suc i) x e)))
+      both_none (f k y) (first_given f (k + 1) ys) (subst (λ m. f m y ≡ None) n (h 0 y refl)) (none_given (k + 1) ys
+      (λ i x e. let m : k + suc i ≡ (k + 1) + i = omega arith in subst (λ z. f z x ≡ None) m (h (suc i) x e)))
 
   pub none_at : (xs : List A) → first_given f 0 xs ≡ None → (i : ℕ) (x : A) → slice_get xs i ≡ Some x → f i x ≡ None
   none_at xs none i x e = let n : 0 + i ≡ i = omega arith in subst (λ m. f m x ≡ None) n (given_none 0 xs none i x e)
@@ -69,10 +70,14 @@ abbrev parts_place : (ℕ → ℕ → PartDeclaration → Bool) → ℕ → Decl
 parts_place test c d = first_given (part_place test c) 0 d.parts
 
 -- no component fails the test
-pub parts_pass : (test : ℕ → ℕ → PartDeclaration → Bool) (ds : Declarations) → first_part test ds ≡ None → (c i : ℕ) (d : Declaration) (p : PartDeclaration) → slice_get ds c ≡ Some d → slice_get d.parts i ≡ Some p → test c i p ≡ false
+pub parts_pass : (test : ℕ → ℕ → PartDeclaration → Bool) (ds : Declarations) → first_part test ds ≡ None
+    → (c i : ℕ) (d : Declaration) (p : PartDeclaration) → slice_get ds c ≡ Some d → slice_get d.parts i ≡ Some p
+    → test c i p ≡ false
 parts_pass test ds none c i d p e f = unplaced (test c i p) p.at (none_at (part_place test c) d.parts (none_at (parts_place test) ds none c d e) i p f)
 
-pub no_part_fails : (test : ℕ → ℕ → PartDeclaration → Bool) (ds : Declarations) → ((c i : ℕ) (d : Declaration) (p : PartDeclaration) → slice_get ds c ≡ Some d → slice_get d.parts i ≡ Some p → test c i p ≡ false) → first_part test ds ≡ None
+pub no_part_fails : (test : ℕ → ℕ → PartDeclaration → Bool) (ds : Declarations)
+    → ((c i : ℕ) (d : Declaration) (p : PartDeclaration) → slice_get ds c ≡ Some d → slice_get d.parts i ≡ Some p
+    → test c i p ≡ false) → first_part test ds ≡ None
 no_part_fails test ds h = none_anywhere (parts_place test) ds (λ c d e. none_anywhere (part_place test c) d.parts (λ i p f. no_place (test c i p) p.at (h c i d p e f)))
 
 module _ {A : Type 0} (p : A → Bool) where

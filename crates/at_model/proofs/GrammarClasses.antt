@@ -127,8 +127,12 @@ or_first false b e = absurd cc
 
 name_takes : (p : Component) (name : List ℕ) → TakesName p name → (bytes_eq p.name name || takes p name) ≡ true
 name_takes p name own = or_first (bytes_eq p.name p.name) _ (text_same p.name p.name refl)
-name_takes p name (number b e) = or_right (bytes_eq p.name (codes "Num" ++ p.name)) _ (and_true (is_list p.shape) _ (ap is_list e) (or_first (bytes_eq (codes "Num" ++ p.name) (codes "Num" ++ p.name)) _ (text_same (codes "Num" ++ p.name) (codes "Num" ++ p.name) refl)))
-name_takes p name (all b e) = or_right (bytes_eq p.name (p.name ++ codes "List")) _ (and_true (is_list p.shape) _ (ap is_list e) (or_right (bytes_eq (p.name ++ codes "List") (codes "Num" ++ p.name)) _ (text_same (p.name ++ codes "List") (p.name ++ codes "List") refl)))
+name_takes p name (number b e) = or_right (bytes_eq p.name (codes "Num" ++ p.name))
+    _ (and_true (is_list p.shape) _ (ap is_list e) (or_first (bytes_eq (codes "Num" ++ p.name) (codes "Num" ++ p.name))
+    _ (text_same (codes "Num" ++ p.name) (codes "Num" ++ p.name) refl)))
+name_takes p name (all b e) = or_right (bytes_eq p.name (p.name ++ codes "List"))
+    _ (and_true (is_list p.shape) _ (ap is_list e) (or_right (bytes_eq (p.name ++ codes "List") (codes "Num" ++ p.name))
+    _ (text_same (p.name ++ codes "List") (p.name ++ codes "List") refl)))
 
 clash_by : (a b c d : Bool) → (a || b) ≡ true → (a ≡ true → d ≡ true) → ((a || b || c) ≡ true) × ((d || c || b) ≡ true)
 clash_by true b c d e f = (refl, or_first (d || c) b (or_first d c (f refl)))
@@ -228,7 +232,9 @@ module _ (classes : Classes) (h : IsHierarchy classes) (some : 0 < length classe
         none (suc m) = refl
 
         by_parent : (o : Option ℕ) → parent_of classes c ≡ o → ((b : ℕ) → parent_of classes c ≡ Some b → IsFree (parts classes b)) → IsFree (inherited classes c)
-        by_parent None f rest = subst IsFree (sym (ap (λ o. flat_map (own_of classes) (reverse (chain_within (length classes) classes o))) f ∙ ap (λ xs. flat_map (own_of classes) (reverse xs)) (none (length classes)))) nothing_free
+        by_parent None f rest = subst IsFree
+            (sym (ap (λ o. flat_map (own_of classes) (reverse (chain_within (length classes) classes o))) f
+            ∙ ap (λ xs. flat_map (own_of classes) (reverse xs)) (none (length classes)))) nothing_free
         by_parent (Some b) f rest = subst IsFree (sym (ap (λ o. flat_map (own_of classes) (reverse (chain_within (length classes) classes o))) f)) (rest b f)
 
     free_parts : (c : ℕ) → IsFree (parts classes c)
@@ -247,7 +253,8 @@ own_part named (Some d) i q e =
     (d, p, refl, f)
 
 -- where a class has a component of its own, one is declared there
-own_declared : (ds : Declarations) (c i : ℕ) (q : Component) → slice_get (own_of (classes_of ds) c) i ≡ Some q → (d : Declaration) × (p : PartDeclaration) × (slice_get ds c ≡ Some d) × (slice_get d.parts i ≡ Some p)
+own_declared : (ds : Declarations) (c i : ℕ) (q : Component) → slice_get (own_of (classes_of ds) c) i ≡ Some q
+    → (d : Declaration) × (p : PartDeclaration) × (slice_get ds c ≡ Some d) × (slice_get d.parts i ≡ Some p)
 own_declared ds c i q e = own_part (class_named ds) (slice_get ds c) i q (ap (λ o. slice_get (elim o [ None ↦ [] | Some k ↦ k.own ]) i) (sym (class_at ds c)) ∙ e)
 
 untaken : (before : List Component) (o : Option Component) (q : Component) → elim o [ None ↦ false | Some p ↦ is_taken before p ] ≡ false → o ≡ Some q → is_taken before q ≡ false
@@ -267,7 +274,8 @@ own_by_test ds pass c i q e =
     let (d, p, f, g) = own_declared ds c i q e in
     untaken (inherited (classes_of ds) c ++ take i (own_of (classes_of ds) c)) (slice_get (own_of (classes_of ds) c) i) q (pass c i d p f g) e
 
-test_by_own : (ds : Declarations) → ((c i : ℕ) (q : Component) → slice_get (own_of (classes_of ds) c) i ≡ Some q → is_taken (inherited (classes_of ds) c ++ take i (own_of (classes_of ds) c)) q ≡ false)
+test_by_own : (ds : Declarations) → ((c i : ℕ) (q : Component) → slice_get (own_of (classes_of ds) c) i ≡ Some q
+    → is_taken (inherited (classes_of ds) c ++ take i (own_of (classes_of ds) c)) q ≡ false)
     → (c i : ℕ) → is_twice (classes_of ds) c i ≡ false
 test_by_own ds h c i = taken_not (inherited (classes_of ds) c ++ take i (own_of (classes_of ds) c)) (slice_get (own_of (classes_of ds) c) i) (λ q e. h c i q e)
 
@@ -303,7 +311,8 @@ unfolding component_twice
 none_twice [] e h = refl
 none_twice (d ∷ ds) e h =
     let some : 0 < length (classes_of (d ∷ ds)) = subst (λ n. 0 < n) (sym (as_many (d ∷ ds))) (omega arith) in
-    no_part_fails (part_test (classes_of (d ∷ ds))) (d ∷ ds) (λ c i x p f g. test_by_own (d ∷ ds) (free_own (classes_of (d ∷ ds)) (hierarchy_of (d ∷ ds) e) some (λ b. free_names (parts (classes_of (d ∷ ds)) b) (h b))) c i)
+    no_part_fails (part_test (classes_of (d ∷ ds))) (d ∷ ds) (λ c i x p f g. test_by_own (d ∷ ds) (free_own (classes_of
+    (d ∷ ds)) (hierarchy_of (d ∷ ds) e) some (λ b. free_names (parts (classes_of (d ∷ ds)) b) (h b))) c i)
 
 pub components_apart : (ds : Declarations) → superclass_circle ds ≡ None → (component_twice ds ≡ None) ↔ AreComponentsApart ds
 components_apart ds e = (apart_in ds e, none_twice ds e)

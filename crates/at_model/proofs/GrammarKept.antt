@@ -49,7 +49,8 @@ none_of name a b c e =
     (other_text name a h, other_text name b k, other_text name c g)
 
 pub of_none : (name a b c : List ℕ) → IsNoneOf name a b c → (bytes_eq name a || bytes_eq name b || bytes_eq name c) ≡ false
-of_none name a b c (h, k, g) = off_or (bytes_eq name a || bytes_eq name b) (bytes_eq name c) (off_or (bytes_eq name a) (bytes_eq name b) (text_other name a h) (text_other name b k)) (text_other name c g)
+of_none name a b c (h, k, g) = off_or (bytes_eq name a || bytes_eq name b) (bytes_eq name c)
+    (off_or (bytes_eq name a) (bytes_eq name b) (text_other name a h) (text_other name b k)) (text_other name c g)
 
 -- there is a class -----------------------------------------------------------------------------------------------------
 
@@ -136,7 +137,9 @@ known_test ds c d = not (is_known (class_named ds) d)
 known_by_test : (ds : Declarations) → ((c : ℕ) (d : Declaration) → slice_get ds c ≡ Some d → known_test ds c d ≡ false) → AreClassesKnown ds
 known_by_test ds pass = record {
   parents = λ c d name e f. class_there ds name (parent_known (class_named ds) d.parent name (both _ _ (off_not (is_known (class_named ds) d) (pass c d e))).0 f);
-  parts = λ c i d p e f n. class_there ds p.kind (part_known (class_named ds) p (all_there (is_part_known (class_named ds)) d.parts (both (is_parent_known (class_named ds) d.parent) _ (off_not (is_known (class_named ds) d) (pass c d e))).1 i p f) n);
+  parts = λ c i d p e f n. class_there ds p.kind
+      (part_known (class_named ds) p (all_there (is_part_known (class_named ds)) d.parts (both
+      (is_parent_known (class_named ds) d.parent) _ (off_not (is_known (class_named ds) d) (pass c d e))).1 i p f) n);
 }
 
 known_pass : (ds : Declarations) → AreClassesKnown ds → (c : ℕ) (d : Declaration) → slice_get ds c ≡ Some d → known_test ds c d ≡ false

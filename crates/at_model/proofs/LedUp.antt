@@ -49,14 +49,19 @@ pub first_in : (p : ℕ) (ps : List ℕ) → list_any (nat_eq p) (p ∷ ps) ≡ 
 first_in p ps = or_left (nat_eq p p) _ (eq-eqb p p refl)
 
 -- the superclass isn't above itself, and is there
-not_above : (classes : Classes) → IsHierarchy classes → (c p : ℕ) → parent_of classes c ≡ Some p → (k : ℕ) → k ≤ length classes → list_any (nat_eq p) (chain_within k classes (parent_of classes p)) ≡ true → ⊥
+not_above : (classes : Classes) → IsHierarchy classes → (c p : ℕ) → parent_of classes c ≡ Some p → (k : ℕ)
+    → k ≤ length classes → list_any (nat_eq p) (chain_within k classes (parent_of classes p)) ≡ true → ⊥
 not_above classes h c p e k l f = true≢false (sym (in_longer classes k (length classes) p (parent_of classes p) l f) ∙ h.no_circle p (subst (λ o. IfSome o (λ b. b < length classes)) e (h.parents c)))
 
 -- of a chain that goes on with a whole one, one step shorter
-shorter : (classes : Classes) → IsHierarchy classes → (c p m : ℕ) → parent_of classes c ≡ Some p → length classes ≡ suc m → (front : List ℕ) → chain_within (suc m) classes (Some c) ≡ front ++ chain_within (suc m) classes (Some p) → chain_within m classes (Some p) ≡ chain_within (suc m) classes (Some p)
+shorter : (classes : Classes) → IsHierarchy classes → (c p m : ℕ) → parent_of classes c ≡ Some p → length classes
+    ≡ suc m → (front : List ℕ) → chain_within (suc m) classes (Some c) ≡ front ++ chain_within (suc m) classes (Some p)
+    → chain_within m classes (Some p) ≡ chain_within (suc m) classes (Some p)
 shorter classes h c p m e n [] f =
     let same : c ≡ p = ap (λ xs. unwrap_or (end_of xs) c) f in
-    absurd (not_above classes h c p e (suc m) (omega (arith, n)) (ap (λ o. list_any (nat_eq p) (chain_within (suc m) classes o)) (ap (parent_of classes) (sym same) ∙ e) ∙ first_in p (chain_within m classes (parent_of classes p))))
+    absurd (not_above classes h c p e (suc m) (omega (arith, n))
+    (ap (λ o. list_any (nat_eq p) (chain_within (suc m) classes o)) (ap (parent_of classes) (sym same) ∙ e)
+    ∙ first_in p (chain_within m classes (parent_of classes p))))
 shorter classes h c p m e n (x ∷ []) f = ap (λ o. chain_within m classes o) (sym e) ∙ ap (drop 1) f
 shorter classes h c p zero e n (x ∷ y ∷ ys) f = absurd (none (ap (drop 1) f))
   where
@@ -64,7 +69,9 @@ shorter classes h c p zero e n (x ∷ y ∷ ys) f = absurd (none (ap (drop 1) f)
     none g = cc
 shorter classes h c p (suc k) e n (x ∷ y ∷ ys) f =
     let rest : chain_within k classes (parent_of classes p) ≡ ys ++ chain_within (suc (suc k)) classes (Some p) = ap (drop 1) (ap (λ o. chain_within (suc k) classes o) (sym e) ∙ ap (drop 1) f) in
-    absurd (not_above classes h c p e k (omega (arith, n)) (ap (list_any (nat_eq p)) rest ∙ list_any-append (nat_eq p) ys (chain_within (suc (suc k)) classes (Some p)) ∙ or_right (list_any (nat_eq p) ys) _ (first_in p (chain_within (suc k) classes (parent_of classes p)))))
+    absurd (not_above classes h c p e k (omega (arith, n))
+    (ap (list_any (nat_eq p)) rest ∙ list_any-append (nat_eq p) ys (chain_within (suc (suc k)) classes (Some p))
+    ∙ or_right (list_any (nat_eq p) ys) _ (first_in p (chain_within (suc k) classes (parent_of classes p)))))
 
 -- the superclass is on the chain, if there is more than one class
 on_chain : (classes : Classes) → IsHierarchy classes → (c p m : ℕ) → parent_of classes c ≡ Some p → length classes ≡ suc m → list_any (nat_eq p) (chain_within (suc m) classes (Some c)) ≡ true

@@ -86,7 +86,10 @@ module _ (rules : Rules) (s : State) (session : ℕ) (expected : Option ℕ) (fr
   abbrev Firstly : Command → Verdict → Type 0
   Firstly c v = ((d : Code) → v ≡ Refuses d → IsFirst c d) × (((d : Code) → v ≡ Refuses d → ⊥) → (d : Code) → Isnt c d)
 
-  none_before : (c : Command) (n : ℕ) → Isnt c code.Mark → (4 < n → Isnt c code.Path) → (5 < n → Isnt c code.Component) → (6 < n → Isnt c code.Class) → (7 < n → Isnt c code.Fit) → (8 < n → Isnt c code.Index) → (9 < n → Isnt c code.Taken) → (10 < n → Isnt c code.Fixed) → (11 < n → Isnt c code.Inside) → (12 < n → Isnt c code.Limit) → (13 < n → Isnt c code.Attribute) → (14 < n → Isnt c code.Arguments) → n ≤ 15
+  none_before : (c : Command) (n : ℕ) → Isnt c code.Mark → (4 < n → Isnt c code.Path) → (5 < n → Isnt c code.Component)
+      → (6 < n → Isnt c code.Class) → (7 < n → Isnt c code.Fit) → (8 < n → Isnt c code.Index)
+      → (9 < n → Isnt c code.Taken) → (10 < n → Isnt c code.Fixed) → (11 < n → Isnt c code.Inside)
+      → (12 < n → Isnt c code.Limit) → (13 < n → Isnt c code.Attribute) → (14 < n → Isnt c code.Arguments) → n ≤ 15
       → (e : Code) → number e < n → Isnt c e
   none_before c n mk pa co cl fi ix ta fx ins li at ar m code.Syntax l x = x
   none_before c n mk pa co cl fi ix ta fx ins li at ar m (code.Stale v) l x = fresh x.0
@@ -125,22 +128,47 @@ module _ (rules : Rules) (s : State) (session : ℕ) (expected : Option ℕ) (fr
   every c h q code.Arguments = h code.Arguments (omega arith)
   every c h q code.Question = q
 
-  stage : (c : Command) {A : Type 0} (o : Option A) (d : Code) (k : A → Verdict) → (o ≡ None → IsFirst c d) → ((a : A) → o ≡ Some a → Firstly c (k a)) → Firstly c (elim o [ None ↦ Refuses d | Some a ↦ k a ])
+  stage : (c : Command) {A : Type 0} (o : Option A) (d : Code) (k : A → Verdict) → (o ≡ None → IsFirst c d)
+      → ((a : A) → o ≡ Some a → Firstly c (k a)) → Firstly c (elim o [ None ↦ Refuses d | Some a ↦ k a ])
   stage c None d k f g = told c d (f refl)
   stage c (Some a) d k f g = g a refl
 
   module _ (c : Command) (mk : Isnt c code.Mark) where
     first_path : Applies rules s (line c) code.Path → IsFirst c code.Path
-    first_path x = (x, none_before c 4 mk (λ l. absurd (omega (arith, l))) (λ l. absurd (omega (arith, l))) (λ l. absurd (omega (arith, l))) (λ l. absurd (omega (arith, l))) (λ l. absurd (omega (arith, l))) (λ l. absurd (omega (arith, l))) (λ l. absurd (omega (arith, l))) (λ l. absurd (omega (arith, l))) (λ l. absurd (omega (arith, l))) (λ l. absurd (omega (arith, l))) (λ l. absurd (omega (arith, l))) (omega arith))
+    first_path x = (
+      x,
+      none_before c 4 mk (λ l. absurd (omega (arith, l))) (λ l. absurd (omega (arith, l)))
+          (λ l. absurd (omega (arith, l))) (λ l. absurd (omega (arith, l))) (λ l. absurd (omega (arith, l)))
+          (λ l. absurd (omega (arith, l))) (λ l. absurd (omega (arith, l))) (λ l. absurd (omega (arith, l))) (λ l.
+          absurd (omega (arith, l))) (λ l. absurd (omega (arith, l))) (λ l. absurd (omega (arith, l))) (omega arith),
+    )
 
     first_component : Isnt c code.Path → Applies rules s (line c) code.Component → IsFirst c code.Component
-    first_component pa x = (x, none_before c 5 mk (λ l. pa) (λ l. absurd (omega (arith, l))) (λ l. absurd (omega (arith, l))) (λ l. absurd (omega (arith, l))) (λ l. absurd (omega (arith, l))) (λ l. absurd (omega (arith, l))) (λ l. absurd (omega (arith, l))) (λ l. absurd (omega (arith, l))) (λ l. absurd (omega (arith, l))) (λ l. absurd (omega (arith, l))) (λ l. absurd (omega (arith, l))) (omega arith))
+    first_component pa x = (
+      x,
+      none_before c 5 mk (λ l. pa) (λ l. absurd (omega (arith, l)))
+          (λ l. absurd (omega (arith, l))) (λ l. absurd (omega (arith, l))) (λ l. absurd (omega (arith, l)))
+          (λ l. absurd (omega (arith, l))) (λ l. absurd (omega (arith, l))) (λ l. absurd (omega (arith, l))) (λ l.
+          absurd (omega (arith, l))) (λ l. absurd (omega (arith, l))) (λ l. absurd (omega (arith, l))) (omega arith),
+    )
 
     first_class : Isnt c code.Path → Isnt c code.Component → Applies rules s (line c) code.Class → IsFirst c code.Class
-    first_class pa co x = (x, none_before c 6 mk (λ l. pa) (λ l. co) (λ l. absurd (omega (arith, l))) (λ l. absurd (omega (arith, l))) (λ l. absurd (omega (arith, l))) (λ l. absurd (omega (arith, l))) (λ l. absurd (omega (arith, l))) (λ l. absurd (omega (arith, l))) (λ l. absurd (omega (arith, l))) (λ l. absurd (omega (arith, l))) (λ l. absurd (omega (arith, l))) (omega arith))
+    first_class pa co x = (
+      x,
+      none_before c 6 mk (λ l. pa) (λ l. co) (λ l. absurd (omega (arith, l)))
+          (λ l. absurd (omega (arith, l))) (λ l. absurd (omega (arith, l))) (λ l. absurd (omega (arith, l)))
+          (λ l. absurd (omega (arith, l))) (λ l. absurd (omega (arith, l))) (λ l. absurd (omega (arith, l)))
+          (λ l. absurd (omega (arith, l))) (λ l. absurd (omega (arith, l))) (omega arith),
+    )
 
     first_fit : Isnt c code.Path → Isnt c code.Component → Isnt c code.Class → Applies rules s (line c) code.Fit → IsFirst c code.Fit
-    first_fit pa co cl x = (x, none_before c 7 mk (λ l. pa) (λ l. co) (λ l. cl) (λ l. absurd (omega (arith, l))) (λ l. absurd (omega (arith, l))) (λ l. absurd (omega (arith, l))) (λ l. absurd (omega (arith, l))) (λ l. absurd (omega (arith, l))) (λ l. absurd (omega (arith, l))) (λ l. absurd (omega (arith, l))) (λ l. absurd (omega (arith, l))) (omega arith))
+    first_fit pa co cl x = (
+      x,
+      none_before c 7 mk (λ l. pa) (λ l. co) (λ l. cl) (λ l. absurd (omega (arith, l)))
+          (λ l. absurd (omega (arith, l))) (λ l. absurd (omega (arith, l))) (λ l. absurd (omega (arith, l)))
+          (λ l. absurd (omega (arith, l))) (λ l. absurd (omega (arith, l))) (λ l. absurd (omega (arith, l)))
+          (λ l. absurd (omega (arith, l))) (omega arith),
+    )
 
     -- the term is no tree of the class that is asked
     abbrev IsNoTree : Type 0
@@ -266,32 +294,55 @@ module _ (rules : Rules) (s : State) (session : ℕ) (expected : Option ℕ) (fr
   one_place place n named (p, inl same, none) = none_some (node_named rules.classes s session place) n (subst (λ z. node_named rules.classes s session z ≡ None) same none) named
   one_place place n named (p, inr x, none) = x
 
-  two_places : (place to : Place) (n m : Node) → node_named rules.classes s session place ≡ Some n → node_named rules.classes s session to ≡ Some m → (p : Place) × Among p (place ∷ to ∷ []) × (node_named rules.classes s session p ≡ None) → ⊥
+  two_places : (place to : Place) (n m : Node) → node_named rules.classes s session place ≡ Some n
+      → node_named rules.classes s session to ≡ Some m
+      → (p : Place) × Among p (place ∷ to ∷ []) × (node_named rules.classes s session p ≡ None) → ⊥
   two_places place to n m named other (p, inl same, none) = none_some (node_named rules.classes s session place) n (subst (λ z. node_named rules.classes s session z ≡ None) same none) named
   two_places place to n m named other (p, inr x, none) = one_place to m other (p, x, none)
 
-  shape_is : (place : Place) (name : List ℕ) (n : Node) (o : Option ℕ) → node_named rules.classes s session place ≡ Some n → component_named rules.classes s.tree n name ≡ o → shape_named rules.classes s session place name ≡ option_and_then (shape_at rules.classes s.tree n) o
-  shape_is place name n o named part = ap (option_and_then (λ n. option_and_then (shape_at rules.classes s.tree n) (component_named rules.classes s.tree n name))) named ∙ ap (option_and_then (shape_at rules.classes s.tree n)) part
+  shape_is : (place : Place) (name : List ℕ) (n : Node) (o : Option ℕ)
+      → node_named rules.classes s session place ≡ Some n → component_named rules.classes s.tree n name ≡ o
+      → shape_named rules.classes s session place name ≡ option_and_then (shape_at rules.classes s.tree n) o
+  shape_is place name n o named part = ap (option_and_then
+      (λ n. option_and_then (shape_at rules.classes s.tree n) (component_named rules.classes s.tree n name))) named
+      ∙ ap (option_and_then (shape_at rules.classes s.tree n)) part
 
   -- the component that is looked for
   abbrev asked : {A : Type 0} → Place → List ℕ → (Shape → Option A) → Asked
   asked place name wanted = record { place = place; name = name; serves = λ shape. is_some (wanted shape) }
 
-  has_none : {A : Type 0} (place : Place) (name : List ℕ) (wanted : Shape → Option A) → option_and_then wanted (shape_named rules.classes s session place name) ≡ None → HasComponent rules.classes s session (asked place name wanted) → ⊥
+  has_none : {A : Type 0} (place : Place) (name : List ℕ) (wanted : Shape → Option A)
+      → option_and_then wanted (shape_named rules.classes s session place name) ≡ None
+      → HasComponent rules.classes s session (asked place name wanted) → ⊥
   has_none place name wanted e h =
       let f : wanted h.shape ≡ None = sym (ap (option_and_then wanted) h.there) ∙ e in
       off_on false refl (sym (ap is_some f) ∙ h.serves)
 
-  has_some : {A : Type 0} (place : Place) (name : List ℕ) (wanted : Shape → Option A) (a : A) → option_and_then wanted (shape_named rules.classes s session place name) ≡ Some a → HasComponent rules.classes s session (asked place name wanted)
+  has_some : {A : Type 0} (place : Place) (name : List ℕ) (wanted : Shape → Option A) (a : A)
+      → option_and_then wanted (shape_named rules.classes s session place name) ≡ Some a
+      → HasComponent rules.classes s session (asked place name wanted)
   has_some place name wanted a e = let (shape, f, g) = led wanted (shape_named rules.classes s session place name) a e in record { shape = shape; there = f; serves = ap is_some g }
 
   component_stage : {A : Type 0} (c : Command) (mk : Isnt c code.Mark) (pa : Isnt c code.Path) (place : Place) (name : List ℕ) (n : Node) (wanted : Shape → Option A) (k : ℕ → A → Verdict)
       → component_asked c ≡ Some (asked place name wanted) → node_named rules.classes s session place ≡ Some n
-      → ((p : ℕ) (a : A) → component_named rules.classes s.tree n name ≡ Some p → option_and_then wanted (shape_at rules.classes s.tree n p) ≡ Some a → option_and_then wanted (shape_named rules.classes s session place name) ≡ Some a → Isnt c code.Component → Firstly c (k p a))
+      → ((p : ℕ) (a : A) → component_named rules.classes s.tree n name ≡ Some p
+      → option_and_then wanted (shape_at rules.classes s.tree n p) ≡ Some a → option_and_then wanted
+      (shape_named rules.classes s session place name) ≡ Some a → Isnt c code.Component → Firstly c (k p a))
       → Firstly c (with_component rules.classes s.tree n name wanted k)
   component_stage c mk pa place name n wanted k is named h =
-      stage c (component_named rules.classes s.tree n name) code.Component _ (λ none. first_component c mk pa (asked place name wanted, is, has_none place name wanted (ap (option_and_then wanted) (shape_is place name n None named none)))) (λ p part.
-      stage c (option_and_then wanted (shape_at rules.classes s.tree n p)) code.Component (k p) (λ none. first_component c mk pa (asked place name wanted, is, has_none place name wanted (ap (option_and_then wanted) (shape_is place name n (Some p) named part) ∙ none))) (λ a some.
+      stage c (component_named rules.classes s.tree n name) code.Component
+      _ (λ none. first_component c mk pa (
+        asked place name wanted,
+        is,
+        has_none place name wanted (ap (option_and_then wanted) (shape_is place name n None named none)),
+      )) (λ p part.
+      stage c (option_and_then wanted (shape_at rules.classes s.tree n p)) code.Component (k p)
+      (λ none. first_component c mk pa (
+        asked place name wanted,
+        is,
+        has_none place name wanted
+            (ap (option_and_then wanted) (shape_is place name n (Some p) named part) ∙ none),
+      )) (λ a some.
       let found = ap (option_and_then wanted) (shape_is place name n (Some p) named part) ∙ some in
       h p a part some found (there a found)))
     where
@@ -308,7 +359,8 @@ module _ (rules : Rules) (s : State) (session : ℕ) (expected : Option ℕ) (fr
   tree_is : (c : Command) (t : Term) (o : Option ℕ) → term_in c ≡ Some t → class_for rules.classes s session c ≡ o → tree_for rules.classes s session c ≡ option_and_then (shaped rules.classes t) o
   tree_is c t o e f = ap (option_and_then (λ t. option_and_then (shaped rules.classes t) (class_for rules.classes s session c))) e ∙ ap (option_and_then (shaped rules.classes t)) f
 
-  tree_stage : (c : Command) (mk : Isnt c code.Mark) (pa : Isnt c code.Path) (co : Isnt c code.Component) (t : Term) (o : Option ℕ) (k : Tree → Verdict) → term_in c ≡ Some t → class_for rules.classes s session c ≡ o
+  tree_stage : (c : Command) (mk : Isnt c code.Mark) (pa : Isnt c code.Path) (co : Isnt c code.Component) (t : Term)
+      (o : Option ℕ) (k : Tree → Verdict) → term_in c ≡ Some t → class_for rules.classes s session c ≡ o
       → ((u : Tree) → tree_for rules.classes s session c ≡ Some u → Isnt c code.Class → Firstly c (k u)) → Firstly c (with_tree rules.classes t o k)
   tree_stage c mk pa co t o k e f h =
       names c (names_classes rules.classes t) _ (λ off. first_class c mk pa co (t, e, off)) (λ on.
@@ -356,7 +408,8 @@ module _ (rules : Rules) (s : State) (session : ℕ) (expected : Option ℕ) (fr
       stage c (node_named rules.classes s session place) code.Path _ (λ none. first_path c mk (place, inl refl, none)) (λ n named.
       edit_stage c mk (edit.Drop n) (ap (option_map (λ n. edit.Drop n)) named) refl refl (one_place place n named) (no_asked c refl) (no_term c refl) (termless c refl))
 
-  of_insert : (place : Place) (name : List ℕ) (index : ℕ) (t : Term) → Isnt (Insert place name index t) code.Mark → Firstly (Insert place name index t) (obeyed rules s session (Insert place name index t))
+  of_insert : (place : Place) (name : List ℕ) (index : ℕ) (t : Term) → Isnt (Insert place name index t) code.Mark
+      → Firstly (Insert place name index t) (obeyed rules s session (Insert place name index t))
   of_insert place name index t mk =
       let c = Insert place name index t in
       stage c (node_named rules.classes s session place) code.Path _ (λ none. first_path c mk (place, inl refl, none)) (λ n named.
@@ -392,7 +445,9 @@ module _ (rules : Rules) (s : State) (session : ℕ) (expected : Option ℕ) (fr
 
   -- of a command that is no edit, only what is given here can come first
   first_other : (c : Command) (d : Code) → Isnt c code.Mark → component_asked c ≡ None → term_in c ≡ None → meant rules.classes s session c ≡ None → number d ≤ 15
-      → Isnt c code.Path → (9 < number d → MarksAgain s (line c) → ⊥) → (12 < number d → (MarksTooMany s (line c) ⊎ PostsTooMany s (line c)) → ⊥) → (13 < number d → Isnt c code.Attribute) → (14 < number d → Isnt c code.Arguments)
+      → Isnt c code.Path → (9 < number d → MarksAgain s (line c) → ⊥)
+      → (12 < number d → (MarksTooMany s (line c) ⊎ PostsTooMany s (line c)) → ⊥)
+      → (13 < number d → Isnt c code.Attribute) → (14 < number d → Isnt c code.Arguments)
       → Applies rules s (line c) d → IsFirst c d
   first_other c d mk co te ed most pa ta li at ar x = (
     x,
@@ -407,7 +462,10 @@ module _ (rules : Rules) (s : State) (session : ℕ) (expected : Option ℕ) (fr
   )
 
   -- and where none of these is there, no reason is
-  none_other : (c : Command) → Isnt c code.Mark → component_asked c ≡ None → term_in c ≡ None → meant rules.classes s session c ≡ None → Isnt c code.Path → (MarksAgain s (line c) → ⊥) → (MarksTooMany s (line c) ⊎ PostsTooMany s (line c) → ⊥) → Isnt c code.Attribute → Isnt c code.Arguments → Isnt c code.Question → (d : Code) → Isnt c d
+  none_other : (c : Command) → Isnt c code.Mark → component_asked c ≡ None → term_in c ≡ None
+      → meant rules.classes s session c ≡ None → Isnt c code.Path → (MarksAgain s (line c) → ⊥)
+      → (MarksTooMany s (line c) ⊎ PostsTooMany s (line c) → ⊥) → Isnt c code.Attribute → Isnt c code.Arguments
+      → Isnt c code.Question → (d : Code) → Isnt c d
   none_other c mk co te ed pa ta li at ar qu = every c
       (none_before c 15 mk (λ l. pa) (λ l. no_asked c co) (λ l. no_term c te)
       (λ l y. elim y [ inl z ↦ termless c te z | inr z ↦ no_edit c edit.Fit ed z ])
@@ -438,7 +496,8 @@ module _ (rules : Rules) (s : State) (session : ℕ) (expected : Option ℕ) (fr
       (λ x. off_on false refl (sym (ap is_plain x.1) ∙ plain))
 
   -- a place among the arguments leads nowhere
-  some_unnamed : (arguments : List Argument) → each (map (value_named rules.classes s session) arguments) ≡ None → (p : Place) × Among p (flat_map places_in arguments) × (node_named rules.classes s session p ≡ None)
+  some_unnamed : (arguments : List Argument) → each (map (value_named rules.classes s session) arguments) ≡ None
+      → (p : Place) × Among p (flat_map places_in arguments) × (node_named rules.classes s session p ≡ None)
   some_unnamed [] e = absurd cc
   some_unnamed (Text bytes ∷ rest) e = some_unnamed rest (unmapped (each (map (value_named rules.classes s session) rest)) e)
     where
@@ -456,19 +515,25 @@ module _ (rules : Rules) (s : State) (session : ℕ) (expected : Option ℕ) (fr
       unmapped n None e = refl
       unmapped n (Some vs) e = absurd cc
 
-      by_node : (o : Option Node) → node_named rules.classes s session place ≡ o → option_and_then (λ (v : Value Node). option_map (λ vs. v ∷ vs) (each (map (value_named rules.classes s session) rest))) (option_map (λ n. run.Ref (Some n)) o) ≡ None
+      by_node : (o : Option Node) → node_named rules.classes s session place ≡ o → option_and_then
+          (λ (v : Value Node). option_map (λ vs. v ∷ vs) (each (map (value_named rules.classes s session) rest)))
+          (option_map (λ n. run.Ref (Some n)) o) ≡ None
           → (each (map (value_named rules.classes s session) rest) ≡ None → (p : Place) × Among p (flat_map places_in rest) × (node_named rules.classes s session p ≡ None))
           → (p : Place) × Among p (place ∷ flat_map places_in rest) × (node_named rules.classes s session p ≡ None)
       by_node None f g h = (place, inl refl, f)
       by_node (Some n) f g h = let (p, among, none) = h (unmapped n (each (map (value_named rules.classes s session) rest)) g) in (p, inr among, none)
 
   -- where each argument has a value, each place among them leads to a node
-  all_named : (arguments : List Argument) (vs : List (Value Node)) → each (map (value_named rules.classes s session) arguments) ≡ Some vs → (p : Place) → Among p (flat_map places_in arguments) → node_named rules.classes s session p ≡ None → ⊥
+  all_named : (arguments : List Argument) (vs : List (Value Node))
+      → each (map (value_named rules.classes s session) arguments) ≡ Some vs → (p : Place)
+      → Among p (flat_map places_in arguments) → node_named rules.classes s session p ≡ None → ⊥
   all_named [] vs e p among none = among
   all_named (Text bytes ∷ rest) vs e p among none = let (ws, f, g) = mapped (λ vs. run.Text bytes ∷ vs) (each (map (value_named rules.classes s session) rest)) vs e in all_named rest ws f p among none
   all_named (Null ∷ rest) vs e p among none = let (ws, f, g) = mapped (λ vs. run.Ref None ∷ vs) (each (map (value_named rules.classes s session) rest)) vs e in all_named rest ws f p among none
   all_named (Ref place ∷ rest) vs e p among none =
-      let (v, f, g) = led (λ (v : Value Node). option_map (λ vs. v ∷ vs) (each (map (value_named rules.classes s session) rest))) (option_map (λ n. run.Ref (Some n)) (node_named rules.classes s session place)) vs e in
+      let (v, f, g) =
+      led (λ (v : Value Node). option_map (λ vs. v ∷ vs) (each (map (value_named rules.classes s session) rest)))
+      (option_map (λ n. run.Ref (Some n)) (node_named rules.classes s session place)) vs e in
       let (n, named, h) = mapped (λ n. run.Ref (Some n)) (node_named rules.classes s session place) v f in
       let (ws, k, m) = mapped (λ vs. v ∷ vs) (each (map (value_named rules.classes s session) rest)) vs g in
       elim among [
@@ -476,7 +541,9 @@ module _ (rules : Rules) (s : State) (session : ℕ) (expected : Option ℕ) (fr
         | inr x ↦ all_named rest ws k p x none
       ]
 
-  asked_places : (place : Place) (n : Node) (arguments : List Argument) (vs : List (Value Node)) → node_named rules.classes s session place ≡ Some n → each (map (value_named rules.classes s session) arguments) ≡ Some vs → (p : Place) × Among p (place ∷ flat_map places_in arguments) × (node_named rules.classes s session p ≡ None) → ⊥
+  asked_places : (place : Place) (n : Node) (arguments : List Argument) (vs : List (Value Node)) → node_named
+      rules.classes s session place ≡ Some n → each (map (value_named rules.classes s session) arguments) ≡ Some vs
+      → (p : Place) × Among p (place ∷ flat_map places_in arguments) × (node_named rules.classes s session p ≡ None) → ⊥
   asked_places place n arguments vs named all (p, inl same, none) = none_some (node_named rules.classes s session place) n (subst (λ z. node_named rules.classes s session z ≡ None) same none) named
   asked_places place n arguments vs named all (p, inr x, none) = all_named arguments vs all p x none
 
@@ -491,30 +558,43 @@ module _ (rules : Rules) (s : State) (session : ℕ) (expected : Option ℕ) (fr
   not_many_asked place name arguments (inl (other, at, e, x)) = absurd cc
   not_many_asked place name arguments (inr (other, at, more, e, x)) = absurd cc
 
-  of_ask : (place : Place) (name : List ℕ) (arguments : List Argument) → Isnt (Ask place name arguments) code.Mark → Firstly (Ask place name arguments) (obeyed rules s session (Ask place name arguments))
+  of_ask : (place : Place) (name : List ℕ) (arguments : List Argument) → Isnt (Ask place name arguments) code.Mark
+      → Firstly (Ask place name arguments) (obeyed rules s session (Ask place name arguments))
   of_ask place name arguments mk =
       let c = Ask place name arguments in
       stage c (node_named rules.classes s session place) code.Path _ (λ none. first_path c mk (place, inl refl, none)) (λ n named.
       stage c (each (map (value_named rules.classes s session) arguments)) code.Path _ (λ none. let (p, among, x) = some_unnamed arguments none in first_path c mk (p, inr among, x)) (λ vs all.
       stage c (option_and_then (λ u. attribute_named rules (class_of u) name) (tree_at s.tree n)) code.Attribute _
-      (λ none. first_other c code.Attribute mk refl refl refl (omega arith) (asked_places place n arguments vs named all) (λ l. not_marking place name arguments) (λ l. not_many_asked place name arguments) (λ l. absurd (past_itself 13 l)) (λ l. absurd (omega (arith, l)))
+      (λ none. first_other c code.Attribute mk refl refl refl (omega arith)
+      (asked_places place n arguments vs named all) (λ l. not_marking place name arguments)
+      (λ l. not_many_asked place name arguments) (λ l. absurd (past_itself 13 l)) (λ l. absurd (omega (arith, l)))
       (record { place = place; name = name; arguments = arguments; node = n; asks = refl; named = named; none = none }))
       (λ a found.
       by_fit c (fit_parameters rules.classes s.tree (parameters_of rules a) vs) _
-      (λ amiss. first_other c code.Arguments mk refl refl refl (omega arith) (asked_places place n arguments vs named all) (λ l. not_marking place name arguments) (λ l. not_many_asked place name arguments) (λ l. has_attribute place name arguments n a named found) (λ l. absurd (past_itself 14 l))
+      (λ amiss. first_other c code.Arguments mk refl refl refl (omega arith) (asked_places place n arguments vs named
+      all) (λ l. not_marking place name arguments) (λ l. not_many_asked place name arguments)
+      (λ l. has_attribute place name arguments n a named found) (λ l. absurd (past_itself 14 l))
       (record { place = place; name = name; arguments = arguments; node = n; attribute = a; values = vs; asks = refl; named = named; found = found; told = all; amiss = amiss }))
-      (λ fit. none_other c mk refl refl refl (asked_places place n arguments vs named all) (not_marking place name arguments) (not_many_asked place name arguments) (has_attribute place name arguments n a named found) (fits_all place name arguments n a vs named found all fit) (λ x. let e = x.1 in absurd cc)))))
+      (λ fit. none_other c mk refl refl refl (asked_places place n arguments vs named all) (not_marking place name
+      arguments) (not_many_asked place name arguments) (has_attribute place name arguments n a named found)
+      (fits_all place name arguments n a vs named found all fit) (λ x. let e = x.1 in absurd cc)))))
     where
-      has_attribute : (place : Place) (name : List ℕ) (arguments : List Argument) (n : Node) (a : ℕ) → node_named rules.classes s session place ≡ Some n → option_and_then (λ u. attribute_named rules (class_of u) name) (tree_at s.tree n) ≡ Some a → Isnt (Ask place name arguments) code.Attribute
+      has_attribute : (place : Place) (name : List ℕ) (arguments : List Argument) (n : Node) (a : ℕ) → node_named
+          rules.classes s session place ≡ Some n → option_and_then (λ u. attribute_named rules (class_of u) name)
+          (tree_at s.tree n) ≡ Some a → Isnt (Ask place name arguments) code.Attribute
       has_attribute place name arguments n a named found x =
           let place_same : place ≡ x.place = let e = x.asks in cc in
           let name_same : name ≡ x.name = let e = x.asks in cc in
           let other : Some n ≡ Some x.node = sym named ∙ ap (node_named rules.classes s session) place_same ∙ x.named in
           let node_same : n ≡ x.node = cc in
           none_some (option_and_then (λ u. attribute_named rules (class_of u) x.name) (tree_at s.tree x.node)) a x.none
-          (subst (λ m. option_and_then (λ u. attribute_named rules (class_of u) x.name) (tree_at s.tree m) ≡ Some a) node_same (subst (λ z. option_and_then (λ u. attribute_named rules (class_of u) z) (tree_at s.tree n) ≡ Some a) name_same found))
+          (subst (λ m. option_and_then (λ u. attribute_named rules (class_of u) x.name) (tree_at s.tree m) ≡ Some a)
+          node_same (subst (λ z. option_and_then (λ u. attribute_named rules (class_of u) z) (tree_at s.tree n)
+          ≡ Some a) name_same found))
 
-      fits_all : (place : Place) (name : List ℕ) (arguments : List Argument) (n : Node) (a : ℕ) (vs : List (Value Node)) → node_named rules.classes s session place ≡ Some n → option_and_then (λ u. attribute_named rules (class_of u) name) (tree_at s.tree n) ≡ Some a → each (map (value_named rules.classes s session) arguments) ≡ Some vs
+      fits_all : (place : Place) (name : List ℕ) (arguments : List Argument) (n : Node) (a : ℕ) (vs : List (Value Node))
+          → node_named rules.classes s session place ≡ Some n → option_and_then (λ u. attribute_named rules (class_of u)
+          name) (tree_at s.tree n) ≡ Some a → each (map (value_named rules.classes s session) arguments) ≡ Some vs
           → fit_parameters rules.classes s.tree (parameters_of rules a) vs ≡ true → Isnt (Ask place name arguments) code.Arguments
       fits_all place name arguments n a vs named found all fit x =
           let place_same : place ≡ x.place = let e = x.asks in cc in
@@ -522,17 +602,24 @@ module _ (rules : Rules) (s : State) (session : ℕ) (expected : Option ℕ) (fr
           let arguments_same : arguments ≡ x.arguments = let e = x.asks in cc in
           let node : Some n ≡ Some x.node = sym named ∙ ap (node_named rules.classes s session) place_same ∙ x.named in
           let node_same : n ≡ x.node = cc in
-          let attribute : Some a ≡ Some x.attribute = sym found ∙ ap (λ z. option_and_then (λ u. attribute_named rules (class_of u) z) (tree_at s.tree n)) name_same ∙ ap (λ m. option_and_then (λ u. attribute_named rules (class_of u) x.name) (tree_at s.tree m)) node_same ∙ x.found in
+          let attribute : Some a ≡ Some x.attribute = sym found
+          ∙ ap (λ z. option_and_then (λ u. attribute_named rules (class_of u) z) (tree_at s.tree n)) name_same
+          ∙ ap (λ m. option_and_then (λ u. attribute_named rules (class_of u) x.name) (tree_at s.tree m)) node_same
+          ∙ x.found in
           let attribute_same : a ≡ x.attribute = cc in
           let values : Some vs ≡ Some x.values = sym all ∙ ap (λ as'. each (map (value_named rules.classes s session) as')) arguments_same ∙ x.told in
           let values_same : vs ≡ x.values = cc in
-          off_on (fit_parameters rules.classes s.tree (parameters_of rules a) vs) (ap (λ z. fit_parameters rules.classes s.tree (parameters_of rules z) vs) attribute_same ∙ ap (fit_parameters rules.classes s.tree (parameters_of rules x.attribute)) values_same ∙ x.amiss) fit
+          off_on (fit_parameters rules.classes s.tree (parameters_of rules a) vs)
+          (ap (λ z. fit_parameters rules.classes s.tree (parameters_of rules z) vs) attribute_same
+          ∙ ap (fit_parameters rules.classes s.tree (parameters_of rules x.attribute)) values_same ∙ x.amiss) fit
 
   of_show : (place : Place) → Isnt (Show place) code.Mark → Firstly (Show place) (obeyed rules s session (Show place))
   of_show place mk =
       let c = Show place in
       stage c (node_named rules.classes s session place) code.Path _ (λ none. first_path c mk (place, inl refl, none)) (λ n named.
-      stage c (tree_at s.tree n) code.Path _ (λ none. let (u, there) = place_there rules.classes s session place n named in absurd (none_some (tree_at s.tree n) u none there)) (λ u there. (λ d e. absurd cc, λ no. none_plain c refl mk refl refl refl (one_place place n named))))
+      stage c (tree_at s.tree n) code.Path _ (λ none. let (u, there) =
+      place_there rules.classes s session place n named in absurd (none_some (tree_at s.tree n) u none there))
+      (λ u there. (λ d e. absurd cc, λ no. none_plain c refl mk refl refl refl (one_place place n named))))
 
   of_mark : (name : List ℕ) (place : Place) → Isnt (Mark name place) code.Mark → Firstly (Mark name place) (obeyed rules s session (Mark name place))
   of_mark name place mk =
@@ -551,7 +638,8 @@ module _ (rules : Rules) (s : State) (session : ℕ) (expected : Option ℕ) (fr
       few : (m n : ℕ) → nat_le n m ≡ false → n ≤ m → ⊥
       few m n e l = grind (arith, nat_tests)
 
-      by_many : (n : Node) → node_named rules.classes s session place ≡ Some n → is_marked s.marks session name ≡ false → (b : Bool) → nat_le max_marks (count_by (λ m. nat_eq session m.session) s.marks) ≡ b
+      by_many : (n : Node) → node_named rules.classes s session place ≡ Some n → is_marked s.marks session name ≡ false
+          → (b : Bool) → nat_le max_marks (count_by (λ m. nat_eq session m.session) s.marks) ≡ b
           → Firstly (Mark name place) (if b then Refuses code.Limit else Leaves (s.marks ++ record { session = session; name = name; node = n } ∷ []))
       by_many n named e true f = told (Mark name place) code.Limit (first_other (Mark name place) code.Limit mk refl refl refl (omega arith) (one_place place n named)
           (λ l x. let (other, at, is, some) = x in let same : name ≡ other = cc in free (marked s.marks session name) e (subst (λ z. IsSome (marked s.marks session z)) (sym same) some))
@@ -566,9 +654,14 @@ module _ (rules : Rules) (s : State) (session : ℕ) (expected : Option ℕ) (fr
             (λ x. let h = x.1 in absurd cc),
       )
 
-      by_name : (n : Node) → node_named rules.classes s session place ≡ Some n → (b : Bool) → is_marked s.marks session name ≡ b → (t : Bool) → nat_le max_marks (count_by (λ m. nat_eq session m.session) s.marks) ≡ t
-          → Firstly (Mark name place) (if b then Refuses code.Taken else (if nat_le max_marks (count_by (λ m. nat_eq session m.session) s.marks) then Refuses code.Limit else Leaves (s.marks ++ record { session = session; name = name; node = n } ∷ [])))
-      by_name n named true e t f = told (Mark name place) code.Taken (first_other (Mark name place) code.Taken mk refl refl refl (omega arith) (one_place place n named) (λ l. absurd (past_itself 9 l)) (λ l. absurd (omega (arith, l))) (λ l. absurd (omega (arith, l))) (λ l. absurd (omega (arith, l)))
+      by_name : (n : Node) → node_named rules.classes s session place ≡ Some n → (b : Bool) → is_marked s.marks session
+          name ≡ b → (t : Bool) → nat_le max_marks (count_by (λ m. nat_eq session m.session) s.marks) ≡ t
+          → Firstly (Mark name place) (if b then Refuses code.Taken else
+          (if nat_le max_marks (count_by (λ m. nat_eq session m.session) s.marks) then Refuses code.Limit else
+          Leaves (s.marks ++ record { session = session; name = name; node = n } ∷ [])))
+      by_name n named true e t f = told (Mark name place) code.Taken (first_other (Mark name place) code.Taken mk refl
+          refl refl (omega arith) (one_place place n named) (λ l. absurd (past_itself 9 l))
+          (λ l. absurd (omega (arith, l))) (λ l. absurd (omega (arith, l))) (λ l. absurd (omega (arith, l)))
           (inr (name, place, refl, some_of (marked s.marks session name) e)))
       by_name n named false e t f = by_many n named e (nat_le max_marks (count_by (λ m. nat_eq session m.session) s.marks)) refl
 
@@ -582,27 +675,44 @@ module _ (rules : Rules) (s : State) (session : ℕ) (expected : Option ℕ) (fr
   any_among p (y ∷ ys) e = elim (either_true (p y) _ e) [ inl f ↦ (y, inl refl, f) | inr f ↦ let (x, among, g) = any_among p ys f in (x, inr among, g) ]
 
   of_where : (name : List ℕ) → Isnt (Where name) code.Mark → Firstly (Where name) (obeyed rules s session (Where name))
-  of_where name mk = stage (Where name) (marked s.marks session name) code.Mark _ (λ none. absurd (mk (name, inl refl, none))) (λ n some. (λ d e. absurd cc, λ no. none_plain (Where name) refl mk refl refl refl (λ x. x.1)))
+  of_where name mk = stage (Where name) (marked s.marks session name) code.Mark
+      _ (λ none. absurd (mk (name, inl refl, none)))
+      (λ n some. (λ d e. absurd cc, λ no. none_plain (Where name) refl mk refl refl refl (λ x. x.1)))
 
   not_posted : (place : Place) (name : List ℕ) (arguments : List Argument) → MarksAgain s (line (Post place name arguments)) → ⊥
   not_posted place name arguments (other, at, e, x) = absurd cc
 
-  post_limit : (place : Place) (name : List ℕ) (arguments : List Argument) → Isnt (Post place name arguments) code.Mark → (max_posted ≤ count_by (λ q. nat_eq session q.session) s.posted) ⊎ (s.posts ≡ last_post) → IsFirst (Post place name arguments) code.Limit
+  post_limit : (place : Place) (name : List ℕ) (arguments : List Argument) → Isnt (Post place name arguments) code.Mark
+      → (max_posted ≤ count_by (λ q. nat_eq session q.session) s.posted) ⊎ (s.posts ≡ last_post)
+      → IsFirst (Post place name arguments) code.Limit
   post_limit place name arguments mk h =
-      first_other (Post place name arguments) code.Limit mk refl refl refl (omega arith) (λ x. x.1) (λ l. not_posted place name arguments) (λ l. absurd (past_itself 12 l)) (λ l. absurd (omega (arith, l))) (λ l. absurd (omega (arith, l)))
+      first_other (Post place name arguments) code.Limit mk refl refl refl (omega arith) (λ x. x.1)
+      (λ l. not_posted place name arguments) (λ l. absurd (past_itself 12 l)) (λ l. absurd (omega (arith, l)))
+      (λ l. absurd (omega (arith, l)))
       (inr (inr (inr (place, name, arguments, refl, h))))
 
-  by_posts : (c : Command) (q : Posted) (b t : Bool) → (b ≡ true → IsFirst c code.Limit) → (t ≡ true → IsFirst c code.Limit) → (b ≡ false → t ≡ false → (d : Code) → Isnt c d) → Firstly c (if b then Refuses code.Limit else (if t then Refuses code.Limit else Posts q))
+  by_posts : (c : Command) (q : Posted) (b t : Bool) → (b ≡ true → IsFirst c code.Limit)
+      → (t ≡ true → IsFirst c code.Limit) → (b ≡ false → t ≡ false → (d : Code) → Isnt c d)
+      → Firstly c (if b then Refuses code.Limit else (if t then Refuses code.Limit else Posts q))
   by_posts c q true t f g h = told c code.Limit (f refl)
   by_posts c q false true f g h = told c code.Limit (g refl)
   by_posts c q false false f g h = (λ d e. absurd cc, λ no. h refl refl)
 
-  of_post : (place : Place) (name : List ℕ) (arguments : List Argument) → Isnt (Post place name arguments) code.Mark → Firstly (Post place name arguments) (obeyed rules s session (Post place name arguments))
+  of_post : (place : Place) (name : List ℕ) (arguments : List Argument) → Isnt (Post place name arguments) code.Mark
+      → Firstly (Post place name arguments) (obeyed rules s session (Post place name arguments))
   of_post place name arguments mk = by_posts (Post place name arguments) _ (nat_le max_posted (count_by (λ q. nat_eq session q.session) s.posted)) (nat_eq s.posts last_post)
       (λ e. post_limit place name arguments mk (inl (most (count_by (λ q. nat_eq session q.session) s.posted) max_posted e)))
       (λ e. post_limit place name arguments mk (inr (nat_same s.posts last_post e)))
       (λ e f. none_other (Post place name arguments) mk refl refl refl (λ x. x.1) (not_posted place name arguments)
-      (λ x. elim x [ inl y ↦ let h = y.2 in absurd cc | inr y ↦ elim y.4 [ inl l ↦ few (count_by (λ q. nat_eq session q.session) s.posted) max_posted e l | inr same ↦ off_on (nat_eq s.posts last_post) f (same_on s.posts last_post same) ] ])
+      (λ x. elim x [
+        | inl y ↦ let h = y.2 in absurd cc
+        | inr y ↦
+            elim y.4 [
+              | inl l ↦ few (count_by (λ q. nat_eq session q.session) s.posted) max_posted e l
+              | inr same ↦
+                  off_on (nat_eq s.posts last_post) f (same_on s.posts last_post same)
+            ]
+      ])
       (λ x. let h = x.asks in absurd cc)
       (λ x. let h = x.asks in absurd cc)
       (λ x. let h = x.1 in absurd cc))
@@ -638,7 +748,8 @@ module _ (rules : Rules) (s : State) (session : ℕ) (expected : Option ℕ) (fr
         let (q, among, f) = any_among (is_posted session which) s.posted e in
         none q among (subst (λ z. is_posted session z q ≡ true) same f)),
   )
-  by_open which mk false e = told (Wait which) code.Question (first_other (Wait which) code.Question mk refl refl refl (omega arith) (λ x. x.1) (λ l. no_again which) (λ l. no_many which) (λ l. no_ask which) (λ l. no_amiss which)
+  by_open which mk false e = told (Wait which) code.Question (first_other (Wait which) code.Question mk refl refl refl
+      (omega arith) (λ x. x.1) (λ l. no_again which) (λ l. no_many which) (λ l. no_ask which) (λ l. no_amiss which)
       (which, refl, λ q among f. off_on _ e (among_any (is_posted session which) s.posted q among f)))
 
   of_wait : (which : ℕ) → Isnt (Wait which) code.Mark → Firstly (Wait which) (obeyed rules s session (Wait which))
@@ -714,14 +825,18 @@ module _ (rules : Rules) (s : State) (l : Line) where
 
   none_unmarked : (names : List (List ℕ)) → list_all (is_marked s.marks l.session) names ≡ true → (name : List ℕ) × Among name names × (marked s.marks l.session name ≡ None) → ⊥
   none_unmarked [] e (name, among, none) = among
-  none_unmarked (first ∷ rest) e (name, inl same, none) = off_on (is_marked s.marks l.session first) (subst (λ z. is_marked s.marks l.session z ≡ false) same (ap is_some none)) (both (is_marked s.marks l.session first) _ e).0
+  none_unmarked (first ∷ rest) e (name, inl same, none) = off_on (is_marked s.marks l.session first) (subst (λ z.
+      is_marked s.marks l.session z ≡ false) same (ap is_some none)) (both (is_marked s.marks l.session first) _ e).0
   none_unmarked (first ∷ rest) e (name, inr among, none) = none_unmarked rest (both (is_marked s.marks l.session first) _ e).1 (name, among, none)
 
-  by_marks : (ExpectsOther l.expected s.version → ⊥) → (b : Bool) → list_all (is_marked s.marks l.session) (marks_used l.command) ≡ b → IsTold (if not b then Refuses code.Mark else obeyed rules s l.session l.command)
+  by_marks : (ExpectsOther l.expected s.version → ⊥) → (b : Bool) → list_all (is_marked s.marks l.session)
+      (marks_used l.command) ≡ b → IsTold (if not b then Refuses code.Mark else obeyed rules s l.session l.command)
   by_marks fresh true e = of_command rules s l.session l.expected fresh l.command (none_unmarked (marks_used l.command) e)
   by_marks fresh false e = tells code.Mark (some_unmarked (marks_used l.command) e, small 3 (omega arith) (λ k. fresh))
 
-  by_version : (b : Bool) → is_stale l.expected s.version ≡ b → IsTold (if b then Refuses (code.Stale s.version) else (if not (list_all (is_marked s.marks l.session) (marks_used l.command)) then Refuses code.Mark else obeyed rules s l.session l.command))
+  by_version : (b : Bool) → is_stale l.expected s.version ≡ b
+      → IsTold (if b then Refuses (code.Stale s.version) else (if not (list_all (is_marked s.marks l.session)
+      (marks_used l.command)) then Refuses code.Mark else obeyed rules s l.session l.command))
   by_version true e = tells (code.Stale s.version) ((stale_other l.expected s.version e, refl), small 2 (omega arith) (λ k. absurd (past_itself 2 k)))
   by_version false e = by_marks (fresh_by l.expected s.version e) (list_all (is_marked s.marks l.session) (marks_used l.command)) refl
 

@@ -51,7 +51,9 @@ among_trees part k no_trees i v m e h = absurd (cc)
 among_trees part k (tree t ts) zero v m e h =
     let f : v ≡ t = cc in
     let g : k ≡ k + 0 = omega arith in
-    among_left _ (map (λ n. (part, k) ∷ n) (all_nodes t)) (trees_nodes part (suc k) ts) (subst (λ z. Among ((part, z) ∷ m) (map (λ n. (part, k) ∷ n) (all_nodes t))) g (among_map (λ n. (part, k) ∷ n) m (all_nodes t) (subst (λ z. Among m (all_nodes z)) f h)))
+    among_left _ (map (λ n. (part, k) ∷ n) (all_nodes t)) (trees_nodes part (suc k) ts)
+    (subst (λ z. Among ((part, z) ∷ m) (map (λ n. (part, k) ∷ n) (all_nodes t))) g
+    (among_map (λ n. (part, k) ∷ n) m (all_nodes t) (subst (λ z. Among m (all_nodes z)) f h)))
 among_trees part k (tree t ts) (suc i) v m e h =
     let g : suc k + i ≡ k + suc i = omega arith in
     among_right _ (map (λ n. (part, k) ∷ n) (all_nodes t)) (trees_nodes part (suc k) ts) (subst (λ z. Among ((part, z) ∷ m) (trees_nodes part (suc k) ts)) g (among_trees part (suc k) ts i v m e h))
@@ -65,7 +67,9 @@ among_cell part (Filled t) zero v m e h = let f : v ≡ t = cc in among_map (λ 
 among_cell part (Filled t) (suc i) v m e h = absurd (cc)
 among_cell part (Holds w) i v m e h = absurd (cc)
 
-among_cells : (k : ℕ) (cells : Cells) (part : ℕ) (o : Option Cell) (i : ℕ) (v : Tree) (m : Node) → slice_get (from_cells cells) part ≡ o → slice_get (elim o [ None ↦ [] | Some c ↦ children c ]) i ≡ Some v → Among m (all_nodes v) → Among ((k + part, i) ∷ m) (cells_nodes k cells)
+among_cells : (k : ℕ) (cells : Cells) (part : ℕ) (o : Option Cell) (i : ℕ) (v : Tree) (m : Node)
+    → slice_get (from_cells cells) part ≡ o → slice_get (elim o [ None ↦ [] | Some c ↦ children c ]) i ≡ Some v
+    → Among m (all_nodes v) → Among ((k + part, i) ∷ m) (cells_nodes k cells)
 among_cells k cells part None i v m f e h = absurd (cc)
 among_cells k no_cells part (Some c) i v m f e h = absurd (cc)
 among_cells k (cell d cs) zero (Some c) i v m f e h =
@@ -93,9 +97,12 @@ node_listed t n c e = by_tree (tree_at t n) refl e
 
 module _ (rules : Rules) (t : Tree) (vs : List (Value Node)) where
   value_listed : (v : Value Node) (k : Kind) → IsParameter rules.classes k → IsOfKind rules.classes (class_at t) v k → IsAllowed (IsGiven rules t vs) v → Among v (argument_values rules t vs)
-  value_listed (Text bytes) k p h s = among_left (Text bytes) (map (λ bytes. Text bytes) (texts rules t vs)) (Ref None ∷ map (λ n. Ref (Some n)) (all_nodes t)) (among_map (λ bytes. Text bytes) bytes (texts rules t vs) s)
+  value_listed (Text bytes) k p h s = among_left (Text bytes) (map (λ bytes. Text bytes) (texts rules t vs))
+      (Ref None ∷ map (λ n. Ref (Some n)) (all_nodes t)) (among_map (λ bytes. Text bytes) bytes (texts rules t vs) s)
   value_listed (Ref None) k p h s = among_right (Ref None) (map (λ bytes. Text bytes) (texts rules t vs)) (Ref None ∷ map (λ n. Ref (Some n)) (all_nodes t)) (inl refl)
-  value_listed (Ref (Some n)) (kind.Class b) p (c, e, f) s = among_right (Ref (Some n)) (map (λ bytes. Text bytes) (texts rules t vs)) (Ref None ∷ map (λ n. Ref (Some n)) (all_nodes t)) (inr (among_map (λ n. Ref (Some n)) n (all_nodes t) (node_listed t n c e)))
+  value_listed (Ref (Some n)) (kind.Class b) p (c, e, f) s = among_right (Ref (Some n))
+      (map (λ bytes. Text bytes) (texts rules t vs)) (Ref None ∷ map (λ n. Ref (Some n)) (all_nodes t))
+      (inr (among_map (λ n. Ref (Some n)) n (all_nodes t) (node_listed t n c e)))
   value_listed (Ref (Some n)) kind.Int p h s = absurd p
   value_listed (Ref (Some n)) kind.Truth p h s = absurd p
   value_listed (Ref (Some n)) kind.Text p h s = absurd h
@@ -107,13 +114,17 @@ module _ (rules : Rules) (t : Tree) (vs : List (Value Node)) where
   too_many : (a b c : Kind) (ks : List Kind) → length (a ∷ b ∷ c ∷ ks) ≤ 2 → ⊥
   too_many a b c ks h = omega arith
 
-  arguments_listed : (ws : List (Value Node)) (ks : List Kind) → length ks ≤ 2 → AllByRecursion (IsParameter rules.classes) ks → AreArguments rules.classes (class_at t) (IsGiven rules t vs) ws ks → Among ws (argument_lists (argument_values rules t vs))
+  arguments_listed : (ws : List (Value Node)) (ks : List Kind) → length ks ≤ 2 → AllByRecursion
+      (IsParameter rules.classes) ks → AreArguments rules.classes (class_at t) (IsGiven rules t vs) ws ks
+      → Among ws (argument_lists (argument_values rules t vs))
   arguments_listed [] ks few p h = inl refl
   arguments_listed (v ∷ ws) [] few p h = absurd h
-  arguments_listed (v ∷ []) (k ∷ ks) few (p, ps) (h, s, hs) = inr (among_left (v ∷ []) (map (λ v. v ∷ []) (argument_values rules t vs)) _ (among_map (λ v. v ∷ []) v (argument_values rules t vs) (value_listed v k p h s)))
+  arguments_listed (v ∷ []) (k ∷ ks) few (p, ps) (h, s, hs) = inr (among_left (v ∷ []) (map (λ v. v ∷ [])
+      (argument_values rules t vs)) _ (among_map (λ v. v ∷ []) v (argument_values rules t vs) (value_listed v k p h s)))
   arguments_listed (v ∷ w ∷ ws) (k ∷ []) few p (h, s, hs) = absurd hs
   arguments_listed (v ∷ w ∷ []) (k ∷ l ∷ ks) few (p, (q, ps)) (h, s, (g, r, hs)) =
-      inr (among_right (v ∷ w ∷ []) (map (λ v. v ∷ []) (argument_values rules t vs)) _ (among_flat (λ v. map (λ w. v ∷ w ∷ []) (argument_values rules t vs)) v (v ∷ w ∷ []) (argument_values rules t vs) (value_listed v k p h s)
+      inr (among_right (v ∷ w ∷ []) (map (λ v. v ∷ []) (argument_values rules t vs)) _ (among_flat (λ v. map (λ w.
+      v ∷ w ∷ []) (argument_values rules t vs)) v (v ∷ w ∷ []) (argument_values rules t vs) (value_listed v k p h s)
       (among_map (λ w. v ∷ w ∷ []) w (argument_values rules t vs) (value_listed w l q g r))))
   arguments_listed (v ∷ w ∷ x ∷ ws) (k ∷ l ∷ []) few p (h, s, (g, r, hs)) = absurd hs
   arguments_listed (v ∷ w ∷ x ∷ ws) (k ∷ l ∷ m ∷ ks) few p h = absurd (too_many k l m ks few)

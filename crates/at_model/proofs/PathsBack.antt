@@ -37,11 +37,13 @@ pub record LeadsTo (classes : Classes) (t : Tree) (way : ℕ × ℕ) : Type 0 wh
   pub written : step_of classes (class_of t) way ≡ Some step
   pub read : step_in classes t step ≡ Some way
 
-step_back : (classes : Classes) → ArePartsApart classes → (t : Tree) (b : ℕ) (way : ℕ × ℕ) (v : Tree) → conforms classes t b ≡ true → slice_get (children_at t way.0) way.1 ≡ Some v → LeadsTo classes t way
+step_back : (classes : Classes) → ArePartsApart classes → (t : Tree) (b : ℕ) (way : ℕ × ℕ) (v : Tree)
+    → conforms classes t b ≡ true → slice_get (children_at t way.0) way.1 ≡ Some v → LeadsTo classes t way
 step_back classes apart (branch k cells) b way v ok child =
     let (c, here, at') = in_some (slice_get (from_cells cells) way.0) way.1 v child in
     let (q, is, fits) = cell_there classes cells (parts classes k) way.0 c (both _ _ ok).1 here in
-    let P : Option ℕ → Type 0 = λ o. option_and_then (λ part. option_and_then (λ p. option_map (λ i. (part, i)) (place_in p.shape (index_in q.shape way.1))) (slice_get (parts classes k) part)) o ≡ Some way in
+    let P : Option ℕ → Type 0 = λ o. option_and_then (λ part. option_and_then (λ p. option_map (λ i. (part, i))
+    (place_in p.shape (index_in q.shape way.1))) (slice_get (parts classes k) part)) o ≡ Some way in
     let found = placed classes c q.shape way.1 v fits at' in
     record {
       step = record { part = q.name; index = index_in q.shape way.1 };
@@ -49,7 +51,9 @@ step_back classes apart (branch k cells) b way v ok child =
       read = subst P (sym (apart k way.0 q is)) (ap (option_and_then (λ p. option_map (λ i. (way.0, i)) (place_in p.shape (index_in q.shape way.1)))) is ∙ ap (option_map (λ i. (way.0, i))) found);
     }
 
-pub path_back : (classes : Classes) → ArePartsApart classes → (t : Tree) (b : ℕ) (n : Node) (u : Tree) → conforms classes t b ≡ true → tree_at t n ≡ Some u → (p : Path) × (path_of classes t n ≡ Some p) × (node_at classes t p ≡ Some n)
+pub path_back : (classes : Classes) → ArePartsApart classes → (t : Tree) (b : ℕ) (n : Node) (u : Tree)
+    → conforms classes t b ≡ true → tree_at t n ≡ Some u
+    → (p : Path) × (path_of classes t n ≡ Some p) × (node_at classes t p ≡ Some n)
 path_back classes apart t b [] u ok found = ([], refl, refl)
 path_back classes apart t b (way ∷ ways) u ok found =
     let (v, child, below) = led (λ x. tree_at x ways) (slice_get (children_at t way.0) way.1) u found in
@@ -57,6 +61,11 @@ path_back classes apart t b (way ∷ ways) u ok found =
     let (p, written, read) = path_back classes apart v b' ways u ok' below in
     let s = step_back classes apart t b way v ok child in (
       s.step ∷ p,
-      ap (option_and_then (λ x. option_and_then (λ y. option_map (λ ss. x ∷ ss) (path_of classes y ways)) (slice_get (children_at t way.0) way.1))) s.written ∙ ap (option_and_then (λ y. option_map (λ ss. s.step ∷ ss) (path_of classes y ways))) child ∙ ap (option_map (λ ss. s.step ∷ ss)) written,
-      ap (option_and_then (λ w. option_and_then (λ y. option_map (λ ws. w ∷ ws) (node_at classes y p)) (slice_get (children_at t w.0) w.1))) s.read ∙ ap (option_and_then (λ y. option_map (λ ws. way ∷ ws) (node_at classes y p))) child ∙ ap (option_map (λ ws. way ∷ ws)) read,
+      ap (option_and_then (λ x. option_and_then (λ y. option_map (λ ss. x ∷ ss) (path_of classes y ways))
+          (slice_get (children_at t way.0) way.1))) s.written
+          ∙ ap (option_and_then (λ y. option_map (λ ss. s.step ∷ ss) (path_of classes y ways))) child
+          ∙ ap (option_map (λ ss. s.step ∷ ss)) written,
+      ap (option_and_then (λ w. option_and_then (λ y. option_map (λ ws. w ∷ ws) (node_at classes y p))
+          (slice_get (children_at t w.0) w.1))) s.read ∙ ap (option_and_then
+          (λ y. option_map (λ ws. way ∷ ws) (node_at classes y p))) child ∙ ap (option_map (λ ws. way ∷ ws)) read,
     )

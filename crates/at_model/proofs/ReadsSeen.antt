@@ -13,9 +13,11 @@ none_lost : {N : Type 0} (look : Contents N) (equation : Equations N) → AreLos
 none_lost look equation i v e h = absurd cc
 
 -- a try that ends is told a value for each demand
-told_at : {N A : Type 0} (look : Contents N) (known : Known N) (i : Instance N) (k : Value N → Run N A) (o : Option (Value N)) → has_ended (elim o as (λ _. Tried N A) [ None ↦ Needs i | Some v ↦ tried look known (k v) ]) ≡ true →
+told_at : {N A : Type 0} (look : Contents N) (known : Known N) (i : Instance N) (k : Value N → Run N A) (o : Option
+    (Value N)) → has_ended (elim o as (λ _. Tried N A) [ None ↦ Needs i | Some v ↦ tried look known (k v) ]) ≡ true →
     ((v : Value N) → has_ended (tried look known (k v)) ≡ true → demanded look known nowhere (k v) ≡ Some (demands look known (k v))) →
-    elim o [ None ↦ cond (nowhere i) (Some (i ∷ [])) None | Some v ↦ onto i (demanded look known nowhere (k v)) ] ≡ Some (i ∷ elim o as (λ _. List (Instance N)) [ None ↦ [] | Some v ↦ demands look known (k v) ])
+    elim o [ None ↦ cond (nowhere i) (Some (i ∷ [])) None | Some v ↦ onto i (demanded look known nowhere (k v)) ]
+    ≡ Some (i ∷ elim o as (λ _. List (Instance N)) [ None ↦ [] | Some v ↦ demands look known (k v) ])
 told_at look known i k None e more = absurd cc
 told_at look known i k (Some v) e more = rw (more v e) refl
 
@@ -27,12 +29,14 @@ all_told look known (Demands i k) e = told_at look known i k (known i) e (λ v. 
 
 -- what a try demands its evaluation comes to
 come_at : {N A : Type 0} (look : Contents N) (equation : Equations N) (known : Known N) → Right look equation known → (i j : Instance N) (k : Value N → Run N A) (o : Option (Value N)) → known i ≡ o →
-    Among j (elim o as (λ _. List (Instance N)) [ None ↦ [] | Some v ↦ demands look known (k v) ]) → ((v : Value N) → Among j (demands look known (k v)) → Reaches look (HasValue look equation) (k v) j) →
+    Among j (elim o as (λ _. List (Instance N)) [ None ↦ [] | Some v ↦ demands look known (k v) ])
+    → ((v : Value N) → Among j (demands look known (k v)) → Reaches look (HasValue look equation) (k v) j) →
     (v : Value N) × HasValue look equation i v × Reaches look (HasValue look equation) (k v) j
 come_at look equation known right i j k None is h more = absurd h
 come_at look equation known right i j k (Some v) is h more = (v, right i v is, more v h)
 
-pub comes_to : {N A : Type 0} (look : Contents N) (equation : Equations N) (known : Known N) → Right look equation known → (r : Run N A) (j : Instance N) → Among j (demands look known r) → Reaches look (HasValue look equation) r j
+pub comes_to : {N A : Type 0} (look : Contents N) (equation : Equations N) (known : Known N) → Right look equation known
+    → (r : Run N A) (j : Instance N) → Among j (demands look known r) → Reaches look (HasValue look equation) r j
 comes_to look equation known right (Gives a) j h = absurd h
 comes_to look equation known right (Fails f) j h = absurd h
 comes_to look equation known right (Looks l k) j h = comes_to look equation known right (k (look l)) j h
@@ -41,8 +45,17 @@ comes_to look equation known right (Demands i k) j (inr h) = inr (come_at look e
 
 pub reads_exact : {N A : Type 0} (look : Contents N) (equation : Equations N) (known : Known N) → Right look equation known → (r : Run N A) → has_ended (tried look known r) ≡ true → (l : Location N) →
     Among l (reads look known r) ↔ Sees look (HasValue look equation) r l
-reads_exact look equation known right r ended l = (in_sees look equation known right r l, sees_in look equation known nowhere right (none_lost look equation) r l (demands look known r) (all_told look known r ended))
+reads_exact look equation known right r ended l = (
+  in_sees look equation known right r l,
+  sees_in look equation known
+      nowhere right (none_lost look equation) r l (demands look known r) (all_told look known r ended),
+)
 
-pub demands_exact : {N A : Type 0} (look : Contents N) (equation : Equations N) (known : Known N) → Right look equation known → (r : Run N A) → has_ended (tried look known r) ≡ true → (j : Instance N) →
+pub demands_exact : {N A : Type 0} (look : Contents N) (equation : Equations N) (known : Known N)
+    → Right look equation known → (r : Run N A) → has_ended (tried look known r) ≡ true → (j : Instance N) →
     Among j (demands look known r) ↔ Reaches look (HasValue look equation) r j
-demands_exact look equation known right r ended j = (comes_to look equation known right r j, reaches_in look equation known nowhere right (none_lost look equation) r j (demands look known r) (all_told look known r ended))
+demands_exact look equation known right r ended j = (
+  comes_to look equation known right r j,
+  reaches_in look equation
+      known nowhere right (none_lost look equation) r j (demands look known r) (all_told look known r ended),
+)

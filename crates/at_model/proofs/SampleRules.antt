@@ -42,7 +42,8 @@ off : (b : Bool) → not b ≡ true → b ≡ false
 off true e = absurd cc
 off false e = refl
 
-module _ (classes : Classes) (parents : AllByRecursion (λ (k : Class). IfSome k.parent (λ b. b < length classes)) classes) (free : every_below (length classes) (λ c. not (list_any (nat_eq c) (above classes c))) ≡ true) where
+module _ (classes : Classes) (parents : AllByRecursion (λ (k : Class). IfSome k.parent (λ b. b < length classes))
+    classes) (free : every_below (length classes) (λ c. not (list_any (nat_eq c) (above classes c))) ≡ true) where
   parents_there : (c : ℕ) → IfSome (parent_of classes c) (λ b. b < length classes)
   parents_there c = by_class (slice_get classes c) refl
     where
@@ -64,20 +65,30 @@ concrete_there classes c b e = by_class (slice_get classes c) refl (both (is_con
 abbrev is_met : Rules → ℕ → ℕ → Bool
 is_met rules c k = elim (slice_get rules.attributes k) [ None ↦ true | Some a ↦ cond a.is_inherited true (cond (fits rules.classes c a.class) (is_some (own_equation rules c k)) true) ]
 
-met_there : (rules : Rules) (c k : ℕ) (a : Attribute) → slice_get rules.attributes k ≡ Some a → a.is_inherited ≡ false → fits rules.classes c a.class ≡ true → is_met rules c k ≡ true → is_some (own_equation rules c k) ≡ true
+met_there : (rules : Rules) (c k : ℕ) (a : Attribute) → slice_get rules.attributes k ≡ Some a → a.is_inherited ≡ false
+    → fits rules.classes c a.class ≡ true → is_met rules c k ≡ true → is_some (own_equation rules c k) ≡ true
 met_there rules c k a e f g h = by_option (slice_get rules.attributes k) e h
   where
-    by_option : (o : Option Attribute) → o ≡ Some a → elim o [ None ↦ true | Some a ↦ cond a.is_inherited true (cond (fits rules.classes c a.class) (is_some (own_equation rules c k)) true) ] ≡ true → is_some (own_equation rules c k) ≡ true
+    by_option : (o : Option Attribute) → o ≡ Some a → elim o [
+      | None ↦ true
+      | Some a ↦
+          cond a.is_inherited true (cond (fits rules.classes c a.class) (is_some (own_equation rules c k)) true)
+    ] ≡ true
+        → is_some (own_equation rules c k) ≡ true
     by_option None i j = absurd cc
     by_option (Some b) i j =
         let same : b ≡ a = cc in
         let x = subst (λ (z : Attribute). cond z.is_inherited true (cond (fits rules.classes c z.class) (is_some (own_equation rules c k)) true) ≡ true) same j in
         subst (λ z. cond z (is_some (own_equation rules c k)) true ≡ true) g (subst (λ z. cond z true (cond (fits rules.classes c a.class) (is_some (own_equation rules c k)) true) ≡ true) f x)
 
-all_met : (rules : Rules) → every_below (length rules.classes) (λ c. every_below (length rules.attributes) (is_met rules c)) ≡ true → (c k : ℕ) (a : Attribute) → slice_get rules.attributes k ≡ Some a → a.is_inherited ≡ false → fits rules.classes c a.class ≡ true → IsSome (own_equation rules c k)
+all_met : (rules : Rules) → every_below (length rules.classes) (λ c. every_below (length rules.attributes)
+    (is_met rules c)) ≡ true → (c k : ℕ) (a : Attribute) → slice_get rules.attributes k ≡ Some a
+    → a.is_inherited ≡ false → fits rules.classes c a.class ≡ true → IsSome (own_equation rules c k)
 all_met rules test c k a e f g =
     met_there rules c k a e f g
-    (passes (length rules.attributes) (is_met rules c) k (passes (length rules.classes) (λ c. every_below (length rules.attributes) (is_met rules c)) c test (concrete_there rules.classes c a.class g)) (slice_get_within rules.attributes k a e))
+    (passes (length rules.attributes) (is_met rules c) k (passes (length rules.classes)
+    (λ c. every_below (length rules.attributes) (is_met rules c)) c test (concrete_there rules.classes c a.class g))
+    (slice_get_within rules.attributes k a e))
 
 -- sum -----------------------------------------------------------------------------------------------------------------
 
@@ -88,9 +99,13 @@ sum_hierarchy : IsHierarchy sum_rules.classes
 unfolding chain
 sum_hierarchy = hierarchy sum_rules.classes (tt, (tt, tt)) refl
 
-sum_body : HasKind sum_rules (record { this = 0; names = []; has_index = false }) (body.Arithmetic body.Add (body.TokenOf (body.Child This 0) 0) (body.Arithmetic body.Multiply (body.TokenOf (body.Child This 1) 0) (IntLiteral (pos 2)))) Int
+sum_body : HasKind sum_rules (record { this = 0; names = []; has_index = false })
+    (body.Arithmetic body.Add (body.TokenOf (body.Child This 0) 0)
+    (body.Arithmetic body.Multiply (body.TokenOf (body.Child This 1) 0) (IntLiteral (pos 2)))) Int
 unfolding chain
-sum_body = form.arithmetic body.Add (form.token_of 1 0 token.Int refl (form.child 0 0 1 refl form.this)) (form.arithmetic body.Multiply (form.token_of 1 0 token.Int refl (form.child 0 1 1 refl form.this)) (form.int_literal (pos 2) (omega arith)))
+sum_body = form.arithmetic body.Add (form.token_of 1 0 token.Int refl (form.child 0 0 1 refl form.this))
+    (form.arithmetic body.Multiply (form.token_of 1 0 token.Int refl (form.child 0 1 1 refl form.this))
+    (form.int_literal (pos 2) (omega arith)))
 
 not_inherited : (a : Attribute) → a.is_inherited ≡ false → a.is_inherited ≡ true → ⊥
 not_inherited a e f = let g : false ≡ true = sym e ∙ f in absurd cc
@@ -200,7 +215,8 @@ own_typed = (
               attribute = refl;
               synthesized = refl;
               declared = refl;
-              body = form.arithmetic body.Add (form.call 5 5 (at 5) refl refl (form.child 8 0 5 refl form.this) form.no_more) (form.call 5 5 (at 5) refl refl (form.child 8 1 5 refl form.this) form.no_more);
+              body = form.arithmetic body.Add (form.call 5 5 (at 5) refl refl (form.child 8 0 5 refl form.this)
+                  form.no_more) (form.call 5 5 (at 5) refl refl (form.child 8 1 5 refl form.this) form.no_more);
             },
             (
               record {
@@ -258,7 +274,9 @@ own_typed = (
                                     attribute = refl;
                                     synthesized = refl;
                                     declared = refl;
-                                    body = form.join_int (form.join_int (form.text_literal (codes "n")) (form.arithmetic body.Divide (int_of (plain 0) 1 (omega arith)) (int_of (plain 0) 2 (omega arith)))) (form.int_literal (negsuc 6) (omega arith));
+                                    body = form.join_int (form.join_int (form.text_literal (codes "n"))
+                                        (form.arithmetic body.Divide (int_of (plain 0) 1 (omega arith)) (int_of
+                                        (plain 0) 2 (omega arith)))) (form.int_literal (negsuc 6) (omega arith));
                                   },
                                   tt,
                                 ),
@@ -284,10 +302,90 @@ abbrev IsEach : List ℕ → (Attribute → Type 0) → Attribute → Type 0
 IsEach name P a = a.is_inherited ≡ true → bytes_eq name a.name ≡ true → P a
 
 each_lookup : (P : Attribute → Type 0) → P (at 0) → P (at 1) → AllByRecursion (IsEach (codes "lookup") P) calc_attributes
-each_lookup P user block = (λ i e. user, (λ i e. block, (λ i e. absurd cc, (λ i e. absurd cc, (λ i e. absurd cc, (λ i e. absurd cc, (λ i e. absurd cc, (λ i e. absurd cc, (λ i e. absurd cc, (λ i e. absurd cc, (λ i e. absurd cc, (λ i e. absurd cc, (λ i e. absurd cc, (λ i e. absurd cc, (λ i e. absurd cc, (λ i e. absurd cc, (λ i e. absurd cc, tt)))))))))))))))))
+each_lookup P user block = (
+  λ i e. user,
+  (
+    λ i e. block,
+    (
+      λ i e. absurd cc,
+      (
+        λ i e. absurd cc,
+        (
+          λ i e. absurd cc,
+          (
+            λ i e. absurd cc,
+            (
+              λ i e. absurd cc,
+              (
+                λ i e. absurd cc,
+                (
+                  λ i e. absurd cc,
+                  (
+                    λ i e. absurd cc,
+                    (
+                      λ i e. absurd cc,
+                      (
+                        λ i e. absurd cc,
+                        (
+                          λ i e. absurd
+                              cc,
+                          (λ i e. absurd cc, (λ i e. absurd cc, (λ i e. absurd cc, (λ i e. absurd cc, tt)))),
+                        ),
+                      ),
+                    ),
+                  ),
+                ),
+              ),
+            ),
+          ),
+        ),
+      ),
+    ),
+  ),
+)
 
 each_pos : (P : Attribute → Type 0) → P (at 16) → AllByRecursion (IsEach (codes "pos") P) calc_attributes
-each_pos P statement = (λ i e. absurd cc, (λ i e. absurd cc, (λ i e. absurd cc, (λ i e. absurd cc, (λ i e. absurd cc, (λ i e. absurd cc, (λ i e. absurd cc, (λ i e. absurd cc, (λ i e. absurd cc, (λ i e. absurd cc, (λ i e. absurd cc, (λ i e. absurd cc, (λ i e. absurd cc, (λ i e. absurd cc, (λ i e. absurd cc, (λ i e. absurd cc, (λ i e. statement, tt)))))))))))))))))
+each_pos P statement = (
+  λ i e. absurd cc,
+  (
+    λ i e. absurd cc,
+    (
+      λ i e. absurd cc,
+      (
+        λ i e. absurd cc,
+        (
+          λ i e. absurd cc,
+          (
+            λ i e. absurd cc,
+            (
+              λ i e. absurd cc,
+              (
+                λ i e. absurd cc,
+                (
+                  λ i e. absurd cc,
+                  (
+                    λ i e. absurd cc,
+                    (
+                      λ i e. absurd cc,
+                      (
+                        λ i e. absurd cc,
+                        (
+                          λ i e. absurd
+                              cc,
+                          (λ i e. absurd cc, (λ i e. absurd cc, (λ i e. absurd cc, (λ i e. statement, tt)))),
+                        ),
+                      ),
+                    ),
+                  ),
+                ),
+              ),
+            ),
+          ),
+        ),
+      ),
+    ),
+  ),
+)
 
 of_lookup : (P : Attribute → Type 0) → P (at 0) → P (at 1) → (k : ℕ) (a : Attribute) → IsInheritedOf calc (codes "lookup") k a → P a
 of_lookup P user block k a (e, inherited, named) = found (IsEach (codes "lookup") P) calc_attributes k a (each_lookup P user block) e inherited named
@@ -298,7 +396,9 @@ of_pos P statement k a (e, inherited, named) = found (IsEach (codes "pos") P) ca
 abbrev Body : ℕ → Bool → Expr → Attribute → Type 0
 Body c b e a = HasKind calc (record { this = c; names = a.parameters; has_index = b }) e a.result
 
-lookup_in_block : HasKind calc (with_name 2 true) (body.Choose (body.Differ (body.Call This 2 (expr (body.Name 0) no_exprs)) body.NullLiteral) (body.Call This 2 (expr (body.Name 0) no_exprs)) (body.Call This 1 (expr (body.Name 0) no_exprs))) (kind.Class 3)
+lookup_in_block : HasKind calc (with_name 2 true)
+    (body.Choose (body.Differ (body.Call This 2 (expr (body.Name 0) no_exprs)) body.NullLiteral)
+    (body.Call This 2 (expr (body.Name 0) no_exprs)) (body.Call This 1 (expr (body.Name 0) no_exprs))) (kind.Class 3)
 lookup_in_block = form.choose (kind.Class 3) (form.differ (kind.Class 3) (kind.Class 3) (form.nodes 3 3) local_typed (form.null_literal 3)) local_typed lookup_typed
 
 inherited_typed : AllByRecursion (IsInheritedTyped calc) calc.inherited
@@ -308,7 +408,10 @@ inherited_typed = (
     class = omega arith;
     part = refl;
     declared = (0, at 0, (refl, refl, refl));
-    body = λ k a h. of_lookup (Body 2 true (body.Choose (body.Differ (body.Call This 2 (expr (body.Name 0) no_exprs)) body.NullLiteral) (body.Call This 2 (expr (body.Name 0) no_exprs)) (body.Call This 1 (expr (body.Name 0) no_exprs)))) lookup_in_block lookup_in_block k a h;
+    body = λ k a h. of_lookup
+        (Body 2 true (body.Choose (body.Differ (body.Call This 2 (expr (body.Name 0) no_exprs)) body.NullLiteral)
+        (body.Call This 2 (expr (body.Name 0) no_exprs)) (body.Call This 1 (expr (body.Name 0) no_exprs))))
+        lookup_in_block lookup_in_block k a h;
   },
   (
     record {
@@ -338,8 +441,173 @@ inherited_typed = (
 )
 
 declarations_typed : AllByRecursion (IsDeclarationTyped calc_classes) calc_attributes
-declarations_typed =
-    (record { class = omega arith; result = omega arith; parameters = (tt, tt); few = omega arith; boolean = λ b e. absurd cc }, (record { class = omega arith; result = omega arith; parameters = (tt, tt); few = omega arith; boolean = λ b e. absurd cc }, (record { class = omega arith; result = omega arith; parameters = (tt, tt); few = omega arith; boolean = λ b e. absurd cc }, (record { class = omega arith; result = tt; parameters = (tt, tt); few = omega arith; boolean = λ b e. absurd cc }, (record { class = omega arith; result = omega arith; parameters = tt; few = omega arith; boolean = λ b e. absurd cc }, (record { class = omega arith; result = tt; parameters = tt; few = omega arith; boolean = λ b e. absurd cc }, (record { class = omega arith; result = tt; parameters = tt; few = omega arith; boolean = λ b e. absurd cc }, (record { class = omega arith; result = tt; parameters = tt; few = omega arith; boolean = λ b e. absurd cc }, (record { class = omega arith; result = tt; parameters = tt; few = omega arith; boolean = λ b e. absurd cc }, (record { class = omega arith; result = tt; parameters = tt; few = omega arith; boolean = λ b e. absurd cc }, (record { class = omega arith; result = tt; parameters = tt; few = omega arith; boolean = λ b e. absurd cc }, (record { class = omega arith; result = tt; parameters = tt; few = omega arith; boolean = λ b e. absurd cc }, (record { class = omega arith; result = tt; parameters = tt; few = omega arith; boolean = λ b e. absurd cc }, (record { class = omega arith; result = tt; parameters = tt; few = omega arith; boolean = λ b e. absurd cc }, (record { class = omega arith; result = tt; parameters = tt; few = omega arith; boolean = λ b e. absurd cc }, (record { class = omega arith; result = tt; parameters = tt; few = omega arith; boolean = λ b e. absurd cc }, (record { class = omega arith; result = tt; parameters = tt; few = omega arith; boolean = λ b e. absurd cc }, tt)))))))))))))))))
+declarations_typed = (
+  record {
+    class = omega arith;
+    result = omega arith;
+    parameters = (tt, tt);
+    few = omega arith;
+    boolean = λ b e.
+        absurd cc;
+  },
+  (
+    record {
+      class = omega arith;
+      result = omega arith;
+      parameters = (tt, tt);
+      few = omega arith;
+      boolean = λ b e. absurd cc;
+    },
+    (
+      record {
+        class = omega arith;
+        result = omega arith;
+        parameters = (tt, tt);
+        few =
+            omega arith;
+        boolean = λ b e. absurd cc;
+      },
+      (
+        record {
+          class = omega arith;
+          result = tt;
+          parameters = (tt, tt);
+          few = omega arith;
+          boolean = λ b e. absurd cc;
+        },
+        (
+          record {
+            class = omega arith;
+            result = omega arith;
+            parameters = tt;
+            few = omega arith;
+            boolean = λ b e. absurd cc;
+          },
+          (
+            record {
+              class = omega arith;
+              result = tt;
+              parameters = tt;
+              few = omega arith;
+              boolean = λ b e. absurd cc;
+            },
+            (
+              record {
+                class = omega
+                    arith;
+                result = tt;
+                parameters = tt;
+                few = omega arith;
+                boolean = λ b e. absurd cc;
+              },
+              (
+                record {
+                  class = omega
+                      arith;
+                  result = tt;
+                  parameters = tt;
+                  few = omega arith;
+                  boolean = λ b e. absurd cc;
+                },
+                (
+                  record {
+                    class = omega
+                        arith;
+                    result = tt;
+                    parameters = tt;
+                    few = omega arith;
+                    boolean = λ b e. absurd cc;
+                  },
+                  (
+                    record {
+                      class = omega
+                          arith;
+                      result = tt;
+                      parameters = tt;
+                      few = omega arith;
+                      boolean = λ b e. absurd cc;
+                    },
+                    (
+                      record {
+                        class = omega
+                            arith;
+                        result = tt;
+                        parameters = tt;
+                        few = omega arith;
+                        boolean = λ b e. absurd cc;
+                      },
+                      (
+                        record {
+                          class = omega
+                              arith;
+                          result = tt;
+                          parameters = tt;
+                          few = omega arith;
+                          boolean = λ b e. absurd cc;
+                        },
+                        (
+                          record {
+                            class = omega
+                                arith;
+                            result = tt;
+                            parameters = tt;
+                            few = omega arith;
+                            boolean = λ b e. absurd cc;
+                          },
+                          (
+                            record {
+                              class = omega
+                                  arith;
+                              result = tt;
+                              parameters = tt;
+                              few = omega arith;
+                              boolean = λ b e. absurd cc;
+                            },
+                            (
+                              record {
+                                class = omega
+                                    arith;
+                                result = tt;
+                                parameters = tt;
+                                few = omega arith;
+                                boolean = λ b e. absurd cc;
+                              },
+                              (
+                                record {
+                                  class = omega
+                                      arith;
+                                  result = tt;
+                                  parameters = tt;
+                                  few = omega arith;
+                                  boolean = λ b e. absurd cc;
+                                },
+                                (
+                                  record {
+                                    class = omega
+                                        arith;
+                                    result = tt;
+                                    parameters = tt;
+                                    few = omega arith;
+                                    boolean = λ b e. absurd cc;
+                                  },
+                                  tt,
+                                ),
+                              ),
+                            ),
+                          ),
+                        ),
+                      ),
+                    ),
+                  ),
+                ),
+              ),
+            ),
+          ),
+        ),
+      ),
+    ),
+  ),
+)
 
 -- the same parameters and the same result
 abbrev IsSigned : Attribute → Attribute → Type 0
@@ -349,7 +617,60 @@ abbrev IsAlikeToAll : Attribute → Type 0
 IsAlikeToAll a = a.is_inherited ≡ true → (k : ℕ) (b : Attribute) → slice_get calc_attributes k ≡ Some b → b.is_inherited ≡ true → bytes_eq a.name b.name ≡ true → IsSigned a b
 
 all_alike : AllByRecursion IsAlikeToAll calc_attributes
-all_alike = (λ i k b f j n. of_lookup (IsSigned (at 0)) (refl, refl) (refl, refl) k b (f, j, n), (λ i k b f j n. of_lookup (IsSigned (at 1)) (refl, refl) (refl, refl) k b (f, j, n), (λ i k b f j n. absurd cc, (λ i k b f j n. absurd cc, (λ i k b f j n. absurd cc, (λ i k b f j n. absurd cc, (λ i k b f j n. absurd cc, (λ i k b f j n. absurd cc, (λ i k b f j n. absurd cc, (λ i k b f j n. absurd cc, (λ i k b f j n. absurd cc, (λ i k b f j n. absurd cc, (λ i k b f j n. absurd cc, (λ i k b f j n. absurd cc, (λ i k b f j n. absurd cc, (λ i k b f j n. absurd cc, (λ i k b f j n. of_pos (IsSigned (at 16)) (refl, refl) k b (f, j, n), tt)))))))))))))))))
+all_alike = (
+  λ i k b f j n. of_lookup (IsSigned (at 0)) (refl, refl) (refl, refl) k b (f, j, n),
+  (
+    λ i k b f j n.
+        of_lookup (IsSigned (at 1)) (refl, refl) (refl, refl) k b (f, j, n),
+    (
+      λ i k b f j n. absurd cc,
+      (
+        λ i k b f j n.
+            absurd cc,
+        (
+          λ i k b f j n. absurd cc,
+          (
+            λ i k b f j n. absurd cc,
+            (
+              λ i k b f j n. absurd cc,
+              (
+                λ i k b f j n. absurd
+                    cc,
+                (
+                  λ i k b f j n. absurd cc,
+                  (
+                    λ i k b f j n. absurd cc,
+                    (
+                      λ i k b f j n. absurd cc,
+                      (
+                        λ i k b f j n. absurd
+                            cc,
+                        (
+                          λ i k b f j n. absurd cc,
+                          (
+                            λ i k b f j n. absurd cc,
+                            (
+                              λ i k b f j n. absurd cc,
+                              (
+                                λ i k b f j n. absurd
+                                    cc,
+                                (λ i k b f j n. of_pos (IsSigned (at 16)) (refl, refl) k b (f, j, n), tt),
+                              ),
+                            ),
+                          ),
+                        ),
+                      ),
+                    ),
+                  ),
+                ),
+              ),
+            ),
+          ),
+        ),
+      ),
+    ),
+  ),
+)
 
 calc_alike : AreInheritedAlike calc
 calc_alike j k a b e f inherited also named = found IsAlikeToAll calc_attributes j a all_alike e inherited k b f also named
@@ -360,7 +681,8 @@ calc_typed = record { attributes = declarations_typed; alike = calc_alike; own =
 -- no node but the root may stand with no equation above
 root_alone : (c : ℕ) → fits calc_classes c 0 ≡ true → c ≡ 0
 unfolding chain
-root_alone c e = is_zero (subst (λ b. cond b (nat_eq c 0) true ≡ true) e (passes (length calc_classes) (λ c. cond (fits calc_classes c 0) (nat_eq c 0) true) c refl (concrete_there calc_classes c 0 e)))
+root_alone c e = is_zero (subst (λ b. cond b (nat_eq c 0) true ≡ true) e (passes (length calc_classes)
+    (λ c. cond (fits calc_classes c 0) (nat_eq c 0) true) c refl (concrete_there calc_classes c 0 e)))
   where
     is_zero : nat_eq c 0 ≡ true → c ≡ 0
     is_zero h = grind (arith, nat_tests)
@@ -383,11 +705,88 @@ only_root bytes some _ (below c d exposed passes) = absurd (nothing_passes bytes
 
 met_at_root : AllByRecursion (λ (a : Attribute). a.is_inherited ≡ true → IsSome (inherited_equation calc 0 0 a.name)) calc_attributes
 unfolding chain
-met_at_root = (λ i. refl, (λ i. refl, (λ i. absurd cc, (λ i. absurd cc, (λ i. absurd cc, (λ i. absurd cc, (λ i. absurd cc, (λ i. absurd cc, (λ i. absurd cc, (λ i. absurd cc, (λ i. absurd cc, (λ i. absurd cc, (λ i. absurd cc, (λ i. absurd cc, (λ i. absurd cc, (λ i. absurd cc, (λ i. refl, tt)))))))))))))))))
+met_at_root = (
+  λ i. refl,
+  (
+    λ i. refl,
+    (
+      λ i. absurd cc,
+      (
+        λ i. absurd cc,
+        (
+          λ i. absurd cc,
+          (
+            λ i. absurd cc,
+            (
+              λ i. absurd cc,
+              (
+                λ i. absurd cc,
+                (
+                  λ i. absurd cc,
+                  (
+                    λ i. absurd cc,
+                    (
+                      λ i. absurd cc,
+                      (
+                        λ i. absurd
+                            cc,
+                        (λ i. absurd cc, (λ i. absurd cc, (λ i. absurd cc, (λ i. absurd cc, (λ i. refl, tt))))),
+                      ),
+                    ),
+                  ),
+                ),
+              ),
+            ),
+          ),
+        ),
+      ),
+    ),
+  ),
+)
 
 none_of_root : AllByRecursion (λ (a : Attribute). a.is_inherited ≡ true → fits calc_classes 0 a.class ≡ true → ⊥) calc_attributes
 unfolding chain
-none_of_root = (λ i f. absurd cc, (λ i f. absurd cc, (λ i f. absurd cc, (λ i f. absurd cc, (λ i f. absurd cc, (λ i f. absurd cc, (λ i f. absurd cc, (λ i f. absurd cc, (λ i f. absurd cc, (λ i f. absurd cc, (λ i f. absurd cc, (λ i f. absurd cc, (λ i f. absurd cc, (λ i f. absurd cc, (λ i f. absurd cc, (λ i f. absurd cc, (λ i f. absurd cc, tt)))))))))))))))))
+none_of_root = (
+  λ i f. absurd cc,
+  (
+    λ i f. absurd cc,
+    (
+      λ i f. absurd cc,
+      (
+        λ i f. absurd cc,
+        (
+          λ i f. absurd cc,
+          (
+            λ i f. absurd cc,
+            (
+              λ i f. absurd cc,
+              (
+                λ i f. absurd cc,
+                (
+                  λ i f. absurd cc,
+                  (
+                    λ i f. absurd cc,
+                    (
+                      λ i f. absurd cc,
+                      (
+                        λ i f. absurd cc,
+                        (
+                          λ i f. absurd
+                              cc,
+                          (λ i f. absurd cc, (λ i f. absurd cc, (λ i f. absurd cc, (λ i f. absurd cc, tt)))),
+                        ),
+                      ),
+                    ),
+                  ),
+                ),
+              ),
+            ),
+          ),
+        ),
+      ),
+    ),
+  ),
+)
 
 calc_complete : AreComplete calc
 unfolding chain

@@ -40,11 +40,14 @@ parent_there t [] s u e = (t, refl)
 parent_there t (x ∷ m) s u e = there m s u (slice_get (children_at t x.0) x.1) (λ w. parent_there w m s u) e
 
 abbrev pub Found : Rules → Tree → List ℕ → List (Value Node) → ℕ → Node → Type 0
-Found rules t name vs h n = (u : Tree) → tree_at t n ≡ Some u → length n ≤ h → (s : Source) → source_of rules t name n ≡ Some s → LooksTo (content t) (by_inherited rules node_eq name vs h n) (way_up rules t name n) (at_source rules vs s)
+Found rules t name vs h n = (u : Tree) → tree_at t n ≡ Some u → length n ≤ h → (s : Source) → source_of rules t name n ≡
+    Some s → LooksTo (content t) (by_inherited rules node_eq name vs h n) (way_up rules t name n) (at_source rules vs s)
 
 -- at the parent: the equation that stands there, or the way further up
-at_parent : (rules : Rules) (t : Tree) (name : List ℕ) (vs : List (Value Node)) (h : ℕ) (m : Node) (s : ℕ × ℕ) (src : Source) (o : Option Expr) (p : Option Source) → p ≡ option_map (λ e. (e, m, s)) o →
-    option_or p (source_of rules t name m) ≡ Some src → (source_of rules t name m ≡ Some src → LooksTo (content t) (by_inherited rules node_eq name vs h m) (way_up rules t name m) (at_source rules vs src)) →
+at_parent : (rules : Rules) (t : Tree) (name : List ℕ) (vs : List (Value Node)) (h : ℕ) (m : Node) (s : ℕ × ℕ)
+    (src : Source) (o : Option Expr) (p : Option Source) → p ≡ option_map (λ e. (e, m, s)) o →
+    option_or p (source_of rules t name m) ≡ Some src → (source_of rules t name m ≡ Some src → LooksTo (content t)
+    (by_inherited rules node_eq name vs h m) (way_up rules t name m) (at_source rules vs src)) →
     LooksTo (content t) (by_equation rules node_eq (record { this = m; names = vs; child = Some (m ++ s ∷ []) }) (by_inherited rules node_eq name vs h m) o)
     (flat_map step_up (elim p [ None ↦ up_to_first (source_at rules t name) (prefixes m) | Some b ↦ [] ])) (at_source rules vs src)
 at_parent rules t name vs h m s src None None e x rest = rest x
@@ -53,8 +56,10 @@ at_parent rules t name vs h m s src (Some b) None e x rest = absurd (cc)
 at_parent rules t name vs h m s src (Some b) (Some c) e x rest = let f : c ≡ (b, m, s) = cc in let g : c ≡ src = cc in let k : (b, m, s) ≡ src = sym f ∙ g in ap (at_source rules vs) k
 
 -- a step to the parent
-one_up : (rules : Rules) (t : Tree) (name : List ℕ) (vs : List (Value Node)) (h : ℕ) (n m : Node) (part : ℕ) (ls : List (Location Node)) (r : Run Node (Value Node)) (c : Option (Node × ℕ)) → c ≡ Some (m, part) →
-    LooksTo (content t) (by_equation rules node_eq (record { this = m; names = vs; child = Some n }) (by_inherited rules node_eq name vs h m) (inherited_equation rules (content t (Is m)) part name)) ls r →
+one_up : (rules : Rules) (t : Tree) (name : List ℕ) (vs : List (Value Node)) (h : ℕ) (n m : Node) (part : ℕ)
+    (ls : List (Location Node)) (r : Run Node (Value Node)) (c : Option (Node × ℕ)) → c ≡ Some (m, part) →
+    LooksTo (content t) (by_equation rules node_eq (record { this = m; names = vs; child = Some n })
+    (by_inherited rules node_eq name vs h m) (inherited_equation rules (content t (Is m)) part name)) ls r →
     LooksTo (content t) (elim c as (λ _. Run Node (Value Node)) [
       | None ↦ Fails Null
       | Some p ↦ Looks (Is p.0) (λ c. by_equation rules node_eq (record { this = p.0; names = vs; child = Some n }) (by_inherited rules node_eq name vs h p.0) (inherited_equation rules c p.1 name))
@@ -72,7 +77,8 @@ at_snoc rules t name vs h m s rest u q b src x =
     let e : option_map (λ p. (p.0, p.1.0)) (parent_of (m ++ s ∷ [])) ≡ Some (m, s.0) = ap (λ p. option_map (λ p. (p.0, p.1.0)) p) (parent_of-snoc m s) in
     let g : source_at rules t name (m, s) ≡ option_map (λ e. (e, m, s)) (inherited_equation rules (class_of w) s.0 name) = rw f refl in
     let k : length (m ++ s ∷ []) ≡ length m + 1 = length-append m (s ∷ []) in
-    let l : LooksTo (content t) (by_equation rules node_eq (record { this = m; names = vs; child = Some (m ++ s ∷ []) }) (by_inherited rules node_eq name vs h m) (inherited_equation rules (content t (Is m)) s.0 name))
+    let l : LooksTo (content t) (by_equation rules node_eq (record { this = m; names = vs; child = Some (m ++ s ∷ []) })
+    (by_inherited rules node_eq name vs h m) (inherited_equation rules (content t (Is m)) s.0 name))
     (flat_map step_up (elim (source_at rules t name (m, s)) [ None ↦ up_to_first (source_at rules t name) (prefixes m) | Some b ↦ [] ])) (at_source rules vs src) =
     rw (class_there t m w f) (at_parent rules t name vs h m s src (inherited_equation rules (class_of w) s.0 name) (source_at rules t name (m, s)) g x' (rest w f (omega arith) src)) in
     rw (prefixes-snoc m s) (refl, one_up rules t name vs h (m ++ s ∷ []) m s.0 _ (at_source rules vs src) (option_map (λ p. (p.0, p.1.0)) (parent_of (m ++ s ∷ []))) e l)
@@ -118,14 +124,21 @@ inherited_found rules t i u s q b inh x =
     let g = subst (λ r. LooksTo (content t) r (way_up rules t (attribute_name rules i.attribute) i.node) (at_source rules i.arguments s)) (sym e) f in
     (refl, looks_more (content t) _ (argument_classes i.arguments) _ _ _ (past_them (content t) i.arguments _) g)
 
-by_own-there : (rules : Rules) (i : Instance Node) (e : Expr) (c d : ℕ) → c ≡ d → own_equation rules d i.attribute ≡ Some e → by_own rules node_eq i c ≡ eval rules.classes node_eq e (record { this = i.node; names = i.arguments; child = None })
+by_own-there : (rules : Rules) (i : Instance Node) (e : Expr) (c d : ℕ) → c ≡ d
+    → own_equation rules d i.attribute ≡ Some e → by_own rules node_eq i c
+    ≡ eval rules.classes node_eq e (record { this = i.node; names = i.arguments; child = None })
 by_own-there rules i e c d f g = ap (λ o. by_equation rules node_eq (record { this = i.node; names = i.arguments; child = None }) (Fails Null) o) (ap (λ c. own_equation rules c i.attribute) f ∙ g)
 
-pub own_found : (rules : Rules) (t : Tree) (i : Instance Node) (u : Tree) (e : Expr) → tree_at t i.node ≡ Some u → is_inherited rules i.attribute ≡ false → own_equation rules (class_of u) i.attribute ≡ Some e →
+pub own_found : (rules : Rules) (t : Tree) (i : Instance Node) (u : Tree) (e : Expr) → tree_at t i.node ≡ Some u
+    → is_inherited rules i.attribute ≡ false → own_equation rules (class_of u) i.attribute ≡ Some e →
     LooksTo (content t) (equations rules i) (Is i.node ∷ argument_classes i.arguments) (eval rules.classes node_eq e (record { this = i.node; names = i.arguments; child = None }))
 own_found rules t i u e q inh x =
     let walk = by_inherited rules node_eq (attribute_name rules i.attribute) i.arguments max_depth i.node in
     let own = by_own rules node_eq i (content t (Is i.node)) in
     let f = chosen_way (is_inherited rules i.attribute) false inh walk own in
-    let g = by_own-there rules i e (content t (Is i.node)) (class_of u) (class_there t i.node u q) x in
-    (refl, subst (λ r. LooksTo (content t) (past_arguments i.arguments (elim (is_inherited rules i.attribute) as (λ _. Run Node (Value Node)) [ true ↦ walk | false ↦ own ])) (argument_classes i.arguments) r) (f ∙ g) (past_them (content t) i.arguments _))
+    let g = by_own-there rules i e (content t (Is i.node)) (class_of u) (class_there t i.node u q) x in (
+      refl,
+      subst (λ r. LooksTo (content t) (past_arguments i.arguments (elim (is_inherited rules i.attribute)
+          as (λ _. Run Node (Value Node)) [ true ↦ walk | false ↦ own ])) (argument_classes i.arguments) r) (f ∙ g)
+          (past_them (content t) i.arguments _),
+    )

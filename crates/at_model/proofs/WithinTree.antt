@@ -36,7 +36,8 @@ pub tree_at-snoc : (t : Tree) (n : Node) (s : ℕ × ℕ) (u : Tree) → tree_at
 tree_at-snoc t [] s u e = let f : t ≡ u = cc in subst (λ z. tree_at t (s ∷ []) ≡ slice_get (children_at z s.0) s.1) f (as_it_is (slice_get (children_at t s.0) s.1))
 tree_at-snoc t (x ∷ n) s u e = below n s u (slice_get (children_at t x.0) x.1) (λ w. tree_at-snoc w n s u) e
 
-each_child : (t : Tree) (n : Node) (part k : ℕ) (ts : List Tree) → ((j : ℕ) (x : Tree) → slice_get ts j ≡ Some x → IsThere t (n ++ (part, k + j) ∷ [])) → ListLike (Within t) (child_nodes n part k ts) (child_nodes n part k ts)
+each_child : (t : Tree) (n : Node) (part k : ℕ) (ts : List Tree) → ((j : ℕ) (x : Tree) → slice_get ts j ≡ Some x
+    → IsThere t (n ++ (part, k + j) ∷ [])) → ListLike (Within t) (child_nodes n part k ts) (child_nodes n part k ts)
 each_child t n part k [] there = end
 each_child t n part k (x ∷ xs) there =
     let e : k + 0 ≡ k = omega arith in
@@ -47,7 +48,9 @@ each_child t n part k (x ∷ xs) there =
 children_within : (t : Tree) (n : Node) (part : ℕ) (o : Option Tree) → tree_at t n ≡ o →
     ListLike (Within t) (elim o [ None ↦ [] | Some u ↦ child_nodes n part 0 (children_at u part) ]) (elim o [ None ↦ [] | Some u ↦ child_nodes n part 0 (children_at u part) ])
 children_within t n part None e = end
-children_within t n part (Some u) e = each_child t n part 0 (children_at u part) (λ j x f. let g : 0 + j ≡ j = omega arith in subst (λ z. IsThere t (n ++ (part, z) ∷ [])) (sym g) (some_there (tree_at t (n ++ (part, j) ∷ [])) x (tree_at-snoc t n (part, j) u e ∙ f)))
+children_within t n part (Some u) e = each_child t n part 0 (children_at u part)
+    (λ j x f. let g : 0 + j ≡ j = omega arith in subst (λ z. IsThere t (n ++ (part, z) ∷ [])) (sym g)
+    (some_there (tree_at t (n ++ (part, j) ∷ [])) x (tree_at-snoc t n (part, j) u e ∙ f)))
 
 abbrev pub UpLike : Tree → Option (Node × ℕ) → Option (Node × ℕ) → Type 0
 UpLike t c d = OptionLike (λ (p : Node × ℕ) (q : Node × ℕ). Within t p.0 q.0 × (p.1 ≡ q.1)) c d
@@ -111,7 +114,8 @@ location_there t (up r) = r.1
 location_there t (idx r) = r.1
 
 pub value_stays : (rules : Rules) (t : Tree) (i : Instance Node) (v : Value Node) → IsInstanceThere t i → HasValue (content t) (equations rules) i v → IsValueThere t v
-value_stays rules t i v h e = let (w, g, s) = carried_value (content t) (content t) (equations rules) (equations rules) (equations_within rules t) i i v (instance_within t i h) (λ l u. alike_within t l) e in value_there t s
+value_stays rules t i v h e = let (w, g, s) = carried_value (content t) (content t) (equations rules) (equations rules)
+    (equations_within rules t) i i v (instance_within t i h) (λ l u. alike_within t l) e in value_there t s
 
 pub demands_stay : (rules : Rules) (t : Tree) (i j : Instance Node) → IsInstanceThere t i → Leads (content t) (equations rules) i j → IsInstanceThere t j
 demands_stay rules t i j h e =
@@ -120,4 +124,5 @@ demands_stay rules t i j h e =
 
 pub support_stays : (rules : Rules) (t : Tree) (i : Instance Node) (l : Location Node) → IsInstanceThere t i → Supports (content t) (equations rules) l i → IsThere t (node_of l)
 support_stays rules t i l h e =
-    let (m, s, g) = supports_there (content t) (content t) (equations rules) (equations rules) (equations_within rules t) i i l (instance_within t i h) (λ l u. alike_within t l) e in location_there t s
+    let (m, s, g) = supports_there (content t) (content t) (equations rules) (equations rules)
+    (equations_within rules t) i i l (instance_within t i h) (λ l u. alike_within t l) e in location_there t s

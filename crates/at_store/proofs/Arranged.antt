@@ -73,7 +73,8 @@ map_there [] i k e = absurd cc
 map_there (t ∷ ts) zero k e = (t, refl, cc)
 map_there (t ∷ ts) (suc i) k e = map_there ts i k e
 
-once_among : (ts : List Tree) (i : ℕ) (u : Tree) → slice_get ts i ≡ Some u → ((j : ℕ) (v : Tree) → slice_get ts j ≡ Some v → class_of v ≡ class_of u → j ≡ i) → IsOnceAmong (class_of u) (map class_of ts)
+once_among : (ts : List Tree) (i : ℕ) (u : Tree) → slice_get ts i ≡ Some u → ((j : ℕ) (v : Tree)
+    → slice_get ts j ≡ Some v → class_of v ≡ class_of u → j ≡ i) → IsOnceAmong (class_of u) (map class_of ts)
 once_among ts i u at' once j e = let (v, there, number) = map_there ts j (class_of u) e in ap or_first (place_of_child ts i u at' once) ∙ sym (once j v there number)
 
 -- what was found, or not, so far
@@ -119,7 +120,11 @@ module _ (memory : ℕ → Option Info) (s : Tree) (stored : Stored memory top s
   pub stands_there : (n : Node) (u : Tree) → tree_at s n ≡ Some u → (o : Option (Node × Way)) → parent_of n ≡ o
       → (or_first (place_among (class_of u) (beside memory (place_at top s n).0)) ≡ (place_at top s n).1) × IsOnceAmong (class_of u) (beside memory (place_at top s n).0)
   stands_there n u is None none =
-      let on_top : place_at top s n ≡ top = ap (λ (o : Option (Node × Way)). elim o [ None ↦ top | Some q ↦ (Some ((elim (tree_at s q.0) [ None ↦ 0 | Some v ↦ class_of v ]), q.1.0), q.1.1) ]) none in (
+      let on_top : place_at top s n ≡ top = ap (λ (o : Option (Node × Way)). elim o [
+        | None ↦ top
+        | Some q ↦
+            (Some ((elim (tree_at s q.0) [ None ↦ 0 | Some v ↦ class_of v ]), q.1.0), q.1.1)
+      ]) none in (
         ap (λ (p : Place). or_first (place_among (class_of u) (beside memory p.0))) on_top ∙ ap (λ (p : Place). p.1) (sym on_top),
         subst (λ (p : Place). IsOnceAmong (class_of u) (beside memory p.0)) (sym on_top) (λ j e. let f : None ≡ Some (class_of u) = e in absurd cc),
       )
@@ -134,7 +139,8 @@ module _ (memory : ℕ → Option Info) (s : Tree) (stored : Stored memory top s
       last_same above (way.0, j) way same in (
         ap (λ (q : Place). or_first (place_among (class_of u) (beside memory q.0))) stands ∙ ap (λ ns. or_first (place_among (class_of u) ns)) kids
             ∙ ap or_first (place_of_child (children_at p way.0) way.1 u child once) ∙ ap (λ (q : Place). q.1) (sym stands),
-        subst (λ (q : Place). IsOnceAmong (class_of u) (beside memory q.0)) (sym stands) (subst (λ (ns : List ℕ). IsOnceAmong (class_of u) ns) (sym kids) (once_among (children_at p way.0) way.1 u child once)),
+        subst (λ (q : Place). IsOnceAmong (class_of u) (beside memory q.0)) (sym stands) (subst (λ (ns : List ℕ).
+            IsOnceAmong (class_of u) ns) (sym kids) (once_among (children_at p way.0) way.1 u child once)),
       )
     where
       last_same : (front : Node) (a b : Way) → front ++ a ∷ [] ≡ front ++ b ∷ [] → a.1 ≡ b.1
@@ -175,11 +181,13 @@ arranged_kept memory s h k = by_memory (memory k) refl
 
 -- the index of a node that is there
 pub stands_as_kept : (slab : Slab Entry) (k found : ℕ) (e : Entry) → get slab k ≡ Some e →
-    (IsOnceAmong k (beside (memory_of slab) (up_view e.up)) → found ≡ or_first (place_among k (beside (memory_of slab) (up_view e.up)))) → StandsOnce (memory_of slab) k → found ≡ index_in (memory_of slab k)
+    (IsOnceAmong k (beside (memory_of slab) (up_view e.up)) → found ≡ or_first (place_among k
+    (beside (memory_of slab) (up_view e.up)))) → StandsOnce (memory_of slab) k → found ≡ index_in (memory_of slab k)
 stands_as_kept slab k found e is as_among once =
     let here : memory_of slab k ≡ reindexed (place_in (stored_of slab)) k (info_of (Some e)) = ap (λ o. reindexed (place_in (stored_of slab)) k (info_of o)) is in
     let up : up_in (memory_of slab k) ≡ up_view e.up = ap up_in here in
-    as_among (subst (λ (u : Option (ℕ × ℕ)). IsOnceAmong k (beside (memory_of slab) u)) up once) ∙ ap (λ ns. or_first (place_among k ns)) (beside_arranged (stored_of slab) (up_view e.up)) ∙ sym (ap index_in here)
+    as_among (subst (λ (u : Option (ℕ × ℕ)). IsOnceAmong k (beside (memory_of slab) u)) up once) ∙ ap (λ ns.
+    or_first (place_among k ns)) (beside_arranged (stored_of slab) (up_view e.up)) ∙ sym (ap index_in here)
 
 -- each node of a memory that keeps a tree stands once
 pub once_kept : (memory : ℕ → Option Info) (s : Tree) → Keeps memory s None → (k : ℕ) → StandsOnce memory k
@@ -224,11 +232,14 @@ class_arranged memory k = by_node (memory k)
     by_node (Some i) = refl
 
 -- a number that stands outside a tree isn't among the children of a node of it
-outside_kids : (memory : ℕ → Option Info) (place : Place) (x : Tree) → Stored memory place x → (k n part : ℕ) → is_some (path_in n x) ≡ true → is_some (path_in k x) ≡ false → place_among k (kids_in (memory n) part) ≡ None
+outside_kids : (memory : ℕ → Option Info) (place : Place) (x : Tree) → Stored memory place x → (k n part : ℕ)
+    → is_some (path_in n x) ≡ true → is_some (path_in k x) ≡ false → place_among k (kids_in (memory n) part) ≡ None
 outside_kids memory place x stored k n part inside outside =
     let (q, at') = got (path_in n x) inside in
     let (u, is, number) = number_found x n q at' in
-    let kids : kids_in (memory n) part ≡ map class_of (children_at u part) = ap (λ j. kids_in (memory j) part) (sym number) ∙ ap (λ o. kids_in o part) (stored q u is).is ∙ ap numbers_in (kept_at (from_cells (cells_of u)) part) ∙ same_kids (cell_at u part) in
+    let kids : kids_in (memory n) part ≡ map class_of (children_at u part) =
+    ap (λ j. kids_in (memory j) part) (sym number) ∙ ap (λ o. kids_in o part) (stored q u is).is
+    ∙ ap numbers_in (kept_at (from_cells (cells_of u)) part) ∙ same_kids (cell_at u part) in
     ap (place_among k) kids ∙ found_nowhere (map class_of (children_at u part)) k (λ j less e.
     let (v, child, same) = map_there (children_at u part) j k e in
     let f : true ≡ false = sym (met k x (q ++ (part, j) ∷ []) (v, tree_at-snoc x q (part, j) u is ∙ child, same)) ∙ outside in absurd cc)
@@ -237,7 +248,9 @@ outside_kids memory place x stored k n part inside outside =
 abbrev kids_same_in : (before after : ℕ → Option Info) → ℕ → Type 0
 kids_same_in before after n = (part : ℕ) → kids_in (before n) part ≡ kids_in (after n) part
 
-same_beside : (before after : ℕ → Option Info) (k : ℕ) (x : Tree) → ((n : ℕ) → is_some (path_in n x) ≡ false → kids_same_in before after n) → ((n part : ℕ) → is_some (path_in n x) ≡ true → place_among k (kids_in (before n) part) ≡ None × (place_among k (kids_in (after n) part) ≡ None))
+same_beside : (before after : ℕ → Option Info) (k : ℕ) (x : Tree)
+    → ((n : ℕ) → is_some (path_in n x) ≡ false → kids_same_in before after n) → ((n part : ℕ) → is_some (path_in n x)
+    ≡ true → place_among k (kids_in (before n) part) ≡ None × (place_among k (kids_in (after n) part) ≡ None))
     → (up : Option (ℕ × ℕ)) → place_among k (beside before up) ≡ place_among k (beside after up)
 same_beside before after k x out ins None = refl
 same_beside before after k x out ins (Some p) = by_test (is_some (path_in p.0 x)) refl
@@ -262,7 +275,11 @@ planted_arranged before after t w p = record {
         by_node : (o : Option Info) → reindexed (place_in after) k o ≡ reindexed (place_in before) k o
         by_node None = refl
         by_node (Some i) =
-            let same = same_beside after before k w (λ n e part. ap (λ o. kids_in o part) (p.rest n e)) (λ n part e. (outside_kids after top w p.stored k n part e out, ap (λ o. place_among k (kids_in o part)) (p.fresh n e))) i.up in
+            let same = same_beside after before k w (λ n e part. ap (λ o. kids_in o part) (p.rest n e))
+            (λ n part e. (
+              outside_kids after top w p.stored k n part e out,
+              ap (λ o. place_among k (kids_in o part)) (p.fresh n e),
+            )) i.up in
             λ t. Some (record { class = i.class; up = i.up; index = or_first (same t); cells = i.cells })
 
 -- what is freed below a node is arranged
@@ -302,7 +319,8 @@ freed_arranged node old new freed place x same apart stored k = arranged_so (sto
 
 -- what is freed, with the numbers in the place of indexes
 pub freed_stored : (node : ℕ) (old new : Slab Entry) → ((f : ℕ → Option (ℕ × ℕ) → ℕ → ℕ) → IsFreed node (viewed f old) (viewed f new)) → IsFreed node (stored_of old) (stored_of new)
-freed_stored node old new freed = subst (λ (m : ℕ → Option Info). IsFreed node m (stored_of new)) (as_stored old) (subst (λ (m : ℕ → Option Info). IsFreed node (viewed itself old) m) (as_stored new) (freed itself))
+freed_stored node old new freed = subst (λ (m : ℕ → Option Info). IsFreed node m (stored_of new)) (as_stored old)
+    (subst (λ (m : ℕ → Option Info). IsFreed node (viewed itself old) m) (as_stored new) (freed itself))
   where
     itself : ℕ → Option (ℕ × ℕ) → ℕ → ℕ
     itself k up index = index

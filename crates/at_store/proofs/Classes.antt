@@ -10,7 +10,8 @@ use Rattle.at_store.proofs.Slots.{class_at, class_renumbered, class_rewritten, c
 use Rattle.at_store.proofs.Depths.{shallow}
 
 -- the changes of a commit keep the class
-pub class_changed : (behind : List ℕ) (from n : ℕ) (place : Place) (u part : ℕ) (c : Kept) (k : ℕ) (o : Option Info) → class_at (renumbered behind from k (placed n place k (rewritten u part c k o))) ≡ class_at o
+pub class_changed : (behind : List ℕ) (from n : ℕ) (place : Place) (u part : ℕ) (c : Kept) (k : ℕ) (o : Option Info)
+    → class_at (renumbered behind from k (placed n place k (rewritten u part c k o))) ≡ class_at o
 class_changed behind from n place u part c k o =
     class_renumbered behind from k (placed n place k (rewritten u part c k o)) ∙ class_placed n place k (rewritten u part c k o) ∙ class_rewritten u part c k o
 
@@ -27,7 +28,8 @@ module _ (memory later : ℕ → Option Info) (gone : ℕ → Bool) (change : �
   classes_stay place s h = relabel_same (class_in later) (class_in memory) s (λ n v is. class_left (class_of v) _ (h n v is).is)
 
   -- the tree of classes after the edit
-  pub classes_after : (place : Place) (s : Tree) (e : Edit) → Stored later place (left_by s e) → relabel (class_in later) (left_by s e) ≡ left_by (relabel (class_in memory) s) (relabel_edit (class_in memory) e)
+  pub classes_after : (place : Place) (s : Tree) (e : Edit) → Stored later place (left_by s e) → relabel
+      (class_in later) (left_by s e) ≡ left_by (relabel (class_in memory) s) (relabel_edit (class_in memory) e)
   classes_after place s e h = classes_stay place (left_by s e) h ∙ relabelled-left (class_in memory) s e
 
 module _ (f : ℕ → ℕ) where

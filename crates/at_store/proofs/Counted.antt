@@ -251,7 +251,9 @@ module _ (k : ℕ) where
 
 -- the count of a slab's slots
 pub slots_counted : {A : Type 0} (xs : List (Option A)) → sum_to (length xs) (λ k. bit (is_some (slice_index_or xs k None))) ≡ count_by is_some xs
-slots_counted {A} xs = is_count_by (λ ys. sum_to (length ys) (λ k. bit (is_some (slice_index_or ys k None)))) is_some refl (λ y ys. sum_shift (length ys) (λ k. bit (is_some (slice_index_or (y ∷ ys) k None))) ∙ head (is_some y) (sum_to (length ys) (λ k. bit (is_some (slice_index_or ys k None))))) xs
+slots_counted {A} xs = is_count_by (λ ys. sum_to (length ys) (λ k. bit (is_some (slice_index_or ys k None)))) is_some
+    refl (λ y ys. sum_shift (length ys) (λ k. bit (is_some (slice_index_or (y ∷ ys) k None)))
+    ∙ head (is_some y) (sum_to (length ys) (λ k. bit (is_some (slice_index_or ys k None))))) xs
   where
     head : (b : Bool) (n : ℕ) → bit b + n ≡ cond b (1 + n) n
     head true n = refl
@@ -279,7 +281,9 @@ module _ (memory : ℕ → Option Info) (s : Tree) (h : Keeps memory s None) whe
       ]
 
   pub counted : (n : ℕ) → ((k : ℕ) (i : Info) → memory k ≡ Some i → k < n) → sum_to n (λ k. bit (is_some (memory k))) ≡ nodes s
-  counted n within = sum_same n (λ k. bit (is_some (memory k))) (λ k. times k s) (λ k. sym (told_once k)) ∙ tree_sum n s (λ k l. (let (m, (u, is, number)) = tree_stands k s l in within k _ (ap memory (sym number) ∙ (h.stored m u is).is)))
+  counted n within = sum_same n (λ k. bit (is_some (memory k))) (λ k. times k s)
+      (λ k. sym (told_once k)) ∙ tree_sum n s (λ k l.
+      (let (m, (u, is, number)) = tree_stands k s l in within k _ (ap memory (sym number) ∙ (h.stored m u is).is)))
 
 some_info : (slab : Slab Entry) (k : ℕ) (o : Option Entry) → is_some (reindexed (place_in (stored_of slab)) k (info_of o)) ≡ is_some o
 some_info slab k None = refl
@@ -288,7 +292,9 @@ some_info slab k (Some e) = refl
 -- a slab that keeps a tree counts its nodes
 pub slab_counted : (slab : Slab Entry) (s : Tree) → Keeps (memory_of slab) s None → slab_len slab ≡ nodes s
 slab_counted slab s h =
-    sym (slots_counted slab.slots) ∙ sum_same (length slab.slots) (λ k. bit (is_some (slice_index_or slab.slots k None))) (λ k. bit (is_some (memory_of slab k))) (λ k. sym (ap bit (some_info slab k (get slab k)))) ∙
+    sym (slots_counted slab.slots) ∙ sum_same (length slab.slots)
+    (λ k. bit (is_some (slice_index_or slab.slots k None))) (λ k. bit (is_some (memory_of slab k)))
+    (λ k. sym (ap bit (some_info slab k (get slab k)))) ∙
     counted (memory_of slab) s h (length slab.slots) (λ k i e. within k i e)
   where
     within : (k : ℕ) (i : Info) → memory_of slab k ≡ Some i → k < length slab.slots

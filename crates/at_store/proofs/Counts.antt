@@ -57,9 +57,12 @@ child_removed zero (Filled t) x n e = let same : t ≡ x = cc in let k : nodes t
 child_removed (suc i) (Filled t) x n e = absurd cc
 child_removed i (Holds v) x n e = absurd cc
 
-cells_changed : (g : Cell → Cell) (cs : Cells) (part : ℕ) (c : Cell) → slice_get (from_cells cs) part ≡ Some c → cells_nodes (to_cells (changed_at g (from_cells cs) part)) + cell_nodes c ≡ cells_nodes cs + cell_nodes (g c)
+cells_changed : (g : Cell → Cell) (cs : Cells) (part : ℕ) (c : Cell) → slice_get (from_cells cs) part ≡ Some c
+    → cells_nodes (to_cells (changed_at g (from_cells cs) part)) + cell_nodes c ≡ cells_nodes cs + cell_nodes (g c)
 cells_changed g no_cells part c e = absurd cc
-cells_changed g (cell d cs) zero c e = let same : d ≡ c = cc in let f = cells_again cs in let h : cell_nodes (g d) ≡ cell_nodes (g c) = ap (λ z. cell_nodes (g z)) same in let k : cell_nodes d ≡ cell_nodes c = ap cell_nodes same in omega arith
+cells_changed g (cell d cs) zero c e = let same : d ≡ c = cc in let f = cells_again cs in
+    let h : cell_nodes (g d) ≡ cell_nodes (g c) = ap (λ z. cell_nodes (g z)) same in
+    let k : cell_nodes d ≡ cell_nodes c = ap cell_nodes same in omega arith
 cells_changed g (cell d cs) (suc part) c e = let f = cells_changed g cs part c e in omega arith
 
 cell_changed : (g : Cell → Cell) (part : ℕ) (u : Tree) (c : Cell) → cell_at u part ≡ Some c → nodes (with_cell g part u) + cell_nodes c ≡ nodes u + cell_nodes (g c)
@@ -76,7 +79,8 @@ node_changed F t (s ∷ p) u e =
     let h = cell_changed (with_child (λ v. with_node F v p) s.1) s.0 t c here in
     omega arith
 
-at_cell : (g : Cell → Cell) (part : ℕ) (t : Tree) (p : Node) (u : Tree) (c : Cell) → tree_at t p ≡ Some u → cell_at u part ≡ Some c → nodes (with_node (with_cell g part) t p) + cell_nodes c ≡ nodes t + cell_nodes (g c)
+at_cell : (g : Cell → Cell) (part : ℕ) (t : Tree) (p : Node) (u : Tree) (c : Cell) → tree_at t p ≡ Some u
+    → cell_at u part ≡ Some c → nodes (with_node (with_cell g part) t p) + cell_nodes c ≡ nodes t + cell_nodes (g c)
 at_cell g part t p u c found here = let f = node_changed (with_cell g part) t p u found in let h = cell_changed g part u c here in omega arith
 
 pub count_set : (t new : Tree) (node : Node) (x : Tree) → tree_at t node ≡ Some x → nodes (left_by t (Set node new)) + nodes x ≡ nodes t + nodes new
@@ -85,16 +89,24 @@ count_set t new node x found = node_changed (λ u. new) t node x found
 pub count_put : (t new : Tree) (node : Node) (part : ℕ) (u : Tree) → tree_at t node ≡ Some u → cell_at u part ≡ Some Empty → nodes (left_by t (Put node part new)) ≡ nodes t + nodes new
 count_put t new node part u found here = let f = at_cell (λ c. Filled new) part t node u Empty found here in omega arith
 
-pub count_insert : (t new : Tree) (node : Node) (part index : ℕ) (u : Tree) (ts : Trees) → tree_at t node ≡ Some u → cell_at u part ≡ Some (Many ts) → index ≤ length (from_trees ts) → nodes (left_by t (Insert node part index new)) ≡ nodes t + nodes new
+pub count_insert : (t new : Tree) (node : Node) (part index : ℕ) (u : Tree) (ts : Trees) → tree_at t node ≡ Some u
+    → cell_at u part ≡ Some (Many ts) → index ≤ length (from_trees ts)
+    → nodes (left_by t (Insert node part index new)) ≡ nodes t + nodes new
 count_insert t new node part index u ts found here bound = let f = at_cell (with_one_more new index) part t node u (Many ts) found here in let g = inserted ts index new bound in omega arith
 
-pub count_token : (t : Tree) (node : Node) (part : ℕ) (old new : trees.Token) (u : Tree) → tree_at t node ≡ Some u → cell_at u part ≡ Some (Holds old) → nodes (left_by t (Token node part new)) ≡ nodes t
+pub count_token : (t : Tree) (node : Node) (part : ℕ) (old new : trees.Token) (u : Tree) → tree_at t node ≡ Some u
+    → cell_at u part ≡ Some (Holds old) → nodes (left_by t (Token node part new)) ≡ nodes t
 count_token t node part old new u found here = let f = at_cell (λ c. Holds new) part t node u (Holds old) found here in omega arith
 
-pub count_drop : (t : Tree) (node p : Node) (place : Way) (u x : Tree) (c : Cell) → parent_of node ≡ Some (p, place) → tree_at t node ≡ Some x → tree_at t p ≡ Some u → cell_at u place.0 ≡ Some c → ((t : Tree) → c ≡ One t → ⊥) → nodes (left_by t (Drop node)) + nodes x ≡ nodes t
+pub count_drop : (t : Tree) (node p : Node) (place : Way) (u x : Tree) (c : Cell) → parent_of node ≡ Some (p, place)
+    → tree_at t node ≡ Some x → tree_at t p ≡ Some u → cell_at u place.0 ≡ Some c → ((t : Tree) → c ≡ One t → ⊥)
+    → nodes (left_by t (Drop node)) + nodes x ≡ nodes t
 count_drop t node p place u x c parent there found here plain =
-    let child : slice_get (children c) place.1 ≡ Some x = sym (ap (λ o. slice_get (kids o) place.1) here) ∙ sym (tree_at-snoc t p place u found) ∙ ap (tree_at t) (sym (parent_is node (p, place) parent)) ∙ there in
-    let left : left_by t (Drop node) ≡ with_node (with_cell (without_child place.1) place.0) t p = ap (λ (o : Option (Node × Way)). elim o [ None ↦ t | Some p ↦ with_node (with_cell (without_child p.1.1) p.1.0) t p.0 ]) parent in
+    let child : slice_get (children c) place.1 ≡ Some x = sym (ap (λ o. slice_get (kids o) place.1) here)
+    ∙ sym (tree_at-snoc t p place u found) ∙ ap (tree_at t) (sym (parent_is node (p, place) parent)) ∙ there in
+    let left : left_by t (Drop node) ≡ with_node (with_cell (without_child place.1) place.0) t p =
+    ap (λ (o : Option (Node × Way)). elim o
+    [ None ↦ t | Some p ↦ with_node (with_cell (without_child p.1.1) p.1.0) t p.0 ]) parent in
     let f = at_cell (without_child place.1) place.0 t p u c found here in
     let g = child_removed place.1 c x plain child in
     let h = ap nodes left in

@@ -31,7 +31,10 @@ mutual
   found : (k : ℕ) (t : Tree) (n : Node) → path_in k t ≡ Some n → Has k (tree_at t n)
   found k (branch c cells) n e = at_root (nat_eq k c) refl e (λ part i m h. found_cells k cells part i m h)
     where
-      at_root : (b : Bool) → nat_eq k c ≡ b → (if b then Some [] else option_map (λ x. (x.0, x.1.0) ∷ x.1.1) (in_cells k cells)) ≡ Some n → ((part i : ℕ) (m : Node) → in_cells k cells ≡ Some (part, (i, m)) → Has k (below_cells cells part i m)) → Has k (tree_at (branch c cells) n)
+      at_root : (b : Bool) → nat_eq k c ≡ b
+          → (if b then Some [] else option_map (λ x. (x.0, x.1.0) ∷ x.1.1) (in_cells k cells)) ≡ Some n
+          → ((part i : ℕ) (m : Node) → in_cells k cells ≡ Some (part, (i, m)) → Has k (below_cells cells part i m))
+          → Has k (tree_at (branch c cells) n)
       at_root true is f more = let g : [] ≡ n = cc in subst (λ m. Has k (tree_at (branch c cells) m)) g (branch c cells, refl, sym (eqb-true k c is))
       at_root false is f more = first_of (λ m. Has k (tree_at (branch c cells) m)) (λ x. (x.0, x.1.0) ∷ x.1.1) (in_cells k cells) n f (λ x h. more x.0 x.1.0 x.1.1 h)
 

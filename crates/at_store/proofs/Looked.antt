@@ -74,7 +74,9 @@ module _ (memory : ℕ → Option Info) (s : Tree) (h : Keeps memory s None) whe
       ]
 
   by_path : {X : Type 0} (g : Option Info → X) (d : X) (shown : Node → X) (k : ℕ) → g None ≡ d →
-      ((n : Node) (u : Tree) (i : Info) → path_in k s ≡ Some n → tree_at s n ≡ Some u → class_of u ≡ k → memory k ≡ Some i → i.up ≡ (place_at top s n).0 → i.index ≡ (place_at top s n).1 → i.cells ≡ kept_of u → g (Some i) ≡ shown n) →
+      ((n : Node) (u : Tree) (i : Info) → path_in k s ≡ Some n → tree_at s n ≡ Some u → class_of u ≡ k
+      → memory k ≡ Some i → i.up ≡ (place_at top s n).0 → i.index ≡ (place_at top s n).1 → i.cells ≡ kept_of u
+      → g (Some i) ≡ shown n) →
       g (memory k) ≡ elim (path_in k s) as (λ _. X) [ None ↦ d | Some n ↦ shown n ]
   by_path {X} g d shown k none some = at_path (path_in k s) refl
     where
@@ -88,24 +90,30 @@ module _ (memory : ℕ → Option Info) (s : Tree) (h : Keeps memory s None) whe
 
   pub class_is : (k : ℕ) → class_in memory k ≡ contents s tree (Is k)
   class_is k = by_path (λ o. elim o [ None ↦ 0 | Some i ↦ i.class ]) 0 (λ n. content tree (Is n)) k refl (λ n u i e is number here up index cells.
-      sym (ap (λ o. elim o as (λ _. ℕ) [ None ↦ 0 | Some v ↦ class_of v ]) (relabelled-tree_at (class_in memory) s n ∙ ap (option_map (relabel (class_in memory))) is) ∙ relabel-class (class_in memory) u ∙
+      sym (ap (λ o. elim o as (λ _. ℕ) [ None ↦ 0 | Some v ↦ class_of v ]) (relabelled-tree_at (class_in memory) s n
+      ∙ ap (option_map (relabel (class_in memory))) is) ∙ relabel-class (class_in memory) u ∙
       ap (class_in memory) number ∙ ap (λ o. elim o as (λ _. ℕ) [ None ↦ 0 | Some i ↦ i.class ]) here))
 
   pub token_is : (k part : ℕ) → token_in_cell (memory k) part ≡ contents s tree (Tok k part)
   token_is k part = by_path (λ o. token_in_cell o part) (trees.Truth false) (λ n. content tree (Tok n part)) k refl (λ n u i e is number here up index cells.
       ap (λ xs. token_kept (slice_get xs part)) cells ∙ ap token_kept (kept_at (from_cells (cells_of u)) part) ∙ same_token (class_in memory) (cell_at u part) ∙
-      sym (ap (λ o. elim o as (λ _. Token) [ None ↦ trees.Truth false | Some v ↦ token_in (cell_at v part) ]) (relabelled-tree_at (class_in memory) s n ∙ ap (option_map (relabel (class_in memory))) is) ∙
+      sym (ap (λ o. elim o as (λ _. Token) [ None ↦ trees.Truth false | Some v ↦ token_in (cell_at v part) ])
+      (relabelled-tree_at (class_in memory) s n ∙ ap (option_map (relabel (class_in memory))) is) ∙
       ap token_in (relabelled-cell_at (class_in memory) u part)))
 
   pub children_are : (k part : ℕ) → kids_in (memory k) part ≡ contents s tree (Slot k part)
   children_are k part = by_path (λ o. kids_in o part) [] (λ n. map (number_at s) (content tree (Slot n part))) k refl (λ n u i e is number here up index cells.
       ap (λ xs. numbers_in (slice_get xs part)) cells ∙ ap numbers_in (kept_at (from_cells (cells_of u)) part) ∙ same_kids (cell_at u part) ∙
-      children_numbered s (class_in memory) n part 0 (children_at u part) (λ j x child. let g : 0 + j ≡ j = omega arith in ap (λ z. tree_at s (n ++ (part, z) ∷ [])) g ∙ tree_at-snoc s n (part, j) u is ∙ child) ∙
+      children_numbered s (class_in memory) n part 0 (children_at u part) (λ j x child. let g : 0 + j ≡ j =
+      omega arith in ap (λ z. tree_at s (n ++ (part, z) ∷ [])) g ∙ tree_at-snoc s n (part, j) u is ∙ child) ∙
       ap (λ ts. map (number_at s) (child_nodes n part 0 ts)) (sym (relabelled-children_at (class_in memory) u part)) ∙
-      sym (ap (λ (o : Option Tree). map (number_at s) (elim o as (λ _. List Node) [ None ↦ [] | Some v ↦ child_nodes n part 0 (children_at v part) ])) (relabelled-tree_at (class_in memory) s n ∙ ap (option_map (relabel (class_in memory))) is)))
+      sym (ap (λ (o : Option Tree). map (number_at s)
+      (elim o as (λ _. List Node) [ None ↦ [] | Some v ↦ child_nodes n part 0 (children_at v part) ]))
+      (relabelled-tree_at (class_in memory) s n ∙ ap (option_map (relabel (class_in memory))) is)))
 
   pub parent_is : (k : ℕ) → up_in (memory k) ≡ contents s tree (Up k)
-  parent_is k = by_path up_in None (λ n. option_map (λ (p : Node × ℕ). let x : ℕ × ℕ = (number_at s p.0, p.1) in x) (content tree (Up n))) k refl (λ n u i e is number here up index cells. up ∙ up_shown s (parent_of n))
+  parent_is k = by_path up_in None (λ n. option_map (λ (p : Node × ℕ). let x : ℕ × ℕ = (number_at s p.0, p.1) in x)
+      (content tree (Up n))) k refl (λ n u i e is number here up index cells. up ∙ up_shown s (parent_of n))
 
   pub index_is : (k : ℕ) → index_in (memory k) ≡ contents s tree (Idx k)
   index_is k = by_path index_in 0 (λ n. content tree (Idx n)) k refl (λ n u i e is number here up index cells. index ∙ index_shown s (parent_of n))

@@ -37,7 +37,8 @@ pub step_nowhere : (classes : Classes) (c : ℕ) (s : Step) → length classes �
 step_nowhere classes c s h = ap (led_by classes c s) (ap (position (λ p. bytes_eq p.name s.part)) (no_parts classes c h))
 
 -- a step by a component that is there
-pub step_there : (classes : Classes) (c : ℕ) (s : Step) (part : ℕ) (ps : List Part) (q : Part) → map part_view ps ≡ parts classes c → part_named classes c s.part ≡ Some part → part < length ps → q ≡ slice_index_or ps part q →
+pub step_there : (classes : Classes) (c : ℕ) (s : Step) (part : ℕ) (ps : List Part) (q : Part) → map part_view ps
+    ≡ parts classes c → part_named classes c s.part ≡ Some part → part < length ps → q ≡ slice_index_or ps part q →
     step_in classes (branch c no_cells) s ≡ option_map (λ i. (part, i)) (place_in (shape_view q.shape) s.index)
 step_there classes c s part ps q same named within is =
     ap (led_by classes c s) named ∙

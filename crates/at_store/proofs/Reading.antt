@@ -56,7 +56,8 @@ below_grown s h k n u p is =
     ap (shown_below (memory_of s.slab) 512) (sym number) ∙ ap (relabel f) (grown-stored (memory_of s.slab) place 512 v below (shallow_below 512 (numbers s) n v h.keeps.shallow at')) ∙ same
 
 -- the node of a number is there in the tree
-pub shown_there : (s : Shown) → (k : ℕ) (n : Node) → path s k ≡ Some n → (u : Tree) × (tree_at (numbers s) n ≡ Some u) × (class_of u ≡ k) × (tree_at (tree s) n ≡ Some (relabel (class_in (memory_of s.slab)) u))
+pub shown_there : (s : Shown) → (k : ℕ) (n : Node) → path s k ≡ Some n → (u : Tree) × (tree_at (numbers s) n ≡ Some u)
+    × (class_of u ≡ k) × (tree_at (tree s) n ≡ Some (relabel (class_in (memory_of s.slab)) u))
 shown_there s k n p =
     let f = class_in (memory_of s.slab) in
     let (u, is, number) = number_found (numbers s) k n p in

@@ -22,7 +22,8 @@ cells_again : (cs : Cells) → to_cells (from_cells cs) ≡ cs
 cells_again no_cells = refl
 cells_again (cell c cs) = ap (cell c) (cells_again cs)
 
-changed : (h : Tree → Tree) (ts : Trees) (i : ℕ) (x : Tree) → trees_tokens_short ts ≡ true → slice_get (from_trees ts) i ≡ Some x → trees_tokens_short (to_trees (changed_at h (from_trees ts) i)) ≡ tokens_short (h x)
+changed : (h : Tree → Tree) (ts : Trees) (i : ℕ) (x : Tree) → trees_tokens_short ts ≡ true → slice_get (from_trees ts) i
+    ≡ Some x → trees_tokens_short (to_trees (changed_at h (from_trees ts) i)) ≡ tokens_short (h x)
 changed h no_trees i x short e = absurd cc
 changed h (tree t ts) zero x short e =
     let same : t ≡ x = cc in
@@ -69,7 +70,8 @@ cells_changed g (cell d cs) zero c short e =
 cells_changed g (cell d cs) (suc part) c short e = let f = cells_changed g cs part c (both _ _ short).1 e in (on_left (cell_tokens_short d) _ (both _ _ short).0 ∙ f.0, f.1)
 
 -- the change of a cell
-pub cell_changed : (g : Cell → Cell) (part : ℕ) (u : Tree) (c : Cell) → tokens_short u ≡ true → cell_at u part ≡ Some c → (tokens_short (with_cell g part u) ≡ cell_tokens_short (g c)) × (cell_tokens_short c ≡ true)
+pub cell_changed : (g : Cell → Cell) (part : ℕ) (u : Tree) (c : Cell) → tokens_short u ≡ true → cell_at u part ≡ Some c
+    → (tokens_short (with_cell g part u) ≡ cell_tokens_short (g c)) × (cell_tokens_short c ≡ true)
 cell_changed g part (branch k cells) c short e = cells_changed g cells part c short e
 
 trees_short : (ts : Trees) (i : ℕ) (x : Tree) → trees_tokens_short ts ≡ true → slice_get (from_trees ts) i ≡ Some x → tokens_short x ≡ true

@@ -32,7 +32,8 @@ module _ (f : ℕ → ℕ) where
   cell_sum (Filled t) h = let g = h 0 t refl in omega (arith, g)
   cell_sum (Holds v) h = refl
 
-  cells_sum : (cs : Cells) → ((part i : ℕ) (y : Tree) → slice_get (kids (slice_get (from_cells cs) part)) i ≡ Some y → f (class_of y) ≡ nodes y) → slots_size f (map kept (from_cells cs)) ≡ cells_nodes cs
+  cells_sum : (cs : Cells) → ((part i : ℕ) (y : Tree) → slice_get (kids (slice_get (from_cells cs) part)) i ≡ Some y
+      → f (class_of y) ≡ nodes y) → slots_size f (map kept (from_cells cs)) ≡ cells_nodes cs
   cells_sum no_cells h = refl
   cells_sum (cell c cs) h = let g = cell_sum c (λ i y e. h 0 i y e) in let k = cells_sum cs (λ part i y e. h (suc part) i y e) in omega (arith, g, k)
 

@@ -44,7 +44,9 @@ last_step classes t (y ∷ m) w p e =
       front = s ∷ l.front;
       step = l.step;
       above = l.above;
-      front_is = ap (option_and_then (λ z. option_and_then (λ v. option_map (λ ss. z ∷ ss) (path_of classes v m)) (slice_get (children_at t y.0) y.1))) step ∙ ap (option_and_then (λ v. option_map (λ ss. s ∷ ss) (path_of classes v m))) child ∙ ap (option_map (λ ss. s ∷ ss)) l.front_is;
+      front_is = ap (option_and_then (λ z. option_and_then (λ v. option_map (λ ss. z ∷ ss) (path_of classes v m))
+          (slice_get (children_at t y.0) y.1))) step ∙ ap (option_and_then
+          (λ v. option_map (λ ss. s ∷ ss) (path_of classes v m))) child ∙ ap (option_map (λ ss. s ∷ ss)) l.front_is;
       there = ap (option_and_then (λ v. tree_at v m)) child ∙ l.there;
       step_is = l.step_is;
       whole = sym same ∙ ap (λ ss. s ∷ ss) l.whole;
@@ -103,7 +105,8 @@ module _ (memory : ℕ → Option Info) (s : Tree) (h : Keeps memory s None) whe
     pub step_is : step_of classes (class_in memory parent) (part, index_in (memory k)) ≡ Some step
     pub whole : p ≡ front ++ step ∷ []
 
-  pub joined : (classes : Classes) (k parent part : ℕ) (n : Node) (p : Path) → path_in k s ≡ Some n → up_in (memory k) ≡ Some (parent, part) → path_of classes (relabel (class_in memory) s) n ≡ Some p → Joined classes k parent part n p
+  pub joined : (classes : Classes) (k parent part : ℕ) (n : Node) (p : Path) → path_in k s ≡ Some n → up_in (memory k) ≡
+      Some (parent, part) → path_of classes (relabel (class_in memory) s) n ≡ Some p → Joined classes k parent part n p
   joined classes k parent part n p found some is =
       let f = class_in memory in
       let a = up_some k parent part n found some in
@@ -123,7 +126,8 @@ module _ (memory : ℕ → Option Info) (s : Tree) (h : Keeps memory s None) whe
         whole = l.whole;
       }
 
-pub step_made : (classes : Classes) (c part index : ℕ) (q : Component) (st : Step) → slice_get (parts classes c) part ≡ Some q → step_of classes c (part, index) ≡ Some st → record { part = q.name; index = index_of q.shape index } ≡ st
+pub step_made : (classes : Classes) (c part index : ℕ) (q : Component) (st : Step) → slice_get (parts classes c) part
+    ≡ Some q → step_of classes c (part, index) ≡ Some st → record { part = q.name; index = index_of q.shape index } ≡ st
 step_made classes c part index q st is e =
     let made : Step = record { part = q.name; index = index_of q.shape index } in
     let same : Some made ≡ Some st = sym (ap (option_map (λ (p : Component). let x : Step = record { part = p.name; index = index_of p.shape index } in x)) is) ∙ e in cc

@@ -55,7 +55,8 @@ module _ (memory : ℕ → Option Info) (s : Tree) (h : Keeps memory s None) whe
 
     by_way : (w : Option (ℕ × ℕ)) → step_in classes (shown u) step ≡ w → Stepped (option_and_then kid_of w)
     by_way None we = ap (option_and_then onward) we
-    by_way (Some way) we = subst Stepped (sym (ap (λ ks. slice_get ks way.1) (kids_kept n u is way.0) ∙ slice_get-map class_of (children_at u way.0) way.1)) (by_child way we (slice_get (children_at u way.0) way.1) refl)
+    by_way (Some way) we = subst Stepped (sym (ap (λ ks. slice_get ks way.1) (kids_kept n u is way.0) ∙ slice_get-map
+        class_of (children_at u way.0) way.1)) (by_child way we (slice_get (children_at u way.0) way.1) refl)
 
     abbrev bare_step : ℕ → Option (ℕ × ℕ)
     bare_step c = step_in classes (branch c no_cells) step
@@ -63,7 +64,9 @@ module _ (memory : ℕ → Option Info) (s : Tree) (h : Keeps memory s None) whe
     -- the node to which one step leads, as it is found in the memory
     pub stepped : (k : ℕ) → class_of u ≡ k → (o : Option ℕ) → o ≡ option_and_then (λ way. slice_get (kids_in (memory k) way.0) way.1) (bare_step (class_in memory k)) → Stepped o
     stepped k number o e =
-        subst Stepped (sym (e ∙ ap (λ j. option_and_then (λ way. slice_get (kids_in (memory j) way.0) way.1) (bare_step (class_in memory j))) (sym number) ∙ ap (λ c. option_and_then kid_of (bare_step c)) (sym (relabel-class (class_in memory) u))))
+        subst Stepped (sym (e ∙ ap (λ j. option_and_then (λ way. slice_get (kids_in (memory j) way.0) way.1)
+        (bare_step (class_in memory j))) (sym number)
+        ∙ ap (λ c. option_and_then kid_of (bare_step c)) (sym (relabel-class (class_in memory) u))))
         (by_way (step_in classes (shown u) step) refl)
 
   number_of : (k : ℕ) (n : Node) (u : Tree) → path_in k s ≡ Some n → tree_at s n ≡ Some u → class_of u ≡ k
@@ -73,12 +76,15 @@ module _ (memory : ℕ → Option Info) (s : Tree) (h : Keeps memory s None) whe
   abbrev pub next_of : Classes → ℕ → Step → Option ℕ
   next_of classes k step = option_and_then (λ way. slice_get (kids_in (memory k) way.0) way.1) (step_in classes (branch (class_in memory k) no_cells) step)
 
-  pub walked_off : (classes : Classes) (k : ℕ) (n : Node) (u : Tree) (step : Step) (rest steps : Path) (o : Option ℕ) (r : Option ℕ) → path_in k s ≡ Some n → tree_at s n ≡ Some u → steps ≡ step ∷ rest →
+  pub walked_off : (classes : Classes) (k : ℕ) (n : Node) (u : Tree) (step : Step) (rest steps : Path) (o : Option ℕ)
+      (r : Option ℕ) → path_in k s ≡ Some n → tree_at s n ≡ Some u → steps ≡ step ∷ rest →
       o ≡ next_of classes k step → o ≡ None → r ≡ None → Led s classes n (shown u) steps r
   walked_off classes k n u step rest steps o r p is split e none off =
-      subst (λ x. Led s classes n (shown u) steps x) (sym off) (ap (node_at classes (shown u)) split ∙ subst (Stepped classes n u is step rest) none (stepped classes n u is step rest k (number_of k n u p is) o e))
+      subst (λ x. Led s classes n (shown u) steps x) (sym off) (ap (node_at classes (shown u)) split ∙
+      subst (Stepped classes n u is step rest) none (stepped classes n u is step rest k (number_of k n u p is) o e))
 
-  pub walked_on : (classes : Classes) (k next : ℕ) (n : Node) (u : Tree) (step : Step) (rest steps : Path) (o : Option ℕ) (r : Option ℕ) → path_in k s ≡ Some n → tree_at s n ≡ Some u → steps ≡ step ∷ rest →
+  pub walked_on : (classes : Classes) (k next : ℕ) (n : Node) (u : Tree) (step : Step) (rest steps : Path)
+      (o : Option ℕ) (r : Option ℕ) → path_in k s ≡ Some n → tree_at s n ≡ Some u → steps ≡ step ∷ rest →
       o ≡ next_of classes k step → o ≡ Some next → ((m : Node) (y : Tree) → path_in next s ≡ Some m → tree_at s m ≡ Some y → Led s classes m (shown y) rest r) → Led s classes n (shown u) steps r
   walked_on classes k next n u step rest steps o r p is split e some more =
       let (m, y, found, at', led) = subst (Stepped classes n u is step rest) some (stepped classes n u is step rest k (number_of k n u p is) o e) in

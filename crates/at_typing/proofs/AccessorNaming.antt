@@ -50,29 +50,36 @@ pub none_behind : (name front : List ℕ) (ks : List (Bor (List ℕ))) → ((res
 none_behind name front ks fails = never (λ (k : Bor (List ℕ)). bytes_eq name (front ++ k.now)) ks (λ k. not_true _ (λ h. fails k.now ((bytes_eq-Decides name (front ++ k.now)).0 h)))
 
 pub none_around : (name front back : List ℕ) (ks : List (Bor (List ℕ))) → ((rest : List ℕ) → name ≢ front ++ rest) → false ≡ list_any (λ k. bytes_eq name (front ++ k.now ++ back)) ks
-none_around name front back ks fails = never (λ (k : Bor (List ℕ)). bytes_eq name (front ++ k.now ++ back)) ks (λ k. not_true _ (λ h. fails (k.now ++ back) ((bytes_eq-Decides name (front ++ k.now ++ back)).0 h ∙ assoc front k.now back)))
+none_around name front back ks fails = never
+    (λ (k : Bor (List ℕ)). bytes_eq name (front ++ k.now ++ back)) ks (λ k. not_true
+    _ (λ h. fails (k.now ++ back) ((bytes_eq-Decides name (front ++ k.now ++ back)).0 h ∙ assoc front k.now back)))
 
 -- what stands behind it
 behind : (name front rest k back : List ℕ) → name ≡ front ++ rest → bytes_eq name (front ++ k ++ back) ≡ true → rest ≡ k ++ back
 behind name front rest k back is h = append_cancel_left front rest (k ++ back) (sym is ∙ (bytes_eq-Decides name (front ++ k ++ back)).0 h ∙ assoc front k back)
 
 -- it does, and doesn't end so
-pub none_before : (name front rest back : List ℕ) (ks : List (Bor (List ℕ))) → name ≡ front ++ rest → ((list : List ℕ) → rest ≢ list ++ back) → false ≡ list_any (λ k. bytes_eq name (front ++ k.now ++ back)) ks
+pub none_before : (name front rest back : List ℕ) (ks : List (Bor (List ℕ))) → name ≡ front ++ rest
+    → ((list : List ℕ) → rest ≢ list ++ back) → false ≡ list_any (λ k. bytes_eq name (front ++ k.now ++ back)) ks
 none_before name front rest back ks is fails = never (λ (k : Bor (List ℕ)). bytes_eq name (front ++ k.now ++ back)) ks (λ k. not_true _ (λ h. fails k.now (behind name front rest k.now back is h)))
 
 -- it does both
-pub between : (name front rest list back : List ℕ) (ks : List (Bor (List ℕ))) → name ≡ front ++ rest → rest ≡ list ++ back → list_any (λ k. bytes_eq list k.now) ks ≡ list_any (λ k. bytes_eq name (front ++ k.now ++ back)) ks
-between name front rest list back ks is ends = same_any (λ (k : Bor (List ℕ)). bytes_eq list k.now) (λ (k : Bor (List ℕ)). bytes_eq name (front ++ k.now ++ back)) ks (λ k. same_from_decides _ _ (bytes_eq-Decides list k.now) (
-  (λ h. append_cancel_right list k.now back (sym ends ∙ behind name front rest k.now back is h)),
-  (λ h. (bytes_eq-Decides name (front ++ k.now ++ back)).1 (is ∙ ap (λ r. front ++ r) (ends ∙ ap (λ l. l ++ back) h) ∙ sym (assoc front k.now back))),
-))
+pub between : (name front rest list back : List ℕ) (ks : List (Bor (List ℕ))) → name ≡ front ++ rest → rest ≡ list
+    ++ back → list_any (λ k. bytes_eq list k.now) ks ≡ list_any (λ k. bytes_eq name (front ++ k.now ++ back)) ks
+between name front rest list back ks is ends =
+    same_any (λ (k : Bor (List ℕ)). bytes_eq list k.now) (λ (k : Bor (List ℕ)). bytes_eq name (front ++ k.now ++ back))
+    ks (λ k. same_from_decides _ _ (bytes_eq-Decides list k.now) (
+      (λ h. append_cancel_right list k.now back (sym ends ∙ behind name front rest k.now back is h)),
+      (λ h. (bytes_eq-Decides name (front ++ k.now ++ back)).1 (is ∙ ap (λ r. front ++ r) (ends ∙ ap (λ l. l ++ back) h) ∙ sym (assoc front k.now back))),
+    ))
 
 -- one of them stands behind it
 pub one_behind : (name front rest : List ℕ) (ks : List (Bor (List ℕ))) → name ≡ front ++ rest → list_any (λ k. bytes_eq rest k.now) ks ≡ list_any (λ k. bytes_eq name (front ++ k.now)) ks
-one_behind name front rest ks is = same_any (λ (k : Bor (List ℕ)). bytes_eq rest k.now) (λ (k : Bor (List ℕ)). bytes_eq name (front ++ k.now)) ks (λ k. same_from_decides _ _ (bytes_eq-Decides rest k.now) (
-  (λ h. append_cancel_left front rest k.now (sym is ∙ (bytes_eq-Decides name (front ++ k.now)).0 h)),
-  (λ h. (bytes_eq-Decides name (front ++ k.now)).1 (is ∙ ap (λ r. front ++ r) h)),
-))
+one_behind name front rest ks is = same_any (λ (k : Bor (List ℕ)). bytes_eq rest k.now) (λ (k : Bor (List ℕ)).
+    bytes_eq name (front ++ k.now)) ks (λ k. same_from_decides _ _ (bytes_eq-Decides rest k.now) (
+      (λ h. append_cancel_left front rest k.now (sym is ∙ (bytes_eq-Decides name (front ++ k.now)).0 h)),
+      (λ h. (bytes_eq-Decides name (front ++ k.now)).1 (is ∙ ap (λ r. front ++ r) h)),
+    ))
 
 -- names that are added ------------------------------------------------------------------------------------------------
 
@@ -81,11 +88,14 @@ absorbs t true a h = refl
 absorbs t false a h = rw (sym h) (sym (or_false a))
 
 -- a key that is there already
-present : (test : List ℕ → Bool) (keys : List (Bor (List ℕ))) (k : Bor (List ℕ)) → list_any (same_name k) keys ≡ true → list_any (λ k. test k.now) keys ≡ (list_any (λ k. test k.now) keys || test k.now)
+present : (test : List ℕ → Bool) (keys : List (Bor (List ℕ))) (k : Bor (List ℕ)) → list_any (same_name k) keys ≡ true
+    → list_any (λ k. test k.now) keys ≡ (list_any (λ k. test k.now) keys || test k.now)
 present test [] k h = absurd cc
 present test (x ∷ xs) k h = cases (present test xs k) (same_name k x) refl
   where
-    cases : (list_any (same_name k) xs ≡ true → list_any (λ k. test k.now) xs ≡ (list_any (λ k. test k.now) xs || test k.now)) → (b : Bool) → same_name k x ≡ b → (test x.now || list_any (λ k. test k.now) xs) ≡ ((test x.now || list_any (λ k. test k.now) xs) || test k.now)
+    cases : (list_any (same_name k) xs ≡ true → list_any (λ k. test k.now) xs
+        ≡ (list_any (λ k. test k.now) xs || test k.now)) → (b : Bool) → same_name k x ≡ b
+        → (test x.now || list_any (λ k. test k.now) xs) ≡ ((test x.now || list_any (λ k. test k.now) xs) || test k.now)
     cases rest true is = absorbs (test k.now) (test x.now) (list_any (λ k. test k.now) xs) (ap test (sym ((bytes_eq-Decides k.now x.now).0 is)))
     cases rest false is = ap (λ b. test x.now || b) (rest (ap (λ b. b || list_any (same_name k) xs) (sym is) ∙ h)) ∙ sym (or-assoc (test x.now) (list_any (λ k. test k.now) xs) (test k.now))
 
@@ -96,7 +106,9 @@ inserted test keys k = cases (list_any (same_name k) keys) refl
     cases true is = rw is (present test keys k is)
     cases false is = rw is (list_any-append (λ k. test k.now) keys (k ∷ []) ∙ ap (λ b. list_any (λ k. test k.now) keys || b) (or_false (test k.now)))
 
-inserted_where : (b : Bool) (test : List ℕ → Bool) (keys new : List (Bor (List ℕ))) (k : Bor (List ℕ)) → new ≡ cond b (insert_key same_name keys k) keys → list_any (λ k. test k.now) new ≡ (list_any (λ k. test k.now) keys || (b && test k.now))
+inserted_where : (b : Bool) (test : List ℕ → Bool) (keys new : List (Bor (List ℕ))) (k : Bor (List ℕ))
+    → new ≡ cond b (insert_key same_name keys k) keys
+    → list_any (λ k. test k.now) new ≡ (list_any (λ k. test k.now) keys || (b && test k.now))
 inserted_where true test keys new k is = ap (list_any (λ k. test k.now)) is ∙ inserted test keys k
 inserted_where false test keys new k is = ap (list_any (λ k. test k.now)) is ∙ sym (or_false _)
 
@@ -107,7 +119,8 @@ pub adds_one : (p : Component) (k : Bor (List ℕ)) (old new : Accessors) → k.
     → AddsNames (p ∷ []) old new
 adds_one p k old new name cs os ls = record {
   components = λ test. ap (list_any (λ k. test k.now)) cs ∙ inserted test old.components.texts.keys k ∙ ap (λ b. any_component old test || b) (ap test name ∙ sym (or_false _));
-  optionals = λ test. inserted_where (is_optional p.shape) test old.optionals.texts.keys new.optionals.texts.keys k os ∙ ap (λ b. any_optional old test || b) (ap (λ n. is_optional p.shape && test n) name ∙ sym (or_false _));
+  optionals = λ test. inserted_where (is_optional p.shape) test old.optionals.texts.keys new.optionals.texts.keys k os
+      ∙ ap (λ b. any_optional old test || b) (ap (λ n. is_optional p.shape && test n) name ∙ sym (or_false _));
   lists = λ test. inserted_where (is_list p.shape) test old.lists.texts.keys new.lists.texts.keys k ls ∙ ap (λ b. any_list old test || b) (ap (λ n. is_list p.shape && test n) name ∙ sym (or_false _));
 }
 
@@ -116,7 +129,8 @@ adds_one p k old new name cs os ls = record {
 -- all are added where these still are
 pub record AddsLeft (rest all : List Component) (old new : Accessors) : Type 0 where
   pub components : (test : List ℕ → Bool) → (any_component new test || list_any (λ p. test p.name) rest) ≡ (any_component old test || list_any (λ p. test p.name) all)
-  pub optionals : (test : List ℕ → Bool) → (any_optional new test || list_any (λ p. is_optional p.shape && test p.name) rest) ≡ (any_optional old test || list_any (λ p. is_optional p.shape && test p.name) all)
+  pub optionals : (test : List ℕ → Bool) → (any_optional new test || list_any (λ p. is_optional p.shape && test p.name)
+      rest) ≡ (any_optional old test || list_any (λ p. is_optional p.shape && test p.name) all)
   pub lists : (test : List ℕ → Bool) → (any_list new test || list_any (λ p. is_list p.shape && test p.name) rest) ≡ (any_list old test || list_any (λ p. is_list p.shape && test p.name) all)
 
 shift : (now next f rest whole : Bool) → next ≡ (now || f) → (now || (f || rest)) ≡ whole → (next || rest) ≡ whole
@@ -132,7 +146,8 @@ adds_next p rest all old mid new left adds = record {
 pub adds_more : {X : Type 0} (v : X → Component) (xs : List X) (i : ℕ) (x : X) (all : List Component) (old mid new : Accessors) → i < length xs → x ≡ get_or xs i x
     → AddsLeft (map v (drop i xs)) all old mid → AddsNames (v x ∷ []) mid new → AddsLeft (map v (drop (i + 1) xs)) all old new
 adds_more v xs i x all old mid new less is left adds =
-    adds_next (v x) (map v (drop (i + 1) xs)) all old mid new (subst (λ ys. AddsLeft (map v ys) all old mid) (drop-cons xs i x less ∙ ap2 (λ y ys. y ∷ ys) (sym is) (ap (λ n. drop n xs) (next i))) left) adds
+    adds_next (v x) (map v (drop (i + 1) xs)) all old mid new (subst (λ ys. AddsLeft (map v ys) all old mid)
+    (drop-cons xs i x less ∙ ap2 (λ y ys. y ∷ ys) (sym is) (ap (λ n. drop n xs) (next i))) left) adds
 
 pub adds_end : {X : Type 0} (v : X → Component) (xs : List X) (i : ℕ) (all : List Component) (old new : Accessors) → length xs ≤ i → AddsLeft (map v (drop i xs)) all old new → AddsNames all old new
 adds_end v xs i all old new past left = record {
@@ -220,7 +235,9 @@ accessor_any classes c name =
     got_some (parts classes c) _ (position (is_got name) (parts classes c)) (λ i is. there i is (parts classes c) refl)
     ∙ ap2 (λ x y. x || y) (position_any (is_got name) (parts classes c))
     (or_some (option_map accessor.Has (position (is_had name) (parts classes c))) _ ∙ ap2 (λ x y. x || y) (map_some accessor.Has _ ∙ position_any (is_had name) (parts classes c))
-    (or_some (option_map accessor.Count (position (is_counted name) (parts classes c))) _ ∙ ap2 (λ x y. x || y) (map_some accessor.Count _ ∙ position_any (is_counted name) (parts classes c)) (map_some accessor.List _ ∙ position_any (is_listed name) (parts classes c))))
+    (or_some (option_map accessor.Count (position (is_counted name) (parts classes c))) _ ∙ ap2 (λ x y. x || y)
+    (map_some accessor.Count _ ∙ position_any (is_counted name) (parts classes c))
+    (map_some accessor.List _ ∙ position_any (is_listed name) (parts classes c))))
   where
     there : (i : ℕ) → position (is_got name) (parts classes c) ≡ Some i → (ps : List Component) → ps ≡ parts classes c → is_some (shape_of (parts classes c) i) ≡ true
     there i is [] h = absurd (none (subst (λ ps. position (is_got name) ps ≡ Some i) (sym h) is))
@@ -246,7 +263,9 @@ any_either f g k (x ∷ xs) = ap (λ b. (f k || g k) || b) (any_either f g (k + 
 pub accessed_names : (classes : Classes) (a : Accessors) (name : List ℕ) → HasNames classes a
     → (any_component a (λ k. bytes_eq name (codes "get" ++ k)) || is_of_shape a name) ≡ is_accessed classes name
 accessed_names classes a name has =
-    ap2 (λ x y. x || y) (has.components (λ k. bytes_eq name (codes "get" ++ k))) (ap2 (λ x y. x || y) (has.optionals (λ k. bytes_eq name (codes "has" ++ k))) (ap2 (λ x y. x || y) (has.lists (λ k. bytes_eq name (codes "getNum" ++ k))) (has.lists (λ k. bytes_eq name (codes "get" ++ k ++ codes "List")))))
+    ap2 (λ x y. x || y) (has.components (λ k. bytes_eq name (codes "get" ++ k))) (ap2 (λ x y. x || y)
+    (has.optionals (λ k. bytes_eq name (codes "has" ++ k))) (ap2 (λ x y. x || y) (has.lists (λ k.
+    bytes_eq name (codes "getNum" ++ k))) (has.lists (λ k. bytes_eq name (codes "get" ++ k ++ codes "List")))))
     ∙ sym (given_any (λ c. accessor_named classes c name) _ 0 classes (λ c. accessor_any classes c name)
     ∙ any_either (λ c. list_any (is_got name) (parts classes c)) _ 0 classes ∙ ap (λ b. any_part (is_got name) classes || b)
     (any_either (λ c. list_any (is_had name) (parts classes c)) _ 0 classes ∙ ap (λ b. any_part (is_had name) classes || b)

@@ -24,7 +24,9 @@ use Rattle.at_text.specs.declared.fault.Fault.{Fault}
 use Rattle.at_text.specs.declared.fault.Fault.TheVariants.{Refused, Memory}
 
 -- an attribute of a class that isn't there
-pub attribute_fault : (classes : Classes) (d : Located) (result : KindWord) (k : Kind) (w : Word) (e : Fault RuleCode) → kind_named classes result ≡ Is k → w ≡ class_word d.decl.form → Judges {T = ℕ} (λ c. c) (class_named classes w) (Err e) → Judges (attribute_of d) (attribute_meant classes d result) (Err e)
+pub attribute_fault : (classes : Classes) (d : Located) (result : KindWord) (k : Kind) (w : Word) (e : Fault RuleCode)
+    → kind_named classes result ≡ Is k → w ≡ class_word d.decl.form → Judges {T = ℕ} (λ c. c) (class_named classes w)
+    (Err e) → Judges (attribute_of d) (attribute_meant classes d result) (Err e)
 attribute_fault classes d result k w (Refused c at) kind same is = ap (and_then (attribute_for classes d)) kind ∙ ap (and_then (attribute_with classes d k)) (ap (class_named classes) (sym same) ∙ is)
 attribute_fault classes d result k w Memory kind same is = tt
 
@@ -38,12 +40,14 @@ module _ (d : Located) (n : ℕ) (old new : Equations) where
   pub adds_then : {A : Type 0} (f : A → Judgement Meaning) (j : Judgement A) (a : A) (r : Result (Unit {0}) (Fault RuleCode)) → j ≡ Is a → Adds d n (f a) old new r → Adds d n (and_then f j) old new r
   adds_then f j a r is adds = subst (λ k. Adds d n (and_then f k) old new r) (sym is) adds
 
-  pub declares_fault : (f : Attribute → Judgement Meaning) (j : Judgement Attribute) (e : Fault RuleCode) → Declares d n j old.attributes.entries new.attributes.entries (Err e) → Adds d n (and_then f j) old new (Err e)
+  pub declares_fault : (f : Attribute → Judgement Meaning) (j : Judgement Attribute) (e : Fault RuleCode)
+      → Declares d n j old.attributes.entries new.attributes.entries (Err e) → Adds d n (and_then f j) old new (Err e)
   declares_fault f j (Refused c at) is = ap (and_then f) is
   declares_fault f j Memory is = tt
 
   -- an attribute without an equation
-  pub declares_alone : (f : Attribute → Judgement Meaning) (j : Judgement Attribute) (c : ℕ) (u : Unit {0}) → ((a : Attribute) → f a ≡ declared_alone a) → Declares d n j old.attributes.entries new.attributes.entries (Ok c)
+  pub declares_alone : (f : Attribute → Judgement Meaning) (j : Judgement Attribute) (c : ℕ) (u : Unit {0})
+      → ((a : Attribute) → f a ≡ declared_alone a) → Declares d n j old.attributes.entries new.attributes.entries (Ok c)
       → new.own ≡ old.own → new.inherited ≡ old.inherited → Adds d n (and_then f j) old new (Ok u)
   declares_alone f j c u alone (a, is, at) own inherited = (
     record { attribute = Some (c, a); own = None; inherited = None },
@@ -74,9 +78,13 @@ module _ (d : Located) (n : ℕ) (old new : Equations) where
   adds_inherited c part j (Err Memory) is attributes own = tt
 
 -- an index name for what is no list
-pub index_fault : (classes : Classes) (ds : List Located) (d : Located) (n : ℕ) (old new : Equations) (c : ℕ) (part : Option ℕ) (index : Option Word) (body : Body) (e : Fault RuleCode) → Judges {T = Unit {0}} (λ u. tt) (index_of_list classes c part index) (Err e)
+pub index_fault : (classes : Classes) (ds : List Located) (d : Located) (n : ℕ) (old new : Equations) (c : ℕ)
+    (part : Option ℕ) (index : Option Word) (body : Body) (e : Fault RuleCode)
+    → Judges {T = Unit {0}} (λ u. tt) (index_of_list classes c part index) (Err e)
     → Adds d n (and_then inherited_alone (inherited_meant classes ds d index body c part)) old new (Err e)
-index_fault classes ds d n old new c part index body (Refused code at) is = ap (λ k. and_then inherited_alone (and_then (λ u. and_then (λ e. Is (inherited_equation d c part e.1)) (body_meant classes (signatures classes ds) c d body (inherited_named ds (name_text d)))) k)) is
+index_fault classes ds d n old new c part index body (Refused code at) is =
+    ap (λ k. and_then inherited_alone (and_then (λ u. and_then (λ e. Is (inherited_equation d c part e.1))
+    (body_meant classes (signatures classes ds) c d body (inherited_named ds (name_text d)))) k)) is
 index_fault classes ds d n old new c part index body Memory is = tt
 
 -- the word of an index name
@@ -87,25 +95,39 @@ seen_word (Some w) = refl
 -- by what is known of the attributes among all declarations
 module _ (classes : Classes) (ds : List Located) (d : Located) (body : Body) (declared : List Declared) (c : ℕ) (o : Option ℕ) (known : declared ≡ signatures classes ds) where
   -- the equation of a class for its own nodes
-  pub own_meaning : o ≡ synthesized_named classes ds (class_text d) (name_text d) → body_meant classes declared c d body o ≡ body_meant classes (signatures classes ds) c d body (synthesized_named classes ds (class_text d) (name_text d))
+  pub own_meaning : o ≡ synthesized_named classes ds (class_text d) (name_text d)
+      → body_meant classes declared c d body o ≡ body_meant classes (signatures classes ds) c d body
+      (synthesized_named classes ds (class_text d) (name_text d))
   own_meaning found = ap₂ (λ x y. body_meant classes x c d body y) known found
 
-  pub adds_equation : (n : ℕ) (old new : Equations) (r : Result (Unit {0}) (Fault RuleCode)) → o ≡ synthesized_named classes ds (class_text d) (name_text d) → AddsOwn c (body_meant classes declared c d body o) old.own.entries new.own.entries r
+  pub adds_equation : (n : ℕ) (old new : Equations) (r : Result (Unit {0}) (Fault RuleCode))
+      → o ≡ synthesized_named classes ds (class_text d) (name_text d)
+      → AddsOwn c (body_meant classes declared c d body o) old.own.entries new.own.entries r
       → new.attributes ≡ old.attributes → new.inherited ≡ old.inherited → Adds d n (and_then own_alone (own_meant classes ds d body c)) old new r
   adds_equation n old new r found adds attributes inherited =
-      adds_own d n old new c (body_meant classes (signatures classes ds) c d body (synthesized_named classes ds (class_text d) (name_text d))) r (subst (λ j. AddsOwn c j old.own.entries new.own.entries r) (own_meaning found) adds) attributes inherited
+      adds_own d n old new c (body_meant classes (signatures classes ds) c d body
+      (synthesized_named classes ds (class_text d) (name_text d))) r
+      (subst (λ j. AddsOwn c j old.own.entries new.own.entries r) (own_meaning found) adds) attributes inherited
 
   -- the equation of a class for the nodes in the component, or in each one
-  pub adds_equation_below : (n : ℕ) (old new : Equations) (r : Result (Unit {0}) (Fault RuleCode)) (part : Option ℕ) (index : Option Word) → o ≡ inherited_named ds (name_text d) → index_of_list classes c part index ≡ Is tt → AddsInherited c part n (body_meant classes declared c d body o) old.inherited.entries new.inherited.entries r
+  pub adds_equation_below : (n : ℕ) (old new : Equations) (r : Result (Unit {0}) (Fault RuleCode)) (part : Option ℕ)
+      (index : Option Word) → o ≡ inherited_named ds (name_text d) → index_of_list classes c part index ≡ Is tt
+      → AddsInherited c part n (body_meant classes declared c d body o) old.inherited.entries new.inherited.entries r
       → new.attributes ≡ old.attributes → new.own ≡ old.own → Adds d n (and_then inherited_alone (inherited_meant classes ds d index body c part)) old new r
   adds_equation_below n old new r part index found listed adds attributes own =
-      subst (λ k. Adds d n (and_then inherited_alone (and_then (λ u. and_then (λ e. Is (inherited_equation d c part e.1)) (body_meant classes (signatures classes ds) c d body (inherited_named ds (name_text d)))) k)) old new r) (sym listed)
+      subst (λ k. Adds d n (and_then inherited_alone (and_then (λ u. and_then (λ e. Is (inherited_equation d c part
+      e.1)) (body_meant classes (signatures classes ds) c d body (inherited_named ds (name_text d)))) k)) old new r)
+      (sym listed)
       (adds_inherited d n old new c part (body_meant classes (signatures classes ds) c d body (inherited_named ds (name_text d))) r
       (subst (λ j. AddsInherited c part n j old.inherited.entries new.inherited.entries r) (ap₂ (λ x y. body_meant classes x c d body y) known found) adds) attributes own)
 
   -- an attribute with its equation
-  pub declares_with : (n : ℕ) (old mid new : Equations) (j : Judgement Attribute) (b : Option Body) (r : Result (Unit {0}) (Fault RuleCode)) → b ≡ Some body → o ≡ synthesized_named classes ds (class_text d) (name_text d) → Declares d n j old.attributes.entries mid.attributes.entries (Ok c) → mid.own ≡ old.own → mid.inherited ≡ old.inherited
-      → AddsOwn c (body_meant classes declared c d body o) mid.own.entries new.own.entries r → new.attributes ≡ mid.attributes → new.inherited ≡ mid.inherited → Adds d n (and_then (with_body classes ds d b) j) old new r
+  pub declares_with : (n : ℕ) (old mid new : Equations) (j : Judgement Attribute) (b : Option Body)
+      (r : Result (Unit {0}) (Fault RuleCode)) → b ≡ Some body → o ≡ synthesized_named classes ds (class_text d)
+      (name_text d) → Declares d n j old.attributes.entries mid.attributes.entries (Ok c) → mid.own ≡ old.own
+      → mid.inherited ≡ old.inherited
+      → AddsOwn c (body_meant classes declared c d body o) mid.own.entries new.own.entries r → new.attributes
+      ≡ mid.attributes → new.inherited ≡ mid.inherited → Adds d n (and_then (with_body classes ds d b) j) old new r
   declares_with n old mid new j b (Ok u) is_body found (a, is, at) own inherited (e, judged, there) same behind = (
     record { attribute = Some (c, a); own = Some ((c, e.0), e.1); inherited = None },
     ap (and_then (with_body classes ds d b)) is ∙ ap (λ x. with_body classes ds d x (attribute_of d (c, a))) is_body

@@ -4,7 +4,9 @@ use Rattle.std.proofs.Math.Seq.{drop-cons}
 use Rattle.std.proofs.lemmas.List.{drop_all}
 
 -- the part that the next item gives is appended
-pub next_part : {X A : Type 0} (g h : List X → List A) (before after part zs : List A) (items : List X) (k : ℕ) (x : X) → k < length items → x ≡ get_or items k x → ((rest : List X) → g (x ∷ rest) ≡ part ++ h rest) → after ≡ before ++ part → before ++ g (drop k items) ≡ zs → after ++ h (drop (k + 1) items) ≡ zs
+pub next_part : {X A : Type 0} (g h : List X → List A) (before after part zs : List A) (items : List X) (k : ℕ) (x : X)
+    → k < length items → x ≡ get_or items k x → ((rest : List X) → g (x ∷ rest) ≡ part ++ h rest)
+    → after ≡ before ++ part → before ++ g (drop k items) ≡ zs → after ++ h (drop (k + 1) items) ≡ zs
 next_part g h before after part zs items k x less is law new so_far =
     let rest = drop (suc k) items in
     let here : drop k items ≡ x ∷ rest = drop-cons items k x less ∙ ap (λ y. y ∷ rest) (sym is) in

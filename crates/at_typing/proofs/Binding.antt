@@ -24,7 +24,9 @@ map-append f (x ∷ xs) ys = ap (λ zs. f x ∷ zs) (map-append f xs ys)
 
 -- a text is among the keys as it is among their texts, the last one first
 pub any_key : (p : List ℕ → Bool) (keys : List (Bor (List ℕ))) → list_any (λ k. p k.now) keys ≡ list_any p (reverse (map (λ k. k.now) keys))
-any_key p keys = sym (any-map p (λ (k : Bor (List ℕ)). k.now) keys) ∙ list_any-IsPermutation p (map (λ (k : Bor (List ℕ)). k.now) keys) (reverse (map (λ (k : Bor (List ℕ)). k.now) keys)) (IsPermutation-reverse (map (λ (k : Bor (List ℕ)). k.now) keys))
+any_key p keys = sym (any-map p (λ (k : Bor (List ℕ)). k.now) keys)
+    ∙ list_any-IsPermutation p (map (λ (k : Bor (List ℕ)). k.now) keys)
+    (reverse (map (λ (k : Bor (List ℕ)). k.now) keys)) (IsPermutation-reverse (map (λ (k : Bor (List ℕ)). k.now) keys))
 
 -- what is bound last stands first
 pub key_behind : (keys : List (Bor (List ℕ))) (k : Bor (List ℕ)) → reverse (map (λ k. k.now) (keys ++ k ∷ [])) ≡ k.now ∷ reverse (map (λ k. k.now) keys)
@@ -58,7 +60,8 @@ mutual
   again_same ms ns (written.InstanceOf at e behind class) same = again_same ms ns e same
   again_same ms ns (written.Binary at o between a b) same = either _ _ _ _ (again_same ms ns a same) (again_same ms ns b same)
   again_same ms ns (written.Choose at c behind a b) same = either _ _ _ _ (again_same ms ns c same) (either _ _ _ _ (again_same ms ns a same) (again_same ms ns b same))
-  again_same ms ns (written.Fold at form name list body) same = either _ _ _ _ (again_same ms ns list same) (either _ _ _ _ (same name.text) (again_same (name.text ∷ ms) (name.text ∷ ns) body (same_more ms ns name.text same)))
+  again_same ms ns (written.Fold at form name list body) same = either _ _ _ _ (again_same ms ns list same) (either
+      _ _ _ _ (same name.text) (again_same (name.text ∷ ms) (name.text ∷ ns) body (same_more ms ns name.text same)))
 
   pub among_same : (ms ns : List (List ℕ)) (es : written.Exprs) → AreSame ms ns → is_bound_among ms es ≡ is_bound_among ns es
   among_same ms ns written.no_exprs same = refl
@@ -70,7 +73,8 @@ mutual
 abbrev pub among_from : List (List ℕ) → List ExprValue → ℕ → Bool
 among_from names es k = is_bound_among names (to_exprs (map expr_view (drop k es)))
 
-pub among_more : (names : List (List ℕ)) (es : List ExprValue) (k : ℕ) (e : ExprValue) → k < length es → e ≡ get_or es k e → is_bound_again names (expr_view e) ≡ false → among_from names es k ≡ among_from names es (k + 1)
+pub among_more : (names : List (List ℕ)) (es : List ExprValue) (k : ℕ) (e : ExprValue) → k < length es → e
+    ≡ get_or es k e → is_bound_again names (expr_view e) ≡ false → among_from names es k ≡ among_from names es (k + 1)
 among_more names es k e less is none = rw (drop-cons es k e less, ← is) (rw none (rw add-one refl))
 
 pub among_here : (names : List (List ℕ)) (es : List ExprValue) (k : ℕ) (e : ExprValue) → k < length es → e ≡ get_or es k e → is_bound_again names (expr_view e) ≡ true → among_from names es k ≡ true
@@ -95,7 +99,9 @@ after_same ms [] w = refl
 after_same ms (n ∷ ns) w = after_same (n ∷ ms) ns w ∙ behind (bytes_eq w) ns n ms
 
 -- the names of the index and the parameters are bound, and then its body is looked at
-pub binds_by_body : (form : DeclForm) (b : Body) (names : List (List ℕ)) (again : Bool) → is_repeated (index_names form) (param_names form) ≡ false → body_in form ≡ Some b → names ≡ bound_after (index_names form) (param_names form) → again ≡ is_bound_again names b.expr → again ≡ binds_twice form
+pub binds_by_body : (form : DeclForm) (b : Body) (names : List (List ℕ)) (again : Bool)
+    → is_repeated (index_names form) (param_names form) ≡ false → body_in form ≡ Some b → names
+    ≡ bound_after (index_names form) (param_names form) → again ≡ is_bound_again names b.expr → again ≡ binds_twice form
 binds_by_body form b names again once body is so =
     so ∙ ap (λ ns. is_bound_again ns b.expr) is ∙ again_same _ _ b.expr (after_same (index_names form) (param_names form)) ∙ rw once (rw body refl)
 

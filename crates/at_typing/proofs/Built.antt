@@ -31,18 +31,24 @@ use Rattle.at_typing.proofs.MeaningParts.{OfAttribute, of_words}
 -- attributes that are declared ---------------------------------------------------------------------------------------------
 
 -- where no declaration has a fault, the attributes are those that are declared
-all_declared : (classes : Classes) (all : List Located) (k : ℕ) (some : List Located) → first_given (refused_at classes all) k some ≡ None → AllZip (IsDeclaredBy classes) (attributes some) (filter_map (λ (m : Meaning). m.attribute) (meanings classes all some))
+all_declared : (classes : Classes) (all : List Located) (k : ℕ) (some : List Located)
+    → first_given (refused_at classes all) k some ≡ None → AllZip (IsDeclaredBy classes) (attributes some)
+    (filter_map (λ (m : Meaning). m.attribute) (meanings classes all some))
 all_declared classes all k [] none = tt
-all_declared classes all k (d ∷ ds) none = by (meant classes all d) refl (first_none (refused_at classes all k d) _ none) (all_declared classes all (k + 1) ds (other_none (refused_at classes all k d) _ none))
+all_declared classes all k (d ∷ ds) none = by (meant classes all d) refl (first_none (refused_at classes all k d)
+    _ none) (all_declared classes all (k + 1) ds (other_none (refused_at classes all k d) _ none))
   where
-    with_one : (b : Bool) (o : Option Attribute) → is_some o ≡ b → IfSome o (OfAttribute classes d) → (xs : List Located) (ys : List Attribute) → AllZip (IsDeclaredBy classes) xs ys → AllZip (IsDeclaredBy classes) (cond b (d ∷ xs) xs) (cons_option o ys)
+    with_one : (b : Bool) (o : Option Attribute) → is_some o ≡ b → IfSome o (OfAttribute classes d)
+        → (xs : List Located) (ys : List Attribute) → AllZip (IsDeclaredBy classes) xs ys
+        → AllZip (IsDeclaredBy classes) (cond b (d ∷ xs) xs) (cons_option o ys)
     with_one true None is of xs ys rest = absurd (true≢false (sym is))
     with_one true (Some a) is of xs ys rest = (record { class = of.1; name = sym of.2; is_inherited = of.3 }, rest)
     with_one false None is of xs ys rest = rest
     with_one false (Some a) is of xs ys rest = absurd (true≢false is)
 
     by : (j : Judgement Meaning) → meant classes all d ≡ j → refusal d j ≡ None → AllZip (IsDeclaredBy classes) (attributes ds) (filter_map (λ (m : Meaning). m.attribute) (meanings classes all ds))
-        → AllZip (IsDeclaredBy classes) (cond (is_attribute d.decl.form) (d ∷ attributes ds) (attributes ds)) (filter_map (λ (m : Meaning). m.attribute) (cons_option (meaning_if j) (meanings classes all ds)))
+        → AllZip (IsDeclaredBy classes) (cond (is_attribute d.decl.form) (d ∷ attributes ds) (attributes ds))
+        (filter_map (λ (m : Meaning). m.attribute) (cons_option (meaning_if j) (meanings classes all ds)))
     by (Is m) is faultless rest = let of = of_words classes all d m is in with_one (is_attribute d.decl.form) m.attribute of.declares of.attribute (attributes ds) _ rest
     by (Wrong c at) is faultless rest = absurd (none-some _ (sym faultless))
 
@@ -50,7 +56,9 @@ pub are_declared : (classes : Classes) (ds : List Located) (rules : Rules) → f
 are_declared classes ds rules none is = subst (λ r. AreDeclared r ds) (sym is) (all_declared classes ds 0 ds (other_none (fault_together classes ds) _ none))
 
 -- the rules themselves
-pub same_rules : (classes : Classes) (ds : List Located) (names : List (String Global)) (e : Equations) (rules : Rules) → Stands names (meanings classes ds ds) e → rules.classes ≡ classes → rules.attributes ≡ map (attribute_view names) e.attributes.entries → rules.own ≡ map own_view e.own.entries
+pub same_rules : (classes : Classes) (ds : List Located) (names : List (String Global)) (e : Equations) (rules : Rules)
+    → Stands names (meanings classes ds ds) e → rules.classes ≡ classes
+    → rules.attributes ≡ map (attribute_view names) e.attributes.entries → rules.own ≡ map own_view e.own.entries
     → rules.inherited ≡ map (inherited_view names) (named names e.inherited.entries) → rules ≡ rules_of classes ds
 same_rules classes ds names e rules stands same attributes own inherited =
     let p = attributes ∙ stands.attributes in
@@ -60,11 +68,14 @@ same_rules classes ds names e rules stands same attributes own inherited =
 
 -- what rules lack ----------------------------------------------------------------------------------------------------------
 
-pub lacks_own : (rules : Rules) (ds : List Located) (own : Option Breach) (e : Failure Breach) → IsFirstFault code.ClassWithoutEquation (LacksOwn rules) ds own → Tells (λ f. f ≡ own) (Err e) → Tells (IsLack rules ds) (Err e)
+pub lacks_own : (rules : Rules) (ds : List Located) (own : Option Breach) (e : Failure Breach) → IsFirstFault
+    code.ClassWithoutEquation (LacksOwn rules) ds own → Tells (λ f. f ≡ own) (Err e) → Tells (IsLack rules ds) (Err e)
 lacks_own rules ds own (failure.For f) first is = (own, first, subst (λ o. IsLackBehind rules ds o (Some f)) is refl)
 lacks_own rules ds own failure.Memory first is = tt
 
-pub lacks_inherited : (rules : Rules) (ds : List Located) (own inherited : Option Breach) (r : Result (Unit {0}) (Failure Breach)) → IsFirstFault code.ClassWithoutEquation (LacksOwn rules) ds own → None ≡ own → IsFirstFault code.InheritedWithoutEquation (LacksInherited rules) ds inherited
+pub lacks_inherited : (rules : Rules) (ds : List Located) (own inherited : Option Breach)
+    (r : Result (Unit {0}) (Failure Breach)) → IsFirstFault code.ClassWithoutEquation (LacksOwn rules) ds own
+    → None ≡ own → IsFirstFault code.InheritedWithoutEquation (LacksInherited rules) ds inherited
     → Tells (λ f. f ≡ inherited) r → Tells (IsLack rules ds) r
 lacks_inherited rules ds own inherited r first none other = by r
   where
@@ -84,7 +95,9 @@ declared_there R (d ∷ ds) (b ∷ bs) zero a zip is = refl
 declared_there R (d ∷ ds) (b ∷ bs) (suc k) a zip is = declared_there R ds bs k a zip.1 is
 
 -- no fault is told only where no attribute has one
-pub no_first : (c : RuleCode) (Lacks : ℕ → Type 0) (rules : Rules) (ds : List Located) → ((k : ℕ) → Lacks k → (a : Attribute) × (slice_get rules.attributes k ≡ Some a)) → AreDeclared rules ds → IsFirstFault c Lacks ds None → IsFirst Lacks None
+pub no_first : (c : RuleCode) (Lacks : ℕ → Type 0) (rules : Rules) (ds : List Located)
+    → ((k : ℕ) → Lacks k → (a : Attribute) × (slice_get rules.attributes k ≡ Some a)) → AreDeclared rules ds
+    → IsFirstFault c Lacks ds None → IsFirst Lacks None
 no_first c Lacks rules ds there declared (None, first, is) = first
 no_first c Lacks rules ds there declared (Some k, first, is) =
     let found = there k first.0 in
@@ -96,7 +109,9 @@ no_first c Lacks rules ds there declared (Some k, first, is) =
 
 -- rules that lack nothing are complete
 pub lack_nothing : (rules : Rules) (ds : List Located) → AreDeclared rules ds → IsLack rules ds None → AreComplete rules
-lack_nothing rules ds declared (None, first, behind) = complete rules (no_first code.ClassWithoutEquation (LacksOwn rules) rules ds (λ k lacks. (lacks.0, lacks.1)) declared first) (no_first code.InheritedWithoutEquation (LacksInherited rules) rules ds (λ k lacks. (lacks.0, lacks.1)) declared behind)
+lack_nothing rules ds declared (None, first, behind) = complete rules (no_first code.ClassWithoutEquation
+    (LacksOwn rules) rules ds (λ k lacks. (lacks.0, lacks.1)) declared first) (no_first code.InheritedWithoutEquation
+    (LacksInherited rules) rules ds (λ k lacks. (lacks.0, lacks.1)) declared behind)
 lack_nothing rules ds declared (Some f, first, behind) = absurd (none-some f behind)
 
 -- what building comes to ---------------------------------------------------------------------------------------------------
@@ -104,11 +119,13 @@ lack_nothing rules ds declared (Some f, first, behind) = absurd (none-some f beh
 pub built : (classes : Classes) (ds : List Located) (rules : Rules) → first_fault classes ds ≡ None → rules ≡ rules_of classes ds → IsLack rules ds None → Builds classes ds (Ok rules)
 built classes ds rules none is lack = (subst (λ f. IsFault classes ds f None) (sym none) (subst (λ r. IsLack r ds None) is lack), is)
 
-pub lacking : (classes : Classes) (ds : List Located) (rules : Rules) (e : Failure Breach) → first_fault classes ds ≡ None → rules ≡ rules_of classes ds → Tells (IsLack rules ds) (Err e) → Builds classes ds (Err e)
+pub lacking : (classes : Classes) (ds : List Located) (rules : Rules) (e : Failure Breach) → first_fault classes ds
+    ≡ None → rules ≡ rules_of classes ds → Tells (IsLack rules ds) (Err e) → Builds classes ds (Err e)
 lacking classes ds rules (failure.For f) none is lack = subst (λ g. IsFault classes ds g (Some f)) (sym none) (subst (λ r. IsLack r ds (Some f)) is lack)
 lacking classes ds rules failure.Memory none is lack = tt
 
 -- the first fault of the declarations
-pub meant_fault : (classes : Classes) (xs : List NumberedValue) (e : Failure Breach) → Means classes xs (first_fault classes (map numbered_view xs)) (Err e) → Builds classes (map numbered_view xs) (Err e)
+pub meant_fault : (classes : Classes) (xs : List NumberedValue) (e : Failure Breach) → Means classes xs
+    (first_fault classes (map numbered_view xs)) (Err e) → Builds classes (map numbered_view xs) (Err e)
 meant_fault classes xs (failure.For f) is = subst (λ g. IsFault classes (map numbered_view xs) g (Some f)) (sym is) refl
 meant_fault classes xs failure.Memory is = tt

@@ -28,12 +28,14 @@ declared_well_formed classes ds rules hierarchy ints booleans (fault, is) = by (
         (subst (λ (r : Rules). IsLack r ds None) (sym is) lack))
     by (Some f) some lack = absurd (none-some f lack)
 
-pub built_well_formed : (classes : Classes) (files : List (List Aspect)) (rules : Rules) → IsHierarchy classes → AllByRecursion IsSpelled files → Builds classes (located 1 files) (Ok rules) → AreWellFormed rules
+pub built_well_formed : (classes : Classes) (files : List (List Aspect)) (rules : Rules) → IsHierarchy classes
+    → AllByRecursion IsSpelled files → Builds classes (located 1 files) (Ok rules) → AreWellFormed rules
 built_well_formed classes files rules hierarchy spelled built =
     declared_well_formed classes (located 1 files) rules hierarchy (located_ints 1 files spelled)
     (located_booleans 1 files spelled) built
 
-pub built_if_ok : (classes : Classes) (files : List (List Aspect)) (r : Result Rules (Failure Breach)) → IsHierarchy classes → AllByRecursion IsSpelled files → Builds classes (located 1 files) r → IfOk r AreWellFormed
+pub built_if_ok : (classes : Classes) (files : List (List Aspect)) (r : Result Rules (Failure Breach))
+    → IsHierarchy classes → AllByRecursion IsSpelled files → Builds classes (located 1 files) r → IfOk r AreWellFormed
 built_if_ok classes files (Ok rules) hierarchy spelled built = built_well_formed classes files rules hierarchy spelled built
 built_if_ok classes files (Err e) hierarchy spelled built = tt
 

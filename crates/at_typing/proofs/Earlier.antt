@@ -29,11 +29,13 @@ found_from : {A : Type 0} (p a : A → Bool) (i : ℕ) (xs : List A) → is_some
 found_from p a i [] = refl
 found_from p a i (x ∷ xs) = by (a x) (λ j. found_from p a j xs)
   where
-    here : (b : Bool) → is_some (position_from p (i + 1) (filter a xs)) ≡ list_any (λ x. a x && p x) xs → is_some (cond b (Some i) (position_from p (i + 1) (filter a xs))) ≡ (b || list_any (λ x. a x && p x) xs)
+    here : (b : Bool) → is_some (position_from p (i + 1) (filter a xs)) ≡ list_any (λ x. a x && p x) xs
+        → is_some (cond b (Some i) (position_from p (i + 1) (filter a xs))) ≡ (b || list_any (λ x. a x && p x) xs)
     here true rest = refl
     here false rest = rest
 
-    by : (b : Bool) → ((j : ℕ) → is_some (position_from p j (filter a xs)) ≡ list_any (λ x. a x && p x) xs) → is_some (position_from p i (cond b (x ∷ filter a xs) (filter a xs))) ≡ ((b && p x) || list_any (λ x. a x && p x) xs)
+    by : (b : Bool) → ((j : ℕ) → is_some (position_from p j (filter a xs)) ≡ list_any (λ x. a x && p x) xs) → is_some
+        (position_from p i (cond b (x ∷ filter a xs) (filter a xs))) ≡ ((b && p x) || list_any (λ x. a x && p x) xs)
     by true rest = here (p x) (rest (i + 1))
     by false rest = rest i
 

@@ -85,11 +85,16 @@ module _ (rules : Rules) (ds : List Located) (zip : AllZip (Declares rules.class
 
   -- own equations -------------------------------------------------------------------------------------------------------
 
-  own_right : (d : Located) (body : Body) (c : ℕ) → AreInts body.expr → class_of_name rules.classes (class_text d) ≡ Some c → index_in d.decl.form ≡ None → Holds (IsOwnTyped rules) (own_meant rules.classes ds d body c)
+  own_right : (d : Located) (body : Body) (c : ℕ) → AreInts body.expr → class_of_name rules.classes (class_text d)
+      ≡ Some c → index_in d.decl.form ≡ None → Holds (IsOwnTyped rules) (own_meant rules.classes ds d body c)
   own_right d body c ints class no_index =
-      then_holds (λ e. IsBodyOf rules (signatures rules.classes ds) (signatures_same rules.classes ds rules.attributes zip) c false e × (synthesized_named rules.classes ds (class_text d) (name_text d) ≡ Some e.0)) (IsOwnTyped rules) (λ e. Is (own_equation c e))
+      then_holds (λ e. IsBodyOf rules (signatures rules.classes ds) (signatures_same rules.classes ds rules.attributes
+      zip) c false e × (synthesized_named rules.classes ds (class_text d) (name_text d) ≡ Some e.0))
+      (IsOwnTyped rules) (λ e. Is (own_equation c e))
       (body_meant rules.classes (signatures rules.classes ds) c d body (synthesized_named rules.classes ds (class_text d) (name_text d)))
-      (body_right rules (signatures rules.classes ds) (signatures_same rules.classes ds rules.attributes zip) c d body (synthesized_named rules.classes ds (class_text d) (name_text d)) false ints (λ is. absurd (true≢false (sym is ∙ ap is_some no_index))))
+      (body_right rules (signatures rules.classes ds) (signatures_same rules.classes ds rules.attributes zip) c d body
+      (synthesized_named rules.classes ds (class_text d) (name_text d)) false ints
+      (λ is. absurd (true≢false (sym is ∙ ap is_some no_index))))
       (λ e (of, numbered).
       let (x, at, passes, less) = element_found (is_synthesized_by rules.classes (class_text d) (name_text d)) (attributes ds) e.0 numbered in
       let (result, declared) = declaration_of e.0 of.declaration x of.attribute at in
@@ -122,18 +127,28 @@ module _ (rules : Rules) (ds : List Located) (zip : AllZip (Declares rules.class
       many (Some (class.Many b)) is = refl
       many (Some s) is = absurd (true≢false (sym is))
 
-      by : (b : Bool) → is_many (option_and_then (shape_of (parts rules.classes c)) part) ≡ b → Holds {A = Unit {0}} (λ u. is_some (Some word) ≡ true → for_list d c part ≡ true) (if b then Is tt else Wrong code.UnknownName word.at)
+      by : (b : Bool) → is_many (option_and_then (shape_of (parts rules.classes c)) part) ≡ b
+          → Holds {A = Unit {0}} (λ u. is_some (Some word) ≡ true → for_list d c part ≡ true)
+          (if b then Is tt else Wrong code.UnknownName word.at)
       by true is = λ some. many (option_and_then (shape_of (parts rules.classes c)) part) is
       by false is = tt
 
   module _ (alike : AreInheritedAlike rules) where
-    inherited_right : (d : Located) (index : Option Word) (body : Body) (c : ℕ) (part : Option ℕ) → AreInts body.expr → c < length rules.classes → HasTrees rules.classes c part → index_in d.decl.form ≡ index
+    inherited_right : (d : Located) (index : Option Word) (body : Body) (c : ℕ) (part : Option ℕ) → AreInts body.expr
+        → c < length rules.classes → HasTrees rules.classes c part → index_in d.decl.form ≡ index
         → Holds (IsInheritedTyped rules) (inherited_meant rules.classes ds d index body c part)
     inherited_right d index body c part ints less trees has_index =
-        then_holds (λ (u : Unit {0}). is_some index ≡ true → for_list d c part ≡ true) (IsInheritedTyped rules) (λ u. and_then (λ e. Is (inherited_equation d c part e.1)) (body_meant rules.classes (signatures rules.classes ds) c d body (inherited_named ds (name_text d)))) (index_of_list rules.classes c part index) (index_right d c part index) (λ u indexed.
-        then_holds (λ e. IsBodyOf rules (signatures rules.classes ds) (signatures_same rules.classes ds rules.attributes zip) c (for_list d c part) e × (inherited_named ds (name_text d) ≡ Some e.0)) (IsInheritedTyped rules) (λ e. Is (inherited_equation d c part e.1))
+        then_holds (λ (u : Unit {0}). is_some index ≡ true → for_list d c part ≡ true) (IsInheritedTyped rules)
+        (λ u. and_then (λ e. Is (inherited_equation d c part e.1))
+        (body_meant rules.classes (signatures rules.classes ds) c d body (inherited_named ds (name_text d))))
+        (index_of_list rules.classes c part index) (index_right d c part index) (λ u indexed.
+        then_holds (λ e. IsBodyOf rules (signatures rules.classes ds) (signatures_same rules.classes ds rules.attributes
+        zip) c (for_list d c part) e × (inherited_named ds (name_text d) ≡ Some e.0)) (IsInheritedTyped rules)
+        (λ e. Is (inherited_equation d c part e.1))
         (body_meant rules.classes (signatures rules.classes ds) c d body (inherited_named ds (name_text d)))
-        (body_right rules (signatures rules.classes ds) (signatures_same rules.classes ds rules.attributes zip) c d body (inherited_named ds (name_text d)) (for_list d c part) ints (λ is. indexed (sym (ap is_some has_index) ∙ is)))
+        (body_right rules (signatures rules.classes ds) (signatures_same rules.classes ds rules.attributes zip) c d body
+        (inherited_named ds (name_text d)) (for_list d c part) ints
+        (λ is. indexed (sym (ap is_some has_index) ∙ is)))
         (λ e (of, numbered).
         let (x, at, passes, inside) = element_found (λ (y : Located). is_inherited y.decl.form && bytes_eq (name_text d) (name_text y)) (attributes ds) e.0 numbered in
         let (result, declared) = declaration_of e.0 of.declaration x of.attribute at in
@@ -150,7 +165,8 @@ module _ (rules : Rules) (ds : List Located) (zip : AllZip (Declares rules.class
         same_names : (n v w : List ℕ) → bytes_eq n v ≡ true → bytes_eq n w ≡ true → bytes_eq v w ≡ true
         same_names n v w is at = ap (λ l. bytes_eq l w) (sym ((bytes_eq-Decides n v).0 is)) ∙ at
 
-        of_each : (e : Expr) (a b : Attribute) → (a.parameters ≡ b.parameters) × (a.result ≡ b.result) → HasKind rules (record { this = c; names = a.parameters; has_index = for_list d c part }) e a.result
+        of_each : (e : Expr) (a b : Attribute) → (a.parameters ≡ b.parameters) × (a.result ≡ b.result)
+            → HasKind rules (record { this = c; names = a.parameters; has_index = for_list d c part }) e a.result
             → HasKind rules (record { this = c; names = b.parameters; has_index = for_list d c part }) e b.result
         of_each e a b same h =
             subst (λ k. HasKind rules (record { this = c; names = b.parameters; has_index = for_list d c part }) e k) same.1
@@ -165,22 +181,33 @@ module _ (rules : Rules) (ds : List Located) (zip : AllZip (Declares rules.class
     ints_of : (d : Located) (body : Body) → body_in d.decl.form ≡ Some body → AreIntsIn d → AreInts body.expr
     ints_of d body is ints = subst (λ o. IfSome o (λ b. AreInts b.expr)) is ints
 
-    with_body_right : (d : Located) (result : KindWord) (a : Attribute) (o : Option Body) → IsOfWord rules.classes d result a → index_in d.decl.form ≡ None → IfSome o (λ b. AreInts b.expr) → Holds AddsTyped (with_body rules.classes ds d o a)
+    with_body_right : (d : Located) (result : KindWord) (a : Attribute) (o : Option Body)
+        → IsOfWord rules.classes d result a → index_in d.decl.form ≡ None → IfSome o (λ b. AreInts b.expr)
+        → Holds AddsTyped (with_body rules.classes ds d o a)
     with_body_right d result a None of no_index ints = (tt, tt)
     with_body_right d result a (Some body) of no_index ints =
         then_holds (IsOwnTyped rules) AddsTyped (declared_with a) (own_meant rules.classes ds d body a.class) (own_right d body a.class ints (of.declared []).class no_index) (λ e typed. (typed, tt))
 
     form_right : (d : Located) (form : DeclForm) → d.decl.form ≡ form → AreIntsIn d → Holds AddsTyped (form_meant rules.classes ds d form)
     form_right d (written.Synthesized lazy result class name params start ending) at ints =
-        then_holds (IsOfWord rules.classes d result) AddsTyped (with_body rules.classes ds d (body_in d.decl.form)) (attribute_meant rules.classes d result) (attribute_right rules.classes d result) (λ a of. with_body_right d result a (body_in d.decl.form) of (ap index_in at) ints)
+        then_holds (IsOfWord rules.classes d result) AddsTyped (with_body rules.classes ds d (body_in d.decl.form))
+        (attribute_meant rules.classes d result) (attribute_right rules.classes d result)
+        (λ a of. with_body_right d result a (body_in d.decl.form) of (ap index_in at) ints)
     form_right d (written.Inherited lazy result class name params start) at ints = none_holds AddsTyped declared_alone (attribute_meant rules.classes d result) (λ a. (tt, tt))
     form_right d (written.Equation class name params body) at ints =
-        then_holds (λ c. class_of_name rules.classes class.text ≡ Some c) AddsTyped (λ c. and_then own_alone (own_meant rules.classes ds d body c)) (class_named rules.classes class) (class_named_right rules.classes class) (λ c is.
-        then_holds (IsOwnTyped rules) AddsTyped own_alone (own_meant rules.classes ds d body c) (own_right d body c (ints_of d body (ap body_in at) ints) (ap (λ f. class_of_name rules.classes (class_word f).text) at ∙ is) (ap index_in at)) (λ e typed. (typed, tt)))
+        then_holds (λ c. class_of_name rules.classes class.text ≡ Some c) AddsTyped
+        (λ c. and_then own_alone (own_meant rules.classes ds d body c)) (class_named rules.classes class)
+        (class_named_right rules.classes class) (λ c is.
+        then_holds (IsOwnTyped rules) AddsTyped own_alone (own_meant rules.classes ds d body c) (own_right d body c
+        (ints_of d body (ap body_in at) ints) (ap (λ f. class_of_name rules.classes (class_word f).text) at ∙ is)
+        (ap index_in at)) (λ e typed. (typed, tt)))
     form_right d (written.InheritedEquation class getter index name params body) at ints =
-        then_holds (λ c. class_of_name rules.classes class.text ≡ Some c) AddsTyped (below_class rules.classes ds d getter index body) (class_named rules.classes class) (class_named_right rules.classes class) (λ c is.
+        then_holds (λ c. class_of_name rules.classes class.text ≡ Some c) AddsTyped (below_class rules.classes ds d
+        getter index body) (class_named rules.classes class) (class_named_right rules.classes class) (λ c is.
         then_holds (HasTrees rules.classes c) AddsTyped (below_component rules.classes ds d index body c) (component_got rules.classes c getter) (component_right rules.classes c getter) (λ part trees.
-        then_holds (IsInheritedTyped rules) AddsTyped inherited_alone (inherited_meant rules.classes ds d index body c part) (inherited_right d index body c part (ints_of d body (ap body_in at) ints) (class_there rules.classes class.text c is) trees (ap index_in at)) (λ e typed. (tt, typed))))
+        then_holds (IsInheritedTyped rules) AddsTyped inherited_alone (inherited_meant rules.classes ds d index body c
+        part) (inherited_right d index body c part (ints_of d body (ap body_in at) ints)
+        (class_there rules.classes class.text c is) trees (ap index_in at)) (λ e typed. (tt, typed))))
 
     pub meant_right : (d : Located) → AreIntsIn d → Holds AddsTyped (meant rules.classes ds d)
     meant_right d ints = form_right d d.decl.form refl ints
@@ -191,7 +218,9 @@ module _ {A : Type 0} (P : A → Type 0) (part : Meaning → Option A) (classes 
   with_one None h xs rest = rest
   with_one (Some a) h xs rest = (h, rest)
 
-  with_meaning : (j : Judgement Meaning) (some : List Located) → Holds (λ m. IfSome (part m) P) j → AllByRecursion P (filter_map part (meanings classes all some)) → AllByRecursion P (filter_map part (cons_option (meaning_if j) (meanings classes all some)))
+  with_meaning : (j : Judgement Meaning) (some : List Located) → Holds (λ m. IfSome (part m) P) j
+      → AllByRecursion P (filter_map part (meanings classes all some))
+      → AllByRecursion P (filter_map part (cons_option (meaning_if j) (meanings classes all some)))
   with_meaning (Is m) some h rest = with_one (part m) h _ rest
   with_meaning (Wrong c at) some h rest = rest
 
@@ -245,8 +274,14 @@ typed classes ds none ints booleans =
       attributes = all_typed classes (attributes ds) rules.attributes
           (all_filter IsBooleanIn (λ d. is_attribute d.decl.form) ds booleans) zip;
       alike = alike;
-      own = each_part (IsOwnTyped rules) (λ (m : Meaning). m.own) classes ds ds (all_more AreIntsIn (λ d. Holds (λ (m : Meaning). IfSome m.own (IsOwnTyped rules)) (meant classes ds d)) ds (λ d is. one_part _ (λ (m : Meaning). IfSome m.own (IsOwnTyped rules)) (meant classes ds d) (λ m h. h.0) (meant_right rules ds zip alike d is)) ints);
-      inherited = each_part (IsInheritedTyped rules) (λ (m : Meaning). m.inherited) classes ds ds (all_more AreIntsIn (λ d. Holds (λ (m : Meaning). IfSome m.inherited (IsInheritedTyped rules)) (meant classes ds d)) ds (λ d is. one_part _ (λ (m : Meaning). IfSome m.inherited (IsInheritedTyped rules)) (meant classes ds d) (λ m h. h.1) (meant_right rules ds zip alike d is)) ints);
+      own = each_part (IsOwnTyped rules) (λ (m : Meaning). m.own) classes ds ds
+          (all_more AreIntsIn (λ d. Holds (λ (m : Meaning). IfSome m.own (IsOwnTyped rules)) (meant classes ds d)) ds
+          (λ d is. one_part _ (λ (m : Meaning). IfSome m.own (IsOwnTyped rules)) (meant classes ds d) (λ m h. h.0)
+          (meant_right rules ds zip alike d is)) ints);
+      inherited = each_part (IsInheritedTyped rules) (λ (m : Meaning). m.inherited) classes ds ds (all_more AreIntsIn
+          (λ d. Holds (λ (m : Meaning). IfSome m.inherited (IsInheritedTyped rules)) (meant classes ds d)) ds
+          (λ d is. one_part _ (λ (m : Meaning). IfSome m.inherited (IsInheritedTyped rules)) (meant classes ds d)
+          (λ m h. h.1) (meant_right rules ds zip alike d is)) ints);
     }
 
 -- and well formed, where they are complete, and their classes a hierarchy

@@ -36,7 +36,8 @@ module _ {K V S : Type 0} (eq : K → K → Bool) (laws : IsEquivalence eq) (m :
       by None is = differs (eq k key) refl is
 
   -- where it has none, and is given one
-  pub noted_now : (n : IndexMap K V S) → is_some (get eq m key) ≡ false → ((q : K) → get eq n q ≡ cond (eq key q) (Some v) (get eq m q)) → (k : K) → get eq n k ≡ option_or (get eq m k) (if eq k key then Some v else None)
+  pub noted_now : (n : IndexMap K V S) → is_some (get eq m key) ≡ false → ((q : K) → get eq n q ≡ cond (eq key q)
+      (Some v) (get eq m q)) → (k : K) → get eq n k ≡ option_or (get eq m k) (if eq k key then Some v else None)
   noted_now n absent updates k = updates k ∙ ap (λ b. cond b (Some v) (get eq m k)) (laws.symm key k) ∙ by (eq k key) refl
     where
       by : (b : Bool) → eq k key ≡ b → cond b (Some v) (get eq m k) ≡ option_or (get eq m k) (if b then Some v else None)

@@ -96,8 +96,13 @@ no_fault true c d is = absurd (none-some _ (sym is))
 no_fault false c d is = refl
 
 -- an attribute clashes with none before it
-pub no_clash : (classes : Classes) (ds : List Located) (i : ℕ) (d : Located) → i < length ds → d ≡ get_or ds i d → declared_twice classes ds ≡ None → is_attribute d.decl.form ≡ true → list_any (clashes classes d) (take i ds) ≡ false
-no_clash classes ds i d less at none declares = by (is_attribute d.decl.form) declares (list_any (clashes classes d) (take i ds)) (binds_twice d.decl.form) (no_fault ((is_attribute d.decl.form && list_any (clashes classes d) (take i ds)) || binds_twice d.decl.form) code.AttributeTwice d (ap (twice_at classes ds i) at ∙ given_at (twice_at classes ds) ds i d less none))
+pub no_clash : (classes : Classes) (ds : List Located) (i : ℕ) (d : Located) → i < length ds → d ≡ get_or ds i d
+    → declared_twice classes ds ≡ None → is_attribute d.decl.form ≡ true
+    → list_any (clashes classes d) (take i ds) ≡ false
+no_clash classes ds i d less at none declares =
+    by (is_attribute d.decl.form) declares (list_any (clashes classes d) (take i ds)) (binds_twice d.decl.form)
+    (no_fault ((is_attribute d.decl.form && list_any (clashes classes d) (take i ds)) || binds_twice d.decl.form)
+    code.AttributeTwice d (ap (twice_at classes ds i) at ∙ given_at (twice_at classes ds) ds i d less none))
   where
     by : (a : Bool) → a ≡ true → (b c : Bool) → ((a && b) || c) ≡ false → b ≡ false
     by true is true c off = absurd (true≢false off)
@@ -114,13 +119,17 @@ insert_new : {K V : Type 0} (eq : K → K → Bool) (es : List (K × V)) (k : K)
 insert_new eq [] k v none = refl
 insert_new eq (e ∷ es) k v none = by (eq k e.0) (insert_new eq es k v) none
   where
-    by : (b : Bool) → (list_any (λ x. eq k x.0) es ≡ false → insert_entry eq es k v ≡ es ++ (k, v) ∷ []) → (b || list_any (λ x. eq k x.0) es) ≡ false → cond b ((e.0, v) ∷ es) (e ∷ insert_entry eq es k v) ≡ e ∷ es ++ (k, v) ∷ []
+    by : (b : Bool) → (list_any (λ x. eq k x.0) es ≡ false → insert_entry eq es k v ≡ es ++ (k, v) ∷ [])
+        → (b || list_any (λ x. eq k x.0) es) ≡ false
+        → cond b ((e.0, v) ∷ es) (e ∷ insert_entry eq es k v) ≡ e ∷ es ++ (k, v) ∷ []
     by true rest is = absurd (true≢false is)
     by false rest is = ap (λ l. e ∷ l) (rest is)
 
 -- what some declarations mean has no such part, since none of them clashes
 module _ {A : Type 0} (classes : Classes) (all : List Located) (part : Meaning → Option A) (test : A → Bool) (clash : Located → Bool) where
-  none_meant : ((d : Located) (m : Meaning) (a : A) → meant classes all d ≡ Is m → part m ≡ Some a → test a ≡ true → clash d ≡ true) → (some : List Located) → list_any clash some ≡ false → list_any test (filter_map part (meanings classes all some)) ≡ false
+  none_meant : ((d : Located) (m : Meaning) (a : A) → meant classes all d ≡ Is m → part m ≡ Some a → test a ≡ true
+      → clash d ≡ true) → (some : List Located) → list_any clash some ≡ false
+      → list_any test (filter_map part (meanings classes all some)) ≡ false
   none_meant too some none = not_both (list_any test (filter_map part (meanings classes all some))) clashing
     where
       by : (d : Located) (m : Meaning) → meant classes all d ≡ Is m → (o : Option A) → part m ≡ o → passes test o ≡ true → clash d ≡ true
@@ -136,7 +145,9 @@ module _ {A : Type 0} (classes : Classes) (all : List Located) (part : Meaning �
 
       clashing : list_any test (filter_map part (meanings classes all some)) ≡ true → ⊥
       clashing is =
-          let given : list_any (λ d. passes (λ m. passes test (part m)) (meaning_if (meant classes all d))) some ≡ true = sym (any_given (λ m. passes test (part m)) (λ d. meaning_if (meant classes all d)) some) ∙ sym (any_given test part (meanings classes all some)) ∙ is in
+          let given : list_any (λ d. passes (λ m. passes test (part m)) (meaning_if (meant classes all d))) some
+          ≡ true = sym (any_given (λ m. passes test (part m)) (λ d. meaning_if (meant classes all d)) some)
+          ∙ sym (any_given test part (meanings classes all some)) ∙ is in
           true≢false (sym (any_too (λ d. passes (λ m. passes test (part m)) (meaning_if (meant classes all d))) clash here some given) ∙ none)
 
 -- a key is new where what stands there has no such part
@@ -148,7 +159,9 @@ module _ {K V A : Type 0} (eq : K → K → Bool) (view : K × V → A) where
       found is = true≢false (sym (any_too (λ e. eq k e.0) (λ e. test (view e)) same es is) ∙ any_mapped test view es ∙ none)
 
   -- an entry more
-  grown : (es : List (K × V)) (o : Option (K × V)) (as' : List A) (a : Option A) → map view es ≡ as' → option_map view o ≡ a → IfSome o (λ e. list_any (λ x. eq e.0 x.0) es ≡ false) → map view (with_entry eq es o) ≡ as' ++ cons_option a []
+  grown : (es : List (K × V)) (o : Option (K × V)) (as' : List A) (a : Option A) → map view es ≡ as'
+      → option_map view o ≡ a → IfSome o (λ e. list_any (λ x. eq e.0 x.0) es ≡ false)
+      → map view (with_entry eq es o) ≡ as' ++ cons_option a []
   grown es None as' a is at new = is ∙ sym (append-nil as') ∙ ap (λ o. as' ++ cons_option o []) at
   grown es (Some e) as' a is at new = ap (map view) (insert_new eq es e.0 e.1 new) ∙ map-append view es (e ∷ []) ∙ ap₂ (λ l o. l ++ cons_option o []) is at
 
@@ -181,18 +194,27 @@ pub said : {A : Type 0} (P : A → Type 0) (o : Option A) (a : A) → o ≡ Some
 said P o a is says = subst (λ x. IfSome x P) is says
 
 -- two equations for one attribute of a class are the same one
-pub same_own : (classes : Classes) (ds : List Located) (d e : Located) (a b : OwnEquation) → OfOwn classes ds d a → OfOwn classes ds e b → (nat_eq a.class b.class && nat_eq a.attribute b.attribute) ≡ true → is_same_equation d e ≡ true
+pub same_own : (classes : Classes) (ds : List Located) (d e : Located) (a b : OwnEquation) → OfOwn classes ds d a
+    → OfOwn classes ds e b → (nat_eq a.class b.class && nat_eq a.attribute b.attribute) ≡ true
+    → is_same_equation d e ≡ true
 same_own classes ds d e a b of other same =
     let class : a.class ≡ b.class = eqb-true a.class b.class (first_of (nat_eq a.class b.class) (nat_eq a.attribute b.attribute) same) in
     let attribute : a.attribute ≡ b.attribute = eqb-true a.attribute b.attribute (second_of (nat_eq a.class b.class) (nat_eq a.attribute b.attribute) same) in
     let classes_same = same_class_text classes (class_text d) (class_text e) b.class (of.1 ∙ ap Some class) other.1 in
     let names_same = same_name_text classes ds (class_text d) (class_text e) (name_text d) (name_text e) b.attribute (of.2 ∙ ap Some attribute) other.2 in
-    let words : (bytes_eq (class_text d) (class_text e) && bytes_eq (name_text d) (name_text e)) ≡ true = and_true (bytes_eq (class_text d) (class_text e)) (bytes_eq (name_text d) (name_text e)) (equal (class_text d) (class_text e) classes_same) (equal (name_text d) (name_text e) names_same) in
+    let words : (bytes_eq (class_text d) (class_text e) && bytes_eq (name_text d) (name_text e)) ≡ true =
+    and_true (bytes_eq (class_text d) (class_text e)) (bytes_eq (name_text d) (name_text e))
+    (equal (class_text d) (class_text e) classes_same) (equal (name_text d) (name_text e) names_same) in
     let owns : (is_own_equation d.decl.form && is_own_equation e.decl.form) ≡ true = and_true (is_own_equation d.decl.form) (is_own_equation e.decl.form) of.0 other.0 in
-    and_true (bytes_eq (class_text d) (class_text e) && bytes_eq (name_text d) (name_text e)) ((is_own_equation d.decl.form && is_own_equation e.decl.form) || is_same_getter (getter_in d.decl.form) (getter_in e.decl.form)) words (or_left (is_own_equation d.decl.form && is_own_equation e.decl.form) (is_same_getter (getter_in d.decl.form) (getter_in e.decl.form)) owns)
+    and_true (bytes_eq (class_text d) (class_text e) && bytes_eq (name_text d) (name_text e))
+    ((is_own_equation d.decl.form && is_own_equation e.decl.form) || is_same_getter (getter_in d.decl.form)
+    (getter_in e.decl.form)) words (or_left (is_own_equation d.decl.form && is_own_equation e.decl.form)
+    (is_same_getter (getter_in d.decl.form) (getter_in e.decl.form)) owns)
 
 -- so are two for one component and one attribute of a class
-pub same_inherited : (classes : Classes) (d e : Located) (a b : InheritedEquation) → OfInherited classes d a → OfInherited classes e b → ((nat_eq a.class b.class && option_eq nat_eq a.part b.part) && bytes_eq a.name b.name) ≡ true → is_same_equation d e ≡ true
+pub same_inherited : (classes : Classes) (d e : Located) (a b : InheritedEquation) → OfInherited classes d a
+    → OfInherited classes e b → ((nat_eq a.class b.class && option_eq nat_eq a.part b.part) && bytes_eq a.name b.name)
+    ≡ true → is_same_equation d e ≡ true
 same_inherited classes d e a b of other same =
     let place : (nat_eq a.class b.class && option_eq nat_eq a.part b.part) ≡ true = first_of (nat_eq a.class b.class && option_eq nat_eq a.part b.part) (bytes_eq a.name b.name) same in
     let class : a.class ≡ b.class = eqb-true a.class b.class (first_of (nat_eq a.class b.class) (option_eq nat_eq a.part b.part) place) in
@@ -201,11 +223,18 @@ same_inherited classes d e a b of other same =
     let classes_same = same_class_text classes (class_text d) (class_text e) b.class (of.2 ∙ ap Some class) other.2 in
     let getters_same = same_getter classes b.class of.0 other.0 b.part (ap (λ c. component_got classes c of.0) (sym class) ∙ of.3 ∙ ap Is part) other.3 in
     let getters : is_same_getter (getter_in d.decl.form) (getter_in e.decl.form) ≡ true = ap₂ is_same_getter of.1 other.1 ∙ equal of.0.text other.0.text getters_same in
-    let words : (bytes_eq (class_text d) (class_text e) && bytes_eq (name_text d) (name_text e)) ≡ true = and_true (bytes_eq (class_text d) (class_text e)) (bytes_eq (name_text d) (name_text e)) (equal (class_text d) (class_text e) classes_same) (equal (name_text d) (name_text e) (sym of.4 ∙ name ∙ other.4)) in
-    and_true (bytes_eq (class_text d) (class_text e) && bytes_eq (name_text d) (name_text e)) ((is_own_equation d.decl.form && is_own_equation e.decl.form) || is_same_getter (getter_in d.decl.form) (getter_in e.decl.form)) words (or_right (is_own_equation d.decl.form && is_own_equation e.decl.form) (is_same_getter (getter_in d.decl.form) (getter_in e.decl.form)) getters)
+    let words : (bytes_eq (class_text d) (class_text e) && bytes_eq (name_text d) (name_text e)) ≡ true =
+    and_true (bytes_eq (class_text d) (class_text e)) (bytes_eq (name_text d) (name_text e)) (equal (class_text d)
+    (class_text e) classes_same) (equal (name_text d) (name_text e) (sym of.4 ∙ name ∙ other.4)) in
+    and_true (bytes_eq (class_text d) (class_text e) && bytes_eq (name_text d) (name_text e))
+    ((is_own_equation d.decl.form && is_own_equation e.decl.form) || is_same_getter (getter_in d.decl.form)
+    (getter_in e.decl.form)) words (or_right (is_own_equation d.decl.form && is_own_equation e.decl.form)
+    (is_same_getter (getter_in d.decl.form) (getter_in e.decl.form)) getters)
 
 module _ (classes : Classes) (ds : List Located) (i : ℕ) (d : Located) (less : i < length ds) (at : d ≡ get_or ds i d) where
-  attribute_clashes : declared_twice classes ds ≡ None → (a : Attribute) → OfAttribute classes d a → list_any (λ (b : Attribute). nat_eq a.class b.class && bytes_eq a.name b.name) (filter_map (λ (m : Meaning). m.attribute) (meanings classes ds (take i ds))) ≡ false
+  attribute_clashes : declared_twice classes ds ≡ None → (a : Attribute) → OfAttribute classes d a
+      → list_any (λ (b : Attribute). nat_eq a.class b.class && bytes_eq a.name b.name)
+      (filter_map (λ (m : Meaning). m.attribute) (meanings classes ds (take i ds))) ≡ false
   attribute_clashes none a of = none_meant classes ds (λ (m : Meaning). m.attribute) _ (clashes classes d) too (take i ds) (no_clash classes ds i d less at none of.0)
     where
       too : (e : Located) (m : Meaning) (b : Attribute) → meant classes ds e ≡ Is m → m.attribute ≡ Some b → (nat_eq a.class b.class && bytes_eq a.name b.name) ≡ true → clashes classes d e ≡ true
@@ -214,23 +243,34 @@ module _ (classes : Classes) (ds : List Located) (i : ℕ) (d : Located) (less :
           let class : a.class ≡ b.class = eqb-true a.class b.class (first_of (nat_eq a.class b.class) (bytes_eq a.name b.name) same) in
           let name : a.name ≡ b.name = (bytes_eq-Decides a.name b.name).0 (second_of (nat_eq a.class b.class) (bytes_eq a.name b.name) same) in
           let classes_same = same_class_text classes (class_text d) (class_text e) b.class (of.1 ∙ ap Some class) other.1 in
-          let below : is_below classes (class_text d) (class_text e) ≡ true = or_left (bytes_eq (class_text d) (class_text e)) (is_sub_or_none classes (class_of_name classes (class_text d)) (class_of_name classes (class_text e))) (equal (class_text d) (class_text e) classes_same) in
+          let below : is_below classes (class_text d) (class_text e) ≡ true = or_left
+          (bytes_eq (class_text d) (class_text e)) (is_sub_or_none classes (class_of_name classes (class_text d))
+          (class_of_name classes (class_text e))) (equal (class_text d) (class_text e) classes_same) in
           let line : is_on_one_line classes (class_text d) (class_text e) ≡ true = or_left (is_below classes (class_text d) (class_text e)) (is_below classes (class_text e) (class_text d)) below in
-          let names : (is_attribute e.decl.form && bytes_eq (name_text d) (name_text e)) ≡ true = and_true (is_attribute e.decl.form) (bytes_eq (name_text d) (name_text e)) other.0 (equal (name_text d) (name_text e) (sym of.2 ∙ name ∙ other.2)) in
-          and_true (is_attribute e.decl.form && bytes_eq (name_text d) (name_text e)) (differs d.decl.form e.decl.form || is_on_one_line classes (class_text d) (class_text e)) names (or_right (differs d.decl.form e.decl.form) (is_on_one_line classes (class_text d) (class_text e)) line)
+          let names : (is_attribute e.decl.form && bytes_eq (name_text d) (name_text e)) ≡ true =
+          and_true (is_attribute e.decl.form) (bytes_eq (name_text d) (name_text e)) other.0
+          (equal (name_text d) (name_text e) (sym of.2 ∙ name ∙ other.2)) in
+          and_true (is_attribute e.decl.form && bytes_eq (name_text d) (name_text e))
+          (differs d.decl.form e.decl.form || is_on_one_line classes (class_text d) (class_text e)) names
+          (or_right (differs d.decl.form e.decl.form) (is_on_one_line classes (class_text d) (class_text e)) line)
 
-  own_clashes : equation_twice ds ≡ None → (a : OwnEquation) → OfOwn classes ds d a → list_any (λ (b : OwnEquation). nat_eq a.class b.class && nat_eq a.attribute b.attribute) (filter_map (λ (m : Meaning). m.own) (meanings classes ds (take i ds))) ≡ false
+  own_clashes : equation_twice ds ≡ None → (a : OwnEquation) → OfOwn classes ds d a
+      → list_any (λ (b : OwnEquation). nat_eq a.class b.class && nat_eq a.attribute b.attribute)
+      (filter_map (λ (m : Meaning). m.own) (meanings classes ds (take i ds))) ≡ false
   own_clashes none a of = none_meant classes ds (λ (m : Meaning). m.own) _ (is_same_equation d)
       (λ e m b is there. same_own classes ds d e a b of (said (OfOwn classes ds e) m.own b there (of_words classes ds e m is).own)) (take i ds) (no_equation ds i d less at none)
 
-  inherited_clashes : equation_twice ds ≡ None → (a : InheritedEquation) → OfInherited classes d a → list_any (λ (b : InheritedEquation). (nat_eq a.class b.class && option_eq nat_eq a.part b.part) && bytes_eq a.name b.name) (filter_map (λ (m : Meaning). m.inherited) (meanings classes ds (take i ds))) ≡ false
+  inherited_clashes : equation_twice ds ≡ None → (a : InheritedEquation) → OfInherited classes d a → list_any
+      (λ (b : InheritedEquation). (nat_eq a.class b.class && option_eq nat_eq a.part b.part) && bytes_eq a.name b.name)
+      (filter_map (λ (m : Meaning). m.inherited) (meanings classes ds (take i ds))) ≡ false
   inherited_clashes none a of = none_meant classes ds (λ (m : Meaning). m.inherited) _ (is_same_equation d)
       (λ e m b is there. same_inherited classes d e a b of (said (OfInherited classes e) m.inherited b there (of_words classes ds e m is).inherited)) (take i ds) (no_equation ds i d less at none)
 
 -- one declaration more ---------------------------------------------------------------------------------------------------
 
 -- what all mean, with one more
-with_more : (classes : Classes) (ds : List Located) (i : ℕ) (d : Located) (m : Meaning) → i < length ds → d ≡ get_or ds i d → meant classes ds d ≡ Is m → meanings classes ds (take (i + 1) ds) ≡ meanings classes ds (take i ds) ++ m ∷ []
+with_more : (classes : Classes) (ds : List Located) (i : ℕ) (d : Located) (m : Meaning) → i < length ds → d ≡ get_or ds
+    i d → meant classes ds d ≡ Is m → meanings classes ds (take (i + 1) ds) ≡ meanings classes ds (take i ds) ++ m ∷ []
 with_more classes ds i d m less at is =
     ap (meanings classes ds) (take_more ds i d less ∙ ap (λ x. take i ds ++ x ∷ []) (sym at))
     ∙ filter_map-append (λ x. meaning_if (meant classes ds x)) (take i ds) (d ∷ [])
@@ -243,7 +283,8 @@ kept_append : {A : Type 0} (keep : A → Bool) (xs : List A) (x : A) → keep x 
 kept_append keep [] x is = ap (λ b. cond b (x ∷ []) []) is
 kept_append keep (y ∷ ys) x is = by (keep y) (kept_append keep ys x is)
   where
-    by : (b : Bool) → filter keep (ys ++ x ∷ []) ≡ filter keep ys ++ x ∷ [] → cond b (y ∷ filter keep (ys ++ x ∷ [])) (filter keep (ys ++ x ∷ [])) ≡ cond b (y ∷ filter keep ys) (filter keep ys) ++ x ∷ []
+    by : (b : Bool) → filter keep (ys ++ x ∷ []) ≡ filter keep ys ++ x ∷ [] → cond b (y ∷ filter keep (ys ++ x ∷ []))
+        (filter keep (ys ++ x ∷ [])) ≡ cond b (y ∷ filter keep ys) (filter keep ys) ++ x ∷ []
     by true rest = ap (λ l. y ∷ l) rest
     by false rest = rest
 
@@ -251,30 +292,45 @@ any_kept : {A : Type 0} (p keep : A → Bool) → ((x : A) → p x ≡ true → 
 any_kept p keep too [] none = refl
 any_kept p keep too (x ∷ xs) none = by (keep x) refl (p x) refl (any_kept p keep too xs) none
   where
-    by : (k : Bool) → keep x ≡ k → (b : Bool) → p x ≡ b → (list_any p (filter keep xs) ≡ false → list_any p xs ≡ false) → list_any p (cond k (x ∷ filter keep xs) (filter keep xs)) ≡ false → (b || list_any p xs) ≡ false
+    by : (k : Bool) → keep x ≡ k → (b : Bool) → p x ≡ b → (list_any p (filter keep xs) ≡ false → list_any p xs ≡ false)
+        → list_any p (cond k (x ∷ filter keep xs) (filter keep xs)) ≡ false → (b || list_any p xs) ≡ false
     by true kept true is rest off = absurd (true≢false (sym (ap (λ b. b || list_any p (filter keep xs)) is) ∙ off))
     by true kept false is rest off = rest (sym (ap (λ b. b || list_any p (filter keep xs)) is) ∙ off)
     by false kept true is rest off = absurd (true≢false (sym (too x is) ∙ kept))
     by false kept false is rest off = rest off
 
-module _ (classes : Classes) (ds : List Located) (i : ℕ) (d : Located) (n : ℕ) (names : List (String Global)) (less : i < length ds) (at : d ≡ get_or ds i d) (named_so : number_in names (name_text d) ≡ Some n) where
+module _ (classes : Classes) (ds : List Located) (i : ℕ) (d : Located) (n : ℕ) (names : List (String Global))
+    (less : i < length ds) (at : d ≡ get_or ds i d) (named_so : number_in names (name_text d) ≡ Some n) where
   same_text : text_of names n ≡ name_text d
   same_text = (name_at names (name_text d) n named_so).1
 
-  attributes_more : declared_twice classes ds ≡ None → (es : List ((ℕ × ℕ) × AttributeValue)) → map (attribute_view names) es ≡ filter_map (λ (m : Meaning). m.attribute) (meanings classes ds (take i ds)) → (o : Option (ℕ × AttributeValue)) → IfSome (option_map (attribute_of d) o) (OfAttribute classes d)
-      → map (attribute_view names) (with_entry same_key es (option_map (attribute_by n) o)) ≡ filter_map (λ (m : Meaning). m.attribute) (meanings classes ds (take i ds)) ++ cons_option (option_map (attribute_of d) o) []
+  attributes_more : declared_twice classes ds ≡ None → (es : List ((ℕ × ℕ) × AttributeValue))
+      → map (attribute_view names) es ≡ filter_map (λ (m : Meaning). m.attribute) (meanings classes ds (take i ds))
+      → (o : Option (ℕ × AttributeValue)) → IfSome (option_map (attribute_of d) o) (OfAttribute classes d)
+      → map (attribute_view names) (with_entry same_key es (option_map (attribute_by n) o))
+      ≡ filter_map (λ (m : Meaning). m.attribute) (meanings classes ds (take i ds))
+      ++ cons_option (option_map (attribute_of d) o) []
   attributes_more none es is None of = is ∙ sym (append-nil _)
-  attributes_more none es is (Some a) of = grown same_key (attribute_view names) es (Some ((a.0, n), a.1)) _ (Some (attribute_of d a)) is (ap (λ t. Some (record (attribute_of d a) { name = t })) same_text)
-      (key_new same_key (attribute_view names) es (a.0, n) (λ b. nat_eq a.0 b.class && bytes_eq (name_text d) b.name) same (ap (list_any (λ b. nat_eq a.0 b.class && bytes_eq (name_text d) b.name)) is ∙ attribute_clashes classes ds i d less at none (attribute_of d a) of))
+  attributes_more none es is (Some a) of = grown same_key (attribute_view names) es (Some ((a.0, n), a.1))
+      _ (Some (attribute_of d a)) is (ap (λ t. Some (record (attribute_of d a) { name = t })) same_text)
+      (key_new same_key (attribute_view names) es (a.0, n) (λ b. nat_eq a.0 b.class && bytes_eq (name_text d) b.name)
+      same (ap (list_any (λ b. nat_eq a.0 b.class && bytes_eq (name_text d) b.name)) is
+      ∙ attribute_clashes classes ds i d less at none (attribute_of d a) of))
     where
       same : (e : (ℕ × ℕ) × AttributeValue) → (nat_eq a.0 e.0.0 && nat_eq n e.0.1) ≡ true → (nat_eq a.0 e.0.0 && bytes_eq (name_text d) (text_of names e.0.1)) ≡ true
-      same e is = and_true (nat_eq a.0 e.0.0) (bytes_eq (name_text d) (text_of names e.0.1)) (first_of (nat_eq a.0 e.0.0) (nat_eq n e.0.1) is) (equal (name_text d) (text_of names e.0.1) (sym same_text ∙ ap (text_of names) (eqb-true n e.0.1 (second_of (nat_eq a.0 e.0.0) (nat_eq n e.0.1) is))))
+      same e is = and_true (nat_eq a.0 e.0.0) (bytes_eq (name_text d) (text_of names e.0.1))
+          (first_of (nat_eq a.0 e.0.0) (nat_eq n e.0.1) is) (equal (name_text d) (text_of names e.0.1)
+          (sym same_text ∙ ap (text_of names) (eqb-true n e.0.1 (second_of (nat_eq a.0 e.0.0) (nat_eq n e.0.1) is))))
 
-  own_more : equation_twice ds ≡ None → (es : List ((ℕ × ℕ) × BodyValue)) → map own_view es ≡ filter_map (λ (m : Meaning). m.own) (meanings classes ds (take i ds)) → (o : Option ((ℕ × ℕ) × BodyValue)) → IfSome (option_map own_view o) (OfOwn classes ds d)
+  own_more : equation_twice ds ≡ None → (es : List ((ℕ × ℕ) × BodyValue))
+      → map own_view es ≡ filter_map (λ (m : Meaning). m.own) (meanings classes ds (take i ds))
+      → (o : Option ((ℕ × ℕ) × BodyValue)) → IfSome (option_map own_view o) (OfOwn classes ds d)
       → map own_view (with_entry same_key es o) ≡ filter_map (λ (m : Meaning). m.own) (meanings classes ds (take i ds)) ++ cons_option (option_map own_view o) []
   own_more none es is None of = is ∙ sym (append-nil _)
   own_more none es is (Some e) of = grown same_key own_view es (Some e) _ (Some (own_view e)) is refl
-      (key_new same_key own_view es e.0 (λ b. nat_eq e.0.0 b.class && nat_eq e.0.1 b.attribute) (λ x here. here) (ap (list_any (λ b. nat_eq e.0.0 b.class && nat_eq e.0.1 b.attribute)) is ∙ own_clashes classes ds i d less at none (own_view e) of))
+      (key_new same_key own_view es e.0 (λ b. nat_eq e.0.0 b.class && nat_eq e.0.1 b.attribute) (λ x here. here)
+      (ap (list_any (λ b. nat_eq e.0.0 b.class && nat_eq e.0.1 b.attribute)) is
+      ∙ own_clashes classes ds i d less at none (own_view e) of))
 
   abbrev inherited_key : (ℕ × Option ℕ) × BodyValue → ℕ × Option ℕ × ℕ
   inherited_key e = (e.0.0, e.0.1, n)
@@ -285,21 +341,32 @@ module _ (classes : Classes) (ds : List Located) (i : ℕ) (d : Located) (n : �
   within : nat_lt n (length names) ≡ true
   within = lt-ltb n (length names) (name_at names (name_text d) n named_so).0
 
-  inherited_new : equation_twice ds ≡ None → (es : List ((ℕ × Option ℕ × ℕ) × BodyValue)) → map (inherited_view names) (named names es) ≡ filter_map (λ (m : Meaning). m.inherited) (meanings classes ds (take i ds)) → (e : (ℕ × Option ℕ) × BodyValue) → OfInherited classes d (inherited_of d e) → list_any (λ x. same_place (inherited_key e) x.0) es ≡ false
+  inherited_new : equation_twice ds ≡ None → (es : List ((ℕ × Option ℕ × ℕ) × BodyValue))
+      → map (inherited_view names) (named names es)
+      ≡ filter_map (λ (m : Meaning). m.inherited) (meanings classes ds (take i ds)) → (e : (ℕ × Option ℕ) × BodyValue)
+      → OfInherited classes d (inherited_of d e) → list_any (λ x. same_place (inherited_key e) x.0) es ≡ false
   inherited_new none es is e of = any_kept (λ (x : (ℕ × Option ℕ × ℕ) × BodyValue). same_place (inherited_key e) x.0) (λ (x : (ℕ × Option ℕ × ℕ) × BodyValue). nat_lt x.0.2 (length names)) kept es
-      (key_new same_place (inherited_view names) (named names es) (inherited_key e) (is_inherited_there e) same (ap (list_any (is_inherited_there e)) is ∙ inherited_clashes classes ds i d less at none (inherited_of d e) of))
+      (key_new same_place (inherited_view names) (named names es) (inherited_key e) (is_inherited_there e) same
+      (ap (list_any (is_inherited_there e)) is
+      ∙ inherited_clashes classes ds i d less at none (inherited_of d e) of))
     where
       numbers : (x : (ℕ × Option ℕ × ℕ) × BodyValue) → same_place (inherited_key e) x.0 ≡ true → n ≡ x.0.2
       numbers x is = eqb-true n x.0.2 (second_of (nat_eq e.0.0 x.0.0 && option_eq nat_eq e.0.1 x.0.1) (nat_eq n x.0.2) is)
 
       same : (x : (ℕ × Option ℕ × ℕ) × BodyValue) → same_place (inherited_key e) x.0 ≡ true → is_inherited_there e (inherited_view names x) ≡ true
-      same x is = and_true (nat_eq e.0.0 x.0.0 && option_eq nat_eq e.0.1 x.0.1) (bytes_eq (name_text d) (text_of names x.0.2)) (first_of (nat_eq e.0.0 x.0.0 && option_eq nat_eq e.0.1 x.0.1) (nat_eq n x.0.2) is) (equal (name_text d) (text_of names x.0.2) (sym same_text ∙ ap (text_of names) (numbers x is)))
+      same x is = and_true (nat_eq e.0.0 x.0.0 && option_eq nat_eq e.0.1 x.0.1) (bytes_eq (name_text d)
+          (text_of names x.0.2)) (first_of (nat_eq e.0.0 x.0.0 && option_eq nat_eq e.0.1 x.0.1) (nat_eq n x.0.2) is)
+          (equal (name_text d) (text_of names x.0.2) (sym same_text ∙ ap (text_of names) (numbers x is)))
 
       kept : (x : (ℕ × Option ℕ × ℕ) × BodyValue) → same_place (inherited_key e) x.0 ≡ true → nat_lt x.0.2 (length names) ≡ true
       kept x is = ap (λ k. nat_lt k (length names)) (sym (numbers x is)) ∙ within
 
-  inherited_more : equation_twice ds ≡ None → (es : List ((ℕ × Option ℕ × ℕ) × BodyValue)) → map (inherited_view names) (named names es) ≡ filter_map (λ (m : Meaning). m.inherited) (meanings classes ds (take i ds)) → (o : Option ((ℕ × Option ℕ) × BodyValue)) → IfSome (option_map (inherited_of d) o) (OfInherited classes d)
-      → map (inherited_view names) (named names (with_entry same_place es (option_map (inherited_by n) o))) ≡ filter_map (λ (m : Meaning). m.inherited) (meanings classes ds (take i ds)) ++ cons_option (option_map (inherited_of d) o) []
+  inherited_more : equation_twice ds ≡ None → (es : List ((ℕ × Option ℕ × ℕ) × BodyValue)) → map (inherited_view names)
+      (named names es) ≡ filter_map (λ (m : Meaning). m.inherited) (meanings classes ds (take i ds))
+      → (o : Option ((ℕ × Option ℕ) × BodyValue)) → IfSome (option_map (inherited_of d) o) (OfInherited classes d)
+      → map (inherited_view names) (named names (with_entry same_place es (option_map (inherited_by n) o)))
+      ≡ filter_map (λ (m : Meaning). m.inherited) (meanings classes ds (take i ds))
+      ++ cons_option (option_map (inherited_of d) o) []
   inherited_more none es is None of = is ∙ sym (append-nil _)
   inherited_more none es is (Some e) of =
       ap (λ l. map (inherited_view names) (named names l)) (insert_new same_place es (inherited_key e) e.1 (inherited_new none es is e of))
@@ -308,12 +375,18 @@ module _ (classes : Classes) (ds : List Located) (i : ℕ) (d : Located) (n : �
       ∙ ap₂ (λ l t. l ++ (record (inherited_of d e) { name = t }) ∷ []) is same_text
 
   -- what a declaration means is added to what those before it mean
-  pub stands_more : (old new : Equations) (m : Added) → declared_twice classes ds ≡ None → equation_twice ds ≡ None → meant classes ds d ≡ Is (meaning_of d m) → Inserts n m old new → Stands names (meanings classes ds (take i ds)) old → Stands names (meanings classes ds (take (i + 1) ds)) new
+  pub stands_more : (old new : Equations) (m : Added) → declared_twice classes ds ≡ None → equation_twice ds ≡ None
+      → meant classes ds d ≡ Is (meaning_of d m) → Inserts n m old new
+      → Stands names (meanings classes ds (take i ds)) old → Stands names (meanings classes ds (take (i + 1) ds)) new
   stands_more old new m attributes_apart equations_apart is added so_far =
       let of = of_words classes ds d (meaning_of d m) is in
       let more = with_more classes ds i d (meaning_of d m) less at is in
       record {
-        attributes = ap (map (attribute_view names)) added.attributes ∙ attributes_more attributes_apart old.attributes.entries so_far.attributes m.attribute of.attribute ∙ part_more (λ (m : Meaning). m.attribute) _ _ (meaning_of d m) more;
+        attributes = ap (map (attribute_view names)) added.attributes
+            ∙ attributes_more attributes_apart old.attributes.entries so_far.attributes m.attribute of.attribute
+            ∙ part_more (λ (m : Meaning). m.attribute) _ _ (meaning_of d m) more;
         own = ap (map own_view) added.own ∙ own_more equations_apart old.own.entries so_far.own m.own of.own ∙ part_more (λ (m : Meaning). m.own) _ _ (meaning_of d m) more;
-        inherited = ap (λ es. map (inherited_view names) (named names es)) added.inherited ∙ inherited_more equations_apart old.inherited.entries so_far.inherited m.inherited of.inherited ∙ part_more (λ (m : Meaning). m.inherited) _ _ (meaning_of d m) more;
+        inherited = ap (λ es. map (inherited_view names) (named names es)) added.inherited
+            ∙ inherited_more equations_apart old.inherited.entries so_far.inherited m.inherited of.inherited
+            ∙ part_more (λ (m : Meaning). m.inherited) _ _ (meaning_of d m) more;
       }

@@ -34,7 +34,8 @@ view_at v (y ∷ ys) zero x = refl
 view_at v (y ∷ ys) (suc i) x = view_at v ys i x
 
 -- a declaration's fault is told with its file
-pub told : (d : Located) (n : ℕ) (j : Judgement Meaning) (old new : Equations) (e : Fault RuleCode) (r : Failure Breach) → r ≡ refusal_of d e → Adds d n j old new (Err e) → AddsOrTells d n j old new (Err r)
+pub told : (d : Located) (n : ℕ) (j : Judgement Meaning) (old new : Equations) (e : Fault RuleCode) (r : Failure Breach)
+    → r ≡ refusal_of d e → Adds d n j old new (Err e) → AddsOrTells d n j old new (Err r)
 told d n j old new (type_fault.Refused c at) r is adds = subst (λ x. AddsOrTells d n j old new (Err x)) (sym is) (ap (refusal d) adds)
 told d n j old new type_fault.Memory r is adds = subst (λ x. AddsOrTells d n j old new (Err x)) (sym is) tt
 
@@ -49,7 +50,9 @@ among_all : (classes : Classes) (xs : List NumberedValue) (i : ℕ) (d : Numbere
 among_all classes xs i d less at numbered = subst (IsAmong classes xs) (sym at) (record { class = numbered.class i d less; others = numbered.class; alike = numbered.alike i d less })
 
 -- what is known of attributes is what all of them declare
-pub is_about : (xs : List NumberedValue) (i : ℕ) (d : NumberedValue) (a : Among) → i < length xs → d ≡ get_or xs i d → a.signatures.now ≡ signatures a.classes.now (map numbered_view xs) → AreAttributes xs a.attributes.now → AreNumbered a.classes.now xs → IsAbout xs a d
+pub is_about : (xs : List NumberedValue) (i : ℕ) (d : NumberedValue) (a : Among) → i < length xs → d ≡ get_or xs i d
+    → a.signatures.now ≡ signatures a.classes.now (map numbered_view xs) → AreAttributes xs a.attributes.now
+    → AreNumbered a.classes.now xs → IsAbout xs a d
 is_about xs i d a less at signatures attributes numbered = record { signatures = signatures; attributes = attributes; numbers = among_all a.classes.now xs i d less at numbered }
 
 -- what those before this one mean, whatever the numbers of names
@@ -58,12 +61,15 @@ StandBefore classes xs i e = (names : List (String Global)) → All (IsNamed nam
 
 module _ (classes : Classes) (xs : List NumberedValue) (i : ℕ) (d : NumberedValue) (old new : Equations) where
   -- one declaration more
-  pub stand_more : i < length xs → d ≡ get_or xs i d → fault_together classes (views xs) ≡ None → (u : Unit {0}) → AddsOrTells (numbered_view d) d.name (meant classes (views xs) (numbered_view d)) old new (Ok u)
+  pub stand_more : i < length xs → d ≡ get_or xs i d → fault_together classes (views xs) ≡ None → (u : Unit {0})
+      → AddsOrTells (numbered_view d) d.name (meant classes (views xs) (numbered_view d)) old new (Ok u)
       → StandBefore classes xs i old → StandBefore classes xs (i + 1) new
   stand_more less at none u (m, is, added) so_far names all =
       let faultless = several classes (views xs) none in
       subst (λ ds. Stands names (meanings classes (views xs) ds) new) (take-map numbered_view (i + 1) xs)
-      (stands_more classes (views xs) i (numbered_view d) d.name names (subst (λ n. i < n) (sym (length-map xs numbered_view)) less) (ap numbered_view at ∙ view_at numbered_view xs i d) (subst (IsNamed names) (sym at) (all i d less))
+      (stands_more classes (views xs) i (numbered_view d) d.name names
+      (subst (λ n. i < n) (sym (length-map xs numbered_view)) less)
+      (ap numbered_view at ∙ view_at numbered_view xs i d) (subst (IsNamed names) (sym at) (all i d less))
       old new m faultless.0 faultless.1 is added (subst (λ ds. Stands names (meanings classes (views xs) ds) old) (sym (take-map numbered_view i xs)) (so_far names all)))
 
   pub none_refused : (u : Unit {0}) → i < length xs → d ≡ get_or xs i d → AddsOrTells (numbered_view d) d.name (meant classes (views xs) (numbered_view d)) old new (Ok u)
@@ -77,14 +83,18 @@ module _ (classes : Classes) (xs : List NumberedValue) (i : ℕ) (d : NumberedVa
   refused_here failure.Memory less at told so_far = tt
 
 -- all of them
-pub all_meant : (classes : Classes) (xs : List NumberedValue) (i : ℕ) (e : Equations) → length xs ≤ i → NoneBefore (refused_at classes (views xs)) numbered_view xs i → StandBefore classes xs i e → Means classes xs (refused classes (views xs)) (Ok e)
+pub all_meant : (classes : Classes) (xs : List NumberedValue) (i : ℕ) (e : Equations) → length xs ≤ i
+    → NoneBefore (refused_at classes (views xs)) numbered_view xs i → StandBefore classes xs i e
+    → Means classes xs (refused classes (views xs)) (Ok e)
 all_meant classes xs i e past none stand = (
   none_at_all (refused_at classes (views xs)) numbered_view xs i past none,
   λ names all. subst (λ ds. Stands names (meanings classes (views xs) (views ds)) e) (take_all i xs past) (stand names all),
 )
 
 -- without a fault of several together
-pub together : (classes : Classes) (xs : List NumberedValue) (r : Result Equations (Failure Breach)) → fault_together classes (views xs) ≡ None → Means classes xs (refused classes (views xs)) r → Means classes xs (first_fault classes (views xs)) r
+pub together : (classes : Classes) (xs : List NumberedValue) (r : Result Equations (Failure Breach))
+    → fault_together classes (views xs) ≡ None → Means classes xs (refused classes (views xs)) r
+    → Means classes xs (first_fault classes (views xs)) r
 together classes xs r none means = subst (λ f. Means classes xs (option_or f (refused classes (views xs))) r) (sym none) means
 
 -- the first fault of several together

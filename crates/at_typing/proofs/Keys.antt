@@ -63,7 +63,8 @@ module _ (key : NumberedValue → Option (ℕ × ℕ)) (ds : List NumberedValue)
 
 module _ (d : NumberedValue) (a : ℕ) (old new : Attributes) where
   -- an inherited attribute is noted by its name alone
-  pub notes_inherited : is_inherited (numbered_view d).decl.form ≡ true → new.of_classes ≡ old.of_classes → new.of_words ≡ old.of_words → NotesOne 0 d.name a old.inherited new.inherited → Notes d a old new
+  pub notes_inherited : is_inherited (numbered_view d).decl.form ≡ true → new.of_classes ≡ old.of_classes
+      → new.of_words ≡ old.of_words → NotesOne 0 d.name a old.inherited new.inherited → Notes d a old new
   notes_inherited test classes words notes = λ ds count are. record {
     classes = none_more by_class ds d old.of_classes new.of_classes are.classes (ap (λ b. class_key b d.class d.name) test) classes;
     words = none_more by_word ds d old.of_words new.of_words are.words (ap (λ b. word_key b d.class d.name) test) words;
@@ -71,14 +72,18 @@ module _ (d : NumberedValue) (a : ℕ) (old new : Attributes) where
   }
 
   -- a synthesized one by its class and name
-  pub notes_of_class : (c : ℕ) → is_inherited (numbered_view d).decl.form ≡ false → d.class ≡ named.Known c → NotesOne c d.name a old.of_classes new.of_classes → new.of_words ≡ old.of_words → new.inherited ≡ old.inherited → Notes d a old new
+  pub notes_of_class : (c : ℕ) → is_inherited (numbered_view d).decl.form ≡ false → d.class ≡ named.Known c
+      → NotesOne c d.name a old.of_classes new.of_classes → new.of_words ≡ old.of_words → new.inherited ≡ old.inherited
+      → Notes d a old new
   notes_of_class c test of notes words names = λ ds count are. record {
     classes = one_more by_class ds d old.of_classes new.of_classes are.classes c d.name a (ap₂ (λ b k. class_key b k d.name) test of) count notes;
     words = none_more by_word ds d old.of_words new.of_words are.words (ap₂ (λ b k. word_key b k d.name) test of) words;
     names = none_more by_name ds d old.inherited new.inherited are.names (ap (λ b. name_key b d.name) test) names;
   }
 
-  pub notes_of_word : (u : ℕ) → is_inherited (numbered_view d).decl.form ≡ false → d.class ≡ named.Unknown u → NotesOne u d.name a old.of_words new.of_words → new.of_classes ≡ old.of_classes → new.inherited ≡ old.inherited → Notes d a old new
+  pub notes_of_word : (u : ℕ) → is_inherited (numbered_view d).decl.form ≡ false → d.class ≡ named.Unknown u
+      → NotesOne u d.name a old.of_words new.of_words → new.of_classes ≡ old.of_classes → new.inherited ≡ old.inherited
+      → Notes d a old new
   notes_of_word u test of notes classes names = λ ds count are. record {
     classes = none_more by_class ds d old.of_classes new.of_classes are.classes (ap₂ (λ b k. class_key b k d.name) test of) classes;
     words = one_more by_word ds d old.of_words new.of_words are.words u d.name a (ap₂ (λ b k. word_key b k d.name) test of) count notes;

@@ -48,7 +48,8 @@ module _ (rules : Rules) (declared : List Declared) (same : AllZip IsDeclaredAs 
       by true = has.index_name (indexed refl)
       by false = tt
 
-  named_right : (t : ScopeKinds) (this : ℕ) (names : List Bound) (index : Option (List ℕ)) (at : Place) (name : List ℕ) → AreKinds t this names index → Holds (Right rules t) (named (At this names index) at name)
+  named_right : (t : ScopeKinds) (this : ℕ) (names : List Bound) (index : Option (List ℕ)) (at : Place) (name : List ℕ)
+      → AreKinds t this names index → Holds (Right rules t) (named (At this names index) at name)
   named_right t this names index at name are = by (bound_to names name) refl
     where
       by : (o : Option (ℕ × WrittenKind)) → bound_to names name ≡ o → Holds (Right rules t) (named_by at (index_eq index name) o)
@@ -60,11 +61,14 @@ module _ (rules : Rules) (declared : List Declared) (same : AllZip IsDeclaredAs 
           subst (λ (p : ℕ × WrittenKind). Has rules t (of_written p.1) (body.Name p.0)) is_b (result_right rules t (body.Name i) x.kind k known (has.name i stands))
 
   -- in the braces of a fold
-  bound_in : (t : ScopeKinds) (this : ℕ) (names : List Bound) (index : Option (List ℕ)) (name : List ℕ) (c : ℕ) → AreKinds t this names index → AreKinds (bound_kinds t c) this (record { name = name; kind = Known (known_kind.Class c) } ∷ names) index
+  bound_in : (t : ScopeKinds) (this : ℕ) (names : List Bound) (index : Option (List ℕ)) (name : List ℕ) (c : ℕ)
+      → AreKinds t this names index
+      → AreKinds (bound_kinds t c) this (record { name = name; kind = Known (known_kind.Class c) } ∷ names) index
   bound_in t this names index name c are = record { this_class = are.this_class; bound = (refl, are.bound); indexed = are.indexed }
 
   mutual
-    pub judged_right : (t : ScopeKinds) (this : ℕ) (names : List Bound) (index : Option (List ℕ)) → AreKinds t this names index → (e : written.Expr) → AreInts e → Holds (Right rules t) (judged (At this names index) e)
+    pub judged_right : (t : ScopeKinds) (this : ℕ) (names : List Bound) (index : Option (List ℕ)) → AreKinds t this
+        names index → (e : written.Expr) → AreInts e → Holds (Right rules t) (judged (At this names index) e)
     judged_right t this names index are (written.Number at n) ints = has.int_literal n ints
     judged_right t this names index are (written.TextLiteral at bytes) ints = has.text_literal bytes
     judged_right t this names index are (written.Truth at b) ints = has.truth_literal b
@@ -72,41 +76,76 @@ module _ (rules : Rules) (declared : List Declared) (same : AllZip IsDeclaredAs 
     judged_right t this names index are (written.This at) ints = this_right t this names index at are
     judged_right t this names index are (written.Name at name) ints = named_right t this names index at name are
     judged_right t this names index are (written.Call at name es) ints =
-        then_holds (AllRight rules t) (Right rules t) (called (At this names index) at name (this_node (At this names index) at)) (judged_all (At this names index) es) (judged_all_right t this names index are es ints) (λ ks all.
+        then_holds (AllRight rules t) (Right rules t)
+        (called (At this names index) at name (this_node (At this names index) at))
+        (judged_all (At this names index) es) (judged_all_right t this names index are es ints) (λ ks all.
         called_right rules declared same t this names index at name (this_node (At this names index) at) ks (this_right t this names index at are) all)
     judged_right t this names index are (written.CallOf at e name es) ints =
-        then_holds (Right rules t) (Right rules t) (λ k. and_then (called (At this names index) at name k) (judged_all (At this names index) es)) (judged (At this names index) e) (judged_right t this names index are e ints.0) (λ k h.
+        then_holds (Right rules t) (Right rules t)
+        (λ k. and_then (called (At this names index) at name k) (judged_all (At this names index) es))
+        (judged (At this names index) e) (judged_right t this names index are e ints.0) (λ k h.
         then_holds (AllRight rules t) (Right rules t) (called (At this names index) at name k) (judged_all (At this names index) es) (judged_all_right t this names index are es ints.1) (λ ks all.
         called_right rules declared same t this names index at name k ks h all))
-    judged_right t this names index are (written.Paren at e) ints = then_holds (Right rules t) (Right rules t) (placed at) (judged (At this names index) e) (judged_right t this names index are e ints) (λ k h. h)
-    judged_right t this names index are (written.Negate at e) ints = then_holds (Right rules t) (Right rules t) (negation at) (judged (At this names index) e) (judged_right t this names index are e ints) (λ k h. negation_right rules t at k h)
-    judged_right t this names index are (written.Not at e) ints = then_holds (Right rules t) (Right rules t) (opposite at) (judged (At this names index) e) (judged_right t this names index are e ints) (λ k h. opposite_right rules t at k h)
-    judged_right t this names index are (written.Cast at class e) ints = then_holds (Right rules t) (Right rules t) (cast rules.classes at class) (judged (At this names index) e) (judged_right t this names index are e ints) (λ k h. cast_right rules t at class k h)
-    judged_right t this names index are (written.InstanceOf at e behind class) ints = then_holds (Right rules t) (Right rules t) (tested rules.classes at class) (judged (At this names index) e) (judged_right t this names index are e ints) (λ k h. tested_right rules t at class k h)
+    judged_right t this names index are (written.Paren at e) ints = then_holds (Right rules t) (Right rules t)
+        (placed at) (judged (At this names index) e) (judged_right t this names index are e ints) (λ k h. h)
+    judged_right t this names index are (written.Negate at e) ints =
+        then_holds (Right rules t) (Right rules t) (negation at) (judged (At this names index) e)
+        (judged_right t this names index are e ints) (λ k h. negation_right rules t at k h)
+    judged_right t this names index are (written.Not at e) ints =
+        then_holds (Right rules t) (Right rules t) (opposite at) (judged (At this names index) e)
+        (judged_right t this names index are e ints) (λ k h. opposite_right rules t at k h)
+    judged_right t this names index are (written.Cast at class e) ints =
+        then_holds (Right rules t) (Right rules t) (cast rules.classes at class) (judged (At this names index) e)
+        (judged_right t this names index are e ints) (λ k h. cast_right rules t at class k h)
+    judged_right t this names index are (written.InstanceOf at e behind class) ints =
+        then_holds (Right rules t) (Right rules t) (tested rules.classes at class) (judged (At this names index) e)
+        (judged_right t this names index are e ints) (λ k h. tested_right rules t at class k h)
     judged_right t this names index are (written.Binary at o between a b) ints =
-        then_holds (Right rules t) (Right rules t) (λ j. and_then (joined at o j) (judged (At this names index) b)) (judged (At this names index) a) (judged_right t this names index are a ints.0) (λ j h.
+        then_holds (Right rules t) (Right rules t) (λ j. and_then (joined at o j) (judged (At this names index) b))
+        (judged (At this names index) a) (judged_right t this names index are a ints.0) (λ j h.
         then_holds (Right rules t) (Right rules t) (joined at o j) (judged (At this names index) b) (judged_right t this names index are b ints.1) (λ k g. joined_right rules t at o j k h g))
     judged_right t this names index are (written.Choose at c behind a b) ints =
-        then_holds (Right rules t) (Right rules t) (λ i. and_then (λ j. and_then (chosen rules.classes at i j) (judged (At this names index) b)) (judged (At this names index) a)) (judged (At this names index) c) (judged_right t this names index are c ints.0) (λ i f.
-        then_holds (Right rules t) (Right rules t) (λ j. and_then (chosen rules.classes at i j) (judged (At this names index) b)) (judged (At this names index) a) (judged_right t this names index are a ints.1) (λ j h.
-        then_holds (Right rules t) (Right rules t) (chosen rules.classes at i j) (judged (At this names index) b) (judged_right t this names index are b ints.2) (λ k g. chosen_right rules t at i j k f h g)))
+        then_holds (Right rules t) (Right rules t) (λ i. and_then (λ j.
+        and_then (chosen rules.classes at i j) (judged (At this names index) b)) (judged (At this names index) a))
+        (judged (At this names index) c) (judged_right t this names index are c ints.0) (λ i f.
+        then_holds (Right rules t) (Right rules t)
+        (λ j. and_then (chosen rules.classes at i j) (judged (At this names index) b))
+        (judged (At this names index) a) (judged_right t this names index are a ints.1) (λ j h.
+        then_holds (Right rules t) (Right rules t) (chosen rules.classes at i j) (judged (At this names index) b)
+        (judged_right t this names index are b ints.2) (λ k g. chosen_right rules t at i j k f h g)))
     judged_right t this names index are (written.Fold at form name list e) ints =
-        then_holds (IsListOf rules t) (Right rules t) (λ l. and_then (folded at form l) (judged (within (At this names index) name.text l.class) e)) (list_or at (judged (At this names index) list) (judged_list (At this names index) at list)) (listed_right t this names index are at list ints.0) (λ l is.
-        then_holds (Right rules (bound_kinds t l.class)) (Right rules t) (folded at form l) (judged (within (At this names index) name.text l.class) e) (judged_right (bound_kinds t l.class) this (record { name = name.text; kind = Known (known_kind.Class l.class) } ∷ names) index (bound_in t this names index name.text l.class are) e ints.1) (λ k h.
+        then_holds (IsListOf rules t) (Right rules t) (λ l. and_then (folded at form l)
+        (judged (within (At this names index) name.text l.class) e)) (list_or at (judged (At this names index) list)
+        (judged_list (At this names index) at list)) (listed_right t this names index are at list ints.0) (λ l is.
+        then_holds (Right rules (bound_kinds t l.class)) (Right rules t) (folded at form l)
+        (judged (within (At this names index) name.text l.class) e) (judged_right (bound_kinds t l.class) this
+        (record { name = name.text; kind = Known (known_kind.Class l.class) } ∷ names) index
+        (bound_in t this names index name.text l.class are) e ints.1) (λ k h.
         folded_right rules t at form l k is h))
 
-    pub judged_all_right : (t : ScopeKinds) (this : ℕ) (names : List Bound) (index : Option (List ℕ)) → AreKinds t this names index → (es : written.Exprs) → AreIntsAmong es → Holds (AllRight rules t) (judged_all (At this names index) es)
+    pub judged_all_right : (t : ScopeKinds) (this : ℕ) (names : List Bound) (index : Option (List ℕ))
+        → AreKinds t this names index → (es : written.Exprs) → AreIntsAmong es
+        → Holds (AllRight rules t) (judged_all (At this names index) es)
     judged_all_right t this names index are written.no_exprs ints = tt
     judged_all_right t this names index are (written.expr e es) ints =
-        then_holds (Right rules t) (AllRight rules t) (λ k. and_then (λ ks. Is (k ∷ ks)) (judged_all (At this names index) es)) (judged (At this names index) e) (judged_right t this names index are e ints.0) (λ k h.
+        then_holds (Right rules t) (AllRight rules t)
+        (λ k. and_then (λ ks. Is (k ∷ ks)) (judged_all (At this names index) es)) (judged (At this names index) e)
+        (judged_right t this names index are e ints.0) (λ k h.
         then_holds (AllRight rules t) (AllRight rules t) (λ ks. Is (k ∷ ks)) (judged_all (At this names index) es) (judged_all_right t this names index are es ints.1) (λ ks all. (h, all)))
 
-    listed_right : (t : ScopeKinds) (this : ℕ) (names : List Bound) (index : Option (List ℕ)) → AreKinds t this names index → (fold : Place) (e : written.Expr) → AreInts e → Holds (IsListOf rules t) (list_or fold (judged (At this names index) e) (judged_list (At this names index) fold e))
+    listed_right : (t : ScopeKinds) (this : ℕ) (names : List Bound) (index : Option (List ℕ))
+        → AreKinds t this names index → (fold : Place) (e : written.Expr) → AreInts e → Holds (IsListOf rules t)
+        (list_or fold (judged (At this names index) e) (judged_list (At this names index) fold e))
     listed_right t this names index are fold (written.Call at name es) ints =
-        then_holds (AllRight rules t) (IsListOf rules t) (list_called (At this names index) fold at name (this_node (At this names index) at)) (judged_all (At this names index) es) (judged_all_right t this names index are es ints) (λ ks all.
+        then_holds (AllRight rules t) (IsListOf rules t)
+        (list_called (At this names index) fold at name (this_node (At this names index) at))
+        (judged_all (At this names index) es) (judged_all_right t this names index are es ints) (λ ks all.
         list_called_right rules declared same t this names index fold at name (this_node (At this names index) at) ks (this_right t this names index at are))
     listed_right t this names index are fold (written.CallOf at e name es) ints =
-        then_holds (Right rules t) (IsListOf rules t) (λ k. and_then (list_called (At this names index) fold at name k) (judged_all (At this names index) es)) (judged (At this names index) e) (judged_right t this names index are e ints.0) (λ k h.
-        then_holds (AllRight rules t) (IsListOf rules t) (list_called (At this names index) fold at name k) (judged_all (At this names index) es) (judged_all_right t this names index are es ints.1) (λ ks all.
+        then_holds (Right rules t) (IsListOf rules t)
+        (λ k. and_then (list_called (At this names index) fold at name k) (judged_all (At this names index) es))
+        (judged (At this names index) e) (judged_right t this names index are e ints.0) (λ k h.
+        then_holds (AllRight rules t) (IsListOf rules t) (list_called (At this names index) fold at name k)
+        (judged_all (At this names index) es) (judged_all_right t this names index are es ints.1) (λ ks all.
         list_called_right rules declared same t this names index fold at name k ks h))
     listed_right t this names index are fold e ints = none_holds (IsListOf rules t) (no_list fold) (judged (At this names index) e) (no_list_right rules t fold)

@@ -53,8 +53,13 @@ kind_declared (Some (Known j)) k is = ap (λ l. Some (Known l)) (same_kind j k i
 abbrev IsAsDeclared : List model.Kind → ℕ → WrittenKind → Type 0
 IsAsDeclared ms i w = (m : model.Kind) × (slice_get ms i ≡ Some m) × IsKind w m
 
-param_right : (classes : Classes) (ws : List WrittenKind) (ms : List model.Kind) (i : ℕ) (p : Param) → AllZip IsKind ws ms → Holds (λ k. IsAsDeclared ms i (as_written None (known_kind classes p.kind.kind))) (param_as_declared classes ws i p)
-param_right classes ws ms i p zip = then_holds (IsPassed classes i p) (λ k. IsAsDeclared ms i (as_written None (known_kind classes p.kind.kind))) (λ k. passed_if (is_kind (slice_get ws i) k) p.kind.at k) (param_named classes i p) (param_named_right classes i p) (λ k passed. by k passed (is_kind (slice_get ws i) k) refl)
+param_right : (classes : Classes) (ws : List WrittenKind) (ms : List model.Kind) (i : ℕ) (p : Param)
+    → AllZip IsKind ws ms → Holds (λ k. IsAsDeclared ms i (as_written None (known_kind classes p.kind.kind)))
+    (param_as_declared classes ws i p)
+param_right classes ws ms i p zip = then_holds (IsPassed classes i p)
+    (λ k. IsAsDeclared ms i (as_written None (known_kind classes p.kind.kind)))
+    (λ k. passed_if (is_kind (slice_get ws i) k) p.kind.at k) (param_named classes i p) (param_named_right classes i p)
+    (λ k passed. by k passed (is_kind (slice_get ws i) k) refl)
   where
     same_view : (w : WrittenKind) (k : Kind) (m : model.Kind) → IsKind w (kind_view k) → IsKind (Known k) m → IsKind w m
     same_view w k m is other = subst (IsKind w) other is
@@ -77,7 +82,9 @@ long_as (w ∷ ws) [] zip = absurd zip
 long_as (w ∷ ws) (m ∷ ms) zip = ap suc (long_as ws ms zip.1)
 
 -- the names of an equation's parameters stand for what its attribute's parameters are
-params_right : (classes : Classes) (ws : List WrittenKind) (ms : List model.Kind) (end : Place) (i : ℕ) (ps : List Param) → AllZip IsKind ws ms → Holds (λ u. AllZip IsBound (map (bound classes) ps) (drop i ms)) (as_declared classes ws end i ps)
+params_right : (classes : Classes) (ws : List WrittenKind) (ms : List model.Kind) (end : Place)
+    (i : ℕ) (ps : List Param) → AllZip IsKind ws ms
+    → Holds (λ u. AllZip IsBound (map (bound classes) ps) (drop i ms)) (as_declared classes ws end i ps)
 params_right classes ws ms end i [] zip = by (nat_lt i (length ws)) refl
   where
     past : nat_lt i (length ws) ≡ false → length ms ≤ i
@@ -87,10 +94,14 @@ params_right classes ws ms end i [] zip = by (nat_lt i (length ws)) refl
     by true is = tt
     by false is = subst (λ xs. AllZip IsBound [] xs) (sym (drop_all i ms (past is))) tt
 params_right classes ws ms end i (p ∷ ps) zip =
-    then_holds (λ k. IsAsDeclared ms i (as_written None (known_kind classes p.kind.kind))) (λ u. AllZip IsBound (map (bound classes) (p ∷ ps)) (drop i ms)) (λ k. as_declared classes ws end (i + 1) ps) (param_as_declared classes ws i p) (param_right classes ws ms i p zip) (λ k (m, there, known).
+    then_holds (λ k. IsAsDeclared ms i (as_written None (known_kind classes p.kind.kind)))
+    (λ u. AllZip IsBound (map (bound classes) (p ∷ ps)) (drop i ms)) (λ k. as_declared classes ws end (i + 1) ps)
+    (param_as_declared classes ws i p) (param_right classes ws ms i p zip) (λ k (m, there, known).
     by m (front ms i m there) known (as_declared classes ws end (i + 1) ps) (params_right classes ws ms end (i + 1) ps zip))
   where
-    by : (m : model.Kind) → drop i ms ≡ m ∷ drop (i + 1) ms → IsKind (as_written None (known_kind classes p.kind.kind)) m → (j : Judgement (Unit {0})) → Holds (λ u. AllZip IsBound (map (bound classes) ps) (drop (i + 1) ms)) j → Holds (λ u. AllZip IsBound (map (bound classes) (p ∷ ps)) (drop i ms)) j
+    by : (m : model.Kind) → drop i ms ≡ m ∷ drop (i + 1) ms → IsKind (as_written None (known_kind classes p.kind.kind))
+        m → (j : Judgement (Unit {0})) → Holds (λ u. AllZip IsBound (map (bound classes) ps) (drop (i + 1) ms)) j
+        → Holds (λ u. AllZip IsBound (map (bound classes) (p ∷ ps)) (drop i ms)) j
     by m is known (Is u) rest = subst (λ xs. AllZip IsBound (map (bound classes) (p ∷ ps)) xs) (sym is) (known, rest)
     by m is known (Wrong c at) rest = tt
 
@@ -110,18 +121,25 @@ module _ (rules : Rules) where
     where_stands c a indexed = record { this = c; names = a.parameters; has_index = indexed }
 
     -- where the names of the parameters are right, and the index name too
-    body_of_right : (c : ℕ) (form : DeclForm) (body : Body) (s : Declared) (a : Attribute) (indexed : Bool) → AreInts body.expr → IsDeclaredAs s a → (is_some (index_in form) ≡ true → indexed ≡ true) → AllZip IsBound (map (bound rules.classes) (params_in form).items) a.parameters
+    body_of_right : (c : ℕ) (form : DeclForm) (body : Body) (s : Declared) (a : Attribute) (indexed : Bool)
+        → AreInts body.expr → IsDeclaredAs s a → (is_some (index_in form) ≡ true → indexed ≡ true)
+        → AllZip IsBound (map (bound rules.classes) (params_in form).items) a.parameters
         → Holds (λ e. HasKind rules (where_stands c a indexed) e a.result) (body_of (scope rules.classes declared c form) body.expr s.result)
     body_of_right c form body s a indexed ints of index names =
-        then_holds (Right rules (where_stands c a indexed)) (λ e. HasKind rules (where_stands c a indexed) e a.result) (fitting rules.classes s.result (place body.expr)) (judged (scope rules.classes declared c form) body.expr)
-        (judged_right rules declared same (where_stands c a indexed) c (map (bound rules.classes) (params_in form).items) (option_map (λ w. w.text) (index_in form)) (record { this_class = refl; bound = names; indexed = λ is. index (some_word (index_in form) is) }) body.expr ints)
+        then_holds (Right rules (where_stands c a indexed)) (λ e. HasKind rules (where_stands c a indexed) e a.result)
+        (fitting rules.classes s.result (place body.expr)) (judged (scope rules.classes declared c form) body.expr)
+        (judged_right rules declared same (where_stands c a indexed) c
+        (map (bound rules.classes) (params_in form).items) (option_map (λ w. w.text) (index_in form)) (record
+        { this_class = refl; bound = names; indexed = λ is. index (some_word (index_in form) is) }) body.expr ints)
         (λ k h. by k h (fits rules.classes k.kind s.result) refl)
       where
         some_word : (o : Option Word) → is_some (option_map (λ (w : Word). w.text) o) ≡ true → is_some o ≡ true
         some_word None is = is
         some_word (Some w) is = refl
 
-        by : (k : Kinded) → Right rules (where_stands c a indexed) k → (b : Bool) → fits rules.classes k.kind s.result ≡ b → Holds (λ e. HasKind rules (where_stands c a indexed) e a.result) (if b then Is k.body else Wrong code.Kind (place body.expr))
+        by : (k : Kinded) → Right rules (where_stands c a indexed) k → (b : Bool)
+            → fits rules.classes k.kind s.result ≡ b → Holds (λ e. HasKind rules (where_stands c a indexed) e a.result)
+            (if b then Is k.body else Wrong code.Kind (place body.expr))
         by k h true is = fit_right (where_stands c a indexed) k s.result a.result of.result is h
         by k h false is = tt
 
@@ -140,7 +158,10 @@ module _ (rules : Rules) where
             → Holds (λ e. IsBodyOf c indexed e × (Some n ≡ Some e.0)) (and_then (λ e. Is (n, e)) (body_for rules.classes declared c d body s))
         with_attribute s a there of =
             then_holds (λ e. HasKind rules (where_stands c a indexed) e a.result) (λ e. IsBodyOf c indexed e × (Some n ≡ Some e.0)) (λ e. Is (n, e)) (body_for rules.classes declared c d body s)
-            (then_holds (λ u. AllZip IsBound (map (bound rules.classes) (params_in d.decl.form).items) (drop 0 a.parameters)) (λ e. HasKind rules (where_stands c a indexed) e a.result) (λ u. body_of (scope rules.classes declared c d.decl.form) body.expr s.result) (as_declared rules.classes s.parameters (params_in d.decl.form).end 0 (params_in d.decl.form).items)
+            (then_holds (λ u. AllZip IsBound (map (bound rules.classes) (params_in d.decl.form).items)
+            (drop 0 a.parameters)) (λ e. HasKind rules (where_stands c a indexed) e a.result)
+            (λ u. body_of (scope rules.classes declared c d.decl.form) body.expr s.result)
+            (as_declared rules.classes s.parameters (params_in d.decl.form).end 0 (params_in d.decl.form).items)
             (params_right rules.classes s.parameters a.parameters (params_in d.decl.form).end 0 (params_in d.decl.form).items of.parameters)
             (λ u names. body_of_right c d.decl.form body s a indexed ints of index names))
             (λ e h. (record { declaration = a; attribute = there; body = h }, refl))

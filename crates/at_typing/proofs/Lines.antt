@@ -58,7 +58,8 @@ none_known u (c ∷ cs) = none_known u cs
 pub itself : (classes : Classes) (c b : ℕ) → 0 < length classes → is_sub classes c b ≡ (nat_eq c b || is_sub classes c b)
 unfolding chain
 itself [] c b less = absurd (omega (arith, less))
-itself (k ∷ classes) c b less = ap (λ t. t || list_any (nat_eq b) (chain_within (length classes) (k ∷ classes) (parent_of (k ∷ classes) c))) (nat_eq_equiv.symm b c) ∙ twice (nat_eq c b) (nat_eq b c) _ (nat_eq_equiv.symm b c)
+itself (k ∷ classes) c b less = ap (λ t. t || list_any (nat_eq b) (chain_within (length classes) (k ∷ classes)
+    (parent_of (k ∷ classes) c))) (nat_eq_equiv.symm b c) ∙ twice (nat_eq c b) (nat_eq b c) _ (nat_eq_equiv.symm b c)
   where
     twice : (s t r : Bool) → t ≡ s → (s || r) ≡ (s || (t || r))
     twice true t r same = refl
@@ -70,7 +71,9 @@ alone classes m u = within_none classes m
 -- one class is on the line of another where that one is it, or below it
 pub on_line : (classes : Classes) → 0 < length classes → (c b : NamedClass) → list_any (λ x. same_class x b) (line classes c) ≡ is_class_below classes c b
 unfolding chain
-on_line classes some (Known c) (Known b) = ap (list_any (λ x. same_class x (Known b))) (known_line classes (length classes) (Some c)) ∙ any_known b (chain_within (length classes) classes (Some c)) ∙ itself classes c b some
-on_line classes some (Known c) (Unknown u) = ap (list_any (λ x. same_class x (Unknown u))) (known_line classes (length classes) (Some c)) ∙ none_known u (chain_within (length classes) classes (Some c))
+on_line classes some (Known c) (Known b) = ap (list_any (λ x. same_class x (Known b))) (known_line classes
+    (length classes) (Some c)) ∙ any_known b (chain_within (length classes) classes (Some c)) ∙ itself classes c b some
+on_line classes some (Known c) (Unknown u) = ap (list_any (λ x. same_class x (Unknown u)))
+    (known_line classes (length classes) (Some c)) ∙ none_known u (chain_within (length classes) classes (Some c))
 on_line [] some (Unknown u) b = absurd (omega (arith, some))
 on_line (k ∷ classes) some (Unknown u) b = ap (λ cs. list_any (λ x. same_class x b) (Unknown u ∷ cs)) (alone (k ∷ classes) (length classes) u)

@@ -71,8 +71,30 @@ mutual
   spelled_ints (Cast at class e) old rest (named, close, one, sign, name, end, follows, level, is) = spelled_ints e one rest is
   spelled_ints (InstanceOf at e behind class) old rest (link, named, place, level, is, word, name) = spelled_ints e old link is
   spelled_ints (Binary at o between a b) old rest (link, right, place, left, strong, is, sign, other) = (spelled_ints a old link is, spelled_ints b right rest other)
-  spelled_ints (Choose at c behind a b) old rest (link, first, colon, other, place, level, is, sign, one, end, two) = (spelled_ints c old link is, spelled_ints a first colon one, spelled_ints b other rest two)
-  spelled_ints (Fold at form name list body) old rest (paren, named, colon, items, close, brace, one, end, word, opens, bound, sign, next, level, is, closed, braced, inner, ended) = (spelled_ints list items close is, spelled_ints body one end inner)
+  spelled_ints (Choose at c behind a b) old rest (link, first, colon, other, place, level, is, sign, one, end, two) =
+      (spelled_ints c old link is, spelled_ints a first colon one, spelled_ints b other rest two)
+  spelled_ints (Fold at form name list body) old rest (
+    paren,
+    named,
+    colon,
+    items,
+    close,
+    brace,
+    one,
+    end,
+    word,
+    opens,
+    bound,
+    sign,
+    next,
+    level,
+    is,
+    closed,
+    braced,
+    inner,
+    ended,
+  ) =
+      (spelled_ints list items close is, spelled_ints body one end inner)
 
   arguments_ints : (es : Exprs) (old rest : Row) → Arguments es old rest → AreIntsAmong es
   arguments_ints no_exprs old rest is = tt

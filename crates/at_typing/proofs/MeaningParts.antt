@@ -70,33 +70,56 @@ attribute_of_words classes d result a declares is =
     let first = part_of _ (kind_named classes result) a is in
     let second = part_of _ (class_named classes (class_word d.decl.form)) a first.2 in
     let third = part_of _ (params_named classes 0 (params_in d.decl.form).items) a second.2 in
-    let same : attribute d second.0 first.0 third.0 ≡ a = is-is _ a third.2 in
-    (declares, known (class_word d.decl.form).at (class_of_name classes (class_text d)) second.0 second.1 ∙ ap (λ (x : Attribute). Some x.class) same, sym (ap (λ (x : Attribute). x.name) same), ap (λ (x : Attribute). x.is_inherited) same)
+    let same : attribute d second.0 first.0 third.0 ≡ a = is-is _ a third.2 in (
+      declares,
+      known (class_word d.decl.form).at (class_of_name classes (class_text d)) second.0 second.1
+          ∙ ap (λ (x : Attribute). Some x.class) same,
+      sym (ap (λ (x : Attribute). x.name) same),
+      ap (λ (x : Attribute). x.is_inherited) same,
+    )
 
 numbered_by : (classes : Classes) (declared : List Declared) (c : ℕ) (d : Located) (body : Body) (o : Option ℕ) (p : ℕ × Expr) → body_meant classes declared c d body o ≡ Is p → o ≡ Some p.0
 numbered_by classes declared c d body None p is = wrong-is p is
-numbered_by classes declared c d body (Some a) p is = let found = part_of (λ e. Is (a, e)) (body_if classes declared c d body (slice_get declared a)) p is in ap (λ (x : ℕ × Expr). Some x.0) (is-is (a, found.0) p found.2)
+numbered_by classes declared c d body (Some a) p is = let found = part_of (λ e. Is (a, e)) (body_if classes declared c d
+    body (slice_get declared a)) p is in ap (λ (x : ℕ × Expr). Some x.0) (is-is (a, found.0) p found.2)
 
-own_of_words : (classes : Classes) (ds : List Located) (d : Located) (body : Body) (c : ℕ) (e : OwnEquation) → is_own_equation d.decl.form ≡ true → class_of_name classes (class_text d) ≡ Some c → own_meant classes ds d body c ≡ Is e → OfOwn classes ds d e
+own_of_words : (classes : Classes) (ds : List Located) (d : Located) (body : Body) (c : ℕ) (e : OwnEquation)
+    → is_own_equation d.decl.form ≡ true → class_of_name classes (class_text d) ≡ Some c
+    → own_meant classes ds d body c ≡ Is e → OfOwn classes ds d e
 own_of_words classes ds d body c e has class is =
     let found = part_of _ (body_meant classes (signatures classes ds) c d body (synthesized_named classes ds (class_text d) (name_text d))) e is in
-    let same : own_equation c found.0 ≡ e = is-is _ e found.2 in
-    (has, class ∙ ap (λ (x : OwnEquation). Some x.class) same, numbered_by classes (signatures classes ds) c d body (synthesized_named classes ds (class_text d) (name_text d)) found.0 found.1 ∙ ap (λ (x : OwnEquation). Some x.attribute) same)
+    let same : own_equation c found.0 ≡ e = is-is _ e found.2 in (
+      has,
+      class ∙ ap (λ (x : OwnEquation). Some x.class) same,
+      numbered_by classes (signatures classes ds) c d body
+          (synthesized_named classes ds (class_text d) (name_text d)) found.0 found.1
+          ∙ ap (λ (x : OwnEquation). Some x.attribute) same,
+    )
 
-inherited_of_words : (classes : Classes) (ds : List Located) (d : Located) (index : Option Word) (body : Body) (c : ℕ) (g : Word) (part : Option ℕ) (e : InheritedEquation) → getter_in d.decl.form ≡ Some g → class_of_name classes (class_text d) ≡ Some c → component_got classes c g ≡ Is part
+inherited_of_words : (classes : Classes) (ds : List Located) (d : Located) (index : Option Word) (body : Body) (c : ℕ)
+    (g : Word) (part : Option ℕ) (e : InheritedEquation) → getter_in d.decl.form ≡ Some g
+    → class_of_name classes (class_text d) ≡ Some c → component_got classes c g ≡ Is part
     → inherited_meant classes ds d index body c part ≡ Is e → OfInherited classes d e
 inherited_of_words classes ds d index body c g part e gets class got is =
     let first = part_of _ (index_of_list classes c part index) e is in
     let second = part_of _ (body_meant classes (signatures classes ds) c d body (inherited_named ds (name_text d))) e first.2 in
-    let same : inherited_equation d c part second.0.1 ≡ e = is-is _ e second.2 in
-    (g, gets, class ∙ ap (λ (x : InheritedEquation). Some x.class) same, subst (λ (x : InheritedEquation). component_got classes x.class g ≡ Is x.part) same got, sym (ap (λ (x : InheritedEquation). x.name) same))
+    let same : inherited_equation d c part second.0.1 ≡ e = is-is _ e second.2 in (
+      g,
+      gets,
+      class ∙ ap (λ (x : InheritedEquation). Some x.class) same,
+      subst (λ (x : InheritedEquation).
+          component_got classes x.class g ≡ Is x.part) same got,
+      sym (ap (λ (x : InheritedEquation). x.name) same),
+    )
 
 -- declarations ---------------------------------------------------------------------------------------------------------
 
 moved : (classes : Classes) (ds : List Located) (d : Located) (m n : Meaning) → Is m ≡ Is n → IsOf classes ds d m → IsOf classes ds d n
 moved classes ds d m n is of = subst (IsOf classes ds d) (is-is m n is) of
 
-synthesized_of : (classes : Classes) (ds : List Located) (d : Located) (result : KindWord) (m : Meaning) → is_attribute d.decl.form ≡ true → getter_in d.decl.form ≡ None → synthesized_meant classes ds d result ≡ Is m → IsOf classes ds d m
+synthesized_of : (classes : Classes) (ds : List Located) (d : Located) (result : KindWord) (m : Meaning)
+    → is_attribute d.decl.form ≡ true → getter_in d.decl.form ≡ None → synthesized_meant classes ds d result ≡ Is m
+    → IsOf classes ds d m
 synthesized_of classes ds d result m declares none is =
     let found = part_of _ (attribute_meant classes d result) m is in
     let of = attribute_of_words classes d result found.0 declares found.1 in
@@ -118,13 +141,26 @@ of_form classes ds d m (written.Equation class name params body) at is =
     let first = part_of _ (class_named classes class) m is in
     let second = part_of _ (own_meant classes ds d body first.0) m first.2 in
     let of_class = ap (λ f. class_of_name classes (class_word f).text) at ∙ known class.at (class_of_name classes class.text) first.0 first.1 in
-    moved classes ds d _ m second.2 (record { declares = sym (ap is_attribute at); attribute = tt; own = own_of_words classes ds d body first.0 second.0 (ap is_own_equation at) of_class second.1; inherited = tt })
+    moved classes ds d _ m second.2 (record {
+      declares = sym (ap is_attribute at);
+      attribute = tt;
+      own =
+          own_of_words classes ds d body first.0 second.0 (ap is_own_equation at) of_class second.1;
+      inherited = tt;
+    })
 of_form classes ds d m (written.InheritedEquation class getter index name params body) at is =
     let first = part_of _ (class_named classes class) m is in
     let second = part_of _ (component_got classes first.0 getter) m first.2 in
     let third = part_of _ (inherited_meant classes ds d index body first.0 second.0) m second.2 in
     let of_class = ap (λ f. class_of_name classes (class_word f).text) at ∙ known class.at (class_of_name classes class.text) first.0 first.1 in
-    moved classes ds d _ m third.2 (record { declares = sym (ap is_attribute at); attribute = tt; own = tt; inherited = inherited_of_words classes ds d index body first.0 getter second.0 third.0 (ap getter_in at) of_class second.1 third.1 })
+    moved classes ds d _ m third.2
+    (record {
+      declares = sym (ap is_attribute at);
+      attribute = tt;
+      own = tt;
+      inherited = inherited_of_words classes
+          ds d index body first.0 getter second.0 third.0 (ap getter_in at) of_class second.1 third.1;
+    })
 
 pub of_words : (classes : Classes) (ds : List Located) (d : Located) (m : Meaning) → meant classes ds d ≡ Is m → IsOf classes ds d m
 of_words classes ds d m is = of_form classes ds d m d.decl.form refl is
@@ -152,8 +188,11 @@ pub same_name_text : (classes : Classes) (ds : List Located) (v w n p : List ℕ
 same_name_text classes ds v w n p a is at =
     let found = passed (is_synthesized_by classes v n) (attributes ds) a is in
     let declared = not (is_inherited found.0.decl.form) in
-    let here = first_of (bytes_eq n (name_text found.0)) (is_below classes v (class_text found.0)) (second_of declared (bytes_eq n (name_text found.0) && is_below classes v (class_text found.0)) found.1) in
-    let there = first_of (bytes_eq p (name_text found.0)) (is_below classes w (class_text found.0)) (second_of declared (bytes_eq p (name_text found.0) && is_below classes w (class_text found.0)) (found.2 (is_synthesized_by classes w p) at)) in
+    let here = first_of (bytes_eq n (name_text found.0)) (is_below classes v (class_text found.0))
+    (second_of declared (bytes_eq n (name_text found.0) && is_below classes v (class_text found.0)) found.1) in
+    let there = first_of (bytes_eq p (name_text found.0)) (is_below classes w (class_text found.0))
+    (second_of declared (bytes_eq p (name_text found.0) && is_below classes w (class_text found.0))
+    (found.2 (is_synthesized_by classes w p) at)) in
     (bytes_eq-Decides n (name_text found.0)).0 here ∙ sym ((bytes_eq-Decides p (name_text found.0)).0 there)
 
 got_at : (classes : Classes) (c : ℕ) (at : Place) (o : Option ℕ) (part : Option ℕ) → component_at classes c at o ≡ Is part → (k : ℕ) × (o ≡ Some k) × (part ≡ Some k)

@@ -22,21 +22,29 @@ Left classes params k kinds all = all ≡ and_then (λ ks. Is (kinds ++ ks)) (pa
 here : (params : List ParamValue) (k : ℕ) (p : ParamValue) → k < length params → p ≡ get_or params k p → drop k params ≡ p ∷ drop (suc k) params
 here params k p less is = drop-cons params k p less ∙ ap (λ y. y ∷ drop (suc k) params) (sym is)
 
-behind : (kinds : List Kind) (kind : Kind) (rest : Judgement (List Kind)) → and_then (λ ks. Is (kinds ++ ks)) (and_then (λ ks. Is (kind ∷ ks)) rest) ≡ and_then (λ ks. Is ((kinds ++ kind ∷ []) ++ ks)) rest
+behind : (kinds : List Kind) (kind : Kind) (rest : Judgement (List Kind)) → and_then (λ ks. Is (kinds ++ ks))
+    (and_then (λ ks. Is (kind ∷ ks)) rest) ≡ and_then (λ ks. Is ((kinds ++ kind ∷ []) ++ ks)) rest
 behind kinds kind (Is ks) = ap Is (sym (append_assoc kinds (kind ∷ []) ks))
 behind kinds kind (Wrong c at) = refl
 
-pub one_named : (classes : Classes) (params : List ParamValue) (k : ℕ) (p : ParamValue) (kinds new : List Kind) (kind : Kind) (all : Judgement (List Kind)) → k < length params → p ≡ get_or params k p → param_named classes k (param_view p) ≡ Is kind → new ≡ kinds ++ kind ∷ [] → Left classes params k kinds all → Left classes params (k + 1) new all
+pub one_named : (classes : Classes) (params : List ParamValue) (k : ℕ) (p : ParamValue) (kinds new : List Kind)
+    (kind : Kind) (all : Judgement (List Kind)) → k < length params → p ≡ get_or params k p
+    → param_named classes k (param_view p) ≡ Is kind → new ≡ kinds ++ kind ∷ [] → Left classes params k kinds all
+    → Left classes params (k + 1) new all
 one_named classes params k p kinds new kind all less is named pushed so_far =
     let next : k + 1 ≡ suc k = omega arith in
-    let left = λ (rest : List ParamValue) (j : Judgement Kind). and_then (λ ks. Is (kinds ++ ks)) (and_then (λ kd. and_then (λ ks. Is (kd ∷ ks)) (params_named classes (k + 1) (map param_view rest))) j) in
+    let left = λ (rest : List ParamValue) (j : Judgement Kind). and_then (λ ks. Is (kinds ++ ks))
+    (and_then (λ kd. and_then (λ ks. Is (kd ∷ ks)) (params_named classes (k + 1) (map param_view rest))) j) in
     so_far ∙ ap (λ ps. and_then (λ ks. Is (kinds ++ ks)) (params_named classes k (map param_view ps))) (here params k p less is)
     ∙ ap (left (drop (suc k) params)) named
     ∙ behind kinds kind (params_named classes (k + 1) (map param_view (drop (suc k) params)))
     ∙ ap (λ ks'. and_then (λ ks. Is (ks' ++ ks)) (params_named classes (k + 1) (map param_view (drop (suc k) params)))) (sym pushed)
     ∙ ap (λ n. and_then (λ ks. Is (new ++ ks)) (params_named classes (k + 1) (map param_view (drop n params)))) (sym next)
 
-pub one_wrong : (classes : Classes) (params : List ParamValue) (k : ℕ) (p : ParamValue) (kinds : List Kind) (e : Fault RuleCode) (all : Judgement (List Kind)) → k < length params → p ≡ get_or params k p → Judges {A = Kind} {T = Kind} (λ kd. kd) (param_named classes k (param_view p)) (Err e) → Left classes params k kinds all → Judges {A = List Kind} {T = Vec Kind Global} (λ ks. ks.items) all (Err e)
+pub one_wrong : (classes : Classes) (params : List ParamValue) (k : ℕ) (p : ParamValue) (kinds : List Kind)
+    (e : Fault RuleCode) (all : Judgement (List Kind)) → k < length params → p ≡ get_or params k p
+    → Judges {A = Kind} {T = Kind} (λ kd. kd) (param_named classes k (param_view p)) (Err e)
+    → Left classes params k kinds all → Judges {A = List Kind} {T = Vec Kind Global} (λ ks. ks.items) all (Err e)
 one_wrong classes params k p kinds (Refused c at) all less is wrong so_far =
     so_far ∙ ap (λ ps. and_then (λ ks. Is (kinds ++ ks)) (params_named classes k (map param_view ps))) (here params k p less is)
     ∙ ap (λ j. and_then (λ ks. Is (kinds ++ ks)) (and_then (λ kd. and_then (λ ks. Is (kd ∷ ks)) (params_named classes (k + 1) (map param_view (drop (suc k) params)))) j)) wrong

@@ -41,7 +41,9 @@ module _ {A B : Type 0} (f : A → Option B) where
   one_of [] i b is = absurd (none-some b is)
   one_of (x ∷ xs) i b is = by (f x) refl i is (one_of xs)
     where
-      by : (o : Option B) → f x ≡ o → (i : ℕ) → slice_get (cons_option o (filter_map f xs)) i ≡ Some b → ((i : ℕ) (b : B) → slice_get (filter_map f xs) i ≡ Some b → (k : ℕ) × (y : A) × (slice_get xs k ≡ Some y) × (f y ≡ Some b)) → (k : ℕ) × (y : A) × (slice_get (x ∷ xs) k ≡ Some y) × (f y ≡ Some b)
+      by : (o : Option B) → f x ≡ o → (i : ℕ) → slice_get (cons_option o (filter_map f xs)) i ≡ Some b
+          → ((i : ℕ) (b : B) → slice_get (filter_map f xs) i ≡ Some b → (k : ℕ) × (y : A) × (slice_get xs k ≡ Some y)
+          × (f y ≡ Some b)) → (k : ℕ) × (y : A) × (slice_get (x ∷ xs) k ≡ Some y) × (f y ≡ Some b)
       by None e i is rest = let (k, y, there, gives) = rest i b is in (suc k, y, there, gives)
       by (Some c) e zero is rest = (0, x, refl, e ∙ is)
       by (Some c) e (suc i) is rest = let (k, y, there, gives) = rest i b is in (suc k, y, there, gives)
@@ -54,9 +56,20 @@ module _ {A B : Type 0} (f : A → Option B) where
   pair_of (x ∷ xs) = λ i j a b less is at. by (f x) refl i j a b less is at (pair_of xs)
     where
       later : (a b : B) → Pair f xs a b → Pair f (x ∷ xs) a b
-      later a b p = record { first = suc p.first; second = suc p.second; before = p.before; behind = p.behind; order = omega (arith, p.order); first_there = p.first_there; second_there = p.second_there; first_gives = p.first_gives; second_gives = p.second_gives }
+      later a b p = record {
+        first = suc p.first;
+        second = suc p.second;
+        before = p.before;
+        behind = p.behind;
+        order = omega (arith, p.order);
+        first_there = p.first_there;
+        second_there = p.second_there;
+        first_gives = p.first_gives;
+        second_gives = p.second_gives;
+      }
 
-      by : (o : Option B) → f x ≡ o → (i j : ℕ) (a b : B) → i < j → slice_get (cons_option o (filter_map f xs)) i ≡ Some a → slice_get (cons_option o (filter_map f xs)) j ≡ Some b → Pairs xs → Pair f (x ∷ xs) a b
+      by : (o : Option B) → f x ≡ o → (i j : ℕ) (a b : B) → i < j → slice_get (cons_option o (filter_map f xs)) i
+          ≡ Some a → slice_get (cons_option o (filter_map f xs)) j ≡ Some b → Pairs xs → Pair f (x ∷ xs) a b
       by None e i j a b less is at rest = later a b (rest i j a b less is at)
       by (Some c) e i zero a b less is at rest = absurd (omega (arith, less))
       by (Some c) e zero (suc j) a b less is at rest =
@@ -70,7 +83,8 @@ is_meant : (j : Judgement Meaning) (m : Meaning) → meaning_if j ≡ Some m →
 is_meant (Is n) m is = let e : n ≡ m = cc in ap Is e
 is_meant (Wrong c at) m is = absurd (none-some m is)
 
-module _ {A : Type 0} (classes : Classes) (ds : List Located) (part : Meaning → Option A) (Of : Located → A → Type 0) (of : (d : Located) (m : Meaning) (a : A) → meant classes ds d ≡ Is m → part m ≡ Some a → Of d a)
+module _ {A : Type 0} (classes : Classes) (ds : List Located) (part : Meaning → Option A) (Of : Located → A → Type 0)
+    (of : (d : Located) (m : Meaning) (a : A) → meant classes ds d ≡ Is m → part m ≡ Some a → Of d a)
     (test : A → A → Bool) (clash : Located → Located → Bool) (clashing : (d e : Located) (a b : A) → Of d a → Of e b → test a b ≡ true → clash e d ≡ true)
     (none : (j : ℕ) (e : Located) (b : A) → slice_get ds j ≡ Some e → Of e b → list_any (clash e) (take j ds) ≡ false) where
   -- where none clashes with one before it, of no two parts the test is true
@@ -96,14 +110,20 @@ clash_on_line classes d e a b of other so = by (bytes_eq a.name b.name) refl (is
     sub_there v w x y is at sub = or_right (bytes_eq v w) (is_sub_or_none classes (class_of_name classes v) (class_of_name classes w)) (ap₂ (is_sub_or_none classes) is at ∙ sub)
 
     names : bytes_eq a.name b.name ≡ true → (is_attribute d.decl.form && bytes_eq (name_text e) (name_text d)) ≡ true
-    names same = and_true (is_attribute d.decl.form) (bytes_eq (name_text e) (name_text d)) of.0 (equal (name_text e) (name_text d) (sym other.2 ∙ sym ((bytes_eq-Decides a.name b.name).0 same) ∙ of.2))
+    names same = and_true (is_attribute d.decl.form) (bytes_eq (name_text e) (name_text d)) of.0
+        (equal (name_text e) (name_text d) (sym other.2 ∙ sym ((bytes_eq-Decides a.name b.name).0 same) ∙ of.2))
 
     whole : bytes_eq a.name b.name ≡ true → is_on_one_line classes (class_text e) (class_text d) ≡ true → clashes classes e d ≡ true
-    whole same line = and_true (is_attribute d.decl.form && bytes_eq (name_text e) (name_text d)) (differs e.decl.form d.decl.form || is_on_one_line classes (class_text e) (class_text d)) (names same) (or_right (differs e.decl.form d.decl.form) (is_on_one_line classes (class_text e) (class_text d)) line)
+    whole same line = and_true (is_attribute d.decl.form && bytes_eq (name_text e) (name_text d))
+        (differs e.decl.form d.decl.form || is_on_one_line classes (class_text e) (class_text d)) (names same)
+        (or_right (differs e.decl.form d.decl.form) (is_on_one_line classes (class_text e) (class_text d)) line)
 
-    by : (n : Bool) → bytes_eq a.name b.name ≡ n → (s : Bool) → is_sub classes a.class b.class ≡ s → (t : Bool) → is_sub classes b.class a.class ≡ t → (n && (s || t)) ≡ true → clashes classes e d ≡ true
-    by true n true s t u h = whole n (or_right (is_below classes (class_text e) (class_text d)) (is_below classes (class_text d) (class_text e)) (sub_there (class_text d) (class_text e) a.class b.class of.1 other.1 s))
-    by true n false s true u h = whole n (or_left (is_below classes (class_text e) (class_text d)) (is_below classes (class_text d) (class_text e)) (sub_there (class_text e) (class_text d) b.class a.class other.1 of.1 u))
+    by : (n : Bool) → bytes_eq a.name b.name ≡ n → (s : Bool) → is_sub classes a.class b.class ≡ s → (t : Bool)
+        → is_sub classes b.class a.class ≡ t → (n && (s || t)) ≡ true → clashes classes e d ≡ true
+    by true n true s t u h = whole n (or_right (is_below classes (class_text e) (class_text d)) (is_below classes
+        (class_text d) (class_text e)) (sub_there (class_text d) (class_text e) a.class b.class of.1 other.1 s))
+    by true n false s true u h = whole n (or_left (is_below classes (class_text e) (class_text d)) (is_below classes
+        (class_text d) (class_text e)) (sub_there (class_text e) (class_text d) b.class a.class other.1 of.1 u))
     by true n false s false u h = absurd (true≢false (sym h))
     by false n s r t u h = absurd (true≢false (sym h))
 
@@ -122,12 +142,18 @@ option_turned (Some i) (Some j) = nat_eq_equiv.symm i j
 pub singles : (classes : Classes) (ds : List Located) → declared_twice classes ds ≡ None → equation_twice ds ≡ None → AreSingle (rules_of classes ds)
 singles classes ds once single = record {
   attributes = λ i j a b less is at name. second_true (bytes_eq a.name b.name) (is_sub classes a.class b.class || is_sub classes b.class a.class) name
-      (never_both classes ds (λ (m : Meaning). m.attribute) (OfAttribute classes) (λ d m a is there. said (OfAttribute classes d) m.attribute a there (of_words classes ds d m is).attribute) (is_again classes) (clashes classes) (clash_on_line classes)
+      (never_both classes ds (λ (m : Meaning). m.attribute) (OfAttribute classes)
+      (λ d m a is there. said (OfAttribute classes d) m.attribute a there (of_words classes ds d m is).attribute)
+      (is_again classes) (clashes classes) (clash_on_line classes)
       (λ j e b there of. no_clash classes ds j e (slice_get_within ds j e there) (sym (get_or_from_slice_get ds j e e there)) once of.0) i j a b less is at);
-  own = never_both classes ds (λ (m : Meaning). m.own) (OfOwn classes ds) (λ d m a is there. said (OfOwn classes ds d) m.own a there (of_words classes ds d m is).own) (λ (e f : OwnEquation). nat_eq e.class f.class && nat_eq e.attribute f.attribute) is_same_equation
+  own = never_both classes ds (λ (m : Meaning). m.own) (OfOwn classes ds)
+      (λ d m a is there. said (OfOwn classes ds d) m.own a there (of_words classes ds d m is).own)
+      (λ (e f : OwnEquation). nat_eq e.class f.class && nat_eq e.attribute f.attribute) is_same_equation
       (λ d e a b of other so. same_own classes ds e d b a other of (turned_own a b so))
       (λ j e b there of. no_equation ds j e (slice_get_within ds j e there) (sym (get_or_from_slice_get ds j e e there)) single);
-  inherited = never_both classes ds (λ (m : Meaning). m.inherited) (OfInherited classes) (λ d m a is there. said (OfInherited classes d) m.inherited a there (of_words classes ds d m is).inherited) (λ (e f : InheritedEquation). (nat_eq e.class f.class && option_eq nat_eq e.part f.part) && bytes_eq e.name f.name) is_same_equation
+  inherited = never_both classes ds (λ (m : Meaning). m.inherited) (OfInherited classes) (λ d m a is there. said
+      (OfInherited classes d) m.inherited a there (of_words classes ds d m is).inherited) (λ (e f : InheritedEquation).
+      (nat_eq e.class f.class && option_eq nat_eq e.part f.part) && bytes_eq e.name f.name) is_same_equation
       (λ d e a b of other so. same_inherited classes e d b a other of (turned_inherited a b so))
       (λ j e b there of. no_equation ds j e (slice_get_within ds j e there) (sym (get_or_from_slice_get ds j e e there)) single);
 }
@@ -135,7 +161,9 @@ singles classes ds once single = record {
     turned_own : (a b : OwnEquation) → (nat_eq a.class b.class && nat_eq a.attribute b.attribute) ≡ true → (nat_eq b.class a.class && nat_eq b.attribute a.attribute) ≡ true
     turned_own a b so = ap₂ (λ x y. x && y) (nat_eq_equiv.symm b.class a.class) (nat_eq_equiv.symm b.attribute a.attribute) ∙ so
 
-    turned_inherited : (a b : InheritedEquation) → ((nat_eq a.class b.class && option_eq nat_eq a.part b.part) && bytes_eq a.name b.name) ≡ true → ((nat_eq b.class a.class && option_eq nat_eq b.part a.part) && bytes_eq b.name a.name) ≡ true
+    turned_inherited : (a b : InheritedEquation)
+        → ((nat_eq a.class b.class && option_eq nat_eq a.part b.part) && bytes_eq a.name b.name) ≡ true
+        → ((nat_eq b.class a.class && option_eq nat_eq b.part a.part) && bytes_eq b.name a.name) ≡ true
     turned_inherited a b so = ap₂ (λ x y. x && y) (ap₂ (λ x y. x && y) (nat_eq_equiv.symm b.class a.class) (option_turned b.part a.part)) (nat_list_eq_equiv.symm b.name a.name) ∙ so
 
 -- rules that are built have one of each

@@ -26,12 +26,14 @@ apart classes v w m first second = by (bytes_eq v w) refl
     by false is = refl
     by true is = absurd (none-some _ (sym second ∙ ap (class_of_name classes) (sym (bytes_same v w is)) ∙ first))
 
-alike_class : {Z : Type 0} (classes : Classes) (unknown : List (String Z)) (v w : List ℕ) (o p q r : Option ℕ) → class_of_name classes v ≡ o → class_of_name classes w ≡ p → number_in unknown v ≡ q → number_in unknown w ≡ r
+alike_class : {Z : Type 0} (classes : Classes) (unknown : List (String Z)) (v w : List ℕ) (o p q r : Option ℕ)
+    → class_of_name classes v ≡ o → class_of_name classes w ≡ p → number_in unknown v ≡ q → number_in unknown w ≡ r
     → (c b : NamedClass) → class_or_unknown o q ≡ Some c → class_or_unknown p r ≡ Some b → same_class c b ≡ bytes_eq v w
 alike_class classes unknown v w (Some m) (Some n) q r first second here there c b is js = moved (Known m) (Known n) c b (bytes_eq v w) is js (agree (λ k. k.name) classes v w m n first second)
 alike_class classes unknown v w (Some m) None q (Some n) first second here there c b is js = moved (Known m) (Unknown n) c b (bytes_eq v w) is js (sym (apart classes v w m first second))
 alike_class classes unknown v w (Some m) None q None first second here there c b is js = absurd (none-some _ js)
-alike_class classes unknown v w None (Some n) (Some m) r first second here there c b is js = moved (Unknown m) (Known n) c b (bytes_eq v w) is js (sym (nat_list_eq_equiv.symm v w ∙ apart classes w v n second first))
+alike_class classes unknown v w None (Some n) (Some m) r first second here there c b is js = moved (Unknown m) (Known n)
+    c b (bytes_eq v w) is js (sym (nat_list_eq_equiv.symm v w ∙ apart classes w v n second first))
 alike_class classes unknown v w None (Some n) None r first second here there c b is js = absurd (none-some _ is)
 alike_class classes unknown v w None None (Some m) (Some n) first second here there c b is js = moved (Unknown m) (Unknown n) c b (bytes_eq v w) is js (agree string_bytes unknown v w m n here there)
 alike_class classes unknown v w None None (Some m) None first second here there c b is js = absurd (none-some _ js)
@@ -74,7 +76,9 @@ numbered classes unknown names ds all = record {
     }
 
 -- one more of each
-pub both_more : {X Y A : Type 0} (f : X → A) (g : Y → A) (old new : List X) (ys : List Y) (k : ℕ) (x : X) (y : Y) → new ≡ old ++ x ∷ [] → k < length ys → y ≡ get_or ys k y → f x ≡ g y → map f old ≡ map g (take k ys) → map f new ≡ map g (take (k + 1) ys)
+pub both_more : {X Y A : Type 0} (f : X → A) (g : Y → A) (old new : List X) (ys : List Y) (k : ℕ) (x : X) (y : Y)
+    → new ≡ old ++ x ∷ [] → k < length ys → y ≡ get_or ys k y → f x ≡ g y → map f old ≡ map g (take k ys)
+    → map f new ≡ map g (take (k + 1) ys)
 both_more f g old new ys k x y pushed less is same so_far =
     ap (map f) pushed ∙ map-append f old (x ∷ []) ∙ ap (λ zs. zs ++ f x ∷ []) so_far ∙ ap (λ z. map g (take k ys) ++ z ∷ []) (same ∙ ap g is) ∙ sym (map_more g ys k y less)
 

@@ -49,7 +49,9 @@ module _ (t : Tree) (e : Edit) where
   value_carried (Ref None) h = (Ref None, ref neither)
   value_carried (Ref (Some n)) h = let (m, is) = h n refl in (Ref (Some m), ref (both is))
 
-  values_carried : (vs : List (Value Node)) → AllByRecursion (IsValueThere t) vs → ((n : Node) → Among (Is n) (argument_classes vs) → IsThere t n → Goes n) → (ws : List (Value Node)) × ListLike (ValueLike (Names (carried e))) vs ws
+  values_carried : (vs : List (Value Node)) → AllByRecursion (IsValueThere t) vs
+      → ((n : Node) → Among (Is n) (argument_classes vs) → IsThere t n → Goes n)
+      → (ws : List (Value Node)) × ListLike (ValueLike (Names (carried e))) vs ws
   values_carried [] h goes = ([], end)
   values_carried (v ∷ vs) h goes =
       let (w, like) = value_carried v (λ n is. goes n (head_class (ref_of v) n (argument_classes vs) is) (there t (ref_of v) n is h.0)) in
@@ -73,7 +75,13 @@ module _ (rules : Rules) (t u : Tree) (e : Edit) (made : edited rules.classes t 
   pub instance_carried : (i : Instance Node) → IsInstanceThere t i → IsUntouched rules t e i → (j : Instance Node) × InstanceLike (Names (carried e)) i j
   instance_carried i is free =
       let (m, goes) = untouched_goes i.node is.node (free (Is i.node) (i, inl refl, inl refl)) in
-      let (ws, like) = values_carried t e i.arguments is.arguments (λ n a here. untouched_goes n here (free (Is n) (i, inl refl, inr (looked_sees (content t) (HasValue (content t) (equations rules)) _ _ (argument_classes i.arguments) (Is n) (past_them (content t) i.arguments _) a)))) in
+      let (ws, like) = values_carried t e i.arguments is.arguments (λ n a here. untouched_goes n here
+      (free (Is n) (
+        i,
+        inl refl,
+        inr (looked_sees (content t) (HasValue (content t) (equations rules))
+            _ _ (argument_classes i.arguments) (Is n) (past_them (content t) i.arguments _) a),
+      ))) in
       (record { node = m; attribute = i.attribute; arguments = ws }, record { node = goes; attribute = refl; arguments = like })
 
   module _ (ok : conforms rules.classes t 0 ≡ true) where

@@ -24,7 +24,8 @@ use Rattle.at_model.proofs.of_edits.Moved.{left_is, move_conforms, move_alike, m
 pub carried_apart : (e : Edit) → IsInjective (carried e)
 carried_apart (Set node new) a b c e f = at_parent (parent_of node) e f
   where
-    at_parent : (o : Option (Node × Way)) → elim o [ None ↦ None | Some p ↦ moved_under p.0 (past_set p.1) a ] ≡ Some c → elim o [ None ↦ None | Some p ↦ moved_under p.0 (past_set p.1) b ] ≡ Some c → a ≡ b
+    at_parent : (o : Option (Node × Way)) → elim o [ None ↦ None | Some p ↦ moved_under p.0 (past_set p.1) a ] ≡ Some c
+        → elim o [ None ↦ None | Some p ↦ moved_under p.0 (past_set p.1) b ] ≡ Some c → a ≡ b
     at_parent None e f = absurd cc
     at_parent (Some p) e f = moved_apart (past_set p.1) (set_apart p.1) p.0 a b c e f
 carried_apart (Put node part new) a b c e f = moved_apart (past_put part) (put_apart part) node a b c e f
@@ -43,7 +44,9 @@ pub record IsMove (classes : Classes) (t : Tree) (node to : Node) (part index : 
   pub target : Node
   pub goes : past_taking node to ≡ Some target
 
-pub is_move : (classes : Classes) (t : Tree) (node to : Node) (part index : ℕ) → fits_as classes t node (option_and_then list_class (shape_at classes t to part)) ≡ true → is_element classes t node ≡ true → not (is_within node to) ≡ true → IsMove classes t node to part index
+pub is_move : (classes : Classes) (t : Tree) (node to : Node) (part index : ℕ)
+    → fits_as classes t node (option_and_then list_class (shape_at classes t to part)) ≡ true
+    → is_element classes t node ≡ true → not (is_within node to) ≡ true → IsMove classes t node to part index
 is_move classes t node to part index fit listed apart =
     let (v, found) = moved (option_and_then list_class (shape_at classes t to part)) fit in
     let (p, above, is_list) = element (parent_of node) refl listed in
@@ -58,8 +61,13 @@ is_move classes t node to part index fit listed apart =
     moved None e = absurd cc
     moved (Some b) e = at_node b (tree_at t node) refl e
 
-    element : (o : Option (Node × Way)) → parent_of node ≡ o → is_element classes t node ≡ true → (p : Node × Way) × (parent_of node ≡ Some p) × (is_some (option_and_then list_class (shape_at classes t p.0 p.1.0)) ≡ true)
-    element None is e = let f : false ≡ true = sym (ap (λ (o : Option (Node × Way)). elim o [ None ↦ false | Some p ↦ is_some (option_and_then list_class (shape_at classes t p.0 p.1.0)) ]) is) ∙ e in absurd cc
+    element : (o : Option (Node × Way)) → parent_of node ≡ o → is_element classes t node ≡ true → (p : Node × Way)
+        × (parent_of node ≡ Some p) × (is_some (option_and_then list_class (shape_at classes t p.0 p.1.0)) ≡ true)
+    element None is e = let f : false ≡ true = sym (ap (λ (o : Option (Node × Way)). elim o [
+      | None ↦ false
+      | Some p ↦
+          is_some (option_and_then list_class (shape_at classes t p.0 p.1.0))
+    ]) is) ∙ e in absurd cc
     element (Some p) is e = (p, is, sym (ap (λ (o : Option (Node × Way)). elim o [ None ↦ false | Some p ↦ is_some (option_and_then list_class (shape_at classes t p.0 p.1.0)) ]) is) ∙ e)
 
     outside : (o : Option Node) → past_taking node to ≡ o → is_none o ≡ false → (q : Node) × (past_taking node to ≡ Some q)
@@ -70,7 +78,9 @@ gone : (classes : Classes) (t u : Tree) (e : Edit) → IsAccepted classes t e u 
 gone classes t u (Set node new) made n v found = set_out node n (parent_of node) refl ∙ or_none (is_within node n) ∙ ap (λ b. is_within node n || b) (sym (around (parent_of node) _ (λ p. refl)))
 gone classes t u (Put node part new) made n v found = put_out part node n t v (no_children (children_of t node part) made.free) found
 gone classes t u (Drop node) made n v found =
-    drop_out node n (parent_of node) refl ∙ or_none (is_within node n) ∙ ap (λ b. is_within node n || b) (sym (around (parent_of node) _ (λ p. refl))) ∙ or_none _ ∙ ap (λ b. (is_within node n || elim (parent_of node) [ None ↦ false | Some p ↦ is_slot p.0 p.1.0 (Is n) ]) || b) (sym (around (parent_of node) _ (λ p. refl)))
+    drop_out node n (parent_of node) refl ∙ or_none (is_within node n) ∙ ap (λ b. is_within node n || b)
+    (sym (around (parent_of node) _ (λ p. refl))) ∙ or_none _ ∙ ap (λ b. (is_within node n || elim (parent_of node)
+    [ None ↦ false | Some p ↦ is_slot p.0 p.1.0 (Is n) ]) || b) (sym (around (parent_of node) _ (λ p. refl)))
 gone classes t u (Insert node part index new) made n v found = none_moved_out (past_insert (part, index)) (insert_out (part, index)) node n
 gone classes t u (Token node part w) made n v found = refl
 gone classes t u (Move node to part index) made n v found =
@@ -87,14 +97,22 @@ gone_where_touched classes t u e is n v found = gone classes t u e (accepted cla
 module _ (classes : Classes) where
   left_conforms : (t u : Tree) (e : Edit) → IsAccepted classes t e u → conforms classes t 0 ≡ true → conforms classes (left_by t e) 0 ≡ true
   left_conforms t u (Set node new) made ok = set_at classes t new node (parent_of node) refl made.fit ok
-  left_conforms t u (Put node part new) made ok = at_component classes optional_class (λ c. Filled new) t node part made.component (λ c shape sees old. fill classes new shape (seen classes optional_class (fits_class classes new) (shape_at classes t node part) shape sees made.fit)) 0 ok
+  left_conforms t u (Put node part new) made ok = at_component classes optional_class (λ c. Filled new) t node part
+      made.component (λ c shape sees old. fill classes new shape
+      (seen classes optional_class (fits_class classes new) (shape_at classes t node part) shape sees made.fit)) 0 ok
   left_conforms t u (Drop node) made ok = drop_at classes t (parent_of node) ok
-  left_conforms t u (Insert node part index new) made ok = at_component classes list_class (with_one_more new index) t node part made.component (λ c shape sees. one_more classes new index c shape (seen classes list_class (fits_class classes new) (shape_at classes t node part) shape sees made.fit)) 0 ok
-  left_conforms t u (Token node part v) made ok = at_component classes token_kind (λ c. Holds v) t node part made.component (λ c shape sees old. hold classes v shape (seen classes token_kind (fits_kind v) (shape_at classes t node part) shape sees made.fit)) 0 ok
+  left_conforms t u (Insert node part index new) made ok = at_component classes list_class (with_one_more new index) t
+      node part made.component (λ c shape sees. one_more classes new index c shape
+      (seen classes list_class (fits_class classes new) (shape_at classes t node part) shape sees made.fit)) 0 ok
+  left_conforms t u (Token node part v) made ok =
+      at_component classes token_kind (λ c. Holds v) t node part made.component (λ c shape sees old. hold classes v
+      shape (seen classes token_kind (fits_kind v) (shape_at classes t node part) shape sees made.fit)) 0 ok
   left_conforms t u (Move node to part index) made ok =
       let move = is_move classes t node to part index made.fit made.removable made.outside in
       let after = left_is classes t ok node to part index move.moved move.found move.place move.above move.listed move.target move.goes made.component made.fit made.index in
-      subst (λ (x : Tree). conforms classes x 0 ≡ true) (sym after) (move_conforms classes t ok node to part index move.moved move.found move.place move.above move.listed move.target move.goes made.component made.fit made.index)
+      subst (λ (x : Tree). conforms classes x 0 ≡ true) (sym after)
+      (move_conforms classes t ok node to part index move.moved move.found move.place move.above move.listed
+      move.target move.goes made.component made.fit made.index)
 
   pub accepted_conforms : (t : Tree) (e : Edit) (u : Tree) → conforms classes t 0 ≡ true → edited classes t e ≡ Ok u → (conforms classes u 0 ≡ true) × (is_within_limits u ≡ true)
   accepted_conforms t e u ok is =
@@ -124,10 +142,15 @@ module _ (classes : Classes) (t : Tree) (ok : conforms classes t 0 ≡ true) whe
 
   left_there : (e : Edit) (u : Tree) → IsAccepted classes t e u → (n m : Node) (v : Tree) → carried e n ≡ Some m → tree_at t n ≡ Some v → IsThere (left_by t e) m v (IsElsewhere (changed_nodes e) n)
   left_there (Set node new) u made n m v goes found = set_there classes t ok n m v found node new (parent_of node) refl goes
-  left_there (Put node part new) u made n m v goes found = as_there _ m n v node (cell_there (λ c. Filled new) part (past_put part) (put_keeps part) t node n m v (put_fits classes t ok node part new) goes found)
+  left_there (Put node part new) u made n m v goes found = as_there _ m n v node (cell_there (λ c. Filled new) part
+      (past_put part) (put_keeps part) t node n m v (put_fits classes t ok node part new) goes found)
   left_there (Drop node) u made n m v goes found = drop_there classes t ok n m v found (parent_of node) (not_false (is_plain classes t node) made.removable) goes
-  left_there (Insert node part index new) u made n m v goes found = as_there _ m n v node (cell_there (with_one_more new index) part (past_insert (part, index)) (insert_keeps (part, index)) t node n m v (insert_fits classes t ok node part index new made.component made.index) goes found)
-  left_there (Token node part w) u made n m v goes found = as_there _ m n v node (cell_there (λ c. Holds w) part (λ (s : Way). Some s) (nothing_keeps part) t node n m v (token_fits classes t ok node part w made.component) (moved_nowhere node n ∙ goes) found)
+  left_there (Insert node part index new) u made n m v goes found = as_there _ m n v node
+      (cell_there (with_one_more new index) part (past_insert (part, index)) (insert_keeps (part, index)) t node n m v
+      (insert_fits classes t ok node part index new made.component made.index) goes found)
+  left_there (Token node part w) u made n m v goes found =
+      as_there _ m n v node (cell_there (λ c. Holds w) part (λ (s : Way). Some s) (nothing_keeps part) t node n m v
+      (token_fits classes t ok node part w made.component) (moved_nowhere node n ∙ goes) found)
   left_there (Move node to part index) u made n m v goes found =
       let move = is_move classes t node to part index made.fit made.removable made.outside in
       let after = left_is classes t ok node to part index move.moved move.found move.place move.above move.listed move.target move.goes made.component made.fit made.index in
@@ -137,7 +160,9 @@ module _ (classes : Classes) (t : Tree) (ok : conforms classes t 0 ≡ true) whe
       (subst (λ (x : Tree). IsThere x m v (IsElsewhere (to ∷ move.place.0 ∷ []) n)) (sym after)
       (move_there classes t ok node to part index move.moved move.found move.place move.above move.listed move.target move.goes made.component made.fit made.index n m v how found))
 
-pub carried_there : (classes : Classes) (t u : Tree) (e : Edit) → conforms classes t 0 ≡ true → edited classes t e ≡ Ok u → (n m : Node) (v : Tree) → carried e n ≡ Some m → tree_at t n ≡ Some v → IsThere u m v (IsElsewhere (changed_nodes e) n)
+pub carried_there : (classes : Classes) (t u : Tree) (e : Edit) → conforms classes t 0 ≡ true
+    → edited classes t e ≡ Ok u → (n m : Node) (v : Tree) → carried e n ≡ Some m → tree_at t n ≡ Some v
+    → IsThere u m v (IsElsewhere (changed_nodes e) n)
 carried_there classes t u e ok is n m v goes found =
     let made = accepted classes t e u is in
     subst (λ (x : Tree). IsThere x m v (IsElsewhere (changed_nodes e) n)) made.left (left_there classes t ok e u made n m v goes found)

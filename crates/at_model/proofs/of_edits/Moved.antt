@@ -40,11 +40,15 @@ removed-length (x ∷ xs) zero a e = omega arith
 removed-length (x ∷ xs) (suc i) a e = let f = removed-length xs i a e in omega (arith, f)
 
 -- what is alike twice is alike
-lists_on : {A B C : Type 0} {R : A → B → Type 0} {S : B → C → Type 0} {T : A → C → Type 0} → ((a : A) (b : B) (c : C) → R a b → S b c → T a c) → {as' : List A} {bs : List B} {cs : List C} → ListLike R as' bs → ListLike S bs cs → ListLike T as' cs
+lists_on : {A B C : Type 0} {R : A → B → Type 0} {S : B → C → Type 0} {T : A → C → Type 0}
+    → ((a : A) (b : B) (c : C) → R a b → S b c → T a c) → {as' : List A} {bs : List B} {cs : List C} → ListLike R as' bs
+    → ListLike S bs cs → ListLike T as' cs
 lists_on h alike.end alike.end = alike.end
 lists_on h (alike.more r rs) (alike.more s ss) = alike.more (h _ _ _ r s) (lists_on h rs ss)
 
-options_on : {A B C : Type 0} {R : A → B → Type 0} {S : B → C → Type 0} {T : A → C → Type 0} → ((a : A) (b : B) (c : C) → R a b → S b c → T a c) → {o : Option A} {p : Option B} {q : Option C} → OptionLike R o p → OptionLike S p q → OptionLike T o q
+options_on : {A B C : Type 0} {R : A → B → Type 0} {S : B → C → Type 0} {T : A → C → Type 0}
+    → ((a : A) (b : B) (c : C) → R a b → S b c → T a c) → {o : Option A} {p : Option B} {q : Option C}
+    → OptionLike R o p → OptionLike S p q → OptionLike T o q
 options_on h alike.neither alike.neither = alike.neither
 options_on h (alike.both r) (alike.both s) = alike.both (h _ _ _ r s)
 
@@ -76,10 +80,12 @@ same_then f h None same = refl
 same_then f h (Some v) same = same v
 
 -- where the shape of a component is seen, its cell is there
-pub part_there : (classes : Classes) (t : Tree) → conforms classes t 0 ≡ true → (n : Node) (part : ℕ) (w : Tree) (shape : Shape) → tree_at t n ≡ Some w → shape_at classes t n part ≡ Some shape → cell_at w part ≡ None → ⊥
+pub part_there : (classes : Classes) (t : Tree) → conforms classes t 0 ≡ true → (n : Node) (part : ℕ) (w : Tree)
+    (shape : Shape) → tree_at t n ≡ Some w → shape_at classes t n part ≡ Some shape → cell_at w part ≡ None → ⊥
 part_there classes t ok n part (branch k cells) shape there is none =
     let (b, conf) = conforms_at classes t 0 n (branch k cells) ok there in
-    let e : option_map (λ c. c.shape) (slice_get (parts classes k) part) ≡ Some shape = sym (ap (option_and_then (λ x. option_map (λ c. c.shape) (slice_get (parts classes (class_of x)) part))) there) ∙ is in
+    let e : option_map (λ c. c.shape) (slice_get (parts classes k) part) ≡ Some shape = sym (ap (option_and_then
+    (λ x. option_map (λ c. c.shape) (slice_get (parts classes (class_of x)) part))) there) ∙ is in
     let (c, here, f) = mapped (λ (c : Component). c.shape) (slice_get (parts classes k) part) shape e in
     cells_there classes cells (parts classes k) part c (both (fits classes k b) (cells_conform classes cells (parts classes k)) conf).1 here none
 
@@ -129,7 +135,9 @@ module _ (classes : Classes) (t : Tree) (ok : conforms classes t 0 ≡ true) (no
   shape_same =
       let see : Tree → Option Shape = λ x. option_map (λ c. c.shape) (slice_get (parts classes (class_of x)) part) in
       ap (option_and_then see) (found_between to q target) ∙
-      same_then see (local (without_child p.1.1) p.1.0 (past_drop p.1) p.0 to) (tree_at t to) (λ v. ap (λ c. option_map (λ x. x.shape) (slice_get (parts classes c) part)) (local_class (without_child p.1.1) p.1.0 (past_drop p.1) (drop_keeps p.1) p.0 to v))
+      same_then see (local (without_child p.1.1) p.1.0 (past_drop p.1) p.0 to) (tree_at t to)
+      (λ v. ap (λ c. option_map (λ x. x.shape) (slice_get (parts classes c) part))
+      (local_class (without_child p.1.1) p.1.0 (past_drop p.1) (drop_keeps p.1) p.0 to v))
 
   pub has1 : has_component classes between (Insert q part index u) ≡ true
   has1 = ap (λ (o : Option Shape). is_some (option_and_then list_class o)) shape_same ∙ has
@@ -149,13 +157,16 @@ module _ (classes : Classes) (t : Tree) (ok : conforms classes t 0 ≡ true) (no
   count_is =
       let (shape, is) = wanted classes list_class (shape_at classes t to part) has in
       let (v, at') = lives classes t to part shape is in
-      let now : tree_at between q ≡ Some (local (without_child p.1.1) p.1.0 (past_drop p.1) p.0 to v) = found_between to q target ∙ ap (option_map (local (without_child p.1.1) p.1.0 (past_drop p.1) p.0 to)) at' in
+      let now : tree_at between q ≡ Some (local (without_child p.1.1) p.1.0 (past_drop p.1) p.0 to v) =
+      found_between to q target ∙ ap (option_map (local (without_child p.1.1) p.1.0 (past_drop p.1) p.0 to)) at' in
       let child : is_child to part node ≡ (node_eq to p.0 && nat_eq part p.1.0) = ap (λ (o : Option (Node × Way)). elim o [ None ↦ false | Some x ↦ node_eq to x.0 && nat_eq part x.1.0 ]) above in
       ap (λ (o : Option Tree). length (elim o as (λ _. List Tree) [ None ↦ [] | Some x ↦ children_at x part ])) now ∙
       by_list v at' (is_child to part node) child ∙
       sym (ap (λ (o : Option Tree). length (elim o as (λ _. List Tree) [ None ↦ [] | Some x ↦ children_at x part ]) - cond (is_child to part node) 1 0) at')
     where
-      by_list : (v : Tree) → tree_at t to ≡ Some v → (b : Bool) → b ≡ (node_eq to p.0 && nat_eq part p.1.0) → length (children_at (local (without_child p.1.1) p.1.0 (past_drop p.1) p.0 to v) part) ≡ length (children_at v part) - cond b 1 0
+      by_list : (v : Tree) → tree_at t to ≡ Some v → (b : Bool) → b ≡ (node_eq to p.0 && nat_eq part p.1.0)
+          → length (children_at (local (without_child p.1.1) p.1.0 (past_drop p.1) p.0 to v) part)
+          ≡ length (children_at v part) - cond b 1 0
       by_list v at' false differ =
           local_told (without_child p.1.1) p.1.0 (past_drop p.1) (drop_keeps p.1) (λ o. length (in_cell o)) (λ k i c. child-length k i c) p.0 to v part
           (λ same c here. absurd (turned same)) ∙ less_none (length (children_at v part))
@@ -185,7 +196,8 @@ module _ (classes : Classes) (t : Tree) (ok : conforms classes t 0 ≡ true) (no
               let g : option_and_then (λ x. Some x) (slice_get (children_at v p.1.0) p.1.1) ≡ Some u = sym (ap (option_and_then (λ x. tree_at x (p.1 ∷ []))) there) ∙ f in
               let (x, h, k) = led (λ (x : Tree). Some x) (slice_get (children_at v p.1.0) p.1.1) u g in h ∙ k
 
-          by_cell : (v : Tree) → tree_at t p.0 ≡ Some v → (o : Option Cell) → cell_at v p.1.0 ≡ o → slice_get (in_cell o) p.1.1 ≡ Some u → length (in_cell (option_map (without_child p.1.1) o)) ≡ length (in_cell o) - 1
+          by_cell : (v : Tree) → tree_at t p.0 ≡ Some v → (o : Option Cell) → cell_at v p.1.0 ≡ o → slice_get (in_cell
+              o) p.1.1 ≡ Some u → length (in_cell (option_map (without_child p.1.1) o)) ≡ length (in_cell o) - 1
           by_cell v there None here child = absurd cc
           by_cell v there (Some c) here child =
               let (shape, sees, conf) = component_there classes t ok list_class p.0 p.1.0 v c listed there here in
@@ -198,7 +210,9 @@ module _ (classes : Classes) (t : Tree) (ok : conforms classes t 0 ≡ true) (no
   range1 = ap (nat_le index) count_is ∙ range
 
   pub move_conforms : conforms classes after 0 ≡ true
-  move_conforms = at_component classes list_class (with_one_more u index) between q part has1 (λ c shape sees. one_more classes u index c shape (seen classes list_class (fits_class classes u) (shape_at classes between q part) shape sees fit1)) 0 ok1
+  move_conforms = at_component classes list_class (with_one_more u index) between q part has1
+      (λ c shape sees. one_more classes u index c shape
+      (seen classes list_class (fits_class classes u) (shape_at classes between q part) shape sees fit1)) 0 ok1
 
   -- what stands at the new place and below it
   pub new_place : (rest : Node) → tree_at after (q ++ (part, index) ∷ rest) ≡ tree_at u rest
@@ -245,7 +259,8 @@ module _ (classes : Classes) (t : Tree) (ok : conforms classes t 0 ≡ true) (no
       }
   move_there n m v (apart k taken put) there =
       let (w, here, class, same) = cell_there (without_child p.1.1) p.1.0 (past_drop p.1) (drop_keeps p.1) t p.0 n k v (drop_fits classes t ok p plain) (sym (taking_is n) ∙ taken) there in
-      let (x, now, also, still) = cell_there (with_one_more u index) part (past_insert (part, index)) (insert_keeps (part, index)) between q k m w (insert_fits classes between ok1 q part index u has1 range1) put here in
+      let (x, now, also, still) = cell_there (with_one_more u index) part (past_insert (part, index)) (insert_keeps
+      (part, index)) between q k m w (insert_fits classes between ok1 q part index u has1 range1) put here in
       record {
         now = x;
         there = now;
@@ -297,7 +312,8 @@ module _ (classes : Classes) (t : Tree) (ok : conforms classes t 0 ≡ true) (no
       taken_child node to n q k part target taken e
 
   -- the children of a node that is moved along
-  children_along : (rest : Node) (r : ℕ) (xs : List Tree) (i : ℕ) → ListLike (Names (carried (Move node to part index))) (child_nodes (node ++ rest) r i xs) (child_nodes (q ++ (part, index) ∷ rest) r i xs)
+  children_along : (rest : Node) (r : ℕ) (xs : List Tree) (i : ℕ) → ListLike (Names (carried (Move node to part index)))
+      (child_nodes (node ++ rest) r i xs) (child_nodes (q ++ (part, index) ∷ rest) r i xs)
   children_along rest r [] i = alike.end
   children_along rest r (x ∷ xs) i =
       let e : carried (Move node to part index) ((node ++ rest) ++ (r, i) ∷ []) ≡ Some ((q ++ (part, index) ∷ rest) ++ (r, i) ∷ []) =
@@ -326,7 +342,9 @@ module _ (classes : Classes) (t : Tree) (ok : conforms classes t 0 ≡ true) (no
           absurd (not_both _ e (all_off (is_up node (Up (node ++ rest))) _ _ _ _ free).0)
       by_end (inr (y, s, ends)) =
           let before : parent_of (node ++ rest) ≡ Some (node ++ y, s) = ap (λ x. parent_of (node ++ x)) ends ∙ ap parent_of (sym (append_assoc node y (s ∷ []))) ∙ parent_of-snoc (node ++ y) s in
-          let now : parent_of (q ++ (part, index) ∷ rest) ≡ Some (q ++ (part, index) ∷ y, s) = ap (λ x. parent_of (q ++ (part, index) ∷ x)) ends ∙ ap parent_of (sym (append_assoc q ((part, index) ∷ y) (s ∷ []))) ∙ parent_of-snoc (q ++ (part, index) ∷ y) s in
+          let now : parent_of (q ++ (part, index) ∷ rest) ≡ Some (q ++ (part, index) ∷ y, s) =
+          ap (λ x. parent_of (q ++ (part, index) ∷ x)) ends ∙ ap parent_of
+          (sym (append_assoc q ((part, index) ∷ y) (s ∷ []))) ∙ parent_of-snoc (q ++ (part, index) ∷ y) s in
           subst (λ (x : Option (Node × Way)). SameUp (up_of x) (up_of (parent_of (q ++ (part, index) ∷ rest)))) (sym before)
           (subst (λ (x : Option (Node × Way)). SameUp (Some (node ++ y, s.0)) (up_of x)) (sym now) (alike.both (rides y, refl)))
 
@@ -339,12 +357,17 @@ module _ (classes : Classes) (t : Tree) (ok : conforms classes t 0 ≡ true) (no
       by_end : (rest ≡ []) ⊎ ((y : Node) × (s : Way) × (rest ≡ y ++ s ∷ [])) → index_of (parent_of (node ++ rest)) ≡ index_of (parent_of (q ++ (part, index) ∷ rest))
       by_end (inl none) =
           let same : node ++ rest ≡ node = ap (λ x. node ++ x) none ∙ append-nil node in
-          let e : is_index_around node (Idx node) ≡ true = index_around_is (Idx node) ∙ ap (λ (o : Option (Node × Way)). elim o [ None ↦ false | Some x ↦ node_eq p.0 x.0 && nat_eq p.1.0 x.1.0 ]) above ∙ and_true _ _ (node_eq-refl p.0) (true_if p.1.0 p.1.0 refl) in
-          let f = (all_off (is_up node (Idx (node ++ rest))) (is_slot_around node (Idx (node ++ rest))) (is_slot to part (Idx (node ++ rest))) (is_index_around node (Idx (node ++ rest))) (is_index to part (Idx (node ++ rest))) free).3 in
+          let e : is_index_around node (Idx node) ≡ true = index_around_is (Idx node) ∙ ap (λ (o : Option (Node × Way)).
+          elim o [ None ↦ false | Some x ↦ node_eq p.0 x.0 && nat_eq p.1.0 x.1.0 ]) above
+          ∙ and_true _ _ (node_eq-refl p.0) (true_if p.1.0 p.1.0 refl) in
+          let f = (all_off (is_up node (Idx (node ++ rest))) (is_slot_around node (Idx (node ++ rest)))
+          (is_slot to part (Idx (node ++ rest))) (is_index_around node (Idx (node ++ rest)))
+          (is_index to part (Idx (node ++ rest))) free).3 in
           absurd (not_both _ (subst (λ (x : Node). is_index_around node (Idx x) ≡ true) (sym same) e) f)
       by_end (inr (y, s, ends)) =
           ap (λ x. index_of (parent_of (node ++ x))) ends ∙ ap (λ x. index_of (parent_of x)) (sym (append_assoc node y (s ∷ []))) ∙ ap index_of (parent_of-snoc (node ++ y) s) ∙
-          sym (ap (λ x. index_of (parent_of (q ++ (part, index) ∷ x))) ends ∙ ap (λ x. index_of (parent_of x)) (sym (append_assoc q ((part, index) ∷ y) (s ∷ []))) ∙ ap index_of (parent_of-snoc (q ++ (part, index) ∷ y) s))
+          sym (ap (λ x. index_of (parent_of (q ++ (part, index) ∷ x))) ends ∙ ap (λ x. index_of (parent_of x)) (sym
+          (append_assoc q ((part, index) ∷ y) (s ∷ []))) ∙ ap index_of (parent_of-snoc (q ++ (part, index) ∷ y) s))
 
   abbrev First : Node → Node → Type 0
   First = Names (moved_under p.0 (past_drop p.1))
@@ -363,20 +386,25 @@ module _ (classes : Classes) (t : Tree) (ok : conforms classes t 0 ≡ true) (no
   move_alike l m free (alike.is {n = n} {m = k} r) = by_way (way n k r)
     where
       by_way : Goes node q part index n k → content t (Is n) ≡ content after (Is k)
-      by_way (along rest is ends) = ap (λ x. content t (Is x)) is ∙ ap (λ (o : Option Tree). elim o as (λ _. ℕ) [ None ↦ 0 | Some x ↦ class_of x ]) (same_along rest) ∙ sym (ap (λ x. content after (Is x)) ends)
+      by_way (along rest is ends) = ap (λ x. content t (Is x)) is ∙ ap (λ (o : Option Tree). elim o as (λ _. ℕ)
+          [ None ↦ 0 | Some x ↦ class_of x ]) (same_along rest) ∙ sym (ap (λ x. content after (Is x)) ends)
       by_way (apart j taken put) = first_alike (Is n) (Is j) (first_step n j (Is n) taken refl free) (alike.is (sym (taking_is n) ∙ taken)) ∙ second_alike (Is j) (Is k) refl (alike.is put)
   move_alike l m free (alike.tok {n = n} {m = k} r e) = by_way (way n k e)
     where
       by_way : Goes node q part index n k → content t (Tok n r) ≡ content after (Tok k r)
-      by_way (along rest is ends) = ap (λ x. content t (Tok x r)) is ∙ ap (λ (o : Option Tree). elim o as (λ _. trees.Token) [ None ↦ trees.Truth false | Some x ↦ token_in (cell_at x r) ]) (same_along rest) ∙ sym (ap (λ x. content after (Tok x r)) ends)
-      by_way (apart j taken put) = first_alike (Tok n r) (Tok j r) (first_step n j (Tok n r) taken refl free) (alike.tok r (sym (taking_is n) ∙ taken)) ∙ second_alike (Tok j r) (Tok k r) refl (alike.tok r put)
+      by_way (along rest is ends) = ap (λ x. content t (Tok x r)) is ∙ ap (λ (o : Option Tree).
+          elim o as (λ _. trees.Token) [ None ↦ trees.Truth false | Some x ↦ token_in (cell_at x r) ]) (same_along rest)
+          ∙ sym (ap (λ x. content after (Tok x r)) ends)
+      by_way (apart j taken put) = first_alike (Tok n r) (Tok j r) (first_step n j (Tok n r) taken refl free)
+          (alike.tok r (sym (taking_is n) ∙ taken)) ∙ second_alike (Tok j r) (Tok k r) refl (alike.tok r put)
   move_alike l m free (alike.slot {n = n} {m = k} r e) = by_way (way n k e)
     where
       by_way : Goes node q part index n k → ListLike (Names (carried (Move node to part index))) (content t (Slot n r)) (content after (Slot k r))
       by_way (along rest is ends) =
           subst (λ (x : Node). ListLike (Names (carried (Move node to part index))) (content t (Slot x r)) (content after (Slot k r))) (sym is)
           (subst (λ (x : Node). ListLike (Names (carried (Move node to part index))) (content t (Slot (node ++ rest) r)) (content after (Slot x r))) (sym ends)
-          (subst (λ (o : Option Tree). ListLike (Names (carried (Move node to part index))) (seen_in (node ++ rest) r (tree_at t (node ++ rest))) (seen_in (q ++ (part, index) ∷ rest) r o)) (same_along rest)
+          (subst (λ (o : Option Tree). ListLike (Names (carried (Move node to part index))) (seen_in (node ++ rest) r
+          (tree_at t (node ++ rest))) (seen_in (q ++ (part, index) ∷ rest) r o)) (same_along rest)
           (slots_along rest r (tree_at t (node ++ rest)))))
       by_way (apart j taken put) =
           lists_on joins (first_alike (Slot n r) (Slot j r) (first_step n j (Slot n r) taken refl free) (alike.slot r (sym (taking_is n) ∙ taken)))

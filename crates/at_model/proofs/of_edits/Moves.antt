@@ -64,7 +64,8 @@ same_behind (x ∷ a) r s e = same_behind a r s (ap (drop 1) e)
 pub taken_apart : (node : Node) → IsInjective (past_taking node)
 taken_apart node a b c e f = at_parent (parent_of node) e f
   where
-    at_parent : (o : Option (Node × Way)) → elim o [ None ↦ None | Some p ↦ moved_under p.0 (past_drop p.1) a ] ≡ Some c → elim o [ None ↦ None | Some p ↦ moved_under p.0 (past_drop p.1) b ] ≡ Some c → a ≡ b
+    at_parent : (o : Option (Node × Way)) → elim o [ None ↦ None | Some p ↦ moved_under p.0 (past_drop p.1) a ] ≡ Some c
+        → elim o [ None ↦ None | Some p ↦ moved_under p.0 (past_drop p.1) b ] ≡ Some c → a ≡ b
     at_parent None e f = absurd cc
     at_parent (Some p) e f = moved_apart (past_drop p.1) (drop_apart p.1) p.0 a b c e f
 
@@ -256,7 +257,8 @@ within_on past alone (x ∷ p) (s ∷ ss) (r ∷ rs) c d e f = deeper (step_eq x
 pub taken_within : (node a b c d : Node) → past_taking node a ≡ Some c → past_taking node b ≡ Some d → is_within c d ≡ is_within a b
 taken_within node a b c d e f = at_parent (parent_of node) e f
   where
-    at_parent : (o : Option (Node × Way)) → elim o [ None ↦ None | Some p ↦ moved_under p.0 (past_drop p.1) a ] ≡ Some c → elim o [ None ↦ None | Some p ↦ moved_under p.0 (past_drop p.1) b ] ≡ Some d → is_within c d ≡ is_within a b
+    at_parent : (o : Option (Node × Way)) → elim o [ None ↦ None | Some p ↦ moved_under p.0 (past_drop p.1) a ] ≡ Some c
+        → elim o [ None ↦ None | Some p ↦ moved_under p.0 (past_drop p.1) b ] ≡ Some d → is_within c d ≡ is_within a b
     at_parent None e f = absurd cc
     at_parent (Some p) e f = within_on (past_drop p.1) (drop_apart p.1) p.0 a b c d e f
 

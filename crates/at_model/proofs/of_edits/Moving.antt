@@ -49,7 +49,8 @@ module _ (past : Way → Option Way) where
     moved-snoc (a ∷ p) [] s m e = first (step_eq a s) e
       where
         first : (b : Bool) → (if b then option_map (λ (us : Node). s ∷ us) (moved_under p past []) else Some (s ∷ [])) ≡ Some m → Moved (a ∷ p) [] s part m
-        first true e = let f : Some (s ∷ []) ≡ Some m = sym (ap (option_map (λ (us : Node). s ∷ us)) (moved-nil p)) ∙ e in record { parent = []; step = s; is = cc; up = refl; part_same = refl; index_same = λ h. refl }
+        first true e = let f : Some (s ∷ []) ≡ Some m = sym (ap (option_map (λ (us : Node). s ∷ us)) (moved-nil p))
+            ∙ e in record { parent = []; step = s; is = cc; up = refl; part_same = refl; index_same = λ h. refl }
         first false e = record { parent = []; step = s; is = cc; up = refl; part_same = refl; index_same = λ h. refl }
     moved-snoc (a ∷ p) (r ∷ rs) s m e = deeper (step_eq a r) refl e (moved-snoc p rs s)
       where
@@ -74,7 +75,8 @@ module _ (past : Way → Option Way) where
 
     -- the children go with their node, where their steps stay
     pub moved_children : (p n m : Node) (s : Way) → (node_eq p n && nat_eq part s.0) ≡ false → moved_under p past n ≡ Some m → moved_under p past (n ++ s ∷ []) ≡ Some (m ++ s ∷ [])
-    moved_children [] [] m s apart e = let f : [] ≡ m = cc in subst (λ (k : Node). option_map (λ (w : Way). w ∷ []) (past s) ≡ Some (k ++ s ∷ [])) f (ap (option_map (λ (w : Way). w ∷ [])) (keeps.other s apart))
+    moved_children [] [] m s apart e = let f : [] ≡ m = cc in subst (λ (k : Node). option_map (λ (w : Way). w ∷ [])
+        (past s) ≡ Some (k ++ s ∷ [])) f (ap (option_map (λ (w : Way). w ∷ [])) (keeps.other s apart))
     moved_children [] (r ∷ rs) m s apart e =
         let (u, is, f) = mapped (λ (w : Way). w ∷ rs) (past r) m e in
         ap (option_map (λ (w : Way). w ∷ (rs ++ s ∷ []))) is ∙ ap (λ (k : Node). Some (k ++ s ∷ [])) f

@@ -32,7 +32,8 @@ moved_out past s h [] (r ∷ rs) = none_mapped (λ (w : Way). w ∷ rs) (past r)
 moved_out past s h (a ∷ p) [] = refl
 moved_out past s h (a ∷ p) (r ∷ rs) = by_step (step_eq a r) (moved_out past s h p rs)
   where
-    by_step : (b : Bool) → is_none (moved_under p past rs) ≡ is_within (p ++ s ∷ []) rs → is_none (if b then option_map (λ (us : Node). r ∷ us) (moved_under p past rs) else Some (r ∷ rs)) ≡ (b && is_within (p ++ s ∷ []) rs)
+    by_step : (b : Bool) → is_none (moved_under p past rs) ≡ is_within (p ++ s ∷ []) rs → is_none (if b then option_map
+        (λ (us : Node). r ∷ us) (moved_under p past rs) else Some (r ∷ rs)) ≡ (b && is_within (p ++ s ∷ []) rs)
     by_step true e = none_mapped (λ (us : Node). r ∷ us) (moved_under p past rs) ∙ e
     by_step false e = refl
 
@@ -83,7 +84,9 @@ put_out part [] (r ∷ rs) t v free found = none_mapped (λ (w : Way). w ∷ rs)
 put_out part (a ∷ p) [] t v free found = refl
 put_out part (a ∷ p) (r ∷ rs) t v free found = by_step (step_eq a r) refl (put_out part p rs)
   where
-    by_step : (b : Bool) → step_eq a r ≡ b → ((u w : Tree) → children_of u p part ≡ [] → tree_at u rs ≡ Some w → is_none (moved_under p (past_put part) rs) ≡ false) → is_none (if b then option_map (λ (us : Node). r ∷ us) (moved_under p (past_put part) rs) else Some (r ∷ rs)) ≡ false
+    by_step : (b : Bool) → step_eq a r ≡ b → ((u w : Tree) → children_of u p part ≡ [] → tree_at u rs ≡ Some w
+        → is_none (moved_under p (past_put part) rs) ≡ false) → is_none
+        (if b then option_map (λ (us : Node). r ∷ us) (moved_under p (past_put part) rs) else Some (r ∷ rs)) ≡ false
     by_step false e more = refl
     by_step true e more =
         let (u, child, below) = led (λ x. tree_at x rs) (slice_get (children_at t r.0) r.1) v found in

@@ -122,7 +122,8 @@ step-other h a s t e = by_nat a.0 s.0 _ here (λ n. ap (λ o. slice_get (in_cell
   where
     here : a.0 ≡ s.0 → slice_get (children_at (with_cell (with_child h a.1) a.0 t) s.0) s.1 ≡ slice_get (children_at t s.0) s.1
     here same =
-        let differs : a.1 ≡ s.1 → ⊥ = λ f. let g : nat_eq a.0 s.0 ≡ true = true_if a.0 s.0 same in let k : nat_eq a.1 s.1 ≡ true = true_if a.1 s.1 f in let m : step_eq a s ≡ true = ap (λ b. b && nat_eq a.1 s.1) g ∙ k in cc in
+        let differs : a.1 ≡ s.1 → ⊥ = λ f. let g : nat_eq a.0 s.0 ≡ true = true_if a.0 s.0 same in let k : nat_eq a.1
+        s.1 ≡ true = true_if a.1 s.1 f in let m : step_eq a s ≡ true = ap (λ b. b && nat_eq a.1 s.1) g ∙ k in cc in
         subst (λ (q : ℕ). slice_get (children_at (with_cell (with_child h a.1) a.0 t) q) s.1 ≡ slice_get (children_at t q) s.1) same
         (ap (λ o. slice_get (in_cell o) s.1) (cell-same (with_child h a.1) a.0 t) ∙ in_cell-other h a.1 s.1 (cell_at t a.0) differs)
 
@@ -130,7 +131,9 @@ map-id : {A : Type 0} (o : Option A) → option_map (λ (x : A). x) o ≡ o
 map-id None = refl
 map-id (Some a) = refl
 
-pub then-map : {A B : Type 0} (h : A → A) (f : A → Option B) (k : A → Option B) (r : B → B) (o : Option A) → ((v : A) → o ≡ Some v → f (h v) ≡ option_map r (k v)) → option_and_then f (option_map h o) ≡ option_map r (option_and_then k o)
+pub then-map : {A B : Type 0} (h : A → A) (f : A → Option B) (k : A → Option B) (r : B → B) (o : Option A)
+    → ((v : A) → o ≡ Some v → f (h v) ≡ option_map r (k v))
+    → option_and_then f (option_map h o) ≡ option_map r (option_and_then k o)
 then-map h f k r None e = refl
 then-map h f k r (Some v) e = e v refl
 
@@ -139,7 +142,9 @@ pub tree_at-append : (t : Tree) (a b : Node) → tree_at t (a ++ b) ≡ option_a
 tree_at-append t [] b = refl
 tree_at-append t (s ∷ a) b = each_child (slice_get (children_at t s.0) s.1) (λ u. tree_at-append u a b)
   where
-    each_child : (o : Option Tree) → ((u : Tree) → tree_at u (a ++ b) ≡ option_and_then (λ v. tree_at v b) (tree_at u a)) → option_and_then (λ u. tree_at u (a ++ b)) o ≡ option_and_then (λ v. tree_at v b) (option_and_then (λ u. tree_at u a) o)
+    each_child : (o : Option Tree)
+        → ((u : Tree) → tree_at u (a ++ b) ≡ option_and_then (λ v. tree_at v b) (tree_at u a)) → option_and_then
+        (λ u. tree_at u (a ++ b)) o ≡ option_and_then (λ v. tree_at v b) (option_and_then (λ u. tree_at u a) o)
     each_child None h = refl
     each_child (Some u) h = h u
 
@@ -183,7 +188,9 @@ module _ (g : Cell → Cell) (part : ℕ) (past : Way → Option Way) where
         here : part ≡ s.0 → slice_get (children_at (with_cell g part t) u.0) u.1 ≡ slice_get (children_at t s.0) s.1
         here same =
             let ends : u.0 ≡ part = keeps.same s u e ∙ sym same in
-            ap (λ q. slice_get (children_at (with_cell g part t) q) u.1) ends ∙ ap (λ o. slice_get (in_cell o) u.1) (cell-same g part t) ∙ in_cell-moved (cell_at t part) fits s u (sym same) e ∙ ap (λ q. slice_get (children_at t q) s.1) same
+            ap (λ q. slice_get (children_at (with_cell g part t) q) u.1) ends
+            ∙ ap (λ o. slice_get (in_cell o) u.1) (cell-same g part t)
+            ∙ in_cell-moved (cell_at t part) fits s u (sym same) e ∙ ap (λ q. slice_get (children_at t q) s.1) same
 
         there : (part ≡ s.0 → ⊥) → slice_get (children_at (with_cell g part t) u.0) u.1 ≡ slice_get (children_at t s.0) s.1
         there n =
@@ -198,7 +205,8 @@ module _ (g : Cell → Cell) (part : ℕ) (past : Way → Option Way) where
     -- what stands where a node is moved
     pub tree_moved : (p n m : Node) (t : Tree) → FitsAt t p → moved_under p past n ≡ Some m → tree_at (with_node (with_cell g part) t p) m ≡ option_map (local p n) (tree_at t n)
     tree_moved [] [] m t fits e = let f : [] ≡ m = same_some [] m e in subst (λ (k : Node). tree_at (with_cell g part t) k ≡ Some (with_cell g part t)) f refl
-    tree_moved (a ∷ p) [] m t fits e = let f : [] ≡ m = same_some [] m e in subst (λ (k : Node). tree_at (with_node (with_cell g part) t (a ∷ p)) k ≡ Some (with_node (with_cell g part) t (a ∷ p))) f refl
+    tree_moved (a ∷ p) [] m t fits e = let f : [] ≡ m = same_some [] m e in subst (λ (k : Node).
+        tree_at (with_node (with_cell g part) t (a ∷ p)) k ≡ Some (with_node (with_cell g part) t (a ∷ p))) f refl
     tree_moved [] (s ∷ ss) m t fits e =
         let (u, moves, f) = mapped (λ (w : Way). w ∷ ss) (past s) m e in
         subst (λ (k : Node). tree_at (with_cell g part t) k ≡ option_map (λ (v : Tree). v) (tree_at t (s ∷ ss))) f
@@ -216,7 +224,8 @@ module _ (g : Cell → Cell) (part : ℕ) (past : Way → Option Way) where
             let below : (v : Tree) → slice_get (children_at t s.0) s.1 ≡ Some v → FitsAt v p = λ v child u c at' here.
             fits u c (ap (option_and_then (λ (x : Tree). tree_at x p)) (subst (λ (x : Way). slice_get (children_at t x.0) x.1 ≡ Some v) (sym way) child) ∙ at') here in
             subst (λ (x : Node). tree_at (with_node (with_cell g part) t (a ∷ p)) x ≡ option_map (local p ss) (tree_at t (s ∷ ss))) f
-            (ap (option_and_then (λ x. tree_at x k)) found ∙ then-map H (λ x. tree_at x k) (λ x. tree_at x ss) (local p ss) (slice_get (children_at t s.0) s.1) (λ v child. more k v (below v child) moves))
+            (ap (option_and_then (λ x. tree_at x k)) found ∙ then-map H (λ x. tree_at x k) (λ x. tree_at x ss)
+            (local p ss) (slice_get (children_at t s.0) s.1) (λ v child. more k v (below v child) moves))
         by_step false same e more =
             let f : s ∷ ss ≡ m = same_some (s ∷ ss) m e in
             subst (λ (x : Node). tree_at (with_node (with_cell g part) t (a ∷ p)) x ≡ option_map (λ (v : Tree). v) (tree_at t (s ∷ ss))) f
@@ -224,7 +233,8 @@ module _ (g : Cell → Cell) (part : ℕ) (past : Way → Option Way) where
 
     -- what stands in a cell, where it is the same in a cell with another child
     module _ {X : Type 0} (told : Option Cell → X) (child_told : (h : Tree → Tree) (i : ℕ) (c : Cell) → told (Some (with_child h i c)) ≡ told (Some c)) where
-      cell_told : (k : Cell → Cell) (at' : ℕ) (v : Tree) (q : ℕ) → (at' ≡ q → (c : Cell) → cell_at v at' ≡ Some c → told (Some (k c)) ≡ told (Some c)) → told (cell_at (with_cell k at' v) q) ≡ told (cell_at v q)
+      cell_told : (k : Cell → Cell) (at' : ℕ) (v : Tree) (q : ℕ) → (at' ≡ q → (c : Cell) → cell_at v at' ≡ Some c
+          → told (Some (k c)) ≡ told (Some c)) → told (cell_at (with_cell k at' v) q) ≡ told (cell_at v q)
       cell_told k at' v q same = by_nat at' q _ here (λ n. ap told (cell-other k at' q v n))
         where
           mapped_told : (o : Option Cell) → ((c : Cell) → o ≡ Some c → told (Some (k c)) ≡ told (Some c)) → told (option_map k o) ≡ told o
@@ -234,7 +244,8 @@ module _ (g : Cell → Cell) (part : ℕ) (past : Way → Option Way) where
           here : at' ≡ q → told (cell_at (with_cell k at' v) q) ≡ told (cell_at v q)
           here e = subst (λ (x : ℕ). told (cell_at (with_cell k at' v) x) ≡ told (cell_at v x)) e (ap told (cell-same k at' v) ∙ mapped_told (cell_at v at') (same e))
 
-      pub local_told : (p n : Node) (v : Tree) (q : ℕ) → ((node_eq p n && nat_eq part q) ≡ true → (c : Cell) → cell_at v part ≡ Some c → told (Some (g c)) ≡ told (Some c)) → told (cell_at (local p n v) q) ≡ told (cell_at v q)
+      pub local_told : (p n : Node) (v : Tree) (q : ℕ) → ((node_eq p n && nat_eq part q) ≡ true → (c : Cell) → cell_at v
+          part ≡ Some c → told (Some (g c)) ≡ told (Some c)) → told (cell_at (local p n v) q) ≡ told (cell_at v q)
       local_told [] [] v q same = cell_told g part v q (λ e. same (true_if part q e))
       local_told (a ∷ p) [] v q same = cell_told (with_child (λ x. with_node (with_cell g part) x p) a.1) a.0 v q (λ e c here. child_told (λ x. with_node (with_cell g part) x p) a.1 c)
       local_told [] (s ∷ ss) v q same = refl
@@ -264,7 +275,9 @@ module _ (g : Cell → Cell) (part : ℕ) (past : Way → Option Way) where
     map_told d f h None same = refl
     map_told d f h (Some v) same = same v refl
 
-    nodes_alike : (p n m : Node) (q : ℕ) (xs ys : List Tree) (i : ℕ) → length xs ≡ length ys → ((j : ℕ) → moved_under p past (n ++ (q, j) ∷ []) ≡ Some (m ++ (q, j) ∷ [])) → ListLike (Names (moved_under p past)) (child_nodes n q i xs) (child_nodes m q i ys)
+    nodes_alike : (p n m : Node) (q : ℕ) (xs ys : List Tree) (i : ℕ) → length xs ≡ length ys
+        → ((j : ℕ) → moved_under p past (n ++ (q, j) ∷ []) ≡ Some (m ++ (q, j) ∷ []))
+        → ListLike (Names (moved_under p past)) (child_nodes n q i xs) (child_nodes m q i ys)
     nodes_alike p n m q [] [] i e h = alike.end
     nodes_alike p n m q [] (y ∷ ys) i e h = absurd (cc)
     nodes_alike p n m q (x ∷ xs) [] i e h = absurd (cc)
@@ -277,7 +290,8 @@ module _ (g : Cell → Cell) (part : ℕ) (past : Way → Option Way) where
 
     slots_alike : (p n m : Node) (q : ℕ) (o : Option Tree) → moved_under p past n ≡ Some m →
         ((node_eq p n && nat_eq part q) ≡ true → (u : Tree) (c : Cell) → o ≡ Some u → cell_at u part ≡ Some c → (children c ≡ []) × (children (g c) ≡ [])) →
-        ListLike (Names (moved_under p past)) (elim o [ None ↦ [] | Some u ↦ child_nodes n q 0 (children_at u q) ]) (elim (option_map (local p n) o) [ None ↦ [] | Some u ↦ child_nodes m q 0 (children_at u q) ])
+        ListLike (Names (moved_under p past)) (elim o [ None ↦ [] | Some u ↦ child_nodes n q 0 (children_at u q) ])
+        (elim (option_map (local p n) o) [ None ↦ [] | Some u ↦ child_nodes m q 0 (children_at u q) ])
     slots_alike p n m q None e h = alike.end
     slots_alike p n m q (Some v) e h = by_target (node_eq p n && nat_eq part q) refl
       where
@@ -286,7 +300,9 @@ module _ (g : Cell → Cell) (part : ℕ) (past : Way → Option Way) where
             (sym (local_told (λ o. length (in_cell o)) (λ k i c. child-length k i c) p n v q (λ same. absurd (let f : true ≡ false = sym same ∙ apart in cc))))
             (λ j. moved_children past part keeps p n m (q, j) apart e)
         by_target true target =
-            let after : in_cell (cell_at (local p n v) q) ≡ [] = no_items (local_told (λ o. length (in_cell o)) (λ k i c. child-length k i c) p n v q (λ same c here. let both = h target v c refl here in ap length both.1 ∙ sym (ap length both.0))) in
+            let after : in_cell (cell_at (local p n v) q) ≡ [] =
+            no_items (local_told (λ o. length (in_cell o)) (λ k i c. child-length k i c) p n v q
+            (λ same c here. let both = h target v c refl here in ap length both.1 ∙ sym (ap length both.0))) in
             none_alike p n m q (children_at v q) (children_at (local p n v) q) 0 before after
           where
             length_none : (xs : List Tree) → length xs ≡ 0 → xs ≡ []
@@ -310,17 +326,28 @@ module _ (g : Cell → Cell) (part : ℕ) (past : Way → Option Way) where
             no_items : length (in_cell (cell_at (local p n v) q)) ≡ length (in_cell (cell_at v q)) → in_cell (cell_at (local p n v) q) ≡ []
             no_items f = length_none (in_cell (cell_at (local p n v) q)) (f ∙ ap length before)
 
-    parents_alike : (p n m : Node) → moved_under p past n ≡ Some m → OptionLike (λ (x y : Node × ℕ). Names (moved_under p past) x.0 y.0 × (x.1 ≡ y.1)) (option_map (λ (x : Node × Way). let y : Node × ℕ = (x.0, x.1.0) in y) (parent_of n)) (option_map (λ (x : Node × Way). let y : Node × ℕ = (x.0, x.1.0) in y) (parent_of m))
+    parents_alike : (p n m : Node) → moved_under p past n ≡ Some m
+        → OptionLike (λ (x y : Node × ℕ). Names (moved_under p past) x.0 y.0 × (x.1 ≡ y.1))
+        (option_map (λ (x : Node × Way). let y : Node × ℕ = (x.0, x.1.0) in y) (parent_of n))
+        (option_map (λ (x : Node × Way). let y : Node × ℕ = (x.0, x.1.0) in y) (parent_of m))
     parents_alike p n m e = by_end (snoc n)
       where
-        by_end : (n ≡ []) ⊎ ((k : Node) × (s : Way) × (n ≡ k ++ s ∷ [])) → OptionLike (λ (x y : Node × ℕ). Names (moved_under p past) x.0 y.0 × (x.1 ≡ y.1)) (option_map (λ (x : Node × Way). let y : Node × ℕ = (x.0, x.1.0) in y) (parent_of n)) (option_map (λ (x : Node × Way). let y : Node × ℕ = (x.0, x.1.0) in y) (parent_of m))
+        by_end : (n ≡ []) ⊎ ((k : Node) × (s : Way) × (n ≡ k ++ s ∷ []))
+            → OptionLike (λ (x y : Node × ℕ). Names (moved_under p past) x.0 y.0 × (x.1 ≡ y.1))
+            (option_map (λ (x : Node × Way). let y : Node × ℕ = (x.0, x.1.0) in y) (parent_of n))
+            (option_map (λ (x : Node × Way). let y : Node × ℕ = (x.0, x.1.0) in y) (parent_of m))
         by_end (inl none) =
             let f : [] ≡ m = same_some [] m (sym (moved-nil past p) ∙ ap (moved_under p past) (sym none) ∙ e) in
-            let P : Node → Node → Type 0 = λ x y. OptionLike (λ (x y : Node × ℕ). Names (moved_under p past) x.0 y.0 × (x.1 ≡ y.1)) (option_map (λ (x : Node × Way). let y : Node × ℕ = (x.0, x.1.0) in y) (parent_of x)) (option_map (λ (x : Node × Way). let y : Node × ℕ = (x.0, x.1.0) in y) (parent_of y)) in
+            let P : Node → Node → Type 0 = λ x y. OptionLike (λ (x y : Node × ℕ). Names (moved_under p past) x.0 y.0
+            × (x.1 ≡ y.1)) (option_map (λ (x : Node × Way). let y : Node × ℕ = (x.0, x.1.0) in y) (parent_of x))
+            (option_map (λ (x : Node × Way). let y : Node × ℕ = (x.0, x.1.0) in y) (parent_of y)) in
             subst (λ (x : Node). P x m) (sym none) (subst (λ (y : Node). P [] y) f alike.neither)
         by_end (inr (k, s, is)) =
             let moves = moved-snoc past part keeps p k s m (subst (λ (x : Node). moved_under p past x ≡ Some m) is e) in
-            let P : Option (Node × Way) → Option (Node × Way) → Type 0 = λ x y. OptionLike (λ (x y : Node × ℕ). Names (moved_under p past) x.0 y.0 × (x.1 ≡ y.1)) (option_map (λ (x : Node × Way). let y : Node × ℕ = (x.0, x.1.0) in y) x) (option_map (λ (x : Node × Way). let y : Node × ℕ = (x.0, x.1.0) in y) y) in
+            let P : Option (Node × Way) → Option (Node × Way)
+            → Type 0 = λ x y. OptionLike (λ (x y : Node × ℕ). Names (moved_under p past) x.0 y.0 × (x.1 ≡ y.1))
+            (option_map (λ (x : Node × Way). let y : Node × ℕ = (x.0, x.1.0) in y) x)
+            (option_map (λ (x : Node × Way). let y : Node × ℕ = (x.0, x.1.0) in y) y) in
             let before = ap parent_of is ∙ parent_of-snoc k s in
             let after = ap parent_of moves.is ∙ parent_of-snoc moves.parent moves.step in
             subst (λ (x : Option (Node × Way)). P x (parent_of m)) (sym before) (subst (λ (y : Option (Node × Way)). P (Some (k, s)) y) (sym after) (alike.both (moves.up, sym moves.part_same)))
@@ -328,7 +355,8 @@ module _ (g : Cell → Cell) (part : ℕ) (past : Way → Option Way) where
     abbrev index_at : Option (Node × Way) → ℕ
     index_at o = elim o [ None ↦ 0 | Some x ↦ x.1.1 ]
 
-    indexes_alike : (p n m : Node) → moved_under p past n ≡ Some m → ((k : Node) (s : Way) → n ≡ k ++ s ∷ [] → (node_eq p k && nat_eq part s.0) ≡ true → KeepsIndex past) → index_at (parent_of n) ≡ index_at (parent_of m)
+    indexes_alike : (p n m : Node) → moved_under p past n ≡ Some m → ((k : Node) (s : Way) → n ≡ k ++ s ∷ []
+        → (node_eq p k && nat_eq part s.0) ≡ true → KeepsIndex past) → index_at (parent_of n) ≡ index_at (parent_of m)
     indexes_alike p n m e h = by_end (snoc n)
       where
         by_end : (n ≡ []) ⊎ ((k : Node) × (s : Way) × (n ≡ k ++ s ∷ [])) → index_at (parent_of n) ≡ index_at (parent_of m)

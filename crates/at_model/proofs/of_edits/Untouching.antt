@@ -100,7 +100,9 @@ plain_cell classes t (class.Maybe b) h e = cc
 plain_cell classes t (class.Token kind) h e = cc
 
 -- the shape of a component that is there, and its cell conforms
-pub shape_there : (classes : Classes) (t : Tree) (p : Node) (part : ℕ) (u : Tree) (c : Cell) → conforms classes t 0 ≡ true → tree_at t p ≡ Some u → cell_at u part ≡ Some c → (shape : Shape) × (shape_at classes t p part ≡ Some shape) × (cell_conforms classes c shape ≡ true)
+pub shape_there : (classes : Classes) (t : Tree) (p : Node) (part : ℕ) (u : Tree) (c : Cell)
+    → conforms classes t 0 ≡ true → tree_at t p ≡ Some u → cell_at u part ≡ Some c
+    → (shape : Shape) × (shape_at classes t p part ≡ Some shape) × (cell_conforms classes c shape ≡ true)
 shape_there classes t p part (branch k cells) c ok found here =
     let (b, ok') = conforms_at classes t 0 p (branch k cells) ok found in
     let (q, is, fits) = cell_there classes cells (parts classes k) part c (both _ _ ok').1 here in
@@ -147,7 +149,9 @@ inserted-fits ts place s u new bound same (way.behind a less b next) =
     let is : u.1 ≡ suc s.1 = omega arith in
     ap (λ xs. slice_get xs u.1) (from_to_trees (insert (from_trees ts) place.1 new)) ∙ ap (slice_get (insert (from_trees ts) place.1 new)) is ∙ inserted-behind (from_trees ts) place.1 s.1 new less
 inserted-fits ts place s u new bound same (way.stays is less) =
-    ap (λ xs. slice_get xs u.1) (from_to_trees (insert (from_trees ts) place.1 new)) ∙ ap (slice_get (insert (from_trees ts) place.1 new)) (ap (λ (w : Way). w.1) is) ∙ inserted-before (from_trees ts) place.1 s.1 new (less same) bound
+    ap (λ xs. slice_get xs u.1) (from_to_trees (insert (from_trees ts) place.1 new))
+    ∙ ap (slice_get (insert (from_trees ts) place.1 new)) (ap (λ (w : Way). w.1) is)
+    ∙ inserted-before (from_trees ts) place.1 s.1 new (less same) bound
 
 -- a token is set and nothing moves
 pub moved_nowhere : (p n : Node) → moved_under p (λ (s : Way). Some s) n ≡ Some n
@@ -176,30 +180,40 @@ nowhere l m (alike.up r) = cc
 nowhere l m (alike.idx r) = cc
 
 module _ (classes : Classes) (t : Tree) (ok : conforms classes t 0 ≡ true) where
-  set_unseen : (node : Node) (new : Tree) (p : Node × Way) → parent_of node ≡ Some p → (l : Location Node) → touches (Set node new) l ≡ false → Unseen (with_child (λ u. new) p.1.1) p.1.0 (past_set p.1) t p.0 l
+  set_unseen : (node : Node) (new : Tree) (p : Node × Way) → parent_of node ≡ Some p → (l : Location Node)
+      → touches (Set node new) l ≡ false → Unseen (with_child (λ u. new) p.1.1) p.1.0 (past_set p.1) t p.0 l
   set_unseen node new p is (Is n) h = tt
   set_unseen node new p is (Tok n q) h = λ same u c found here. child-token (λ u. new) p.1.1 c
-  set_unseen node new p is (Slot n q) h = λ same u c found here. absurd (not_both _ same (sym (ap (λ (o : Option (Node × Way)). elim o [ None ↦ false | Some x ↦ is_slot x.0 x.1.0 (Slot n q) ]) is) ∙ (false_or _ _ h).1))
+  set_unseen node new p is (Slot n q) h = λ same u c found here. absurd (not_both _ same
+      (sym (ap (λ (o : Option (Node × Way)). elim o [ None ↦ false | Some x ↦ is_slot x.0 x.1.0 (Slot n q) ]) is)
+      ∙ (false_or _ _ h).1))
   set_unseen node new p is (Up n) h = tt
   set_unseen node new p is (Idx n) h = λ m s e same r u f. ap (λ (w : Way). w.1) (sym (set_way p.1 r u f).0)
 
   pub set_fits : (new : Tree) (p : Node × Way) → FitsAt (with_child (λ u. new) p.1.1) p.1.0 (past_set p.1) t p.0
   set_fits new p u c found here r w same e =
       let (stays, apart) = set_way p.1 r w e in
-      let differs : p.1.1 ≡ r.1 → ⊥ = λ f. let g : nat_eq p.1.0 r.0 ≡ true = grind (arith, nat_tests) in let k : nat_eq p.1.1 r.1 ≡ true = grind (arith, nat_tests) in not_both (step_eq p.1 r) (ap (λ b. b && nat_eq p.1.1 r.1) g ∙ k) apart in
+      let differs : p.1.1 ≡ r.1 → ⊥ = λ f. let g : nat_eq p.1.0 r.0 ≡ true = grind (arith, nat_tests) in
+      let k : nat_eq p.1.1 r.1 ≡ true = grind (arith, nat_tests) in
+      not_both (step_eq p.1 r) (ap (λ b. b && nat_eq p.1.1 r.1) g ∙ k) apart in
       ap (λ (x : Way). slice_get (children (with_child (λ u. new) p.1.1 c)) x.1) (sym stays) ∙ child-other (λ u. new) p.1.1 r.1 c differs
 
-  set_alike : (node : Node) (new : Tree) (p : Node × Way) → parent_of node ≡ Some p → (l m : Location Node) → touches (Set node new) l ≡ false → (s : LocationLike (Names (moved_under p.0 (past_set p.1))) l m) →
+  set_alike : (node : Node) (new : Tree) (p : Node × Way) → parent_of node ≡ Some p → (l m : Location Node)
+      → touches (Set node new) l ≡ false → (s : LocationLike (Names (moved_under p.0 (past_set p.1))) l m) →
       ContentLike (Names (moved_under p.0 (past_set p.1))) s (content t l) (content (left_by t (Set node new)) m)
   set_alike node new p is l m h s =
       subst (λ (x : Tree). ContentLike (Names (moved_under p.0 (past_set p.1))) s (content t l) (content x m)) (sym (set_in_parent classes new node p is t))
       (cell_alike (with_child (λ u. new) p.1.1) p.1.0 (past_set p.1) (set_keeps p.1) t p.0 (set_fits new p) l m s (set_unseen node new p is l h))
 
   -- what is seen of the component that an edit needs
-  pub component_there : {A : Type 0} (select : Shape → Option A) (p : Node) (part : ℕ) (u : Tree) (c : Cell) → is_some (option_and_then select (shape_at classes t p part)) ≡ true → tree_at t p ≡ Some u → cell_at u part ≡ Some c → (shape : Shape) × (is_some (select shape) ≡ true) × (cell_conforms classes c shape ≡ true)
-  component_there select p part u c has found here = let (shape, is, fits) = shape_there classes t p part u c ok found here in (shape, selected select (shape_at classes t p part) true shape is has, fits)
+  pub component_there : {A : Type 0} (select : Shape → Option A) (p : Node) (part : ℕ) (u : Tree) (c : Cell)
+      → is_some (option_and_then select (shape_at classes t p part)) ≡ true → tree_at t p ≡ Some u → cell_at u part
+      ≡ Some c → (shape : Shape) × (is_some (select shape) ≡ true) × (cell_conforms classes c shape ≡ true)
+  component_there select p part u c has found here = let (shape, is, fits) = shape_there classes t p part u c ok found
+      here in (shape, selected select (shape_at classes t p part) true shape is has, fits)
 
-  put_unseen : (node : Node) (part : ℕ) (new : Tree) → has_component classes t (Put node part new) ≡ true → (l : Location Node) → touches (Put node part new) l ≡ false → Unseen (λ c. Filled new) part (past_put part) t node l
+  put_unseen : (node : Node) (part : ℕ) (new : Tree) → has_component classes t (Put node part new) ≡ true → (l :
+      Location Node) → touches (Put node part new) l ≡ false → Unseen (λ c. Filled new) part (past_put part) t node l
   put_unseen node part new has (Is n) h = tt
   put_unseen node part new has (Tok n q) h = λ same u c found here.
       let at' = node_eq-sound node n (both _ _ same).0 in
@@ -211,7 +225,9 @@ module _ (classes : Classes) (t : Tree) (ok : conforms classes t 0 ≡ true) whe
   pub put_fits : (node : Node) (part : ℕ) (new : Tree) → FitsAt (λ c. Filled new) part (past_put part) t node
   put_fits node part new u c found here r w same e = absurd (not_both (nat_eq part r.0) (grind (arith, nat_tests)) (put_way part r w e).1)
 
-  pub put_alike : (node : Node) (part : ℕ) (new : Tree) → has_component classes t (Put node part new) ≡ true → (l m : Location Node) → touches (Put node part new) l ≡ false → (s : LocationLike (Names (moved_under node (past_put part))) l m) →
+  pub put_alike : (node : Node) (part : ℕ) (new : Tree) → has_component classes t (Put node part new) ≡ true
+      → (l m : Location Node) → touches (Put node part new) l ≡ false
+      → (s : LocationLike (Names (moved_under node (past_put part))) l m) →
       ContentLike (Names (moved_under node (past_put part))) s (content t l) (content (left_by t (Put node part new)) m)
   put_alike node part new has l m h s =
       cell_alike (λ c. Filled new) part (past_put part) (put_keeps part) t node (put_fits node part new) l m s (put_unseen node part new has l h)
@@ -233,12 +249,16 @@ module _ (classes : Classes) (t : Tree) (ok : conforms classes t 0 ≡ true) whe
       let (shape, sees, conf) = shape_there classes t p.0 p.1.0 u c ok found here in
       dropped-fits classes p.1 r w c shape (selected plain_class (shape_at classes t p.0 p.1.0) false shape sees plain) conf same (drop_way p.1 r w e)
 
-  pub drop_alike : (node : Node) (p : Node × Way) → parent_of node ≡ Some p → is_some (option_and_then plain_class (shape_at classes t p.0 p.1.0)) ≡ false → (l m : Location Node) → touches (Drop node) l ≡ false →
-      (s : LocationLike (Names (moved_under p.0 (past_drop p.1))) l m) → ContentLike (Names (moved_under p.0 (past_drop p.1))) s (content t l) (content (with_node (with_cell (without_child p.1.1) p.1.0) t p.0) m)
+  pub drop_alike : (node : Node) (p : Node × Way) → parent_of node ≡ Some p → is_some (option_and_then plain_class
+      (shape_at classes t p.0 p.1.0)) ≡ false → (l m : Location Node) → touches (Drop node) l ≡ false →
+      (s : LocationLike (Names (moved_under p.0 (past_drop p.1))) l m)
+      → ContentLike (Names (moved_under p.0 (past_drop p.1))) s (content t l)
+      (content (with_node (with_cell (without_child p.1.1) p.1.0) t p.0) m)
   drop_alike node p is plain l m h s =
       cell_alike (without_child p.1.1) p.1.0 (past_drop p.1) (drop_keeps p.1) t p.0 (drop_fits p plain) l m s (drop_unseen node p is l h)
 
-  insert_unseen : (node : Node) (part index : ℕ) (new : Tree) → (l : Location Node) → touches (Insert node part index new) l ≡ false → Unseen (with_one_more new index) part (past_insert (part, index)) t node l
+  insert_unseen : (node : Node) (part index : ℕ) (new : Tree) → (l : Location Node) → touches (Insert node part index
+      new) l ≡ false → Unseen (with_one_more new index) part (past_insert (part, index)) t node l
   insert_unseen node part index new (Is n) h = tt
   insert_unseen node part index new (Tok n q) h = λ same u c found here. inserted-token new index c
     where
@@ -256,20 +276,29 @@ module _ (classes : Classes) (t : Tree) (ok : conforms classes t 0 ≡ true) whe
   pub counted : (node : Node) (part : ℕ) (u : Tree) (ts : Trees) → tree_at t node ≡ Some u → cell_at u part ≡ Some (Many ts) → children_of t node part ≡ from_trees ts
   counted node part u ts found here = ap (λ (o : Option Tree). elim o [ None ↦ [] | Some x ↦ children_at x part ]) found ∙ ap (λ (o : Option Cell). elim o [ None ↦ [] | Some c ↦ children c ]) here
 
-  pub insert_fits : (node : Node) (part index : ℕ) (new : Tree) → has_component classes t (Insert node part index new) ≡ true → is_in_range t (Insert node part index new) ≡ true → FitsAt (with_one_more new index) part (past_insert (part, index)) t node
+  pub insert_fits : (node : Node) (part index : ℕ) (new : Tree)
+      → has_component classes t (Insert node part index new) ≡ true → is_in_range t (Insert node part index new) ≡ true
+      → FitsAt (with_one_more new index) part (past_insert (part, index)) t node
   insert_fits node part index new has range u c found here r w same e =
       let (shape, some, conf) = component_there list_class node part u c has found here in
       let (ts, is) = list_cell classes c shape some conf in
       let count : length (children_of t node part) ≡ length (from_trees ts) = ap length (counted node part u ts found (here ∙ ap Some is)) in
       let bound : index ≤ length (children_of t node part) = grind (arith, nat_tests) in
-      subst (λ (x : Cell). slice_get (children (with_one_more new index x)) w.1 ≡ slice_get (children x) r.1) (sym is) (inserted-fits ts (part, index) r w new (omega arith) same (insert_way (part, index) r w e))
+      subst (λ (x : Cell). slice_get (children (with_one_more new index x)) w.1 ≡ slice_get (children x) r.1) (sym is)
+      (inserted-fits ts (part, index) r w new (omega arith) same (insert_way (part, index) r w e))
 
-  pub insert_alike : (node : Node) (part index : ℕ) (new : Tree) → has_component classes t (Insert node part index new) ≡ true → is_in_range t (Insert node part index new) ≡ true → (l m : Location Node) → touches (Insert node part index new) l ≡ false →
-      (s : LocationLike (Names (moved_under node (past_insert (part, index)))) l m) → ContentLike (Names (moved_under node (past_insert (part, index)))) s (content t l) (content (left_by t (Insert node part index new)) m)
+  pub insert_alike : (node : Node) (part index : ℕ) (new : Tree)
+      → has_component classes t (Insert node part index new) ≡ true → is_in_range t (Insert node part index new) ≡ true
+      → (l m : Location Node) → touches (Insert node part index new) l ≡ false →
+      (s : LocationLike (Names (moved_under node (past_insert (part, index)))) l m)
+      → ContentLike (Names (moved_under node (past_insert (part, index)))) s (content t l)
+      (content (left_by t (Insert node part index new)) m)
   insert_alike node part index new has range l m h s =
-      cell_alike (with_one_more new index) part (past_insert (part, index)) (insert_keeps (part, index)) t node (insert_fits node part index new has range) l m s (insert_unseen node part index new l h)
+      cell_alike (with_one_more new index) part (past_insert (part, index)) (insert_keeps (part, index)) t node
+      (insert_fits node part index new has range) l m s (insert_unseen node part index new l h)
 
-  token_unseen : (node : Node) (part : ℕ) (v : trees.Token) → has_component classes t (Token node part v) ≡ true → (l : Location Node) → touches (Token node part v) l ≡ false → Unseen (λ c. Holds v) part (λ (s : Way). Some s) t node l
+  token_unseen : (node : Node) (part : ℕ) (v : trees.Token) → has_component classes t (Token node part v) ≡ true → (l :
+      Location Node) → touches (Token node part v) l ≡ false → Unseen (λ c. Holds v) part (λ (s : Way). Some s) t node l
   token_unseen node part v has (Is n) h = tt
   token_unseen node part v has (Tok n q) h = λ same u c found here. absurd (not_both _ same h)
   token_unseen node part v has (Slot n q) h = λ same u c found here.
@@ -295,7 +324,10 @@ module _ (classes : Classes) (t : Tree) (ok : conforms classes t 0 ≡ true) whe
   at_set node new None is l h = λ m s. absurd (nowhere l m s)
   at_set node new (Some p) is l h = λ m s. set_alike node new p is l m h s
 
-  pub at_drop : (node : Node) (o : Option (Node × Way)) → parent_of node ≡ o → elim o [ None ↦ true | Some p ↦ is_some (option_and_then plain_class (shape_at classes t p.0 p.1.0)) ] ≡ false → (l : Location Node) → touches (Drop node) l ≡ false →
-      AlikeAt (Names (λ n. elim o [ None ↦ None | Some p ↦ moved_under p.0 (past_drop p.1) n ])) (content t) (content (elim o [ None ↦ t | Some p ↦ with_node (with_cell (without_child p.1.1) p.1.0) t p.0 ])) l
+  pub at_drop : (node : Node) (o : Option (Node × Way)) → parent_of node ≡ o
+      → elim o [ None ↦ true | Some p ↦ is_some (option_and_then plain_class (shape_at classes t p.0 p.1.0)) ] ≡ false
+      → (l : Location Node) → touches (Drop node) l ≡ false →
+      AlikeAt (Names (λ n. elim o [ None ↦ None | Some p ↦ moved_under p.0 (past_drop p.1) n ])) (content t)
+      (content (elim o [ None ↦ t | Some p ↦ with_node (with_cell (without_child p.1.1) p.1.0) t p.0 ])) l
   at_drop node None is plain l h = λ m s. absurd (nowhere l m s)
   at_drop node (Some p) is plain l h = λ m s. drop_alike node p is plain l m h s

@@ -35,7 +35,8 @@ pub data DropWay (place s u : Way) : Type 0 where
 pub drop_way : (place s u : Way) → past_drop place s ≡ Some u → DropWay place s u
 drop_way place s u e = let (apart, is) = unless (step_eq place s) _ u e in by_tests (nat_eq place.0 s.0) (nat_eq place.1 s.1) (nat_lt place.1 s.1) refl refl refl apart is
   where
-    by_tests : (a b c : Bool) → nat_eq place.0 s.0 ≡ a → nat_eq place.1 s.1 ≡ b → nat_lt place.1 s.1 ≡ c → (a && b) ≡ false → (if a && c then Some (s.0, s.1 - 1) else Some s) ≡ Some u → DropWay place s u
+    by_tests : (a b c : Bool) → nat_eq place.0 s.0 ≡ a → nat_eq place.1 s.1 ≡ b → nat_lt place.1 s.1 ≡ c
+        → (a && b) ≡ false → (if a && c then Some (s.0, s.1 - 1) else Some s) ≡ Some u → DropWay place s u
     by_tests true b true x y z apart is =
         let same = same_some {A = Way} (s.0, s.1 - 1) u is in
         let less : place.1 < s.1 = grind (arith, nat_tests) in
@@ -50,8 +51,10 @@ drop_apart place s r u e f = by_ways (drop_way place s u e) (drop_way place r u 
   where
     by_ways : DropWay place s u → DropWay place r u → s ≡ r
     by_ways (behind a b c d) (behind w x y z) = same_way s r (sym c ∙ y) (sym d ∙ z)
-    by_ways (behind a b c d) (stays is less) = let g : r.0 ≡ place.0 = ap (λ (w : Way). w.0) (sym is) ∙ c ∙ a in let h : r.1 < place.1 = less g in let k : u.1 ≡ r.1 = ap (λ (w : Way). w.1) is in absurd (omega arith)
-    by_ways (stays is less) (behind w x y z) = let g : s.0 ≡ place.0 = ap (λ (w : Way). w.0) (sym is) ∙ y ∙ w in let h : s.1 < place.1 = less g in let k : u.1 ≡ s.1 = ap (λ (w : Way). w.1) is in absurd (omega arith)
+    by_ways (behind a b c d) (stays is less) = let g : r.0 ≡ place.0 = ap (λ (w : Way). w.0) (sym is) ∙ c ∙ a in
+        let h : r.1 < place.1 = less g in let k : u.1 ≡ r.1 = ap (λ (w : Way). w.1) is in absurd (omega arith)
+    by_ways (stays is less) (behind w x y z) = let g : s.0 ≡ place.0 = ap (λ (w : Way). w.0) (sym is) ∙ y ∙ w in
+        let h : s.1 < place.1 = less g in let k : u.1 ≡ s.1 = ap (λ (w : Way). w.1) is in absurd (omega arith)
     by_ways (stays is less) (stays js more) = sym is ∙ js
 
 -- an insert: what stood there and behind moves to the back
@@ -74,8 +77,10 @@ insert_apart place s r u e f = by_ways (insert_way place s u e) (insert_way plac
   where
     by_ways : InsertWay place s u → InsertWay place r u → s ≡ r
     by_ways (behind a b c d) (behind w x y z) = let g : s.1 ≡ r.1 = omega arith in same_way s r (sym c ∙ y) g
-    by_ways (behind a b c d) (stays is less) = let g : r.0 ≡ place.0 = ap (λ (w : Way). w.0) (sym is) ∙ c ∙ a in let h : r.1 < place.1 = less g in let k : u.1 ≡ r.1 = ap (λ (w : Way). w.1) is in absurd (omega arith)
-    by_ways (stays is less) (behind w x y z) = let g : s.0 ≡ place.0 = ap (λ (w : Way). w.0) (sym is) ∙ y ∙ w in let h : s.1 < place.1 = less g in let k : u.1 ≡ s.1 = ap (λ (w : Way). w.1) is in absurd (omega arith)
+    by_ways (behind a b c d) (stays is less) = let g : r.0 ≡ place.0 = ap (λ (w : Way). w.0) (sym is) ∙ c ∙ a in
+        let h : r.1 < place.1 = less g in let k : u.1 ≡ r.1 = ap (λ (w : Way). w.1) is in absurd (omega arith)
+    by_ways (stays is less) (behind w x y z) = let g : s.0 ≡ place.0 = ap (λ (w : Way). w.0) (sym is) ∙ y ∙ w in
+        let h : s.1 < place.1 = less g in let k : u.1 ≡ s.1 = ap (λ (w : Way). w.1) is in absurd (omega arith)
     by_ways (stays is less) (stays js more) = sym is ∙ js
 
 -- each keeps the components of steps, and those in other components whole
@@ -104,7 +109,9 @@ insert_part place s u (stays is less) = ap (λ (w : Way). w.0) is
 
 pub drop_keeps : (place : Way) → KeepsParts (past_drop place) place.0
 drop_keeps place = record {
-  other = λ s e. ap (λ (b : Bool). if b then None else (if nat_eq place.0 s.0 && nat_lt place.1 s.1 then Some (s.0, s.1 - 1) else Some s)) (apart_else place s e) ∙ ap (λ (b : Bool). if b && nat_lt place.1 s.1 then Some (s.0, s.1 - 1) else Some s) e;
+  other = λ s e. ap (λ (b : Bool). if b then None else
+      (if nat_eq place.0 s.0 && nat_lt place.1 s.1 then Some (s.0, s.1 - 1) else Some s)) (apart_else place s e)
+      ∙ ap (λ (b : Bool). if b && nat_lt place.1 s.1 then Some (s.0, s.1 - 1) else Some s) e;
   same = λ s u e. drop_part place s u (drop_way place s u e);
 }
 

@@ -5,26 +5,35 @@ use Rattle.at_model.specs.Meaning.{Outcome, Finds, Faults, value_in, Equations, 
 use Rattle.at_model.specs.Support.{Sees, Supports}
 use Rattle.at_model.specs.Alike.{ValueLike, InstanceLike, RunLike, gives, fails, looks, demands, OutcomeLike, find, fault, EquationsLike, AlikeAt, HasLike}
 
-answered : {N M : Type 0} {R : N → M → Type 0} (look : Contents N) (also : Contents M) (f : Instance N → Option (Outcome N)) (g : Instance M → Option (Outcome M)) (i j : Instance N) (i' j' : Instance M) (k : Value N → Run N (Value N)) (h : Value M → Run M (Value M)) (o : Outcome N)
+answered : {N M : Type 0} {R : N → M → Type 0} (look : Contents N) (also : Contents M)
+    (f : Instance N → Option (Outcome N)) (g : Instance M → Option (Outcome M)) (i j : Instance N) (i' j' : Instance M)
+    (k : Value N → Run N (Value N)) (h : Value M → Run M (Value M)) (o : Outcome N)
     (p' : Option (Outcome M)) {q : Outcome N} {q' : Outcome M} → OutcomeLike R q q' → p' ≡ Some q' → f j ≡ Some q → g j' ≡ p' →
-    ((v : Value N) (w : Value M) → f j ≡ Some (Finds v) → ValueLike R v w → settled f i (tried look (λ m. value_in (f m)) (k v)) ≡ Some o → HasLike R o (settled g i' (tried also (λ m. value_in (g m)) (h w)))) →
+    ((v : Value N) (w : Value M) → f j ≡ Some (Finds v) → ValueLike R v w → settled f i (tried look
+    (λ m. value_in (f m)) (k v)) ≡ Some o → HasLike R o (settled g i' (tried also (λ m. value_in (g m)) (h w)))) →
     settled f i (elim (value_in (Some q)) [ None ↦ Needs j | Some v ↦ tried look (λ m. value_in (f m)) (k v) ]) ≡ Some o →
     HasLike R o (settled g i' (elim (value_in p') [ None ↦ Needs j' | Some v ↦ tried also (λ m. value_in (g m)) (h v) ]))
 answered look also f g i j i' j' k h o p' (find s) e fj gj step c = rw e (step _ _ fj s c)
-answered {R = R} look also f g i j i' j' k h o p' (fault x {i = a} {j = b} s) e fj gj step c = let u : Faults x a ≡ o = cc in rw e (Faults x b, gj ∙ e, subst (λ z. OutcomeLike R z (Faults x b)) u (fault x s))
+answered {R = R} look also f g i j i' j' k h o p' (fault x {i = a} {j = b} s) e fj gj step c = let u : Faults x a ≡ o =
+    cc in rw e (Faults x b, gj ∙ e, subst (λ z. OutcomeLike R z (Faults x b)) u (fault x s))
 
-demanded : {N M : Type 0} {R : N → M → Type 0} (look : Contents N) (also : Contents M) (f : Instance N → Option (Outcome N)) (g : Instance M → Option (Outcome M)) (i j : Instance N) (i' j' : Instance M) (k : Value N → Run N (Value N)) (h : Value M → Run M (Value M)) (o : Outcome N)
+demanded : {N M : Type 0} {R : N → M → Type 0} (look : Contents N) (also : Contents M)
+    (f : Instance N → Option (Outcome N)) (g : Instance M → Option (Outcome M)) (i j : Instance N) (i' j' : Instance M)
+    (k : Value N → Run N (Value N)) (h : Value M → Run M (Value M)) (o : Outcome N)
     (p : Option (Outcome N)) → f j ≡ p → ((q : Outcome N) → p ≡ Some q → HasLike R q (g j')) →
-    ((v : Value N) (w : Value M) → f j ≡ Some (Finds v) → ValueLike R v w → settled f i (tried look (λ m. value_in (f m)) (k v)) ≡ Some o → HasLike R o (settled g i' (tried also (λ m. value_in (g m)) (h w)))) →
+    ((v : Value N) (w : Value M) → f j ≡ Some (Finds v) → ValueLike R v w → settled f i (tried look
+    (λ m. value_in (f m)) (k v)) ≡ Some o → HasLike R o (settled g i' (tried also (λ m. value_in (g m)) (h w)))) →
     settled f i (elim (value_in p) [ None ↦ Needs j | Some v ↦ tried look (λ m. value_in (f m)) (k v) ]) ≡ Some o →
     HasLike R o (settled g i' (elim (value_in (g j')) [ None ↦ Needs j' | Some v ↦ tried also (λ m. value_in (g m)) (h v) ]))
 demanded look also f g i j i' j' k h o None fj like step c = absurd (cc)
 demanded look also f g i j i' j' k h o (Some q) fj like step c = let (q', e, s) = like q refl in answered look also f g i j i' j' k h o (g j') s e fj refl step c
 
-along : {N M : Type 0} {R : N → M → Type 0} (look : Contents N) (also : Contents M) (equation : Equations N) (n : ℕ) (g : Instance M → Option (Outcome M)) (i : Instance N) (i' : Instance M) (o : Outcome N) → InstanceLike R i i' →
+along : {N M : Type 0} {R : N → M → Type 0} (look : Contents N) (also : Contents M) (equation : Equations N) (n : ℕ)
+    (g : Instance M → Option (Outcome M)) (i : Instance N) (i' : Instance M) (o : Outcome N) → InstanceLike R i i' →
     {r : Run N (Value N)} {s : Run M (Value M)} → RunLike R (ValueLike R) r s →
     ((l : Location N) → Sees look (λ m v. Holds look equation m (Finds v)) r l → AlikeAt R look also l) →
-    ((j : Instance N) (j' : Instance M) (q : Outcome N) → Reaches look (λ m v. Holds look equation m (Finds v)) r j → InstanceLike R j j' → outcome_at look equation n j ≡ Some q → HasLike R q (g j')) →
+    ((j : Instance N) (j' : Instance M) (q : Outcome N) → Reaches look (λ m v. Holds look equation m (Finds v)) r j
+    → InstanceLike R j j' → outcome_at look equation n j ≡ Some q → HasLike R q (g j')) →
     settled (outcome_at look equation n) i (tried look (λ m. value_in (outcome_at look equation n m)) r) ≡ Some o → HasLike R o (settled g i' (tried also (λ m. value_in (g m)) s))
 along {R = R} look also equation n g i i' o t (gives {b = b} e) a d c = (Finds b, refl, subst (λ z. OutcomeLike R z (Finds b)) (cc) (find e))
 along {R = R} look also equation n g i i' o t (fails f) a d c = (Faults f i', refl, subst (λ z. OutcomeLike R z (Faults f i')) (cc) (fault f t))

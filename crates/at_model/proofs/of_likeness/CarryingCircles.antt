@@ -86,11 +86,15 @@ circle_there f look also equation other like q j q' t a (is, d, w, h) =
 
 -- an answer is one over the other tree
 pub answer_there : {N M : Type 0} {R : N → M → Type 0} → Agrees R → (look : Contents N) (also : Contents M) (equation : Equations N) (other : Equations M) → EquationsLike R equation other →
-    (q : Instance N) (q' : Instance M) (x : Answer N) → InstanceLike R q q' → AlikeBelow R look also equation q → Answers look equation q x → (y : Answer M) × AnswerLike R x y × Answers also other q' y
+    (q : Instance N) (q' : Instance M) (x : Answer N) → InstanceLike R q q' → AlikeBelow R look also equation q
+    → Answers look equation q x → (y : Answer M) × AnswerLike R x y × Answers also other q' y
 answer_there f look also equation other like q q' (Outcomes o) t a h = let (p, g, s) = carried look also equation other like q q' o t a h in (Outcomes p, outcome s, g)
 answer_there f look also equation other like q q' (Circle j) t a h = let (j', s, c) = circle_there f look also equation other like q j q' t a h in (Circle j', circle s, c)
 
 -- by names that are injective
-pub named_answer : {N M : Type 0} (name : N → Option M) → IsInjective name → (look : Contents N) (also : Contents M) (equation : Equations N) (other : Equations M) → EquationsLike (Names name) equation other →
-    (q : Instance N) (q' : Instance M) (x : Answer N) → InstanceLike (Names name) q q' → AlikeBelow (Names name) look also equation q → Answers look equation q x → (y : Answer M) × AnswerLike (Names name) x y × Answers also other q' y
+pub named_answer : {N M : Type 0} (name : N → Option M) → IsInjective name → (look : Contents N) (also : Contents M)
+    (equation : Equations N) (other : Equations M) → EquationsLike (Names name) equation other →
+    (q : Instance N) (q' : Instance M) (x : Answer N) → InstanceLike (Names name) q q'
+    → AlikeBelow (Names name) look also equation q → Answers look equation q x
+    → (y : Answer M) × AnswerLike (Names name) x y × Answers also other q' y
 named_answer name injective look also equation other like q q' x t a h = answer_there (names_agree name injective) look also equation other like q q' x t a h

@@ -79,7 +79,8 @@ element_at-like e (negsuc i) = neither
 pub child_of-like : {N M : Type 0} {R : N → M → Type 0} (part : ℕ) (v : Value N) (w : Value M) → ValueLike R v w → RunLike R (ValueLike R) (child_of part v) (child_of part w)
 child_of-like part v w e = then-like (node_of-like e) (λ m n r. looks (slot part r) (λ c d s. node_or-like (fails Absent) (get-like s 0)))
 
-pub element_of-like : {N M : Type 0} {R : N → M → Type 0} (part : ℕ) (v : Value N) (w : Value M) (i : Value N) (j : Value M) → ValueLike R v w → ValueLike R i j → RunLike R (ValueLike R) (element_of part v i) (element_of part w j)
+pub element_of-like : {N M : Type 0} {R : N → M → Type 0} (part : ℕ) (v : Value N) (w : Value M) (i : Value N) (j :
+    Value M) → ValueLike R v w → ValueLike R i j → RunLike R (ValueLike R) (element_of part v i) (element_of part w j)
 element_of-like part v w i j e s = rw (int_of-like s) (then-like (node_of-like e) (λ m n r. looks (slot part r) (λ c d s. node_or-like (fails Index) (element_at-like s (int_of j)))))
 
 pub count_of-like : {N M : Type 0} {R : N → M → Type 0} (part : ℕ) (v : Value N) (w : Value M) → ValueLike R v w → RunLike R (ValueLike R) (count_of part v) (count_of part w)
@@ -91,7 +92,9 @@ has_of-like part v w e = then-like (node_of-like e) (λ m n r. looks (slot part 
 pub token_of-like : {N M : Type 0} {R : N → M → Type 0} (part : ℕ) (v : Value N) (w : Value M) → ValueLike R v w → RunLike R (ValueLike R) (token_of part v) (token_of part w)
 token_of-like {R = R} part v w e = then-like (node_of-like e) (λ m n r. looks (tok part r) (λ c d s. rw s (gives (value_of-like d))))
 
-pub demand_of-like : {N M : Type 0} {R : N → M → Type 0} (attribute : ℕ) (v : Value N) (w : Value M) (vs : List (Value N)) (ws : List (Value M)) → ValueLike R v w → ListLike (ValueLike R) vs ws → RunLike R (ValueLike R) (demand_of attribute v vs) (demand_of attribute w ws)
+pub demand_of-like : {N M : Type 0} {R : N → M → Type 0} (attribute : ℕ) (v : Value N) (w : Value M)
+    (vs : List (Value N)) (ws : List (Value M)) → ValueLike R v w → ListLike (ValueLike R) vs ws
+    → RunLike R (ValueLike R) (demand_of attribute v vs) (demand_of attribute w ws)
 demand_of-like attribute v w vs ws e es = then-like (node_of-like e) (λ m n r. demands (record { node = r; attribute = refl; arguments = es }) (λ a b s. gives s))
 
 quotient-same : {N M : Type 0} {R : N → M → Type 0} (m n : ℤ) → RunLike R (ValueLike R) (quotient m n) (quotient m n)
@@ -111,10 +114,12 @@ computed-same Remainder m n = remainder-same m n
 computed-same Add m n = gives (int _)
 computed-same Subtract m n = gives (int _)
 
-computed-like : {N M : Type 0} {R : N → M → Type 0} (o : Operator) {v v' : Value N} {w w' : Value M} → ValueLike R v w → ValueLike R v' w' → RunLike R (ValueLike R) (computed o (int_of v) (int_of v')) (computed o (int_of w) (int_of w'))
+computed-like : {N M : Type 0} {R : N → M → Type 0} (o : Operator) {v v' : Value N} {w w' : Value M} → ValueLike R v w →
+    ValueLike R v' w' → RunLike R (ValueLike R) (computed o (int_of v) (int_of v')) (computed o (int_of w) (int_of w'))
 computed-like o {w = w} {w' = w'} e f = rw (int_of-like e, int_of-like f) (computed-same o (int_of w) (int_of w'))
 
-cond-like : {N M A B : Type 0} {R : N → M → Type 0} {Q : A → B → Type 0} (b c : Bool) {x y : Run N A} {x' y' : Run M B} → b ≡ c → RunLike R Q x x' → RunLike R Q y y' → RunLike R Q (cond b x y) (cond c x' y')
+cond-like : {N M A B : Type 0} {R : N → M → Type 0} {Q : A → B → Type 0} (b c : Bool) {x y : Run N A} {x' y' : Run M B}
+    → b ≡ c → RunLike R Q x x' → RunLike R Q y y' → RunLike R Q (cond b x y) (cond c x' y')
 cond-like true true e p q = p
 cond-like false false e p q = q
 cond-like true false e p q = cc
@@ -123,23 +128,28 @@ cond-like false true e p q = cc
 joined-same : {N M : Type 0} {R : N → M → Type 0} (bytes : List ℕ) → RunLike R (ValueLike R) (joined bytes) (joined bytes)
 joined-same bytes = cond-like (nat_le (length bytes) max_text) (nat_le (length bytes) max_text) refl (gives (text bytes)) (fails Long)
 
-ref_eq-like : {N M : Type 0} {R : N → M → Type 0} {same : N → N → Bool} {other : M → M → Bool} → SameLike R same other → {a b : Option N} {c d : Option M} → OptionLike R a c → OptionLike R b d → ref_eq same a b ≡ ref_eq other c d
+ref_eq-like : {N M : Type 0} {R : N → M → Type 0} {same : N → N → Bool} {other : M → M → Bool} → SameLike R same other
+    → {a b : Option N} {c d : Option M} → OptionLike R a c → OptionLike R b d → ref_eq same a b ≡ ref_eq other c d
 ref_eq-like s neither neither = refl
 ref_eq-like s neither (both r) = refl
 ref_eq-like s (both r) neither = refl
 ref_eq-like s (both r) (both t) = s _ _ _ _ r t
 
-pub value_eq-like : {N M : Type 0} {R : N → M → Type 0} {same : N → N → Bool} {other : M → M → Bool} → SameLike R same other → {v v' : Value N} {w w' : Value M} → ValueLike R v w → ValueLike R v' w' → value_eq same v v' ≡ value_eq other w w'
+pub value_eq-like : {N M : Type 0} {R : N → M → Type 0} {same : N → N → Bool} {other : M → M → Bool}
+    → SameLike R same other → {v v' : Value N} {w w' : Value M} → ValueLike R v w → ValueLike R v' w'
+    → value_eq same v v' ≡ value_eq other w w'
 value_eq-like s (int n) f = rw (int_of-like f) refl
 value_eq-like s (truth b) f = rw (truth_of-like f) refl
 value_eq-like s (text bytes) f = rw (text_of-like f) refl
 value_eq-like s (ref m) f = ref_eq-like s m (ref_of-like f)
 
-is_instance-like : {N M : Type 0} {R : N → M → Type 0} (classes : Classes) (class : ℕ) {n : Option N} {m : Option M} → OptionLike R n m → RunLike R (ValueLike R) (is_instance classes class n) (is_instance classes class m)
+is_instance-like : {N M : Type 0} {R : N → M → Type 0} (classes : Classes) (class : ℕ) {n : Option N} {m : Option M}
+    → OptionLike R n m → RunLike R (ValueLike R) (is_instance classes class n) (is_instance classes class m)
 is_instance-like classes class neither = gives (truth false)
 is_instance-like classes class (both r) = looks (is r) (λ c d e. rw e (gives (truth (is_sub classes d class))))
 
-cast_to-like : {N M : Type 0} {R : N → M → Type 0} (classes : Classes) (class : ℕ) {n : Option N} {m : Option M} → OptionLike R n m → RunLike R (ValueLike R) (cast_to classes class n) (cast_to classes class m)
+cast_to-like : {N M : Type 0} {R : N → M → Type 0} (classes : Classes) (class : ℕ) {n : Option N} {m : Option M}
+    → OptionLike R n m → RunLike R (ValueLike R) (cast_to classes class n) (cast_to classes class m)
 cast_to-like classes class neither = gives (ref neither)
 cast_to-like classes class (both r) = looks (is r) (λ c d e. cond-like (is_sub classes c class) (is_sub classes d class) (ap (λ x. is_sub classes x class) e) (gives (ref (both r))) (fails Cast))
 
@@ -169,7 +179,8 @@ pub bound-like : {N M : Type 0} {R : N → M → Type 0} {e : Scope N} {f : Scop
 bound-like t n m r = record { this = t.this; names = more (ref (both r)) t.names; child = t.child }
 
 mutual
-  pub eval-like : {N M : Type 0} {R : N → M → Type 0} {same : N → N → Bool} {other : M → M → Bool} (classes : Classes) → SameLike R same other → (e : Expr) (f : Scope N) (g : Scope M) → ScopeLike R f g →
+  pub eval-like : {N M : Type 0} {R : N → M → Type 0} {same : N → N → Bool} {other : M → M → Bool} (classes : Classes)
+      → SameLike R same other → (e : Expr) (f : Scope N) (g : Scope M) → ScopeLike R f g →
       RunLike R (ValueLike R) (eval classes same e f) (eval classes other e g)
   eval-like classes s (IntLiteral n) f g t = gives (int n)
   eval-like classes s (TruthLiteral b) f g t = gives (truth b)
@@ -181,15 +192,18 @@ mutual
   eval-like classes s (Negate a) f g t = then-like (eval-like classes s a f g t) (λ v w u. rw (int_of-like u) (gives (int _)))
   eval-like classes s (Not a) f g t = then-like (eval-like classes s a f g t) (λ v w u. rw (truth_of-like u) (gives (truth _)))
   eval-like classes s (Arithmetic o a b) f g t = then-like (eval-like classes s a f g t) (λ v w u. then-like (eval-like classes s b f g t) (λ v' w' u'. computed-like o u u'))
-  eval-like classes s (Compare o a b) f g t = then-like (eval-like classes s a f g t) (λ v w u. then-like (eval-like classes s b f g t) (λ v' w' u'. rw (int_of-like u, int_of-like u') (gives (truth _))))
+  eval-like classes s (Compare o a b) f g t = then-like (eval-like classes s a f g t) (λ v w u.
+      then-like (eval-like classes s b f g t) (λ v' w' u'. rw (int_of-like u, int_of-like u') (gives (truth _))))
   eval-like classes s (Join a b) f g t = then-like (eval-like classes s a f g t) (λ v w u. then-like (eval-like classes s b f g t) (λ v' w' u'. rw (text_of-like u, text_of-like u') (joined-same _)))
   eval-like classes s (JoinInt a b) f g t = then-like (eval-like classes s a f g t) (λ v w u. then-like (eval-like classes s b f g t) (λ v' w' u'. rw (text_of-like u, int_of-like u') (joined-same _)))
   eval-like classes s (Same a b) f g t = then-like (eval-like classes s a f g t) (λ v w u. then-like (eval-like classes s b f g t) (λ v' w' u'. rw (value_eq-like s u u') (gives (truth _))))
   eval-like classes s (Differ a b) f g t = then-like (eval-like classes s a f g t) (λ v w u. then-like (eval-like classes s b f g t) (λ v' w' u'. rw (value_eq-like s u u') (gives (truth _))))
   eval-like classes s (And a b) f g t = then-like (eval-like classes s a f g t) (λ v w u. cond-like (truth_of v) (truth_of w) (truth_of-like u) (eval-like classes s b f g t) (gives (truth false)))
   eval-like classes s (Or a b) f g t = then-like (eval-like classes s a f g t) (λ v w u. cond-like (truth_of v) (truth_of w) (truth_of-like u) (gives (truth true)) (eval-like classes s b f g t))
-  eval-like classes s (Choose c a b) f g t = then-like (eval-like classes s c f g t) (λ v w u. cond-like (truth_of v) (truth_of w) (truth_of-like u) (eval-like classes s a f g t) (eval-like classes s b f g t))
-  eval-like classes s (Equals a b) f g t = then-like (eval-like classes s a f g t) (λ v w u. then-like (eval-like classes s b f g t) (λ v' w' u'. rw (text_of-like u, text_of-like u') (gives (truth _))))
+  eval-like classes s (Choose c a b) f g t = then-like (eval-like classes s c f g t) (λ v w u.
+      cond-like (truth_of v) (truth_of w) (truth_of-like u) (eval-like classes s a f g t) (eval-like classes s b f g t))
+  eval-like classes s (Equals a b) f g t = then-like (eval-like classes s a f g t) (λ v w u.
+      then-like (eval-like classes s b f g t) (λ v' w' u'. rw (text_of-like u, text_of-like u') (gives (truth _))))
   eval-like classes s (InstanceOf a class) f g t = then-like (eval-like classes s a f g t) (λ v w u. is_instance-like classes class (ref_of-like u))
   eval-like classes s (CastTo class a) f g t = then-like (eval-like classes s a f g t) (λ v w u. cast_to-like classes class (ref_of-like u))
   eval-like classes s (Child a part) f g t = then-like (eval-like classes s a f g t) (child_of-like part)
@@ -197,12 +211,20 @@ mutual
   eval-like classes s (Count a part) f g t = then-like (eval-like classes s a f g t) (count_of-like part)
   eval-like classes s (Has a part) f g t = then-like (eval-like classes s a f g t) (has_of-like part)
   eval-like classes s (TokenOf a part) f g t = then-like (eval-like classes s a f g t) (token_of-like part)
-  eval-like classes s (Call a attribute bs) f g t = then-like (eval-like classes s a f g t) (λ v w u. then-like (eval_all-like classes s bs f g t) (λ vs ws us. demand_of-like attribute v w vs ws u us))
-  eval-like classes s (Exists a part b) f g t = then-like (eval-like classes s a f g t) (λ v w u. then-like (elements_of-like part u) (λ ns ms r. exists_in-like _ _ (λ n m x. eval-like classes s b _ _ (bound-like t n m x)) r))
-  eval-like classes s (First a part b) f g t = then-like (eval-like classes s a f g t) (λ v w u. then-like (elements_of-like part u) (λ ns ms r. first_in-like _ _ (λ n m x. eval-like classes s b _ _ (bound-like t n m x)) r))
-  eval-like classes s (Sum a part b) f g t = then-like (eval-like classes s a f g t) (λ v w u. then-like (elements_of-like part u) (λ ns ms r. sum_in-like _ _ (λ n m x. eval-like classes s b _ _ (bound-like t n m x)) r (pos 0)))
+  eval-like classes s (Call a attribute bs) f g t = then-like (eval-like classes s a f g t)
+      (λ v w u. then-like (eval_all-like classes s bs f g t) (λ vs ws us. demand_of-like attribute v w vs ws u us))
+  eval-like classes s (Exists a part b) f g t =
+      then-like (eval-like classes s a f g t) (λ v w u. then-like (elements_of-like part u)
+      (λ ns ms r. exists_in-like _ _ (λ n m x. eval-like classes s b _ _ (bound-like t n m x)) r))
+  eval-like classes s (First a part b) f g t =
+      then-like (eval-like classes s a f g t) (λ v w u. then-like (elements_of-like part u)
+      (λ ns ms r. first_in-like _ _ (λ n m x. eval-like classes s b _ _ (bound-like t n m x)) r))
+  eval-like classes s (Sum a part b) f g t =
+      then-like (eval-like classes s a f g t) (λ v w u. then-like (elements_of-like part u)
+      (λ ns ms r. sum_in-like _ _ (λ n m x. eval-like classes s b _ _ (bound-like t n m x)) r (pos 0)))
 
-  pub eval_all-like : {N M : Type 0} {R : N → M → Type 0} {same : N → N → Bool} {other : M → M → Bool} (classes : Classes) → SameLike R same other → (es : Exprs) (f : Scope N) (g : Scope M) → ScopeLike R f g →
+  pub eval_all-like : {N M : Type 0} {R : N → M → Type 0} {same : N → N → Bool} {other : M → M → Bool}
+      (classes : Classes) → SameLike R same other → (es : Exprs) (f : Scope N) (g : Scope M) → ScopeLike R f g →
       RunLike R (ListLike (ValueLike R)) (eval_all classes same es f) (eval_all classes other es g)
   eval_all-like classes s no_exprs f g t = gives end
   eval_all-like classes s (expr e es) f g t = then-like (eval-like classes s e f g t) (λ v w u. then-like (eval_all-like classes s es f g t) (λ vs ws us. gives (more u us)))

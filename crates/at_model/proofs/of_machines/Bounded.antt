@@ -37,7 +37,8 @@ module _ {N : Type 0} where
 
   one_distinct : (x : Instance N × Value N) (old new : List (Instance N × Value N)) → IsOneMore x old new → Distinct (keys old) → (Among x.0 (keys old) → ⊥) → Distinct (keys new)
   one_distinct x _ _ (between front back) d n =
-      subst Distinct (sym (keys_both front (x ∷ back))) (distinct_between (keys front) x.0 (keys back) (subst Distinct (keys_both front back) d) (λ a. n (subst (Among x.0) (sym (keys_both front back)) a)))
+      subst Distinct (sym (keys_both front (x ∷ back))) (distinct_between (keys front) x.0 (keys back)
+      (subst Distinct (keys_both front back) d) (λ a. n (subst (Among x.0) (sym (keys_both front back)) a)))
 
   one_length : (x : Instance N × Value N) (old new : List (Instance N × Value N)) → IsOneMore x old new → length new ≡ length old + 1
   one_length x _ _ (between front back) = let a = length_both front (x ∷ back) in let b = length_both front back in omega (arith, a, b)
@@ -80,7 +81,8 @@ module _ {N : Type 0} (look : Contents N) (equation : Equations N) where
   leads_each (w ∷ ws) i x all h = walks_each w ws i x all h
 
   -- a chain whose last one comes to one of it is a circle
-  circle : (ws : List (Instance N)) (i j q : Instance N) → get_or ws 0 i ≡ q → Chains look equation ws i → Distinct (ws ++ i ∷ []) → Comes look equation i j → Among j (ws ++ i ∷ []) → Circular look equation q j
+  circle : (ws : List (Instance N)) (i j q : Instance N) → get_or ws 0 i ≡ q → Chains look equation ws i
+      → Distinct (ws ++ i ∷ []) → Comes look equation i j → Among j (ws ++ i ∷ []) → Circular look equation q j
   circle [] i j q e all d c h = subst (λ x. Circular look equation x j) e ([], d, c, h)
   circle (w ∷ ws) i j q e all d c h = subst (λ x. Circular look equation x j) e (ws ++ i ∷ [], d, walks_push w ws i j all c, h)
 
@@ -165,7 +167,8 @@ module _ {N : Type 0} (look : Contents N) (equation : Equations N) where
   all_many u = length_both (chain u) (keys u.found) ∙ ap (λ m. m + length (keys u.found)) (length_both u.waiting (u.last ∷ [])) ∙ ap (λ m. length u.waiting + 1 + m) (length_keys u.found)
 
   -- and all of them stand in whichever list has all that the question leads to
-  pub few_turns : (n : ℕ) (q : Instance N) (new : UnderWay N) (universe : List (Instance N)) → Silent look equation n (posted q) new → ((i : Instance N) → Leads look equation q i → Among i universe) → n + 2 ≤ 2 * length universe
+  pub few_turns : (n : ℕ) (q : Instance N) (new : UnderWay N) (universe : List (Instance N)) → Silent look equation n
+      (posted q) new → ((i : Instance N) → Leads look equation q i → Among i universe) → n + 2 ≤ 2 * length universe
   few_turns n q new universe silent listed =
       let (on, count) = turns_are n q (posted q) new silent (begun q) in
       let fewer = no_more (chain new ++ keys new.found) universe (all_apart q new on) (λ i h. listed i (all_led q new on i h)) in

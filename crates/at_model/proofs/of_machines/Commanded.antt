@@ -31,7 +31,8 @@ pub data IsChangeOf (classes : Classes) (s : State) (session : ℕ) (c : Command
   refused : (code : Code) → IsChangeOf classes s session c (Refuses code)
   accepted : (e : Edit) (t : Tree) → IsEditOf classes s session c e → edited classes s.tree e ≡ Ok t → IsChangeOf classes s session c (Edits e t)
 
-at_some : (P : Verdict → Type 0) → ((c : Code) → P (Refuses c)) → {A : Type 0} (o : Option A) (c : Code) (k : A → Verdict) → ((a : A) → o ≡ Some a → P (k a)) → P (elim o [ None ↦ Refuses c | Some a ↦ k a ])
+at_some : (P : Verdict → Type 0) → ((c : Code) → P (Refuses c)) → {A : Type 0} (o : Option A) (c : Code)
+    (k : A → Verdict) → ((a : A) → o ≡ Some a → P (k a)) → P (elim o [ None ↦ Refuses c | Some a ↦ k a ])
 at_some P if_refused None c k h = if_refused c
 at_some P if_refused (Some a) c k h = h a refl
 
@@ -53,11 +54,17 @@ module _ (rules : Rules) (s : State) (session : ℕ) where
   changes : (c : Command) (e : Edit) → IsEditOf rules.classes s session c e → Changes c (changed rules.classes s e)
   changes c e asked = accepts c e asked (edited_within s.limit rules.classes s.tree e) refl
 
-  node_is : (c : Command) (place : Place) (k : Node → Verdict) → ((n : Node) → node_named rules.classes s session place ≡ Some n → Changes c (k n)) → Changes c (elim (node_named rules.classes s session place) [ None ↦ Refuses code.Path | Some n ↦ k n ])
+  node_is : (c : Command) (place : Place) (k : Node → Verdict)
+      → ((n : Node) → node_named rules.classes s session place ≡ Some n → Changes c (k n))
+      → Changes c (elim (node_named rules.classes s session place) [ None ↦ Refuses code.Path | Some n ↦ k n ])
   node_is c place k h = at_some (Changes c) refused (node_named rules.classes s session place) code.Path k h
 
-  component_is : {A : Type 0} (c : Command) (n : Node) (name : List ℕ) (wanted : Shape → Option A) (k : ℕ → A → Verdict) → ((p : ℕ) (a : A) → component_named rules.classes s.tree n name ≡ Some p → Changes c (k p a)) → Changes c (with_component rules.classes s.tree n name wanted k)
-  component_is c n name wanted k h = at_some (Changes c) refused (component_named rules.classes s.tree n name) code.Component _ (λ p is. at_option (Changes c) refused (option_and_then wanted (shape_at rules.classes s.tree n p)) code.Component (k p) (λ a. h p a is))
+  component_is : {A : Type 0} (c : Command) (n : Node) (name : List ℕ) (wanted : Shape → Option A) (k : ℕ → A → Verdict)
+      → ((p : ℕ) (a : A) → component_named rules.classes s.tree n name ≡ Some p → Changes c (k p a))
+      → Changes c (with_component rules.classes s.tree n name wanted k)
+  component_is c n name wanted k h = at_some (Changes c) refused (component_named rules.classes s.tree n name)
+      code.Component _ (λ p is. at_option (Changes c) refused
+      (option_and_then wanted (shape_at rules.classes s.tree n p)) code.Component (k p) (λ a. h p a is))
 
   at_names : (c : Command) (b : Bool) (v : Verdict) → Changes c v → Changes c (elim b [ false ↦ Refuses code.Class | true ↦ v ])
   at_names c true v h = h
@@ -69,22 +76,38 @@ module _ (rules : Rules) (s : State) (session : ℕ) where
   tree_is : (c : Command) (t : Term) (wanted : Option ℕ) (k : Tree → Verdict) → ((u : Tree) → term_of rules.classes u ≡ t → Changes c (k u)) → Changes c (with_tree rules.classes t wanted k)
   tree_is c t wanted k h = at_names c (names_classes rules.classes t) _ (at_some (Changes c) refused (option_and_then (shaped rules.classes t) wanted) code.Fit k (λ u is. h u (written t wanted u is)))
 
-  set_is : (place : Place) (n : Node) (u : Tree) (t : Term) → term_of rules.classes u ≡ t → node_named rules.classes s session place ≡ Some n → Changes (Set place t) (changed rules.classes s (edit.Set n u))
-  set_is place n u t is named = let P : Term → Type 0 = λ x. Changes (Set place x) (changed rules.classes s (edit.Set n u)) in subst P is (changes (Set place (term_of rules.classes u)) (edit.Set n u) (set place n u named))
+  set_is : (place : Place) (n : Node) (u : Tree) (t : Term) → term_of rules.classes u ≡ t → node_named rules.classes s
+      session place ≡ Some n → Changes (Set place t) (changed rules.classes s (edit.Set n u))
+  set_is place n u t is named = let P : Term → Type 0 = λ x. Changes (Set place x) (changed rules.classes s
+      (edit.Set n u)) in subst P is (changes (Set place (term_of rules.classes u)) (edit.Set n u) (set place n u named))
 
-  put_is : (place : Place) (name : List ℕ) (n : Node) (p : ℕ) (u : Tree) (t : Term) → term_of rules.classes u ≡ t → node_named rules.classes s session place ≡ Some n → component_named rules.classes s.tree n name ≡ Some p → Changes (Put place name t) (changed rules.classes s (edit.Put n p u))
-  put_is place name n p u t is named has = let P : Term → Type 0 = λ x. Changes (Put place name x) (changed rules.classes s (edit.Put n p u)) in subst P is (changes (Put place name (term_of rules.classes u)) (edit.Put n p u) (put place name n p u named has))
+  put_is : (place : Place) (name : List ℕ) (n : Node) (p : ℕ) (u : Tree) (t : Term) → term_of rules.classes u ≡ t
+      → node_named rules.classes s session place ≡ Some n → component_named rules.classes s.tree n name ≡ Some p
+      → Changes (Put place name t) (changed rules.classes s (edit.Put n p u))
+  put_is place name n p u t is named has = let P : Term
+      → Type 0 = λ x. Changes (Put place name x) (changed rules.classes s (edit.Put n p u)) in
+      subst P is (changes (Put place name (term_of rules.classes u)) (edit.Put n p u) (put place name n p u named has))
 
-  insert_is : (place : Place) (name : List ℕ) (n : Node) (p index : ℕ) (u : Tree) (t : Term) → term_of rules.classes u ≡ t → node_named rules.classes s session place ≡ Some n → component_named rules.classes s.tree n name ≡ Some p → Changes (Insert place name index t) (changed rules.classes s (edit.Insert n p index u))
-  insert_is place name n p index u t is named has = let P : Term → Type 0 = λ x. Changes (Insert place name index x) (changed rules.classes s (edit.Insert n p index u)) in subst P is (changes (Insert place name index (term_of rules.classes u)) (edit.Insert n p index u) (insert place name n p index u named has))
+  insert_is : (place : Place) (name : List ℕ) (n : Node) (p index : ℕ) (u : Tree) (t : Term) → term_of rules.classes u
+      ≡ t → node_named rules.classes s session place ≡ Some n → component_named rules.classes s.tree n name ≡ Some p
+      → Changes (Insert place name index t) (changed rules.classes s (edit.Insert n p index u))
+  insert_is place name n p index u t is named has = let P : Term → Type 0 = λ x. Changes (Insert place name index x)
+      (changed rules.classes s (edit.Insert n p index u)) in subst P is (changes (Insert place name index
+      (term_of rules.classes u)) (edit.Insert n p index u) (insert place name n p index u named has))
 
   pub edit_of : (c : Command) → is_edit c ≡ true → Changes c (obeyed rules s session c)
   edit_of (Ask place attribute arguments) e = absurd cc
   edit_of (Set place t) e = node_is (Set place t) place _ (λ n named. tree_is (Set place t) t (class_asked rules.classes s.tree n) _ (λ u is. set_is place n u t is named))
-  edit_of (Put place part t) e = node_is (Put place part t) place _ (λ n named. component_is (Put place part t) n part optional_class _ (λ p b has. tree_is (Put place part t) t (Some b) _ (λ u is. put_is place part n p u t is named has)))
+  edit_of (Put place part t) e = node_is (Put place part t) place
+      _ (λ n named. component_is (Put place part t) n part optional_class
+      _ (λ p b has. tree_is (Put place part t) t (Some b) _ (λ u is. put_is place part n p u t is named has)))
   edit_of (Drop place) e = node_is (Drop place) place _ (λ n named. changes (Drop place) (edit.Drop n) (drop place n named))
-  edit_of (Insert place part index t) e = node_is (Insert place part index t) place _ (λ n named. component_is (Insert place part index t) n part list_class _ (λ p b has. tree_is (Insert place part index t) t (Some b) _ (λ u is. insert_is place part n p index u t is named has)))
-  edit_of (Token place part v) e = node_is (Token place part v) place _ (λ n named. component_is (Token place part v) n part token_kind _ (λ p kind has. changes (Token place part v) (edit.Token n p v) (token place part n p v named has)))
+  edit_of (Insert place part index t) e = node_is (Insert place part index t) place
+      _ (λ n named. component_is (Insert place part index t) n part list_class _ (λ p b has.
+      tree_is (Insert place part index t) t (Some b) _ (λ u is. insert_is place part n p index u t is named has)))
+  edit_of (Token place part v) e = node_is (Token place part v) place
+      _ (λ n named. component_is (Token place part v) n part token_kind
+      _ (λ p kind has. changes (Token place part v) (edit.Token n p v) (token place part n p v named has)))
   edit_of (Move place to part index) e =
       node_is (Move place to part index) place _ (λ n named.
       node_is (Move place to part index) to _ (λ m also.
@@ -99,16 +122,20 @@ module _ (rules : Rules) (s : State) (session : ℕ) where
 
 -- the edit of an accepted line
 abbrev pub EditOf : Rules → State → Line → State → Type 0
-EditOf rules old l new = (e : Edit) × IsEditOf rules.classes old l.session l.command e × (edited rules.classes old.tree e ≡ Ok new.tree) × (new.marks ≡ carried_marks e old.marks) × (new.posted ≡ map (carried_posted e) old.posted)
+EditOf rules old l new = (e : Edit) × IsEditOf rules.classes old l.session l.command e × (edited rules.classes old.tree
+    e ≡ Ok new.tree) × (new.marks ≡ carried_marks e old.marks) × (new.posted ≡ map (carried_posted e) old.posted)
 
-edit_after : (rules : Rules) (old : State) (l : Line) (v : Verdict) → IsChangeOf rules.classes old l.session l.command v → (form : Form) (version : ℕ) → Says rules old v form → form ≡ Done version → EditOf rules old l (after old v)
+edit_after : (rules : Rules) (old : State) (l : Line) (v : Verdict) → IsChangeOf rules.classes old l.session l.command v
+    → (form : Form) (version : ℕ) → Says rules old v form → form ≡ Done version → EditOf rules old l (after old v)
 edit_after rules old l v (refused c) form version says is = absurd cc
 edit_after rules old l v (accepted e t asked done) form version says is = (e, asked, done, refl, refl)
 
-pub accepted_of : (rules : Rules) (old : State) (l : Line) (new : State) (reply : Reply) (version : ℕ) → is_edit l.command ≡ true → Step rules old l new reply → reply.form ≡ Done version → EditOf rules old l new
+pub accepted_of : (rules : Rules) (old : State) (l : Line) (new : State) (reply : Reply) (version : ℕ)
+    → is_edit l.command ≡ true → Step rules old l new reply → reply.form ≡ Done version → EditOf rules old l new
 accepted_of rules old l new reply version is h form =
     let P : State → Type 0 = λ x. EditOf rules old l x in
-    subst P (sym h.state) (edit_after rules old l (verdict rules old l) (whole (IsChangeOf rules.classes old l.session l.command) refused rules old l (edit_of rules old l.session l.command is)) reply.form version h.says form)
+    subst P (sym h.state) (edit_after rules old l (verdict rules old l) (whole (IsChangeOf rules.classes old l.session
+    l.command) refused rules old l (edit_of rules old l.session l.command is)) reply.form version h.says form)
 
 -- whether a test finds something behind another one
 find_kept : {A : Type 0} (p q : A → Bool) → ((a : A) → p a ≡ true → q a ≡ true) → (xs : List A) → find p (filter q xs) ≡ find p xs
@@ -153,12 +180,19 @@ module _ (rules : Rules) (s : State) (session : ℕ) where
   unchanged c code other name e = refl
 
   question_spares : (c : Command) (n : Node) (name : List ℕ) (vs : List (Value Node)) → Spares (about c) (questioned rules s.tree n name vs)
-  question_spares c n name vs = at_option (Spares (about c)) (unchanged c) (option_and_then (λ u. attribute_named rules (class_of u) name) (tree_at s.tree n)) code.Attribute _ (λ a. if_both (Spares (about c)) (fit_parameters rules.classes s.tree (parameters_of rules a) vs) _ _ (λ other name e. refl) (unchanged c code.Arguments))
+  question_spares c n name vs = at_option (Spares (about c)) (unchanged c)
+      (option_and_then (λ u. attribute_named rules (class_of u) name) (tree_at s.tree n)) code.Attribute
+      _ (λ a. if_both (Spares (about c)) (fit_parameters rules.classes s.tree (parameters_of rules a) vs)
+      _ _ (λ other name e. refl) (unchanged c code.Arguments))
 
   one_more : (name : List ℕ) (place : Place) (n : Node) → Spares (about (Mark name place)) (Leaves (s.marks ++ record { session = session; name = name; node = n } ∷ []))
   one_more name place n other called e =
       let m : Marked = record { session = session; name = name; node = n } in
-      let no : is_mark other called m ≡ false = not_true (is_mark other called m) (λ is. let f : (nat_eq session other && bytes_eq name called) ≡ true = let b = same_mark other session called name m is (and_true (nat_eq session session) (bytes_eq name name) (eq-eqb session session refl) ((bytes_eq-Decides name name).1 refl)) in and_true (nat_eq session other) (bytes_eq name called) b.0 b.1 in cc) in
+      let no : is_mark other called m ≡ false =
+      not_true (is_mark other called m) (λ is. let f : (nat_eq session other && bytes_eq name called) ≡ true =
+      let b = same_mark other session called name m is (and_true (nat_eq session session) (bytes_eq name name)
+      (eq-eqb session session refl) ((bytes_eq-Decides name name).1 refl)) in
+      and_true (nat_eq session other) (bytes_eq name called) b.0 b.1 in cc) in
       ap (option_map (λ m. m.node)) (find-append (is_mark other called) s.marks (m ∷ []) ∙ at_end (find (is_mark other called) s.marks) m (is_mark other called m) no)
     where
       at_end : (o : Option Marked) (m : Marked) (b : Bool) → b ≡ false → option_or o (cond b (Some m) None) ≡ o
@@ -166,26 +200,39 @@ module _ (rules : Rules) (s : State) (session : ℕ) where
       at_end (Some x) m b is = refl
 
   one_less : (name : List ℕ) → Spares (about (Unmark name)) (Leaves (filter (λ m. not (is_mark session name m)) s.marks))
-  one_less name other called e = ap (option_map (λ m. m.node)) (find_kept (is_mark other called) (λ m. not (is_mark session name m)) (λ m is. stays (is_mark session name m) (λ also. let b = same_mark other session called name m is also in let f : (nat_eq session other && bytes_eq name called) ≡ true = and_true (nat_eq session other) (bytes_eq name called) b.0 b.1 in cc)) s.marks)
+  one_less name other called e = ap (option_map (λ m. m.node))
+      (find_kept (is_mark other called) (λ m. not (is_mark session name m)) (λ m is. stays (is_mark session name m)
+      (λ also. let b = same_mark other session called name m is also in let f : (nat_eq session other
+      && bytes_eq name called) ≡ true = and_true (nat_eq session other) (bytes_eq name called) b.0 b.1 in cc)) s.marks)
     where
       stays : (b : Bool) → (b ≡ true → ⊥) → not b ≡ true
       stays true h = absurd (h refl)
       stays false h = refl
 
   pub spares : (c : Command) → is_edit c ≡ false → Spares (about c) (obeyed rules s session c)
-  spares (Ask place attribute arguments) e = node_all (Spares (about (Ask place attribute arguments))) (unchanged (Ask place attribute arguments)) rules.classes s session place _ (λ n. at_option (Spares (about (Ask place attribute arguments))) (unchanged (Ask place attribute arguments)) (each (map (value_named rules.classes s session) arguments)) code.Path _ (λ vs. question_spares (Ask place attribute arguments) n attribute vs))
+  spares (Ask place attribute arguments) e =
+      node_all (Spares (about (Ask place attribute arguments))) (unchanged (Ask place attribute arguments))
+      rules.classes s session place _ (λ n. at_option (Spares (about (Ask place attribute arguments)))
+      (unchanged (Ask place attribute arguments)) (each (map (value_named rules.classes s session) arguments)) code.Path
+      _ (λ vs. question_spares (Ask place attribute arguments) n attribute vs))
   spares (Set place t) e = absurd cc
   spares (Put place part t) e = absurd cc
   spares (Drop place) e = absurd cc
   spares (Insert place part index t) e = absurd cc
   spares (Token place part v) e = absurd cc
   spares (Move place to part index) e = absurd cc
-  spares (Show place) e = node_all (Spares (about (Show place))) (unchanged (Show place)) rules.classes s session place _ (λ n. at_option (Spares (about (Show place))) (unchanged (Show place)) (tree_at s.tree n) code.Path _ (λ u other name f. refl))
-  spares (Mark name place) e = node_all (Spares (about (Mark name place))) (unchanged (Mark name place)) rules.classes s session place _ (λ n. if_both (Spares (about (Mark name place))) (is_marked s.marks session name) _ _ (unchanged (Mark name place) code.Taken) (if_both (Spares (about (Mark name place))) (nat_le max_marks (count_by (λ m. nat_eq session m.session) s.marks)) _ _ (unchanged (Mark name place) code.Limit) (one_more name place n)))
+  spares (Show place) e = node_all (Spares (about (Show place))) (unchanged (Show place)) rules.classes s session place
+      _ (λ n. at_option (Spares (about (Show place))) (unchanged (Show place)) (tree_at s.tree n) code.Path
+      _ (λ u other name f. refl))
+  spares (Mark name place) e = node_all (Spares (about (Mark name place))) (unchanged (Mark name place)) rules.classes s
+      session place _ (λ n. if_both (Spares (about (Mark name place))) (is_marked s.marks session name) _ _ (unchanged
+      (Mark name place) code.Taken) (if_both (Spares (about (Mark name place))) (nat_le max_marks (count_by
+      (λ m. nat_eq session m.session) s.marks)) _ _ (unchanged (Mark name place) code.Limit) (one_more name place n)))
   spares (Unmark name) e = one_less name
   spares (Where name) e = at_option (Spares (about (Where name))) (unchanged (Where name)) (marked s.marks session name) code.Mark _ (λ n other called f. refl)
   spares Version e = λ other name f. refl
-  spares (Post place attribute arguments) e = post_all (Spares (about (Post place attribute arguments))) (unchanged (Post place attribute arguments)) s session place attribute arguments (λ other name f. refl)
+  spares (Post place attribute arguments) e = post_all (Spares (about (Post place attribute arguments)))
+      (unchanged (Post place attribute arguments)) s session place attribute arguments (λ other name f. refl)
   spares (Wait number) e = if_both (Spares (about (Wait number))) (list_any (is_posted session number) s.posted) _ _ (λ other name f. refl) (unchanged (Wait number) code.Question)
 
   -- the verdict leaves the state
@@ -196,7 +243,10 @@ module _ (rules : Rules) (s : State) (session : ℕ) where
   stays code = refl
 
   pub same : (c : Command) → is_edit c ≡ false → is_marking c ≡ false → is_post c ≡ false → Same (obeyed rules s session c)
-  same (Ask place attribute arguments) e f g = node_all Same stays rules.classes s session place _ (λ n. at_option Same stays (each (map (value_named rules.classes s session) arguments)) code.Path _ (λ vs. at_option Same stays (option_and_then (λ u. attribute_named rules (class_of u) attribute) (tree_at s.tree n)) code.Attribute _ (λ a. if_both Same (fit_parameters rules.classes s.tree (parameters_of rules a) vs) _ _ refl refl)))
+  same (Ask place attribute arguments) e f g = node_all Same stays rules.classes s session place _ (λ n.
+      at_option Same stays (each (map (value_named rules.classes s session) arguments)) code.Path _ (λ vs. at_option
+      Same stays (option_and_then (λ u. attribute_named rules (class_of u) attribute) (tree_at s.tree n)) code.Attribute
+      _ (λ a. if_both Same (fit_parameters rules.classes s.tree (parameters_of rules a) vs) _ _ refl refl)))
   same (Set place t) e f g = absurd cc
   same (Put place part t) e f g = absurd cc
   same (Drop place) e f g = absurd cc
@@ -231,7 +281,9 @@ module _ (rules : Rules) (s : State) (session : ℕ) where
   tellable (Token place part v) e = of_edit _ (Token place part v) (edit_of rules s session (Token place part v) refl)
   tellable (Move place to part index) e = of_edit _ (Move place to part index) (edit_of rules s session (Move place to part index) refl)
   tellable (Show place) e = node_all Tellable untold rules.classes s session place _ (λ n. at_option Tellable untold (tree_at s.tree n) code.Path _ (λ u q f. cc))
-  tellable (Mark name place) e = node_all Tellable untold rules.classes s session place _ (λ n. if_both Tellable (is_marked s.marks session name) _ _ (untold code.Taken) (if_both Tellable (nat_le max_marks (count_by (λ m. nat_eq session m.session) s.marks)) _ _ (untold code.Limit) (λ q f. cc)))
+  tellable (Mark name place) e = node_all Tellable untold rules.classes s session place
+      _ (λ n. if_both Tellable (is_marked s.marks session name) _ _ (untold code.Taken) (if_both Tellable
+      (nat_le max_marks (count_by (λ m. nat_eq session m.session) s.marks)) _ _ (untold code.Limit) (λ q f. cc)))
   tellable (Unmark name) e = λ q f. cc
   tellable (Where name) e = at_option Tellable untold (marked s.marks session name) code.Mark _ (λ n q f. cc)
   tellable Version e = λ q f. cc
@@ -242,9 +294,11 @@ pub spared_step : (rules : Rules) (old : State) (l : Line) (new : State) (reply 
     (other : ℕ) (name : List ℕ) → is_about_mark l other name ≡ false → marked new.marks other name ≡ marked old.marks other name
 spared_step rules old l new reply is h other name e =
     let P : State → Type 0 = λ x. marked x.marks other name ≡ marked old.marks other name in
-    subst P (sym h.state) (whole (Spares rules old l.session (about rules old l.session l.command)) (unchanged rules old l.session l.command) rules old l (spares rules old l.session l.command is) other name e)
+    subst P (sym h.state) (whole (Spares rules old l.session (about rules old l.session l.command))
+    (unchanged rules old l.session l.command) rules old l (spares rules old l.session l.command is) other name e)
 
-pub same_step : (rules : Rules) (old : State) (l : Line) (new : State) (reply : Reply) → is_edit l.command ≡ false → is_marking l.command ≡ false → is_post l.command ≡ false → Step rules old l new reply → new ≡ old
+pub same_step : (rules : Rules) (old : State) (l : Line) (new : State) (reply : Reply) → is_edit l.command ≡ false
+    → is_marking l.command ≡ false → is_post l.command ≡ false → Step rules old l new reply → new ≡ old
 same_step rules old l new reply e f g h = h.state ∙ whole (Same rules old l.session) (stays rules old l.session) rules old l (same rules old l.session l.command e f g)
 
 -- the verdict on what is neither an edit nor posts leaves the open questions
@@ -256,7 +310,9 @@ module _ (rules : Rules) (s : State) (session : ℕ) where
   refused_leaves code = refl
 
   marking_leaves : (c : Command) → is_marking c ≡ true → LeavesPosted (obeyed rules s session c)
-  marking_leaves (Mark name place) e = node_all LeavesPosted refused_leaves rules.classes s session place _ (λ n. if_both LeavesPosted (is_marked s.marks session name) _ _ refl (if_both LeavesPosted (nat_le max_marks (count_by (λ m. nat_eq session m.session) s.marks)) _ _ refl refl))
+  marking_leaves (Mark name place) e = node_all LeavesPosted refused_leaves rules.classes s session place
+      _ (λ n. if_both LeavesPosted (is_marked s.marks session name) _ _ refl
+      (if_both LeavesPosted (nat_le max_marks (count_by (λ m. nat_eq session m.session) s.marks)) _ _ refl refl))
   marking_leaves (Unmark name) e = refl
   marking_leaves c e = absurd cc
 
@@ -285,15 +341,19 @@ none_after rules s l none f = by_edit (is_edit l.command) refl
 
 -- a question that is posted is one more that is open
 abbrev pub OpensAs : State → Posted → Verdict → Type 0
-OpensAs s q v = (form : Form) (number : ℕ) → (rules : Rules) → Says rules s v form → form ≡ Opened number → (number ≡ q.number) × (after s v ≡ record s { posts = q.number; posted = s.posted ++ q ∷ [] })
+OpensAs s q v = (form : Form) (number : ℕ) → (rules : Rules) → Says rules s v form → form ≡ Opened number
+    → (number ≡ q.number) × (after s v ≡ record s { posts = q.number; posted = s.posted ++ q ∷ [] })
 
-pub posted_step : (rules : Rules) (old : State) (l : Line) (new : State) (reply : Reply) (number : ℕ) (place : Place) (attribute : List ℕ) (arguments : List Argument) → l.command ≡ Post place attribute arguments → Step rules old l new reply → reply.form ≡ Opened number →
+pub posted_step : (rules : Rules) (old : State) (l : Line) (new : State) (reply : Reply) (number : ℕ) (place : Place)
+    (attribute : List ℕ) (arguments : List Argument) → l.command ≡ Post place attribute arguments
+    → Step rules old l new reply → reply.form ≡ Opened number →
     (number ≡ old.posts + 1) × (new ≡ record old { posts = old.posts + 1; posted = old.posted ++ new_post old l.session place attribute arguments ∷ [] })
 posted_step rules old l new reply number place attribute arguments is h form =
     let q = new_post old l.session place attribute arguments in
     let Q : Command → Type 0 = λ c. OpensAs old q (obeyed rules old l.session c) in
     let opens : OpensAs old q (verdict rules old l) = whole (OpensAs old q) (λ code f n r says e. absurd cc) rules old l
-    (subst Q (sym is) (post_all (OpensAs old q) (λ code f n r says e. absurd cc) old l.session place attribute arguments (λ f n r says e. (let same : Opened q.number ≡ Opened n = sym says ∙ e in cc, refl)))) in
+    (subst Q (sym is) (post_all (OpensAs old q) (λ code f n r says e. absurd cc) old l.session place attribute arguments
+    (λ f n r says e. (let same : Opened q.number ≡ Opened n = sym says ∙ e in cc, refl)))) in
     let (number_is, state) = opens reply.form number rules h.says form in
     (number_is, h.state ∙ state)
 
@@ -318,21 +378,29 @@ module _ (rules : Rules) (s : State) (session : ℕ) where
   at_new : (name : List ℕ) (n : Node) → is_marked s.marks session name ≡ false → marked (s.marks ++ record { session = session; name = name; node = n } ∷ []) session name ≡ Some n
   at_new name n free =
       let m : Marked = record { session = session; name = name; node = n } in
-      ap (option_map (λ m. m.node)) (find-append (is_mark session name) s.marks (m ∷ []) ∙ at_end (find (is_mark session name) s.marks) (is_mark session name m) (none (find (is_mark session name) s.marks) free) (and_true (nat_eq session session) (bytes_eq name name) (eq-eqb session session refl) ((bytes_eq-Decides name name).1 refl)))
+      ap (option_map (λ m. m.node))
+      (find-append (is_mark session name) s.marks (m ∷ []) ∙ at_end (find (is_mark session name) s.marks)
+      (is_mark session name m) (none (find (is_mark session name) s.marks) free) (and_true (nat_eq session session)
+      (bytes_eq name name) (eq-eqb session session refl) ((bytes_eq-Decides name name).1 refl)))
     where
       none : (o : Option Marked) → is_some (option_map (λ m. m.node) o) ≡ false → o ≡ None
       none None e = refl
       none (Some m) e = absurd cc
 
-      at_end : (o : Option Marked) (b : Bool) → o ≡ None → b ≡ true → option_or o (cond b (Some (record { session = session; name = name; node = n })) None) ≡ Some (record { session = session; name = name; node = n })
+      at_end : (o : Option Marked) (b : Bool) → o ≡ None → b ≡ true
+          → option_or o (cond b (Some (record { session = session; name = name; node = n })) None)
+          ≡ Some (record { session = session; name = name; node = n })
       at_end o b e f = rw (e, f) refl
 
   mark_made : (name : List ℕ) (n : Node) → MarksAs name (Some n) (with_mark s session name n)
   mark_made name n = by_name (is_marked s.marks session name) refl
     where
-      by_name : (b : Bool) → is_marked s.marks session name ≡ b → MarksAs name (Some n) (if b then Refuses code.Taken else (if nat_le max_marks (count_by (λ m. nat_eq session m.session) s.marks) then Refuses code.Limit else Leaves (s.marks ++ record { session = session; name = name; node = n } ∷ [])))
+      by_name : (b : Bool) → is_marked s.marks session name ≡ b → MarksAs name (Some n)
+          (if b then Refuses code.Taken else (if nat_le max_marks (count_by (λ m. nat_eq session m.session) s.marks)
+          then Refuses code.Limit else Leaves (s.marks ++ record { session = session; name = name; node = n } ∷ [])))
       by_name true is = undone name (Some n) code.Taken
-      by_name false is = if_both (MarksAs name (Some n)) (nat_le max_marks (count_by (λ m. nat_eq session m.session) s.marks)) _ _ (undone name (Some n) code.Limit) (λ form version says e. at_new name n is)
+      by_name false is = if_both (MarksAs name (Some n)) (nat_le max_marks (count_by (λ m. nat_eq session m.session)
+          s.marks)) _ _ (undone name (Some n) code.Limit) (λ form version says e. at_new name n is)
 
   made : (name : List ℕ) (place : Place) (o : Option Node) → node_named rules.classes s session place ≡ o → MarksAs name o (elim o [ None ↦ Refuses code.Path | Some n ↦ with_mark s session name n ])
   made name place None is = undone name None code.Path
@@ -341,16 +409,21 @@ module _ (rules : Rules) (s : State) (session : ℕ) where
   forgotten : (name : List ℕ) → MarksAs name None (Leaves (filter (λ m. not (is_mark session name m)) s.marks))
   forgotten name form version says e = ap (option_map (λ m. m.node)) (find_lost (is_mark session name) s.marks)
 
-pub made_step : (rules : Rules) (old : State) (l : Line) (new : State) (reply : Reply) (version : ℕ) (name : List ℕ) (place : Place) → l.command ≡ Mark name place → Step rules old l new reply → reply.form ≡ Done version →
+pub made_step : (rules : Rules) (old : State) (l : Line) (new : State) (reply : Reply) (version : ℕ) (name : List ℕ)
+    (place : Place) → l.command ≡ Mark name place → Step rules old l new reply → reply.form ≡ Done version →
     marked new.marks l.session name ≡ node_named rules.classes old l.session place
 made_step rules old l new reply version name place is h form =
     let P : State → Type 0 = λ x. marked x.marks l.session name ≡ node_named rules.classes old l.session place in
     let Q : Command → Type 0 = λ c. MarksAs rules old l.session name (node_named rules.classes old l.session place) (obeyed rules old l.session c) in
-    subst P (sym h.state) (whole (MarksAs rules old l.session name (node_named rules.classes old l.session place)) (undone rules old l.session name (node_named rules.classes old l.session place)) rules old l
+    subst P (sym h.state) (whole (MarksAs rules old l.session name (node_named rules.classes old l.session place))
+    (undone rules old l.session name (node_named rules.classes old l.session place)) rules old l
     (subst Q (sym is) (made rules old l.session name place (node_named rules.classes old l.session place) refl)) reply.form version h.says form)
 
-pub forgotten_step : (rules : Rules) (old : State) (l : Line) (new : State) (reply : Reply) (version : ℕ) (name : List ℕ) → l.command ≡ Unmark name → Step rules old l new reply → reply.form ≡ Done version → marked new.marks l.session name ≡ None
+pub forgotten_step : (rules : Rules) (old : State) (l : Line) (new : State) (reply : Reply) (version : ℕ)
+    (name : List ℕ) → l.command ≡ Unmark name → Step rules old l new reply → reply.form ≡ Done version
+    → marked new.marks l.session name ≡ None
 forgotten_step rules old l new reply version name is h form =
     let P : State → Type 0 = λ x. marked x.marks l.session name ≡ None in
     let Q : Command → Type 0 = λ c. MarksAs rules old l.session name None (obeyed rules old l.session c) in
-    subst P (sym h.state) (whole (MarksAs rules old l.session name None) (undone rules old l.session name None) rules old l (subst Q (sym is) (forgotten rules old l.session name)) reply.form version h.says form)
+    subst P (sym h.state) (whole (MarksAs rules old l.session name None) (undone rules old l.session name None) rules
+    old l (subst Q (sym is) (forgotten rules old l.session name)) reply.form version h.says form)

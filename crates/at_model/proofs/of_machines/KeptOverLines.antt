@@ -18,7 +18,9 @@ pub sound_heard : (rules : Rules) (s : State) (l : Option Line) → IsSound rule
 sound_heard rules s None sound = sound
 sound_heard rules s (Some l) sound = sound_line rules s sound l
 
-well_heard : (rules : Rules) (s : State) (l : Option Line) (Kept : Instance Node → Type 0) → IsSound rules.classes s → AreWellKept rules s.tree Kept → AreWellKept rules (after s (heard rules s l)).tree (KeptAfter rules s (heard rules s l) Kept)
+well_heard : (rules : Rules) (s : State) (l : Option Line) (Kept : Instance Node → Type 0)
+    → IsSound rules.classes s → AreWellKept rules s.tree Kept
+    → AreWellKept rules (after s (heard rules s l)).tree (KeptAfter rules s (heard rules s l) Kept)
 well_heard rules s None Kept sound well = well
 well_heard rules s (Some l) Kept sound well = kept_well rules s l Kept sound well
 
@@ -26,9 +28,12 @@ pub sound_over : (rules : Rules) (s : State) (ls : List (Option Line)) → IsSou
 sound_over rules s [] sound = sound
 sound_over rules s (l ∷ ls) sound = sound_over rules (after s (heard rules s l)) ls (sound_heard rules s l sound)
 
-well_over : (rules : Rules) (s : State) (ls : List (Option Line)) (Kept : Instance Node → Type 0) → IsSound rules.classes s → AreWellKept rules s.tree Kept → AreWellKept rules (state_after rules s ls).tree (KeptOver rules s ls Kept)
+well_over : (rules : Rules) (s : State) (ls : List (Option Line)) (Kept : Instance Node → Type 0)
+    → IsSound rules.classes s → AreWellKept rules s.tree Kept
+    → AreWellKept rules (state_after rules s ls).tree (KeptOver rules s ls Kept)
 well_over rules s [] Kept sound well = well
-well_over rules s (l ∷ ls) Kept sound well = well_over rules (after s (heard rules s l)) ls (KeptAfter rules s (heard rules s l) Kept) (sound_heard rules s l sound) (well_heard rules s l Kept sound well)
+well_over rules s (l ∷ ls) Kept sound well = well_over rules (after s (heard rules s l)) ls
+    (KeptAfter rules s (heard rules s l) Kept) (sound_heard rules s l sound) (well_heard rules s l Kept sound well)
 
 pub well_from_nothing : (rules : Rules) (s : State) (ls : List (Option Line)) → IsSound rules.classes s → AreWellKept rules (state_after rules s ls).tree (KeptOver rules s ls NothingKept)
 well_from_nothing rules s ls sound = well_over rules s ls NothingKept sound (record { lazy = λ i none. absurd none; valued = λ i none. absurd none; deep = λ i j none leads is. none })

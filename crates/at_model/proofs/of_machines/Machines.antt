@@ -74,7 +74,11 @@ module _ (rules : Rules) (s : State) (limit version posts : ℕ) (ps : List Post
 
   obeyed_same : (session : ℕ) (place : Place) (attribute : List ℕ) (as' : List Argument) → obeyed rules there session (Ask place attribute as') ≡ obeyed rules s session (Ask place attribute as')
   obeyed_same session place attribute as' =
-      let F : Option Node → Option (List (Value Node)) → Verdict = λ o vs. elim o [ None ↦ Refuses code.Path | Some n ↦ elim vs [ None ↦ Refuses code.Path | Some ws ↦ questioned rules s.tree n attribute ws ] ] in
+      let F : Option Node → Option (List (Value Node)) → Verdict = λ o vs. elim o [
+        | None ↦ Refuses code.Path
+        | Some n ↦
+            elim vs [ None ↦ Refuses code.Path | Some ws ↦ questioned rules s.tree n attribute ws ]
+      ] in
       ap (λ o. F o (each (map (value_named rules.classes there session) as'))) (node_same session place) ∙ ap (F (node_named rules.classes s session place)) (values_same session as')
 
 words_same : (rules : Rules) (s : State) (limit version posts : ℕ) (ps : List Posted) (q : Posted) →
@@ -85,7 +89,14 @@ words_same rules s limit version posts ps q =
 
 pub words_judged : (rules : Rules) (s t : State) (q : Posted) → t.tree ≡ s.tree → verdict rules (seen_by q t) (line_of q) ≡ verdict rules (seen_by q s) (line_of q)
 words_judged rules s t q e =
-    ap (λ (u : Tree). verdict rules (record { tree = u; limit = t.limit; version = t.version; marks = q.marks; posts = t.posts; posted = t.posted }) (line_of q)) e ∙ words_same rules s t.limit t.version t.posts t.posted q
+    ap (λ (u : Tree). verdict rules (record {
+      tree = u;
+      limit = t.limit;
+      version = t.version;
+      marks = q.marks;
+      posts = t.posts;
+      posted = t.posted;
+    }) (line_of q)) e ∙ words_same rules s t.limit t.version t.posts t.posted q
 
 says_same : (rules : Rules) (s : State) (ps : List Posted) (v : Verdict) (form : Form) → Says rules (record s { posted = ps }) v form → Says rules s v form
 says_same rules s ps (Refuses refusal) form h = h
@@ -105,7 +116,8 @@ told_same rules s ps q form h =
 same_some : {A : Type 0} {a b : A} → Some a ≡ Some b → a ≡ b
 same_some e = cc
 
-one_more : (rules : Rules) (number : ℕ) (old new : State) (said : Bool × Reply) (q : Posted) → numbered old number ≡ Some q → IsWaited rules number (given_one number old) new said → IsWaited rules number old new said
+one_more : (rules : Rules) (number : ℕ) (old new : State) (said : Bool × Reply) (q : Posted) → numbered old number
+    ≡ Some q → IsWaited rules number (given_one number old) new said → IsWaited rules number old new said
 one_more rules number old new said q e w =
     let (c, found, is) = found_counted number old.posted q e in
     let as_q : w.question ≡ record q { turns = q.turns + 1 } = same_some (sym w.there ∙ found) ∙ is in
@@ -135,5 +147,7 @@ leaves_on old mid new e f = f ∙ ap (λ (x : State). record x { posted = new.po
 pub given_leaves : (rules : Rules) (limit : ℕ) (old : State) (told : List (Bool × Reply)) (new : State) → Given rules limit old told new → new ≡ record old { posted = new.posted }
 given_leaves rules _ _ _ _ (spent s) = refl
 given_leaves rules _ _ _ _ (none_open limit s e) = refl
-given_leaves rules _ _ _ new (silent {limit = limit} {s = s} {mid = mid} {told = told} q f t g) = leaves_on s mid new (turn_leaves rules s q.number mid None t) (given_leaves rules limit mid told new g)
-given_leaves rules _ _ _ new (telling {limit = limit} {s = s} {mid = mid} {said = said} {told = told} q f t g) = leaves_on s mid new (turn_leaves rules s q.number mid (Some said) t) (given_leaves rules limit mid told new g)
+given_leaves rules _ _ _ new (silent {limit = limit} {s = s} {mid = mid} {told = told} q f t g) =
+    leaves_on s mid new (turn_leaves rules s q.number mid None t) (given_leaves rules limit mid told new g)
+given_leaves rules _ _ _ new (telling {limit = limit} {s = s} {mid = mid} {said = said} {told = told} q f t g) =
+    leaves_on s mid new (turn_leaves rules s q.number mid (Some said) t) (given_leaves rules limit mid told new g)

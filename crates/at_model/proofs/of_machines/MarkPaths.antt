@@ -30,7 +30,9 @@ some_tree (Some u) h = (u, refl)
 module _ (rules : Rules) (s : State) (apart : ArePartsApart rules.classes) (sound : IsSound rules.classes s) (session : ℕ) (name : List ℕ) where
   -- where it tells a path, that path leads to the marked node
   abbrev TellsBack : Verdict → Type 0
-  TellsBack v = (form : Form) (path : Path) → Says rules s v form → form ≡ Shows (At path) → (n : Node) × (marked s.marks session name ≡ Some n) × (node_at rules.classes s.tree path ≡ Some n) × (AreSound rules.classes → IsPath path)
+  TellsBack v = (form : Form) (path : Path) → Says rules s v form → form ≡ Shows (At path)
+      → (n : Node) × (marked s.marks session name ≡ Some n) × (node_at rules.classes s.tree path ≡ Some n)
+      × (AreSound rules.classes → IsPath path)
 
   told_nothing : (c : Code) → TellsBack (Refuses c)
   told_nothing c form path says e = absurd cc
@@ -52,7 +54,8 @@ module _ (rules : Rules) (s : State) (apart : ArePartsApart rules.classes) (soun
       let small : nodes s.tree ≤ 16777216 = at_most (nodes s.tree) (both (nat_le (nodes s.tree) max_nodes) (nat_le (depth s.tree) max_depth) few.0).0 in
       (n, is, subst (λ (x : Path). node_at rules.classes s.tree x ≡ Some n) back read, λ named. subst IsPath back (path_written rules.classes named s.tree n p small written))
 
-pub where_step : (rules : Rules) (old : State) (l : Line) (new : State) (reply : Reply) (name : List ℕ) (path : Path) → ArePartsApart rules.classes → IsSound rules.classes old → l.command ≡ Where name → Step rules old l new reply →
+pub where_step : (rules : Rules) (old : State) (l : Line) (new : State) (reply : Reply) (name : List ℕ) (path : Path)
+    → ArePartsApart rules.classes → IsSound rules.classes old → l.command ≡ Where name → Step rules old l new reply →
     reply.form ≡ Shows (At path) → (n : Node) × (marked old.marks l.session name ≡ Some n) × (node_at rules.classes old.tree path ≡ Some n) × (AreSound rules.classes → IsPath path)
 where_step rules old l new reply name path apart sound is h form =
     let Q : Command → Type 0 = λ c. TellsBack rules old apart sound l.session name (obeyed rules old l.session c) in
@@ -60,7 +63,9 @@ where_step rules old l new reply name path apart sound is h form =
     (subst Q (sym is) (where_tells rules old apart sound l.session name (marked old.marks l.session name) refl)) reply.form path h.says form
 
 -- and so does whatever else is read of its text
-pub where_text : (rules : Rules) (old : State) (l : Line) (new : State) (reply : Reply) (name : List ℕ) (path : Path) → AreSound rules.classes → ArePartsApart rules.classes → IsSound rules.classes old → l.command ≡ Where name → Step rules old l new reply →
+pub where_text : (rules : Rules) (old : State) (l : Line) (new : State) (reply : Reply) (name : List ℕ) (path : Path)
+    → AreSound rules.classes → ArePartsApart rules.classes → IsSound rules.classes old → l.command ≡ Where name
+    → Step rules old l new reply →
     reply.form ≡ Shows (At path) → (q : Path) → IsPath q → path_text q ≡ path_text path → node_at rules.classes old.tree q ≡ marked old.marks l.session name
 where_text rules old l new reply name path named apart sound is h form q written same =
     let (n, there, leads, can) = where_step rules old l new reply name path apart sound is h form in

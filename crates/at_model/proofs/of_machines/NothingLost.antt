@@ -41,9 +41,11 @@ module _ (rules : Rules) (s : State) (Kept : Instance Node → Type 0) (sound : 
   there_heard None = there
   there_heard (Some l) = there_by l (verdict rules s l) refl (whole (Safe rules.classes s) refused rules s l (safe rules s sound l.session l.command))
 
-there_over : (rules : Rules) (s : State) (ls : List (Option Line)) (Kept : Instance Node → Type 0) → IsSound rules.classes s → AreThere s.tree Kept → AreThere (state_after rules s ls).tree (KeptOver rules s ls Kept)
+there_over : (rules : Rules) (s : State) (ls : List (Option Line)) (Kept : Instance Node → Type 0)
+    → IsSound rules.classes s → AreThere s.tree Kept → AreThere (state_after rules s ls).tree (KeptOver rules s ls Kept)
 there_over rules s [] Kept sound there = there
-there_over rules s (l ∷ ls) Kept sound there = there_over rules (after s (heard rules s l)) ls (KeptAfter rules s (heard rules s l) Kept) (sound_heard rules s l sound) (there_heard rules s Kept sound there l)
+there_over rules s (l ∷ ls) Kept sound there = there_over rules (after s (heard rules s l)) ls
+    (KeptAfter rules s (heard rules s l) Kept) (sound_heard rules s l sound) (there_heard rules s Kept sound there l)
 
 pub kept_there : (rules : Rules) (s : State) (ls : List (Option Line)) → IsSound rules.classes s → AreThere (state_after rules s ls).tree (KeptOver rules s ls NothingKept)
 kept_there rules s ls sound = there_over rules s ls NothingKept sound (λ i none. absurd none)
@@ -66,7 +68,8 @@ made_heard : (rules : Rules) (s : State) (l : Option Line) (e : Edit) (t : Tree)
 made_heard rules s None e t sound is = absurd cc
 made_heard rules s (Some l) e t sound is = made_by rules s e t (verdict rules s l) (whole (Safe rules.classes s) refused rules s l (safe rules s sound l.session l.command)) is
 
-pub nothing_lost : (rules : Rules) (s : State) (ls : List (Option Line)) (l : Option Line) (e : Edit) (t : Tree) (i : Instance Node) → IsSound rules.classes s → heard rules (state_after rules s ls) l ≡ Edits e t →
+pub nothing_lost : (rules : Rules) (s : State) (ls : List (Option Line)) (l : Option Line) (e : Edit) (t : Tree)
+    (i : Instance Node) → IsSound rules.classes s → heard rules (state_after rules s ls) l ≡ Edits e t →
     KeptOver rules s ls NothingKept i → IsUntouched rules (state_after rules s ls).tree e i → (j : Instance Node) × InstanceLike (Names (carried e)) i j × KeptOver rules s (ls ++ l ∷ []) NothingKept j
 nothing_lost rules s ls l e t i sound is kept free =
     let made = made_heard rules (state_after rules s ls) l e t (sound_over rules s ls sound) is in

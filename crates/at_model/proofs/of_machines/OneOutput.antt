@@ -21,7 +21,8 @@ space_stops [] h = tt
 space_stops (b ∷ r) h = subst (λ (c : ℕ). delimits c ≡ true) (sym h) refl
 
 same_beginning : (bytes : List ℕ) (m n : ℕ) → BeginsWith bytes m → BeginsWith bytes n → m ≡ n
-same_beginning bytes m n h k = (same_decimal m n h.rest k.rest (omega (arith, h.exists)) (omega (arith, k.exists)) (space_stops h.rest h.behind) (space_stops k.rest k.behind) (sym h.front ∙ k.front)).0
+same_beginning bytes m n h k = (same_decimal m n h.rest k.rest (omega (arith, h.exists)) (omega (arith, k.exists))
+    (space_stops h.rest h.behind) (space_stops k.rest k.behind) (sym h.front ∙ k.front)).0
 
 pub same_session : (bytes : List ℕ) (a b : Option ℕ) → IsSessionOf bytes a → IsSessionOf bytes b → a ≡ b
 same_session bytes (Some m) (Some n) h k = ap Some (same_beginning bytes m n h k)
@@ -104,12 +105,14 @@ serves_once rules single old line _ _ _ _ none (runs_out {session = a} session) 
     (refl, λ i. (true, record { session = sessions i; done = None; form = Memory }))
 
 -- and none is open behind it, if it posts none
-none_handled : (rules : Rules) (old : State) (bytes : List ℕ) (new : State) (said : Bool × Reply) → old.posted ≡ [] → ((l : Line) → Spells bytes l → is_post l.command ≡ false) → Handles rules old bytes new said → new.posted ≡ []
+none_handled : (rules : Rules) (old : State) (bytes : List ℕ) (new : State) (said : Bool × Reply) → old.posted ≡ []
+    → ((l : Line) → Spells bytes l → is_post l.command ≡ false) → Handles rules old bytes new said → new.posted ≡ []
 none_handled rules old bytes new _ none no_post (obeys l s h) = ap (λ (x : State). x.posted) h.state ∙ none_after rules old l none (no_post l s)
 none_handled rules old bytes new said none no_post (waits l number s is answered) = absurd (none_waited rules number old new said none answered)
 none_handled rules old bytes _ _ none no_post (refuses no_line session) = none
 
-none_served : (rules : Rules) (old : State) (bytes : List ℕ) (new : State) (said : Bool × Reply) → old.posted ≡ [] → ((l : Line) → Spells bytes l → is_post l.command ≡ false) → Serves rules old bytes new said → new.posted ≡ []
+none_served : (rules : Rules) (old : State) (bytes : List ℕ) (new : State) (said : Bool × Reply) → old.posted ≡ []
+    → ((l : Line) → Spells bytes l → is_post l.command ≡ false) → Serves rules old bytes new said → new.posted ≡ []
 none_served rules old bytes new said none no_post (handles h) = none_handled rules old bytes new said none no_post h
 none_served rules old bytes _ _ none no_post (runs_out session) = none
 
@@ -123,7 +126,8 @@ pub data Plainly (rules : Rules) : State → List (List ℕ) → List (Bool × R
   served : {old mid new : State} {line : List ℕ} {rest : List (List ℕ)} {said : Bool × Reply} {more : List (Bool × Reply)} → old.posted ≡ [] →
       Serves rules old line mid said → Plainly rules mid rest more new → Plainly rules old (line ∷ rest) (said ∷ more) new
 
-plainly : (rules : Rules) (slice : ℕ) (old : State) (ls : List (List ℕ)) (told : List (Bool × Reply)) (new : State) → old.posted ≡ [] → NonePosts ls → Runs rules slice old ls told new → Plainly rules old ls told new
+plainly : (rules : Rules) (slice : ℕ) (old : State) (ls : List (List ℕ)) (told : List (Bool × Reply)) (new : State)
+    → old.posted ≡ [] → NonePosts ls → Runs rules slice old ls told new → Plainly rules old ls told new
 plainly rules slice _ _ _ _ none no_post (end s) = ended s none
 plainly rules slice old _ _ new none no_post (next {mid = mid} {turned = turned} {line = line} {rest = rest} {said = said} {told = told} {more = more} serves given runs) =
     let none_now = none_served rules old line mid said none no_post.0 serves in
@@ -139,14 +143,17 @@ plainly_ends rules old _ _ new (served {mid = mid} {rest = rest} {more = more} n
 plainly_once : (rules : Rules) (old : State) (ls : List (List ℕ)) (told also : List (Bool × Reply)) (new other : State) → Plainly rules old ls told new → Plainly rules old ls also other →
     map (λ (x : Bool × Reply). x.0) told ≡ map (λ (x : Bool × Reply). x.0) also → (told ≡ also) × (new ≡ other)
 plainly_once rules _ _ _ _ _ _ (ended s none) (ended s' none') e = (refl, refl)
-plainly_once rules old _ _ _ new other (served {mid = mid} {line = line} {rest = rest} {said = said} {more = more} none serves goes) (served {mid = mid'} {said = said'} {more = more'} none' serves' goes') e =
+plainly_once rules old _ _ _ new other (served {mid = mid} {line = line} {rest = rest} {said = said} {more = more} none
+    serves goes) (served {mid = mid'} {said = said'} {more = more'} none' serves' goes') e =
     let heads : said.0 ≡ said'.0 = cc in
     let tails : map (λ (x : Bool × Reply). x.0) more ≡ map (λ (x : Bool × Reply). x.0) more' = cc in
     let both = serves_once rules (answers_once rules) old line mid mid' said said' none serves serves' heads in
     let goes_on = plainly_once rules mid rest more more' new other goes (subst (λ x. Plainly rules x rest more' other) (sym both.0) goes') tails in
     (λ i. both.1 i ∷ goes_on.0 i, goes_on.1)
 
-pub output_plain : (rules : Rules) (slice : ℕ) (old : State) (bytes : List ℕ) (told : List (Bool × Reply)) (new : State) → old.posted ≡ [] → PostNothing bytes → Outputs rules slice old bytes told new → Plainly rules old (lines bytes) told new
+pub output_plain : (rules : Rules) (slice : ℕ) (old : State) (bytes : List ℕ) (told : List (Bool × Reply)) (new : State)
+    → old.posted ≡ [] → PostNothing bytes → Outputs rules slice old bytes told new
+    → Plainly rules old (lines bytes) told new
 output_plain rules slice old bytes told new none no_post h =
     let goes = plainly rules slice old (lines bytes) h.front h.mid none no_post h.runs in
     let (nothing, same) = none_given rules h.turns h.mid h.back new (plainly_ends rules old (lines bytes) h.front h.mid goes) h.drained in
@@ -154,9 +161,11 @@ output_plain rules slice old bytes told new none no_post h =
     subst (λ xs. Plainly rules old (lines bytes) xs new) (sym all) (subst (λ x. Plainly rules old (lines bytes) h.front x) (sym same) goes)
 
 pub outputs_once : (rules : Rules) (slice other_slice : ℕ) (old : State) (bytes : List ℕ) (told also : List (Bool × Reply)) (new other : State) → old.posted ≡ [] → PostNothing bytes →
-    Outputs rules slice old bytes told new → Outputs rules other_slice old bytes also other → map (λ (x : Bool × Reply). x.0) told ≡ map (λ (x : Bool × Reply). x.0) also → (text_of told ≡ text_of also) × (new ≡ other)
+    Outputs rules slice old bytes told new → Outputs rules other_slice old bytes also other → map (λ (x : Bool × Reply).
+    x.0) told ≡ map (λ (x : Bool × Reply). x.0) also → (text_of told ≡ text_of also) × (new ≡ other)
 outputs_once rules slice other_slice old bytes told also new other none no_post h k e =
-    let both = plainly_once rules old (lines bytes) told also new other (output_plain rules slice old bytes told new none no_post h) (output_plain rules other_slice old bytes also other none no_post k) e in
+    let both = plainly_once rules old (lines bytes) told also new other (output_plain rules slice old bytes told new
+    none no_post h) (output_plain rules other_slice old bytes also other none no_post k) e in
     (ap text_of both.0, both.1)
 
 some_not_none : (p : Posting) → Some p ≡ None → ⊥

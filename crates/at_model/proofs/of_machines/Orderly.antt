@@ -48,7 +48,9 @@ carried_key : (e : Edit) (ms : List Marked) (k : ℕ × List ℕ) → Among k (m
 carried_key e [] k h = h
 carried_key e (m ∷ ms) k h = at_mark (carried e m.node) h (carried_key e ms k)
   where
-    at_mark : (o : Option Node) → Among k (map key (cons_option (option_map (λ n. record m { node = n }) o) (carried_marks e ms))) → (Among k (map key (carried_marks e ms)) → Among k (map key ms)) → Among k (key m ∷ map key ms)
+    at_mark : (o : Option Node)
+        → Among k (map key (cons_option (option_map (λ n. record m { node = n }) o) (carried_marks e ms)))
+        → (Among k (map key (carried_marks e ms)) → Among k (map key ms)) → Among k (key m ∷ map key ms)
     at_mark None h rest = inr (rest h)
     at_mark (Some n) (inl s) rest = inl s
     at_mark (Some n) (inr h) rest = inr (rest h)
@@ -66,7 +68,9 @@ carried_few e session [] = omega arith
 carried_few e session (m ∷ ms) = rw (step (λ (m : Marked). nat_eq session m.session) m ms) (at_mark (carried e m.node) (carried_few e session ms))
   where
     at_mark : (o : Option Node) → count_by (λ m. nat_eq session m.session) (carried_marks e ms) ≤ count_by (λ m. nat_eq session m.session) ms →
-        count_by (λ m. nat_eq session m.session) (cons_option (option_map (λ n. record m { node = n }) o) (carried_marks e ms)) ≤ cond (nat_eq session m.session) (1 + count_by (λ m. nat_eq session m.session) ms) (count_by (λ m. nat_eq session m.session) ms)
+        count_by (λ m. nat_eq session m.session) (cons_option (option_map (λ n. record m { node = n }) o)
+        (carried_marks e ms)) ≤ cond (nat_eq session m.session) (1 + count_by (λ m. nat_eq session m.session) ms)
+        (count_by (λ m. nat_eq session m.session) ms)
     at_mark None rest = fewer_than (nat_eq session m.session) _ _ rest
     at_mark (Some n) rest = rw (step (λ (m : Marked). nat_eq session m.session) (record m { node = n }) (carried_marks e ms)) (more_by (nat_eq session m.session) _ _ rest)
 
@@ -93,7 +97,8 @@ left_few test session [] = omega arith
 left_few test session (m ∷ ms) = rw (step (λ (m : Marked). nat_eq session m.session) m ms) (at_mark (test m) (left_few test session ms))
   where
     at_mark : (b : Bool) → count_by (λ m. nat_eq session m.session) (filter test ms) ≤ count_by (λ m. nat_eq session m.session) ms →
-        count_by (λ m. nat_eq session m.session) (cond b (m ∷ filter test ms) (filter test ms)) ≤ cond (nat_eq session m.session) (1 + count_by (λ m. nat_eq session m.session) ms) (count_by (λ m. nat_eq session m.session) ms)
+        count_by (λ m. nat_eq session m.session) (cond b (m ∷ filter test ms) (filter test ms)) ≤ cond (nat_eq session
+        m.session) (1 + count_by (λ m. nat_eq session m.session) ms) (count_by (λ m. nat_eq session m.session) ms)
     at_mark false rest = fewer_than (nat_eq session m.session) _ _ rest
     at_mark true rest = rw (step (λ (m : Marked). nat_eq session m.session) m (filter test ms)) (more_by (nat_eq session m.session) _ _ rest)
 
@@ -113,7 +118,11 @@ more_apart (x ∷ ms) m d free = (
 
 more_few : (session : ℕ) (ms : List Marked) (m : Marked) → count_by (λ m. nat_eq session m.session) (ms ++ m ∷ []) ≡ count_by (λ m. nat_eq session m.session) ms + cond (nat_eq session m.session) 1 0
 more_few session [] m = refl
-more_few session (x ∷ ms) m = rw (step (λ (m : Marked). nat_eq session m.session) x (ms ++ m ∷ []), step (λ (m : Marked). nat_eq session m.session) x ms) (at_front (nat_eq session x.session) _ _ (cond (nat_eq session m.session) 1 0) (more_few session ms m))
+more_few session (x ∷ ms) m = rw (
+  step (λ (m : Marked). nat_eq session m.session) x (ms ++ m ∷ []),
+  step (λ (m : Marked). nat_eq session m.session) x ms,
+)
+    (at_front (nat_eq session x.session) _ _ (cond (nat_eq session m.session) 1 0) (more_few session ms m))
   where
     at_front : (b : Bool) (a n c : ℕ) → a ≡ n + c → cond b (1 + a) a ≡ cond b (1 + n) n + c
     at_front true a n c e = omega (arith, e)
@@ -125,9 +134,12 @@ none_marked session name [] e h = h
 none_marked session name (m ∷ ms) e h = at_mark (is_mark session name m) refl e h (none_marked session name ms)
   where
     is_its : (session, name) ≡ key m → is_mark session name m ≡ true
-    is_its s = and_true (nat_eq session m.session) (bytes_eq name m.name) (eq-eqb session m.session (ap (λ (k : ℕ × List ℕ). k.0) s)) ((bytes_eq-Decides name m.name).1 (ap (λ (k : ℕ × List ℕ). k.1) s))
+    is_its s = and_true (nat_eq session m.session) (bytes_eq name m.name) (eq-eqb session m.session
+        (ap (λ (k : ℕ × List ℕ). k.0) s)) ((bytes_eq-Decides name m.name).1 (ap (λ (k : ℕ × List ℕ). k.1) s))
 
-    at_mark : (b : Bool) → is_mark session name m ≡ b → is_some (option_map (λ m. m.node) (cond b (Some m) (find (is_mark session name) ms))) ≡ false → Among (session, name) (map key (m ∷ ms)) → (is_marked ms session name ≡ false → Among (session, name) (map key ms) → ⊥) → ⊥
+    at_mark : (b : Bool) → is_mark session name m ≡ b → is_some
+        (option_map (λ m. m.node) (cond b (Some m) (find (is_mark session name) ms))) ≡ false → Among (session, name)
+        (map key (m ∷ ms)) → (is_marked ms session name ≡ false → Among (session, name) (map key ms) → ⊥) → ⊥
     at_mark true is f g rest = cc
     at_mark false is f (inl s) rest = let t : is_mark session name m ≡ true = is_its s in cc
     at_mark false is f (inr g) rest = rest f g
@@ -175,7 +187,8 @@ counted_numbered number least (q ∷ qs) greatest h =
     counted_is (λ c. (least < c.number) × AreNumbered c.number (map (counted number) qs) greatest) number q (h.0, rest) (h.0, rest)
 
 -- how many of them are a session's
-same_count : (session : ℕ) (f : Posted → Posted) → ((q : Posted) → (f q).session ≡ q.session) → (qs : List Posted) → count_by (λ q. nat_eq session q.session) (map f qs) ≡ count_by (λ q. nat_eq session q.session) qs
+same_count : (session : ℕ) (f : Posted → Posted) → ((q : Posted) → (f q).session ≡ q.session) → (qs : List Posted)
+    → count_by (λ q. nat_eq session q.session) (map f qs) ≡ count_by (λ q. nat_eq session q.session) qs
 same_count session f h [] = refl
 same_count session f h (q ∷ qs) = rw (step (λ (q : Posted). nat_eq session q.session) (f q) (map f qs), step (λ (q : Posted). nat_eq session q.session) q qs, same_count session f h qs, h q) refl
 
@@ -184,13 +197,19 @@ fewer_posted keep session [] = omega arith
 fewer_posted keep session (q ∷ qs) = rw (step (λ (q : Posted). nat_eq session q.session) q qs) (by_test (keep q) (fewer_posted keep session qs))
   where
     by_test : (b : Bool) → count_by (λ q. nat_eq session q.session) (filter keep qs) ≤ count_by (λ q. nat_eq session q.session) qs →
-        count_by (λ q. nat_eq session q.session) (cond b (q ∷ filter keep qs) (filter keep qs)) ≤ cond (nat_eq session q.session) (1 + count_by (λ q. nat_eq session q.session) qs) (count_by (λ q. nat_eq session q.session) qs)
+        count_by (λ q. nat_eq session q.session) (cond b (q ∷ filter keep qs) (filter keep qs)) ≤ cond (nat_eq session
+        q.session) (1 + count_by (λ q. nat_eq session q.session) qs) (count_by (λ q. nat_eq session q.session) qs)
     by_test false rest = fewer_than (nat_eq session q.session) _ _ rest
     by_test true rest = rw (step (λ (q : Posted). nat_eq session q.session) q (filter keep qs)) (more_by (nat_eq session q.session) _ _ rest)
 
-more_posted : (session : ℕ) (qs : List Posted) (q : Posted) → count_by (λ q. nat_eq session q.session) (qs ++ q ∷ []) ≡ count_by (λ q. nat_eq session q.session) qs + cond (nat_eq session q.session) 1 0
+more_posted : (session : ℕ) (qs : List Posted) (q : Posted) → count_by (λ q. nat_eq session q.session) (qs ++ q ∷ [])
+    ≡ count_by (λ q. nat_eq session q.session) qs + cond (nat_eq session q.session) 1 0
 more_posted session [] q = refl
-more_posted session (x ∷ qs) q = rw (step (λ (q : Posted). nat_eq session q.session) x (qs ++ q ∷ []), step (λ (q : Posted). nat_eq session q.session) x qs) (at_front (nat_eq session x.session) _ _ (cond (nat_eq session q.session) 1 0) (more_posted session qs q))
+more_posted session (x ∷ qs) q = rw (
+  step (λ (q : Posted). nat_eq session q.session) x (qs ++ q ∷ []),
+  step (λ (q : Posted). nat_eq session q.session) x qs,
+)
+    (at_front (nat_eq session x.session) _ _ (cond (nat_eq session q.session) 1 0) (more_posted session qs q))
   where
     at_front : (b : Bool) (a n c : ℕ) → a ≡ n + c → cond b (1 + a) a ≡ cond b (1 + n) n + c
     at_front true a n c e = omega (arith, e)
@@ -214,7 +233,16 @@ module _ (rules : Rules) (s : State) (orderly : IsOrderly s) where
   next true is e t = ends (Refuses code.Limit) orderly
   next false is e t =
       let other = eqb-false s.version last_version is in
-      ends (Edits e t) (record { apart = carried_apart e s.marks orderly.apart; few = λ session. (let a = carried_few e session s.marks in let b = orderly.few session in at_most _ _ _ a b); version = below_next s.version last_version orderly.version other; numbered = carried_numbered e 0 s.posted s.posts orderly.numbered; posts = orderly.posts; few_posted = λ session. (let a = same_count session (carried_posted e) (λ q. refl) s.posted in let b = orderly.few_posted session in rw a b) })
+      ends (Edits e t) (record {
+        apart = carried_apart e s.marks orderly.apart;
+        few = λ session. (let a = carried_few e session s.marks in let b = orderly.few session in at_most _ _ _ a b);
+        version = below_next s.version last_version orderly.version other;
+        numbered = carried_numbered e 0 s.posted
+            s.posts orderly.numbered;
+        posts = orderly.posts;
+        few_posted = λ session. (let a =
+            same_count session (carried_posted e) (λ q. refl) s.posted in let b = orderly.few_posted session in rw a b);
+      })
     where
       at_most : (a b c : ℕ) → a ≤ b → b ≤ c → a ≤ c
       at_most a b c h k = omega (arith, h, k)
@@ -255,7 +283,8 @@ module _ (rules : Rules) (s : State) (orderly : IsOrderly s) where
           omega (arith, less)
       room other false is = let at_most = orderly.few other in omega (arith, at_most)
 
-  by_post : (session : ℕ) (place : Place) (attribute : List ℕ) (arguments : List Argument) (b c : Bool) → nat_le max_posted (count_by (λ q. nat_eq session q.session) s.posted) ≡ b → nat_eq s.posts last_post ≡ c →
+  by_post : (session : ℕ) (place : Place) (attribute : List ℕ) (arguments : List Argument) (b c : Bool)
+      → nat_le max_posted (count_by (λ q. nat_eq session q.session) s.posted) ≡ b → nat_eq s.posts last_post ≡ c →
       Leads (if b then Refuses code.Limit else (if c then Refuses code.Limit else Posts (new_post s session place attribute arguments)))
   by_post session place attribute arguments true c few is = ends (Refuses code.Limit) orderly
   by_post session place attribute arguments false true few is = ends (Refuses code.Limit) orderly
@@ -281,21 +310,47 @@ module _ (rules : Rules) (s : State) (orderly : IsOrderly s) where
       room other false same_session = let at_most = orderly.few_posted other in omega (arith, at_most)
 
   by_command : (session : ℕ) (c : Command) → Leads (obeyed rules s session c)
-  by_command session (Ask place attribute arguments) = node_all Leads stays rules.classes s session place _ (λ n. at_option Leads stays (each (map (value_named rules.classes s session) arguments)) code.Path _ (λ vs. by_question n attribute vs))
+  by_command session (Ask place attribute arguments) =
+      node_all Leads stays rules.classes s session place _ (λ n. at_option Leads stays
+      (each (map (value_named rules.classes s session) arguments)) code.Path _ (λ vs. by_question n attribute vs))
   by_command session (Set place t) = node_all Leads stays rules.classes s session place _ (λ n. tree_all Leads stays rules.classes t _ _ (λ u. by_edit (edit.Set n u)))
-  by_command session (Put place part t) = node_all Leads stays rules.classes s session place _ (λ n. component_all Leads stays rules.classes s.tree n part _ _ (λ p b. tree_all Leads stays rules.classes t (Some b) _ (λ u. by_edit (edit.Put n p u))))
+  by_command session (Put place part t) = node_all Leads stays rules.classes s session place
+      _ (λ n. component_all Leads stays rules.classes s.tree n part
+      _ _ (λ p b. tree_all Leads stays rules.classes t (Some b) _ (λ u. by_edit (edit.Put n p u))))
   by_command session (Drop place) = node_all Leads stays rules.classes s session place _ (λ n. by_edit (edit.Drop n))
-  by_command session (Insert place part index t) = node_all Leads stays rules.classes s session place _ (λ n. component_all Leads stays rules.classes s.tree n part _ _ (λ p b. tree_all Leads stays rules.classes t (Some b) _ (λ u. by_edit (edit.Insert n p index u))))
+  by_command session (Insert place part index t) =
+      node_all Leads stays rules.classes s session place _ (λ n. component_all Leads stays rules.classes s.tree n part
+      _ _ (λ p b. tree_all Leads stays rules.classes t (Some b) _ (λ u. by_edit (edit.Insert n p index u))))
   by_command session (Token place part v) = node_all Leads stays rules.classes s session place _ (λ n. component_all Leads stays rules.classes s.tree n part _ _ (λ p kind. by_edit (edit.Token n p v)))
-  by_command session (Move place to part index) = node_all Leads stays rules.classes s session place _ (λ n. node_all Leads stays rules.classes s session to _ (λ m. component_all Leads stays rules.classes s.tree m part _ _ (λ p b. by_edit (edit.Move n m p index))))
+  by_command session (Move place to part index) =
+      node_all Leads stays rules.classes s session place _ (λ n. node_all Leads stays rules.classes s session to
+      _ (λ m. component_all Leads stays rules.classes s.tree m part _ _ (λ p b. by_edit (edit.Move n m p index))))
   by_command session (Show place) = node_all Leads stays rules.classes s session place _ (λ n. at_option Leads stays (tree_at s.tree n) code.Path _ (λ u. ends _ orderly))
-  by_command session (Mark name place) = node_all Leads stays rules.classes s session place _ (λ n. by_mark session name n (is_marked s.marks session name) (nat_le max_marks (count_by (λ m. nat_eq session m.session) s.marks)) refl refl)
-  by_command session (Unmark name) = ends (Leaves (filter (λ m. not (is_mark session name m)) s.marks)) (record { apart = left_apart (λ m. not (is_mark session name m)) s.marks orderly.apart; few = λ other. (let a = left_few (λ m. not (is_mark session name m)) other s.marks in let b = orderly.few other in below_both _ _ _ a b); version = orderly.version; numbered = orderly.numbered; posts = orderly.posts; few_posted = orderly.few_posted })
+  by_command session (Mark name place) = node_all Leads stays rules.classes s session place
+      _ (λ n. by_mark session name n (is_marked s.marks session name)
+      (nat_le max_marks (count_by (λ m. nat_eq session m.session) s.marks)) refl refl)
+  by_command session (Unmark name) = ends (Leaves (filter (λ m. not (is_mark session name m)) s.marks))
+      (record {
+        apart = left_apart (λ m. not (is_mark session name m)) s.marks orderly.apart;
+        few = λ other. (let a =
+            left_few (λ m. not (is_mark session name m)) other s.marks in let b = orderly.few other in below_both _ _ _ a b);
+        version = orderly.version;
+        numbered = orderly.numbered;
+        posts = orderly.posts;
+        few_posted = orderly.few_posted;
+      })
     where
       below_both : (a b c : ℕ) → a ≤ b → b ≤ c → a ≤ c
       below_both a b c h k = omega (arith, h, k)
   by_command session (Where name) = at_option Leads stays (marked s.marks session name) code.Mark _ (λ n. ends _ orderly)
-  by_command session Version = ends (Leaves s.marks) (record { apart = orderly.apart; few = orderly.few; version = orderly.version; numbered = orderly.numbered; posts = orderly.posts; few_posted = orderly.few_posted })
+  by_command session Version = ends (Leaves s.marks) (record {
+    apart = orderly.apart;
+    few = orderly.few;
+    version = orderly.version;
+    numbered = orderly.numbered;
+    posts = orderly.posts;
+    few_posted = orderly.few_posted;
+  })
   by_command session (Post place attribute arguments) = by_post session place attribute arguments _ _ refl refl
   by_command session (Wait number) = if_both Leads (list_any (is_posted session number) s.posted) _ _ (ends (Waits number) orderly) (stays code.Question)
 
@@ -330,12 +385,15 @@ orderly_turn rules old number _ _ orderly (runs_out q is) = without_orderly old 
 pub orderly_given : (rules : Rules) (limit : ℕ) (old : State) (told : List (Bool × Reply)) (new : State) → IsOrderly old → Given rules limit old told new → IsOrderly new
 orderly_given rules _ _ _ _ orderly (spent s) = orderly
 orderly_given rules _ _ _ _ orderly (none_open limit s e) = orderly
-orderly_given rules _ _ _ new orderly (silent {limit = limit} {s = s} {mid = mid} {told = told} q is turn rest) = orderly_given rules limit mid told new (orderly_turn rules s q.number mid None orderly turn) rest
-orderly_given rules _ _ _ new orderly (telling {limit = limit} {s = s} {mid = mid} {said = said} {told = told} q is turn rest) = orderly_given rules limit mid told new (orderly_turn rules s q.number mid (Some said) orderly turn) rest
+orderly_given rules _ _ _ new orderly (silent {limit = limit} {s = s} {mid = mid} {told = told} q is turn rest) =
+    orderly_given rules limit mid told new (orderly_turn rules s q.number mid None orderly turn) rest
+orderly_given rules _ _ _ new orderly (telling {limit = limit} {s = s} {mid = mid} {said = said} {told = told} q is turn
+    rest) = orderly_given rules limit mid told new (orderly_turn rules s q.number mid (Some said) orderly turn) rest
 
 orderly_handled : (rules : Rules) (old : State) (bytes : List ℕ) (new : State) (said : Bool × Reply) → IsOrderly old → Handles rules old bytes new said → IsOrderly new
 orderly_handled rules old bytes new _ orderly (obeys l spells step) = subst IsOrderly (sym step.state) (orderly_line rules old orderly l)
-orderly_handled rules old bytes new said orderly (waits l number spells is answered) = let w = waited rules number old new said answered in subst IsOrderly (sym w.state) (without_orderly old number orderly)
+orderly_handled rules old bytes new said orderly (waits l number spells is answered) = let w =
+    waited rules number old new said answered in subst IsOrderly (sym w.state) (without_orderly old number orderly)
 orderly_handled rules old bytes _ _ orderly (refuses none session) = orderly
 
 pub orderly_served : (rules : Rules) (old : State) (bytes : List ℕ) (new : State) (said : Bool × Reply) → IsOrderly old → Serves rules old bytes new said → IsOrderly new
@@ -355,12 +413,15 @@ none_below session number least (q ∷ qs) greatest h k is =
     by_number false false e g rest = rest g
 
 -- the question of that number is the session's, where it has one of that number
-its_session : (session number least : ℕ) (qs : List Posted) (greatest : ℕ) (q : Posted) → AreNumbered least qs greatest → list_any (is_posted session number) qs ≡ true → find (λ q. nat_eq number q.number) qs ≡ Some q → q.session ≡ session
+its_session : (session number least : ℕ) (qs : List Posted) (greatest : ℕ) (q : Posted) → AreNumbered least qs greatest
+    → list_any (is_posted session number) qs ≡ true → find (λ q. nat_eq number q.number) qs ≡ Some q
+    → q.session ≡ session
 its_session session number least [] greatest q h is found = absurd cc
 its_session session number least (x ∷ qs) greatest q h is found =
     by_number (nat_eq session x.session) (nat_eq number x.number) refl refl is found (λ any then_found. its_session session number x.number qs greatest q h.1 any then_found)
   where
-    by_number : (a b : Bool) → nat_eq session x.session ≡ a → nat_eq number x.number ≡ b → (a && b || list_any (is_posted session number) qs) ≡ true → (if b then Some x else find (λ q. nat_eq number q.number) qs) ≡ Some q →
+    by_number : (a b : Bool) → nat_eq session x.session ≡ a → nat_eq number x.number ≡ b → (a && b || list_any
+        (is_posted session number) qs) ≡ true → (if b then Some x else find (λ q. nat_eq number q.number) qs) ≡ Some q →
         (list_any (is_posted session number) qs ≡ true → find (λ q. nat_eq number q.number) qs ≡ Some q → q.session ≡ session) → q.session ≡ session
     by_number true true d e g f rest = let same : x ≡ q = cc in ap (λ (y : Posted). y.session) (sym same) ∙ sym (eqb-true session x.session d)
     by_number false true d e g f rest = let same = eqb-true number x.number e in absurd (none_below session number x.number qs greatest h.1 (omega (arith, same)) g)
@@ -370,7 +431,8 @@ its_session session number least (x ∷ qs) greatest q h is found =
 pub who_waits : (rules : Rules) (s : State) (l : Line) (number : ℕ) (q : Posted) → IsOrderly s → verdict rules s l ≡ Waits number → numbered_of s number ≡ Some q → q.session ≡ l.session
 who_waits rules s l number q orderly is found = its_session l.session number 0 s.posted s.posts q orderly.numbered (open_for rules s l number is) found
 
-pub told_waiting : (rules : Rules) (old : State) (l : Line) (number : ℕ) (new : State) (said : Bool × Reply) → IsOrderly old → verdict rules old l ≡ Waits number → Answered rules number old new said → said.1.session ≡ Some l.session
+pub told_waiting : (rules : Rules) (old : State) (l : Line) (number : ℕ) (new : State) (said : Bool × Reply) → IsOrderly
+    old → verdict rules old l ≡ Waits number → Answered rules number old new said → said.1.session ≡ Some l.session
 told_waiting rules old l number new said orderly is answered =
     let w = waited rules number old new said answered in
     ap (λ (r : Reply). r.session) w.reply ∙ ap Some (who_waits rules old l number w.question orderly is w.there)

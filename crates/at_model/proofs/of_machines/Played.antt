@@ -33,7 +33,9 @@ within_append [] ys h k = k
 within_append (x ∷ xs) ys h k = (h.0, within_append xs ys h.1 k)
 
 -- one more line at the front, with the turn behind it
-more : (rules : Rules) (old mid turned : State) (e : Exchange) (said : Bool × Reply) (turn : List (Bool × Reply)) (rest : List Exchange) → Serves rules old e.line mid said → Given rules 1 mid turn turned → said.0 ≡ false → Within turn →
+more : (rules : Rules) (old mid turned : State) (e : Exchange) (said : Bool × Reply) (turn : List (Bool × Reply))
+    (rest : List Exchange) → Serves rules old e.line mid said → Given rules 1 mid turn turned → said.0 ≡ false
+    → Within turn →
     text_of (said ∷ turn) ≡ e.reply ++ 10 ∷ [] → Plays rules turned rest → Plays rules old (e ∷ rest)
 more rules old mid turned e said turn rest serves given b bs text goes = record {
   left = goes.left;
@@ -63,9 +65,12 @@ silent_turn rules s = by_posted s.posted refl
 alone : (r : Reply) → text_of ((false, r) ∷ []) ≡ reply_text r
 alone r = append_nil (reply_text r)
 
-pub serves_line : (rules : Rules) (old : State) (l : Line) (bytes : List ℕ) (form : Form) → is_plain_line l ≡ true → line_text l ≡ bytes → Says rules old (verdict rules old l) form → Serves rules old bytes (after old (verdict rules old l)) (false, reply_to l form)
+pub serves_line : (rules : Rules) (old : State) (l : Line) (bytes : List ℕ) (form : Form) → is_plain_line l ≡ true
+    → line_text l ≡ bytes → Says rules old (verdict rules old l) form
+    → Serves rules old bytes (after old (verdict rules old l)) (false, reply_to l form)
 serves_line rules old l bytes form plain line says =
-    subst (λ (bytes : List ℕ). Serves rules old bytes (after old (verdict rules old l)) (false, reply_to l form)) line (handles (obeys l (spelled l plain) (record { session = refl; done = refl; state = refl; says = says })))
+    subst (λ (bytes : List ℕ). Serves rules old bytes (after old (verdict rules old l)) (false, reply_to l form)) line
+    (handles (obeys l (spelled l plain) (record { session = refl; done = refl; state = refl; says = says })))
 
 -- a line that gets its reply, and a turn that answers nothing
 quiet : (rules : Rules) (old : State) (l : Line) (e : Exchange) (form : Form) (rest : List Exchange) → is_plain_line l ≡ true → line_text l ≡ e.line → reply_text (reply_to l form) ≡ e.reply ++ 10 ∷ []
@@ -108,7 +113,9 @@ pub line : {rules : Rules} {old : State} {e : Exchange} {rest : List Exchange} (
     → reply_text (reply_to l (told old (verdict rules old l))) ≡ e.reply ++ 10 ∷ [] → Plays rules (turned (after old (verdict rules old l))) rest → Plays rules old (e ∷ rest)
 line {rules} {old} {e} {rest} l plain is told_so reply goes = quiet rules old l e (told old (verdict rules old l)) rest plain is reply (says_told rules old (verdict rules old l) told_so) goes
 
-pub question : {rules : Rules} {old : State} {e : Exchange} {rest : List Exchange} {q : Instance Node} (l : Line) (a : Answer Node) → (is_plain_line l && all_plain rules.attributes) ≡ true → line_text l ≡ e.line → verdict rules old l ≡ Asks q
+pub question : {rules : Rules} {old : State} {e : Exchange} {rest : List Exchange} {q : Instance Node} (l : Line)
+    (a : Answer Node) → (is_plain_line l && all_plain rules.attributes) ≡ true → line_text l ≡ e.line
+    → verdict rules old l ≡ Asks q
     → Answers (content old.tree) (equations rules) q a → reply_text (reply_to l (answer_form rules old.tree a)) ≡ e.reply ++ 10 ∷ [] → Plays rules (turned old) rest → Plays rules old (e ∷ rest)
 question {rules} {old} {e} {rest} {q} l a plain is asked answered reply goes =
     let (plain_line, plain_rules) = both (is_plain_line l) (all_plain rules.attributes) plain in
@@ -122,7 +129,9 @@ gets_replies rules old [] [] = true
 gets_replies rules old [] (e ∷ es) = false
 gets_replies rules old (l ∷ ls) [] = false
 gets_replies rules old (l ∷ ls) (e ∷ es) =
-    is_plain_line l && (bytes_eq (line_text l) e.line && (not (asks (verdict rules old l)) && (bytes_eq (reply_text (reply_to l (told old (verdict rules old l)))) (e.reply ++ 10 ∷ []) && gets_replies rules (turned (after old (verdict rules old l))) ls es)))
+    is_plain_line l && (bytes_eq (line_text l) e.line
+    && (not (asks (verdict rules old l)) && (bytes_eq (reply_text (reply_to l (told old (verdict rules old l))))
+    (e.reply ++ 10 ∷ []) && gets_replies rules (turned (after old (verdict rules old l))) ls es)))
 
 unasked : (b : Bool) → not b ≡ true → b ≡ false
 unasked true h = cc
@@ -133,32 +142,44 @@ tested rules old [] [] h = ends
 tested rules old [] (e ∷ es) h = absurd (cc)
 tested rules old (l ∷ ls) [] h = absurd (cc)
 tested rules old (l ∷ ls) (e ∷ es) h =
-    let a = all_and (is_plain_line l) (bytes_eq (line_text l) e.line && (not (asks (verdict rules old l)) && (bytes_eq (reply_text (reply_to l (told old (verdict rules old l)))) (e.reply ++ 10 ∷ []) && gets_replies rules (turned (after old (verdict rules old l))) ls es))) h in
-    let b = all_and (bytes_eq (line_text l) e.line) (not (asks (verdict rules old l)) && (bytes_eq (reply_text (reply_to l (told old (verdict rules old l)))) (e.reply ++ 10 ∷ []) && gets_replies rules (turned (after old (verdict rules old l))) ls es)) a.1 in
-    let d = all_and (not (asks (verdict rules old l))) (bytes_eq (reply_text (reply_to l (told old (verdict rules old l)))) (e.reply ++ 10 ∷ []) && gets_replies rules (turned (after old (verdict rules old l))) ls es) b.1 in
+    let a = all_and (is_plain_line l) (bytes_eq (line_text l) e.line
+    && (not (asks (verdict rules old l)) && (bytes_eq (reply_text (reply_to l (told old (verdict rules old l))))
+    (e.reply ++ 10 ∷ []) && gets_replies rules (turned (after old (verdict rules old l))) ls es))) h in
+    let b = all_and (bytes_eq (line_text l) e.line)
+    (not (asks (verdict rules old l)) && (bytes_eq (reply_text (reply_to l (told old (verdict rules old l))))
+    (e.reply ++ 10 ∷ []) && gets_replies rules (turned (after old (verdict rules old l))) ls es)) a.1 in
+    let d = all_and (not (asks (verdict rules old l)))
+    (bytes_eq (reply_text (reply_to l (told old (verdict rules old l)))) (e.reply ++ 10 ∷ [])
+    && gets_replies rules (turned (after old (verdict rules old l))) ls es) b.1 in
     let f = all_and (bytes_eq (reply_text (reply_to l (told old (verdict rules old l)))) (e.reply ++ 10 ∷ [])) (gets_replies rules (turned (after old (verdict rules old l))) ls es) d.1 in
     line {rules = rules} {old = old} {e = e} {rest = es} l a.0 ((bytes_eq-Decides (line_text l) e.line).0 b.0) (unasked (asks (verdict rules old l)) d.0)
     ((bytes_eq-Decides (reply_text (reply_to l (told old (verdict rules old l)))) (e.reply ++ 10 ∷ [])).0 f.0)
     (tested rules (turned (after old (verdict rules old l))) ls es f.1)
 
 -- bytes that are no line, with the session that can be read from them
-pub unread : {rules : Rules} {old : State} {e : Exchange} {rest : List Exchange} (session : Option ℕ) → ((l : Line) → Spells e.line l → ⊥) → IsSessionOf e.line session → reply_text (record { session = session; done = None; form = Refused code.Syntax }) ≡ e.reply ++ 10 ∷ []
+pub unread : {rules : Rules} {old : State} {e : Exchange} {rest : List Exchange} (session : Option ℕ)
+    → ((l : Line) → Spells e.line l → ⊥) → IsSessionOf e.line session
+    → reply_text (record { session = session; done = None; form = Refused code.Syntax }) ≡ e.reply ++ 10 ∷ []
     → Plays rules (turned old) rest → Plays rules old (e ∷ rest)
 unread {rules} {old} {e} {rest} session none read reply goes =
     let said : Reply = record { session = session; done = None; form = Refused code.Syntax } in
     more rules old old (turned old) e (false, said) [] rest (handles (refuses none read)) (silent_turn rules old) refl tt (alone said ∙ reply) goes
 
 -- a line that waits for the question, and is told the answer
-pub waiting : {rules : Rules} {old : State} {e : Exchange} {rest : List Exchange} (l : Line) (q : Posted) (form : Form) → is_plain_line l ≡ true → line_text l ≡ e.line → verdict rules old l ≡ Waits q.number → numbered old q.number ≡ Some q
+pub waiting : {rules : Rules} {old : State} {e : Exchange} {rest : List Exchange} (l : Line) (q : Posted) (form : Form)
+    → is_plain_line l ≡ true → line_text l ≡ e.line → verdict rules old l ≡ Waits q.number
+    → numbered old q.number ≡ Some q
     → AnswersPosted rules old q form → reply_text (done_reply old q form) ≡ e.reply ++ 10 ∷ [] → Plays rules (turned (without q.number old)) rest → Plays rules old (e ∷ rest)
 waiting {rules} {old} {e} {rest} l q form plain line is found answered reply goes =
     let mid = without q.number old in
     let said : Bool × Reply = (false, done_reply old q form) in
-    let waited : Serves rules old e.line mid said = subst (λ (bytes : List ℕ). Serves rules old bytes mid said) line (handles (waits l q.number (spelled l plain) is (last (answers q form found answered)))) in
+    let waited : Serves rules old e.line mid said = subst (λ (bytes : List ℕ). Serves rules old bytes mid said) line
+    (handles (waits l q.number (spelled l plain) is (last (answers q form found answered)))) in
     more rules old mid (turned mid) e said [] rest waited (silent_turn rules mid) refl tt (alone (done_reply old q form) ∙ reply) goes
 
 -- a line that is no question, and a turn behind it that answers the first of the open questions
-pub answering : {rules : Rules} {old : State} {e : Exchange} {rest : List Exchange} (l : Line) (q : Posted) (form : Form) → is_plain_line l ≡ true → line_text l ≡ e.line → asks (verdict rules old l) ≡ false
+pub answering : {rules : Rules} {old : State} {e : Exchange} {rest : List Exchange} (l : Line) (q : Posted)
+    (form : Form) → is_plain_line l ≡ true → line_text l ≡ e.line → asks (verdict rules old l) ≡ false
     → first_of (after old (verdict rules old l)).posted ≡ Some q → numbered (after old (verdict rules old l)) q.number ≡ Some q → AnswersPosted rules (after old (verdict rules old l)) q form
     → reply_text (reply_to l (told old (verdict rules old l))) ++ reply_text (done_reply (after old (verdict rules old l)) q form) ≡ e.reply ++ 10 ∷ []
     → Plays rules (without q.number (after old (verdict rules old l))) rest → Plays rules old (e ∷ rest)
@@ -172,20 +193,28 @@ answering {rules} {old} {e} {rest} l q form plain line told_so first found answe
     (ap (λ z. reply_text said ++ z) (alone turn) ∙ reply) goes
 
 -- the same, where the answer to the question is that of the instance that its words name
-asked_form : (rules : Rules) (s : State) (q : Posted) (i : Instance Node) (a : Answer Node) → verdict rules (seen_by q s) (line_of q) ≡ Asks i → AnswersIn rules s.tree i a → AnswersPosted rules s q (answer_form rules s.tree a)
+asked_form : (rules : Rules) (s : State) (q : Posted) (i : Instance Node) (a : Answer Node) → verdict rules (seen_by q
+    s) (line_of q) ≡ Asks i → AnswersIn rules s.tree i a → AnswersPosted rules s q (answer_form rules s.tree a)
 asked_form rules s q i a asked answered = subst (λ v. Says rules (seen_by q s) v (answer_form rules s.tree a)) (sym asked) (a, answered, refl)
 
-pub waiting_for : {rules : Rules} {old : State} {e : Exchange} {rest : List Exchange} {i : Instance Node} (l : Line) (q : Posted) (a : Answer Node) → (is_plain_line l && all_plain rules.attributes) ≡ true → line_text l ≡ e.line → verdict rules old l ≡ Waits q.number → numbered old q.number ≡ Some q
-    → verdict rules (seen_by q old) (line_of q) ≡ Asks i → Answers (content old.tree) (equations rules) i a → reply_text (done_reply old q (answer_form rules old.tree a)) ≡ e.reply ++ 10 ∷ [] → Plays rules (turned (without q.number old)) rest → Plays rules old (e ∷ rest)
+pub waiting_for : {rules : Rules} {old : State} {e : Exchange} {rest : List Exchange} {i : Instance Node} (l : Line)
+    (q : Posted) (a : Answer Node) → (is_plain_line l && all_plain rules.attributes) ≡ true → line_text l ≡ e.line
+    → verdict rules old l ≡ Waits q.number → numbered old q.number ≡ Some q
+    → verdict rules (seen_by q old) (line_of q) ≡ Asks i → Answers (content old.tree) (equations rules) i a
+    → reply_text (done_reply old q (answer_form rules old.tree a)) ≡ e.reply ++ 10 ∷ []
+    → Plays rules (turned (without q.number old)) rest → Plays rules old (e ∷ rest)
 waiting_for {rules} {old} {e} {rest} {i} l q a plain line is found asked answered reply goes =
     let (plain_line, plain_rules) = both (is_plain_line l) (all_plain rules.attributes) plain in
     waiting {rules = rules} {old = old} {e = e} {rest = rest} l q (answer_form rules old.tree a) plain_line line is found
     (asked_form rules old q i a asked (answer_by rules plain_rules old.tree i a answered)) reply goes
 
-pub answering_with : {rules : Rules} {old : State} {e : Exchange} {rest : List Exchange} {i : Instance Node} (l : Line) (q : Posted) (a : Answer Node) → (is_plain_line l && all_plain rules.attributes) ≡ true → line_text l ≡ e.line → asks (verdict rules old l) ≡ false
+pub answering_with : {rules : Rules} {old : State} {e : Exchange} {rest : List Exchange} {i : Instance Node} (l : Line)
+    (q : Posted) (a : Answer Node) → (is_plain_line l && all_plain rules.attributes) ≡ true → line_text l ≡ e.line
+    → asks (verdict rules old l) ≡ false
     → first_of (after old (verdict rules old l)).posted ≡ Some q → numbered (after old (verdict rules old l)) q.number ≡ Some q
     → verdict rules (seen_by q (after old (verdict rules old l))) (line_of q) ≡ Asks i → Answers (content (after old (verdict rules old l)).tree) (equations rules) i a
-    → reply_text (reply_to l (told old (verdict rules old l))) ++ reply_text (done_reply (after old (verdict rules old l)) q (answer_form rules (after old (verdict rules old l)).tree a)) ≡ e.reply ++ 10 ∷ []
+    → reply_text (reply_to l (told old (verdict rules old l))) ++ reply_text (done_reply (after old
+    (verdict rules old l)) q (answer_form rules (after old (verdict rules old l)).tree a)) ≡ e.reply ++ 10 ∷ []
     → Plays rules (without q.number (after old (verdict rules old l))) rest → Plays rules old (e ∷ rest)
 answering_with {rules} {old} {e} {rest} {i} l q a plain line told_so first found asked answered reply goes =
     let mid = after old (verdict rules old l) in

@@ -50,7 +50,9 @@ begins : (bytes : List ℕ) (session : ℕ) → session < max_sessions → Decid
 begins bytes session small = by_rest (strip (decimal session) bytes) refl
   where
     by_rest : (o : Option (List ℕ)) → strip (decimal session) bytes ≡ o → Decided (BeginsWith bytes session)
-    by_rest None is = inr (λ h. let f : strip (decimal session) (decimal session ++ h.rest) ≡ Some h.rest = strips (decimal session) h.rest in let g : strip (decimal session) bytes ≡ Some h.rest = ap (strip (decimal session)) h.front ∙ f in cc)
+    by_rest None is = inr (λ h. let f : strip (decimal session) (decimal session ++ h.rest)
+        ≡ Some h.rest = strips (decimal session) h.rest in
+        let g : strip (decimal session) bytes ≡ Some h.rest = ap (strip (decimal session)) h.front ∙ f in cc)
     by_rest (Some rest) is = elim (space_or_end rest) [
       | inl ends ↦ inl (record { exists = small; rest = rest; front = stripped (decimal session) bytes rest is; behind = ends })
       | inr none ↦ inr (λ h.
@@ -105,7 +107,8 @@ reply_to_line rules old bytes l spells answered none =
     (record { session = Some l.session; done = None; form = form }, obeys l spells (record { session = refl; done = refl; state = refl; says = says }))
 
 -- what asks never waits
-asking_waits_not : (rules : Rules) (s : State) (session : ℕ) (place : Place) (attribute : List ℕ) (arguments : List Argument) (number : ℕ) → obeyed rules s session (Ask place attribute arguments) ≡ Waits number → ⊥
+asking_waits_not : (rules : Rules) (s : State) (session : ℕ) (place : Place) (attribute : List ℕ)
+    (arguments : List Argument) (number : ℕ) → obeyed rules s session (Ask place attribute arguments) ≡ Waits number → ⊥
 asking_waits_not rules s session place attribute arguments number =
     let P : Verdict → Type 0 = λ v. v ≡ Waits number → ⊥ in
     let refused : (c : Code) → P (Refuses c) = λ c e. cc in
@@ -123,7 +126,8 @@ answer_of_posted rules s q answered =
     let P : Verdict → Type 0 = λ v. (number : ℕ) → v ≡ Waits number → ⊥ in
     says_something rules (seen_by q s) v answered (whole P (λ c number e. cc) rules (seen_by q s) (line_of q) (asking_waits_not rules (seen_by q s) q.session q.place q.attribute q.arguments))
 
-pub turn_answers : (rules : Rules) (s : State) (number : ℕ) (q : Posted) → numbered s number ≡ Some q → IsPostedAnswered rules s q → (form : Form) × Turns rules s number (without number s) (Some (false, done_reply s q form))
+pub turn_answers : (rules : Rules) (s : State) (number : ℕ) (q : Posted) → numbered s number ≡ Some q → IsPostedAnswered
+    rules s q → (form : Form) × Turns rules s number (without number s) (Some (false, done_reply s q form))
 turn_answers rules s number q is answered = let (form, says) = answer_of_posted rules s q answered in (form, answers q form is says)
 
 pub reply_to_waiting : (rules : Rules) (old : State) (bytes : List ℕ) (l : Line) (number : ℕ) → Spells bytes l → verdict rules old l ≡ Waits number →

@@ -36,7 +36,8 @@ pub runs_on : (rules : Rules) (slice : ℕ) (old mid new : State) (ls ms : List 
     Runs rules slice old ls told mid → Runs rules slice mid ms more new → Runs rules slice old (ls ++ ms) (told ++ more) new
 runs_on rules slice _ mid new _ ms _ more (end s) rest = rest
 runs_on rules slice old mid new _ ms _ behind (next {mid = first} {turned = turned} {line = line} {rest = ls} {said = said} {told = told} {more = more} serves given runs) rest =
-    subst (λ whole. Runs rules slice old (line ∷ (ls ++ ms)) (said ∷ whole) new) (sym (append_assoc told more behind)) (next serves given (runs_on rules slice turned mid new ls ms more behind runs rest))
+    subst (λ whole. Runs rules slice old (line ∷ (ls ++ ms)) (said ∷ whole) new) (sym (append_assoc told more behind))
+    (next serves given (runs_on rules slice turned mid new ls ms more behind runs rest))
 
 pub one_more : (rules : Rules) (slice : ℕ) (old mid after new : State) (ls : List (List ℕ)) (told : List (Bool × Reply)) (line : List ℕ) (said : Bool × Reply) (more : List (Bool × Reply)) →
     Runs rules slice old ls told mid → Serves rules mid line after said → Given rules slice after more new → Runs rules slice old (ls ++ line ∷ []) (told ++ said ∷ more) new

@@ -72,11 +72,13 @@ leads-filter t keep (x ∷ ms) h = kept (keep x) (leads-filter t keep ms h.1)
     kept true k = (h.0, k)
     kept false k = k
 
-leads-carried : (classes : Classes) (t u : Tree) (e : Edit) → conforms classes t 0 ≡ true → edited classes t e ≡ Ok u → (ms : List Marked) → AllByRecursion (Leads t) ms → AllByRecursion (Leads u) (carried_marks e ms)
+leads-carried : (classes : Classes) (t u : Tree) (e : Edit) → conforms classes t 0 ≡ true → edited classes t e ≡ Ok u
+    → (ms : List Marked) → AllByRecursion (Leads t) ms → AllByRecursion (Leads u) (carried_marks e ms)
 leads-carried classes t u e ok is [] h = tt
 leads-carried classes t u e ok is (m ∷ ms) h = at_mark (carried e m.node) refl (leads-carried classes t u e ok is ms h.1)
   where
-    at_mark : (o : Option Node) → carried e m.node ≡ o → AllByRecursion (Leads u) (carried_marks e ms) → AllByRecursion (Leads u) (cons_option (option_map (λ n. record m { node = n }) o) (carried_marks e ms))
+    at_mark : (o : Option Node) → carried e m.node ≡ o → AllByRecursion (Leads u) (carried_marks e ms)
+        → AllByRecursion (Leads u) (cons_option (option_map (λ n. record m { node = n }) o) (carried_marks e ms))
     at_mark None goes rest = rest
     at_mark (Some n) goes rest =
         let (v, found) = its_value (tree_at t m.node) h.0 in
@@ -96,7 +98,8 @@ leads-named : (t : Tree) (ms : List Marked) (session : ℕ) (names : List (List 
 leads-named t ms session [] h = tt
 leads-named t ms session (name ∷ names) h = at_name (find (is_mark session name) ms) refl (leads-named t ms session names h)
   where
-    at_name : (o : Option Marked) → find (is_mark session name) ms ≡ o → AllByRecursion (Leads t) (marks_named ms session names) → AllByRecursion (Leads t) (cons_option o (marks_named ms session names))
+    at_name : (o : Option Marked) → find (is_mark session name) ms ≡ o → AllByRecursion (Leads t)
+        (marks_named ms session names) → AllByRecursion (Leads t) (cons_option o (marks_named ms session names))
     at_name None is rest = rest
     at_name (Some m) is rest = (leads-found t (is_mark session name) ms m h is, rest)
 
@@ -116,7 +119,8 @@ posted-filter t keep (x ∷ qs) h = kept (keep x) (posted-filter t keep qs h.1)
     kept true k = (h.0, k)
     kept false k = k
 
-posted-carried : (classes : Classes) (t u : Tree) (e : Edit) → conforms classes t 0 ≡ true → edited classes t e ≡ Ok u → (qs : List Posted) → AllByRecursion (PostedLeads t) qs → AllByRecursion (PostedLeads u) (map (carried_posted e) qs)
+posted-carried : (classes : Classes) (t u : Tree) (e : Edit) → conforms classes t 0 ≡ true → edited classes t e ≡ Ok u →
+    (qs : List Posted) → AllByRecursion (PostedLeads t) qs → AllByRecursion (PostedLeads u) (map (carried_posted e) qs)
 posted-carried classes t u e ok is [] h = tt
 posted-carried classes t u e ok is (q ∷ qs) h = (leads-carried classes t u e ok is q.marks h.0, posted-carried classes t u e ok is qs h.1)
 
@@ -136,9 +140,12 @@ safe_change classes s v (accepted e t is) = edits e t is
 
 module _ (rules : Rules) (s : State) (sound : IsSound rules.classes s) where
   safe_question : (n : Node) (name : List ℕ) (vs : List (Value Node)) → Safe rules.classes s (questioned rules s.tree n name vs)
-  safe_question n name vs = at_option (Safe rules.classes s) refused (option_and_then (λ u. attribute_named rules (class_of u) name) (tree_at s.tree n)) code.Attribute _ (λ a. if_both (Safe rules.classes s) (fit_parameters rules.classes s.tree (parameters_of rules a) vs) _ _ (asked _) (refused code.Arguments))
+  safe_question n name vs = at_option (Safe rules.classes s) refused (option_and_then (λ u.
+      attribute_named rules (class_of u) name) (tree_at s.tree n)) code.Attribute _ (λ a. if_both (Safe rules.classes s)
+      (fit_parameters rules.classes s.tree (parameters_of rules a) vs) _ _ (asked _) (refused code.Arguments))
 
-  safe_mark : (session : ℕ) (name : List ℕ) (place : Place) (o : Option Node) → node_named rules.classes s session place ≡ o → Safe rules.classes s (elim o [ None ↦ Refuses code.Path | Some n ↦ with_mark s session name n ])
+  safe_mark : (session : ℕ) (name : List ℕ) (place : Place) (o : Option Node) → node_named rules.classes s session place
+      ≡ o → Safe rules.classes s (elim o [ None ↦ Refuses code.Path | Some n ↦ with_mark s session name n ])
   safe_mark session name place None e = refused code.Path
   safe_mark session name place (Some n) e =
       let (u, found) = place_leads rules.classes s session place n e in
@@ -147,7 +154,9 @@ module _ (rules : Rules) (s : State) (sound : IsSound rules.classes s) where
       (left _ (leads-append s.tree s.marks _ sound.marks_lead (some_is (tree_at s.tree n) u found))))
 
   pub safe : (session : ℕ) (c : Command) → Safe rules.classes s (obeyed rules s session c)
-  safe session (Ask place attribute arguments) = node_all (Safe rules.classes s) refused rules.classes s session place _ (λ n. at_option (Safe rules.classes s) refused (each (map (value_named rules.classes s session) arguments)) code.Path _ (λ vs. safe_question n attribute vs))
+  safe session (Ask place attribute arguments) = node_all (Safe rules.classes s) refused rules.classes s session place
+      _ (λ n. at_option (Safe rules.classes s) refused (each (map (value_named rules.classes s session) arguments))
+      code.Path _ (λ vs. safe_question n attribute vs))
   safe session (Set place t) = safe_change rules.classes s _ (edit_changes rules s session (Set place t) refl)
   safe session (Put place part t) = safe_change rules.classes s _ (edit_changes rules s session (Put place part t) refl)
   safe session (Drop place) = safe_change rules.classes s _ (edit_changes rules s session (Drop place) refl)
@@ -159,7 +168,9 @@ module _ (rules : Rules) (s : State) (sound : IsSound rules.classes s) where
   safe session (Unmark name) = left _ (leads-filter s.tree (λ m. not (is_mark session name m)) s.marks sound.marks_lead)
   safe session (Where name) = at_option (Safe rules.classes s) refused (marked s.marks session name) code.Mark _ (λ n. told _)
   safe session Version = left s.marks sound.marks_lead
-  safe session (Post place attribute arguments) = post_all (Safe rules.classes s) refused s session place attribute arguments (posts _ (leads-named s.tree s.marks session (marks_used (Post place attribute arguments)) sound.marks_lead))
+  safe session (Post place attribute arguments) =
+      post_all (Safe rules.classes s) refused s session place attribute arguments
+      (posts _ (leads-named s.tree s.marks session (marks_used (Post place attribute arguments)) sound.marks_lead))
   safe session (Wait number) = if_both (Safe rules.classes s) (list_any (is_posted session number) s.posted) _ _ (waited number) (refused code.Question)
 
   sound_after : (v : Verdict) → Safe rules.classes s v → IsSound rules.classes (after s v)
@@ -179,7 +190,13 @@ module _ (rules : Rules) (s : State) (sound : IsSound rules.classes s) where
         posted_lead = posted-carried rules.classes s.tree t e sound.tree_conforms made s.posted sound.posted_lead;
       }
   sound_after v (posts q lead) =
-      record { tree_conforms = sound.tree_conforms; tree_within = sound.tree_within; tree_allowed = sound.tree_allowed; marks_lead = sound.marks_lead; posted_lead = posted-append s.tree s.posted q sound.posted_lead lead }
+      record {
+        tree_conforms = sound.tree_conforms;
+        tree_within = sound.tree_within;
+        tree_allowed = sound.tree_allowed;
+        marks_lead = sound.marks_lead;
+        posted_lead = posted-append s.tree s.posted q sound.posted_lead lead;
+      }
   sound_after v (waited number) = sound
 
   pub sound_line : (l : Line) → IsSound rules.classes (after s (verdict rules s l))
@@ -188,7 +205,13 @@ module _ (rules : Rules) (s : State) (sound : IsSound rules.classes s) where
 -- a question is no longer open, or was given a turn
 without_sound : (classes : Classes) (s : State) (number : ℕ) → IsSound classes s → IsSound classes (without number s)
 without_sound classes s number sound =
-    record { tree_conforms = sound.tree_conforms; tree_within = sound.tree_within; tree_allowed = sound.tree_allowed; marks_lead = sound.marks_lead; posted_lead = posted-filter s.tree (λ q. not (nat_eq number q.number)) s.posted sound.posted_lead }
+    record {
+      tree_conforms = sound.tree_conforms;
+      tree_within = sound.tree_within;
+      tree_allowed = sound.tree_allowed;
+      marks_lead = sound.marks_lead;
+      posted_lead = posted-filter s.tree (λ q. not (nat_eq number q.number)) s.posted sound.posted_lead;
+    }
 
 counted_leads : (t : Tree) (number : ℕ) (q : Posted) → PostedLeads t q → PostedLeads t (counted number q)
 counted_leads t number q h = by_test (nat_eq number q.number)
@@ -203,7 +226,13 @@ posted-counted t number (q ∷ qs) h = (counted_leads t number q h.0, posted-cou
 
 pub sound_turn : (rules : Rules) (old : State) (number : ℕ) (new : State) (o : Option (Bool × Reply)) → IsSound rules.classes old → Turns rules old number new o → IsSound rules.classes new
 sound_turn rules old number _ _ sound (stays q is) =
-    record { tree_conforms = sound.tree_conforms; tree_within = sound.tree_within; tree_allowed = sound.tree_allowed; marks_lead = sound.marks_lead; posted_lead = posted-counted old.tree number old.posted sound.posted_lead }
+    record {
+      tree_conforms = sound.tree_conforms;
+      tree_within = sound.tree_within;
+      tree_allowed = sound.tree_allowed;
+      marks_lead = sound.marks_lead;
+      posted_lead = posted-counted old.tree number old.posted sound.posted_lead;
+    }
 sound_turn rules old number _ _ sound (answers q form is a) = without_sound rules.classes old number sound
 sound_turn rules old number _ _ sound (runs_out q is) = without_sound rules.classes old number sound
 
@@ -211,7 +240,8 @@ pub sound_given : (rules : Rules) (limit : ℕ) (old : State) (row : List (Bool 
 sound_given rules _ _ _ _ sound (spent s) = sound
 sound_given rules _ _ _ _ sound (none_open limit s e) = sound
 sound_given rules _ _ _ new sound (silent {limit = limit} {s = s} {mid = mid} {told = row} q is turn rest) = sound_given rules limit mid row new (sound_turn rules s q.number mid None sound turn) rest
-sound_given rules _ _ _ new sound (telling {limit = limit} {s = s} {mid = mid} {said = said} {told = row} q is turn rest) = sound_given rules limit mid row new (sound_turn rules s q.number mid (Some said) sound turn) rest
+sound_given rules _ _ _ new sound (telling {limit = limit} {s = s} {mid = mid} {said = said} {told = row} q is turn
+    rest) = sound_given rules limit mid row new (sound_turn rules s q.number mid (Some said) sound turn) rest
 
 sound_handled : (rules : Rules) (old : State) (bytes : List ℕ) (new : State) (said : Bool × Reply) → IsSound rules.classes old → Handles rules old bytes new said → IsSound rules.classes new
 sound_handled rules old bytes new _ sound (obeys l spells step) = let P : State → Type 0 = λ x. IsSound rules.classes x in subst P (sym step.state) (sound_line rules old sound l)

@@ -116,12 +116,16 @@ in_cells (cell c cs) (suc part) i u k e = in_cells cs part i u k.1 e
 
 below : (t : Tree) (n : Node) (u : Tree) → AreTokens t → tree_at t n ≡ Some u → AreTokens u
 below t [] u k e = let same : t ≡ u = cc in subst AreTokens same k
-below (trees.Node c cells) (s ∷ ss) u k e = let (v, child, under) = led (λ x. tree_at x ss) (slice_get (children_at (trees.Node c cells) s.0) s.1) u e in below v ss u (in_cells cells s.0 s.1 v k child) under
+below (trees.Node c cells) (s ∷ ss) u k e = let (v, child, under) = led (λ x. tree_at x ss)
+    (slice_get (children_at (trees.Node c cells) s.0) s.1) u e in below v ss u (in_cells cells s.0 s.1 v k child) under
 
-moved : (t : Tree) (node : Node) (part index : ℕ) (o : Option Tree) (r : Option Node) → tree_at t node ≡ o → AreTokens t → AreTokens (elim o [ None ↦ t | Some u ↦ elim r [ None ↦ t | Some q ↦ put_in (taken_out t node) q part index u ] ])
+moved : (t : Tree) (node : Node) (part index : ℕ) (o : Option Tree) (r : Option Node) → tree_at t node ≡ o → AreTokens t
+    → AreTokens (elim o [ None ↦ t | Some u ↦ elim r [ None ↦ t | Some q ↦ put_in (taken_out t node) q part index u ] ])
 moved t node part index None r is k = k
 moved t node part index (Some u) None is k = k
-moved t node part index (Some u) (Some q) is k = node_changed (with_cell (with_one_more u index) part) (cell_changed (with_one_more u index) (child_inserted u (below t node u k is) index) part) (taken_out t node) q (dropped t (parent_of node) k)
+moved t node part index (Some u) (Some q) is k = node_changed (with_cell (with_one_more u index) part)
+    (cell_changed (with_one_more u index) (child_inserted u (below t node u k is) index) part) (taken_out t node) q
+    (dropped t (parent_of node) k)
 
 left : (t : Tree) (e : Edit) → Brings e → AreTokens t → AreTokens (left_by t e)
 left t (Set n new) h k = node_changed (λ u. new) (λ u g. h) t n k
@@ -171,10 +175,12 @@ tokens_after : (rules : Rules) (s : State) (l : Line) (v : Verdict) → IsComman
 tokens_after rules s l v h (refused c) k = k
 tokens_after rules s l v h (accepted e t asked is) k = subst AreTokens (is_left rules.classes s.tree t e is) (left s.tree e (brings rules.classes s l.session l.command e asked h) k)
 
-tokens_step : (rules : Rules) (old : State) (l : Line) (new : State) (reply : Reply) (b : Bool) → is_edit l.command ≡ b → IsCommand l.command → Step rules old l new reply → AreTokens old.tree → AreTokens new.tree
+tokens_step : (rules : Rules) (old : State) (l : Line) (new : State) (reply : Reply) (b : Bool) → is_edit l.command ≡ b
+    → IsCommand l.command → Step rules old l new reply → AreTokens old.tree → AreTokens new.tree
 tokens_step rules old l new reply true is h step k =
     let P : State → Type 0 = λ x. AreTokens x.tree in
-    subst P (sym step.state) (tokens_after rules old l (verdict rules old l) h (whole (IsChangeOf rules.classes old l.session l.command) refused rules old l (edit_of rules old l.session l.command is)) k)
+    subst P (sym step.state) (tokens_after rules old l (verdict rules old l) h (whole (IsChangeOf rules.classes old
+    l.session l.command) refused rules old l (edit_of rules old l.session l.command is)) k)
 tokens_step rules old l new reply false is h step k = let same = other_step rules old l new reply is step in subst AreTokens (sym same.0) k
 
 tokens_handled : (rules : Rules) (old : State) (bytes : List ℕ) (new : State) (said : Bool × Reply) → AreTokens old.tree → Handles rules old bytes new said → AreTokens new.tree

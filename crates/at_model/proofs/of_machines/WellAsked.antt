@@ -43,7 +43,9 @@ module _ (rules : Rules) (s : State) where
   none_asked : (code : Code) → AsksWell (Refuses code)
   none_asked code q e = absurd cc
 
-  well_formed : (n : Node) (name : List ℕ) (vs : List (Value Node)) (attribute : ℕ) → option_and_then (λ u. attribute_named rules (class_of u) name) (tree_at s.tree n) ≡ Some attribute → fit_parameters rules.classes s.tree (parameters_of rules attribute) vs ≡ true →
+  well_formed : (n : Node) (name : List ℕ) (vs : List (Value Node)) (attribute : ℕ)
+      → option_and_then (λ u. attribute_named rules (class_of u) name) (tree_at s.tree n) ≡ Some attribute
+      → fit_parameters rules.classes s.tree (parameters_of rules attribute) vs ≡ true →
       IsWellFormed rules s.tree (record { node = n; attribute = attribute; arguments = vs })
   well_formed n name vs attribute named fit =
       let (u, found, is) = led (λ u. attribute_named rules (class_of u) name) (tree_at s.tree n) attribute named in
@@ -52,7 +54,9 @@ module _ (rules : Rules) (s : State) where
       let parameters : parameters_of rules attribute ≡ a.parameters = ap (λ (o : Option Attribute). elim o as (λ _. List Kind) [ None ↦ [] | Some b ↦ b.parameters ]) at in
       record { node = u; there = found; declared = a; attribute = at; has = below; fit = subst (λ ks. fit_parameters rules.classes s.tree ks vs ≡ true) parameters fit }
 
-  by_fit : (n : Node) (name : List ℕ) (vs : List (Value Node)) (attribute : ℕ) (b : Bool) → option_and_then (λ u. attribute_named rules (class_of u) name) (tree_at s.tree n) ≡ Some attribute → fit_parameters rules.classes s.tree (parameters_of rules attribute) vs ≡ b →
+  by_fit : (n : Node) (name : List ℕ) (vs : List (Value Node)) (attribute : ℕ) (b : Bool)
+      → option_and_then (λ u. attribute_named rules (class_of u) name) (tree_at s.tree n) ≡ Some attribute
+      → fit_parameters rules.classes s.tree (parameters_of rules attribute) vs ≡ b →
       AsksWell (if b then Asks (record { node = n; attribute = attribute; arguments = vs }) else Refuses code.Arguments)
   by_fit n name vs attribute true named fit q e =
       let same : record { node = n; attribute = attribute; arguments = vs } ≡ q = cc in
@@ -68,7 +72,10 @@ module _ (rules : Rules) (s : State) where
   by_name n name vs (Some attribute) named = by_fit n name vs attribute (fit_parameters rules.classes s.tree (parameters_of rules attribute) vs) named refl
 
   asks_well : (session : ℕ) (c : Command) (b : Bool) → is_question c ≡ b → AsksWell (obeyed rules s session c)
-  asks_well session (Ask place attribute arguments) b is = node_all AsksWell none_asked rules.classes s session place _ (λ n. at_option AsksWell none_asked (each (map (value_named rules.classes s session) arguments)) code.Path _ (λ vs. by_name n attribute vs (option_and_then (λ u. attribute_named rules (class_of u) attribute) (tree_at s.tree n)) refl))
+  asks_well session (Ask place attribute arguments) b is =
+      node_all AsksWell none_asked rules.classes s session place _ (λ n. at_option AsksWell none_asked
+      (each (map (value_named rules.classes s session) arguments)) code.Path _ (λ vs. by_name n attribute vs
+      (option_and_then (λ u. attribute_named rules (class_of u) attribute) (tree_at s.tree n)) refl))
   asks_well session c true is = absurd cc
   asks_well session c false is = λ q e. absurd (tellable rules s session c is q e)
 

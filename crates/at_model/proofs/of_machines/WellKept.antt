@@ -22,7 +22,8 @@ use Rattle.at_model.proofs.of_edits.Changes.{whole}
 use Rattle.at_model.proofs.of_machines.Sound.{Safe, refused, told, asked, left, edits, posts, waited, safe}
 use Rattle.at_model.proofs.of_edits.Larger.{within_edited}
 
-walks-append : {N : Type 0} (look : Contents N) (equation : Equations N) (i j k : Instance N) (is js : List (Instance N)) → Walks look equation i is j → Walks look equation j js k → Walks look equation i (is ++ j ∷ js) k
+walks-append : {N : Type 0} (look : Contents N) (equation : Equations N) (i j k : Instance N) (is js : List
+    (Instance N)) → Walks look equation i is j → Walks look equation j js k → Walks look equation i (is ++ j ∷ js) k
 walks-append look equation i j k [] js h g = (h, g)
 walks-append look equation i j k (m ∷ ms) js h g = (h.0, walks-append look equation m j k ms js h.1 g)
 
@@ -32,7 +33,9 @@ leads_on {N} look equation i j k (inr (is, walks)) (inl same) = inr (is, let P :
 leads_on look equation i j k (inr (is, walks)) (inr (js, more)) = inr (is ++ j ∷ js, walks-append look equation i j k is js walks more)
 
 -- what is like a value is one
-as_value : {N M : Type 0} {R : N → M → Type 0} (look : Contents M) (equation : Equations M) (j : Instance M) (v : Value N) (o : Outcome N) (p : Outcome M) → o ≡ Finds v → Holds look equation j p → OutcomeLike R o p → (w : Value M) × HasValue look equation j w
+as_value : {N M : Type 0} {R : N → M → Type 0} (look : Contents M) (equation : Equations M) (j : Instance M)
+    (v : Value N) (o : Outcome N) (p : Outcome M) → o ≡ Finds v → Holds look equation j p → OutcomeLike R o p
+    → (w : Value M) × HasValue look equation j w
 as_value look equation j v o p e h (alike.find {w = w} s) = (w, h)
 as_value look equation j v o p e h (alike.fault f s) = absurd cc
 
@@ -51,7 +54,8 @@ module _ (rules : Rules) (s : State) (Kept : Instance Node → Type 0) (well : A
       valued i (inl kept) = well.valued i kept
       valued i (inr worth) = (worth.value, worth.has)
 
-      deep : (i j : Instance Node) → Kept i ⊎ IsWorthKeeping rules s.tree q i → Leads (content s.tree) (equations rules) i j → is_lazy rules j.attribute ≡ true → Kept j ⊎ IsWorthKeeping rules s.tree q j
+      deep : (i j : Instance Node) → Kept i ⊎ IsWorthKeeping rules s.tree q i → Leads (content s.tree) (equations rules)
+          i j → is_lazy rules j.attribute ≡ true → Kept j ⊎ IsWorthKeeping rules s.tree q j
       deep i j (inl kept) leads is = inl (well.deep i j kept leads is)
       deep i j (inr worth) leads is =
           let (v, has) = led_valued (content s.tree) (equations rules) i j worth.value worth.has leads in
@@ -61,10 +65,13 @@ module _ (rules : Rules) (s : State) (Kept : Instance Node → Type 0) (well : A
     carried_equations : EquationsLike (Names (carried e)) (equations rules) (equations rules)
     carried_equations = equations-like (carried e) (carried_apart e) rules
 
-    alike_below : (i : Instance Node) → IsUntouched rules s.tree e i → (l : Location Node) → Supports (content s.tree) (equations rules) l i → AlikeAt (Names (carried e)) (content s.tree) (content u) l
+    alike_below : (i : Instance Node) → IsUntouched rules s.tree e i → (l : Location Node)
+        → Supports (content s.tree) (equations rules) l i → AlikeAt (Names (carried e)) (content s.tree) (content u) l
     alike_below i free l rests = edited_alike rules.classes s.tree ok e u made l (free l rests)
 
-    value_there : (i j : Instance Node) (v : Value Node) → IsUntouched rules s.tree e i → InstanceLike (Names (carried e)) i j → HasValue (content s.tree) (equations rules) i v → (w : Value Node) × HasValue (content u) (equations rules) j w
+    value_there : (i j : Instance Node) (v : Value Node) → IsUntouched rules s.tree e i
+        → InstanceLike (Names (carried e)) i j → HasValue (content s.tree) (equations rules) i v
+        → (w : Value Node) × HasValue (content u) (equations rules) j w
     value_there i j v free like has =
         let (p, holds, same) = carried_outcome (content s.tree) (content u) (equations rules) (equations rules) carried_equations i j (Finds v) like (alike_below i free) has in
         as_value (content u) (equations rules) j v (Finds v) p refl holds same
@@ -73,7 +80,9 @@ module _ (rules : Rules) (s : State) (Kept : Instance Node → Type 0) (well : A
     abbrev pub Stays : Instance Node → Type 0
     Stays j = (i : Instance Node) × Kept i × IsUntouched rules s.tree e i × InstanceLike (Names (carried e)) i j
 
-    led_stays : (i j k : Instance Node) (v : Value Node) → Kept i → IsUntouched rules s.tree e i → InstanceLike (Names (carried e)) i j → HasValue (content s.tree) (equations rules) i v → Leads (content u) (equations rules) j k → is_lazy rules k.attribute ≡ true → Stays k
+    led_stays : (i j k : Instance Node) (v : Value Node) → Kept i → IsUntouched rules s.tree e i
+        → InstanceLike (Names (carried e)) i j → HasValue (content s.tree) (equations rules) i v
+        → Leads (content u) (equations rules) j k → is_lazy rules k.attribute ≡ true → Stays k
     led_stays i j k v kept free like (n, has) leads is =
         let (m, same, led, h, settles) = leads_here (content s.tree) (content u) (equations rules) (equations rules) carried_equations n i j k (Finds v, has) (alike_below i free) like leads in
         (m, well.deep i m kept led (ap (is_lazy rules) same.attribute ∙ is), (λ l rests. free l (supports_on (content s.tree) (equations rules) i m l led rests)), same)
@@ -95,5 +104,7 @@ module _ (rules : Rules) (s : State) (Kept : Instance Node → Type 0) (well : A
   well_after sound v (edits e u made) =
       well_edited sound.tree_conforms e u (within_edited s.limit rules.classes s.tree e u made).0
 
-pub kept_well : (rules : Rules) (s : State) (l : Line) (Kept : Instance Node → Type 0) → IsSound rules.classes s → AreWellKept rules s.tree Kept → AreWellKept rules (after s (verdict rules s l)).tree (KeptAfter rules s (verdict rules s l) Kept)
+pub kept_well : (rules : Rules) (s : State) (l : Line) (Kept : Instance Node → Type 0)
+    → IsSound rules.classes s → AreWellKept rules s.tree Kept
+    → AreWellKept rules (after s (verdict rules s l)).tree (KeptAfter rules s (verdict rules s l) Kept)
 kept_well rules s l Kept sound well = well_after rules s Kept well sound (verdict rules s l) (whole (Safe rules.classes s) refused rules s l (safe rules s sound l.session l.command))

@@ -22,7 +22,8 @@ index_stops : (i : Option ℕ) (z : List ℕ) → Stops z → Stops (index_text 
 index_stops None z hz = hz
 index_stops (Some i) z hz = refl
 
-same_index : (i j : Option ℕ) (z w : List ℕ) → IsIndex i → IsIndex j → Stops z → Stops w → ((y : List ℕ) → z ≡ 58 ∷ y → ⊥) → ((y : List ℕ) → w ≡ 58 ∷ y → ⊥) → index_text i ++ z ≡ index_text j ++ w → (i ≡ j) × (z ≡ w)
+same_index : (i j : Option ℕ) (z w : List ℕ) → IsIndex i → IsIndex j → Stops z → Stops w → ((y : List ℕ) → z ≡ 58 ∷ y
+    → ⊥) → ((y : List ℕ) → w ≡ 58 ∷ y → ⊥) → index_text i ++ z ≡ index_text j ++ w → (i ≡ j) × (z ≡ w)
 same_index None None z w hi hj hz hw nz nw e = (refl, e)
 same_index None (Some j) z w hi hj hz hw nz nw e = absurd (nz _ e)
 same_index (Some i) None z w hi hj hz hw nz nw e = absurd (nw _ (sym e))
@@ -122,7 +123,9 @@ same_behind [] (b ∷ bs) r s same e = absurd (apart 41 44 r _ refl e)
 same_behind (a ∷ as') [] r s same e = absurd (apart 44 41 _ s refl e)
 same_behind (a ∷ as') (b ∷ bs) r s same e = same (ap tail e)
 
-same_arguments : (as' bs : List Argument) (r s : List ℕ) → AllByRecursion IsArgument as' → AllByRecursion IsArgument bs → with_commas (map argument_text as') ++ 41 ∷ r ≡ with_commas (map argument_text bs) ++ 41 ∷ s → (as' ≡ bs) × (r ≡ s)
+same_arguments : (as' bs : List Argument) (r s : List ℕ) → AllByRecursion IsArgument as' → AllByRecursion IsArgument bs
+    → with_commas (map argument_text as') ++ 41 ∷ r ≡ with_commas (map argument_text bs) ++ 41 ∷ s
+    → (as' ≡ bs) × (r ≡ s)
 same_arguments [] [] r s ha hb e = (refl, ap tail e)
 same_arguments [] (b ∷ bs) r s ha hb e = absurd (argument_head b _ r (sym (e ∙ unfold_commas b bs (41 ∷ s))))
 same_arguments (a ∷ as') [] r s ha hb e = absurd (argument_head a _ s (sym (unfold_commas a as' (41 ∷ r)) ∙ e))
@@ -132,7 +135,9 @@ same_arguments (a ∷ as') (b ∷ bs) r s ha hb e =
     let rest = same_behind as' bs r s (same_arguments as' bs r s ha.1 hb.1) first.1 in
     (λ i. first.0 i ∷ rest.0 i, rest.1)
 
-pub same_call : (a b : List ℕ) (as' bs : List Argument) → is_name a ≡ true → IsUtf8 a → is_name b ≡ true → IsUtf8 b → AllByRecursion IsArgument as' → AllByRecursion IsArgument bs → call_text a as' ≡ call_text b bs → (a ≡ b) × (as' ≡ bs)
+pub same_call : (a b : List ℕ) (as' bs : List Argument) → is_name a ≡ true → IsUtf8 a → is_name b ≡ true → IsUtf8 b
+    → AllByRecursion IsArgument as' → AllByRecursion IsArgument bs → call_text a as' ≡ call_text b bs
+    → (a ≡ b) × (as' ≡ bs)
 same_call a b as' bs ha ua hb ub has hbs e =
     let names = same_word a b _ _ (name_inner a ha ua) (name_inner b hb ub) refl refl e in
     (names.0, (same_arguments as' bs [] [] has hbs (ap tail names.1)).0)

@@ -193,7 +193,8 @@ mutual
       let both = same_cells (d - 1) (e - 1) cs ds r s hc hd (ap tail words.1) in
       (λ i. Node (words.0 i) (both.0 i), both.1)
 
-  same_cells : (d e : ℕ) (cs ds : Cells) (r s : List ℕ) → AreCellsWithin d cs → AreCellsWithin e ds → with_commas (cell_texts cs) ++ 41 ∷ r ≡ with_commas (cell_texts ds) ++ 41 ∷ s → (cs ≡ ds) × (r ≡ s)
+  same_cells : (d e : ℕ) (cs ds : Cells) (r s : List ℕ) → AreCellsWithin d cs → AreCellsWithin e ds
+      → with_commas (cell_texts cs) ++ 41 ∷ r ≡ with_commas (cell_texts ds) ++ 41 ∷ s → (cs ≡ ds) × (r ≡ s)
   same_cells d e no_cells no_cells r s hc hd is = (refl, ap tail is)
   same_cells d e no_cells (cell b ds) r s hc hd is = absurd (cell_no_end e b _ r 41 hd.0 refl (sym (is ∙ unfold_commas (cell_text b) (cell_texts ds) (41 ∷ s))))
   same_cells d e (cell a cs) no_cells r s hc hd is = absurd (cell_no_end d a _ s 41 hc.0 refl (sym (unfold_commas (cell_text a) (cell_texts cs) (41 ∷ r)) ∙ is))
@@ -223,7 +224,8 @@ mutual
   same_cell d e (Holds v) Empty r s ha hb hr hs is = absurd (empty_no_token s v r hs ha hr (sym is))
   same_cell d e (Holds v) (Holds w) r s ha hb hr hs is = let both = same_token v w r s ha hb hr hs is in (ap Holds both.0, both.1)
 
-  same_terms : (d e : ℕ) (ts us : Terms) (r s : List ℕ) → AreTermsWithin d ts → AreTermsWithin e us → with_commas (term_texts ts) ++ 93 ∷ r ≡ with_commas (term_texts us) ++ 93 ∷ s → (ts ≡ us) × (r ≡ s)
+  same_terms : (d e : ℕ) (ts us : Terms) (r s : List ℕ) → AreTermsWithin d ts → AreTermsWithin e us
+      → with_commas (term_texts ts) ++ 93 ∷ r ≡ with_commas (term_texts us) ++ 93 ∷ s → (ts ≡ us) × (r ≡ s)
   same_terms d e no_terms no_terms r s ht hu is = (refl, ap tail is)
   same_terms d e no_terms (term u us) r s ht hu is = absurd (term_no_end e u _ r 93 hu.0 refl (sym (is ∙ unfold_commas (term_text u) (term_texts us) (93 ∷ s))))
   same_terms d e (term t ts) no_terms r s ht hu is = absurd (term_no_end d t _ s 93 ht.0 refl (sym (unfold_commas (term_text t) (term_texts ts) (93 ∷ r)) ∙ is))

@@ -185,16 +185,21 @@ is_plain_command (Post p name as') = is_plain_place p && (is_plain_name name && 
 is_plain_command (Wait n) = nat_lt 0 n && nat_le n last_post
 
 command : (c : Command) → is_plain_command c ≡ true → IsCommand c
-command (Ask p name as') h = let g = all_and (is_plain_place p) (is_plain_name name && list_all is_plain_argument as') h in let f = all_and (is_plain_name name) (list_all is_plain_argument as') g.1 in (place p g.0, named name f.0, each is_plain_argument IsArgument argument as' f.1)
+command (Ask p name as') h = let g = all_and (is_plain_place p) (is_plain_name name && list_all is_plain_argument as')
+    h in let f = all_and (is_plain_name name) (list_all is_plain_argument as') g.1 in
+    (place p g.0, named name f.0, each is_plain_argument IsArgument argument as' f.1)
 command (Set p t) h = let g = all_and (is_plain_place p) (is_plain_term max_depth t) h in (place p g.0, plain_term max_depth t g.1)
-command (Put p part t) h = let g = all_and (is_plain_place p) (is_plain_name part && is_plain_term max_depth t) h in let f = all_and (is_plain_name part) (is_plain_term max_depth t) g.1 in (place p g.0, named part f.0, plain_term max_depth t f.1)
+command (Put p part t) h = let g = all_and (is_plain_place p) (is_plain_name part && is_plain_term max_depth t) h in
+    let f = all_and (is_plain_name part) (is_plain_term max_depth t) g.1 in
+    (place p g.0, named part f.0, plain_term max_depth t f.1)
 command (Drop p) h = place p h
 command (Insert p part i t) h =
     let g = all_and (is_plain_place p) (is_plain_name part && (is_plain_index (Some i) && is_plain_term max_depth t)) h in
     let f = all_and (is_plain_name part) (is_plain_index (Some i) && is_plain_term max_depth t) g.1 in
     let e = all_and (is_plain_index (Some i)) (is_plain_term max_depth t) f.1 in
     (place p g.0, named part f.0, index (Some i) e.0, plain_term max_depth t e.1)
-command (Token p part v) h = let g = all_and (is_plain_place p) (is_plain_name part && is_plain_token v) h in let f = all_and (is_plain_name part) (is_plain_token v) g.1 in (place p g.0, named part f.0, token v f.1)
+command (Token p part v) h = let g = all_and (is_plain_place p) (is_plain_name part && is_plain_token v) h in
+    let f = all_and (is_plain_name part) (is_plain_token v) g.1 in (place p g.0, named part f.0, token v f.1)
 command (Move p to part i) h =
     let g = all_and (is_plain_place p) (is_plain_place to && (is_plain_name part && is_plain_index (Some i))) h in
     let f = all_and (is_plain_place to) (is_plain_name part && is_plain_index (Some i)) g.1 in
@@ -205,7 +210,9 @@ command (Mark name p) h = let g = all_and (is_plain_name name) (is_plain_place p
 command (Unmark name) h = named name h
 command (Where name) h = named name h
 command Version h = tt
-command (Post p name as') h = let g = all_and (is_plain_place p) (is_plain_name name && list_all is_plain_argument as') h in let f = all_and (is_plain_name name) (list_all is_plain_argument as') g.1 in (place p g.0, named name f.0, each is_plain_argument IsArgument argument as' f.1)
+command (Post p name as') h = let g = all_and (is_plain_place p) (is_plain_name name && list_all is_plain_argument as')
+    h in let f = all_and (is_plain_name name) (list_all is_plain_argument as') g.1 in
+    (place p g.0, named name f.0, each is_plain_argument IsArgument argument as' f.1)
 command (Wait n) h = let g = all_and (nat_lt 0 n) (nat_le n last_post) h in (below 0 n g.0, at_most n last_post g.1)
 
 abbrev pub is_plain_version : Option ℕ → Bool
@@ -225,4 +232,12 @@ spelled l h =
     let g = all_and (nat_lt l.session max_sessions) (is_plain_version l.expected && (is_plain_command l.command && nat_le (length (line_text l)) max_line)) h in
     let f = all_and (is_plain_version l.expected) (is_plain_command l.command && nat_le (length (line_text l)) max_line) g.1 in
     let e = all_and (is_plain_command l.command) (nat_le (length (line_text l)) max_line) f.1 in
-    record { is_line = record { session = below l.session max_sessions g.0; expected = version l.expected f.0; command = command l.command e.0 }; text = refl; short = at_most (length (line_text l)) max_line e.1 }
+    record {
+      is_line = record {
+        session = below l.session max_sessions g.0;
+        expected = version l.expected f.0;
+        command = command l.command e.0;
+      };
+      text = refl;
+      short = at_most (length (line_text l)) max_line e.1;
+    }

@@ -38,7 +38,8 @@ module _ (classes : Classes) where
         subst P h (and_true _ _ fit inner.0, λ i. Node (same i) (inner.1 i))
 
     cells_shaped_conform : (cs : Cells) (ps : List Component) (ds : tree.Cells) → cells_shaped classes cs ps ≡ Some ds → (cells_conform classes ds ps ≡ true) × (cells_of classes ds ≡ cs)
-    cells_shaped_conform no_cells [] ds e = let P : tree.Cells → Type 0 = λ x. (cells_conform classes x [] ≡ true) × (cells_of classes x ≡ no_cells) in let same : tree.no_cells ≡ ds = cc in subst P same (refl, refl)
+    cells_shaped_conform no_cells [] ds e = let P : tree.Cells → Type 0 = λ x. (cells_conform classes x [] ≡ true)
+        × (cells_of classes x ≡ no_cells) in let same : tree.no_cells ≡ ds = cc in subst P same (refl, refl)
     cells_shaped_conform no_cells (p ∷ ps) ds e = absurd cc
     cells_shaped_conform (cell c cs) [] ds e = absurd cc
     cells_shaped_conform (cell c cs) (p ∷ ps) ds e =
@@ -67,7 +68,9 @@ module _ (classes : Classes) where
     cell_shaped_conforms (Many ts) (class.One b) d e = absurd cc
     cell_shaped_conforms (Many ts) (class.Maybe b) d e = absurd cc
     cell_shaped_conforms (Many ts) (class.Token kind) d e = absurd cc
-    cell_shaped_conforms Empty (class.Maybe b) d e = let P : tree.Cell → Type 0 = λ x. (cell_conforms classes x (class.Maybe b) ≡ true) × (cell_of classes x ≡ Empty) in let same : tree.Empty ≡ d = cc in subst P same (refl, refl)
+    cell_shaped_conforms Empty (class.Maybe b) d e = let P : tree.Cell
+        → Type 0 = λ x. (cell_conforms classes x (class.Maybe b) ≡ true) × (cell_of classes x ≡ Empty) in
+        let same : tree.Empty ≡ d = cc in subst P same (refl, refl)
     cell_shaped_conforms Empty (class.One b) d e = absurd cc
     cell_shaped_conforms Empty (class.Many b) d e = absurd cc
     cell_shaped_conforms Empty (class.Token kind) d e = absurd cc
@@ -80,7 +83,8 @@ module _ (classes : Classes) where
     cell_shaped_conforms (Holds v) (class.Maybe b) d e = absurd cc
 
     terms_shaped_conform : (ts : Terms) (b : ℕ) (us : tree.Trees) → terms_shaped classes ts b ≡ Some us → (trees_conform classes us b ≡ true) × (terms_of classes us ≡ ts)
-    terms_shaped_conform no_terms b us e = let P : tree.Trees → Type 0 = λ x. (trees_conform classes x b ≡ true) × (terms_of classes x ≡ no_terms) in let same : tree.no_trees ≡ us = cc in subst P same (refl, refl)
+    terms_shaped_conform no_terms b us e = let P : tree.Trees → Type 0 = λ x. (trees_conform classes x b ≡ true)
+        × (terms_of classes x ≡ no_terms) in let same : tree.no_trees ≡ us = cc in subst P same (refl, refl)
     terms_shaped_conform (term t ts) b us e =
         let (u, first, f) = led (λ u. option_map (λ us. tree.tree u us) (terms_shaped classes ts b)) (shaped classes t b) us e in
         let (rest, made, h) = mapped (λ us. tree.tree u us) (terms_shaped classes ts b) us f in
@@ -105,20 +109,29 @@ module _ (classes : Classes) where
           let concrete = both (is_concrete classes c) (is_sub classes c b) here.0 in
           let named = apart c (concrete_there c concrete.0) in
           let inner = cells_conform_shaped ds (parts classes c) here.1 in
-          let P : Option ℕ → Type 0 = λ o. (option_and_then (λ k. if fits classes k b then option_map (λ x. tree.Node k x) (cells_shaped classes (cells_of classes ds) (parts classes k)) else None) o ≡ Some (tree.Node c ds)) × ((elim o [ None ↦ false | Some k ↦ is_concrete classes k ] && cells_name_classes classes (cells_of classes ds)) ≡ true) in
+          let P : Option ℕ → Type 0 = λ o. (option_and_then (λ k. if fits classes k b then option_map (λ x. tree.Node k
+          x) (cells_shaped classes (cells_of classes ds) (parts classes k)) else None) o ≡ Some (tree.Node c ds))
+          × ((elim o [ None ↦ false | Some k ↦ is_concrete classes k ]
+          && cells_name_classes classes (cells_of classes ds)) ≡ true) in
           subst P (sym named) (if_true (fits classes c b) _ None here.0 ∙ ap (option_map (λ x. tree.Node c x)) inner.0, and_true _ _ concrete.0 inner.1)
 
-      cells_conform_shaped : (ds : tree.Cells) (ps : List Component) → cells_conform classes ds ps ≡ true → (cells_shaped classes (cells_of classes ds) ps ≡ Some ds) × (cells_name_classes classes (cells_of classes ds) ≡ true)
+      cells_conform_shaped : (ds : tree.Cells) (ps : List Component) → cells_conform classes ds ps ≡ true
+          → (cells_shaped classes (cells_of classes ds) ps ≡ Some ds)
+          × (cells_name_classes classes (cells_of classes ds) ≡ true)
       cells_conform_shaped tree.no_cells [] e = (refl, refl)
       cells_conform_shaped tree.no_cells (p ∷ ps) e = absurd cc
       cells_conform_shaped (tree.cell d ds) [] e = absurd cc
       cells_conform_shaped (tree.cell d ds) (p ∷ ps) e =
           let both_parts = both (cell_conforms classes d p.shape) (cells_conform classes ds ps) e in
           let here = cell_conform_shaped d p.shape both_parts.0 in
-          let there = cells_conform_shaped ds ps both_parts.1 in
-          (ap (option_and_then (λ x. option_map (λ y. tree.cell x y) (cells_shaped classes (cells_of classes ds) ps))) here.0 ∙ ap (option_map (λ y. tree.cell d y)) there.0, and_true _ _ here.1 there.1)
+          let there = cells_conform_shaped ds ps both_parts.1 in (
+            ap (option_and_then (λ x. option_map (λ y. tree.cell x y) (cells_shaped classes (cells_of classes ds) ps)))
+                here.0 ∙ ap (option_map (λ y. tree.cell d y)) there.0,
+            and_true _ _ here.1 there.1,
+          )
 
-      cell_conform_shaped : (d : tree.Cell) (shape : Shape) → cell_conforms classes d shape ≡ true → (cell_shaped classes (cell_of classes d) shape ≡ Some d) × (cell_names_classes classes (cell_of classes d) ≡ true)
+      cell_conform_shaped : (d : tree.Cell) (shape : Shape) → cell_conforms classes d shape ≡ true → (cell_shaped
+          classes (cell_of classes d) shape ≡ Some d) × (cell_names_classes classes (cell_of classes d) ≡ true)
       cell_conform_shaped (tree.One t) (class.One b) e = let here = conforms_shaped t b e in (ap (option_map (λ u. tree.One u)) here.0, here.1)
       cell_conform_shaped (tree.One t) (class.Many b) e = absurd cc
       cell_conform_shaped (tree.One t) (class.Maybe b) e = absurd cc
@@ -140,10 +153,14 @@ module _ (classes : Classes) where
       cell_conform_shaped (tree.Holds v) (class.Many b) e = absurd cc
       cell_conform_shaped (tree.Holds v) (class.Maybe b) e = absurd cc
 
-      terms_conform_shaped : (us : tree.Trees) (b : ℕ) → trees_conform classes us b ≡ true → (terms_shaped classes (terms_of classes us) b ≡ Some us) × (terms_name_classes classes (terms_of classes us) ≡ true)
+      terms_conform_shaped : (us : tree.Trees) (b : ℕ) → trees_conform classes us b ≡ true → (terms_shaped classes
+          (terms_of classes us) b ≡ Some us) × (terms_name_classes classes (terms_of classes us) ≡ true)
       terms_conform_shaped tree.no_trees b e = (refl, refl)
       terms_conform_shaped (tree.tree u us) b e =
           let both_parts = both (conforms classes u b) (trees_conform classes us b) e in
           let here = conforms_shaped u b both_parts.0 in
-          let there = terms_conform_shaped us b both_parts.1 in
-          (ap (option_and_then (λ x. option_map (λ y. tree.tree x y) (terms_shaped classes (terms_of classes us) b))) here.0 ∙ ap (option_map (λ y. tree.tree u y)) there.0, and_true _ _ here.1 there.1)
+          let there = terms_conform_shaped us b both_parts.1 in (
+            ap (option_and_then (λ x. option_map (λ y. tree.tree x y) (terms_shaped classes (terms_of classes us) b)))
+                here.0 ∙ ap (option_map (λ y. tree.tree u y)) there.0,
+            and_true _ _ here.1 there.1,
+          )

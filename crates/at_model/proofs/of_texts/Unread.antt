@@ -18,7 +18,8 @@ IsNoSession front = (n : ℕ) → n < 1000 → front ≡ decimal n → ⊥
 pub no_line : (front rest : List ℕ) → IsInner front → Stops rest → IsNoSession front → (l : Line) → Spells (front ++ rest) l → ⊥
 no_line front rest inner stops none l s =
     let small : l.session < 1000 = s.is_line.session in
-    none l.session small (same_word front (decimal l.session) rest (32 ∷ body_text l.expected l.command) inner (decimal_inner l.session (omega arith)) stops refl (s.text ∙ line_flat l.session l.expected l.command)).0
+    none l.session small (same_word front (decimal l.session) rest (32 ∷ body_text l.expected l.command) inner
+    (decimal_inner l.session (omega arith)) stops refl (s.text ∙ line_flat l.session l.expected l.command)).0
 
 pub no_session : (front rest : List ℕ) → IsInner front → Stops rest → IsNoSession front → (n : ℕ) → BeginsWith (front ++ rest) n → ⊥
 no_session front rest inner stops none n b =
@@ -32,7 +33,8 @@ no_thousand n h e = let same : 1000 ≡ n = decimal_injective 1000 n (omega arit
 pub no_two_zeros : IsNoSession (codes "00")
 unfolding digits
 no_two_zeros zero h e = let left : codes "0" ≡ [] = ap tail e in cc
-no_two_zeros (suc n) h e = let first : 48 < get_or (decimal (suc n)) 0 0 = first_decimal (suc n) (omega arith) (omega arith) in let is : 48 ≡ get_or (decimal (suc n)) 0 0 = ap (λ ds. get_or ds 0 0) e in omega arith
+no_two_zeros (suc n) h e = let first : 48 < get_or (decimal (suc n)) 0 0 = first_decimal (suc n) (omega arith)
+    (omega arith) in let is : 48 ≡ get_or (decimal (suc n)) 0 0 = ap (λ ds. get_or ds 0 0) e in omega arith
 
 -- behind `show` no place stands
 at_body : (rest : List ℕ) (o : Option ℕ) (c : Command) → IsCommand c → ((p : Place) → IsPlace p → rest ≡ place_text p → ⊥) → codes "show " ++ rest ≡ body_text o c → ⊥

@@ -100,7 +100,8 @@ inner-append (b ∷ x) y hx hy = (hx.0, inner-append x y hx.1 hy)
 -- a byte that passes a test which no delimiter passes
 apart_at : (test : ℕ → Bool) (b d : ℕ) (t : Bool) → nat_eq b d ≡ t → test b ≡ true → not (test d) ≡ true → nat_eq b d ≡ false
 apart_at test b d false e h k = e
-apart_at test b d true e h k = let is : b ≡ d = grind (arith, nat_tests) in absurd (let g = subst (λ (x : ℕ). test x ≡ true) is h in let f : not true ≡ true = subst (λ (x : Bool). not x ≡ true) g k in cc)
+apart_at test b d true e h k = let is : b ≡ d = grind (arith, nat_tests) in absurd (let g =
+    subst (λ (x : ℕ). test x ≡ true) is h in let f : not true ≡ true = subst (λ (x : Bool). not x ≡ true) g k in cc)
 
 apart_from : (test : ℕ → Bool) (b : ℕ) (ds : List ℕ) → list_all (λ d. not (test d)) ds ≡ true → test b ≡ true → list_any (nat_eq b) ds ≡ false
 apart_from test b [] h k = refl
@@ -122,7 +123,8 @@ digit : (n : ℕ) → n < 10 → is_digit (48 + n) ≡ true
 digit n h = and_true (nat_le 48 (48 + n)) (nat_le (48 + n) 57) (grind (arith, nat_tests)) (grind (arith, nat_tests))
 
 pub decimal_inner : (n : ℕ) → n < 2 ^ 64 → IsInner (decimal n)
-decimal_inner n h = decimal_by_steps (λ n ds. IsInner ds) (λ n small. (digit_inner (48 + n) (digit n small), tt)) (λ n ds big inner. inner-append ds _ inner (digit_inner (48 + n % 10) (digit (n % 10) (omega arith)), tt)) n h
+decimal_inner n h = decimal_by_steps (λ n ds. IsInner ds) (λ n small. (digit_inner (48 + n) (digit n small), tt))
+    (λ n ds big inner. inner-append ds _ inner (digit_inner (48 + n % 10) (digit (n % 10) (omega arith)), tt)) n h
 
 continue_at : (b : ℕ) (t : Bool) → nat_lt b 128 ≡ t → continues_name b ≡ true → delimits b ≡ false
 continue_at b true e h = apart_from (λ c. is_ascii_alphanumeric c || (c == 95)) b delimiters refl (sym (is_xid_continue-ascii b (grind (arith, nat_tests))) ∙ h)
@@ -143,7 +145,9 @@ inner_char : (c : ℕ) → delimits c ≡ false → IsInner (encode c)
 unfolding encode
 inner_char c h = by_tests (nat_lt c 128) (nat_lt c 2048) (nat_lt c 65536)
   where
-    by_tests : (p q r : Bool) → IsInner (cond p (c ∷ []) (cond q ((192 + c / 64) ∷ (128 + c % 64) ∷ []) (cond r ((224 + c / 4096) ∷ (128 + c / 64 % 64) ∷ (128 + c % 64) ∷ []) ((240 + c / 262144) ∷ (128 + c / 4096 % 64) ∷ (128 + c / 64 % 64) ∷ (128 + c % 64) ∷ []))))
+    by_tests : (p q r : Bool) → IsInner (cond p (c ∷ []) (cond q ((192 + c / 64) ∷ (128 + c % 64) ∷ [])
+        (cond r ((224 + c / 4096) ∷ (128 + c / 64 % 64) ∷ (128 + c % 64) ∷ [])
+        ((240 + c / 262144) ∷ (128 + c / 4096 % 64) ∷ (128 + c / 64 % 64) ∷ (128 + c % 64) ∷ []))))
     by_tests true q r = (h, tt)
     by_tests false true r = (above 192 (c / 64) (omega arith), (above 128 (c % 64) (omega arith), tt))
     by_tests false false true = (above 224 (c / 4096) (omega arith), (above 128 (c / 64 % 64) (omega arith), (above 128 (c % 64) (omega arith), tt)))

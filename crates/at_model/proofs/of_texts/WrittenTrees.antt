@@ -19,7 +19,11 @@ element P (x ∷ xs) zero a h e = let same : x ≡ a = cc in subst P same h.0
 element P (x ∷ xs) (suc i) a h e = element P xs i a h.1 e
 
 module _ (classes : Classes) (sound : AreSound classes) where
-  class_named : (c : ℕ) (o : Option Class) → slice_get classes c ≡ o → elim o as (λ _. Bool) [ None ↦ false | Some k ↦ not k.is_abstract ] ≡ true → IsName (elim o as (λ _. List ℕ) [ None ↦ [] | Some k ↦ k.name ])
+  class_named : (c : ℕ) (o : Option Class) → slice_get classes c ≡ o → elim o as (λ _. Bool) [
+    | None ↦ false
+    | Some k ↦
+        not k.is_abstract
+  ] ≡ true → IsName (elim o as (λ _. List ℕ) [ None ↦ [] | Some k ↦ k.name ])
   class_named c None is e = absurd cc
   class_named c (Some k) is e = let s = element (IsClassSound (length classes)) classes c k (recursion_from_All (IsClassSound (length classes)) classes sound.each) is in s.name
 

@@ -51,7 +51,9 @@ module _ (P : held.Token → Type 0) where
   child_told (Filled t) (suc i) u e h = absurd (cc)
   child_told (Holds v) i u e h = absurd (cc)
 
-  cell_child_told : (cells : Cells) (part i : ℕ) (u : Tree) (o : Option Cell) → slice_get (from_cells cells) part ≡ o → slice_get (elim o [ None ↦ [] | Some c ↦ children c ]) i ≡ Some u → AllByRecursion P (cells_tokens cells) → AllByRecursion P (tokens u)
+  cell_child_told : (cells : Cells) (part i : ℕ) (u : Tree) (o : Option Cell) → slice_get (from_cells cells) part ≡ o
+      → slice_get (elim o [ None ↦ [] | Some c ↦ children c ]) i ≡ Some u → AllByRecursion P (cells_tokens cells)
+      → AllByRecursion P (tokens u)
   cell_child_told cells part i u None f e h = absurd (cc)
   cell_child_told cells part i u (Some c) f e h = child_told c i u e (cell_told cells part c f h)
 
@@ -119,7 +121,8 @@ cell_fewer cells part (Some c) e = omega (arith, child_many c, cell_many cells p
 pub children_few : (t : Tree) (part : ℕ) → length (children_at t part) < nodes t
 children_few (Branch c cells) part = let h = cell_fewer cells part (slice_get (from_cells cells) part) refl in omega arith
 
-one_fewer : (cells : Cells) (part i : ℕ) (u : Tree) (o : Option Cell) → slice_get (from_cells cells) part ≡ o → slice_get (elim o [ None ↦ [] | Some c ↦ children c ]) i ≡ Some u → nodes u ≤ held.cells_nodes cells
+one_fewer : (cells : Cells) (part i : ℕ) (u : Tree) (o : Option Cell) → slice_get (from_cells cells) part ≡ o
+    → slice_get (elim o [ None ↦ [] | Some c ↦ children c ]) i ≡ Some u → nodes u ≤ held.cells_nodes cells
 one_fewer cells part i u None f e = absurd (cc)
 one_fewer cells part i u (Some c) f e = omega (arith, child_fewer c i u e, cell_many cells part c f)
 
@@ -143,7 +146,9 @@ slot_few t n part most less = by_tree (tree_at t n) refl
 -- kinds ------------------------------------------------------------------------------------------------------------------
 
 -- a component has a cell that conforms
-cell_for : (classes : Classes) (cells : Cells) (ps : List Component) (i : ℕ) (p : Component) → cells_conform classes cells ps ≡ true → slice_get ps i ≡ Some p → (c : Cell) × (slice_get (from_cells cells) i ≡ Some c) × (cell_conforms classes c p.shape ≡ true)
+cell_for : (classes : Classes) (cells : Cells) (ps : List Component) (i : ℕ) (p : Component)
+    → cells_conform classes cells ps ≡ true → slice_get ps i ≡ Some p
+    → (c : Cell) × (slice_get (from_cells cells) i ≡ Some c) × (cell_conforms classes c p.shape ≡ true)
 cell_for classes no_cells [] i p e q = absurd (cc)
 cell_for classes no_cells (r ∷ ps) i p e q = absurd (cc)
 cell_for classes (cell d cells) [] i p e q = absurd (cc)
@@ -174,7 +179,8 @@ token_of_kind classes at (held.Int n) class.Truth e h = absurd (cc)
 token_of_kind classes at (held.Truth b) class.Text e h = absurd (cc)
 token_of_kind classes at (held.Truth b) class.Int e h = absurd (cc)
 
-token_there : (classes : Classes) (u : Tree) (b part : ℕ) (k : TokenKind) → conforms classes u b ≡ true → shape_of_part classes (class_of u) part ≡ Some (Token k) → is_of_kind (token_in (cell_at u part)) k ≡ true
+token_there : (classes : Classes) (u : Tree) (b part : ℕ) (k : TokenKind) → conforms classes u b ≡ true
+    → shape_of_part classes (class_of u) part ≡ Some (Token k) → is_of_kind (token_in (cell_at u part)) k ≡ true
 token_there classes (Branch d cells) b part k e f =
     let (x, y) = both (fits classes d b) (cells_conform classes cells (parts classes d)) e in
     let (p, g, h) = mapped (λ (p : Component). p.shape) (slice_get (parts classes d) part) (Token k) f in
@@ -230,7 +236,9 @@ module _ (classes : Classes) (t : Tree) (Allowed : Texts) (ok : IsStanding class
   fits_class : (u : Tree) (b : ℕ) → conforms classes u b ≡ true → is_sub classes (class_of u) b ≡ true
   fits_class u b e = (both (is_concrete classes (class_of u)) (is_sub classes (class_of u) b) (fits_there classes u b e)).1
 
-  children_stand : (n : Node) (c part b : ℕ) (u : Tree) → tree_at t n ≡ Some u → class_of u ≡ c → class_of_part classes c part ≡ Some b → AllByRecursion (λ m. IsNodeOf classes (class_at t) m b) (child_nodes n part 0 (children_at u part))
+  children_stand : (n : Node) (c part b : ℕ) (u : Tree) → tree_at t n ≡ Some u
+      → class_of u ≡ c → class_of_part classes c part ≡ Some b
+      → AllByRecursion (λ m. IsNodeOf classes (class_at t) m b) (child_nodes n part 0 (children_at u part))
   children_stand n c part b u e f g =
       let (a, conform) = conforms_at classes t 0 n u ok.conform e in
       each_child (λ m. IsNodeOf classes (class_at t) m b) n part 0 (children_at u part) (λ j x h.
@@ -238,7 +246,11 @@ module _ (classes : Classes) (t : Tree) (Allowed : Texts) (ok : IsStanding class
       let same : d ≡ b = asked_is classes (class_of u) part b d (subst (λ z. class_of_part classes z part ≡ Some b) (sym f) g) asked in
       let z : 0 + j ≡ j = omega arith in
       let there : tree_at t (n ++ (part, j) ∷ []) ≡ Some x = tree_at-snoc t n (part, j) u e ∙ h in
-      subst (λ k. IsNodeOf classes (class_at t) (n ++ (part, k) ∷ []) b) (sym z) (class_of x, ap (option_map class_of) there, subst (λ k. is_sub classes (class_of x) k ≡ true) same (fits_class x d is)))
+      subst (λ k. IsNodeOf classes (class_at t) (n ++ (part, k) ∷ []) b) (sym z) (
+        class_of x,
+        ap (option_map class_of) there,
+        subst (λ k. is_sub classes (class_of x) k ≡ true) same (fits_class x d is),
+      ))
 
   index_stands : (n : Node) → IsSome (class_at t n) → content t (Idx n) < 2147483648
   index_stands n h = elim (snoc n) [
@@ -269,7 +281,9 @@ module _ (classes : Classes) (t : Tree) (Allowed : Texts) (ok : IsStanding class
         token_of_kind classes (class_at t) (content t (Tok n part)) k (ap (λ v. is_of_kind v k) x ∙ h) (token_read IsToken t n part tt ok.fit);
     said = λ n part. token_read (λ v. IsAllowed {N = Node} Allowed (value_of v)) t n part tt ok.said;
     children = λ n c part b e f. let (u, q, g) = mapped class_of (tree_at t n) c e in
-        subst (AllByRecursion (λ m. IsNodeOf classes (class_at t) m b)) (sym (ap (λ (o : Option Tree). elim o as (λ _. List Node) [ None ↦ [] | Some u ↦ child_nodes n part 0 (children_at u part) ]) q)) (children_stand n c part b u q g f);
+        subst (AllByRecursion (λ m. IsNodeOf classes (class_at t) m b)) (sym (ap (λ (o : Option Tree).
+        elim o as (λ _. List Node) [ None ↦ [] | Some u ↦ child_nodes n part 0 (children_at u part) ]) q))
+        (children_stand n c part b u q g f);
     few = λ n part. slot_few t n part 2147483648 ok.few;
     early = index_stands;
   }

@@ -56,7 +56,11 @@ or_left a b e = rw e refl
 -- each is among them
 pub each_among : (xs : List ℕ) → AllByRecursion (λ n. list_any (nat_eq n) xs ≡ true) xs
 each_among [] = tt
-each_among (x ∷ xs) = (or_left (nat_eq x x) _ (same_nat x), all_more (λ n. list_any (nat_eq n) xs ≡ true) (λ n. list_any (nat_eq n) (x ∷ xs) ≡ true) xs (λ n h. or_right (nat_eq n x) _ h) (each_among xs))
+each_among (x ∷ xs) = (
+  or_left (nat_eq x x) _ (same_nat x),
+  all_more (λ n. list_any (nat_eq n) xs ≡ true)
+      (λ n. list_any (nat_eq n) (x ∷ xs) ≡ true) xs (λ n h. or_right (nat_eq n x) _ h) (each_among xs),
+)
 
 -- the own equation that is found stands at the class or above it
 pub own_there : (rules : Rules) (P : OwnEquation → Type 0) → AllByRecursion P rules.own → (c attribute : ℕ) (body : Expr) → own_equation rules c attribute ≡ Some body →
@@ -68,7 +72,9 @@ own_there rules P all c attribute body h =
     let (x, y) = both (nat_eq e.class b) (nat_eq e.attribute attribute) test in
     (e, p, subst (λ z. is_sub rules.classes c z ≡ true) (sym (nat_same e.class b x)) sub, nat_same e.attribute attribute y, k)
 
-inherited_there_in : (rules : Rules) (P : InheritedEquation → Type 0) → AllByRecursion P rules.inherited → (c b : ℕ) (part : Option ℕ) (name : List ℕ) (body : Expr) → is_sub rules.classes c b ≡ true → inherited_in rules name part b ≡ Some body →
+inherited_there_in : (rules : Rules) (P : InheritedEquation → Type 0) → AllByRecursion P rules.inherited
+    → (c b : ℕ) (part : Option ℕ) (name : List ℕ) (body : Expr) → is_sub rules.classes c b ≡ true
+    → inherited_in rules name part b ≡ Some body →
     (e : InheritedEquation) × P e × (is_sub rules.classes c e.class ≡ true) × (bytes_eq e.name name ≡ true) × (e.body ≡ body)
 inherited_there_in rules P all c b part name body sub h =
     let (e, f, k) = mapped (λ (e : InheritedEquation). e.body) (find (λ (e : InheritedEquation). nat_eq e.class b && part_eq e.part part && bytes_eq e.name name) rules.inherited) body h in
@@ -78,11 +84,15 @@ inherited_there_in rules P all c b part name body sub h =
     (e, p, subst (λ z. is_sub rules.classes c z ≡ true) (sym (nat_same e.class b x)) sub, z, k)
 
 -- and so does the inherited one
-pub inherited_there : (rules : Rules) (P : InheritedEquation → Type 0) → AllByRecursion P rules.inherited → (c part : ℕ) (name : List ℕ) (body : Expr) → inherited_equation rules c part name ≡ Some body →
+pub inherited_there : (rules : Rules) (P : InheritedEquation → Type 0) → AllByRecursion P rules.inherited
+    → (c part : ℕ) (name : List ℕ) (body : Expr) → inherited_equation rules c part name ≡ Some body →
     (e : InheritedEquation) × P e × (is_sub rules.classes c e.class ≡ true) × (bytes_eq e.name name ≡ true) × (e.body ≡ body)
 inherited_there rules P all c part name body h =
-    let (b, sub, g) = answered (λ b. is_sub rules.classes c b ≡ true) (λ b. option_or (inherited_in rules name (Some part) b) (inherited_in rules name None b)) (chain rules.classes c) body (each_among (chain rules.classes c)) h in
-    either_of (λ z. (e : InheritedEquation) × P e × (is_sub rules.classes c e.class ≡ true) × (bytes_eq e.name name ≡ true) × (e.body ≡ z)) (inherited_in rules name (Some part) b) (inherited_in rules name None b) body
+    let (b, sub, g) = answered (λ b. is_sub rules.classes c b ≡ true)
+    (λ b. option_or (inherited_in rules name (Some part) b) (inherited_in rules name None b))
+    (chain rules.classes c) body (each_among (chain rules.classes c)) h in
+    either_of (λ z. (e : InheritedEquation) × P e × (is_sub rules.classes c e.class ≡ true) × (bytes_eq e.name name
+    ≡ true) × (e.body ≡ z)) (inherited_in rules name (Some part) b) (inherited_in rules name None b) body
     (inherited_there_in rules P all c b (Some part) name body sub) (inherited_there_in rules P all c b None name body sub) g
 
 -- the nodes above a node, and those on the way, are there
@@ -101,7 +111,8 @@ prefixes_there t (s ∷ ss) u e =
     let (v, f, g) = led (λ v. tree_at v ss) (slice_get (children_at t s.0) s.1) u e in
     all_both (λ (p : Node × (ℕ × ℕ)). IsSome (tree_at t p.0) × IsSome (tree_at t (p.0 ++ p.1 ∷ []))) (map (λ (p : Node × (ℕ × ℕ)). (s ∷ p.0, p.1)) (prefixes ss)) (([], s) ∷ [])
     (all_map (λ (p : Node × (ℕ × ℕ)). IsSome (tree_at t p.0) × IsSome (tree_at t (p.0 ++ p.1 ∷ []))) (λ (p : Node × (ℕ × ℕ)). (s ∷ p.0, p.1)) (prefixes ss)
-    (all_more (λ (p : Node × (ℕ × ℕ)). IsSome (tree_at v p.0) × IsSome (tree_at v (p.0 ++ p.1 ∷ []))) _ (prefixes ss) (λ p (a, b). (there_below t v s p.0 f a, there_below t v s (p.0 ++ p.1 ∷ []) f b)) (prefixes_there v ss u g)))
+    (all_more (λ (p : Node × (ℕ × ℕ)). IsSome (tree_at v p.0) × IsSome (tree_at v (p.0 ++ p.1 ∷ []))) _ (prefixes ss)
+    (λ p (a, b). (there_below t v s p.0 f a, there_below t v s (p.0 ++ p.1 ∷ []) f b)) (prefixes_there v ss u g)))
     ((refl, there_at t v s f), tt)
 
 up_to_all : {A B : Type 0} (P : A → Type 0) (f : A → Option B) (xs : List A) → AllByRecursion P xs → AllByRecursion P (up_to_first f xs)
@@ -123,12 +134,14 @@ steps_sought : (classes : Classes) (t : Tree) (ps : List (Node × (ℕ × ℕ)))
 steps_sought classes t [] h = tt
 steps_sought classes t (p ∷ ps) ((a, b), hs) = (node_there t (p.0 ++ p.1 ∷ []) b, (node_there t p.0 a, steps_sought classes t ps hs))
 
-pub arguments_sought : (classes : Classes) (at : ClassAt Node) (Allowed : Texts) (vs : List (Value Node)) (ks : List Kind) → AreArguments classes at Allowed vs ks → AllByRecursion (IsLocationThere classes at) (argument_classes vs)
+pub arguments_sought : (classes : Classes) (at : ClassAt Node) (Allowed : Texts) (vs : List (Value Node)) (ks : List
+    Kind) → AreArguments classes at Allowed vs ks → AllByRecursion (IsLocationThere classes at) (argument_classes vs)
 arguments_sought classes at Allowed [] ks h = tt
 arguments_sought classes at Allowed (v ∷ vs) [] h = absurd h
 arguments_sought classes at Allowed (v ∷ vs) (k ∷ ks) (h, s, hs) = one v k h (arguments_sought classes at Allowed vs ks hs)
   where
-    one : (v : Value Node) (k : Kind) → IsOfKind classes at v k → AllByRecursion (IsLocationThere classes at) (argument_classes vs) → AllByRecursion (IsLocationThere classes at) (argument_classes (v ∷ vs))
+    one : (v : Value Node) (k : Kind) → IsOfKind classes at v k → AllByRecursion (IsLocationThere classes at)
+        (argument_classes vs) → AllByRecursion (IsLocationThere classes at) (argument_classes (v ∷ vs))
     one (Int n) k h g = g
     one (Truth b) k h g = g
     one (Text bytes) k h g = g
@@ -147,8 +160,12 @@ declared_name rules attribute d e = rw (e, attribute_name) refl
 pub one_declaration : (d e : Attribute) (o : Option Attribute) → o ≡ Some d → o ≡ Some e → d ≡ e
 one_declaration d e o f g = let h : Some d ≡ Some e = sym f ∙ g in cc
 
-pub own_body : (rules : Rules) (e : OwnEquation) → IsOwnTyped rules e → (a : Attribute) → slice_get rules.attributes e.attribute ≡ Some a → HasKind rules (record { this = e.class; names = a.parameters; has_index = false }) e.body a.result
-own_body rules e h a f = subst (λ (z : Attribute). HasKind rules (record { this = e.class; names = z.parameters; has_index = false }) e.body z.result) (one_declaration h.declaration a (slice_get rules.attributes e.attribute) h.attribute f) h.body
+pub own_body : (rules : Rules) (e : OwnEquation) → IsOwnTyped rules e → (a : Attribute)
+    → slice_get rules.attributes e.attribute ≡ Some a
+    → HasKind rules (record { this = e.class; names = a.parameters; has_index = false }) e.body a.result
+own_body rules e h a f = subst (λ (z : Attribute).
+    HasKind rules (record { this = e.class; names = z.parameters; has_index = false }) e.body z.result)
+    (one_declaration h.declaration a (slice_get rules.attributes e.attribute) h.attribute f) h.body
 
 -- what the equations need
 pub record AreMet (rules : Rules) (t : Tree) (Allowed : Texts) : Type 0 where
@@ -161,27 +178,34 @@ pub record AreMet (rules : Rules) (t : Tree) (Allowed : Texts) : Type 0 where
   pub short : (n : Node) → IsSome (tree_at t n) → length n ≤ max_depth
 
 module _ (rules : Rules) (t : Tree) (Allowed : Texts) (ok : AreMet rules t Allowed) where
-  its_kind : (i : Instance Node) (d : Attribute) → slice_get rules.attributes i.attribute ≡ Some d → (v : Value Node) → IsOfKind rules.classes (class_at t) v d.result → IsOfItsKind rules (class_at t) i v
+  its_kind : (i : Instance Node) (d : Attribute) → slice_get rules.attributes i.attribute ≡ Some d → (v : Value Node)
+      → IsOfKind rules.classes (class_at t) v d.result → IsOfItsKind rules (class_at t) i v
   its_kind i d e v h other f = subst (λ z. IsOfKind rules.classes (class_at t) v z) (ap (λ (a : Attribute). a.result) (one_declaration d other (slice_get rules.attributes i.attribute) e f)) h
 
-  own_typed : (i : Instance Node) → (w : IsWellTyped rules (class_at t) Allowed i) → w.declaration.is_inherited ≡ false → IsTypedRun rules (class_at t) Allowed (content t) (IsOfItsKind rules (class_at t) i) (equations rules i)
+  own_typed : (i : Instance Node) → (w : IsWellTyped rules (class_at t) Allowed i) → w.declaration.is_inherited ≡ false
+      → IsTypedRun rules (class_at t) Allowed (content t) (IsOfItsKind rules (class_at t) i) (equations rules i)
   own_typed i w own =
       let d = w.declaration in
       let (u, q, c) = mapped class_of (tree_at t i.node) w.class w.node in
       let sub = subst (λ z. is_sub rules.classes z d.class ≡ true) (sym c) w.declared in
       let (body, e) = has_own rules ok.complete t ok.conform i.node u i.attribute d q w.attribute sub own in
-      let (eq, (kind, said), above, same, is) = own_there rules (λ (e : OwnEquation). IsOwnTyped rules e × AllByRecursion Allowed (literals e.body)) (all_two (IsOwnTyped rules) (λ (e : OwnEquation). AllByRecursion Allowed (literals e.body)) rules.own ok.typed.own ok.said.own) (class_of u) i.attribute body e in
+      let (eq, (kind, said), above, same, is) = own_there rules (λ (e : OwnEquation). IsOwnTyped rules e
+      × AllByRecursion Allowed (literals e.body)) (all_two (IsOwnTyped rules) (λ (e : OwnEquation). AllByRecursion
+      Allowed (literals e.body)) rules.own ok.typed.own ok.said.own) (class_of u) i.attribute body e in
       let scope : Scope Node = record { this = i.node; names = i.arguments; child = None } in
       let x = own_body rules eq kind d (ap (slice_get rules.attributes) same ∙ w.attribute) in
       let run = typed rules ok.lined (class_at t) Allowed (content t) ok.contents node_eq (record { this = eq.class; names = d.parameters; has_index = false }) eq.body d.result x scope said
       (record { this = (class_of u, ap (option_map class_of) q, above); names = w.arguments; child = tt }) in
-      let run' = less_typed rules (class_at t) Allowed (content t) (λ v. IsOfKind rules.classes (class_at t) v d.result) (IsOfItsKind rules (class_at t) i) (eval rules.classes node_eq eq.body scope) (its_kind i d w.attribute) run in
+      let run' = less_typed rules (class_at t) Allowed (content t) (λ v. IsOfKind rules.classes (class_at t) v d.result)
+      (IsOfItsKind rules (class_at t) i) (eval rules.classes node_eq eq.body scope)
+      (its_kind i d w.attribute) run in
       looks_typed rules (class_at t) Allowed (content t) (IsOfItsKind rules (class_at t) i) (equations rules i) (Is i.node ∷ argument_classes i.arguments) (eval rules.classes node_eq body scope)
       (own_found rules t i u body q (declared_inherited rules i.attribute d false w.attribute own) e)
       (rw w.node refl, arguments_sought rules.classes (class_at t) Allowed i.arguments d.parameters w.arguments)
       (subst (λ z. IsTypedRun rules (class_at t) Allowed (content t) (IsOfItsKind rules (class_at t) i) (eval rules.classes node_eq z scope)) is run')
 
-  inherited_typed : (i : Instance Node) → (w : IsWellTyped rules (class_at t) Allowed i) → w.declaration.is_inherited ≡ true → IsTypedRun rules (class_at t) Allowed (content t) (IsOfItsKind rules (class_at t) i) (equations rules i)
+  inherited_typed : (i : Instance Node) → (w : IsWellTyped rules (class_at t) Allowed i) → w.declaration.is_inherited
+      ≡ true → IsTypedRun rules (class_at t) Allowed (content t) (IsOfItsKind rules (class_at t) i) (equations rules i)
   inherited_typed i w inh =
       let d = w.declaration in
       let (u, q, c) = mapped class_of (tree_at t i.node) w.class w.node in
@@ -192,18 +216,30 @@ module _ (rules : Rules) (t : Tree) (Allowed : Texts) (ok : AreMet rules t Allow
       let (p, (above, on), g) = answered (λ (p : Node × (ℕ × ℕ)). IsSome (tree_at t p.0) × IsSome (tree_at t (p.0 ++ p.1 ∷ []))) (source_at rules t d.name) (prefixes i.node) s way e in
       let (v, h, k) = led (λ u. option_map (λ e. (e, p.0, p.1)) (inherited_equation rules (class_of u) p.1.0 d.name)) (tree_at t p.0) s g in
       let (body, l, m) = mapped (λ e. (e, p.0, p.1)) (inherited_equation rules (class_of v) p.1.0 d.name) s k in
-      let (eq, (kind, said), up, named, is) = inherited_there rules (λ (e : InheritedEquation). IsInheritedTyped rules e × AllByRecursion Allowed (literals e.body)) (all_two (IsInheritedTyped rules) (λ (e : InheritedEquation). AllByRecursion Allowed (literals e.body)) rules.inherited ok.typed.inherited ok.said.inherited) (class_of v) p.1.0 d.name body l in
+      let (eq, (kind, said), up, named, is) = inherited_there rules
+      (λ (e : InheritedEquation). IsInheritedTyped rules e × AllByRecursion Allowed (literals e.body))
+      (all_two (IsInheritedTyped rules) (λ (e : InheritedEquation). AllByRecursion Allowed (literals e.body))
+      rules.inherited ok.typed.inherited ok.said.inherited) (class_of v) p.1.0 d.name body l in
       let scope : Scope Node = record { this = p.0; names = i.arguments; child = Some (p.0 ++ p.1 ∷ []) } in
       let x = kind.body i.attribute d (w.attribute, inh, named) in
-      let run = typed rules ok.lined (class_at t) Allowed (content t) ok.contents node_eq (record { this = eq.class; names = d.parameters; has_index = is_for_list rules eq }) eq.body d.result x scope said
+      let run = typed rules ok.lined (class_at t) Allowed (content t) ok.contents node_eq (record
+      { this = eq.class; names = d.parameters; has_index = is_for_list rules eq }) eq.body d.result x scope said
       (record { this = (class_of v, ap (option_map class_of) h, up); names = w.arguments; child = node_there t (p.0 ++ p.1 ∷ []) on }) in
-      let run' = less_typed rules (class_at t) Allowed (content t) (λ v. IsOfKind rules.classes (class_at t) v d.result) (IsOfItsKind rules (class_at t) i) (eval rules.classes node_eq eq.body scope) (its_kind i d w.attribute) run in
+      let run' = less_typed rules (class_at t) Allowed (content t) (λ v. IsOfKind rules.classes (class_at t) v d.result)
+      (IsOfItsKind rules (class_at t) i) (eval rules.classes node_eq eq.body scope)
+      (its_kind i d w.attribute) run in
       let run'' = subst (λ z. IsTypedRun rules (class_at t) Allowed (content t) (IsOfItsKind rules (class_at t) i) (eval rules.classes node_eq z scope)) is run' in
-      looks_typed rules (class_at t) Allowed (content t) (IsOfItsKind rules (class_at t) i) (equations rules i) (Is i.node ∷ (argument_classes i.arguments ++ way_up rules t (attribute_name rules i.attribute) i.node)) (at_source rules i.arguments s)
-      (inherited_found rules t i u s q (ok.short i.node there) (declared_inherited rules i.attribute d true w.attribute inh) (ap (λ n. source_of rules t n i.node) (declared_name rules i.attribute d w.attribute) ∙ e)) (
+      looks_typed rules (class_at t) Allowed (content t) (IsOfItsKind rules (class_at t) i) (equations rules i)
+      (Is i.node ∷ (argument_classes i.arguments ++ way_up rules t (attribute_name rules i.attribute) i.node))
+      (at_source rules i.arguments s)
+      (inherited_found rules t i u s q (ok.short i.node there) (declared_inherited rules i.attribute d true w.attribute
+      inh) (ap (λ n. source_of rules t n i.node) (declared_name rules i.attribute d w.attribute) ∙ e)) (
         rw w.node refl,
-        all_both (IsLocationThere rules.classes (class_at t)) (argument_classes i.arguments) (way_up rules t (attribute_name rules i.attribute) i.node) (arguments_sought rules.classes (class_at t) Allowed i.arguments d.parameters w.arguments)
-            (steps_sought rules.classes t _ (up_to_all (λ (p : Node × (ℕ × ℕ)). IsSome (tree_at t p.0) × IsSome (tree_at t (p.0 ++ p.1 ∷ []))) (source_at rules t (attribute_name rules i.attribute)) (prefixes i.node) way)),
+        all_both (IsLocationThere rules.classes (class_at t)) (argument_classes i.arguments)
+            (way_up rules t (attribute_name rules i.attribute) i.node)
+            (arguments_sought rules.classes (class_at t) Allowed i.arguments d.parameters w.arguments)
+            (steps_sought rules.classes t _ (up_to_all (λ (p : Node × (ℕ × ℕ)). IsSome (tree_at t p.0) × IsSome (tree_at
+            t (p.0 ++ p.1 ∷ []))) (source_at rules t (attribute_name rules i.attribute)) (prefixes i.node) way)),
       )
       (subst (λ z. IsTypedRun rules (class_at t) Allowed (content t) (IsOfItsKind rules (class_at t) i) (at_source rules i.arguments z)) m run'')
 

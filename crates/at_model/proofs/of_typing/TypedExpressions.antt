@@ -39,7 +39,8 @@ natural_fits n h = h
 rem_fits : (a d : ℤ) → IsInt32 a → IsInt32 (int_rem a d)
 rem_fits a d f = let g = fits_32 a f in is_32 (int_rem a d) (record { sfits = omega (arith, mag_rem a d, g.sfits) })
 
-module _ {N : Type 0} (rules : Rules) (lined : AreChained rules.classes) (at : ClassAt N) (Allowed : Texts) (look : Contents N) (contents : AreContentsTyped rules.classes at Allowed look) (same : N → N → Bool) where
+module _ {N : Type 0} (rules : Rules) (lined : AreChained rules.classes) (at : ClassAt N) (Allowed : Texts)
+    (look : Contents N) (contents : AreContentsTyped rules.classes at Allowed look) (same : N → N → Bool) where
   abbrev Typed : {A : Type 0} → (A → Type 0) → Run N A → Type 0
   Typed Q r = IsTypedRun rules at Allowed look Q r
 
@@ -66,13 +67,15 @@ module _ {N : Type 0} (rules : Rules) (lined : AreChained rules.classes) (at : C
   ref_there c (Ref n) h = h
 
   -- a node of a class, then what is asked of it
-  pub of_node : {A : Type 0} (Q : A → Type 0) (c : ℕ) (v : Value N) (k : N → Run N A) → Is' (kind.Class c) v → ((n : N) (d : ℕ) → at n ≡ Some d → is_sub rules.classes d c ≡ true → Typed Q (k n)) → Typed Q (node_of v >>= k)
+  pub of_node : {A : Type 0} (Q : A → Type 0) (c : ℕ) (v : Value N) (k : N → Run N A) → Is' (kind.Class c) v
+      → ((n : N) (d : ℕ) → at n ≡ Some d → is_sub rules.classes d c ≡ true → Typed Q (k n)) → Typed Q (node_of v >>= k)
   of_node Q c v k h g = then_typed rules at Allowed look (λ n. IsNodeOf rules.classes at n c) Q (node_of v) k (node_typed c v h) (λ n there. g n there.0 there.1 there.2)
 
   slot_sought : (n : N) (d c part b : ℕ) → at n ≡ Some d → is_sub rules.classes d c ≡ true → class_of_part rules.classes c part ≡ Some b → IsLocationThere rules.classes at (Slot n part)
   slot_sought n d c part b e f g = (b, ap (option_and_then (λ c. class_of_part rules.classes c part)) e ∙ asked_below rules.classes lined d c part b class_in f g)
 
-  slot_fits : (n : N) (d c part b : ℕ) → at n ≡ Some d → is_sub rules.classes d c ≡ true → class_of_part rules.classes c part ≡ Some b → AllByRecursion (λ m. IsNodeOf rules.classes at m b) (look (Slot n part))
+  slot_fits : (n : N) (d c part b : ℕ) → at n ≡ Some d → is_sub rules.classes d c ≡ true → class_of_part rules.classes c
+      part ≡ Some b → AllByRecursion (λ m. IsNodeOf rules.classes at m b) (look (Slot n part))
   slot_fits n d c part b e f g = contents.children n d part b e (asked_below rules.classes lined d c part b class_in f g)
 
   many_asked : (c part b : ℕ) (s : Shape) → shape_of_part rules.classes c part ≡ Some s → class_in s ≡ Some b → class_of_part rules.classes c part ≡ Some b
@@ -116,13 +119,15 @@ module _ {N : Type 0} (rules : Rules) (lined : AreChained rules.classes) (at : C
       let asked = many_asked c part b (class.Maybe b) e refl in
       of_node (Is' kind.Truth) c v _ h (λ n d there sub. (slot_sought n d c part b there sub asked, tt))
 
-  token_typed : (c part : ℕ) (k : TokenKind) (v : Value N) → shape_of_part rules.classes c part ≡ Some (Token k) → Is' (kind.Class c) v → Typed (λ w. Is' (kind_of_token k) w × IsAllowed Allowed w) (token_of part v)
+  token_typed : (c part : ℕ) (k : TokenKind) (v : Value N) → shape_of_part rules.classes c part ≡ Some (Token k)
+      → Is' (kind.Class c) v → Typed (λ w. Is' (kind_of_token k) w × IsAllowed Allowed w) (token_of part v)
   token_typed c part k v e h =
       of_node (λ w. Is' (kind_of_token k) w × IsAllowed Allowed w) c v _ h (λ n d there sub.
       let shape = shape_below rules.classes lined d c part (Token k) sub e in
       ((k, ap (option_and_then (λ c. shape_of_part rules.classes c part)) there ∙ shape), (contents.token n d part k there shape, contents.said n part)))
 
-  pub elements_typed : (c part b : ℕ) (v : Value N) → shape_of_part rules.classes c part ≡ Some (Many b) → Is' (kind.Class c) v → Typed (AllByRecursion (λ m. IsNodeOf rules.classes at m b)) (elements_of part v)
+  pub elements_typed : (c part b : ℕ) (v : Value N) → shape_of_part rules.classes c part ≡ Some (Many b)
+      → Is' (kind.Class c) v → Typed (AllByRecursion (λ m. IsNodeOf rules.classes at m b)) (elements_of part v)
   elements_typed c part b v e h =
       let asked = many_asked c part b (Many b) e refl in
       of_node (AllByRecursion (λ m. IsNodeOf rules.classes at m b)) c v _ h (λ n d there sub. (slot_sought n d c part b there sub asked, slot_fits n d c part b there sub asked))
@@ -130,7 +135,9 @@ module _ {N : Type 0} (rules : Rules) (lined : AreChained rules.classes) (at : C
   one_declaration : (a : ℕ) (d e : Attribute) → slice_get rules.attributes a ≡ Some d → slice_get rules.attributes a ≡ Some e → d ≡ e
   one_declaration a d e f g = let h : Some d ≡ Some e = sym f ∙ g in cc
 
-  demand_typed : (c attribute : ℕ) (d : Attribute) (v : Value N) (vs : List (Value N)) → slice_get rules.attributes attribute ≡ Some d → is_sub rules.classes c d.class ≡ true → Is' (kind.Class c) v → AreArguments rules.classes at Allowed vs d.parameters → Typed (Is' d.result) (demand_of attribute v vs)
+  demand_typed : (c attribute : ℕ) (d : Attribute) (v : Value N) (vs : List (Value N))
+      → slice_get rules.attributes attribute ≡ Some d → is_sub rules.classes c d.class ≡ true → Is' (kind.Class c) v
+      → AreArguments rules.classes at Allowed vs d.parameters → Typed (Is' d.result) (demand_of attribute v vs)
   demand_typed c attribute d v vs e f h args =
       of_node (Is' d.result) c v _ h (λ n x there sub. (
         record { class = x; declaration = d; node = there; attribute = e; declared = sub_sub rules.classes lined x c d.class sub f; arguments = args },
@@ -192,20 +199,30 @@ module _ {N : Type 0} (rules : Rules) (lined : AreChained rules.classes) (at : C
   -- folds
   exists_typed : (P : N → Type 0) (test : N → Run N (Value N)) (ns : List N) → ((n : N) → P n → Typed (Is' kind.Truth) (test n)) → AllByRecursion P ns → Typed (Is' kind.Truth) (exists_in test ns)
   exists_typed P test [] g h = tt
-  exists_typed P test (n ∷ ns) g (h, hs) = then_typed rules at Allowed look (Is' kind.Truth) (Is' kind.Truth) (test n) _ (g n h) (λ v _. either_typed rules at Allowed look (Is' kind.Truth) (truth_of v) _ _ tt (exists_typed P test ns g hs))
+  exists_typed P test (n ∷ ns) g (h, hs) = then_typed rules at Allowed look
+      (Is' kind.Truth) (Is' kind.Truth) (test n) _ (g n h)
+      (λ v _. either_typed rules at Allowed look (Is' kind.Truth) (truth_of v) _ _ tt (exists_typed P test ns g hs))
 
-  first_typed : (b : ℕ) (test : N → Run N (Value N)) (ns : List N) → ((n : N) → IsNodeOf rules.classes at n b → Typed (Is' kind.Truth) (test n)) → AllByRecursion (λ n. IsNodeOf rules.classes at n b) ns → Typed (Is' (kind.Class b)) (first_in test ns)
+  first_typed : (b : ℕ) (test : N → Run N (Value N)) (ns : List N)
+      → ((n : N) → IsNodeOf rules.classes at n b → Typed (Is' kind.Truth) (test n))
+      → AllByRecursion (λ n. IsNodeOf rules.classes at n b) ns → Typed (Is' (kind.Class b)) (first_in test ns)
   first_typed b test [] g h = tt
-  first_typed b test (n ∷ ns) g (h, hs) = then_typed rules at Allowed look (Is' kind.Truth) (Is' (kind.Class b)) (test n) _ (g n h) (λ v _. either_typed rules at Allowed look (Is' (kind.Class b)) (truth_of v) _ _ h (first_typed b test ns g hs))
+  first_typed b test (n ∷ ns) g (h, hs) = then_typed rules at Allowed look
+      (Is' kind.Truth) (Is' (kind.Class b)) (test n) _ (g n h)
+      (λ v _. either_typed rules at Allowed look (Is' (kind.Class b)) (truth_of v) _ _ h (first_typed b test ns g hs))
 
-  sum_typed : (P : N → Type 0) (term : N → Run N (Value N)) (total : ℤ) (ns : List N) → IsInt32 total → ((n : N) → P n → Typed (Is' kind.Int) (term n)) → AllByRecursion P ns → Typed (Is' kind.Int) (sum_in term total ns)
+  sum_typed : (P : N → Type 0) (term : N → Run N (Value N)) (total : ℤ) (ns : List N) → IsInt32 total → ((n : N) → P n
+      → Typed (Is' kind.Int) (term n)) → AllByRecursion P ns → Typed (Is' kind.Int) (sum_in term total ns)
   sum_typed P term total [] f g h = f
-  sum_typed P term total (n ∷ ns) f g (h, hs) = then_typed rules at Allowed look (Is' kind.Int) (Is' kind.Int) (term n) _ (g n h) (λ v _. sum_typed P term (int_wrapping_add w32 total (int_of v)) ns (read_back _) g hs)
+  sum_typed P term total (n ∷ ns) f g (h, hs) = then_typed rules at Allowed look (Is' kind.Int) (Is' kind.Int) (term n)
+      _ (g n h) (λ v _. sum_typed P term (int_wrapping_add w32 total (int_of v)) ns (read_back _) g hs)
 
   joined_typed : (bytes : List ℕ) → Typed (Is' kind.Text) (joined bytes)
   joined_typed bytes = either_typed rules at Allowed look (Is' kind.Text) _ (Gives (Text bytes)) (Fails Long) tt tt
 
-  of_list : (c part b : ℕ) (k : Kind) (v : Value N) (fold : List N → Run N (Value N)) → shape_of_part rules.classes c part ≡ Some (Many b) → Is' (kind.Class c) v → ((ns : List N) → AllByRecursion (λ m. IsNodeOf rules.classes at m b) ns → Typed (Is' k) (fold ns)) → Typed (Is' k) (elements_of part v >>= fold)
+  of_list : (c part b : ℕ) (k : Kind) (v : Value N) (fold : List N → Run N (Value N))
+      → shape_of_part rules.classes c part ≡ Some (Many b) → Is' (kind.Class c) v → ((ns : List N) → AllByRecursion
+      (λ m. IsNodeOf rules.classes at m b) ns → Typed (Is' k) (fold ns)) → Typed (Is' k) (elements_of part v >>= fold)
   of_list c part b k v fold e h g = then_typed rules at Allowed look (AllByRecursion (λ m. IsNodeOf rules.classes at m b)) (Is' k) (elements_of part v) fold (elements_typed c part b v e h) g
 
   abbrev Scopes : ScopeKinds → Scope N → Type 0
@@ -230,7 +247,9 @@ module _ {N : Type 0} (rules : Rules) (lined : AreChained rules.classes) (at : C
   then_do : (e : Expr) (scope : Scope N) (k l : Kind) (f : Value N → Run N (Value N)) → after e scope k l f
   then_do e scope k l f h g = then_typed rules at Allowed look (Is' k) (Is' l) (eval rules.classes same e scope) f h g
 
-  two : (a b : Expr) (scope : Scope N) (k l m : Kind) (f : Value N → Value N → Run N (Value N)) → Typed (Is' k) (eval rules.classes same a scope) → Typed (Is' l) (eval rules.classes same b scope) → ((v w : Value N) → Is' k v → Is' l w → Typed (Is' m) (f v w)) →
+  two : (a b : Expr) (scope : Scope N) (k l m : Kind) (f : Value N → Value N → Run N (Value N))
+      → Typed (Is' k) (eval rules.classes same a scope) → Typed (Is' l) (eval rules.classes same b scope)
+      → ((v w : Value N) → Is' k v → Is' l w → Typed (Is' m) (f v w)) →
       Typed (Is' m) (eval rules.classes same a scope >>= λ v. eval rules.classes same b scope >>= λ w. f v w)
   two a b scope k l m f x y g = then_do a scope k m _ x (λ v h. then_do b scope l m _ y (λ w i. g v w h i))
 
@@ -264,18 +283,24 @@ module _ {N : Type 0} (rules : Rules) (lined : AreChained rules.classes) (at : C
   token_said Q part v h = refined Q (λ w. Q w × IsAllowed Allowed w) (node_of v) _ (λ n (x, q). (x, (q, contents.said n part))) h
 
   -- the argument has its kind, and its text is one that there is
-  argued : (s : ScopeKinds) (e : Expr) (k : Kind) → IsArgumentForm k e → (scope : Scope N) → Says e → Scopes s scope → Typed (Is' k) (eval rules.classes same e scope) → Typed (λ v. Is' k v × IsAllowed Allowed v) (eval rules.classes same e scope)
+  argued : (s : ScopeKinds) (e : Expr) (k : Kind) → IsArgumentForm k e → (scope : Scope N) → Says e → Scopes s scope
+      → Typed (Is' k) (eval rules.classes same e scope)
+      → Typed (λ v. Is' k v × IsAllowed Allowed v) (eval rules.classes same e scope)
   argued s e kind.Int form scope h i x = less_typed rules at Allowed look (Is' kind.Int) (λ v. Is' kind.Int v × IsAllowed Allowed v) _ (λ v z. (z, not_said kind.Int v (λ e. absurd (cc)) z)) x
   argued s e kind.Truth form scope h i x = less_typed rules at Allowed look (Is' kind.Truth) (λ v. Is' kind.Truth v × IsAllowed Allowed v) _ (λ v z. (z, not_said kind.Truth v (λ e. absurd (cc)) z)) x
-  argued s e (kind.Class c) form scope h i x = less_typed rules at Allowed look (Is' (kind.Class c)) (λ v. Is' (kind.Class c) v × IsAllowed Allowed v) _ (λ v z. (z, not_said (kind.Class c) v (λ e. absurd (cc)) z)) x
+  argued s e (kind.Class c) form scope h i x = less_typed rules at Allowed look (Is' (kind.Class c))
+      (λ v. Is' (kind.Class c) v × IsAllowed Allowed v) _ (λ v z. (z, not_said (kind.Class c) v (λ e. absurd (cc)) z)) x
   argued s (TextLiteral bytes) kind.Text form scope h i x = (x, h.0)
   argued s (Name n) kind.Text form scope h i x = (x, named_said scope.names s.names n i.names)
-  argued s (TokenOf a part) kind.Text form scope h i x = refined (Is' kind.Text) (λ v. Is' kind.Text v × IsAllowed Allowed v) (eval rules.classes same a scope) _ (λ v z. token_said (Is' kind.Text) part v z) x
+  argued s (TokenOf a part) kind.Text form scope h i x = refined (Is' kind.Text) (λ v. Is' kind.Text v
+      × IsAllowed Allowed v) (eval rules.classes same a scope) _ (λ v z. token_said (Is' kind.Text) part v z) x
   argued s e kind.Text form scope h i x = absurd form
 
   mutual
     pub typed : (s : ScopeKinds) (e : Expr) (k : Kind) → HasKind rules s e k → (scope : Scope N) → Says e → Scopes s scope → Typed (Is' k) (eval rules.classes same e scope)
-    typed s e _ (has.widened c d sub x) scope h i = less_typed rules at Allowed look (Is' (kind.Class c)) (Is' (kind.Class d)) (eval rules.classes same e scope) (λ v z. widen c d v sub z) (typed s e (kind.Class c) x scope h i)
+    typed s e _ (has.widened c d sub x) scope h i =
+        less_typed rules at Allowed look (Is' (kind.Class c)) (Is' (kind.Class d)) (eval rules.classes same e scope)
+        (λ v z. widen c d v sub z) (typed s e (kind.Class c) x scope h i)
     typed s _ _ (has.int_literal n f) scope h i = f
     typed s _ _ (has.truth_literal b) scope h i = tt
     typed s _ _ (has.text_literal bytes) scope h i = tt
@@ -285,39 +310,70 @@ module _ {N : Type 0} (rules : Rules) (lined : AreChained rules.classes) (at : C
     typed s _ _ (has.index_name e) scope h i = index_typed scope.child i.child
     typed s _ _ (has.negate {a = a} x) scope h i = then_do a scope kind.Int kind.Int _ (typed s a kind.Int x scope h i) (λ v z. read_back _)
     typed s _ _ (has.opposite {a = a} x) scope h i = then_do a scope kind.Truth kind.Truth _ (typed s a kind.Truth x scope h i) (λ v z. tt)
-    typed s _ _ (has.arithmetic {a = a} {b = b} o x y) scope h i = two a b scope kind.Int kind.Int kind.Int _ (typed s a kind.Int x scope (says_left a b h) i) (typed s b kind.Int y scope (says_right a b h) i) (λ v w z u. computed_typed o (int_of v) (int_of w) (int_fits v z))
-    typed s _ _ (has.compare {a = a} {b = b} o x y) scope h i = two a b scope kind.Int kind.Int kind.Truth _ (typed s a kind.Int x scope (says_left a b h) i) (typed s b kind.Int y scope (says_right a b h) i) (λ v w z u. tt)
-    typed s _ _ (has.join {a = a} {b = b} x y) scope h i = two a b scope kind.Text kind.Text kind.Text _ (typed s a kind.Text x scope (says_left a b h) i) (typed s b kind.Text y scope (says_right a b h) i) (λ v w z u. joined_typed _)
-    typed s _ _ (has.join_int {a = a} {b = b} x y) scope h i = two a b scope kind.Text kind.Int kind.Text _ (typed s a kind.Text x scope (says_left a b h) i) (typed s b kind.Int y scope (says_right a b h) i) (λ v w z u. joined_typed _)
+    typed s _ _ (has.arithmetic {a = a} {b = b} o x y) scope h i = two a b scope kind.Int kind.Int kind.Int
+        _ (typed s a kind.Int x scope (says_left a b h) i) (typed s b kind.Int y scope (says_right a b h) i)
+        (λ v w z u. computed_typed o (int_of v) (int_of w) (int_fits v z))
+    typed s _ _ (has.compare {a = a} {b = b} o x y) scope h i = two a b scope kind.Int kind.Int kind.Truth _ (typed s a
+        kind.Int x scope (says_left a b h) i) (typed s b kind.Int y scope (says_right a b h) i) (λ v w z u. tt)
+    typed s _ _ (has.join {a = a} {b = b} x y) scope h i =
+        two a b scope kind.Text kind.Text kind.Text _ (typed s a kind.Text x scope (says_left a b h) i)
+        (typed s b kind.Text y scope (says_right a b h) i) (λ v w z u. joined_typed _)
+    typed s _ _ (has.join_int {a = a} {b = b} x y) scope h i =
+        two a b scope kind.Text kind.Int kind.Text _ (typed s a kind.Text x scope (says_left a b h) i)
+        (typed s b kind.Int y scope (says_right a b h) i) (λ v w z u. joined_typed _)
     typed s _ _ (has.same {a = a} {b = b} k l alike x y) scope h i = two a b scope k l kind.Truth _ (typed s a k x scope (says_left a b h) i) (typed s b l y scope (says_right a b h) i) (λ v w z u. tt)
-    typed s _ _ (has.differ {a = a} {b = b} k l alike x y) scope h i = two a b scope k l kind.Truth _ (typed s a k x scope (says_left a b h) i) (typed s b l y scope (says_right a b h) i) (λ v w z u. tt)
-    typed s _ _ (has.and {a = a} {b = b} x y) scope h i = then_do a scope kind.Truth kind.Truth _ (typed s a kind.Truth x scope (says_left a b h) i) (λ v z. either_typed rules at Allowed look (Is' kind.Truth) (truth_of v) _ _ (typed s b kind.Truth y scope (says_right a b h) i) tt)
-    typed s _ _ (has.or {a = a} {b = b} x y) scope h i = then_do a scope kind.Truth kind.Truth _ (typed s a kind.Truth x scope (says_left a b h) i) (λ v z. either_typed rules at Allowed look (Is' kind.Truth) (truth_of v) _ _ tt (typed s b kind.Truth y scope (says_right a b h) i))
+    typed s _ _ (has.differ {a = a} {b = b} k l alike x y) scope h i = two a b scope k l kind.Truth
+        _ (typed s a k x scope (says_left a b h) i) (typed s b l y scope (says_right a b h) i) (λ v w z u. tt)
+    typed s _ _ (has.and {a = a} {b = b} x y) scope h i =
+        then_do a scope kind.Truth kind.Truth _ (typed s a kind.Truth x scope (says_left a b h) i) (λ v z. either_typed
+        rules at Allowed look (Is' kind.Truth) (truth_of v) _ _ (typed s b kind.Truth y scope (says_right a b h) i) tt)
+    typed s _ _ (has.or {a = a} {b = b} x y) scope h i =
+        then_do a scope kind.Truth kind.Truth _ (typed s a kind.Truth x scope (says_left a b h) i) (λ v z. either_typed
+        rules at Allowed look (Is' kind.Truth) (truth_of v) _ _ tt (typed s b kind.Truth y scope (says_right a b h) i))
     typed s _ _ (has.choose {c = c} {a = a} {b = b} k x y z) scope h i =
         let (hc, hab) = both_all Allowed (literals c) (literals a ++ literals b) h in
-        then_do c scope kind.Truth k _ (typed s c kind.Truth x scope hc i) (λ v _. either_typed rules at Allowed look (Is' k) (truth_of v) _ _ (typed s a k y scope (says_left a b hab) i) (typed s b k z scope (says_right a b hab) i))
-    typed s _ _ (has.equals {a = a} {b = b} x y) scope h i = two a b scope kind.Text kind.Text kind.Truth _ (typed s a kind.Text x scope (says_left a b h) i) (typed s b kind.Text y scope (says_right a b h) i) (λ v w z u. tt)
+        then_do c scope kind.Truth k _ (typed s c kind.Truth x scope hc i)
+        (λ v _. either_typed rules at Allowed look (Is' k) (truth_of v)
+        _ _ (typed s a k y scope (says_left a b hab) i) (typed s b k z scope (says_right a b hab) i))
+    typed s _ _ (has.equals {a = a} {b = b} x y) scope h i = two a b scope kind.Text kind.Text kind.Truth _ (typed s a
+        kind.Text x scope (says_left a b h) i) (typed s b kind.Text y scope (says_right a b h) i) (λ v w z u. tt)
     typed s _ _ (has.instance_of {a = a} c class there x) scope h i = then_do a scope (kind.Class c) kind.Truth _ (typed s a (kind.Class c) x scope h i) (λ v z. instance_typed c class v z)
     typed s _ _ (has.cast_to {a = a} c class there x) scope h i = then_do a scope (kind.Class c) (kind.Class class) _ (typed s a (kind.Class c) x scope h i) (λ v z. cast_typed c class v z)
     typed s _ _ (has.child {a = a} c part b e x) scope h i = then_do a scope (kind.Class c) (kind.Class b) _ (typed s a (kind.Class c) x scope h i) (λ v z. child_typed c part b v e z)
-    typed s _ _ (has.element {a = a} {i = j} c part b e x y) scope h i = two a j scope (kind.Class c) kind.Int (kind.Class b) _ (typed s a (kind.Class c) x scope (says_left a j h) i) (typed s j kind.Int y scope (says_right a j h) i) (λ v w z u. element_typed c part b v w e z)
+    typed s _ _ (has.element {a = a} {i = j} c part b e x y) scope h i =
+        two a j scope (kind.Class c) kind.Int (kind.Class b) _ (typed s a (kind.Class c) x scope (says_left a j h) i)
+        (typed s j kind.Int y scope (says_right a j h) i) (λ v w z u. element_typed c part b v w e z)
     typed s _ _ (has.count {a = a} c part b e x) scope h i = then_do a scope (kind.Class c) kind.Int _ (typed s a (kind.Class c) x scope h i) (λ v z. count_typed c part b v e z)
     typed s _ _ (has.has {a = a} c part b e x) scope h i = then_do a scope (kind.Class c) kind.Truth _ (typed s a (kind.Class c) x scope h i) (λ v z. has_typed c part b v e z)
-    typed s _ _ (has.token_of {a = a} c part k e x) scope h i = then_do a scope (kind.Class c) (kind_of_token k) _ (typed s a (kind.Class c) x scope h i) (λ v z. less_typed rules at Allowed look (λ w. Is' (kind_of_token k) w × IsAllowed Allowed w) (Is' (kind_of_token k)) _ (λ w u. u.0) (token_typed c part k v e z))
+    typed s _ _ (has.token_of {a = a} c part k e x) scope h i = then_do a scope (kind.Class c) (kind_of_token k)
+        _ (typed s a (kind.Class c) x scope h i) (λ v z. less_typed rules at Allowed look (λ w. Is' (kind_of_token k) w
+        × IsAllowed Allowed w) (Is' (kind_of_token k)) _ (λ w u. u.0) (token_typed c part k v e z))
     typed s _ _ (has.call {a = a} {es = es} c attribute d e sub x ys) scope h i =
         let (ha, hes) = both_all Allowed (literals a) (all_literals es) h in
         then_do a scope (kind.Class c) d.result _ (typed s a (kind.Class c) x scope ha i) (λ v z.
-        then_typed rules at Allowed look (λ vs. AreArguments rules.classes at Allowed vs d.parameters) (Is' d.result) (eval_all rules.classes same es scope) _ (all_typed s es d.parameters ys scope hes i) (λ vs u. demand_typed c attribute d v vs e sub z u))
+        then_typed rules at Allowed look (λ vs. AreArguments rules.classes at Allowed vs d.parameters) (Is' d.result)
+        (eval_all rules.classes same es scope) _ (all_typed s es d.parameters ys scope hes i)
+        (λ vs u. demand_typed c attribute d v vs e sub z u))
     typed s _ _ (has.exists {a = a} {e = f} c part b e x y) scope h i = then_do a scope (kind.Class c) kind.Truth _ (typed s a (kind.Class c) x scope (says_left a f h) i) (λ v z.
-        of_list c part b kind.Truth v _ e z (λ ns. exists_typed (λ m. IsNodeOf rules.classes at m b) _ ns (λ n there. typed (bound_kinds s b) f kind.Truth y (bound scope n) (says_right a f h) (bound_scope s scope n b i there))))
+        of_list c part b kind.Truth v _ e z
+        (λ ns. exists_typed (λ m. IsNodeOf rules.classes at m b) _ ns (λ n there. typed (bound_kinds s b) f
+        kind.Truth y (bound scope n) (says_right a f h) (bound_scope s scope n b i there))))
     typed s _ _ (has.first {a = a} {e = f} c part b e x y) scope h i = then_do a scope (kind.Class c) (kind.Class b) _ (typed s a (kind.Class c) x scope (says_left a f h) i) (λ v z.
         of_list c part b (kind.Class b) v _ e z (λ ns. first_typed b _ ns (λ n there. typed (bound_kinds s b) f kind.Truth y (bound scope n) (says_right a f h) (bound_scope s scope n b i there))))
     typed s _ _ (has.sum {a = a} {e = f} c part b e x y) scope h i = then_do a scope (kind.Class c) kind.Int _ (typed s a (kind.Class c) x scope (says_left a f h) i) (λ v z.
-        of_list c part b kind.Int v _ e z (λ ns. sum_typed (λ m. IsNodeOf rules.classes at m b) _ (pos 0) ns (natural_fits 0 (omega arith)) (λ n there. typed (bound_kinds s b) f kind.Int y (bound scope n) (says_right a f h) (bound_scope s scope n b i there))))
+        of_list c part b kind.Int v _ e z (λ ns.
+        sum_typed (λ m. IsNodeOf rules.classes at m b) _ (pos 0) ns (natural_fits 0 (omega arith)) (λ n there.
+        typed (bound_kinds s b) f kind.Int y (bound scope n) (says_right a f h) (bound_scope s scope n b i there))))
 
-    pub all_typed : (s : ScopeKinds) (es : Exprs) (ks : List Kind) → HaveKinds rules s es ks → (scope : Scope N) → AllByRecursion Allowed (all_literals es) → Scopes s scope → Typed (λ vs. AreArguments rules.classes at Allowed vs ks) (eval_all rules.classes same es scope)
+    pub all_typed : (s : ScopeKinds) (es : Exprs) (ks : List Kind) → HaveKinds rules s es ks → (scope : Scope N)
+        → AllByRecursion Allowed (all_literals es) → Scopes s scope
+        → Typed (λ vs. AreArguments rules.classes at Allowed vs ks) (eval_all rules.classes same es scope)
     all_typed s _ _ has.no_more scope h i = tt
     all_typed s _ _ (has.argument {e = e} {es = es} {k = k} {ks = ks} form x ys) scope h i =
         let (he, hes) = both_all Allowed (literals e) (all_literals es) h in
-        then_typed rules at Allowed look (λ v. Is' k v × IsAllowed Allowed v) (λ vs. AreArguments rules.classes at Allowed vs (k ∷ ks)) (eval rules.classes same e scope) _ (argued s e k form scope he i (typed s e k x scope he i)) (λ v z.
-        then_typed rules at Allowed look (λ vs. AreArguments rules.classes at Allowed vs ks) (λ vs. AreArguments rules.classes at Allowed vs (k ∷ ks)) (eval_all rules.classes same es scope) _ (all_typed s es ks ys scope hes i) (λ vs u. (z.0, z.1, u)))
+        then_typed rules at Allowed look (λ v. Is' k v × IsAllowed Allowed v)
+        (λ vs. AreArguments rules.classes at Allowed vs (k ∷ ks)) (eval rules.classes same e scope)
+        _ (argued s e k form scope he i (typed s e k x scope he i)) (λ v z.
+        then_typed rules at Allowed look (λ vs. AreArguments rules.classes at Allowed vs ks)
+        (λ vs. AreArguments rules.classes at Allowed vs (k ∷ ks)) (eval_all rules.classes same es scope)
+        _ (all_typed s es ks ys scope hes i) (λ vs u. (z.0, z.1, u)))

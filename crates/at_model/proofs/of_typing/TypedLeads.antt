@@ -16,7 +16,8 @@ module _ {N : Type 0} (rules : Rules) (at : ClassAt N) (Allowed : Texts) (look :
   at_demand below lower i Q v j k w step (Some (Faults x m)) is f = absurd (cc)
 
   settled_typed : (below : Instance N → Option (Outcome N)) → ((j : Instance N) (v : Value N) → IsWellTyped rules at Allowed j → below j ≡ Some (Finds v) → IsOfItsKind rules at j v) →
-      (i : Instance N) (Q : Value N → Type 0) (v : Value N) (r : Run N (Value N)) → IsTypedRun rules at Allowed look Q r → settled below i (tried look (λ j. value_in (below j)) r) ≡ Some (Finds v) → Q v
+      (i : Instance N) (Q : Value N → Type 0) (v : Value N) (r : Run N (Value N)) → IsTypedRun rules at Allowed look Q r
+      → settled below i (tried look (λ j. value_in (below j)) r) ≡ Some (Finds v) → Q v
   settled_typed below lower i Q v (Gives a) h e = let f : a ≡ v = cc in subst Q f h
   settled_typed below lower i Q v (Fails x) h e = absurd (cc)
   settled_typed below lower i Q v (Looks l k) (s, h) e = settled_typed below lower i Q v (k (look l)) h e
@@ -50,7 +51,9 @@ module _ {N : Type 0} (rules : Rules) (at : ClassAt N) (Allowed : Texts) (look :
     leads_typed i j w (inr (is, x)) = walks_typed i is j w x
 
   -- looks at what is there, and then a typed run
-  pub looks_typed : (Q : Value N → Type 0) (r : Run N (Value N)) (ls : List (Location N)) (s : Run N (Value N)) → LooksTo look r ls s → AllByRecursion (IsLocationThere rules.classes at) ls → IsTypedRun rules at Allowed look Q s → IsTypedRun rules at Allowed look Q r
+  pub looks_typed : (Q : Value N → Type 0) (r : Run N (Value N)) (ls : List (Location N)) (s : Run N (Value N))
+      → LooksTo look r ls s → AllByRecursion (IsLocationThere rules.classes at) ls
+      → IsTypedRun rules at Allowed look Q s → IsTypedRun rules at Allowed look Q r
   looks_typed Q r [] s e h x = subst (IsTypedRun rules at Allowed look Q) (sym e) x
   looks_typed Q (Gives a) (l ∷ ls) s e h x = absurd e
   looks_typed Q (Fails f) (l ∷ ls) s e h x = absurd e

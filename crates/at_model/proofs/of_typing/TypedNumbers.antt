@@ -61,7 +61,9 @@ module _ (rules : Rules) (path : ℕ → Option Node) (at : ClassAt Node) (Allow
   said_back (text bytes) h = h
   said_back (ref r) h = tt
 
-  arguments_back : {vs : List (Value ℕ)} {ws : List (Value Node)} (ks : List Kind) → ListLike (ValueLike (Names path)) vs ws → AreArguments rules.classes at Allowed ws ks → AreArguments rules.classes (class_numbered path at) Allowed vs ks
+  arguments_back : {vs : List (Value ℕ)} {ws : List (Value Node)} (ks : List Kind)
+      → ListLike (ValueLike (Names path)) vs ws → AreArguments rules.classes at Allowed ws ks
+      → AreArguments rules.classes (class_numbered path at) Allowed vs ks
   arguments_back [] end h = tt
   arguments_back (k ∷ ks) end h = absurd h
   arguments_back [] (more r rs) h = absurd h
@@ -84,13 +86,17 @@ module _ (rules : Rules) (path : ℕ → Option Node) (at : ClassAt Node) (Allow
   sought_back (up {n = n} {m = m} e) h = subst IsSome (sym (class_back n m e)) h
   sought_back (idx {n = n} {m = m} e) h = subst IsSome (sym (class_back n m e)) h
 
-  its_kind : (i : Instance ℕ) (j : Instance Node) (a : Attribute) (v : Value ℕ) → i.attribute ≡ j.attribute → slice_get rules.attributes j.attribute ≡ Some a → IsOfItsKind rules (class_numbered path at) i v → IsOfKind rules.classes (class_numbered path at) v a.result
+  its_kind : (i : Instance ℕ) (j : Instance Node) (a : Attribute) (v : Value ℕ) → i.attribute ≡ j.attribute
+      → slice_get rules.attributes j.attribute ≡ Some a → IsOfItsKind rules (class_numbered path at) i v
+      → IsOfKind rules.classes (class_numbered path at) v a.result
   its_kind i j a v e f h = h a (ap (slice_get rules.attributes) e ∙ f)
 
   other_kind : (j : Instance Node) (a : Attribute) (w : Value Node) → slice_get rules.attributes j.attribute ≡ Some a → IsOfKind rules.classes at w a.result → IsOfItsKind rules at j w
   other_kind j a w e h b f = subst (λ (z : Attribute). IsOfKind rules.classes at w z.result) (let g : Some a ≡ Some b = sym e ∙ f in let h : a ≡ b = cc in h) h
 
-  pub typed_back : {A B : Type 0} (P : A → Type 0) (Q : B → Type 0) (R : A → B → Type 0) (numbers : Contents ℕ) (paths : Contents Node) → ((l : Location ℕ) → AlikeAt (Names path) numbers paths l) → ((a : A) (b : B) → R a b → Q b → P a) →
+  pub typed_back : {A B : Type 0} (P : A → Type 0) (Q : B → Type 0) (R : A → B → Type 0) (numbers : Contents ℕ)
+      (paths : Contents Node) → ((l : Location ℕ) → AlikeAt (Names path) numbers paths l)
+      → ((a : A) (b : B) → R a b → Q b → P a) →
       (r : Run ℕ A) (s : Run Node B) → RunLike (Names path) R r s → IsTypedRun rules at Allowed paths Q s → IsTypedRun rules (class_numbered path at) Allowed numbers P r
   typed_back P Q R numbers paths alike back _ _ (gives {a = a} {b = b} r) h = back a b r h
   typed_back P Q R numbers paths alike back _ _ (fails f) h = tt

@@ -42,7 +42,9 @@ module _ (rules : Rules) (t : Tree) (vs : List (Value Node)) where
   value_given (Ref n) h = tt
 
   pub tokens_given : AllByRecursion (λ v. IsAllowed {N = Node} (IsGiven rules t vs) (value_of v)) (tokens t)
-  tokens_given = all_more (λ v. AllByRecursion (IsGiven rules t vs) (text_in v)) (λ v. IsAllowed {N = Node} (IsGiven rules t vs) (value_of v)) (tokens t) token_given (each_given (IsGiven rules t vs) text_in (tokens t) (λ b h. among_left b (flat_map text_in (tokens t)) (literals_of rules ++ flat_map text_of_value vs) h))
+  tokens_given = all_more (λ v. AllByRecursion (IsGiven rules t vs) (text_in v)) (λ v. IsAllowed {N = Node}
+      (IsGiven rules t vs) (value_of v)) (tokens t) token_given (each_given (IsGiven rules t vs) text_in (tokens t)
+      (λ b h. among_left b (flat_map text_in (tokens t)) (literals_of rules ++ flat_map text_of_value vs) h))
 
   literal_given : (b : List ℕ) → Among b (literals_of rules) → IsGiven rules t vs b
   literal_given b h = among_right b (flat_map text_in (tokens t)) (literals_of rules ++ flat_map text_of_value vs) (among_left b (literals_of rules) (flat_map text_of_value vs) h)
@@ -50,11 +52,15 @@ module _ (rules : Rules) (t : Tree) (vs : List (Value Node)) where
   pub literals_given : AreLiteralsAllowed rules (IsGiven rules t vs)
   literals_given = record {
     own = each_given (IsGiven rules t vs) (λ (e : OwnEquation). literals e.body) rules.own (λ b h. literal_given b (among_left b _ _ h));
-    inherited = each_given (IsGiven rules t vs) (λ (e : InheritedEquation). literals e.body) rules.inherited (λ b h. literal_given b (among_right b (flat_map (λ (e : OwnEquation). literals e.body) rules.own) _ h));
+    inherited = each_given (IsGiven rules t vs) (λ (e : InheritedEquation). literals e.body) rules.inherited
+        (λ b h. literal_given b (among_right b (flat_map (λ (e : OwnEquation). literals e.body) rules.own) _ h));
   }
 
   pub asked_given : AllByRecursion (IsAllowed (IsGiven rules t vs)) vs
-  asked_given = all_more (λ v. AllByRecursion (IsGiven rules t vs) (text_of_value v)) (IsAllowed (IsGiven rules t vs)) vs value_given (each_given (IsGiven rules t vs) text_of_value vs (λ b h. among_right b (flat_map text_in (tokens t)) (literals_of rules ++ flat_map text_of_value vs) (among_right b (literals_of rules) (flat_map text_of_value vs) h)))
+  asked_given = all_more (λ v. AllByRecursion (IsGiven rules t vs) (text_of_value v)) (IsAllowed (IsGiven rules t vs))
+      vs value_given (each_given (IsGiven rules t vs) text_of_value vs
+      (λ b h. among_right b (flat_map text_in (tokens t)) (literals_of rules ++ flat_map text_of_value vs)
+      (among_right b (literals_of rules) (flat_map text_of_value vs) h)))
 
 module _ (classes : Classes) (t : Tree) (Allowed : Texts) where
   pub fits_kind : (v : Value Node) (k : Kind) → fits_parameter classes t k v ≡ true → IsOfKind classes (class_at t) v k

@@ -6,7 +6,9 @@ use Rattle.at_model.specs.TypedRuns.{ClassAt, Texts, IsTypedRun}
 
 module _ {N : Type 0} (rules : Rules) (at : ClassAt N) (Allowed : Texts) (look : Contents N) where
   -- one after the other
-  pub then_typed : {A B : Type 0} (Q : A → Type 0) (P : B → Type 0) (r : Run N A) (k : A → Run N B) → IsTypedRun rules at Allowed look Q r → ((a : A) → Q a → IsTypedRun rules at Allowed look P (k a)) → IsTypedRun rules at Allowed look P (r >>= k)
+  pub then_typed : {A B : Type 0} (Q : A → Type 0) (P : B → Type 0) (r : Run N A) (k : A → Run N B)
+      → IsTypedRun rules at Allowed look Q r → ((a : A) → Q a → IsTypedRun rules at Allowed look P (k a))
+      → IsTypedRun rules at Allowed look P (r >>= k)
   then_typed Q P (Gives a) k h g = g a h
   then_typed Q P (Fails f) k h g = tt
   then_typed Q P (Looks l m) k (s, h) g = (s, then_typed Q P (m (look l)) k h g)
@@ -19,6 +21,7 @@ module _ {N : Type 0} (rules : Rules) (at : ClassAt N) (Allowed : Texts) (look :
   less_typed Q P (Looks l m) g (s, h) = (s, less_typed Q P (m (look l)) g h)
   less_typed Q P (Demands i m) g (w, h) = (w, λ v kind. less_typed Q P (m v) g (h v kind))
 
-  pub either_typed : {A : Type 0} (Q : A → Type 0) (b : Bool) (r s : Run N A) → IsTypedRun rules at Allowed look Q r → IsTypedRun rules at Allowed look Q s → IsTypedRun rules at Allowed look Q (cond b r s)
+  pub either_typed : {A : Type 0} (Q : A → Type 0) (b : Bool) (r s : Run N A) → IsTypedRun rules at Allowed look Q r
+      → IsTypedRun rules at Allowed look Q s → IsTypedRun rules at Allowed look Q (cond b r s)
   either_typed Q true r s g h = g
   either_typed Q false r s g h = h

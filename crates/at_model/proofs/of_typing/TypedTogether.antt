@@ -81,7 +81,14 @@ pub expression_typed : (rules : Rules) → IsHierarchy rules.classes → (t : Tr
     IsTypedRun rules (class_at t) AnyText (content t) (λ v. IsOfKind rules.classes (class_at t) v k) (eval rules.classes node_eq e scope)
 expression_typed rules hierarchy t sound s e k scope kinds stands =
     typed rules (chained rules.classes hierarchy) (class_at t) AnyText (content t)
-    (contents_stand rules.classes t AnyText (record { conform = sound.conform; fit = tokens_written t sound.tokens; said = all_any (λ v. IsAllowed {N = Node} AnyText (value_of v)) (tokens t) (λ v. any_text (value_of v)); few = few_nodes t sound.within }))
+    (contents_stand rules.classes t AnyText
+    (record {
+      conform = sound.conform;
+      fit = tokens_written t sound.tokens;
+      said = all_any (λ v. IsAllowed
+          {N = Node} AnyText (value_of v)) (tokens t) (λ v. any_text (value_of v));
+      few = few_nodes t sound.within;
+    }))
     node_eq s e k kinds scope (all_any AnyText (literals e) (λ x. tt)) stands
 
 module _ (rules : Rules) (ok : AreWellFormed rules) (t : Tree) (sound : IsTreeSound rules.classes t) where
@@ -95,7 +102,14 @@ module _ (rules : Rules) (ok : AreWellFormed rules) (t : Tree) (sound : IsTreeSo
         conform = sound.conform;
         short = short_path t sound.within;
         said = record { own = all_any _ rules.own (λ e. all_any AnyText (literals e.body) (λ x. tt)); inherited = all_any _ rules.inherited (λ e. all_any AnyText (literals e.body) (λ x. tt)) };
-        contents = contents_stand rules.classes t AnyText (record { conform = sound.conform; fit = tokens_written t sound.tokens; said = all_any (λ v. IsAllowed {N = Node} AnyText (value_of v)) (tokens t) (λ v. any_text (value_of v)); few = few_nodes t sound.within });
+        contents = contents_stand rules.classes t AnyText
+            (record {
+              conform = sound.conform;
+              fit = tokens_written t sound.tokens;
+              said = all_any (λ v. IsAllowed
+                  {N = Node} AnyText (value_of v)) (tokens t) (λ v. any_text (value_of v));
+              few = few_nodes t sound.within;
+            });
       })
 
   module _ (vs : List (Value Node)) where
@@ -106,7 +120,12 @@ module _ (rules : Rules) (ok : AreWellFormed rules) (t : Tree) (sound : IsTreeSo
       complete = ok.complete;
       said = literals_given rules t vs;
       conform = sound.conform;
-      contents = contents_stand rules.classes t (IsGiven rules t vs) (record { conform = sound.conform; fit = tokens_written t sound.tokens; said = tokens_given rules t vs; few = few_nodes t sound.within });
+      contents = contents_stand rules.classes t (IsGiven rules t vs) (record {
+        conform = sound.conform;
+        fit = tokens_written t sound.tokens;
+        said = tokens_given rules t vs;
+        few = few_nodes t sound.within;
+      });
       short = short_path t sound.within;
     }
 
@@ -133,22 +152,31 @@ module _ (rules : Rules) (ok : AreWellFormed rules) (t : Tree) (sound : IsTreeSo
     pub own_there : is_inherited rules i.attribute ≡ false → (u : Tree) → tree_at t i.node ≡ Some u → (e : Expr) × (own_equation rules (class_of u) i.attribute ≡ Some e)
     own_there own u there =
         let same : class_of formed.node ≡ class_of u = let e : Some formed.node ≡ Some u = sym formed.there ∙ there in ap class_of (let f : formed.node ≡ u = cc in f) in
-        has_own rules ok.complete t sound.conform i.node u i.attribute formed.declared there formed.attribute (subst (λ c. is_sub rules.classes c formed.declared.class ≡ true) same formed.has) (declared_inherited formed.declared false formed.attribute own)
+        has_own rules ok.complete t sound.conform i.node u i.attribute formed.declared there formed.attribute
+        (subst (λ c. is_sub rules.classes c formed.declared.class ≡ true) same formed.has)
+        (declared_inherited formed.declared false formed.attribute own)
 
     pub source_there : is_inherited rules i.attribute ≡ true → (s : Source) × (source_of rules t (attribute_name rules i.attribute) i.node ≡ Some s)
     source_there inherited =
-        let (s, e) = has_source rules ok.complete t sound.conform i.node formed.node i.attribute formed.declared formed.there formed.attribute formed.has (declared_inherited formed.declared true formed.attribute inherited) in
+        let (s, e) = has_source rules ok.complete t sound.conform i.node formed.node i.attribute formed.declared
+        formed.there formed.attribute formed.has
+        (declared_inherited formed.declared true formed.attribute inherited) in
         (s, ap (λ name. source_of rules t name i.node) (named formed.declared formed.attribute) ∙ e)
       where
         named : (d : Attribute) → slice_get rules.attributes i.attribute ≡ Some d → attribute_name rules i.attribute ≡ d.name
         named d e = rw (e, attribute_name) refl
 
   module _ (path : ℕ → Option Node) (injective : IsInjective path) (numbers : Contents ℕ) (alike : (l : Location ℕ) → AlikeAt (Names path) numbers (content t) l) where
-    kind_back : (i : Instance ℕ) (j : Instance Node) (v : Value ℕ) (w : Value Node) → i.attribute ≡ j.attribute → ValueLike (Names path) v w → IsOfItsKind rules (class_at t) j w → IsOfItsKind rules (class_numbered path (class_at t)) i v
+    kind_back : (i : Instance ℕ) (j : Instance Node) (v : Value ℕ) (w : Value Node) → i.attribute ≡ j.attribute
+        → ValueLike (Names path) v w → IsOfItsKind rules (class_at t) j w
+        → IsOfItsKind rules (class_numbered path (class_at t)) i v
     kind_back i j v w e r h d f = value_back rules path (class_at t) (IsGiven rules t j.arguments) d.result r (h d (ap (slice_get rules.attributes) (sym e) ∙ f))
 
     pub evaluated_by_numbers : (i : Instance ℕ) (j : Instance Node) → InstanceLike (Names path) i j → IsWellFormed rules t j →
         IsTypedRun rules (class_numbered path (class_at t)) (IsGiven rules t j.arguments) numbers (IsOfItsKind rules (class_numbered path (class_at t)) i) (evaluation rules nat_eq i)
     evaluated_by_numbers i j r w =
-        typed_back rules path (class_at t) (IsGiven rules t j.arguments) (IsOfItsKind rules (class_numbered path (class_at t)) i) (IsOfItsKind rules (class_at t) j) (ValueLike (Names path)) numbers (content t) alike (λ v u like h. kind_back i j v u r.attribute like h)
-        (evaluation rules nat_eq i) (equations rules j) (evaluation-like rules nat_eq node_eq (same_like nat_eq node_eq nat_eq-is node_eq-is path injective) i j r) (evaluated j.arguments j (typed_of_formed rules t j w))
+        typed_back rules path (class_at t) (IsGiven rules t j.arguments)
+        (IsOfItsKind rules (class_numbered path (class_at t)) i) (IsOfItsKind rules (class_at t) j)
+        (ValueLike (Names path)) numbers (content t) alike (λ v u like h. kind_back i j v u r.attribute like h)
+        (evaluation rules nat_eq i) (equations rules j) (evaluation-like rules nat_eq node_eq (same_like nat_eq node_eq
+        nat_eq-is node_eq-is path injective) i j r) (evaluated j.arguments j (typed_of_formed rules t j w))

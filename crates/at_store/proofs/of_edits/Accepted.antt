@@ -52,7 +52,8 @@ module _ (f : ℕ → ℕ) where
   was_token (Filled t) v e = absurd cc
   was_token (Holds w) v e = e
 
-module _ (classes : Classes) (f : ℕ → ℕ) (s : Tree) (ok : conforms classes (relabel f s) 0 ≡ true) (within : is_within_limits (relabel f s) ≡ true) (n : Node) (u : Tree) (found : tree_at s n ≡ Some u) where
+module _ (classes : Classes) (f : ℕ → ℕ) (s : Tree) (ok : conforms classes (relabel f s) 0 ≡ true)
+    (within : is_within_limits (relabel f s) ≡ true) (n : Node) (u : Tree) (found : tree_at s n ≡ Some u) where
   abbrev t : Tree
   t = relabel f s
 
@@ -77,7 +78,9 @@ module _ (classes : Classes) (f : ℕ → ℕ) (s : Tree) (ok : conforms classes
       let (c, at', same) = cell_numbered part d here in
       let (ts, list, elements) = was_many f c us (same ∙ many) in
       let most : index ≤ length (children_of t n part) = leb-true index (length (children_of t n part)) h.index in
-      let long : length (children_of t n part) ≡ length (from_trees ts) = ap length (children_are classes t ok max_nodes within n part (relabel f u) d there here ∙ ap children many) ∙ ap (λ (x : Trees). length (from_trees x)) (sym elements) ∙ same_length f ts in
+      let long : length (children_of t n part) ≡ length (from_trees ts) =
+      ap length (children_are classes t ok max_nodes within n part (relabel f u) d there here ∙ ap children many)
+      ∙ ap (λ (x : Trees). length (from_trees x)) (sym elements) ∙ same_length f ts in
       (ts, at' ∙ ap Some list, subst (λ k. index ≤ k) long most)
 
   pub token_cell : (part : ℕ) (v : trees.Token) → IsAllowed classes t (Token n part v) → (was : trees.Token) × (cell_at u part ≡ Some (Holds was))
@@ -98,10 +101,15 @@ pub record IsLoose (s : Tree) (n : Node) : Type 0 where
   pub here : cell_at parent way.0 ≡ Some cell
   pub loose : (t : Tree) → cell ≡ One t → ⊥
 
-pub drop_cell : (classes : Classes) (f : ℕ → ℕ) (s : Tree) → conforms classes (relabel f s) 0 ≡ true → (n : Node) (x : Tree) → tree_at s n ≡ Some x → IsAllowed classes (relabel f s) (Drop n) → IsLoose s n
+pub drop_cell : (classes : Classes) (f : ℕ → ℕ) (s : Tree) → conforms classes (relabel f s) 0 ≡ true
+    → (n : Node) (x : Tree) → tree_at s n ≡ Some x → IsAllowed classes (relabel f s) (Drop n) → IsLoose s n
 drop_cell classes f s ok n x found h = by_parent (parent_of n) refl (not_false (is_plain classes (relabel f s) n) h.removable)
   where
-    by_parent : (o : Option (Node × (ℕ × ℕ))) → parent_of n ≡ o → elim o as (λ _. Bool) [ None ↦ true | Some p ↦ is_some (option_and_then plain_class (shape_at classes (relabel f s) p.0 p.1.0)) ] ≡ false → IsLoose s n
+    by_parent : (o : Option (Node × (ℕ × ℕ))) → parent_of n ≡ o → elim o as (λ _. Bool) [
+      | None ↦ true
+      | Some p ↦
+          is_some (option_and_then plain_class (shape_at classes (relabel f s) p.0 p.1.0))
+    ] ≡ false → IsLoose s n
     by_parent None e plain = absurd cc
     by_parent (Some (p, way)) e plain =
         let (u, there, child) = above_there s p way x (sym (ap (tree_at s) (parent_is n (p, way) e)) ∙ found) in
@@ -117,5 +125,7 @@ drop_cell classes f s ok n x found h = by_parent (parent_of n) refl (not_false (
           under = e;
           found = there;
           here = here;
-          loose = λ y one. plain_cell classes (relabel f y) shape (selected plain_class (shape_at classes (relabel f s) p way.0) false shape sees plain) (subst (λ (z : Cell). trees.cell_conforms classes (relabel_cell f z) shape ≡ true) one conf);
+          loose = λ y one. plain_cell classes (relabel f y) shape
+              (selected plain_class (shape_at classes (relabel f s) p way.0) false shape sees plain)
+              (subst (λ (z : Cell). trees.cell_conforms classes (relabel_cell f z) shape ≡ true) one conf);
         }

@@ -73,11 +73,14 @@ come_alike node part index new form kids memory old mid up later same here comes
     let c : Kept = Kids form (insert kids index new) in
     renumbered_index (drop index (kids_in (placed_in node part new c memory node) part)) index k (placed_in node part new c memory k) ∙
     ap (λ o. with_index 0 (raised new (Some (node, part)) k o)) (sym (list_written memory node part f form kids here k)) ∙
-    alike_by (λ j o. raised new (Some (node, part)) j (relinked node part f j o)) (λ j o. raised_index new (Some (node, part)) j (relinked node part f j o) ∙ ap (raised new (Some (node, part)) j) (relinked_index node part f j o)) memory old same k ∙
+    alike_by (λ j o. raised new (Some (node, part)) j (relinked node part f j o))
+    (λ j o. raised_index new (Some (node, part)) j (relinked node part f j o)
+    ∙ ap (raised new (Some (node, part)) j) (relinked_index node part f j o)) memory old same k ∙
     ap (with_index 0) (sym (goes_up k ∙ ap (raised new (Some (node, part)) k) (comes k))) ∙ more k
 
 -- another child in the place of one
-pub put_alike : (parent part index new number : ℕ) (memory old mid up later : ℕ → Option Info) → AreAlike memory old → ((k : ℕ) → mid k ≡ relinked parent part (λ ns. changed_at (λ was. new) ns index) k (old k)) →
+pub put_alike : (parent part index new number : ℕ) (memory old mid up later : ℕ → Option Info) → AreAlike memory old
+    → ((k : ℕ) → mid k ≡ relinked parent part (λ ns. changed_at (λ was. new) ns index) k (old k)) →
     ((k : ℕ) → up k ≡ raised new (Some (parent, part)) k (mid k)) → ((k : ℕ) → later k ≡ indexed new number k (up k)) → AreAlike (replaced (Some (parent, part)) index new memory) later
 put_alike parent part index new number memory old mid up later same sets goes_up numbers k =
     let f : List ℕ → List ℕ = λ ns. changed_at (λ was. new) ns index in

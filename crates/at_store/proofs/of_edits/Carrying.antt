@@ -71,7 +71,12 @@ module _ (classes : Classes) (f : ℕ → ℕ) (s : Tree) (ok : conforms classes
     taken_is = ap (λ (o : Option (Node × Way)). elim o as (λ _. Tree) [ None ↦ s | Some p ↦ with_node (with_cell (without_child p.1.1) p.1.0) s p.0 ]) move.above
 
     pub mid_classes : relabel f mid ≡ between classes (relabel f s) ok node to part index move.moved move.found p move.above move.listed q move.goes made.component made.fit made.index
-    mid_classes = ap (relabel f) (sym taken_is) ∙ relabelled-left f s (Drop node) ∙ ap (λ (o : Option (Node × Way)). elim o as (λ _. Tree) [ None ↦ relabel f s | Some p ↦ with_node (with_cell (without_child p.1.1) p.1.0) (relabel f s) p.0 ]) move.above
+    mid_classes = ap (relabel f) (sym taken_is) ∙ relabelled-left f s (Drop node)
+        ∙ ap (λ (o : Option (Node × Way)). elim o as (λ _. Tree) [
+          | None ↦ relabel f s
+          | Some p ↦
+              with_node (with_cell (without_child p.1.1) p.1.0) (relabel f s) p.0
+        ]) move.above
 
     mid_goes : Goes classes f s ok apart (moved_under p.0 (past_drop p.1)) mid (λ k. None)
     mid_goes = drop_goes classes f s ok apart p (plain classes (relabel f s) ok node to part index move.moved move.found p move.above move.listed q move.goes made.component made.fit made.index)
@@ -80,10 +85,12 @@ module _ (classes : Classes) (f : ℕ → ℕ) (s : Tree) (ok : conforms classes
     mid_ok = ap (λ z. conforms classes z 0) mid_classes ∙ ok1 classes (relabel f s) ok node to part index move.moved move.found p move.above move.listed q move.goes made.component made.fit made.index
 
     pub mid_has : has_component classes (relabel f mid) (Insert q part index x) ≡ true
-    mid_has = ap (λ z. has_component classes z (Insert q part index x)) mid_classes ∙ has1 classes (relabel f s) ok node to part index move.moved move.found p move.above move.listed q move.goes made.component made.fit made.index
+    mid_has = ap (λ z. has_component classes z (Insert q part index x)) mid_classes ∙ has1 classes (relabel f s) ok node
+        to part index move.moved move.found p move.above move.listed q move.goes made.component made.fit made.index
 
     mid_range : is_in_range (relabel f mid) (Insert q part index x) ≡ true
-    mid_range = ap (λ z. is_in_range z (Insert q part index x)) mid_classes ∙ range1 classes (relabel f s) ok node to part index move.moved move.found p move.above move.listed q move.goes made.component made.fit made.index
+    mid_range = ap (λ z. is_in_range z (Insert q part index x)) mid_classes ∙ range1 classes (relabel f s) ok node to
+        part index move.moved move.found p move.above move.listed q move.goes made.component made.fit made.index
 
     taking : (n : Node) → past_taking node n ≡ moved_under p.0 (past_drop p.1) n
     taking = taking_is classes (relabel f s) ok node to part index move.moved move.found p move.above move.listed q move.goes made.component made.fit made.index
@@ -115,7 +122,8 @@ module _ (classes : Classes) (f : ℕ → ℕ) (s : Tree) (ok : conforms classes
             no_cell : (y : Tree) → tree_at mid q ≡ Some y → cell_at y part ≡ None → ⊥
             no_cell y there here =
                 let (shape, sees) = wanted classes list_class (shape_at classes (relabel f mid) q part) mid_has in
-                part_there classes (relabel f mid) mid_ok q part (relabel f y) shape (relabelled-tree_at f mid q ∙ ap (option_map (relabel f)) there) sees (relabelled-cell_at f y part ∙ ap (option_map _) here)
+                part_there classes (relabel f mid) mid_ok q part (relabel f y) shape (relabelled-tree_at f mid q
+                ∙ ap (option_map (relabel f)) there) sees (relabelled-cell_at f y part ∙ ap (option_map _) here)
 
     pub taker_list : (w : Tree) × (ts : Trees) × (tree_at mid q ≡ Some w) × (cell_at w part ≡ Some (Many ts)) × (index ≤ length (from_trees ts))
     taker_list =
@@ -127,7 +135,9 @@ module _ (classes : Classes) (f : ℕ → ℕ) (s : Tree) (ok : conforms classes
     new_there rest v is =
         let (w, c, there, here) = taker_there in
         let (ts, many, bound) = insert_cell classes f mid mid_ok mid_goes.0 q part index x mid_has mid_range w c there here in
-        there_after (with_one_more x index) part index mid x w (Many ts) q rest there (here ∙ ap Some many) (ap (λ us. slice_get us index) (from_to_trees (insert (from_trees ts) index x)) ∙ one_there (from_trees ts) index x bound) ∙ is
+        there_after (with_one_more x index) part index mid x w (Many ts) q rest there (here ∙ ap Some many)
+        (ap (λ us. slice_get us index) (from_to_trees (insert (from_trees ts) index x))
+        ∙ one_there (from_trees ts) index x bound) ∙ is
 
     left_move : left_by s (Move node to part index) ≡ put_in mid q part index x
     left_move =
@@ -137,16 +147,20 @@ module _ (classes : Classes) (f : ℕ → ℕ) (s : Tree) (ok : conforms classes
     move_goes : (k : ℕ) → path_in k (put_in mid q part index x) ≡ option_and_then (carried (Move node to part index)) (path_in k s)
     move_goes k = by_path (path_in k s) refl
       where
-        elsewhere : path_in k x ≡ None → path_in k (put_in mid q part index x) ≡ option_and_then (moved_under q (past_insert (part, index))) (option_and_then (moved_under p.0 (past_drop p.1)) (path_in k s))
+        elsewhere : path_in k x ≡ None → path_in k (put_in mid q part index x) ≡ option_and_then (moved_under q
+            (past_insert (part, index))) (option_and_then (moved_under p.0 (past_drop p.1)) (path_in k s))
         elsewhere none = put.goes k none ∙ ap (option_and_then (moved_under q (past_insert (part, index)))) (mid_goes.1 k refl)
 
-        by_taken : (n : Node) → (o : Option Node) → past_taking node n ≡ o → is_none o ≡ false → option_and_then (moved_under q (past_insert (part, index))) (moved_under p.0 (past_drop p.1) n) ≡ carried (Move node to part index) n
+        by_taken : (n : Node) → (o : Option Node) → past_taking node n ≡ o → is_none o ≡ false
+            → option_and_then (moved_under q (past_insert (part, index))) (moved_under p.0 (past_drop p.1) n)
+            ≡ carried (Move node to part index) n
         by_taken n None taken out = absurd cc
         by_taken n (Some j) taken out = ap (option_and_then (moved_under q (past_insert (part, index)))) (sym (taking n) ∙ taken) ∙ sym (goes_apart node to part index q n j move.goes taken)
 
         within : (n : Node) → path_in k s ≡ Some n → (b : Bool) → is_within node n ≡ b → path_in k (put_in mid q part index x) ≡ carried (Move node to part index) n
         within n is false out =
-            elsewhere (out_of_it s x node apart moved_numbers.1 k n is out) ∙ ap (λ o. option_and_then (moved_under q (past_insert (part, index))) (option_and_then (moved_under p.0 (past_drop p.1)) o)) is ∙
+            elsewhere (out_of_it s x node apart moved_numbers.1 k n is out) ∙ ap (λ o. option_and_then
+            (moved_under q (past_insert (part, index))) (option_and_then (moved_under p.0 (past_drop p.1)) o)) is ∙
             by_taken n (past_taking node n) refl (out_taken node n ∙ out)
         within n is true inside =
             let (rest, ends) = within_rest node n inside in
@@ -156,7 +170,8 @@ module _ (classes : Classes) (f : ℕ → ℕ) (s : Tree) (ok : conforms classes
             sym (ap (carried (Move node to part index)) ends ∙ goes_along node to part index q rest move.goes)
 
         by_path : (o : Option Node) → path_in k s ≡ o → path_in k (put_in mid q part index x) ≡ option_and_then (carried (Move node to part index)) o
-        by_path None is = elsewhere (nowhere_in_it s x node apart moved_numbers.1 k is) ∙ ap (λ o. option_and_then (moved_under q (past_insert (part, index))) (option_and_then (moved_under p.0 (past_drop p.1)) o)) is
+        by_path None is = elsewhere (nowhere_in_it s x node apart moved_numbers.1 k is) ∙ ap (λ o. option_and_then
+            (moved_under q (past_insert (part, index))) (option_and_then (moved_under p.0 (past_drop p.1)) o)) is
         by_path (Some n) is = within n is (is_within node n) refl
 
     pub move_after : Goes classes f s ok apart (carried (Move node to part index)) (left_by s (Move node to part index)) (λ k. None)

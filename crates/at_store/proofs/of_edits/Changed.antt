@@ -63,17 +63,26 @@ module _ (memory later : ℕ → Option Info) (w : Tree) (before place : Place) 
           let f : w ≡ x = cc in
           let k = stored [] w refl in
           let above : place ≡ place_at place w n = ap (place_at place w) (sym none) in
-          let here : later (class_of w) ≡ with_place place (memory (class_of w)) = changes [] w refl ∙ ap (λ b. cond b (with_place place (memory (class_of w))) (memory (class_of w))) (eq-eqb (class_of w) (class_of w) refl) in
-          record { class = k.class; is = ap later (ap class_of (sym f)) ∙ here ∙ ap (with_place place) k.is ∙ (λ i. Some (record { class = k.class; up = (above i).0; index = (above i).1; cells = kept_of (f i) })) }
+          let here : later (class_of w) ≡ with_place place (memory (class_of w)) = changes [] w refl ∙ ap (λ b. cond b
+          (with_place place (memory (class_of w))) (memory (class_of w))) (eq-eqb (class_of w) (class_of w) refl) in
+          record {
+            class = k.class;
+            is = ap later (ap class_of (sym f)) ∙ here ∙ ap (with_place place) k.is
+                ∙ (λ i. Some (record { class = k.class; up = (above i).0; index = (above i).1; cells = kept_of (f i) }));
+          }
       by_end (inr (a, r, e)) =
           let k = stored n x is in
           let not_root : class_of x ≡ class_of w → ⊥ = λ q. (let f : n ≡ [] = apart n [] x w is refl q in no_end a r (sym e ∙ f)) in
           let above : place_at before w n ≡ place_at place w n = ap (place_at before w) e ∙ same_place a r ∙ ap (place_at place w) (sym e) in
-          let here : later (class_of x) ≡ memory (class_of x) = changes n x is ∙ ap (λ b. cond b (with_place place (memory (class_of x))) (memory (class_of x))) (not_eq (class_of x) (class_of w) not_root) in
+          let here : later (class_of x) ≡ memory (class_of x) = changes n x is
+          ∙ ap (λ b. cond b (with_place place (memory (class_of x))) (memory (class_of x)))
+          (not_eq (class_of x) (class_of w) not_root) in
           record { class = k.class; is = here ∙ k.is ∙ (λ i. Some (record { class = k.class; up = (above i).0; index = (above i).1; cells = kept_of x })) }
 
 -- One cell of a node is written, what is new comes to its place, the children behind are renumbered, and what is gone is freed.
-module _ (g : Cell → Cell) (part : ℕ) (past : Way → Option Way) (IsNew : Tree → ℕ → Type 0) (keeps : KeepsParts past part) (t : Tree) (p : Node) (fits : FitsAt g part past t p) (origins : OriginsAt g part past IsNew t p) (news : AreNew g part past IsNew keeps t)
+module _ (g : Cell → Cell) (part : ℕ) (past : Way → Option Way) (IsNew : Tree → ℕ → Type 0)
+    (keeps : KeepsParts past part) (t : Tree) (p : Node) (fits : FitsAt g part past t p)
+    (origins : OriginsAt g part past IsNew t p) (news : AreNew g part past IsNew keeps t)
     (u : Tree) (c : Cell) (found : tree_at t p ≡ Some u) (here : cell_at u part ≡ Some c) (from : ℕ) (behind : List ℕ)
     (behind_is : (j : ℕ) → slice_get behind j ≡ slice_get (map class_of (children (g c))) (from + j))
     (before : (s w : Way) → s.0 ≡ part → past s ≡ Some w → w.1 < from → w.1 ≡ s.1)
@@ -99,7 +108,9 @@ module _ (g : Cell → Cell) (part : ℕ) (past : Way → Option Way) (IsNew : T
   changed =
       let k = class_of u in
       let itself = moved_itself g part past p in
-      let own : with_index (index_at 0 p) (with_kept part (kept (g c)) (memory k)) ≡ with_kept part (kept (g c)) (memory k) = index_kept (index_at 0 p) part (kept (g c)) (memory k) ∙ ap (with_kept part (kept (g c))) (own_index memory top t h.stored p u found) in
+      let own : with_index (index_at 0 p) (with_kept part (kept (g c)) (memory k))
+      ≡ with_kept part (kept (g c)) (memory k) = index_kept (index_at 0 p) part (kept (g c)) (memory k)
+      ∙ ap (with_kept part (kept (g c))) (own_index memory top t h.stored p u found) in
       survivor p p u found itself ∙ ap (renumbered behind from k) (at_same k part (kept (g c)) (memory k)) ∙
       renumbered_moved g part past IsNew keeps t p h.apart fits origins news u c found here from behind behind_is before p p u found itself (with_kept part (kept (g c)) (memory k)) own ∙ own
 

@@ -154,20 +154,27 @@ module _ (classes : Classes) (old new : Shown) (asked : Edit) (n m : Node) (h : 
     waiting_kept = planted_waits memory later s t b.arrived h.asked.idle.keeps b.planted
 
     same_classes : relabel (class_in later) s ≡ tree old
-    same_classes = relabel_same (class_in later) (class_in memory) s (λ m v is. ap class_at (b.planted.rest (class_of v) (ap is_some (waiting_kept.waits.1.1 (class_of v) m (named s waiting_kept.apart m v is)))))
+    same_classes = relabel_same (class_in later) (class_in memory) s (λ m v is. ap class_at (b.planted.rest (class_of v)
+        (ap is_some (waiting_kept.waits.1.1 (class_of v) m (named s waiting_kept.apart m v is)))))
 
-    with_tree : (Does : Tree → model.Edit → Type 0) (numbered : model.Edit) → brought numbered ≡ Some b.arrived → relabel_edit (class_in later) numbered ≡ edit_at n m asked → Leaves numbered → IsRoomFor new.slab s numbered → Does s numbered → IsPrepared classes old (edit_at n m asked) Does new
+    with_tree : (Does : Tree → model.Edit → Type 0) (numbered : model.Edit) → brought numbered ≡ Some b.arrived
+        → relabel_edit (class_in later) numbered ≡ edit_at n m asked → Leaves numbered → IsRoomFor new.slab s numbered
+        → Does s numbered → IsPrepared classes old (edit_at n m asked) Does new
     with_tree Does numbered gives same leaves room does =
-        prepared Does numbered same b.root_stays b.limit_stays (subst (Keeps later s) (sym gives) waiting_kept) same_classes (b.waits ∙ ap Some (sym b.number) ∙ ap (option_map class_of) (sym gives)) leaves room does
+        prepared Does numbered same b.root_stays b.limit_stays (subst (Keeps later s) (sym gives) waiting_kept)
+        same_classes (b.waits ∙ ap Some (sym b.number) ∙ ap (option_map class_of) (sym gives)) leaves room does
 
   -- without one
   module _ (marking : IsMarking old new) where
-    without_tree : (Does : Tree → model.Edit → Type 0) (numbered : model.Edit) → brought numbered ≡ None → relabel_edit (class_in later) numbered ≡ edit_at n m asked → Leaves numbered → IsRoomFor new.slab s numbered → Does s numbered → IsPrepared classes old (edit_at n m asked) Does new
+    without_tree : (Does : Tree → model.Edit → Type 0) (numbered : model.Edit) → brought numbered ≡ None
+        → relabel_edit (class_in later) numbered ≡ edit_at n m asked → Leaves numbered → IsRoomFor new.slab s numbered
+        → Does s numbered → IsPrepared classes old (edit_at n m asked) Does new
     without_tree Does numbered gives same leaves room does =
         prepared Does numbered same marking.1 marking.3 (subst (Keeps later s) (sym gives) (subst (λ (q : ℕ → Option Info). Keeps q s None) (equal old new marking.0) h.asked.idle.keeps))
         (ap (λ (q : ℕ → Option Info). relabel (class_in q) s) (sym (equal old new marking.0))) (marking.2 ∙ h.asked.idle.waiting ∙ ap (option_map class_of) (sym gives)) leaves room does
 
-pub set_prepared : (old mid new : Shown) (node root : ℕ) (t : Nested) → Brings old mid (tree_view t) root → MarksNoMore old.slab mid.slab → IsLeaving node mid new → Prepares old (edit.Set node t) new (plan.Set node root)
+pub set_prepared : (old mid new : Shown) (node root : ℕ) (t : Nested) → Brings old mid (tree_view t) root
+    → MarksNoMore old.slab mid.slab → IsLeaving node mid new → Prepares old (edit.Set node t) new (plan.Set node root)
 set_prepared old mid new node root t arrives fresh m classes n target h =
     let asked : Edit = edit.Set node t in
     let stands = there classes old new asked n target h in
@@ -183,12 +190,15 @@ set_prepared old mid new node root t arrives fresh m classes n target h =
     (record { place = n; brings = b.arrived; gone = u; is = refl; there = found; number = number; root = b.number })
 
 -- where the edit names a node, there is room there
-room_at : (classes : Classes) (old new : Shown) (asked : Edit) (n m : Node) → IsAccepted classes old asked n m → (part : ℕ) → HasRoom new.slab (node_of asked) part → HasRoom new.slab (number_at (numbers old) n) part
+room_at : (classes : Classes) (old new : Shown) (asked : Edit) (n m : Node) → IsAccepted classes old asked n m
+    → (part : ℕ) → HasRoom new.slab (node_of asked) part → HasRoom new.slab (number_at (numbers old) n) part
 room_at classes old new asked n m h part room =
     let stands = there classes old new asked n m h in
     subst (λ (j : ℕ). HasRoom new.slab j part) (sym (ap (λ (o : Option Tree). elim o as (λ _. ℕ) [ None ↦ 0 | Some v ↦ class_of v ]) stands.1 ∙ stands.2)) room
 
-pub put_prepared : (old new : Shown) (node part root : ℕ) (t : Nested) → Brings old new (tree_view t) root → new.leaving ≡ old.leaving → MarksNoMore old.slab new.slab → HasRoom new.slab node part → Prepares old (edit.Put node part t) new (plan.Put node part root)
+pub put_prepared : (old new : Shown) (node part root : ℕ) (t : Nested) → Brings old new (tree_view t) root
+    → new.leaving ≡ old.leaving → MarksNoMore old.slab new.slab → HasRoom new.slab node part
+    → Prepares old (edit.Put node part t) new (plan.Put node part root)
 put_prepared old new node part root t b leaving marks room classes n target h =
     let asked : Edit = edit.Put node part t in
     let idle = h.asked.idle in
@@ -196,12 +206,17 @@ put_prepared old new node part root t b leaving marks room classes n target h =
     let u : Tree = stands.0 in
     let found = stands.1 in
     let number = stands.2 in
-    let here : cell_at u part ≡ Some Empty = put_cell classes (class_in (memory_of old.slab)) (numbers old) h.asked.conforming idle.limits n u found part (tree_view t) (allows classes old new asked n target h) in
-    with_tree classes old new asked n target h (tree_view t) root b (DoesPut node part root) (model.Put n part b.arrived) refl (ap (model.Put n part) b.planted.classes) (leaving ∙ idle.leaving, unmarked_still old.slab new.slab marks idle.unmarked)
+    let here : cell_at u part ≡ Some Empty = put_cell classes (class_in (memory_of old.slab)) (numbers old)
+    h.asked.conforming idle.limits n u found part (tree_view t) (allows classes old new asked n target h) in
+    with_tree classes old new asked n target h (tree_view t) root b (DoesPut node part root)
+    (model.Put n part b.arrived) refl (ap (model.Put n part) b.planted.classes)
+    (leaving ∙ idle.leaving, unmarked_still old.slab new.slab marks idle.unmarked)
     (room_at classes old new asked n target h part room)
     (record { place = n; parent = u; brings = b.arrived; is = refl; found = found; number = number; root = b.number; here = here })
 
-pub insert_prepared : (old new : Shown) (node part index root : ℕ) (t : Nested) → Brings old new (tree_view t) root → new.leaving ≡ old.leaving → MarksNoMore old.slab new.slab → HasRoom new.slab node part → Prepares old (edit.Insert node part index t) new (plan.Insert node part index root)
+pub insert_prepared : (old new : Shown) (node part index root : ℕ) (t : Nested) → Brings old new (tree_view t) root
+    → new.leaving ≡ old.leaving → MarksNoMore old.slab new.slab → HasRoom new.slab node part
+    → Prepares old (edit.Insert node part index t) new (plan.Insert node part index root)
 insert_prepared old new node part index root t b leaving marks room classes n target h =
     let asked : Edit = edit.Insert node part index t in
     let idle = h.asked.idle in
@@ -209,8 +224,11 @@ insert_prepared old new node part index root t b leaving marks room classes n ta
     let u : Tree = stands.0 in
     let found = stands.1 in
     let number = stands.2 in
-    let (ts, here, bound) = insert_cell classes (class_in (memory_of old.slab)) (numbers old) h.asked.conforming idle.limits n u found part index (tree_view t) (allows classes old new asked n target h) in
-    with_tree classes old new asked n target h (tree_view t) root b (DoesInsert node part index root) (model.Insert n part index b.arrived) refl (ap (model.Insert n part index) b.planted.classes) (leaving ∙ idle.leaving, unmarked_still old.slab new.slab marks idle.unmarked)
+    let (ts, here, bound) = insert_cell classes (class_in (memory_of old.slab)) (numbers old) h.asked.conforming
+    idle.limits n u found part index (tree_view t) (allows classes old new asked n target h) in
+    with_tree classes old new asked n target h (tree_view t) root b (DoesInsert node part index root)
+    (model.Insert n part index b.arrived) refl (ap (model.Insert n part index) b.planted.classes)
+    (leaving ∙ idle.leaving, unmarked_still old.slab new.slab marks idle.unmarked)
     (room_at classes old new asked n target h part room)
     (record { place = n; parent = u; brings = b.arrived; elements = ts; is = refl; found = found; number = number; root = b.number; here = here; bound = bound })
 
@@ -224,9 +242,24 @@ drop_prepared old new node m classes n target h =
     let d = drop_cell classes (class_in (memory_of old.slab)) (numbers old) h.asked.conforming n u found (allows classes old new asked n target h) in
     let kept = h.asked.idle.keeps in
     let marks = marked_below old.slab new.slab (numbers old) n u node kept.stored kept.apart kept.shallow found number h.asked.idle.unmarked m.2 in
-    without_tree classes old new asked n target h m.0 (DoesDrop node) (model.Drop n) refl refl (m.1 ∙ ap Some (sym number) ∙ ap (option_map class_of) (sym found), λ k. marks k ∙ ap (stands_in k) (sym found))
+    without_tree classes old new asked n target h m.0 (DoesDrop node) (model.Drop n) refl refl
+    (m.1 ∙ ap Some (sym number) ∙ ap (option_map class_of) (sym found), λ k. marks k ∙ ap (stands_in k) (sym found))
     tt
-    (record { place = n; above = d.above; way = d.way; parent = d.parent; cell = d.cell; gone = u; is = refl; under = d.under; found = d.found; here = d.here; there = found; number = number; loose = d.loose })
+    (record {
+      place = n;
+      above = d.above;
+      way = d.way;
+      parent = d.parent;
+      cell = d.cell;
+      gone = u;
+      is = refl;
+      under = d.under;
+      found = d.found;
+      here = d.here;
+      there = found;
+      number = number;
+      loose = d.loose;
+    })
 
 pub token_prepared : (old : Shown) (node part : ℕ) (v : TokVal) → Prepares old (edit.Token node part v) old (plan.Token node part v)
 token_prepared old node part v classes n target h =
@@ -241,7 +274,8 @@ token_prepared old node part v classes n target h =
     tt
     (record { place = n; parent = u; was = was; is = refl; found = found; number = number; here = here })
 
-pub move_prepared : (old new : Shown) (node to part index : ℕ) → IsStoreAsBefore old new → MarksNoMore old.slab new.slab → HasRoom new.slab to part → Prepares old (edit.Move node to part index) new (plan.Move node to part index)
+pub move_prepared : (old new : Shown) (node to part index : ℕ) → IsStoreAsBefore old new → MarksNoMore old.slab new.slab
+    → HasRoom new.slab to part → Prepares old (edit.Move node to part index) new (plan.Move node to part index)
 move_prepared old new node to part index (stays, waiting, (root, leaving, limit)) marks room classes n m h =
     let idle = h.asked.idle in
     let memory = memory_of old.slab in
@@ -251,8 +285,10 @@ move_prepared old new node to part index (stays, waiting, (root, leaving, limit)
     let stands = there classes old new asked n m h in
     let same_node : class_of d.moved ≡ node = (let f : Some d.moved ≡ Some stands.0 = sym d.there ∙ stands.1 in let g : d.moved ≡ stands.0 = cc in ap class_of g ∙ stands.2) in
     let (v, at_m, number) = number_found (numbers old) to m h.asked.target in
-    let room' : HasRoom new.slab (number_at (numbers old) m) part = subst (λ (j : ℕ). HasRoom new.slab j part) (sym (ap (λ (o : Option Tree). elim o as (λ _. ℕ) [ None ↦ 0 | Some v ↦ class_of v ]) at_m ∙ number)) room in
-    without_tree classes old new asked n m h (stays, root, waiting, limit) (DoesMove node to part index) (model.Move n m part index) refl refl (leaving ∙ idle.leaving, unmarked_still old.slab new.slab marks idle.unmarked)
+    let room' : HasRoom new.slab (number_at (numbers old) m) part = subst (λ (j : ℕ). HasRoom new.slab j part)
+    (sym (ap (λ (o : Option Tree). elim o as (λ _. ℕ) [ None ↦ 0 | Some v ↦ class_of v ]) at_m ∙ number)) room in
+    without_tree classes old new asked n m h (stays, root, waiting, limit) (DoesMove node to part index) (model.Move n m
+    part index) refl refl (leaving ∙ idle.leaving, unmarked_still old.slab new.slab marks idle.unmarked)
     room'
     (record {
       place = n;

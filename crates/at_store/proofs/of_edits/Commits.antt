@@ -94,13 +94,17 @@ numbers_drop (suc (suc i)) (Filled t) n = refl
 numbers_drop zero (Holds v) n = refl
 numbers_drop (suc i) (Holds v) n = refl
 
-goes_on : (past : Way → Option Way) (p n : Node) (t v : Tree) → ((u : Tree) (r : Way) (y : Tree) → tree_at t p ≡ Some u → slice_get (children_at u r.0) r.1 ≡ Some y → is_none (past r) ≡ false) → tree_at t n ≡ Some v → is_none (moved_under p past n) ≡ false
+goes_on : (past : Way → Option Way) (p n : Node) (t v : Tree) → ((u : Tree) (r : Way) (y : Tree) → tree_at t p ≡ Some u
+    → slice_get (children_at u r.0) r.1 ≡ Some y → is_none (past r) ≡ false) → tree_at t n ≡ Some v
+    → is_none (moved_under p past n) ≡ false
 goes_on past [] [] t v h is = refl
 goes_on past [] (r ∷ rs) t v h is = let (y, child, below) = led (λ x. tree_at x rs) (slice_get (children_at t r.0) r.1) v is in none_mapped (λ (w : Way). w ∷ rs) (past r) ∙ h t r y refl child
 goes_on past (a ∷ p) [] t v h is = refl
 goes_on past (a ∷ p) (r ∷ rs) t v h is = by_step (step_eq a r) refl (λ y k at'. goes_on past p rs y v k at')
   where
-    by_step : (b : Bool) → step_eq a r ≡ b → ((y : Tree) → ((u : Tree) (r : Way) (x : Tree) → tree_at y p ≡ Some u → slice_get (children_at u r.0) r.1 ≡ Some x → is_none (past r) ≡ false) → tree_at y rs ≡ Some v → is_none (moved_under p past rs) ≡ false) →
+    by_step : (b : Bool) → step_eq a r ≡ b
+        → ((y : Tree) → ((u : Tree) (r : Way) (x : Tree) → tree_at y p ≡ Some u → slice_get (children_at u r.0) r.1
+        ≡ Some x → is_none (past r) ≡ false) → tree_at y rs ≡ Some v → is_none (moved_under p past rs) ≡ false) →
         is_none (if b then option_map (λ (us : Node). r ∷ us) (moved_under p past rs) else Some (r ∷ rs)) ≡ false
     by_step false e more = refl
     by_step true e more =
@@ -109,7 +113,8 @@ goes_on past (a ∷ p) (r ∷ rs) t v h is = by_step (step_eq a r) refl (λ y k 
         none_mapped (λ (us : Node). r ∷ us) (moved_under p past rs) ∙ more y (λ u q x found kid. h u q x (ap (option_and_then (λ z. tree_at z p)) child' ∙ found) kid) below
 
 -- a tree that waited comes in
-module _ (g : Cell → Cell) (part spot : ℕ) (past : Way → Option Way) (keeps : KeepsParts past part) (s w : Tree) (p : Node) (fits : FitsAt g part past s p) (origins : OriginsAt g part past (IsAt w spot) s p)
+module _ (g : Cell → Cell) (part spot : ℕ) (past : Way → Option Way) (keeps : KeepsParts past part) (s w : Tree)
+    (p : Node) (fits : FitsAt g part past s p) (origins : OriginsAt g part past (IsAt w spot) s p)
     (u : Tree) (c : Cell) (found : tree_at s p ≡ Some u) (here : cell_at u part ≡ Some c) (from : ℕ) (behind : List ℕ)
     (behind_is : (j : ℕ) → slice_get behind j ≡ slice_get (map class_of (children (g c))) (from + j))
     (before : (s w : Way) → s.0 ≡ part → past s ≡ Some w → w.1 < from → w.1 ≡ s.1) (front : spot < from) (child : slice_get (children (g c)) spot ≡ Some w)
@@ -137,7 +142,9 @@ module _ (g : Cell → Cell) (part spot : ℕ) (past : Way → Option Way) (keep
 
   in_place : Stored later place w
   in_place = stored_there memory later w root_place place h.waits.1.0 h.waits.0
-      (later_new g part past (IsAt w spot) keeps s p fits origins news u c found here from behind behind_is before fronts memory later (Some w) h gone (placed (class_of w) place) changes place_old place_some gone_old gone_news w spot (refl, refl))
+      (later_new g part past (IsAt w spot) keeps s p fits origins news u c found here from behind behind_is before
+      fronts memory later (Some w) h gone (placed (class_of w) place) changes place_old place_some gone_old
+      gone_news w spot (refl, refl))
 
   brought : (x : Tree) (j : ℕ) → IsAt w spot x j → Stored later (Some (class_of u, part), j) x × (slice_get (children (g c)) j ≡ Some x)
   brought x j (e, f) =
@@ -145,7 +152,9 @@ module _ (g : Cell → Cell) (part spot : ℕ) (past : Way → Option Way) (keep
 
   pub comes_in : IsShallow 512 (with_node (with_cell g part) s p) → Keeps later (with_node (with_cell g part) s p) None
   comes_in shallow =
-      keeps_after g part past (IsAt w spot) keeps s p fits origins news u c found here from behind behind_is before fronts memory later (Some w) h gone (placed (class_of w) place) changes place_old place_some gone_old gone_news
+      keeps_after g part past (IsAt w spot) keeps s p fits origins news u c found here from behind behind_is before
+      fronts memory later (Some w) h gone (placed (class_of w) place) changes place_old place_some
+      gone_old gone_news
       brought (λ k e. (w, spot, (refl, refl), e)) shallow
 
 -- nothing comes in
@@ -158,7 +167,9 @@ module _ (g : Cell → Cell) (part : ℕ) (past : Way → Option Way) (keeps : K
     (gone_old : (n : Node) (v : Tree) → tree_at s n ≡ Some v → gone (class_of v) ≡ is_none (moved_under p past n)) where
   pub nothing_comes : IsShallow 512 (with_node (with_cell g part) s p) → Keeps later (with_node (with_cell g part) s p) None
   nothing_comes shallow =
-      keeps_after g part past IsNone keeps s p fits origins (none_new g part past keeps s) u c found here from behind behind_is before (λ y j no. absurd no) memory later None h gone (λ k o. o) changes (λ n v was o. refl) (λ k o i e. (i, e)) gone_old (λ x j no. absurd no)
+      keeps_after g part past IsNone keeps s p fits origins (none_new g part past keeps s) u c found here from behind
+      behind_is before (λ y j no. absurd no) memory later None h gone (λ k o. o) changes (λ n v was o. refl)
+      (λ k o i e. (i, e)) gone_old (λ x j no. absurd no)
       (λ x j no. absurd no) (λ k e. absurd (let f : false ≡ true = e in cc)) shallow
 
 -- the cell that stands there is that one
@@ -170,7 +181,8 @@ one_cell s u p part c found here v d is at' =
     cc
 
 -- a token
-module _ (memory later : ℕ → Option Info) (s u : Tree) (h : Keeps memory s None) (node : Node) (part : ℕ) (old new : trees.Token) (found : tree_at s node ≡ Some u) (here : cell_at u part ≡ Some (Holds old))
+module _ (memory later : ℕ → Option Info) (s u : Tree) (h : Keeps memory s None) (node : Node) (part : ℕ)
+    (old new : trees.Token) (found : tree_at s node ≡ Some u) (here : cell_at u part ≡ Some (Holds old))
     (changes : (k : ℕ) → later k ≡ rewritten (class_of u) part (Token_of new) k (memory k)) where
   pub token_set : IsShallow 512 (left_by s (Token node part new)) → Keeps later (left_by s (Token node part new)) None
   token_set shallow =
@@ -181,9 +193,12 @@ module _ (memory later : ℕ → Option Info) (s u : Tree) (h : Keeps memory s N
       (λ n v was. sym (goes_on past node n s v (λ x r y at' child. refl) was)) shallow
 
 -- an element
-module _ (memory later : ℕ → Option Info) (s w u : Tree) (h : Keeps memory s (Some w)) (node : Node) (part index : ℕ) (ts : Trees) (found : tree_at s node ≡ Some u) (here : cell_at u part ≡ Some (Many ts)) (bound : index ≤ length (from_trees ts))
+module _ (memory later : ℕ → Option Info) (s w u : Tree) (h : Keeps memory s (Some w)) (node : Node) (part index : ℕ)
+    (ts : Trees) (found : tree_at s node ≡ Some u) (here : cell_at u part ≡ Some (Many ts))
+    (bound : index ≤ length (from_trees ts))
     (numbers : List ℕ) (numbers_are : numbers ≡ insert (map class_of (from_trees ts)) index (class_of w))
-    (changes : (k : ℕ) → later k ≡ renumbered (drop (suc index) numbers) (suc index) k (placed (class_of w) (Some (class_of u, part), index) k (rewritten (class_of u) part (Kids List_of numbers) k (memory k)))) where
+    (changes : (k : ℕ) → later k ≡ renumbered (drop (suc index) numbers) (suc index) k (placed (class_of w)
+    (Some (class_of u, part), index) k (rewritten (class_of u) part (Kids List_of numbers) k (memory k)))) where
   pub inserted : IsShallow 512 (left_by s (Insert node part index w)) → Keeps later (left_by s (Insert node part index w)) None
   inserted shallow =
       let g = with_one_more w index in
@@ -192,11 +207,15 @@ module _ (memory later : ℕ → Option Info) (s w u : Tree) (h : Keeps memory s
       let kids_are : kept (g (Many ts)) ≡ Kids List_of numbers = kept_insert w index ts ∙ ap (Kids List_of) (sym numbers_are) in
       let list_is : numbers ≡ map class_of (children (g (Many ts))) = numbers_are ∙ sym (ap (map class_of) (from_to_trees (insert (from_trees ts) index w)) ∙ insert_map (from_trees ts) index w) in
       comes_in g part index past (insert_keeps (part, index)) s w node
-      (λ v d is at' r x e moves. subst (λ (z : Cell). slice_get (children (g z)) x.1 ≡ slice_get (children z) r.1) (same v d is at') (inserted-fits ts (part, index) r x w bound e (insert_way (part, index) r x moves)))
+      (λ v d is at' r x e moves. subst (λ (z : Cell). slice_get (children (g z)) x.1 ≡ slice_get (children z) r.1)
+      (same v d is at') (inserted-fits ts (part, index) r x w bound e (insert_way (part, index) r x moves)))
       (λ v d is at'. subst (λ (z : Cell). OriginsOf g part past (IsAt w index) z) (same v d is at') (insert_origins part index w ts bound))
       u (Many ts) found here (suc index) (drop (suc index) numbers) (λ j. behind_at (suc index) numbers j ∙ ap (λ ns. slice_get ns (suc index + j)) list_is)
-      (λ r x e moves less. kept_in_front r x less e (insert_way (part, index) r x moves)) (omega arith) (ap (λ us. slice_get us index) (from_to_trees (insert (from_trees ts) index w)) ∙ one_there (from_trees ts) index w bound)
-      memory later h (λ k. false) (λ k. changes k ∙ ap (λ z. renumbered (drop (suc index) numbers) (suc index) k (placed (class_of w) (Some (class_of u, part), index) k (rewritten (class_of u) part z k (memory k)))) (sym kids_are))
+      (λ r x e moves less. kept_in_front r x less e (insert_way (part, index) r x moves)) (omega arith)
+      (ap (λ us. slice_get us index) (from_to_trees (insert (from_trees ts) index w))
+      ∙ one_there (from_trees ts) index w bound)
+      memory later h (λ k. false) (λ k. changes k ∙ ap (λ z. renumbered (drop (suc index) numbers) (suc index) k (placed
+      (class_of w) (Some (class_of u, part), index) k (rewritten (class_of u) part z k (memory k)))) (sym kids_are))
       (λ n v was. sym (goes_on past node n s v (λ x r y at' child. no_way_out r (nat_eq part r.0 && nat_le index r.1)) was)) (λ m v is. refl) shallow
     where
       kept_in_front : (r x : Way) → x.1 < suc index → r.0 ≡ part → InsertWay (part, index) r x → x.1 ≡ r.1
@@ -234,8 +253,12 @@ module _ (memory later : ℕ → Option Info) (s w u : Tree) (h : Keeps memory s
       memory later h (λ k. false) changes (λ n v was. sym (goes_on (past_put part) node n s v no_way_out was)) (λ m v is. refl) shallow
 
 -- in the place of a node that is no root
-module _ (memory later : ℕ → Option Info) (s w u x : Tree) (h : Keeps memory s (Some w)) (node p : Node) (place : Way) (parent : parent_of node ≡ Some (p, place)) (c : Cell) (found : tree_at s p ≡ Some u) (here : cell_at u place.0 ≡ Some c) (there : tree_at s node ≡ Some x)
-    (changes : (k : ℕ) → later k ≡ cond (is_some (path_in k x)) None (placed (class_of w) (Some (class_of u, place.0), place.1) k (rewritten (class_of u) place.0 (with_numbers (λ ns. changed_at (λ n. class_of w) ns place.1) (kept c)) k (memory k)))) where
+module _ (memory later : ℕ → Option Info) (s w u x : Tree) (h : Keeps memory s (Some w)) (node p : Node) (place : Way)
+    (parent : parent_of node ≡ Some (p, place)) (c : Cell) (found : tree_at s p ≡ Some u)
+    (here : cell_at u place.0 ≡ Some c) (there : tree_at s node ≡ Some x)
+    (changes : (k : ℕ) → later k ≡ cond (is_some (path_in k x)) None
+    (placed (class_of w) (Some (class_of u, place.0), place.1) k (rewritten (class_of u) place.0
+    (with_numbers (λ ns. changed_at (λ n. class_of w) ns place.1) (kept c)) k (memory k)))) where
   abbrev g : Cell → Cell
   g = with_child (λ u. w) place.1
 
@@ -248,7 +271,9 @@ module _ (memory later : ℕ → Option Info) (s w u x : Tree) (h : Keeps memory
   fits : FitsAt g place.0 (past_set place) s p
   fits v d is at' r y same e =
       let (stays, other) = set_way place r y e in
-      let differs : place.1 ≡ r.1 → ⊥ = λ h. (let g : nat_eq place.0 r.0 ≡ true = grind (arith, nat_tests) in let k : nat_eq place.1 r.1 ≡ true = grind (arith, nat_tests) in let m : true ≡ false = sym (ap (λ b. b && nat_eq place.1 r.1) g ∙ k) ∙ other in cc) in
+      let differs : place.1 ≡ r.1 → ⊥ = λ h. (let g : nat_eq place.0 r.0 ≡ true = grind (arith, nat_tests) in
+      let k : nat_eq place.1 r.1 ≡ true = grind (arith, nat_tests) in
+      let m : true ≡ false = sym (ap (λ b. b && nat_eq place.1 r.1) g ∙ k) ∙ other in cc) in
       ap (λ (z : Way). slice_get (children (with_child (λ u. w) place.1 d)) z.1) (sym stays) ∙ child-other (λ u. w) place.1 r.1 d differs
 
   not_within : (m : Node) (v : Tree) → tree_at w m ≡ Some v → is_some (path_in (class_of v) x) ≡ false
@@ -268,16 +293,24 @@ module _ (memory later : ℕ → Option Info) (s w u x : Tree) (h : Keeps memory
       let past_end : (j : ℕ) → length (map class_of (children (g c))) ≤ length (children (g c)) + j = λ j. (let e = length_map class_of (children (g c)) in omega arith) in
       subst (λ (z : Tree). Keeps later z None) (sym left)
       (comes_in g place.0 place.1 (past_set place) (set_keeps place) s w p fits (λ v d is at'. set_origins place.0 place.1 w d) u c found here (length (children (g c))) []
-      (λ j. sym (slice_get_past (map class_of (children (g c))) (length (children (g c)) + j) (past_end j))) (λ r y same e less. ap (λ (z : Way). z.1) (sym (set_way place r y e).0)) (slice_get_within (children (g c)) place.1 w new) new
+      (λ j. sym (slice_get_past (map class_of (children (g c))) (length (children (g c)) + j) (past_end j)))
+      (λ r y same e less. ap (λ (z : Way). z.1) (sym (set_way place r y e).0))
+      (slice_get_within (children (g c)) place.1 w new) new
       memory later h (λ k. is_some (path_in k x))
-      (λ k. changes k ∙ ap (λ z. cond (is_some (path_in k x)) None (placed (class_of w) (Some (class_of u, place.0), place.1) k (rewritten (class_of u) place.0 z k (memory k)))) (sym (kept_set w place.1 c)))
+      (λ k. changes k ∙ ap (λ z. cond (is_some (path_in k x)) None (placed (class_of w) (
+        Some (class_of u, place.0),
+        place.1,
+      ) k (rewritten (class_of u) place.0 z k (memory k)))) (sym (kept_set w place.1 c)))
       (λ n v was. stands_within s x (p ++ place ∷ []) h.apart top n v was ∙ sym (moved_out (past_set place) place (set_out place) p n)) not_within
       (subst (IsShallow 512) left shallow))
 
 -- a child of a list or of an optional is taken away
-module _ (memory later : ℕ → Option Info) (s u x : Tree) (h : Keeps memory s None) (node p : Node) (place : Way) (parent : parent_of node ≡ Some (p, place)) (c : Cell) (found : tree_at s p ≡ Some u) (here : cell_at u place.0 ≡ Some c) (there : tree_at s node ≡ Some x) (plain : (t : Tree) → c ≡ One t → ⊥)
+module _ (memory later : ℕ → Option Info) (s u x : Tree) (h : Keeps memory s None) (node p : Node) (place : Way)
+    (parent : parent_of node ≡ Some (p, place)) (c : Cell) (found : tree_at s p ≡ Some u)
+    (here : cell_at u place.0 ≡ Some c) (there : tree_at s node ≡ Some x) (plain : (t : Tree) → c ≡ One t → ⊥)
     (numbers : List ℕ) (numbers_are : numbers ≡ remove (map class_of (children c)) place.1)
-    (changes : (k : ℕ) → later k ≡ cond (is_some (path_in k x)) None (renumbered (drop place.1 numbers) place.1 k (rewritten (class_of u) place.0 (with_numbers (λ ns. numbers) (kept c)) k (memory k)))) where
+    (changes : (k : ℕ) → later k ≡ cond (is_some (path_in k x)) None (renumbered (drop place.1 numbers) place.1 k
+    (rewritten (class_of u) place.0 (with_numbers (λ ns. numbers) (kept c)) k (memory k)))) where
   abbrev without : Cell → Cell
   without = without_child place.1
 
@@ -300,10 +333,13 @@ module _ (memory later : ℕ → Option Info) (s u x : Tree) (h : Keeps memory s
 
   pub dropped : IsShallow 512 (left_by s (Drop node)) → Keeps later (left_by s (Drop node)) None
   dropped shallow =
-      let left : left_by s (Drop node) ≡ with_node (with_cell without place.0) s p = ap (λ (o : Option (Node × Way)). elim o [ None ↦ s | Some p ↦ with_node (with_cell (without_child p.1.1) p.1.0) s p.0 ]) parent in
+      let left : left_by s (Drop node) ≡ with_node (with_cell without place.0) s p = ap (λ (o : Option (Node × Way)).
+      elim o [ None ↦ s | Some p ↦ with_node (with_cell (without_child p.1.1) p.1.0) s p.0 ]) parent in
       let list_is : numbers ≡ map class_of (children (without c)) = numbers_are ∙ sym (numbers_drop place.1 c plain) in
       subst (λ (z : Tree). Keeps later z None) (sym left)
-      (nothing_comes without place.0 (past_drop place) (drop_keeps place) s p (λ v d is at' r y same e. drop_fits place r y d (not_one v d is at') same (drop_way place r y e)) (λ v d is at'. drop_origins place.0 place.1 d (not_one v d is at')) u c found here place.1 (drop place.1 numbers)
+      (nothing_comes without place.0 (past_drop place) (drop_keeps place) s p (λ v d is at' r y same e.
+      drop_fits place r y d (not_one v d is at') same (drop_way place r y e)) (λ v d is at'.
+      drop_origins place.0 place.1 d (not_one v d is at')) u c found here place.1 (drop place.1 numbers)
       (λ j. behind_at place.1 numbers j ∙ ap (λ ns. slice_get ns (place.1 + j)) list_is) (λ r y same e less. kept_in_front r y less (drop_way place r y e)) memory later h (λ k. is_some (path_in k x))
       (λ k. changes k ∙ ap (λ z. cond (is_some (path_in k x)) None (renumbered (drop place.1 numbers) place.1 k (rewritten (class_of u) place.0 z k (memory k)))) (kept_is c plain numbers_are))
       (λ n v was. stands_within s x (p ++ place ∷ []) h.apart stood n v was ∙ sym (moved_out (past_drop place) place (drop_out place) p n))

@@ -87,32 +87,49 @@ module _ (classes : Classes) (old mid new : Shown) (e : Edit) (Does : Tree → E
       let is : tree new ≡ left_by (tree old) e = ap (relabel (class_in (memory_of new.slab))) grows ∙ stay ∙ same_tree in
       let few : nat_le (nodes (tree new)) new.limit ≡ true = allowed_after is (limit ∙ p.limit_stays) in
       let fresh : IsFresh (numbers old) p.numbered = fresh_edit (memory_of mid.slab) (numbers old) p.numbered p.keeps.waits in
-      let goes = edited_after classes class (numbers old) (ap (λ (t : Tree). conforms classes t 0) same_classes ∙ p.conforms) p.keeps.apart p.numbered p.left ((λ i. edited classes (same_classes i) (p.same i)) ∙ p.accepted) fresh in
+      let goes = edited_after classes class (numbers old)
+      (ap (λ (t : Tree). conforms classes t 0) same_classes ∙ p.conforms) p.keeps.apart p.numbered p.left
+      ((λ i. edited classes (same_classes i) (p.same i)) ∙ p.accepted) fresh in
       let carries : carried p.numbered ≡ carried e = sym (relabelled-carried class p.numbered) ∙ ap carried p.same in
       record {
         idle =
-            record { waiting = waiting; leaving = leaving; keeps = subst (λ (t : Tree). Keeps (memory_of new.slab) t None) (sym grows) keeps; limits = ap is_within_limits is ∙ p.limits; allowed = few; unmarked = unmarked };
+            record {
+              waiting = waiting;
+              leaving = leaving;
+              keeps = subst (λ (t : Tree). Keeps (memory_of new.slab) t None) (sym grows) keeps;
+              limits = ap is_within_limits is ∙ p.limits;
+              allowed = few;
+              unmarked = unmarked;
+            };
         tree_is = is;
         limit_stays = limit ∙ p.limit_stays;
-        paths = λ k n was. ap (path_in k) grows ∙ goes.1 k (not_new (numbers old) p.numbered fresh k n was) ∙ ap (option_and_then (carried p.numbered)) was ∙ ap (λ (g : Node → Option Node). g n) carries;
+        paths = λ k n was. ap (path_in k) grows ∙ goes.1 k (not_new (numbers old) p.numbered fresh k n was)
+            ∙ ap (option_and_then (carried p.numbered)) was ∙ ap (λ (g : Node → Option Node). g n) carries;
       }
 
 -- nothing went, and no mark was written
-pub unmarked_as : (classes : Classes) (old mid new : Shown) (e : Edit) (Does : Tree → Edit → Type 0) (p : IsPrepared classes old e Does mid) → ((k : ℕ) → leaves_in new.slab k ≡ leaves_in mid.slab k) → gone (numbers old) p.numbered ≡ None → IsUnmarked new.slab
+pub unmarked_as : (classes : Classes) (old mid new : Shown) (e : Edit) (Does : Tree → Edit → Type 0)
+    (p : IsPrepared classes old e Does mid) → ((k : ℕ) → leaves_in new.slab k ≡ leaves_in mid.slab k)
+    → gone (numbers old) p.numbered ≡ None → IsUnmarked new.slab
 unmarked_as classes old mid new e Does p same none k = same k ∙ p.marks k ∙ ap (stands_in k) none
 
 -- a token has another value
 pub token_committed : (classes : Classes) (old mid new : Shown) (e : Edit) (node part : ℕ) (v : trees.Token) → IsPrepared classes old e (DoesToken node part v) mid →
-    ((k : ℕ) → stored_of new.slab k ≡ rewritten node part (Token_of v) k (stored_of mid.slab k)) → ((k : ℕ) → leaves_in new.slab k ≡ leaves_in mid.slab k) → new.root ≡ mid.root → new.waiting ≡ None → new.leaving ≡ None → new.limit ≡ mid.limit → IsCommitted old e new
+    ((k : ℕ) → stored_of new.slab k ≡ rewritten node part (Token_of v) k (stored_of mid.slab k))
+    → ((k : ℕ) → leaves_in new.slab k ≡ leaves_in mid.slab k) → new.root ≡ mid.root → new.waiting ≡ None
+    → new.leaving ≡ None → new.limit ≡ mid.limit → IsCommitted old e new
 token_committed classes old mid new e node part v p changes marks root waiting leaving limit =
     let memory = memory_of mid.slab in
     let later : ℕ → Option Info = λ k. rewritten node part (Token_of v) k (memory k) in
-    let alike : AreAlike later (stored_of new.slab) = λ k. rewritten_alike node part (Token_of v) memory (stored_of mid.slab) (arranged_is (stored_of mid.slab)) k ∙ ap (with_index 0) (sym (changes k)) in
+    let alike : AreAlike later (stored_of new.slab) = λ k. rewritten_alike node part (Token_of v) memory
+    (stored_of mid.slab) (arranged_is (stored_of mid.slab)) k ∙ ap (with_index 0) (sym (changes k)) in
     let s = numbers old in
     let d = p.does in
     let h : Keeps memory s None = subst (λ (x : Edit). Keeps memory s (brought x)) d.is p.keeps in
     let shallow : IsShallow 512 (left_by s (edit.Token d.place part v)) = subst (λ (x : Edit). IsShallow 512 (left_by s x)) d.is (shallow_left classes old mid new e (DoesToken node part v) p) in
-    let kept : Keeps later (left_by s (edit.Token d.place part v)) None = token_set memory later s d.parent h d.place part d.was v d.found d.here (λ k. ap (λ j. rewritten j part (Token_of v) k (memory k)) (sym d.number)) shallow in
+    let kept : Keeps later (left_by s (edit.Token d.place part v)) None =
+    token_set memory later s d.parent h d.place part d.was v d.found d.here
+    (λ k. ap (λ j. rewritten j part (Token_of v) k (memory k)) (sym d.number)) shallow in
     let keeps : Keeps later (left_by s p.numbered) None = subst (λ (x : Edit). Keeps later (left_by s x) None) (sym d.is) kept in
     let same : (k : ℕ) → memory_of new.slab k ≡ later k = settled (stored_of new.slab) later (left_by s p.numbered) alike keeps in
     let now : Keeps (memory_of new.slab) (left_by s p.numbered) None = subst (λ (m : ℕ → Option Info). Keeps m (left_by s p.numbered) None) (λ i k. sym (same k) i) keeps in
@@ -145,8 +162,10 @@ kids_there memory s u n part new c form ns h found here =
     ap numbers_in (changed_here (λ old. new_kids) (kept_of u) part ∙ ap (option_map (λ old. new_kids)) (kept_at (from_cells (cells_of u)) part ∙ ap (option_map kept) here))
 
 -- what is kept of a cell of a node that is stored
-pub cell_there : (memory : ℕ → Option Info) (s u : Tree) (n : Node) (node part : ℕ) (c : Cell) → Stored memory top s → tree_at s n ≡ Some u → class_of u ≡ node → cell_at u part ≡ Some c → cell_in (memory node) part ≡ Some (kept c)
-cell_there memory s u n node part c h found number here = ap (λ j. cell_in (memory j) part) (sym number) ∙ ap (λ o. cell_in o part) (h n u found).is ∙ kept_at (from_cells (cells_of u)) part ∙ ap (option_map kept) here
+pub cell_there : (memory : ℕ → Option Info) (s u : Tree) (n : Node) (node part : ℕ) (c : Cell) → Stored memory top s
+    → tree_at s n ≡ Some u → class_of u ≡ node → cell_at u part ≡ Some c → cell_in (memory node) part ≡ Some (kept c)
+cell_there memory s u n node part c h found number here = ap (λ j. cell_in (memory j) part) (sym number)
+    ∙ ap (λ o. cell_in o part) (h n u found).is ∙ kept_at (from_cells (cells_of u)) part ∙ ap (option_map kept) here
 
 -- there is room in a component of a node that is stored
 pub room_there : (slab : Slab Entry) (s u : Tree) (n : Node) (node part : ℕ) → tree_at s n ≡ Some u → class_of u ≡ node → HasRoom slab (number_at s n) part → HasRoom slab node part
@@ -170,11 +189,16 @@ insert_committed classes old mid new e node part index root p comes marks same_r
     let bound : index ≤ length (map class_of (from_trees d.elements)) = (let few = d.bound in let long = map_length class_of (from_trees d.elements) in omega (arith, few, long)) in
     let room : HasRoom mid.slab node part = room_there mid.slab s u d.place node part d.found d.number (subst (IsRoomFor mid.slab s) d.is p.room) in
     let later : ℕ → Option Info = come_to node part index root (Kids List_of kids) memory in
-    let alike : AreAlike later (stored_of new.slab) = comes memory List_of elements (arranged_is (stored_of mid.slab)) (cell_there memory s u d.place node part (Many d.elements) h.stored d.found d.number d.here) bound room in
+    let alike : AreAlike later (stored_of new.slab) = comes memory List_of elements (arranged_is (stored_of mid.slab))
+    (cell_there memory s u d.place node part (Many d.elements) h.stored d.found d.number d.here) bound room in
     let changes : IsPlacedIn node part index root (Kids List_of kids) memory later = λ k. refl in
-    let moved : IsPlacedIn (class_of u) part index (class_of w) (Kids List_of kids) memory later = subst (λ (j : ℕ). IsPlacedIn (class_of u) part index j (Kids List_of kids) memory later) (sym d.root) (subst (λ (j : ℕ). IsPlacedIn j part index root (Kids List_of kids) memory later) (sym d.number) changes) in
-    let shown : kids_in (placed_in (class_of u) part (class_of w) (Kids List_of kids) memory (class_of u)) part ≡ kids = kids_there memory s u d.place part (class_of w) _ List_of kids h.stored d.found d.here in
-    let written : (k : ℕ) → later k ≡ renumbered (drop (suc index) kids) (suc index) k (placed (class_of w) (Some (class_of u, part), index) k (rewritten (class_of u) part (Kids List_of kids) k (memory k))) =
+    let moved : IsPlacedIn (class_of u) part index (class_of w) (Kids List_of kids) memory later =
+    subst (λ (j : ℕ). IsPlacedIn (class_of u) part index j (Kids List_of kids) memory later) (sym d.root)
+    (subst (λ (j : ℕ). IsPlacedIn j part index root (Kids List_of kids) memory later) (sym d.number) changes) in
+    let shown : kids_in (placed_in (class_of u) part (class_of w) (Kids List_of kids) memory (class_of u)) part ≡ kids =
+    kids_there memory s u d.place part (class_of w) _ List_of kids h.stored d.found d.here in
+    let written : (k : ℕ) → later k ≡ renumbered (drop (suc index) kids) (suc index) k (placed (class_of w)
+    (Some (class_of u, part), index) k (rewritten (class_of u) part (Kids List_of kids) k (memory k))) =
     λ k. moved k ∙ ap (λ ns. renumbered (drop index ns) index k (placed_in (class_of u) part (class_of w) (Kids List_of kids) memory k)) shown ∙
     renumbered_insert (map class_of (from_trees d.elements)) kids index (class_of w) k (Some (class_of u, part)) (rewritten (class_of u) part (Kids List_of kids) k (memory k)) kids_are bound in
     let shallow : IsShallow 512 (left_by s (edit.Insert d.place part index w)) = subst (λ (x : Edit). IsShallow 512 (left_by s x)) d.is (shallow_left classes old mid new e Does p) in
@@ -184,8 +208,10 @@ insert_committed classes old mid new e node part index root p comes marks same_r
     let now : Keeps (memory_of new.slab) (left_by s p.numbered) None = subst (λ (m : ℕ → Option Info). Keeps m (left_by s p.numbered) None) (λ i k. sym (same k) i) keeps in
     committed classes old mid new e Does p now
     (ap (λ (x : Edit). class_of (left_by s x)) d.is ∙ root_stays (with_one_more w index) part s d.place ∙ root_was classes old mid new e Does p ∙ sym same_root)
-    (classes_stay memory (memory_of new.slab) (λ k. false) (λ k o. renumbered (drop (suc index) kids) (suc index) k (placed (class_of w) (Some (class_of u, part), index) k (rewritten (class_of u) part (Kids List_of kids) k o)))
-    (class_changed (drop (suc index) kids) (suc index) (class_of w) (Some (class_of u, part), index) (class_of u) part (Kids List_of kids)) (λ k. same k ∙ written k) top (left_by s p.numbered) now.stored)
+    (classes_stay memory (memory_of new.slab) (λ k. false) (λ k o. renumbered (drop (suc index) kids) (suc index) k
+    (placed (class_of w) (Some (class_of u, part), index) k (rewritten (class_of u) part (Kids List_of kids) k o)))
+    (class_changed (drop (suc index) kids) (suc index) (class_of w) (Some (class_of u, part), index) (class_of u) part
+    (Kids List_of kids)) (λ k. same k ∙ written k) top (left_by s p.numbered) now.stored)
     waiting leaving limit (unmarked_as classes old mid new e Does p marks (ap (gone s) d.is))
 
 -- a child for an empty optional
@@ -205,11 +231,15 @@ put_committed classes old mid new e node part root p comes marks same_root waiti
     let kids_are : insert [] 0 root ≡ only = ap (λ j. j ∷ []) (sym d.root) in
     let room : HasRoom mid.slab node part = room_there mid.slab s u d.place node part d.found d.number (subst (IsRoomFor mid.slab s) d.is p.room) in
     let later : ℕ → Option Info = come_to node part 0 root (Kids Optional (insert [] 0 root)) memory in
-    let alike : AreAlike later (stored_of new.slab) = comes memory Optional [] (arranged_is (stored_of mid.slab)) (cell_there memory s u d.place node part Empty h.stored d.found d.number d.here) (omega arith) room in
+    let alike : AreAlike later (stored_of new.slab) = comes memory Optional [] (arranged_is (stored_of mid.slab))
+    (cell_there memory s u d.place node part Empty h.stored d.found d.number d.here) (omega arith) room in
     let changes : IsPlacedIn node part 0 root (Kids Optional (insert [] 0 root)) memory later = λ k. refl in
     let listed : IsPlacedIn node part 0 root (Kids Optional only) memory later = subst (λ (ns : List ℕ). IsPlacedIn node part 0 root (Kids Optional ns) memory later) kids_are changes in
-    let moved : IsPlacedIn (class_of u) part 0 (class_of w) (Kids Optional only) memory later = subst (λ (j : ℕ). IsPlacedIn (class_of u) part 0 j (Kids Optional only) memory later) (sym d.root) (subst (λ (j : ℕ). IsPlacedIn j part 0 root (Kids Optional only) memory later) (sym d.number) listed) in
-    let shown : kids_in (placed_in (class_of u) part (class_of w) (Kids Optional only) memory (class_of u)) part ≡ only = kids_there memory s u d.place part (class_of w) _ Optional only h.stored d.found d.here in
+    let moved : IsPlacedIn (class_of u) part 0 (class_of w) (Kids Optional only) memory later =
+    subst (λ (j : ℕ). IsPlacedIn (class_of u) part 0 j (Kids Optional only) memory later) (sym d.root)
+    (subst (λ (j : ℕ). IsPlacedIn j part 0 root (Kids Optional only) memory later) (sym d.number) listed) in
+    let shown : kids_in (placed_in (class_of u) part (class_of w) (Kids Optional only) memory (class_of u)) part
+    ≡ only = kids_there memory s u d.place part (class_of w) _ Optional only h.stored d.found d.here in
     let written : (k : ℕ) → later k ≡ placed (class_of w) (place, 0) k (rewritten (class_of u) part (Kids Optional only) k (memory k)) =
     λ k. moved k ∙ ap (λ ns. renumbered (drop 0 ns) 0 k (placed_in (class_of u) part (class_of w) (Kids Optional only) memory k)) shown ∙
     raised_indexed (class_of w) place 0 k (rewritten (class_of u) part (Kids Optional only) k (memory k)) in
@@ -229,7 +259,9 @@ abbrev waiting_in : Option Tree → ℕ → Bool
 waiting_in None k = false
 waiting_in (Some w) k = is_some (path_in k w)
 
-kept_alone : (memory later : ℕ → Option Info) (s : Tree) (o : Option Tree) (root : Option ℕ) → Keeps memory s o → root ≡ option_map class_of o → IsGivenUp root memory later → Keeps later s None × ((k : ℕ) → later k ≡ cond (waiting_in o k) None (memory k))
+kept_alone : (memory later : ℕ → Option Info) (s : Tree) (o : Option Tree) (root : Option ℕ) → Keeps memory s o
+    → root ≡ option_map class_of o → IsGivenUp root memory later
+    → Keeps later s None × ((k : ℕ) → later k ≡ cond (waiting_in o k) None (memory k))
 kept_alone memory later s None root h is given =
     let same : (k : ℕ) → later k ≡ memory k = subst (λ (r : Option ℕ). IsGivenUp r memory later) is given in
     let equal : memory ≡ later = λ i k. sym (same k) i in
@@ -245,7 +277,8 @@ pub record TakesMarksBack (mid new : Shown) : Type 0 where
   pub still : (k : ℕ) → memory_of new.slab k ≡ memory_of freed k
   pub taken : IsUnmarking mid.leaving freed new.slab
 
-unmarked_back : (classes : Classes) (old mid new : Shown) (e : Edit) (Does : Tree → Edit → Type 0) → IsPrepared classes old e Does mid → Keeps (memory_of new.slab) (numbers old) None → TakesMarksBack mid new → IsUnmarked new.slab
+unmarked_back : (classes : Classes) (old mid new : Shown) (e : Edit) (Does : Tree → Edit → Type 0) → IsPrepared classes
+    old e Does mid → Keeps (memory_of new.slab) (numbers old) None → TakesMarksBack mid new → IsUnmarked new.slab
 unmarked_back classes old mid new e Does p keeps back = by_gone (gone (numbers old) p.numbered) refl
   where
     taken : (o : Option Tree) → gone (numbers old) p.numbered ≡ o → IsUnmarking (option_map class_of o) back.freed new.slab
@@ -255,9 +288,12 @@ unmarked_back classes old mid new e Does p keeps back = by_gone (gone (numbers o
     by_gone None is = λ k. taken None is k ∙ unmarked_still mid.slab back.freed back.fewer (λ j. p.marks j ∙ ap (stands_in j) is) k
     by_gone (Some x) is =
         let (n, at', there) = led (tree_at (numbers old)) (removed (change_of p.numbered)) x is in
-        unmarked_below back.freed new.slab (numbers old) n x (stored_same new.slab back.freed (λ k. sym (back.still k)) top (numbers old) keeps.stored) keeps.apart keeps.shallow there (λ k e. sym (p.marks k ∙ ap (stands_in k) is) ∙ back.fewer k e) (taken (Some x) is)
+        unmarked_below back.freed new.slab (numbers old) n x
+        (stored_same new.slab back.freed (λ k. sym (back.still k)) top (numbers old) keeps.stored) keeps.apart
+        keeps.shallow there (λ k e. sym (p.marks k ∙ ap (stands_in k) is) ∙ back.fewer k e) (taken (Some x) is)
 
-pub cancelled : (classes : Classes) (old mid new : Shown) (e : Edit) (Does : Tree → Edit → Type 0) → IsPrepared classes old e Does mid → IsGivenUp mid.waiting (memory_of mid.slab) (memory_of new.slab) →
+pub cancelled : (classes : Classes) (old mid new : Shown) (e : Edit) (Does : Tree → Edit → Type 0)
+    → IsPrepared classes old e Does mid → IsGivenUp mid.waiting (memory_of mid.slab) (memory_of new.slab) →
     new.root ≡ mid.root → new.waiting ≡ None → new.leaving ≡ None → new.limit ≡ mid.limit → TakesMarksBack mid new →
     IsCancelled old new
 cancelled classes old mid new e Does p given root waiting leaving limit back =
@@ -272,7 +308,15 @@ cancelled classes old mid new e Does p given root waiting leaving limit back =
     let few : nat_le (nodes (tree new)) new.limit ≡ true = (λ i. nat_le (nodes (is i)) (stays i)) ∙ p.was_idle.allowed in
     record {
       idle =
-          record { waiting = waiting; leaving = leaving; keeps = subst (λ (t : Tree). Keeps later t None) (sym grows) keeps; limits = ap is_within_limits is ∙ p.was_idle.limits; allowed = few; unmarked = unmarked_back classes old mid new e Does p keeps back };
+          record {
+            waiting = waiting;
+            leaving = leaving;
+            keeps = subst (λ (t : Tree). Keeps later t None) (sym grows) keeps;
+            limits = ap is_within_limits is
+                ∙ p.was_idle.limits;
+            allowed = few;
+            unmarked = unmarked_back classes old mid new e Does p keeps back;
+          };
       numbers_stay = grows;
       tree_stays = is;
       limit_stays = stays;

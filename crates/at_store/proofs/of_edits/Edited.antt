@@ -198,40 +198,52 @@ module _ (classes : Classes) (f : ℕ → ℕ) (s : Tree) (ok : conforms classes
     pub apart_then : IsApart (left_by s e)
     pub goes : (k : ℕ) → path_in_new k e ≡ None → path_in k (left_by s e) ≡ option_and_then (carried e) (path_in k s)
 
-  pub insert_cell : (node : Node) (part index : ℕ) (new : Tree) → has_component classes (relabel f s) (Insert node part index new) ≡ true → is_in_range (relabel f s) (Insert node part index new) ≡ true →
+  pub insert_cell : (node : Node) (part index : ℕ) (new : Tree) → has_component classes (relabel f s)
+      (Insert node part index new) ≡ true → is_in_range (relabel f s) (Insert node part index new) ≡ true →
       (u : Tree) (c : Cell) → tree_at s node ≡ Some u → cell_at u part ≡ Some c → (ts : Trees) × (c ≡ Many ts) × (index ≤ length (from_trees ts))
   insert_cell node part index new has range u c is here =
       let (shape, some, conf) = component_there classes (relabel f s) ok list_class node part (relabel f u) (relabel_cell f c) has (there node u is) (cell_of u part c here) in
       let (us, many) = list_cell classes (relabel_cell f c) shape some conf in
       let (ts, is', same) = many_there f c us many in
-      let count : length (children_of (relabel f s) node part) ≡ length (from_trees us) = ap length (counted classes (relabel f s) ok node part (relabel f u) us (there node u is) (cell_of u part c here ∙ ap Some many)) in
+      let count : length (children_of (relabel f s) node part) ≡ length (from_trees us) = ap length (counted classes
+      (relabel f s) ok node part (relabel f u) us (there node u is) (cell_of u part c here ∙ ap Some many)) in
       let bound : index ≤ length (children_of (relabel f s) node part) = grind (arith, nat_tests) in
       (ts, is', omega arith)
 
-  pub insert_after : (node : Node) (part index : ℕ) (new : Tree) → has_component classes (relabel f s) (Insert node part index new) ≡ true → is_in_range (relabel f s) (Insert node part index new) ≡ true → IsFreshTree s new → IsAfter (Insert node part index new)
+  pub insert_after : (node : Node) (part index : ℕ) (new : Tree) → has_component classes (relabel f s)
+      (Insert node part index new) ≡ true → is_in_range (relabel f s) (Insert node part index new) ≡ true
+      → IsFreshTree s new → IsAfter (Insert node part index new)
   insert_after node part index new has range fresh =
       let cells = insert_cell node part index new has range in
       let g = with_one_more new index in
       let past = past_insert (part, index) in
       let keeps = insert_keeps (part, index) in
-      let fits : FitsAt g part past s node = λ u c is here r w same e. (let (ts, many, bound) = cells u c is here in subst (λ (x : Cell). slice_get (children (with_one_more new index x)) w.1 ≡ slice_get (children x) r.1) (sym many) (inserted-fits ts (part, index) r w new bound same (insert_way (part, index) r w e))) in
-      let origins : OriginsAt g part past (IsAt new index) s node = λ u c is here. (let (ts, many, bound) = cells u c is here in subst (λ (x : Cell). OriginsOf g part past (IsAt new index) x) (sym many) (insert_origins part index new ts bound)) in
+      let fits : FitsAt g part past s node = λ u c is here r w same e. (let (ts, many, bound) = cells u c is here in
+      subst (λ (x : Cell). slice_get (children (with_one_more new index x)) w.1 ≡ slice_get (children x) r.1)
+      (sym many) (inserted-fits ts (part, index) r w new bound same (insert_way (part, index) r w e))) in
+      let origins : OriginsAt g part past (IsAt new index) s node = λ u c is here.
+      (let (ts, many, bound) = cells u c is here in subst (λ (x : Cell). OriginsOf g part past (IsAt new index) x)
+      (sym many) (insert_origins part index new ts bound)) in
       let news = one_new g part index past keeps s new apart fresh in
       record {
         apart_then = apart_after g part past (IsAt new index) keeps s node apart fits origins news;
         goes = λ k none. number_after g part past (IsAt new index) keeps s node apart fits origins news k (λ x j h. ap (path_in k) h.0 ∙ none);
       }
 
-  not_one : (p : Node × Way) → is_some (option_and_then plain_class (shape_at classes (relabel f s) p.0 p.1.0)) ≡ false → (u : Tree) (c : Cell) → tree_at s p.0 ≡ Some u → cell_at u p.1.0 ≡ Some c → (t : Tree) → c ≡ One t → ⊥
+  not_one : (p : Node × Way) → is_some (option_and_then plain_class (shape_at classes (relabel f s) p.0 p.1.0)) ≡ false
+      → (u : Tree) (c : Cell) → tree_at s p.0 ≡ Some u → cell_at u p.1.0 ≡ Some c → (t : Tree) → c ≡ One t → ⊥
   not_one p plain u c is here t one =
       let (shape, sees, conf) = shape_there classes (relabel f s) p.0 p.1.0 (relabel f u) (relabel_cell f c) ok (there p.0 u is) (cell_of u p.1.0 c here) in
-      plain_cell classes (relabel f t) shape (selected plain_class (shape_at classes (relabel f s) p.0 p.1.0) false shape sees plain) (subst (λ (x : Cell). cell_conforms classes (relabel_cell f x) shape ≡ true) one conf)
+      plain_cell classes (relabel f t) shape (selected plain_class (shape_at classes (relabel f s) p.0 p.1.0) false
+      shape sees plain) (subst (λ (x : Cell). cell_conforms classes (relabel_cell f x) shape ≡ true) one conf)
 
   -- after the change of a cell
   abbrev pub Goes : (Node → Option Node) → Tree → (ℕ → Option Node) → Type 0
   Goes carry t new = IsApart t × ((k : ℕ) → new k ≡ None → path_in k t ≡ option_and_then carry (path_in k s))
 
-  pub drop_goes : (p : Node × Way) → is_some (option_and_then plain_class (shape_at classes (relabel f s) p.0 p.1.0)) ≡ false → Goes (moved_under p.0 (past_drop p.1)) (with_node (with_cell (without_child p.1.1) p.1.0) s p.0) (λ k. None)
+  pub drop_goes : (p : Node × Way)
+      → is_some (option_and_then plain_class (shape_at classes (relabel f s) p.0 p.1.0)) ≡ false
+      → Goes (moved_under p.0 (past_drop p.1)) (with_node (with_cell (without_child p.1.1) p.1.0) s p.0) (λ k. None)
   drop_goes p plain =
       let g = without_child p.1.1 in
       let keeps = drop_keeps p.1 in
@@ -248,7 +260,9 @@ module _ (classes : Classes) (f : ℕ → ℕ) (s : Tree) (ok : conforms classes
   set_fits : (new : Tree) (p : Node × Way) → FitsAt (with_child (λ u. new) p.1.1) p.1.0 (past_set p.1) s p.0
   set_fits new p u c is here r w same e =
       let (stays, other) = set_way p.1 r w e in
-      let differs : p.1.1 ≡ r.1 → ⊥ = λ h. let g : nat_eq p.1.0 r.0 ≡ true = grind (arith, nat_tests) in let k : nat_eq p.1.1 r.1 ≡ true = grind (arith, nat_tests) in let m : true ≡ false = sym (ap (λ b. b && nat_eq p.1.1 r.1) g ∙ k) ∙ other in cc in
+      let differs : p.1.1 ≡ r.1 → ⊥ = λ h. let g : nat_eq p.1.0 r.0 ≡ true = grind (arith, nat_tests) in
+      let k : nat_eq p.1.1 r.1 ≡ true = grind (arith, nat_tests) in
+      let m : true ≡ false = sym (ap (λ b. b && nat_eq p.1.1 r.1) g ∙ k) ∙ other in cc in
       ap (λ (x : Way). slice_get (children (with_child (λ u. new) p.1.1 c)) x.1) (sym stays) ∙ child-other (λ u. new) p.1.1 r.1 c differs
 
   set_goes : (new : Tree) (p : Node × Way) → IsFreshTree s new → Goes (moved_under p.0 (past_set p.1)) (with_node (with_cell (with_child (λ u. new) p.1.1) p.1.0) s p.0) (λ k. path_in k new)
@@ -256,8 +270,11 @@ module _ (classes : Classes) (f : ℕ → ℕ) (s : Tree) (ok : conforms classes
       let g = with_child (λ u. new) p.1.1 in
       let keeps = set_keeps p.1 in
       let origins : OriginsAt g p.1.0 (past_set p.1) (IsAt new p.1.1) s p.0 = λ u c is here. set_origins p.1.0 p.1.1 new c in
-      let news = one_new g p.1.0 p.1.1 (past_set p.1) keeps s new apart fresh in
-      (apart_after g p.1.0 (past_set p.1) (IsAt new p.1.1) keeps s p.0 apart (set_fits new p) origins news, λ k none. number_after g p.1.0 (past_set p.1) (IsAt new p.1.1) keeps s p.0 apart (set_fits new p) origins news k (λ x j h. ap (path_in k) h.0 ∙ none))
+      let news = one_new g p.1.0 p.1.1 (past_set p.1) keeps s new apart fresh in (
+        apart_after g p.1.0 (past_set p.1) (IsAt new p.1.1) keeps s p.0 apart (set_fits new p) origins news,
+        λ k none. number_after g p.1.0 (past_set p.1) (IsAt new p.1.1) keeps s p.0 apart (set_fits new p) origins news
+            k (λ x j h. ap (path_in k) h.0 ∙ none),
+      )
 
   pub set_after : (node : Node) (new : Tree) (o : Option (Node × Way)) → parent_of node ≡ o → IsFreshTree s new →
       Goes (λ n. elim o [ None ↦ None | Some p ↦ moved_under p.0 (past_set p.1) n ]) (with_node (λ u. new) s node) (λ k. path_in k new)
@@ -274,12 +291,18 @@ module _ (classes : Classes) (f : ℕ → ℕ) (s : Tree) (ok : conforms classes
   put_after node part new fresh =
       let g : Cell → Cell = λ c. Filled new in
       let keeps = put_keeps part in
-      let fits : FitsAt g part (past_put part) s node = λ u c is here r w same e. (let h : nat_eq part r.0 ≡ true = grind (arith, nat_tests) in let m : true ≡ false = sym h ∙ (put_way part r w e).1 in absurd cc) in
+      let fits : FitsAt g part (past_put part) s node = λ u c is here r w same e. (let h : nat_eq part r.0 ≡ true =
+      grind (arith, nat_tests) in let m : true ≡ false = sym h ∙ (put_way part r w e).1 in absurd cc) in
       let origins : OriginsAt g part (past_put part) (IsAt new 0) s node = λ u c is here. put_origins part new c in
-      let news = one_new g part 0 (past_put part) keeps s new apart fresh in
-      (apart_after g part (past_put part) (IsAt new 0) keeps s node apart fits origins news, λ k none. number_after g part (past_put part) (IsAt new 0) keeps s node apart fits origins news k (λ x j h. ap (path_in k) h.0 ∙ none))
+      let news = one_new g part 0 (past_put part) keeps s new apart fresh in (
+        apart_after g part (past_put part) (IsAt new 0) keeps s node apart fits origins news,
+        λ k none. number_after g
+            part (past_put part) (IsAt new 0) keeps s node apart fits origins news k (λ x j h. ap (path_in k) h.0 ∙ none),
+      )
 
-  pub token_after : (node : Node) (part : ℕ) (v : trees.Token) → has_component classes (relabel f s) (Token node part v) ≡ true → Goes (moved_under node (λ (w : Way). Some w)) (with_node (with_cell (λ c. Holds v) part) s node) (λ k. None)
+  pub token_after : (node : Node) (part : ℕ) (v : trees.Token)
+      → has_component classes (relabel f s) (Token node part v) ≡ true
+      → Goes (moved_under node (λ (w : Way). Some w)) (with_node (with_cell (λ c. Holds v) part) s node) (λ k. None)
   token_after node part v has =
       let g : Cell → Cell = λ c. Holds v in
       let past : Way → Option Way = λ w. Some w in

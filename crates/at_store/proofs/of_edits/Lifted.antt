@@ -48,7 +48,9 @@ map_there (t ∷ ts) zero k e = (t, refl, cc)
 map_there (t ∷ ts) (suc i) k e = map_there ts i k e
 
 -- A node is taken out of its list, and waits in the memory as what an edit brings does.
-module _ (memory later : ℕ → Option Info) (s u x : Tree) (h : Keeps memory s None) (node p : Node) (place : Way) (parent : parent_of node ≡ Some (p, place)) (c : Cell) (found : tree_at s p ≡ Some u) (here : cell_at u place.0 ≡ Some c) (there : tree_at s node ≡ Some x) (plain : (t : Tree) → c ≡ One t → ⊥)
+module _ (memory later : ℕ → Option Info) (s u x : Tree) (h : Keeps memory s None) (node p : Node) (place : Way)
+    (parent : parent_of node ≡ Some (p, place)) (c : Cell) (found : tree_at s p ≡ Some u)
+    (here : cell_at u place.0 ≡ Some c) (there : tree_at s node ≡ Some x) (plain : (t : Tree) → c ≡ One t → ⊥)
     (left : List ℕ) (left_is : left ≡ remove (map class_of (children c)) place.1)
     (changes : (k : ℕ) → later k ≡ placed (class_of x) top k (renumbered (drop place.1 left) place.1 k (rewritten (class_of u) place.0 (with_numbers (λ ns. left) (kept c)) k (memory k)))) where
   abbrev written : ℕ → Option Info
@@ -72,7 +74,9 @@ module _ (memory later : ℕ → Option Info) (s u x : Tree) (h : Keeps memory s
 
   not_listed : (k : ℕ) → is_some (path_in k x) ≡ true → (j : ℕ) → slice_get (drop place.1 left) j ≡ Some k → ⊥
   not_listed k is j at' =
-      let e : slice_get (map class_of (children c)) (suc (place.1 + j)) ≡ Some k = sym (removed-behind (map class_of (children c)) place.1 (place.1 + j) (omega arith)) ∙ ap (λ ns. slice_get ns (place.1 + j)) (sym left_is) ∙ sym (behind_at place.1 left j) ∙ at' in
+      let e : slice_get (map class_of (children c)) (suc (place.1 + j)) ≡ Some k =
+      sym (removed-behind (map class_of (children c)) place.1 (place.1 + j) (omega arith))
+      ∙ ap (λ ns. slice_get ns (place.1 + j)) (sym left_is) ∙ sym (behind_at place.1 left j) ∙ at' in
       let (y, child, number) = map_there (children c) (suc (place.1 + j)) k e in
       let way : Way = (place.0, suc (place.1 + j)) in
       let below : slice_get (children_at u way.0) way.1 ≡ Some y = ap (λ o. slice_get (kids o) way.1) here ∙ child in
@@ -87,11 +91,14 @@ module _ (memory later : ℕ → Option Info) (s u x : Tree) (h : Keeps memory s
 
   within_same : (k : ℕ) → is_some (path_in k x) ≡ true → written k ≡ memory k
   within_same k is =
-      renumbered_absent (drop place.1 left) place.1 k _ (not_listed k is) ∙ ap (λ b. cond b (with_kept place.0 (with_numbers (λ ns. left) (kept c)) (memory k)) (memory k)) (not_eq k (class_of u) (not_parent k is))
+      renumbered_absent (drop place.1 left) place.1 k _ (not_listed k is)
+      ∙ ap (λ b. cond b (with_kept place.0 (with_numbers (λ ns. left) (kept c)) (memory k)) (memory k))
+      (not_eq k (class_of u) (not_parent k is))
 
   outside_same : (k : ℕ) → is_some (path_in k x) ≡ false → later k ≡ freed k
   outside_same k is =
-      changes k ∙ ap (λ b. cond b (with_place top (written k)) (written k)) (not_eq k (class_of x) (λ same. (let f : true ≡ false = sym its_own ∙ ap (λ j. is_some (path_in j x)) (sym same) ∙ is in cc))) ∙
+      changes k ∙ ap (λ b. cond b (with_place top (written k)) (written k)) (not_eq k (class_of x)
+      (λ same. (let f : true ≡ false = sym its_own ∙ ap (λ j. is_some (path_in j x)) (sym same) ∙ is in cc))) ∙
       sym (ap (λ b. cond b None (written k)) is)
 
   module _ (shallow : IsShallow 512 mid) where
@@ -135,9 +142,12 @@ module _ (memory later : ℕ → Option Info) (s u x : Tree) (h : Keeps memory s
         by_test k i e false is = elim (without_it.covered k i (sym (outside_same k is) ∙ e)) [ inl a ↦ inl a | inr b ↦ absurd (let f : false ≡ true = b in cc) ]
 
 -- what the memory is after a node was taken out
-pub gap_written : (memory : ℕ → Option Info) (s u x : Tree) (h : Keeps memory s None) (node p : Node) (place : Way) → parent_of node ≡ Some (p, place) → (c : Cell) → tree_at s p ≡ Some u → cell_at u place.0 ≡ Some c → tree_at s node ≡ Some x →
+pub gap_written : (memory : ℕ → Option Info) (s u x : Tree) (h : Keeps memory s None) (node p : Node) (place : Way)
+    → parent_of node ≡ Some (p, place) → (c : Cell) → tree_at s p ≡ Some u → cell_at u place.0 ≡ Some c
+    → tree_at s node ≡ Some x →
     (k : ℕ) → gap_closed (up_in (memory (class_of x))) (index_in (memory (class_of x))) memory k ≡
-    renumbered (drop place.1 (remove (map class_of (children c)) place.1)) place.1 k (rewritten (class_of u) place.0 (with_numbers (λ ns. remove (map class_of (children c)) place.1) (kept c)) k (memory k))
+    renumbered (drop place.1 (remove (map class_of (children c)) place.1)) place.1 k (rewritten (class_of u) place.0
+    (with_numbers (λ ns. remove (map class_of (children c)) place.1) (kept c)) k (memory k))
 gap_written memory s u x h node p place under c found here there k =
     let pu : ℕ = class_of u in
     let part : ℕ = place.0 in
@@ -155,14 +165,23 @@ gap_written memory s u x h node p place under c found here there k =
     ap (λ o. kids_in (with_kids part f o) part) above.is ∙ ap numbers_in (changed_here (with_numbers f) (kept_of u) part ∙ ap (option_map (with_numbers f)) cell_is) ∙ cell_cut i c in
     let c' : Kept = with_numbers (λ ns. left) (kept c) in
     let at_parent : with_kids part f (memory pu) ≡ with_kept part c' (memory pu) =
-    ap (with_kids part f) above.is ∙ (λ j. Some (record { class = above.class; up = (place_at top s p).0; index = (place_at top s p).1; cells = one_changed (with_numbers f) (kept_of u) part (kept c) c' cell_is (cell_same i c) j })) ∙ sym (ap (with_kept part c') above.is) in
+    ap (with_kids part f) above.is
+    ∙ (λ j. Some (record {
+      class = above.class;
+      up = (place_at top s p).0;
+      index = (place_at top s p).1;
+      cells = one_changed (with_numbers f) (kept_of u) part (kept c) c' cell_is (cell_same i c) j;
+    }))
+    ∙ sym (ap (with_kept part c') above.is) in
     let same : relinked pu part f k (memory k) ≡ rewritten pu part c' k (memory k) = elim (cases_eq k pu) [
       | inl e ↦ subst (λ (j : ℕ). relinked pu part f j (memory j) ≡ rewritten pu part c' j (memory j)) (sym e) (ap (λ o. cond (nat_eq pu pu) o (memory pu)) at_parent)
       | inr e ↦ ap (λ b. cond b (with_kids part f (memory k)) (memory k)) (ne_eqb k pu e) ∙ sym (ap (λ b. cond b (with_kept part c' (memory k)) (memory k)) (ne_eqb k pu e))
     ] in
     (λ j. gap_closed (up_is j) (index_is j) memory k) ∙ ap (λ ns. renumbered (drop i ns) i k (cut_in pu part i memory k)) cut ∙ ap (renumbered (drop i left) i k) same
 
-left_of_move : (s x : Tree) (place target goes : Node) (part index : ℕ) → tree_at s place ≡ Some x → past_taking place target ≡ Some goes → left_by s (Move place target part index) ≡ left_by (left_by s (Drop place)) (Insert goes part index x)
+left_of_move : (s x : Tree) (place target goes : Node) (part index : ℕ)
+    → tree_at s place ≡ Some x → past_taking place target ≡ Some goes
+    → left_by s (Move place target part index) ≡ left_by (left_by s (Drop place)) (Insert goes part index x)
 left_of_move s x place target goes part index there outside =
     ap (λ (o : Option Tree). elim o as (λ _. Tree) [ None ↦ s | Some u ↦ elim (past_taking place target) [ None ↦ s | Some q ↦ put_in (taken_out s place) q part index u ] ]) there ∙
     ap (λ (o : Option Node). elim o as (λ _. Tree) [ None ↦ s | Some q ↦ put_in (taken_out s place) q part index x ]) outside
@@ -187,26 +206,37 @@ move_committed classes old mid new middle e node to part index p lifts roomy com
     let c' : Kept = with_numbers (λ ns. left) (kept c) in
     let h : Keeps memory s None = subst (λ (y : Edit). Keeps memory s (brought y)) d.is p.keeps in
     let between : ℕ → Option Info = λ k. placed (class_of x) top k (gap_closed (up_in (memory (class_of x))) (index_in (memory (class_of x))) memory k) in
-    let lifts' : AreAlike between (stored_of middle) = subst (λ (j : ℕ). IsLifted j memory (stored_of middle)) (sym d.number) lifts (stands_once memory s h.stored h.apart d.place x (class_of x) d.there refl) in
+    let lifts' : AreAlike between (stored_of middle) = subst (λ (j : ℕ). IsLifted j memory (stored_of middle))
+    (sym d.number) lifts (stands_once memory s h.stored h.apart d.place x (class_of x) d.there refl) in
     let first : (k : ℕ) → between k ≡ placed (class_of x) top k (renumbered (drop i left) i k (rewritten pu d.way.0 c' k (memory k))) =
     λ k. ap (placed (class_of x) top k) (gap_written memory s u x h d.place d.above d.way d.under c d.found d.here d.there k) in
     let s1 : Tree = left_by s (Drop d.place) in
-    let cut : s1 ≡ with_node (with_cell (without_child i) d.way.0) s d.above = ap (λ (o : Option (Node × Way)). elim o as (λ _. Tree) [ None ↦ s | Some p ↦ with_node (with_cell (without_child p.1.1) p.1.0) s p.0 ]) d.under in
+    let cut : s1 ≡ with_node (with_cell (without_child i) d.way.0) s d.above = ap (λ (o : Option (Node × Way)). elim o
+    as (λ _. Tree) [ None ↦ s | Some p ↦ with_node (with_cell (without_child p.1.1) p.1.0) s p.0 ]) d.under in
     let low : IsShallow 512 s1 = subst (IsShallow 512) (sym cut)
-    (shallow_after 512 (without_child i) d.way.0 (past_drop d.way) IsNone (drop_keeps d.way) s d.above (λ v b is at'. drop_origins d.way.0 i b (λ t one. d.loose t (one_cell s u d.above d.way.0 c d.found d.here v b is at' ∙ one))) h.shallow (λ y j no. absurd no)) in
+    (shallow_after 512 (without_child i) d.way.0 (past_drop d.way) IsNone (drop_keeps d.way) s d.above (λ v b is at'.
+    drop_origins d.way.0 i b (λ t one. d.loose t (one_cell s u d.above d.way.0 c d.found d.here v b is at' ∙ one)))
+    h.shallow (λ y j no. absurd no)) in
     let h1 : Keeps between s1 (Some x) = lifted memory between s u x h d.place d.above d.way d.under c d.found d.here d.there d.loose left refl first low in
     let kids_are : kids_then ≡ insert (map class_of (from_trees d.elements)) index (class_of x) = ap (insert (map class_of (from_trees d.elements)) index) (sym d.number) in
     let bound : index ≤ length (map class_of (from_trees d.elements)) = (let few = d.bound in let long = map_length class_of (from_trees d.elements) in omega (arith, few, long)) in
     let (v, stands, number) = number_found s to d.target d.stands in
     let room : HasRoom middle to part = roomy to part (room_there mid.slab s v d.target to part stands number (subst (IsRoomFor mid.slab s) d.is p.room)) in
     let later : ℕ → Option Info = come_to to part index node (Kids List_of kids_then) between in
-    let alike : AreAlike later (stored_of new.slab) = comes between List_of elements lifts' (cell_there between s1 w d.goes to part (Many d.elements) h1.stored d.takes d.taker_number d.list) bound room in
+    let alike : AreAlike later (stored_of new.slab) = comes between List_of elements lifts'
+    (cell_there between s1 w d.goes to part (Many d.elements) h1.stored d.takes d.taker_number d.list) bound room in
     let places : IsPlacedIn to part index node (Kids List_of kids_then) between later = λ k. refl in
-    let moved : IsPlacedIn (class_of w) part index (class_of x) (Kids List_of kids_then) between later = subst (λ (j : ℕ). IsPlacedIn (class_of w) part index j (Kids List_of kids_then) between later) (sym d.number) (subst (λ (j : ℕ). IsPlacedIn j part index node (Kids List_of kids_then) between later) (sym d.taker_number) places) in
-    let shown : kids_in (placed_in (class_of w) part (class_of x) (Kids List_of kids_then) between (class_of w)) part ≡ kids_then = kids_there between s1 w d.goes part (class_of x) _ List_of kids_then h1.stored d.takes d.list in
-    let second : (k : ℕ) → later k ≡ renumbered (drop (suc index) kids_then) (suc index) k (placed (class_of x) (Some (class_of w, part), index) k (rewritten (class_of w) part (Kids List_of kids_then) k (between k))) =
+    let moved : IsPlacedIn (class_of w) part index (class_of x) (Kids List_of kids_then) between later =
+    subst (λ (j : ℕ). IsPlacedIn (class_of w) part index j (Kids List_of kids_then) between later) (sym d.number)
+    (subst (λ (j : ℕ). IsPlacedIn j part index node (Kids List_of kids_then) between later)
+    (sym d.taker_number) places) in
+    let shown : kids_in (placed_in (class_of w) part (class_of x) (Kids List_of kids_then) between (class_of w)) part
+    ≡ kids_then = kids_there between s1 w d.goes part (class_of x) _ List_of kids_then h1.stored d.takes d.list in
+    let second : (k : ℕ) → later k ≡ renumbered (drop (suc index) kids_then) (suc index) k (placed (class_of x)
+    (Some (class_of w, part), index) k (rewritten (class_of w) part (Kids List_of kids_then) k (between k))) =
     λ k. moved k ∙ ap (λ ns. renumbered (drop index ns) index k (placed_in (class_of w) part (class_of x) (Kids List_of kids_then) between k)) shown ∙
-    renumbered_insert (map class_of (from_trees d.elements)) kids_then index (class_of x) k (Some (class_of w, part)) (rewritten (class_of w) part (Kids List_of kids_then) k (between k)) kids_are bound in
+    renumbered_insert (map class_of (from_trees d.elements)) kids_then index (class_of x) k (Some (class_of w, part))
+    (rewritten (class_of w) part (Kids List_of kids_then) k (between k)) kids_are bound in
     let left_is : left_by s p.numbered ≡ left_by s1 (Insert d.goes part index x) = ap (left_by s) d.is ∙ left_of_move s x d.place d.target d.goes part index d.there d.outside in
     let shallow : IsShallow 512 (left_by s1 (Insert d.goes part index x)) = subst (IsShallow 512) left_is (shallow_left classes old mid new e Does p) in
     let done : Keeps later (left_by s1 (Insert d.goes part index x)) None = inserted between later s1 x w h1 d.goes part index d.elements d.takes d.list d.bound kids_then kids_are second shallow in
@@ -216,8 +246,13 @@ move_committed classes old mid new middle e node to part index p lifts roomy com
     committed classes old mid new e Does p now
     (ap class_of left_is ∙ root_stays (with_one_more x index) part s1 d.goes ∙ ap class_of cut ∙ root_stays (without_child i) d.way.0 s d.above ∙ root_was classes old mid new e Does p ∙ sym same_root)
     (classes_stay memory (memory_of new.slab) (λ k. false)
-    (λ k o. renumbered (drop (suc index) kids_then) (suc index) k (placed (class_of x) (Some (class_of w, part), index) k (rewritten (class_of w) part (Kids List_of kids_then) k (placed (class_of x) top k (renumbered (drop i left) i k (rewritten pu d.way.0 c' k o))))))
-    (λ k o. class_changed (drop (suc index) kids_then) (suc index) (class_of x) (Some (class_of w, part), index) (class_of w) part (Kids List_of kids_then) k _ ∙ class_placed (class_of x) top k _ ∙ class_renumbered (drop i left) i k _ ∙ class_rewritten pu d.way.0 c' k o)
-    (λ k. same k ∙ second k ∙ ap (λ o. renumbered (drop (suc index) kids_then) (suc index) k (placed (class_of x) (Some (class_of w, part), index) k (rewritten (class_of w) part (Kids List_of kids_then) k o))) (first k))
+    (λ k o. renumbered (drop (suc index) kids_then) (suc index) k
+    (placed (class_of x) (Some (class_of w, part), index) k (rewritten (class_of w) part (Kids List_of kids_then) k
+    (placed (class_of x) top k (renumbered (drop i left) i k (rewritten pu d.way.0 c' k o))))))
+    (λ k o. class_changed (drop (suc index) kids_then) (suc index) (class_of x) (Some (class_of w, part), index)
+    (class_of w) part (Kids List_of kids_then) k _ ∙ class_placed (class_of x) top k _ ∙ class_renumbered
+    (drop i left) i k _ ∙ class_rewritten pu d.way.0 c' k o)
+    (λ k. same k ∙ second k ∙ ap (λ o. renumbered (drop (suc index) kids_then) (suc index) k (placed (class_of x)
+    (Some (class_of w, part), index) k (rewritten (class_of w) part (Kids List_of kids_then) k o))) (first k))
     top (left_by s p.numbered) now.stored)
     waiting leaving limit (unmarked_as classes old mid new e Does p marks (ap (gone s) d.is))

@@ -98,16 +98,19 @@ module _ (classes : Classes) (limit : ℕ) (slab : Slab Entry) (s : Tree) (h : I
       within_told most (slab_len slab) (memory_of slab) e ≡ in_bounds most (left_by shown (edit_at n m e))
   bounded (Set node tree) n m p q allowed =
       let (u, is, number) = number_found s node n p in
-      (λ i. room most (count_is i - size node n u is number i) (level node n p i) (tree_view tree)) ∙ set_room classes shown h.conforming most within n (tree_view tree) (relabel (class_in (memory_of slab)) u) (there n u is)
+      (λ i. room most (count_is i - size node n u is number i) (level node n p i) (tree_view tree)) ∙ set_room classes
+      shown h.conforming most within n (tree_view tree) (relabel (class_in (memory_of slab)) u) (there n u is)
   bounded (Put node part tree) n m p q allowed =
       let (u, is, number) = number_found s node n p in
-      (λ i. room most (count_is i) (suc (level node n p i)) (tree_view tree)) ∙ put_room classes shown h.conforming most within n part (tree_view tree) (relabel (class_in (memory_of slab)) u) (there n u is) allowed
+      (λ i. room most (count_is i) (suc (level node n p i)) (tree_view tree)) ∙ put_room classes shown h.conforming most
+      within n part (tree_view tree) (relabel (class_in (memory_of slab)) u) (there n u is) allowed
   bounded (Drop node) n m p q allowed =
       let (u, is, number) = number_found s node n p in
       drop_room classes shown h.conforming most within n (relabel (class_in (memory_of slab)) u) (there n u is) allowed
   bounded (Insert node part index tree) n m p q allowed =
       let (u, is, number) = number_found s node n p in
-      (λ i. room most (count_is i) (suc (level node n p i)) (tree_view tree)) ∙ insert_room classes shown h.conforming most within n part index (tree_view tree) (relabel (class_in (memory_of slab)) u) (there n u is) allowed
+      (λ i. room most (count_is i) (suc (level node n p i)) (tree_view tree)) ∙ insert_room classes shown h.conforming
+      most within n part index (tree_view tree) (relabel (class_in (memory_of slab)) u) (there n u is) allowed
   bounded (Token node part value) n m p q allowed =
       let (u, is, number) = number_found s node n p in
       token_room classes shown h.conforming most within n part (token_view value) (relabel (class_in (memory_of slab)) u) (there n u is) allowed

@@ -38,7 +38,8 @@ only_levels a b false e f = cc
 
 module _ (classes : Classes) (t : Tree) (ok : conforms classes t 0 ≡ true) (most : ℕ) (within : in_bounds most t ≡ true) where
   drop_plain : (n : Node) (p : Node × (ℕ × ℕ)) → parent_of n ≡ Some p → is_some (option_and_then plain_class (shape_at classes t p.0 p.1.0)) ≡ false → not (is_plain classes t n) ≡ true
-  drop_plain n p above bare = ap not (ap (λ (o : Option (Node × (ℕ × ℕ))). elim o as (λ _. Bool) [ None ↦ true | Some p ↦ is_some (option_and_then plain_class (shape_at classes t p.0 p.1.0)) ]) above ∙ bare)
+  drop_plain n p above bare = ap not (ap (λ (o : Option (Node × (ℕ × ℕ))). elim o as (λ _. Bool)
+      [ None ↦ true | Some p ↦ is_some (option_and_then plain_class (shape_at classes t p.0 p.1.0)) ]) above ∙ bare)
 
   pub move_room : (n m : Node) (part index : ℕ) (u : Tree) → tree_at t n ≡ Some u →
       IsAllowed classes t (Move n m part index) →
@@ -62,7 +63,16 @@ module _ (classes : Classes) (t : Tree) (ok : conforms classes t 0 ≡ true) (mo
       let not_one : (y : Tree) → c ≡ One y → ⊥ = λ y one. (let f : Many ts ≡ One y = sym many ∙ one in cc) in
       let count : nodes (left_by t (Drop n)) + nodes u ≡ nodes t = count_drop t n p.0 p.1 x u c move.above found there here not_one in
       let few = leb-true (nodes t) most (both _ _ (both _ _ within).0).0 in
-      let within' : in_bounds most mid ≡ true = sym (ap (in_bounds most) taken) ∙ sym (drop_room classes t ok most within n u found (record { component = refl; fit = refl; index = refl; empty = refl; removable = drop_plain n p move.above (plain classes t ok n m part index u found p move.above move.listed q move.goes allowed.component allowed.fit allowed.index); outside = refl })) in
+      let within' : in_bounds most mid ≡ true = sym (ap (in_bounds most) taken)
+      ∙ sym (drop_room classes t ok most within n u found (record {
+        component = refl;
+        fit = refl;
+        index = refl;
+        empty = refl;
+        removable = drop_plain n p move.above (plain classes t ok n m part index u found p move.above
+            move.listed q move.goes allowed.component allowed.fit allowed.index);
+        outside = refl;
+      })) in
       let (shape', sees) = wanted classes list_class (shape_at classes mid q part) has' in
       let (w, at_q) = lives classes mid q part shape' sees in
       let room' = insert_room classes mid ok' most within' q part index u w at_q (record { component = has'; fit = fit'; index = range'; empty = refl; removable = refl; outside = refl }) in

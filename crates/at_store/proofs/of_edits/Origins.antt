@@ -30,7 +30,9 @@ module _ (g : Cell → Cell) (part : ℕ) (past : Way → Option Way) (IsNew : T
       let (x, child, under) = led (λ v. tree_at v ss) (slice_get (children_at (with_cell g part t) part) j) w e in
       at_cell x under (cell_at t part) refl (ap (λ c. slice_get (kids c) j) (sym (cell-same g part t)) ∙ child)
     where
-      by_source : (x : Tree) → tree_at x ss ≡ Some w → (c : Cell) → cell_at t part ≡ Some c → ((i : ℕ) × (slice_get (children c) i ≡ Some x) × (past (part, i) ≡ Some (part, j))) ⊎ IsNew x j → From t [] ((part, j) ∷ ss) w
+      by_source : (x : Tree) → tree_at x ss ≡ Some w → (c : Cell) → cell_at t part ≡ Some c
+          → ((i : ℕ) × (slice_get (children c) i ≡ Some x) × (past (part, i) ≡ Some (part, j))) ⊎ IsNew x j
+          → From t [] ((part, j) ∷ ss) w
       by_source x under c is (inl (i, was, moves)) =
           old ((part, i) ∷ ss) w (ap (option_map (λ (u : Way). u ∷ ss)) moves)
           (ap (λ c. option_and_then (λ v. tree_at v ss) (slice_get (kids c) i)) is ∙ ap (option_and_then (λ v. tree_at v ss)) was ∙ under)
@@ -52,8 +54,11 @@ module _ (g : Cell → Cell) (part : ℕ) (past : Way → Option Way) (IsNew : T
     origin p [] t w o e = old [] t (moved-nil past p) refl
     origin [] (s ∷ ss) t w o e =
         by_nat part s.0 _
-        (λ same. let way : (let x : Way = (part, s.1) in x) ≡ s = λ i. (same i, s.1) in subst (λ (r : Way). From t [] (r ∷ ss) w) way (at_part s.1 ss t w o (subst (λ (r : Way). tree_at (with_cell g part t) (r ∷ ss) ≡ Some w) (sym way) e)))
-        (λ n. old (s ∷ ss) w (ap (option_map (λ (u : Way). u ∷ ss)) (keeps.other s (not_eq part s.0 n))) (ap (λ c. option_and_then (λ v. tree_at v ss) (slice_get (kids c) s.1)) (sym (cell-other g part s.0 t n)) ∙ e))
+        (λ same. let way : (let x : Way = (part, s.1) in x) ≡ s = λ i. (same i, s.1) in
+        subst (λ (r : Way). From t [] (r ∷ ss) w) way
+        (at_part s.1 ss t w o (subst (λ (r : Way). tree_at (with_cell g part t) (r ∷ ss) ≡ Some w) (sym way) e)))
+        (λ n. old (s ∷ ss) w (ap (option_map (λ (u : Way). u ∷ ss)) (keeps.other s (not_eq part s.0 n))) (ap (λ c.
+        option_and_then (λ v. tree_at v ss) (slice_get (kids c) s.1)) (sym (cell-other g part s.0 t n)) ∙ e))
     origin (a ∷ p) (s ∷ ss) t w o e = by_step (step_eq a s) refl (λ v h. origin p ss v w h)
       where
         H : Tree → Tree
@@ -65,7 +70,9 @@ module _ (g : Cell → Cell) (part : ℕ) (past : Way → Option Way) (IsNew : T
             (ap (option_and_then (λ u. tree_at u n)) is ∙ found)
         within v is (new x j rest fresh at' found) = new x j rest fresh (ap (λ (us : Node). a ∷ us) at') found
 
-        at_child : (c : Option Tree) → slice_get (children_at t a.0) a.1 ≡ c → option_and_then (λ v. tree_at v ss) (option_map H c) ≡ Some w → ((v : Tree) → OriginsAt v p → tree_at (H v) ss ≡ Some w → From v p ss w) → From t (a ∷ p) (a ∷ ss) w
+        at_child : (c : Option Tree) → slice_get (children_at t a.0) a.1 ≡ c
+            → option_and_then (λ v. tree_at v ss) (option_map H c) ≡ Some w
+            → ((v : Tree) → OriginsAt v p → tree_at (H v) ss ≡ Some w → From v p ss w) → From t (a ∷ p) (a ∷ ss) w
         at_child None is f more = absurd cc
         at_child (Some v) is f more = within v is (more v (λ u c found here. o u c (ap (option_and_then (λ x. tree_at x p)) is ∙ found) here) f)
 

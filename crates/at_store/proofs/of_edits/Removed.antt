@@ -28,7 +28,9 @@ subtree_apart s (r ∷ n) x h is =
     subtree_apart y n x (child_apart s y r h child) below
 
 -- just the numbers below the node are freed
-pub freed_below : (memory freed : ℕ → Option Info) (place : Place) (s : Tree) (n : Node) (x : Tree) → Stored memory place s → IsApart s → tree_at s n ≡ Some x → IsFreed (class_of x) memory freed → (k : ℕ) → freed k ≡ cond (is_some (path_in k x)) None (memory k)
+pub freed_below : (memory freed : ℕ → Option Info) (place : Place) (s : Tree) (n : Node) (x : Tree)
+    → Stored memory place s → IsApart s → tree_at s n ≡ Some x → IsFreed (class_of x) memory freed → (k : ℕ)
+    → freed k ≡ cond (is_some (path_in k x)) None (memory k)
 freed_below memory freed place s n x stored apart is free = let (q, below) = subtree_stored memory place s n x stored is in free q x refl (subtree_apart s n x apart is) below
 
 -- the parent stays
@@ -44,5 +46,6 @@ place_below s u n p way under found =
     ap (λ (o : Option Tree). (Some ((elim o [ None ↦ 0 | Some v ↦ class_of v ]), way.0), way.1)) found
 
 -- and as it is kept
-pub up_below : (memory : ℕ → Option Info) (s u x : Tree) (n p : Node) (way : Way) → Stored memory top s → parent_of n ≡ Some (p, way) → tree_at s p ≡ Some u → tree_at s n ≡ Some x → up_in (memory (class_of x)) ≡ Some (class_of u, way.0)
+pub up_below : (memory : ℕ → Option Info) (s u x : Tree) (n p : Node) (way : Way) → Stored memory top s → parent_of n ≡
+    Some (p, way) → tree_at s p ≡ Some u → tree_at s n ≡ Some x → up_in (memory (class_of x)) ≡ Some (class_of u, way.0)
 up_below memory s u x n p way h under found there = ap up_in (h n x there).is ∙ ap (λ (q : Place). q.0) (place_below s u n p way under found)

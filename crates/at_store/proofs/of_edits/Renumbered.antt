@@ -38,7 +38,8 @@ renumbered_present [] i k j o e h = absurd cc
 renumbered_present (n ∷ ns) i k zero o e h =
     let f : n ≡ k = cc in
     let z : i ≡ i + 0 = omega arith in
-    ap (λ b. renumbered ns (suc i) k (cond b (with_index i o) o)) (eq-eqb k n (sym f)) ∙ renumbered_absent ns (suc i) k (with_index i o) (λ a q. let y : suc a ≡ 0 = h (suc a) q in absurd (omega arith)) ∙ ap (λ x. with_index x o) z
+    ap (λ b. renumbered ns (suc i) k (cond b (with_index i o) o)) (eq-eqb k n (sym f)) ∙ renumbered_absent ns (suc i) k
+    (with_index i o) (λ a q. let y : suc a ≡ 0 = h (suc a) q in absurd (omega arith)) ∙ ap (λ x. with_index x o) z
 renumbered_present (n ∷ ns) i k (suc j) o e h =
     let d : nat_eq k n ≡ false = not_eq k n (λ q. let y : 0 ≡ suc j = h 0 (ap Some (sym q)) in absurd (omega arith)) in
     let z : suc i + j ≡ i + suc j = omega arith in
@@ -49,7 +50,8 @@ standing : (ns : List ℕ) (k : ℕ) → ((j : ℕ) × (slice_get ns j ≡ Some 
 standing [] k = inr (λ j e. let f : None ≡ Some k = e in cc)
 standing (n ∷ ns) k = first (nat_eq n k) refl (standing ns k)
   where
-    first : (b : Bool) → nat_eq n k ≡ b → ((j : ℕ) × (slice_get ns j ≡ Some k)) ⊎ ((j : ℕ) → slice_get ns j ≡ Some k → ⊥) → ((j : ℕ) × (slice_get (n ∷ ns) j ≡ Some k)) ⊎ ((j : ℕ) → slice_get (n ∷ ns) j ≡ Some k → ⊥)
+    first : (b : Bool) → nat_eq n k ≡ b → ((j : ℕ) × (slice_get ns j ≡ Some k)) ⊎ ((j : ℕ) → slice_get ns j ≡ Some k
+        → ⊥) → ((j : ℕ) × (slice_get (n ∷ ns) j ≡ Some k)) ⊎ ((j : ℕ) → slice_get (n ∷ ns) j ≡ Some k → ⊥)
     first true e rest = inl (0, ap Some (eqb-true n k e))
     first false e (inl (j, is)) = inl (suc j, is)
     first false e (inr none) = inr nowhere
@@ -64,7 +66,9 @@ index_snoc root p s = ap (λ (o : Option (Node × Way)). elim o as (λ _. ℕ) [
 -- where a child of the node goes
 moved_child : (past : Way → Option Way) (p : Node) (s : Way) → moved_under p past (p ++ s ∷ []) ≡ option_map (λ (w : Way). p ++ w ∷ []) (past s)
 moved_child past [] s = refl
-moved_child past (a ∷ p) s = ap (λ (b : Bool). if b then option_map (λ (us : Node). a ∷ us) (moved_under p past (p ++ s ∷ [])) else Some (a ∷ (p ++ s ∷ []))) (step_eq-refl a) ∙ ap (option_map (λ (us : Node). a ∷ us)) (moved_child past p s) ∙ twice (past s)
+moved_child past (a ∷ p) s = ap (λ (b : Bool). if b then option_map (λ (us : Node). a ∷ us)
+    (moved_under p past (p ++ s ∷ [])) else Some (a ∷ (p ++ s ∷ []))) (step_eq-refl a)
+    ∙ ap (option_map (λ (us : Node). a ∷ us)) (moved_child past p s) ∙ twice (past s)
   where
     twice : (o : Option Way) → option_map (λ (us : Node). a ∷ us) (option_map (λ (w : Way). p ++ w ∷ []) o) ≡ option_map (λ (w : Way). (a ∷ p) ++ w ∷ []) o
     twice None = refl
@@ -74,7 +78,9 @@ some_root : (o : Option Tree) → option_and_then (λ v. tree_at v []) o ≡ o
 some_root None = refl
 some_root (Some v) = refl
 
-module _ (g : Cell → Cell) (part : ℕ) (past : Way → Option Way) (IsNew : Tree → ℕ → Type 0) (keeps : KeepsParts past part) (t : Tree) (p : Node) (apart : IsApart t) (fits : FitsAt g part past t p) (origins : OriginsAt g part past IsNew t p) (news : AreNew g part past IsNew keeps t)
+module _ (g : Cell → Cell) (part : ℕ) (past : Way → Option Way) (IsNew : Tree → ℕ → Type 0)
+    (keeps : KeepsParts past part) (t : Tree) (p : Node) (apart : IsApart t) (fits : FitsAt g part past t p)
+    (origins : OriginsAt g part past IsNew t p) (news : AreNew g part past IsNew keeps t)
     (u : Tree) (c : Cell) (found : tree_at t p ≡ Some u) (here : cell_at u part ≡ Some c) (from : ℕ) (behind : List ℕ)
     (behind_is : (j : ℕ) → slice_get behind j ≡ slice_get (map class_of (children (g c))) (from + j))
     (before : (s w : Way) → s.0 ≡ part → past s ≡ Some w → w.1 < from → w.1 ≡ s.1) where
@@ -107,7 +113,8 @@ module _ (g : Cell → Cell) (part : ℕ) (past : Way → Option Way) (IsNew : T
       omega arith
 
   -- a node that is none of those behind keeps its index
-  same_index : (n m : Node) (v w : Tree) → tree_at t n ≡ Some v → moved_under p past n ≡ Some m → tree_at after m ≡ Some w → ((j : ℕ) → slice_get behind j ≡ Some (class_of w) → ⊥) → index_at 0 n ≡ index_at 0 m
+  same_index : (n m : Node) (v w : Tree) → tree_at t n ≡ Some v → moved_under p past n ≡ Some m
+      → tree_at after m ≡ Some w → ((j : ℕ) → slice_get behind j ≡ Some (class_of w) → ⊥) → index_at 0 n ≡ index_at 0 m
   same_index n m v w was moves is none = by_end (snoc n)
     where
       at_child : (s : Way) → n ≡ p ++ s ∷ [] → part ≡ s.0 → s.1 ≡ index_at 0 m
@@ -144,12 +151,15 @@ module _ (g : Cell → Cell) (part : ℕ) (past : Way → Option Way) (IsNew : T
               ap (index_at 0) e ∙ index_snoc 0 k s ∙ sym (x.index_same (λ q. let z : true ≡ false = sym q ∙ h in absurd cc)) ∙ sym (index_snoc 0 x.parent x.step) ∙ ap (index_at 0) (sym x.is)
 
   -- what is kept of a node that goes on has the index to which the node is moved
-  pub renumbered_moved : (n m : Node) (v : Tree) → tree_at t n ≡ Some v → moved_under p past n ≡ Some m → (o : Option Info) → with_index (index_at 0 n) o ≡ o → renumbered behind from (class_of v) o ≡ with_index (index_at 0 m) o
+  pub renumbered_moved : (n m : Node) (v : Tree) → tree_at t n ≡ Some v → moved_under p past n ≡ Some m → (o : Option
+      Info) → with_index (index_at 0 n) o ≡ o → renumbered behind from (class_of v) o ≡ with_index (index_at 0 m) o
   renumbered_moved n m v was moves o own =
       let (w, is, number, rest) = cell_there g part past keeps t p n m v fits moves was in
       by_place w is number (standing behind (class_of v))
     where
-      by_place : (w : Tree) → tree_at after m ≡ Some w → class_of w ≡ class_of v → ((j : ℕ) × (slice_get behind j ≡ Some (class_of v))) ⊎ ((j : ℕ) → slice_get behind j ≡ Some (class_of v) → ⊥) → renumbered behind from (class_of v) o ≡ with_index (index_at 0 m) o
+      by_place : (w : Tree) → tree_at after m ≡ Some w → class_of w ≡ class_of v →
+          ((j : ℕ) × (slice_get behind j ≡ Some (class_of v))) ⊎ ((j : ℕ) → slice_get behind j ≡ Some (class_of v) → ⊥)
+          → renumbered behind from (class_of v) o ≡ with_index (index_at 0 m) o
       by_place w is number (inl (j, at')) =
           let m_is = stands m w j is (at' ∙ ap Some (sym number)) in
           renumbered_present behind from (class_of v) j o at' (λ a e. once (class_of v) a j e at') ∙ ap (λ z. with_index z o) (sym (ap (index_at 0) m_is ∙ index_snoc 0 p (part, from + j)))
@@ -157,7 +167,8 @@ module _ (g : Cell → Cell) (part : ℕ) (past : Way → Option Way) (IsNew : T
           renumbered_absent behind from (class_of v) o none ∙ sym own ∙ ap (λ z. with_index z o) (same_index n m v w was moves is (λ j e. none j (e ∙ ap Some number)))
 
   -- no number of what is new is among them, where that stands in front
-  pub renumbered_new : (x : Tree) (i : ℕ) → IsNew x i → ((y : Tree) (j : ℕ) → IsNew y j → j < from) → (m : Node) (v : Tree) → tree_at x m ≡ Some v → (o : Option Info) → renumbered behind from (class_of v) o ≡ o
+  pub renumbered_new : (x : Tree) (i : ℕ) → IsNew x i → ((y : Tree) (j : ℕ) → IsNew y j → j < from)
+      → (m : Node) (v : Tree) → tree_at x m ≡ Some v → (o : Option Info) → renumbered behind from (class_of v) o ≡ o
   renumbered_new x i new front m v is o = renumbered_absent behind from (class_of v) o nowhere
     where
       nowhere : (j : ℕ) → slice_get behind j ≡ Some (class_of v) → ⊥

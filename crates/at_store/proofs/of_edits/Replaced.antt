@@ -46,7 +46,8 @@ not_both None q e f = cc
 not_both (Some r) q e f = cc
 
 -- what is freed stays so, whatever comes in
-gone_first : (n part root : ℕ) (place : Place) (f : List ℕ → List ℕ) (k : ℕ) (o q : Option Info) (b : Bool) → relinked n part f k o ≡ q → placed root place k (relinked n part f k (cond b None o)) ≡ cond b None (placed root place k q)
+gone_first : (n part root : ℕ) (place : Place) (f : List ℕ → List ℕ) (k : ℕ) (o q : Option Info) (b : Bool) → relinked n
+    part f k o ≡ q → placed root place k (relinked n part f k (cond b None o)) ≡ cond b None (placed root place k q)
 gone_first n part root place f k o q false e = ap (placed root place k) e
 gone_first n part root place f k o q true e = by_tests (nat_eq k n) (nat_eq k root)
   where
@@ -161,17 +162,25 @@ module _ (classes : Classes) (old mid new : Shown) (e : Edit) (node root : ℕ) 
     at_parent =
         let there = kept_before.stored above u parent.1 in
         let cell_is : slice_get (kept_of u) way.0 ≡ Some (kept c) = kept_at (from_cells (cells_of u)) way.0 ∙ ap (option_map kept) parent.2.1 in
-        ap (with_kids way.0 f) there.is ∙ (λ j. Some (record { class = there.class; up = (place_at top s above).0; index = (place_at top s above).1; cells = one_changed (with_numbers f) (kept_of u) way.0 (kept c) now cell_is refl j })) ∙
+        ap (with_kids way.0 f) there.is
+        ∙ (λ j. Some (record {
+          class = there.class;
+          up = (place_at top s above).0;
+          index = (place_at top s above).1;
+          cells = one_changed (with_numbers f) (kept_of u) way.0 (kept c) now cell_is refl j;
+        })) ∙
         sym (ap (with_kept way.0 now) there.is)
 
     same : (k : ℕ) → relinked (class_of u) way.0 f k (memory k) ≡ rewritten (class_of u) way.0 now k (memory k)
     same k = elim (cases_eq k (class_of u)) [
-      | inl e ↦ subst (λ (j : ℕ). relinked (class_of u) way.0 f j (memory j) ≡ rewritten (class_of u) way.0 now j (memory j)) (sym e) (ap (λ o. cond (nat_eq (class_of u) (class_of u)) o (memory (class_of u))) at_parent)
+      | inl e ↦ subst (λ (j : ℕ). relinked (class_of u) way.0 f j (memory j) ≡ rewritten (class_of u) way.0 now j
+          (memory j)) (sym e) (ap (λ o. cond (nat_eq (class_of u) (class_of u)) o (memory (class_of u))) at_parent)
       | inr e ↦ ap (λ b. cond b (with_kids way.0 f (memory k)) (memory k)) (ne_eqb k (class_of u) e) ∙ sym (ap (λ b. cond b (with_kept way.0 now (memory k)) (memory k)) (ne_eqb k (class_of u) e))
     ]
 
     written : (k : ℕ) → later k ≡ cond (is_some (path_in k x)) None (placed (class_of w) spot k (rewritten (class_of u) way.0 now k (memory k)))
-    written k = changes k ∙ (λ j. replaced (up_is spot stands j) (index_is spot stands j) (sym p.does.root j) freed k) ∙ ap (λ o. placed (class_of w) spot k (relinked (class_of u) way.0 f k o)) (frees k) ∙
+    written k = changes k ∙ (λ j. replaced (up_is spot stands j) (index_is spot stands j) (sym p.does.root j) freed k)
+        ∙ ap (λ o. placed (class_of w) spot k (relinked (class_of u) way.0 f k o)) (frees k) ∙
         gone_first (class_of u) way.0 (class_of w) spot f k (memory k) _ (is_some (path_in k x)) (same k)
 
     done : Keeps later (left_by s (edit.Set place w)) None
@@ -180,7 +189,9 @@ module _ (classes : Classes) (old mid new : Shown) (e : Edit) (node root : ℕ) 
     root_remains : class_of s ≡ new.root
     root_remains =
         let was = root_was classes old mid new e (DoesSet node root) p in
-        let other : (node ≡ mid.root → ⊥) = λ e. (let top_is : place ≡ [] = kept_before.apart place [] x s p.does.there refl (p.does.number ∙ e ∙ sym was) in not_both (parent_of place) (above, way) (ap parent_of top_is) under) in
+        let other : (node ≡ mid.root → ⊥) = λ e.
+        (let top_is : place ≡ [] = kept_before.apart place [] x s p.does.there refl (p.does.number ∙ e ∙ sym was) in
+        not_both (parent_of place) (above, way) (ap parent_of top_is) under) in
         was ∙ sym (same_root ∙ ap (λ b. cond b root mid.root) (ne_eqb node mid.root other))
 
     pub below_committed : IsCommitted old e new
@@ -190,7 +201,10 @@ module _ (classes : Classes) (old mid new : Shown) (e : Edit) (node root : ℕ) 
         let settles : Keeps (memory_of new.slab) (left_by s p.numbered) None = subst (λ (m : ℕ → Option Info). Keeps m (left_by s p.numbered) None) (λ i k. sym (same k) i) keeps in
         committed classes old mid new e (DoesSet node root) p settles
         (ap (λ (y : Edit). class_of (left_by s y)) p.does.is ∙ ap class_of (set_in_parent [] w place (above, way) under s) ∙ root_stays (with_child (λ u. w) way.1) way.0 s above ∙ root_remains)
-        (classes_stay memory (memory_of new.slab) (λ k. is_some (path_in k x)) (λ k o. placed (class_of w) spot k (rewritten (class_of u) way.0 now k o)) (λ k o. class_placed (class_of w) spot k (rewritten (class_of u) way.0 now k o) ∙ class_rewritten (class_of u) way.0 now k o) (λ k. same k ∙ written k) top (left_by s p.numbered) settles.stored)
+        (classes_stay memory (memory_of new.slab) (λ k. is_some (path_in k x))
+        (λ k o. placed (class_of w) spot k (rewritten (class_of u) way.0 now k o)) (λ k o. class_placed (class_of w)
+        spot k (rewritten (class_of u) way.0 now k o) ∙ class_rewritten (class_of u) way.0 now k o)
+        (λ k. same k ∙ written k) top (left_by s p.numbered) settles.stored)
         waiting leaving limit (unmarked (λ k here. same k ∙ written k ∙ ap (λ b. cond b None (placed (class_of w) spot k (rewritten (class_of u) way.0 now k (memory k)))) here))
 
 pub set_committed : (classes : Classes) (old mid new : Shown) (e : Edit) (node root : ℕ) → IsPrepared classes old e (DoesSet node root) mid →
@@ -203,7 +217,8 @@ set_committed classes old mid new e node root p replaces fewer same_root waiting
     h : Keeps (memory_of mid.slab) (numbers old) (Some p.does.brings)
     h = subst (λ (y : Edit). Keeps (memory_of mid.slab) (numbers old) (brought y)) p.does.is p.keeps
 
-    after : (freed : ℕ → Option Info) × (IsFreed node (memory_of mid.slab) freed) × AreAlike (replaced (up_in (memory_of mid.slab node)) (index_in (memory_of mid.slab node)) root freed) (stored_of new.slab)
+    after : (freed : ℕ → Option Info) × (IsFreed node (memory_of mid.slab) freed) × AreAlike (replaced
+        (up_in (memory_of mid.slab node)) (index_in (memory_of mid.slab node)) root freed) (stored_of new.slab)
     after = replaces (stands_once (memory_of mid.slab) (numbers old) h.stored h.apart p.does.place p.does.gone node p.does.there p.does.number)
 
     by_parent : (o : Option (Node × Way)) → parent_of p.does.place ≡ o → IsCommitted old e new

@@ -15,9 +15,12 @@ use Rattle.at_store.specs.declared.entry.Slot.{Slot}
 use Rattle.at_store.proofs.of_edits.Taken.{one_changed}
 
 -- a cell that holds these numbers, with others of them
-pub list_written : (memory : ℕ → Option Info) (node part : ℕ) (f : List ℕ → List ℕ) (form : Form) (kids : List ℕ) → cell_in (memory node) part ≡ Some (Kids form kids) → (k : ℕ) → relinked node part f k (memory k) ≡ rewritten node part (Kids form (f kids)) k (memory k)
+pub list_written : (memory : ℕ → Option Info) (node part : ℕ) (f : List ℕ → List ℕ) (form : Form) (kids : List ℕ)
+    → cell_in (memory node) part ≡ Some (Kids form kids) → (k : ℕ)
+    → relinked node part f k (memory k) ≡ rewritten node part (Kids form (f kids)) k (memory k)
 list_written memory node part f form kids here k = elim (cases_eq k node) [
-  | inl e ↦ subst (λ (j : ℕ). relinked node part f j (memory j) ≡ rewritten node part (Kids form (f kids)) j (memory j)) (sym e) (ap (λ o. cond (nat_eq node node) o (memory node)) (at_node (memory node) here))
+  | inl e ↦ subst (λ (j : ℕ). relinked node part f j (memory j) ≡ rewritten node part (Kids form (f kids)) j
+      (memory j)) (sym e) (ap (λ o. cond (nat_eq node node) o (memory node)) (at_node (memory node) here))
   | inr e ↦ ap (λ b. cond b (with_kids part f (memory k)) (memory k)) (ne_eqb k node e) ∙ sym (ap (λ b. cond b (with_kept part (Kids form (f kids)) (memory k)) (memory k)) (ne_eqb k node e))
 ]
   where
@@ -26,7 +29,8 @@ list_written memory node part f form kids here k = elim (cases_eq k node) [
     at_node (Some i) e = λ j. Some (record { class = i.class; up = i.up; index = i.index; cells = one_changed (with_numbers f) i.cells part (Kids form kids) (Kids form (f kids)) e refl j })
 
 -- a slot that is written: where there was room there still is, and it has what it is given
-pub space_kept : (cells : List Slot) (i : ℕ) (a b : Slot) → get_or cells i a ≡ a → (HasSpace (Some a) → HasSpace (Some b)) → (p : ℕ) → HasSpace (slice_get cells p) → HasSpace (slice_get (slice_set cells i b) p)
+pub space_kept : (cells : List Slot) (i : ℕ) (a b : Slot) → get_or cells i a ≡ a → (HasSpace (Some a)
+    → HasSpace (Some b)) → (p : ℕ) → HasSpace (slice_get cells p) → HasSpace (slice_get (slice_set cells i b) p)
 space_kept [] zero a b e f p h = h
 space_kept [] (suc i) a b e f p h = h
 space_kept (x ∷ xs) zero a b e f zero h = f (subst (λ (s : Slot). HasSpace (Some s)) e h)
@@ -80,7 +84,8 @@ module _ (s : Slab Entry) (node : ℕ) (a : Entry) (cells : Vec Slot Global) (th
   pub kids_were : (p : ℕ) → numbers_in (slice_get (map kept_view a.cells.items) p) ≡ kids_in (stored_of s node) p
   kids_were p = ap (λ o. kids_in (info_of o) p) there
 
-  pub relinked_later : (g : List ℕ → List ℕ) (part : ℕ) → map kept_view cells.items ≡ changed_at (with_numbers g) (map kept_view a.cells.items) part → (k : ℕ) → stored_of later k ≡ relinked node part g k (stored_of s k)
+  pub relinked_later : (g : List ℕ → List ℕ) (part : ℕ) → map kept_view cells.items ≡ changed_at (with_numbers g)
+      (map kept_view a.cells.items) part → (k : ℕ) → stored_of later k ≡ relinked node part g k (stored_of s k)
   relinked_later g part written k = elim (cases_eq k node) [
     | inl e ↦ subst (λ (j : ℕ). stored_of later j ≡ relinked node part g j (stored_of s j)) (sym e) at_node
     | inr e ↦ ap info_of (updates.others k e) ∙ sym (ap (λ b. cond b (with_kids part g (stored_of s k)) (stored_of s k)) (ne_eqb k node e))
@@ -93,7 +98,9 @@ module _ (s : Slab Entry) (node : ℕ) (a : Entry) (cells : Vec Slot Global) (th
 -- where no node is nothing is written
 pub relinked_nowhere : (s : Slab Entry) (node : ℕ) → None ≡ get s node → (g : List ℕ → List ℕ) (part k : ℕ) → stored_of s k ≡ relinked node part g k (stored_of s k)
 relinked_nowhere s node none g part k = elim (cases_eq k node) [
-  | inl e ↦ subst (λ (j : ℕ). stored_of s j ≡ relinked node part g j (stored_of s j)) (sym e) (subst (λ (o : Option Info). o ≡ cond (nat_eq node node) (with_kids part g o) o) (ap info_of none) (either (nat_eq node node)))
+  | inl e ↦ subst (λ (j : ℕ). stored_of s j ≡ relinked node part g j (stored_of s j)) (sym e)
+      (subst (λ (o : Option Info). o ≡ cond (nat_eq node node) (with_kids part g o) o) (ap info_of none)
+      (either (nat_eq node node)))
   | inr e ↦ sym (ap (λ b. cond b (with_kids part g (stored_of s k)) (stored_of s k)) (ne_eqb k node e))
 ]
   where

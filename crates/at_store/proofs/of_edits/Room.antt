@@ -47,7 +47,8 @@ same_room most l x others level count deep short =
 less : (a b c d : ℕ) → a + b ≡ c → c ≤ d → a ≤ d
 less a b c d e h = omega arith
 
-some_cell : (classes : Classes) (cs : Cells) (ps : List Component) (part : ℕ) (q : Component) → cells_conform classes cs ps ≡ true → slice_get ps part ≡ Some q → (c : Cell) × (slice_get (from_cells cs) part ≡ Some c)
+some_cell : (classes : Classes) (cs : Cells) (ps : List Component) (part : ℕ) (q : Component) → cells_conform classes cs
+    ps ≡ true → slice_get ps part ≡ Some q → (c : Cell) × (slice_get (from_cells cs) part ≡ Some c)
 some_cell classes no_cells [] part q e g = absurd cc
 some_cell classes no_cells (p ∷ ps) part q e g = absurd cc
 some_cell classes (cell c cs) [] part q e g = absurd cc
@@ -97,7 +98,9 @@ module _ (classes : Classes) (t : Tree) (ok : conforms classes t 0 ≡ true) (mo
       (c : Cell) × (shape : Shape) × (cell_at u part ≡ Some c) × (is_some (select shape) ≡ true) × (cell_conforms classes c shape ≡ true)
   held {A} select n part (branch k cells) has found = by_part (slice_get (parts classes k) part) refl
     where
-      by_part : (o : Option Component) → slice_get (parts classes k) part ≡ o → (c : Cell) × (shape : Shape) × (slice_get (from_cells cells) part ≡ Some c) × (is_some (select shape) ≡ true) × (cell_conforms classes c shape ≡ true)
+      by_part : (o : Option Component) → slice_get (parts classes k) part ≡ o
+          → (c : Cell) × (shape : Shape) × (slice_get (from_cells cells) part ≡ Some c)
+          × (is_some (select shape) ≡ true) × (cell_conforms classes c shape ≡ true)
       by_part None e =
           let f : is_some (option_and_then select (option_map (λ p. p.shape) (slice_get (parts classes k) part))) ≡ true =
           sym (ap (λ (o : Option Tree). is_some (option_and_then select (option_and_then (λ u. option_map (λ p. p.shape) (slice_get (parts classes (class_of u)) part)) o))) found) ∙ has in
@@ -109,7 +112,9 @@ module _ (classes : Classes) (t : Tree) (ok : conforms classes t 0 ≡ true) (mo
           (c, shape, here, selected select (shape_at classes t n part) true shape sees has, fits)
 
   pub children_are : (n : Node) (part : ℕ) (u : Tree) (c : Cell) → tree_at t n ≡ Some u → cell_at u part ≡ Some c → children_of t n part ≡ children c
-  children_are n part u c found here = ap (λ (o : Option Tree). elim o as (λ _. List Tree) [ None ↦ [] | Some x ↦ children_at x part ]) found ∙ ap (λ (o : Option Cell). elim o as (λ _. List Tree) [ None ↦ [] | Some c ↦ children c ]) here
+  children_are n part u c found here =
+      ap (λ (o : Option Tree). elim o as (λ _. List Tree) [ None ↦ [] | Some x ↦ children_at x part ]) found
+      ∙ ap (λ (o : Option Cell). elim o as (λ _. List Tree) [ None ↦ [] | Some c ↦ children c ]) here
 
   pub put_room : (n : Node) (part : ℕ) (x u : Tree) → tree_at t n ≡ Some u → IsAllowed classes t (Put n part x) →
       room most (nodes t) (suc (length n)) x ≡ in_bounds most (left_by t (Put n part x))
@@ -118,7 +123,9 @@ module _ (classes : Classes) (t : Tree) (ok : conforms classes t 0 ≡ true) (mo
       let zero_long : length (children_of t n part) ≡ 0 = eqb-true (length (children_of t n part)) 0 allowed.empty in
       let empty : c ≡ Empty = empty_cell classes c shape some conf (sym (ap length (children_are n part u c found here)) ∙ zero_long) in
       let there : cell_at u part ≡ Some Empty = here ∙ ap Some empty in
-      same_room most (left_by t (Put n part x)) x (nodes t) (suc (length n)) (count_put t x n part u found there) (depth_put max_depth t low x u n part Empty found there) (at_cell (λ c. Filled x) part t n u Empty short found there).0
+      same_room most (left_by t (Put n part x)) x (nodes t) (suc (length n)) (count_put t x n part u found there)
+      (depth_put max_depth t low x u n part Empty found there)
+      (at_cell (λ c. Filled x) part t n u Empty short found there).0
 
   pub insert_room : (n : Node) (part index : ℕ) (x u : Tree) → tree_at t n ≡ Some u →
       IsAllowed classes t (Insert n part index x) →
@@ -130,7 +137,9 @@ module _ (classes : Classes) (t : Tree) (ok : conforms classes t 0 ≡ true) (mo
       let count : length (children_of t n part) ≡ length (from_trees ts) = ap length (children_are n part u (Many ts) found there) in
       let bounded : index ≤ length (children_of t n part) = leb-true index (length (children_of t n part)) allowed.index in
       let bound : index ≤ length (from_trees ts) = omega arith in
-      same_room most (left_by t (Insert n part index x)) x (nodes t) (suc (length n)) (count_insert t x n part index u ts found there bound) (depth_insert max_depth t low x u n part index ts found there bound) (one_more t x part index n u ts short found there bound)
+      same_room most (left_by t (Insert n part index x)) x (nodes t) (suc (length n)) (count_insert t x n part index u
+      ts found there bound) (depth_insert max_depth t low x u n part index ts found there bound)
+      (one_more t x part index n u ts short found there bound)
 
   pub token_room : (n : Node) (part : ℕ) (v : trees.Token) (u : Tree) → tree_at t n ≡ Some u →
       IsAllowed classes t (Token n part v) → is_short v ≡ in_bounds most (left_by t (Token n part v))
@@ -155,13 +164,17 @@ module _ (classes : Classes) (t : Tree) (ok : conforms classes t 0 ≡ true) (mo
           let (u, there, child) = above_there t p place x (sym (ap (tree_at t) (parent_is n (p, place) e)) ∙ found) in
           let (c, here, in_it) = of_cell (cell_at u place.0) place.1 x child in
           let (shape, sees, conf) = shape_there classes t p place.0 u c ok there here in
-          let not_one : (y : Tree) → c ≡ One y → ⊥ = λ y one. plain_cell classes y shape (selected plain_class (shape_at classes t p place.0) false shape sees plain) (subst (λ (z : Cell). cell_conforms classes z shape ≡ true) one conf) in
+          let not_one : (y : Tree) → c ≡ One y → ⊥ = λ y one.
+          plain_cell classes y shape (selected plain_class (shape_at classes t p place.0) false shape sees plain)
+          (subst (λ (z : Cell). cell_conforms classes z shape ≡ true) one conf) in
           let f = count_drop t n p place u x c e found there here not_one in
           let g = few in
           let fewer : nodes (left_by t (Drop n)) ≤ most = less (nodes (left_by t (Drop n))) (nodes x) (nodes t) most f g in
           let count = true_le (nodes (left_by t (Drop n))) most fewer in
           let deep = true_le (depth (left_by t (Drop n))) max_depth (depth_drop max_depth t low n p place u c e there here not_one) in
-          let left : left_by t (Drop n) ≡ with_node (with_cell (without_child place.1) place.0) t p = ap (λ (o : Option (Node × (ℕ × ℕ))). elim o as (λ _. Tree) [ None ↦ t | Some p ↦ with_node (with_cell (without_child p.1.1) p.1.0) t p.0 ]) e in
+          let left : left_by t (Drop n) ≡ with_node (with_cell (without_child place.1) place.0) t p =
+          ap (λ (o : Option (Node × (ℕ × ℕ))). elim o as (λ _. Tree)
+          [ None ↦ t | Some p ↦ with_node (with_cell (without_child p.1.1) p.1.0) t p.0 ]) e in
           let cell_short = at_cell (without_child place.1) place.0 t p u c short there here in
           let tokens : tokens_short (left_by t (Drop n)) ≡ true = ap tokens_short left ∙ cell_short.0 ∙ one_less place.1 c cell_short.1 in
           λ i. sym count i && sym deep i && sym tokens i

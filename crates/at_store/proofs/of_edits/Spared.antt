@@ -52,7 +52,9 @@ up_spared a (Up n) h = h
 up_spared a (Idx n) h = refl
 
 -- a node that isn't among the children of a component doesn't stand there
-apart_from : (memory : ℕ → Option Info) (a part n : ℕ) → IsChild memory n → list_any (nat_eq n) (kids_in (memory a) part) ≡ false → (o : Option (ℕ × ℕ)) → up_in (memory n) ≡ o → at_parent (λ p. nat_eq a p.0 && nat_eq part p.1) o ≡ false
+apart_from : (memory : ℕ → Option Info) (a part n : ℕ) → IsChild memory n
+    → list_any (nat_eq n) (kids_in (memory a) part) ≡ false → (o : Option (ℕ × ℕ)) → up_in (memory n) ≡ o
+    → at_parent (λ p. nat_eq a p.0 && nat_eq part p.1) o ≡ false
 apart_from memory a part n child none None e = refl
 apart_from memory a part n child none (Some (b, other)) e = by_tests (nat_eq a b) refl (nat_eq part other) refl
   where
@@ -64,7 +66,8 @@ apart_from memory a part n child none (Some (b, other)) e = by_tests (nat_eq a b
         (subst (λ c. list_any (nat_eq n) (kids_in (memory c) other) ≡ true) (sym (eqb-true a b f)) (child b other e)) in
         let off : true ≡ false = sym there ∙ none in absurd cc
 
-pub index_spared : (memory : ℕ → Option Info) (a part : ℕ) (l : Location ℕ) → IsChild memory (node_of l) → is_index_among (kids_in (memory a) part) l ≡ false → is_index_of nat_eq (told memory) a part l ≡ false
+pub index_spared : (memory : ℕ → Option Info) (a part : ℕ) (l : Location ℕ) → IsChild memory (node_of l)
+    → is_index_among (kids_in (memory a) part) l ≡ false → is_index_of nat_eq (told memory) a part l ≡ false
 index_spared memory a part (Is n) child h = refl
 index_spared memory a part (Tok n p) child h = refl
 index_spared memory a part (Slot n p) child h = refl
@@ -125,14 +128,25 @@ child_there memory s stored k n p a part up = by_parent (parent_of n) refl
 
     by_parent : (o : Option (Node × (ℕ × ℕ))) → parent_of n ≡ o → list_any (nat_eq k) (kids_in (memory a) part) ≡ true
     by_parent None e =
-        absurd (not_there (a, part) (sym (ap (λ (o : Option (Node × (ℕ × ℕ))). (elim o as (λ _. Place) [ None ↦ top | Some q ↦ (Some ((elim (tree_at s q.0) as (λ _. ℕ) [ None ↦ 0 | Some v ↦ class_of v ]), q.1.0), q.1.1) ]).0) e) ∙ standing))
+        absurd (not_there (a, part)
+        (sym (ap (λ (o : Option (Node × (ℕ × ℕ))). (elim o as (λ _. Place) [
+          | None ↦ top
+          | Some q ↦ (
+            Some
+                ((elim (tree_at s q.0) as (λ _. ℕ) [ None ↦ 0 | Some v ↦ class_of v ]), q.1.0),
+            q.1.1,
+          )
+        ]).0) e) ∙ standing))
     by_parent (Some (q, way)) e =
         let (u, is, number) = number_found s k n p in
         let (v, there, child) = above_there s q way u (sym (ap (tree_at s) (parent_is n (q, way) e)) ∙ is) in
         let same : Some (class_of v, way.0) ≡ Some (a, part) = sym (ap (λ x. x.0) (place_below s v n q way e there)) ∙ standing in
         let pair : (class_of v, way.0) ≡ (a, part) = cc in
-        let kids : kids_in (memory (class_of v)) way.0 ≡ map class_of (children_at v way.0) = ap (λ o. kids_in o way.0) (stored q v there).is ∙ ap numbers_in (kept_at (from_cells (cells_of v)) way.0) ∙ same_kids (cell_at v way.0) in
-        let at' : slice_get (kids_in (memory (class_of v)) way.0) way.1 ≡ Some k = ap (λ ns. slice_get ns way.1) kids ∙ slice_get-map class_of (children_at v way.0) way.1 ∙ ap (option_map class_of) child ∙ ap Some number in
+        let kids : kids_in (memory (class_of v)) way.0 ≡ map class_of (children_at v way.0) =
+        ap (λ o. kids_in o way.0) (stored q v there).is ∙ ap numbers_in (kept_at (from_cells (cells_of v)) way.0)
+        ∙ same_kids (cell_at v way.0) in
+        let at' : slice_get (kids_in (memory (class_of v)) way.0) way.1 ≡ Some k = ap (λ ns. slice_get ns way.1) kids
+        ∙ slice_get-map class_of (children_at v way.0) way.1 ∙ ap (option_map class_of) child ∙ ap Some number in
         subst (λ (x : ℕ × ℕ). list_any (nat_eq k) (kids_in (memory x.0) x.1) ≡ true) pair (found_in k (kids_in (memory (class_of v)) way.0) way.1 at')
 
 -- a listed number is found
@@ -166,13 +180,15 @@ module _ (memory : ℕ → Option Info) (leaves : ℕ → Bool) (nodes : List �
   pub token_spared_by : (node part : ℕ) (c : Changing) → c.node ≡ node → named_by false (names_around (Some c) l) false ≡ false → Touches (change.Token node part) ≡ false
   token_spared_by node part c at' h = let parts = apart false (names_around (Some c) l) false h in token_spared node part l (at_node node c at' parts.2)
 
-  pub drop_spared : (node : ℕ) (source : Option Changing) → NamesAround memory node source → IsChild memory (node_of l) → named_by false false (names_around source l) ≡ false → Touches (change.Drop node) ≡ false
+  pub drop_spared : (node : ℕ) (source : Option Changing) → NamesAround memory node source → IsChild memory (node_of l)
+      → named_by false false (names_around source l) ≡ false → Touches (change.Drop node) ≡ false
   drop_spared node source names child h =
       let parts = apart false false (names_around source l) h in
       let spared = names l child parts.3 in
       both_false _ _ (both_false _ _ parts.0 spared.0) spared.1
 
-  pub insert_spared : (node part : ℕ) (c : Changing) → NamesComponent memory node part c → IsChild memory (node_of l) → named_by false (names_around (Some c) l) false ≡ false → Touches (change.Insert node part) ≡ false
+  pub insert_spared : (node part : ℕ) (c : Changing) → NamesComponent memory node part c → IsChild memory (node_of l)
+      → named_by false (names_around (Some c) l) false ≡ false → Touches (change.Insert node part) ≡ false
   insert_spared node part c names child h =
       let parts = apart false (names_around (Some c) l) false h in
       let spared = names l child parts.2 in

@@ -64,7 +64,8 @@ module _ (g : Cell → Cell) (part : ℕ) (past : Way → Option Way) where
 
   pub moved_itself : (p : Node) → moved_under p past p ≡ Some p
   moved_itself [] = refl
-  moved_itself (a ∷ p) = ap (λ (b : Bool). if b then option_map (λ (us : Node). a ∷ us) (moved_under p past p) else Some (a ∷ p)) (step_eq-refl a) ∙ ap (option_map (λ (us : Node). a ∷ us)) (moved_itself p)
+  moved_itself (a ∷ p) = ap (λ (b : Bool). if b then option_map (λ (us : Node). a ∷ us) (moved_under p past p) else Some
+      (a ∷ p)) (step_eq-refl a) ∙ ap (option_map (λ (us : Node). a ∷ us)) (moved_itself p)
 
 -- the index of a node among those beside it, this one for the root
 abbrev pub index_at : ℕ → Node → ℕ
@@ -81,7 +82,8 @@ index_placed place s n = by_parent (parent_of n)
     by_parent (Some p) = refl
 
 -- of a node that is stored its own index is kept
-pub own_index : (memory : ℕ → Option Info) (place : Place) (s : Tree) → Stored memory place s → (n : Node) (u : Tree) → tree_at s n ≡ Some u → with_index (index_at place.1 n) (memory (class_of u)) ≡ memory (class_of u)
+pub own_index : (memory : ℕ → Option Info) (place : Place) (s : Tree) → Stored memory place s → (n : Node) (u : Tree)
+    → tree_at s n ≡ Some u → with_index (index_at place.1 n) (memory (class_of u)) ≡ memory (class_of u)
 own_index memory place s h n u is =
     let k = h n u is in
     ap (with_index (index_at place.1 n)) k.is ∙ (λ i. Some (record { class = k.class; up = (place_at place s n).0; index = sym (index_placed place s n) i; cells = kept_of u })) ∙ sym k.is
@@ -93,14 +95,17 @@ same_node a b = by_test (node_eq a b) refl
     by_test true e = inl (node_eq-sound a b e)
     by_test false e = inr (λ f. let h : node_eq a b ≡ true = subst (λ z. node_eq a z ≡ true) f (node_eq-refl a) in let m : true ≡ false = sym h ∙ e in cc)
 
-module _ (g : Cell → Cell) (part : ℕ) (past : Way → Option Way) (IsNew : Tree → ℕ → Type 0) (keeps : KeepsParts past part) (t : Tree) (p : Node) (apart : IsApart t) (fits : FitsAt g part past t p) (origins : OriginsAt g part past IsNew t p) (news : AreNew g part past IsNew keeps t) where
+module _ (g : Cell → Cell) (part : ℕ) (past : Way → Option Way) (IsNew : Tree → ℕ → Type 0)
+    (keeps : KeepsParts past part) (t : Tree) (p : Node) (apart : IsApart t) (fits : FitsAt g part past t p)
+    (origins : OriginsAt g part past IsNew t p) (news : AreNew g part past IsNew keeps t) where
   abbrev after : Tree
   after = with_node (with_cell g part) t p
 
   number_same : (n m : Node) (v : Tree) → moved_under p past n ≡ Some m → tree_at t n ≡ Some v → number_at after m ≡ number_at t n
   number_same n m v moves was =
       let there : tree_at after m ≡ Some (local g part past p n v) = tree_moved g part past keeps p n m t fits moves ∙ ap (option_map (local g part past p n)) was in
-      ap (λ o. elim o [ None ↦ 0 | Some u ↦ class_of u ]) there ∙ same_number g part past IsNew keeps t p apart fits origins news n m v _ moves was there ∙ sym (ap (λ o. elim o [ None ↦ 0 | Some u ↦ class_of u ]) was)
+      ap (λ o. elim o [ None ↦ 0 | Some u ↦ class_of u ]) there ∙ same_number g part past IsNew keeps t p apart fits
+      origins news n m v _ moves was there ∙ sym (ap (λ o. elim o [ None ↦ 0 | Some u ↦ class_of u ]) was)
 
   -- a node that is moved has the same parent, by its number, and stands at the index to which it is moved
   pub place_moved : (place : Place) (n m : Node) (v : Tree) → moved_under p past n ≡ Some m → tree_at t n ≡ Some v → place_at place after m ≡ ((place_at place t n).0, index_at place.1 m)
@@ -157,7 +162,8 @@ module _ (g : Cell → Cell) (part : ℕ) (past : Way → Option Way) (IsNew : T
             (λ i. (Some (number_there i, part), j)) ∙
             sym (ap (λ k. shown (Some (class_of u, part), j) x (parent_of k)) none)
         by_end (inr (k, s, is)) =
-            ap (λ z. shown top after (parent_of (p ++ (part, j) ∷ z))) is ∙ ap (λ z. shown top after (parent_of z)) (longer p ((part, j) ∷ k) s) ∙ ap (shown top after) (parent_of-snoc (p ++ (part, j) ∷ k) s) ∙
+            ap (λ z. shown top after (parent_of (p ++ (part, j) ∷ z))) is ∙ ap (λ z. shown top after (parent_of z))
+            (longer p ((part, j) ∷ k) s) ∙ ap (shown top after) (parent_of-snoc (p ++ (part, j) ∷ k) s) ∙
             (λ i. (Some (ap number (new_there x j k new) i, s.0), s.1)) ∙ sym (ap (shown (Some (class_of u, part), j) x) (ap parent_of is ∙ parent_of-snoc k s))
 
     -- the changed tree is stored
@@ -177,7 +183,11 @@ module _ (g : Cell → Cell) (part : ℕ) (past : Way → Option Way) (IsNew : T
             let place : place_at top t p ≡ place_at top after m =
             (λ i. ((place_at top t (sym same i)).0, index_placed top t p i)) ∙ (λ i. ((place_at top t n).0, index_at 0 (sym m_p i))) ∙ sym (place_moved top n m v moves was) in
             let cells : changed_at (λ old. kept (g c)) (kept_of u) part ≡ kept_of w = sym (ap kept_of w_u ∙ kept_with g part u c here) in
-            record { class = s.class; is = ap later number ∙ changed ∙ ap (with_kept part (kept (g c))) s.is ∙ (λ i. Some (record { class = s.class; up = (place i).0; index = (place i).1; cells = cells i })) }
+            record {
+              class = s.class;
+              is = ap later number ∙ changed ∙ ap (with_kept part (kept (g c))) s.is
+                  ∙ (λ i. Some (record { class = s.class; up = (place i).0; index = (place i).1; cells = cells i }));
+            }
         old_there n v moves was (inr other) =
             let there : tree_at after m ≡ Some (local g part past p n v) = tree_moved g part past keeps p n m t fits moves ∙ ap (option_map (local g part past p n)) was in
             let h : Some w ≡ Some (local g part past p n v) = sym is ∙ there in
@@ -186,7 +196,12 @@ module _ (g : Cell → Cell) (part : ℕ) (past : Way → Option Way) (IsNew : T
             let number : class_of w ≡ class_of v = same_number g part past IsNew keeps t p apart fits origins news n m v w moves was is in
             let place : ((place_at top t n).0, index_at 0 m) ≡ place_at top after m = sym (place_moved top n m v moves was) in
             let cells : kept_of v ≡ kept_of w = sym (ap kept_of w_v ∙ kept_local g part past p n v other) in
-            record { class = s.class; is = ap later number ∙ elsewhere n m v was moves other ∙ ap (with_index (index_at 0 m)) s.is ∙ (λ i. Some (record { class = s.class; up = (place i).0; index = (place i).1; cells = cells i })) }
+            record {
+              class = s.class;
+              is = ap later number ∙ elsewhere n m v was moves other
+                  ∙ ap (with_index (index_at 0 m)) s.is
+                  ∙ (λ i. Some (record { class = s.class; up = (place i).0; index = (place i).1; cells = cells i }));
+            }
 
         by_origin : From g part past IsNew t p m w → IsKept later (class_of w) (place_at top after m) (kept_of w)
         by_origin (from.old n v moves was) = old_there n v moves was (same_node n p)

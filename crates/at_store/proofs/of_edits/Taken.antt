@@ -58,7 +58,8 @@ none_relinked n part f k = by_test (nat_eq k n)
     by_test true = refl
     by_test false = refl
 
-by_gone : (ns : List ℕ) (i n part : ℕ) (f : List ℕ → List ℕ) (k : ℕ) (o q : Option Info) (b : Bool) → relinked n part f k o ≡ q → renumbered ns i k (relinked n part f k (cond b None o)) ≡ cond b None (renumbered ns i k q)
+by_gone : (ns : List ℕ) (i n part : ℕ) (f : List ℕ → List ℕ) (k : ℕ) (o q : Option Info) (b : Bool) → relinked n part f
+    k o ≡ q → renumbered ns i k (relinked n part f k (cond b None o)) ≡ cond b None (renumbered ns i k q)
 by_gone ns i n part f k o q true e = ap (renumbered ns i k) (none_relinked n part f k) ∙ none_renumbered ns i k
 by_gone ns i n part f k o q false e = ap (renumbered ns i k) e
 
@@ -80,7 +81,8 @@ drop_committed classes old mid new e node p takes fewer same_root waiting leavin
     let h : Keeps memory s None = subst (λ (y : Edit). Keeps memory s (brought y)) d.is p.keeps in
     let (freed, free, alike) = takes (stands_once memory s h.stored h.apart d.place x node d.there d.number) in
     let later : ℕ → Option Info = taken_out (up_in (memory node)) (index_in (memory node)) freed in
-    let frees : (k : ℕ) → freed k ≡ cond (is_some (path_in k x)) None (memory k) = freed_below memory freed top s d.place x h.stored h.apart d.there (subst (λ (j : ℕ). IsFreed j memory freed) (sym d.number) free) in
+    let frees : (k : ℕ) → freed k ≡ cond (is_some (path_in k x)) None (memory k) = freed_below memory freed top s
+    d.place x h.stored h.apart d.there (subst (λ (j : ℕ). IsFreed j memory freed) (sym d.number) free) in
     let stands = place_below s u d.place d.above d.way d.under d.found in
     let own = (h.stored d.place x d.there).is in
     let up_is : up_in (memory node) ≡ Some (pu, part) = ap (λ j. up_in (memory j)) (sym d.number) ∙ ap up_in own ∙ ap (λ (q : Place). q.0) stands in
@@ -93,7 +95,14 @@ drop_committed classes old mid new e node p takes fewer same_root waiting leavin
     ap (λ o. kids_in (with_kids part f o) part) above.is ∙ ap numbers_in (changed_here (with_numbers f) (kept_of u) part ∙ ap (option_map (with_numbers f)) cell_is) ∙ cell_cut i c in
     let c' : Kept = with_numbers (λ ns. left) (kept c) in
     let at_parent : with_kids part f (memory pu) ≡ with_kept part c' (memory pu) =
-    ap (with_kids part f) above.is ∙ (λ j. Some (record { class = above.class; up = (place_at top s d.above).0; index = (place_at top s d.above).1; cells = one_changed (with_numbers f) (kept_of u) part (kept c) c' cell_is (cell_same i c) j })) ∙ sym (ap (with_kept part c') above.is) in
+    ap (with_kids part f) above.is
+    ∙ (λ j. Some (record {
+      class = above.class;
+      up = (place_at top s d.above).0;
+      index = (place_at top s d.above).1;
+      cells = one_changed (with_numbers f) (kept_of u) part (kept c) c' cell_is (cell_same i c) j;
+    }))
+    ∙ sym (ap (with_kept part c') above.is) in
     let same : (k : ℕ) → relinked pu part f k (memory k) ≡ rewritten pu part c' k (memory k) = λ k. elim (cases_eq k pu) [
       | inl e ↦ subst (λ (j : ℕ). relinked pu part f j (memory j) ≡ rewritten pu part c' j (memory j)) (sym e) (ap (λ o. cond (nat_eq pu pu) o (memory pu)) at_parent)
       | inr e ↦ ap (λ b. cond b (with_kids part f (memory k)) (memory k)) (ne_eqb k pu e) ∙ sym (ap (λ b. cond b (with_kept part c' (memory k)) (memory k)) (ne_eqb k pu e))
@@ -107,7 +116,13 @@ drop_committed classes old mid new e node p takes fewer same_root waiting leavin
     let same : (k : ℕ) → memory_of new.slab k ≡ later k = settled (stored_of new.slab) later (left_by s p.numbered) alike keeps in
     let now : Keeps (memory_of new.slab) (left_by s p.numbered) None = subst (λ (m : ℕ → Option Info). Keeps m (left_by s p.numbered) None) (λ i k. sym (same k) i) keeps in
     committed classes old mid new e (DoesDrop node) p now
-    (ap (λ (y : Edit). class_of (left_by s y)) d.is ∙ ap (λ (o : Option (Node × (ℕ × ℕ))). class_of (elim o [ None ↦ s | Some p ↦ with_node (with_cell (without_child p.1.1) p.1.0) s p.0 ])) d.under ∙ root_stays (without_child i) part s d.above ∙ root_was classes old mid new e (DoesDrop node) p ∙ sym same_root)
-    (classes_stay memory (memory_of new.slab) (λ k. is_some (path_in k x)) (λ k o. renumbered (drop i left) i k (rewritten pu part c' k o)) (λ k o. class_renumbered (drop i left) i k (rewritten pu part c' k o) ∙ class_rewritten pu part c' k o) (λ k. same k ∙ written k) top (left_by s p.numbered) now.stored)
+    (ap (λ (y : Edit). class_of (left_by s y)) d.is ∙ ap (λ (o : Option (Node × (ℕ × ℕ))). class_of
+    (elim o [ None ↦ s | Some p ↦ with_node (with_cell (without_child p.1.1) p.1.0) s p.0 ])) d.under ∙ root_stays
+    (without_child i) part s d.above ∙ root_was classes old mid new e (DoesDrop node) p ∙ sym same_root)
+    (classes_stay memory (memory_of new.slab) (λ k. is_some (path_in k x)) (λ k o. renumbered (drop i left) i k
+    (rewritten pu part c' k o)) (λ k o. class_renumbered (drop i left) i k (rewritten pu part c' k o)
+    ∙ class_rewritten pu part c' k o) (λ k. same k ∙ written k) top (left_by s p.numbered) now.stored)
     waiting leaving limit
-    (gone_unmarked mid.slab new.slab x fewer (λ k. p.marks k ∙ ap (λ y. stands_in k (gone s y)) d.is ∙ ap (stands_in k) d.there) (λ k here. same k ∙ written k ∙ ap (λ b. cond b None (renumbered (drop i left) i k (rewritten pu part c' k (memory k)))) here))
+    (gone_unmarked mid.slab new.slab x fewer
+    (λ k. p.marks k ∙ ap (λ y. stands_in k (gone s y)) d.is ∙ ap (stands_in k) d.there) (λ k here. same k
+    ∙ written k ∙ ap (λ b. cond b None (renumbered (drop i left) i k (rewritten pu part c' k (memory k)))) here))

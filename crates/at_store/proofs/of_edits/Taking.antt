@@ -47,7 +47,9 @@ no_one f Empty us e y one = absurd cc
 no_one f (Filled t) us e y one = absurd cc
 no_one f (Holds v) us e y one = absurd cc
 
-pub move_does : (classes : Classes) (f : ℕ → ℕ) (s : Tree) (ok : conforms classes (relabel f s) 0 ≡ true) (apart : IsApart s) (n m : Node) (part index : ℕ) (u : Tree) → IsAccepted classes (relabel f s) (Move n m part index) u → Takes s n m part index
+pub move_does : (classes : Classes) (f : ℕ → ℕ) (s : Tree) (ok : conforms classes (relabel f s) 0 ≡ true)
+    (apart : IsApart s) (n m : Node) (part index : ℕ) (u : Tree)
+    → IsAccepted classes (relabel f s) (Move n m part index) u → Takes s n m part index
 move_does classes f s ok apart n m part index u made =
     let mv = move classes f s ok apart n m part index u made in
     let place = mv.place in

@@ -27,7 +27,8 @@ place_below place s x w n child = by_end (snoc n)
         sym (ap (shown (Some (class_of s, w.0), w.1) x) (ap parent_of e ∙ parent_of-snoc k r))
 
 -- a child is stored at its place
-pub child_stored : (memory : ℕ → Option Info) (place : Place) (s : Tree) (w : Way) (x : Tree) → Stored memory place s → slice_get (children_at s w.0) w.1 ≡ Some x → Stored memory (Some (class_of s, w.0), w.1) x
+pub child_stored : (memory : ℕ → Option Info) (place : Place) (s : Tree) (w : Way) (x : Tree) → Stored memory place s
+    → slice_get (children_at s w.0) w.1 ≡ Some x → Stored memory (Some (class_of s, w.0), w.1) x
 child_stored memory place s w x h child n u is =
     let k = h (w ∷ n) u (ap (option_and_then (λ v. tree_at v n)) child ∙ is) in
     let below = place_below place s x w n child in

@@ -46,7 +46,8 @@ module _ (memory : ℕ → Option Info) where
 
   pub level_above : (levels k : ℕ) → 0 < levels → shown_below memory levels k ≡ branch (class_in memory k) (to_cells (map (grown_cell (shown_below memory (levels - 1))) (cells_in (memory k))))
   level_above zero k h = absurd (omega arith)
-  level_above (suc levels) k h = let e : levels ≡ suc levels - 1 = omega arith in a_level levels k ∙ ap (λ n. branch (class_in memory k) (to_cells (map (grown_cell (shown_below memory n)) (cells_in (memory k))))) e
+  level_above (suc levels) k h = let e : levels ≡ suc levels - 1 = omega arith in a_level levels k ∙
+      ap (λ n. branch (class_in memory k) (to_cells (map (grown_cell (shown_below memory n)) (cells_in (memory k))))) e
 
 pub filled_first : (deeper : ℕ → Tree) (ks : List ℕ) (k : ℕ) → slice_get ks 0 ≡ Some k → grown_cell deeper (Kids Optional ks) ≡ Filled (deeper k)
 filled_first deeper [] k e = absurd cc

@@ -108,8 +108,12 @@ module _ (a b c d : ℕ → Option Info) (place : Place) (k : ℕ) (cells : Cell
   pub planted_childless : children more ≡ [] → ((j : ℕ) → c j ≡ b j) → ((f : ℕ → ℕ) → relabel_cell f more ≡ more) → IsPlanted a d place (added more t) (added more (branch k cells))
   planted_childless none same keeps =
       let no_more : (r : Way) (y : Tree) → IsIn r y → ⊥ = λ r y e. (let f : None ≡ Some y = sym (ap (λ xs. slice_get xs r.1) none) ∙ e.1 in cc) in
-      let old = classes_old a b c d place k cells next t h IsIn (λ r q x y e f. absurd (no_more r x e)) (λ r y e. absurd (no_more r y e)) (λ r y e. absurd (no_more r y e)) (λ r y e. absurd (no_more r y e)) (λ i e. same i) kids_old kids_more kids_from at_root at_rest in
-      planted_more a b c d place k cells next t h IsIn (λ r q x y e f. absurd (no_more r x e)) (λ r y e. absurd (no_more r y e)) (λ r y e. absurd (no_more r y e)) (λ r y e. absurd (no_more r y e)) (λ i e. same i) kids_old kids_more kids_from at_root at_rest
+      let old = classes_old a b c d place k cells next t h IsIn (λ r q x y e f. absurd (no_more r x e))
+      (λ r y e. absurd (no_more r y e)) (λ r y e. absurd (no_more r y e)) (λ r y e. absurd (no_more r y e))
+      (λ i e. same i) kids_old kids_more kids_from at_root at_rest in
+      planted_more a b c d place k cells next t h IsIn (λ r q x y e f. absurd (no_more r x e))
+      (λ r y e. absurd (no_more r y e)) (λ r y e. absurd (no_more r y e)) (λ r y e. absurd (no_more r y e))
+      (λ i e. same i) kids_old kids_more kids_from at_root at_rest
       (added more t) (relabelled-added (class_in d) more (branch k cells) ∙ (λ i. added (keeps (class_in d) i) (old i)))
 
   -- this child stands in it
@@ -132,12 +136,16 @@ module _ (a b c d : ℕ → Option Info) (place : Place) (k : ℕ) (cells : Cell
     rest : (i : ℕ) → ((r : Way) (y : Tree) → IsIn r y → is_some (path_in i y) ≡ false) → c i ≡ b i
     rest i e = p.rest i (e (part, 0) w (refl, ap (λ xs. slice_get xs 0) one_child))
 
-    pub planted_child : (cell_of : Tree → Cell) → more ≡ cell_of w → ((f : ℕ → ℕ) → relabel_cell f (cell_of w) ≡ cell_of (relabel f w)) → IsPlanted a d place (added (cell_of u) t) (added more (branch k cells))
+    pub planted_child : (cell_of : Tree → Cell) → more ≡ cell_of w → ((f : ℕ → ℕ) → relabel_cell f (cell_of w)
+        ≡ cell_of (relabel f w)) → IsPlanted a d place (added (cell_of u) t) (added more (branch k cells))
     planted_child cell_of is same =
         let old = classes_old a b c d place k cells next t h IsIn one stored apart fresh rest kids_old kids_more kids_from at_root at_rest in
-        let new = classes_more a b c d place k cells next t h IsIn one stored apart fresh rest kids_old kids_more kids_from at_root at_rest (part, 0) w (refl, ap (λ xs. slice_get xs 0) one_child) ∙ p.classes in
+        let new = classes_more a b c d place k cells next t h IsIn one stored apart fresh rest kids_old kids_more
+        kids_from at_root at_rest (part, 0) w (refl, ap (λ xs. slice_get xs 0) one_child) ∙ p.classes in
         let filled : relabel_cell (class_in d) more ≡ cell_of u = ap (relabel_cell (class_in d)) is ∙ same (class_in d) ∙ ap cell_of new in
-        planted_more a b c d place k cells next t h IsIn one stored apart fresh rest kids_old kids_more kids_from at_root at_rest (added (cell_of u) t) (relabelled-added (class_in d) more (branch k cells) ∙ (λ i. added (filled i) (old i)))
+        planted_more a b c d place k cells next t h IsIn one stored apart fresh rest kids_old kids_more kids_from
+        at_root at_rest (added (cell_of u) t)
+        (relabelled-added (class_in d) more (branch k cells) ∙ (λ i. added (filled i) (old i)))
 
 change_kept : (f : Kept → Kept) (x : Kept) (xs : List Kept) (i : ℕ) → slice_get xs i ≡ Some x → changed_at (λ old. f x) xs i ≡ changed_at f xs i
 change_kept f x [] i e = refl
@@ -150,7 +158,8 @@ kept_at (d ∷ cs) zero c e = let same : d ≡ c = cc in ap (λ z. Some (kept z)
 kept_at (d ∷ cs) (suc part) c e = kept_at cs part c e
 
 -- one more element at the end of a list
-module _ (a b c d : ℕ → Option Info) (place : Place) (k : ℕ) (cells : Cells) (t : Tree) (h : IsPlanted a b place t (branch k cells)) (list : ℕ) (ts : Trees) (here : cell_at (branch k cells) list ≡ Some (Many ts))
+module _ (a b c d : ℕ → Option Info) (place : Place) (k : ℕ) (cells : Cells) (t : Tree) (h : IsPlanted a b place t
+    (branch k cells)) (list : ℕ) (ts : Trees) (here : cell_at (branch k cells) list ≡ Some (Many ts))
     (w u : Tree) (p : IsPlanted b c (Some (k, list), length (from_trees ts)) u w)
     (pushed : (j : ℕ) → d j ≡ cond (nat_eq j k) (with_kid list (class_of w) (c j)) (c j)) where
   abbrev spot : ℕ
@@ -166,7 +175,9 @@ module _ (a b c d : ℕ → Option Info) (place : Place) (k : ℕ) (cells : Cell
   IsLast r y = (r ≡ (list, spot)) × (y ≡ w)
 
   list_now : children_at (branch k with_element) list ≡ from_trees ts ++ w ∷ []
-  list_now = ap kids (cell-same longer list (branch k cells) ∙ ap (λ o. elim o [ None ↦ None | Some x ↦ Some (longer x) ]) here) ∙ from_to_trees (insert (from_trees ts) spot w) ∙ insert_last (from_trees ts) w
+  list_now = ap kids (cell-same longer list (branch k cells)
+      ∙ ap (λ o. elim o [ None ↦ None | Some x ↦ Some (longer x) ]) here)
+      ∙ from_to_trees (insert (from_trees ts) spot w) ∙ insert_last (from_trees ts) w
 
   list_then : children_at (branch k cells) list ≡ from_trees ts
   list_then = ap kids here
@@ -178,7 +189,8 @@ module _ (a b c d : ℕ → Option Info) (place : Place) (k : ℕ) (cells : Cell
       (λ other. ap (λ o. slice_get (kids o) r.1) (cell-other longer list r.0 (branch k cells) other) ∙ e)
 
   element_more : (r : Way) (y : Tree) → IsLast r y → slice_get (children_at (branch k with_element) r.0) r.1 ≡ Some y
-  element_more r y (way, same) = ap (λ (z : Way). slice_get (children_at (branch k with_element) z.0) z.1) way ∙ ap (λ xs. slice_get xs spot) list_now ∙ snoc_last (from_trees ts) w ∙ ap Some (sym same)
+  element_more r y (way, same) = ap (λ (z : Way). slice_get (children_at (branch k with_element) z.0) z.1) way
+      ∙ ap (λ xs. slice_get xs spot) list_now ∙ snoc_last (from_trees ts) w ∙ ap Some (sym same)
 
   element_from : (r : Way) (y : Tree) → slice_get (children_at (branch k with_element) r.0) r.1 ≡ Some y → (slice_get (children_at (branch k cells) r.0) r.1 ≡ Some y) ⊎ IsLast r y
   element_from r y e = by_nat list r.0 _
@@ -194,7 +206,9 @@ module _ (a b c d : ℕ → Option Info) (place : Place) (k : ℕ) (cells : Cell
   kept_longer : map kept (from_cells with_element) ≡ changed_at (with_numbers (λ ns. ns ++ class_of w ∷ [])) (map kept (from_cells cells)) list
   kept_longer =
       kept_with longer list (branch k cells) (Many ts) here ∙
-      ap (λ z. changed_at (λ old. z) (map kept (from_cells cells)) list) (kept_insert w spot ts ∙ ap (Kids List_of) (ap (λ n. insert (map class_of (from_trees ts)) n (class_of w)) (sym (length_mapped class_of (from_trees ts))) ∙ insert_last (map class_of (from_trees ts)) (class_of w))) ∙
+      ap (λ z. changed_at (λ old. z) (map kept (from_cells cells)) list)
+      (kept_insert w spot ts ∙ ap (Kids List_of) (ap (λ n. insert (map class_of (from_trees ts)) n (class_of w))
+      (sym (length_mapped class_of (from_trees ts))) ∙ insert_last (map class_of (from_trees ts)) (class_of w))) ∙
       change_kept (with_numbers (λ ns. ns ++ class_of w ∷ [])) (kept (Many ts)) (map kept (from_cells cells)) list (kept_at (from_cells cells) list (Many ts) here)
 
   element_root : (i : Info) → c k ≡ Some i → i.cells ≡ map kept (from_cells cells) → d k ≡ Some (record i { cells = map kept (from_cells with_element) })
@@ -223,9 +237,13 @@ module _ (a b c d : ℕ → Option Info) (place : Place) (k : ℕ) (cells : Cell
   pub planted_element : IsPlanted a d place (with_cell (with_one_more u spot) list t) (with_cell (with_one_more w spot) list (branch k cells))
   planted_element =
       let old = classes_old a b c d place k cells with_element t h IsLast one_last last_stored last_apart last_fresh last_rest element_old element_more element_from element_root element_rest in
-      let new = classes_more a b c d place k cells with_element t h IsLast one_last last_stored last_apart last_fresh last_rest element_old element_more element_from element_root element_rest (list, spot) w (refl, refl) ∙ p.classes in
-      planted_more a b c d place k cells with_element t h IsLast one_last last_stored last_apart last_fresh last_rest element_old element_more element_from element_root element_rest (with_cell (with_one_more u spot) list t)
-      (relabelled-cell (class_in d) longer (with_one_more (relabel (class_in d) w) spot) (relabelled-one_more (class_in d) w spot) list (branch k cells) ∙ (λ i. with_cell (with_one_more (new i) spot) list (old i)))
+      let new = classes_more a b c d place k cells with_element t h IsLast one_last last_stored last_apart last_fresh
+      last_rest element_old element_more element_from element_root element_rest (list, spot) w (refl, refl)
+      ∙ p.classes in
+      planted_more a b c d place k cells with_element t h IsLast one_last last_stored last_apart last_fresh last_rest
+      element_old element_more element_from element_root element_rest (with_cell (with_one_more u spot) list t)
+      (relabelled-cell (class_in d) longer (with_one_more (relabel (class_in d) w) spot) (relabelled-one_more
+      (class_in d) w spot) list (branch k cells) ∙ (λ i. with_cell (with_one_more (new i) spot) list (old i)))
 
 -- the last component of a node, where it is a list
 last_there : (c : Cell) (k : ℕ) (cells : Cells) → cell_at (added c (branch k cells)) (length (from_cells cells)) ≡ Some c
@@ -240,19 +258,24 @@ last_changed g c (branch k cells) =
     ap (λ cs. branch k (to_cells (changed_at g cs (length (from_cells cells))))) (from_to_cells (from_cells cells ++ c ∷ [])) ∙ ap (λ cs. branch k (to_cells cs)) (changed_last g (from_cells cells) c)
 
 one_longer : (us : List Tree) (u : Tree) (n : ℕ) → n ≡ length us → with_one_more u n (Many (to_trees us)) ≡ Many (to_trees (us ++ u ∷ []))
-one_longer us u n e = ap (λ m. Many (to_trees (insert (from_trees (to_trees us)) m u))) e ∙ ap (λ xs. Many (to_trees (insert xs (length us) u))) (from_to_trees us) ∙ ap (λ xs. Many (to_trees xs)) (insert_last us u)
+one_longer us u n e = ap (λ m. Many (to_trees (insert (from_trees (to_trees us)) m u))) e ∙ ap (λ xs.
+    Many (to_trees (insert xs (length us) u))) (from_to_trees us) ∙ ap (λ xs. Many (to_trees xs)) (insert_last us u)
 
-pub planted_next : (a b c d : ℕ → Option Info) (place : Place) (k : ℕ) (cells : Cells) (t : Tree) (us ws : List Tree) → length us ≡ length ws → length (from_cells (cells_of t)) ≡ length (from_cells cells) →
+pub planted_next : (a b c d : ℕ → Option Info) (place : Place) (k : ℕ) (cells : Cells) (t : Tree) (us ws : List Tree)
+    → length us ≡ length ws → length (from_cells (cells_of t)) ≡ length (from_cells cells) →
     IsPlanted a b place (added (Many (to_trees us)) t) (added (Many (to_trees ws)) (branch k cells)) → (u w : Tree) → IsPlanted b c (Some (k, length (from_cells cells)), length ws) u w →
     ((j : ℕ) → d j ≡ cond (nat_eq j k) (with_kid (length (from_cells cells)) (class_of w) (c j)) (c j)) →
     IsPlanted a d place (added (Many (to_trees (us ++ u ∷ []))) t) (added (Many (to_trees (ws ++ w ∷ []))) (branch k cells))
 planted_next a b c d place k cells t us ws same parts h u w p pushed =
     let list : ℕ = length (from_cells cells) in
     let count : length (from_trees (to_trees ws)) ≡ length ws = ap length (from_to_trees ws) in
-    let more = planted_element a b c d place k (to_cells (from_cells cells ++ Many (to_trees ws) ∷ [])) (added (Many (to_trees us)) t) h (length (from_cells cells)) (to_trees ws) (last_there (Many (to_trees ws)) k cells) w u
+    let more = planted_element a b c d place k (to_cells (from_cells cells ++ Many (to_trees ws) ∷ [])) (added (Many
+    (to_trees us)) t) h (length (from_cells cells)) (to_trees ws) (last_there (Many (to_trees ws)) k cells) w u
     (subst (λ n. IsPlanted b c (Some (k, length (from_cells cells)), n) u w) (sym count) p) pushed in
-    let numbers = last_changed (with_one_more w (length (from_trees (to_trees ws)))) (Many (to_trees ws)) (branch k cells) ∙ ap (λ z. added z (branch k cells)) (one_longer ws w (length (from_trees (to_trees ws))) count) in
-    let classes = ap (λ n. with_cell (with_one_more u (length (from_trees (to_trees ws)))) n (added (Many (to_trees us)) t)) (sym parts) ∙ last_changed (with_one_more u (length (from_trees (to_trees ws)))) (Many (to_trees us)) t ∙
+    let numbers = last_changed (with_one_more w (length (from_trees (to_trees ws)))) (Many (to_trees ws)) (branch k
+    cells) ∙ ap (λ z. added z (branch k cells)) (one_longer ws w (length (from_trees (to_trees ws))) count) in
+    let classes = ap (λ n. with_cell (with_one_more u (length (from_trees (to_trees ws)))) n (added (Many (to_trees us))
+    t)) (sym parts) ∙ last_changed (with_one_more u (length (from_trees (to_trees ws)))) (Many (to_trees us)) t ∙
     ap (λ z. added z t) (one_longer us u (length (from_trees (to_trees ws))) (count ∙ sym same)) in
     subst (λ x. IsPlanted a d place x (added (Many (to_trees (ws ++ w ∷ []))) (branch k cells))) classes
     (subst (λ x. IsPlanted a d place (with_cell (with_one_more u (length (from_trees (to_trees ws)))) (length (from_cells cells)) (added (Many (to_trees us)) t)) x) numbers more)

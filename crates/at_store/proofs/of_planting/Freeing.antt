@@ -112,7 +112,9 @@ spread_cell a before later x part h k = h k ∙ ap (λ b. cond b a (before k)) (
         let (y, child, below) = led (λ z. tree_at z n) (slice_get (children_at x r.0) r.1) v is in
         by_part (nat_eq r.0 part) refl (slice_get_within (children_at x r.0) r.1 y child)
       where
-        by_part : (b : Bool) → nat_eq r.0 part ≡ b → r.1 < length (children_at x r.0) → (nat_lt r.0 part || (nat_eq r.0 part && nat_lt r.1 (length (children_at x part)))) ≡ (nat_lt r.0 (suc part) || (nat_eq r.0 (suc part) && nat_lt r.1 0))
+        by_part : (b : Bool) → nat_eq r.0 part ≡ b → r.1 < length (children_at x r.0)
+            → (nat_lt r.0 part || (nat_eq r.0 part && nat_lt r.1 (length (children_at x part))))
+            ≡ (nat_lt r.0 (suc part) || (nat_eq r.0 (suc part) && nat_lt r.1 0))
         by_part true same within =
             let e : r.0 ≡ part = eqb-true r.0 part same in
             let within' : r.1 < length (children_at x part) = subst (λ (q : ℕ). r.1 < length (children_at x q)) e within in
@@ -126,14 +128,17 @@ spread_cell a before later x part h k = h k ∙ ap (λ b. cond b a (before k)) (
         by_part false other within =
             let a : nat_lt r.0 part ≡ nat_lt r.0 (suc part) = grind (arith, nat_tests) in
             let b : nat_lt r.1 0 ≡ false = grind (arith, nat_tests) in
-            (λ i. a i || (other i && nat_lt r.1 (length (children_at x part)))) ∙ sym (ap (λ z. nat_lt r.0 (suc part) || (nat_eq r.0 (suc part) && z)) b ∙ ap (λ z. nat_lt r.0 (suc part) || z) (and_off (nat_eq r.0 (suc part))))
+            (λ i. a i || (other i && nat_lt r.1 (length (children_at x part))))
+            ∙ sym (ap (λ z. nat_lt r.0 (suc part) || (nat_eq r.0 (suc part) && z)) b
+            ∙ ap (λ z. nat_lt r.0 (suc part) || z) (and_off (nat_eq r.0 (suc part))))
           where
             and_off : (b : Bool) → (b && false) ≡ false
             and_off true = refl
             and_off false = refl
 
 -- the end
-pub spread_whole : {A : Type 0} (a : A) (before later : ℕ → A) (x : Tree) (part : ℕ) → length (from_cells (cells_of x)) ≤ part → IsSpreadTo a before later x (part, 0) → (k : ℕ) → later k ≡ cond (is_some (path_in k x)) a (before k)
+pub spread_whole : {A : Type 0} (a : A) (before later : ℕ → A) (x : Tree) (part : ℕ) → length (from_cells (cells_of x))
+    ≤ part → IsSpreadTo a before later x (part, 0) → (k : ℕ) → later k ≡ cond (is_some (path_in k x)) a (before k)
 spread_whole a before later x part all h k = h k ∙ ap (λ b. cond b a (before k)) (by_path (path_in k x) refl)
   where
     by_path : (o : Option Node) → path_in k x ≡ o → is_before (part, 0) o ≡ is_some o
@@ -159,7 +164,9 @@ child_apart x y w apart child n m u v is at' same =
     let e : w ∷ n ≡ w ∷ m = apart (w ∷ n) (w ∷ m) u v (ap (option_and_then (λ z. tree_at z n)) child ∙ is) (ap (option_and_then (λ z. tree_at z m)) child ∙ at') same in
     cc
 
-pub child_left : (before later : ℕ → Option Info) (place : Place) (x y : Tree) (w : Way) → IsApart x → Stored before place x → slice_get (children_at x w.0) w.1 ≡ Some y → IsFreedTo before later x w → Stored later (Some (class_of x, w.0), w.1) y
+pub child_left : (before later : ℕ → Option Info) (place : Place) (x y : Tree) (w : Way) → IsApart x
+    → Stored before place x → slice_get (children_at x w.0) w.1 ≡ Some y → IsFreedTo before later x w
+    → Stored later (Some (class_of x, w.0), w.1) y
 child_left before later place x y w apart stored child h n v is =
     let k = child_stored before place x w y stored child n v is in
     let path : path_in (class_of v) x ≡ Some (w ∷ n) = named x apart (w ∷ n) v (ap (option_and_then (λ z. tree_at z n)) child ∙ is) in
@@ -179,18 +186,23 @@ child_numbered x part i k e =
     (sym (slice_get-map class_of (children_at x part) i) ∙ sym (ap (λ ns. slice_get ns i) (ap numbers_in (kept_at (from_cells (cells_of x)) part) ∙ same_kids (cell_at x part))) ∙ e)
 
 -- the last child of a component
-pub cell_done : {A : Type 0} (a : A) (before later : ℕ → A) (x : Tree) (part i : ℕ) (c : Kept) → slice_get (kept_of x) part ≡ Some c → length (numbers_in (Some c)) ≡ i → IsSpreadTo a before later x (part, i) → IsSpreadTo a before later x (suc part, 0)
+pub cell_done : {A : Type 0} (a : A) (before later : ℕ → A) (x : Tree) (part i : ℕ) (c : Kept)
+    → slice_get (kept_of x) part ≡ Some c → length (numbers_in (Some c)) ≡ i → IsSpreadTo a before later x (part, i)
+    → IsSpreadTo a before later x (suc part, 0)
 cell_done a before later x part i c is len h =
     let same : numbers_in (Some c) ≡ map class_of (children_at x part) = ap numbers_in (sym is) ∙ ap numbers_in (kept_at (from_cells (cells_of x)) part) ∙ same_kids (cell_at x part) in
     let e : i ≡ length (children_at x part) = sym len ∙ ap length same ∙ map_length class_of (children_at x part) in
     spread_cell a before later x part (subst (λ (j : ℕ). IsSpreadTo a before later x (part, j)) e h)
 
 -- one more child is freed
-pub child_freed : (before later next : ℕ → Option Info) (place : Place) (x : Tree) (part i k : ℕ) (c : Kept) → IsApart x → Stored before place x → slice_get (kept_of x) part ≡ Some c → slice_get (numbers_in (Some c)) i ≡ Some k → IsFreedTo before later x (part, i) →
+pub child_freed : (before later next : ℕ → Option Info) (place : Place) (x : Tree) (part i k : ℕ) (c : Kept) → IsApart x
+    → Stored before place x → slice_get (kept_of x) part ≡ Some c → slice_get (numbers_in (Some c)) i ≡ Some k
+    → IsFreedTo before later x (part, i) →
     IsFreed k later next → IsFreedTo before next x (part, suc i)
 child_freed before later next place x part i k c apart stored is at' h free =
     let (y, child, number) = child_numbered x part i k (ap (λ o. slice_get (numbers_in o) i) is ∙ at') in
-    spread_child None before later next x y (part, i) apart child h (free (Some (class_of x, part), i) y number (child_apart x y (part, i) apart child) (child_left before later place x y (part, i) apart stored child h))
+    spread_child None before later next x y (part, i) apart child h (free (Some (class_of x, part), i) y number
+    (child_apart x y (part, i) apart child) (child_left before later place x y (part, i) apart stored child h))
 
 -- what is kept of the root's cells
 pub root_cells : (memory : ℕ → Option Info) (place : Place) (x : Tree) (i : Info) → Stored memory place x → memory (class_of x) ≡ Some i → kept_of x ≡ i.cells

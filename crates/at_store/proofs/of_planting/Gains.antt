@@ -38,7 +38,9 @@ pub stays_same : (node part : ℕ) (before later : ℕ → Option Info) → IsAs
 stays_same node part before later same first place t cells len h = (t, cells, planted_still first before later place t (branch node cells) same h)
 
 -- a component with no child
-pub gains_childless : (node part : ℕ) (more : Cell) (c : Kept) (before later : ℕ → Option Info) → c ≡ kept more → children more ≡ [] → ((f : ℕ → ℕ) → relabel_cell f more ≡ more) → IsPushed node c before later → GainsCell node part more before later
+pub gains_childless : (node part : ℕ) (more : Cell) (c : Kept) (before later : ℕ → Option Info) → c ≡ kept more
+    → children more ≡ [] → ((f : ℕ → ℕ) → relabel_cell f more ≡ more) → IsPushed node c before later
+    → GainsCell node part more before later
 gains_childless node part more c before later is none keeps pushed first place t cells len h =
     (more, planted_childless first before before later place node cells t h more (subst (λ x. IsPushed node x before later) is pushed) none (λ j. refl) keeps)
 
@@ -58,7 +60,9 @@ held_relabelled Plain w f = refl
 held_relabelled List_of w f = refl
 held_relabelled Optional w f = refl
 
-pub gains_child : (node part kid : ℕ) (form : Form) (u w : Tree) (before mid later : ℕ → Option Info) → class_of w ≡ kid → IsPlanted before mid (Some (node, part), 0) u w → IsPushed node (Kids form (kid ∷ [])) mid later → GainsCell node part (holding form u) before later
+pub gains_child : (node part kid : ℕ) (form : Form) (u w : Tree) (before mid later : ℕ → Option Info) → class_of w ≡ kid
+    → IsPlanted before mid (Some (node, part), 0) u w → IsPushed node (Kids form (kid ∷ [])) mid later
+    → GainsCell node part (holding form u) before later
 gains_child node part kid form u w before mid later number p pushed first place t cells len h = (
   holding form w,
   planted_child first before mid later place node cells t h (holding form w) (subst (λ x. IsPushed node x mid later) (ap (λ k. Kids form (k ∷ [])) (sym number) ∙ held_kept form w) pushed)
@@ -66,7 +70,9 @@ gains_child node part kid form u w before mid later number p pushed first place 
 )
 
 -- one more element
-pub gains_tree : (node part index kid : ℕ) (u w : Tree) (before mid later : ℕ → Option Info) → class_of w ≡ kid → IsPlanted before mid (Some (node, part), index) u w → IsPushedKid node part kid mid later → GainsTree node part index u before later
+pub gains_tree : (node part index kid : ℕ) (u w : Tree) (before mid later : ℕ → Option Info) → class_of w ≡ kid
+    → IsPlanted before mid (Some (node, part), index) u w → IsPushedKid node part kid mid later
+    → GainsTree node part index u before later
 gains_tree node part index kid u w before mid later number p pushed first place t cells us ws len parts lu lw h = (
   w,
   planted_next first before mid later place node cells t us ws (lu ∙ sym lw) (parts ∙ sym len) h u w
@@ -89,7 +95,9 @@ length_more [] (y ∷ us) w u e = absurd cc
 length_more (x ∷ ws) [] w u e = absurd cc
 length_more (x ∷ ws) (y ∷ us) w u e = let f : length ws ≡ length us = cc in ap suc (length_more ws us w u f)
 
-pub has_more : (node part index : ℕ) (us : List Tree) (u : Tree) (before mid later : ℕ → Option Info) → length us ≡ index → HasTrees node part us before mid → GainsTree node part index u mid later → HasTrees node part (us ++ u ∷ []) before later
+pub has_more : (node part index : ℕ) (us : List Tree) (u : Tree) (before mid later : ℕ → Option Info)
+    → length us ≡ index → HasTrees node part us before mid → GainsTree node part index u mid later
+    → HasTrees node part (us ++ u ∷ []) before later
 has_more node part index us u before mid later count has gains first place t cells len h =
     let (ws, same, p) = has first place t cells len h in
     let (w, q) = gains first place t cells us ws len (parts_same (class_in before) node cells t h.classes ∙ len) count (same ∙ count) p in
@@ -100,8 +108,12 @@ has_whole node part us before later has first place t cells len h = let (ws, sam
 
 pub has_stayed : (node part : ℕ) (us : List Tree) (before mid later : ℕ → Option Info) → HasTrees node part us before mid → IsAsBefore mid later → StaysPlanted node part before later
 has_stayed node part us before mid later has same first place t cells len h =
-    let (ws, count, p) = has first place t cells len h in
-    (added (Many (to_trees us)) t, to_cells (from_cells cells ++ Many (to_trees ws) ∷ []), planted_still first mid later place (added (Many (to_trees us)) t) (added (Many (to_trees ws)) (branch node cells)) same p)
+    let (ws, count, p) = has first place t cells len h in (
+      added (Many (to_trees us)) t,
+      to_cells (from_cells cells ++ Many (to_trees ws) ∷ []),
+      planted_still first mid later
+          place (added (Many (to_trees us)) t) (added (Many (to_trees ws)) (branch node cells)) same p,
+    )
 
 -- what is planted so far of the node, component by component
 abbrev pub HasCells : (node class : ℕ) → Place → List Cell → (part : ℕ) → (before later : ℕ → Option Info) → Type 0
@@ -114,7 +126,9 @@ length_snoc : {A : Type 0} (xs : List A) (x : A) → length (xs ++ x ∷ []) ≡
 length_snoc [] x = refl
 length_snoc (y ∷ ys) x = ap suc (length_snoc ys x)
 
-pub cells_more : (node class : ℕ) (place : Place) (cs : List Cell) (c : Cell) (part : ℕ) (before mid later : ℕ → Option Info) → HasCells node class place cs part before mid → GainsCell node part c mid later → HasCells node class place (cs ++ c ∷ []) (suc part) before later
+pub cells_more : (node class : ℕ) (place : Place) (cs : List Cell) (c : Cell) (part : ℕ)
+    (before mid later : ℕ → Option Info) → HasCells node class place cs part before mid
+    → GainsCell node part c mid later → HasCells node class place (cs ++ c ∷ []) (suc part) before later
 cells_more node class place cs c part before mid later (cells, len, h) gains =
     let (more, p) = gains before place (branch class (to_cells cs)) cells len h in (
       to_cells (from_cells cells ++ more ∷ []),
@@ -123,12 +137,15 @@ cells_more node class place cs c part before mid later (cells, len, h) gains =
     )
 
 -- what is planted so far is taken out again
-pub cells_freed : (node class : ℕ) (place : Place) (cs : List Cell) (part : ℕ) (before mid later free : ℕ → Option Info) → HasCells node class place cs part before mid → StaysPlanted node part mid later → IsFreed node later free → IsAsBefore before free
+pub cells_freed : (node class : ℕ) (place : Place) (cs : List Cell) (part : ℕ) (before mid later free : ℕ → Option Info)
+    → HasCells node class place cs part before mid → StaysPlanted node part mid later → IsFreed node later free
+    → IsAsBefore before free
 cells_freed node class place cs part before mid later free (cells, len, h) stays freed =
     let (u, more, p) = stays before place (branch class (to_cells cs)) cells len h in
     unplanted before later free place u (branch node more) p (freed place (branch node more) refl p.apart p.stored)
 
-pub tree_freed : (kid : ℕ) (place : Place) (u w : Tree) (before mid later free : ℕ → Option Info) → class_of w ≡ kid → IsPlanted before mid place u w → IsAsBefore mid later → IsFreed kid later free → IsAsBefore before free
+pub tree_freed : (kid : ℕ) (place : Place) (u w : Tree) (before mid later free : ℕ → Option Info) → class_of w ≡ kid
+    → IsPlanted before mid place u w → IsAsBefore mid later → IsFreed kid later free → IsAsBefore before free
 tree_freed kid place u w before mid later free number p same freed =
     let q = planted_still before mid later place u w same p in
     unplanted before later free place u w q (freed place w number q.apart q.stored)
@@ -140,10 +157,13 @@ next n = omega arith
 abbrev pub HasFirstCells : (node class : ℕ) → Place → (all rest : List Cell) → (part : ℕ) → (before later : ℕ → Option Info) → Type 0
 HasFirstCells node class place all rest part before later = (cs : List Cell) × (all ≡ cs ++ rest) × HasCells node class place cs part before later
 
-pub cells_begun : (node class : ℕ) (place : Place) (all : List Cell) (part : ℕ) (before later : ℕ → Option Info) → part ≡ 0 → IsAdded node class place before later → HasFirstCells node class place all all part before later
+pub cells_begun : (node class : ℕ) (place : Place) (all : List Cell) (part : ℕ) (before later : ℕ → Option Info)
+    → part ≡ 0 → IsAdded node class place before later → HasFirstCells node class place all all part before later
 cells_begun node class place all part before later none added = ([], refl, subst (λ (n : ℕ). HasCells node class place [] n before later) (sym none) (cells_first node class place before later added))
 
-pub cells_on : (node class : ℕ) (place : Place) (all rest : List Cell) (c : Cell) (part next_part : ℕ) (before mid later : ℕ → Option Info) → next_part ≡ part + 1 → HasFirstCells node class place all (c ∷ rest) part before mid → GainsCell node part c mid later →
+pub cells_on : (node class : ℕ) (place : Place) (all rest : List Cell) (c : Cell) (part next_part : ℕ)
+    (before mid later : ℕ → Option Info) → next_part ≡ part + 1
+    → HasFirstCells node class place all (c ∷ rest) part before mid → GainsCell node part c mid later →
     HasFirstCells node class place all rest next_part before later
 cells_on node class place all rest c part next_part before mid later count (cs, is, has) gains = (
   cs ++ c ∷ [],
@@ -151,21 +171,32 @@ cells_on node class place all rest c part next_part before mid later count (cs, 
   subst (λ (n : ℕ). HasCells node class place (cs ++ c ∷ []) n before later) (next part ∙ sym count) (cells_more node class place cs c part before mid later has gains),
 )
 
-pub cells_given_up : (node class : ℕ) (place : Place) (all rest : List Cell) (part : ℕ) (before mid later free : ℕ → Option Info) → HasFirstCells node class place all rest part before mid → StaysPlanted node part mid later → IsFreed node later free → IsAsBefore before free
+pub cells_given_up : (node class : ℕ) (place : Place) (all rest : List Cell) (part : ℕ)
+    (before mid later free : ℕ → Option Info) → HasFirstCells node class place all rest part before mid
+    → StaysPlanted node part mid later → IsFreed node later free → IsAsBefore before free
 cells_given_up node class place all rest part before mid later free (cs, is, has) stays freed = cells_freed node class place cs part before mid later free has stays freed
 
-pub cells_whole : (node class : ℕ) (place : Place) (all rest : List Cell) (part : ℕ) (u : Tree) (before later : ℕ → Option Info) → rest ≡ [] → u ≡ branch class (to_cells all) → HasFirstCells node class place all rest part before later →
+pub cells_whole : (node class : ℕ) (place : Place) (all rest : List Cell) (part : ℕ) (u : Tree)
+    (before later : ℕ → Option Info) → rest ≡ [] → u ≡ branch class (to_cells all)
+    → HasFirstCells node class place all rest part before later →
     (w : Tree) × (class_of w ≡ node) × IsPlanted before later place u w
-cells_whole node class place all rest part u before later none is (cs, whole, (cells, len, h)) =
-    (branch node cells, refl, subst (λ z. IsPlanted before later place z (branch node cells)) (ap (λ ys. branch class (to_cells ys)) (sym (append-nil cs) ∙ ap (λ ys. cs ++ ys) (sym none) ∙ sym whole) ∙ sym is) h)
+cells_whole node class place all rest part u before later none is (cs, whole, (cells, len, h)) = (
+  branch node cells,
+  refl,
+  subst (λ z. IsPlanted before later place z (branch node cells)) (ap (λ ys.
+      branch class (to_cells ys)) (sym (append-nil cs) ∙ ap (λ ys. cs ++ ys) (sym none) ∙ sym whole) ∙ sym is) h,
+)
 
 abbrev pub HasFirstTrees : (node part : ℕ) → (all rest : List Tree) → (index : ℕ) → (before later : ℕ → Option Info) → Type 0
 HasFirstTrees node part all rest index before later = (us : List Tree) × (all ≡ us ++ rest) × (length us ≡ index) × HasTrees node part us before later
 
-pub trees_begun : (node part : ℕ) (c : Kept) (all : List Tree) (index : ℕ) (before later : ℕ → Option Info) → index ≡ 0 → c ≡ Kids List_of [] → IsPushed node c before later → HasFirstTrees node part all all index before later
+pub trees_begun : (node part : ℕ) (c : Kept) (all : List Tree) (index : ℕ) (before later : ℕ → Option Info) → index ≡ 0
+    → c ≡ Kids List_of [] → IsPushed node c before later → HasFirstTrees node part all all index before later
 trees_begun node part c all index before later none is pushed = ([], refl, sym none, has_none node part c before later is pushed)
 
-pub trees_on : (node part : ℕ) (all rest : List Tree) (u : Tree) (index next_index : ℕ) (before mid later : ℕ → Option Info) → next_index ≡ index + 1 → HasFirstTrees node part all (u ∷ rest) index before mid → GainsTree node part index u mid later →
+pub trees_on : (node part : ℕ) (all rest : List Tree) (u : Tree) (index next_index : ℕ)
+    (before mid later : ℕ → Option Info) → next_index ≡ index + 1
+    → HasFirstTrees node part all (u ∷ rest) index before mid → GainsTree node part index u mid later →
     HasFirstTrees node part all rest next_index before later
 trees_on node part all rest u index next_index before mid later count (us, is, len, has) gains = (
   us ++ u ∷ [],
@@ -174,9 +205,11 @@ trees_on node part all rest u index next_index before mid later count (us, is, l
   has_more node part index us u before mid later len has gains,
 )
 
-pub trees_given_up : (node part : ℕ) (all rest : List Tree) (index : ℕ) (before mid later : ℕ → Option Info) → HasFirstTrees node part all rest index before mid → IsAsBefore mid later → StaysPlanted node part before later
+pub trees_given_up : (node part : ℕ) (all rest : List Tree) (index : ℕ) (before mid later : ℕ → Option Info)
+    → HasFirstTrees node part all rest index before mid → IsAsBefore mid later → StaysPlanted node part before later
 trees_given_up node part all rest index before mid later (us, is, len, has) same = has_stayed node part us before mid later has same
 
-pub trees_whole : (node part : ℕ) (all rest : List Tree) (index : ℕ) (before later : ℕ → Option Info) → rest ≡ [] → HasFirstTrees node part all rest index before later → GainsCell node part (Many (to_trees all)) before later
+pub trees_whole : (node part : ℕ) (all rest : List Tree) (index : ℕ) (before later : ℕ → Option Info) → rest ≡ []
+    → HasFirstTrees node part all rest index before later → GainsCell node part (Many (to_trees all)) before later
 trees_whole node part all rest index before later none (us, whole, len, has) =
     has_whole node part all before later (subst (λ (ys : List Tree). HasTrees node part ys before later) (sym (append-nil us) ∙ ap (λ ys. us ++ ys) (sym none) ∙ sym whole) has)

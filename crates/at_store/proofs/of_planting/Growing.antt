@@ -21,7 +21,8 @@ module _ (deeper : ℕ → Tree) where
   cell_again (Filled t) h = ap Filled (h 0 t refl)
   cell_again (Holds v) h = refl
 
-  cells_again : (cs : Cells) → ((part i : ℕ) (x : Tree) → slice_get (kids (slice_get (from_cells cs) part)) i ≡ Some x → deeper (class_of x) ≡ x) → to_cells (map (grown_cell deeper) (map kept (from_cells cs))) ≡ cs
+  cells_again : (cs : Cells) → ((part i : ℕ) (x : Tree) → slice_get (kids (slice_get (from_cells cs) part)) i ≡ Some x
+      → deeper (class_of x) ≡ x) → to_cells (map (grown_cell deeper) (map kept (from_cells cs))) ≡ cs
   cells_again no_cells h = refl
   cells_again (cell c cs) h = λ i. cell (cell_again c (h 0) i) (cells_again cs (λ part. h (suc part)) i)
 

@@ -40,8 +40,10 @@ pub root_listed : (before later : List ℕ) (x : Tree) → later ≡ before ++ c
 root_listed before later x pushed = spread_root true (is_listed before) (is_listed later) x (λ k. ap (λ ns. is_listed ns k) pushed ∙ one_listed before (class_of x) k)
 
 -- one more child is listed
-pub child_listed : (first : ℕ → Bool) (memory : ℕ → Option Info) (mid later : List ℕ) (levels : ℕ) (place : Place) (x : Tree) (node part i k : ℕ) → class_of x ≡ node → IsApart x → Stored memory place x → IsShallow (suc levels) x →
-    slice_get (kids_in (memory node) part) i ≡ Some k → IsSpreadTo true first (is_listed mid) x (part, i) → AreListedBelow k levels memory mid later → IsSpreadTo true first (is_listed later) x (part, suc i)
+pub child_listed : (first : ℕ → Bool) (memory : ℕ → Option Info) (mid later : List ℕ) (levels : ℕ) (place : Place)
+    (x : Tree) (node part i k : ℕ) → class_of x ≡ node → IsApart x → Stored memory place x → IsShallow (suc levels) x →
+    slice_get (kids_in (memory node) part) i ≡ Some k → IsSpreadTo true first (is_listed mid) x (part, i)
+    → AreListedBelow k levels memory mid later → IsSpreadTo true first (is_listed later) x (part, suc i)
 child_listed first memory mid later levels place x node part i k same apart stored shallow at' h listed =
     let (y, child, number) = child_numbered x part i k (ap (λ ns. slice_get ns i) (sym (kids_there memory place x node part same stored)) ∙ at') in
     spread_child true first (is_listed mid) (is_listed later) x y (part, i) apart child h
@@ -61,13 +63,15 @@ module _ (classes : Classes) (old new : Shown) (asked : Edit) (n m : Node) (h : 
   s = numbers old
 
   goes : (o : Option Node) → removed (change_of (edit_at n m asked)) ≡ o → (k : ℕ) → leaves_in new.slab k ≡ stands_in k (option_and_then (tree_at s) o)
-  goes o is k = p.marks k ∙ ap (λ (r : Option Node). stands_in k (option_and_then (tree_at s) r)) (sym (same_removed (class_in (memory_of new.slab)) p.numbered) ∙ ap (λ e. removed (change_of e)) p.same ∙ is)
+  goes o is k = p.marks k ∙ ap (λ (r : Option Node). stands_in k (option_and_then (tree_at s) r))
+      (sym (same_removed (class_in (memory_of new.slab)) p.numbered) ∙ ap (λ e. removed (change_of e)) p.same ∙ is)
 
   -- where nothing goes, nothing is marked
   none_goes : (nodes : List ℕ) → removed (change_of (edit_at n m asked)) ≡ None → (k : ℕ) → leaves_in new.slab k ≡ true → Contains nodes k
   none_goes nodes is k marked = let f : true ≡ false = sym marked ∙ goes None is k in absurd cc
 
-  one_goes : (nodes : List ℕ) → removed (change_of (edit_at n m asked)) ≡ Some n → AreListedBelow (node_of asked) 512 (memory_of old.slab) [] nodes → (k : ℕ) → leaves_in new.slab k ≡ true → Contains nodes k
+  one_goes : (nodes : List ℕ) → removed (change_of (edit_at n m asked)) ≡ Some n → AreListedBelow (node_of asked) 512
+      (memory_of old.slab) [] nodes → (k : ℕ) → leaves_in new.slab k ≡ true → Contains nodes k
   one_goes nodes is listed k marked =
       let keeps = h.idle.keeps in
       let (u, there, number) = number_found s (node_of asked) n h.found in
@@ -77,7 +81,9 @@ module _ (classes : Classes) (old new : Shown) (asked : Edit) (n m : Node) (h : 
       Contains-from_any eqb-true k nodes has
 
 -- each node that leaves is listed
-pub all_listed : (classes : Classes) (old new : Shown) (asked : Edit) (n m : Node) → IsAsked classes old asked n m → (q : Prepared) → IsPrepared classes old (edit_at n m asked) (Does q) new → (nodes : List ℕ) → AreAllBelow (taken_by asked) (memory_of old.slab) nodes →
+pub all_listed : (classes : Classes) (old new : Shown) (asked : Edit) (n m : Node) → IsAsked classes old asked n m
+    → (q : Prepared) → IsPrepared classes old (edit_at n m asked) (Does q) new → (nodes : List ℕ)
+    → AreAllBelow (taken_by asked) (memory_of old.slab) nodes →
     (k : ℕ) → leaves_in new.slab k ≡ true → Contains nodes k
 all_listed classes old new (edit.Set node tree) n m h q p nodes listed = one_goes classes old new (edit.Set node tree) n m h q p nodes refl listed
 all_listed classes old new (edit.Put node part tree) n m h q p nodes listed = none_goes classes old new (edit.Put node part tree) n m h q p nodes refl

@@ -23,7 +23,8 @@ pub stored_same : (before later : Slab Entry) → ((k : ℕ) → memory_of later
 stored_same before later same place x h = subst (λ (m : ℕ → Option Info). Stored m place x) (λ i k. sym (same k) i) h
 
 -- the root is marked
-pub root_marked : (before later : Slab Entry) (node : ℕ) (b : Bool) → ((k : ℕ) → leaves_in later k ≡ remarked node b k (get before k)) → (place : Place) (x : Tree) → class_of x ≡ node → Stored (memory_of before) place x →
+pub root_marked : (before later : Slab Entry) (node : ℕ) (b : Bool) → ((k : ℕ) → leaves_in later k ≡ remarked node b k
+    (get before k)) → (place : Place) (x : Tree) → class_of x ≡ node → Stored (memory_of before) place x →
     IsSpreadTo b (leaves_in before) (leaves_in later) x (0, 0)
 root_marked before later node b written place x same stored =
     spread_root b (leaves_in before) (leaves_in later) x (λ k. written k ∙ ap (λ n. remarked n b k (get before k)) (sym same) ∙ by_node k)
@@ -40,22 +41,31 @@ root_marked before later node b written place x same stored =
     ]
 
 -- the numbers below a node that stands there
-pub kids_there : (memory : ℕ → Option Info) (place : Place) (x : Tree) (node part : ℕ) → class_of x ≡ node → Stored memory place x → kids_in (memory node) part ≡ numbers_in (slice_get (kept_of x) part)
+pub kids_there : (memory : ℕ → Option Info) (place : Place) (x : Tree) (node part : ℕ) → class_of x ≡ node
+    → Stored memory place x → kids_in (memory node) part ≡ numbers_in (slice_get (kept_of x) part)
 kids_there memory place x node part same stored = ap (λ j. kids_in (memory j) part) (sym same) ∙ ap (λ o. kids_in o part) (stored [] x refl).is
 
 pub child_shallow : (levels : ℕ) (x y : Tree) (w : Way) → slice_get (children_at x w.0) w.1 ≡ Some y → IsShallow (suc levels) x → IsShallow levels y
 child_shallow levels x y w child h n v is = let less : suc (length n) < suc levels = h (w ∷ n) v (ap (option_and_then (λ z. tree_at z n)) child ∙ is) in omega (arith, less)
 
 -- one more child is marked
-pub child_marked : (first : ℕ → Bool) (before mid later : Slab Entry) (b : Bool) (levels : ℕ) (place : Place) (x : Tree) (node part i k : ℕ) → class_of x ≡ node → IsApart x → Stored (memory_of before) place x → ((j : ℕ) → memory_of mid j ≡ memory_of before j) →
-    IsShallow (suc levels) x → slice_get (kids_in (memory_of before node) part) i ≡ Some k → IsSpreadTo b first (leaves_in mid) x (part, i) → AreMarkedBelow k b levels mid later → IsSpreadTo b first (leaves_in later) x (part, suc i)
+pub child_marked : (first : ℕ → Bool) (before mid later : Slab Entry) (b : Bool) (levels : ℕ) (place : Place) (x : Tree)
+    (node part i k : ℕ) → class_of x ≡ node → IsApart x → Stored (memory_of before) place x
+    → ((j : ℕ) → memory_of mid j ≡ memory_of before j) →
+    IsShallow (suc levels) x → slice_get (kids_in (memory_of before node) part) i ≡ Some k
+    → IsSpreadTo b first (leaves_in mid) x (part, i) → AreMarkedBelow k b levels mid later
+    → IsSpreadTo b first (leaves_in later) x (part, suc i)
 child_marked first before mid later b levels place x node part i k same apart stored stays shallow at' h marks =
     let (y, child, number) = child_numbered x part i k (ap (λ ns. slice_get ns i) (sym (kids_there (memory_of before) place x node part same stored)) ∙ at') in
     spread_child b first (leaves_in mid) (leaves_in later) x y (part, i) apart child h
-    (marks (Some (class_of x, part), i) y number (child_apart x y (part, i) apart child) (stored_same before mid stays _ y (child_stored (memory_of before) place x (part, i) y stored child)) (child_shallow levels x y (part, i) child shallow))
+    (marks (Some (class_of x, part), i) y number (child_apart x y (part, i) apart child)
+    (stored_same before mid stays _ y (child_stored (memory_of before) place x (part, i) y stored child))
+    (child_shallow levels x y (part, i) child shallow))
 
 -- the last child of a component
-pub part_marked : (b : Bool) (first later : ℕ → Bool) (memory : ℕ → Option Info) (place : Place) (x : Tree) (node part i : ℕ) → class_of x ≡ node → Stored memory place x → length (kids_in (memory node) part) ≡ i → IsSpreadTo b first later x (part, i) →
+pub part_marked : (b : Bool) (first later : ℕ → Bool) (memory : ℕ → Option Info) (place : Place) (x : Tree)
+    (node part i : ℕ) → class_of x ≡ node → Stored memory place x → length (kids_in (memory node) part) ≡ i
+    → IsSpreadTo b first later x (part, i) →
     IsSpreadTo b first later x (suc part, 0)
 part_marked b first later memory place x node part i same stored len h =
     let kids = kids_there memory place x node part same stored ∙ ap numbers_in (kept_at (from_cells (cells_of x)) part) ∙ same_kids (cell_at x part) in
@@ -63,7 +73,9 @@ part_marked b first later memory place x node part i same stored len h =
     spread_cell b first later x part (subst (λ (j : ℕ). IsSpreadTo b first later x (part, j)) e h)
 
 -- the last component
-pub whole_marked : (b : Bool) (first later : ℕ → Bool) (memory : ℕ → Option Info) (place : Place) (x : Tree) (node part : ℕ) → class_of x ≡ node → Stored memory place x → length (cells_in (memory node)) ≤ part → IsSpreadTo b first later x (part, 0) →
+pub whole_marked : (b : Bool) (first later : ℕ → Bool) (memory : ℕ → Option Info) (place : Place) (x : Tree)
+    (node part : ℕ) → class_of x ≡ node → Stored memory place x → length (cells_in (memory node)) ≤ part
+    → IsSpreadTo b first later x (part, 0) →
     (k : ℕ) → later k ≡ cond (is_some (path_in k x)) b (first k)
 whole_marked b first later memory place x node part same stored few h =
     let cells = ap (λ j. cells_in (memory j)) (sym same) ∙ ap cells_in (stored [] x refl).is in
@@ -86,7 +98,9 @@ unmarked_still before later no_more h k = by_mark (leaves_in later k) refl
     by_mark false e = e
 
 -- just what stands below the node is marked
-pub marked_below : (before later : Slab Entry) (s : Tree) (n : Node) (x : Tree) (node : ℕ) → Stored (memory_of before) top s → IsApart s → IsShallow 512 s → tree_at s n ≡ Some x → class_of x ≡ node → IsUnmarked before → AreMarkedBelow node true 512 before later →
+pub marked_below : (before later : Slab Entry) (s : Tree) (n : Node) (x : Tree) (node : ℕ)
+    → Stored (memory_of before) top s → IsApart s → IsShallow 512 s → tree_at s n ≡ Some x → class_of x ≡ node
+    → IsUnmarked before → AreMarkedBelow node true 512 before later →
     (k : ℕ) → leaves_in later k ≡ is_some (path_in k x)
 marked_below before later s n x node stored apart shallow is number none marks k =
     let (place, below) = subtree_stored (memory_of before) top s n x stored is in
@@ -97,7 +111,9 @@ marked_below before later s n x node stored apart shallow is number none marks k
     itself false = refl
 
 -- the marks below the node are taken back, and there were no others
-pub unmarked_below : (before later : Slab Entry) (s : Tree) (n : Node) (x : Tree) → Stored (memory_of before) top s → IsApart s → IsShallow 512 s → tree_at s n ≡ Some x → ((k : ℕ) → leaves_in before k ≡ true → is_some (path_in k x) ≡ true) →
+pub unmarked_below : (before later : Slab Entry) (s : Tree) (n : Node) (x : Tree) → Stored (memory_of before) top s
+    → IsApart s → IsShallow 512 s → tree_at s n ≡ Some x
+    → ((k : ℕ) → leaves_in before k ≡ true → is_some (path_in k x) ≡ true) →
     AreMarkedBelow (class_of x) false 512 before later → IsUnmarked later
 unmarked_below before later s n x stored apart shallow is all marks k =
     let (place, below) = subtree_stored (memory_of before) top s n x stored is in
@@ -109,7 +125,8 @@ unmarked_below before later s n x stored apart shallow is all marks k =
     by_path false out true e = let f : true ≡ false = sym (all k e) ∙ out in absurd cc
 
 -- what was marked is gone
-pub gone_unmarked : (before later : Slab Entry) (x : Tree) → MarksNoMore before later → ((k : ℕ) → leaves_in before k ≡ is_some (path_in k x)) → ((k : ℕ) → is_some (path_in k x) ≡ true → memory_of later k ≡ None) → IsUnmarked later
+pub gone_unmarked : (before later : Slab Entry) (x : Tree) → MarksNoMore before later → ((k : ℕ) → leaves_in before k
+    ≡ is_some (path_in k x)) → ((k : ℕ) → is_some (path_in k x) ≡ true → memory_of later k ≡ None) → IsUnmarked later
 gone_unmarked before later x fewer marks freed k = by_mark (leaves_in later k) refl
   where
     none_marked : (o : Option Entry) → reindexed (place_in (stored_of later)) k (info_of o) ≡ None → marked o ≡ false

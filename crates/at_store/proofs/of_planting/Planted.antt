@@ -53,7 +53,8 @@ outside : (t : Tree) (k : ℕ) → is_some (path_in k t) ≡ false → (n : Node
 outside t k none n v is number = let f : true ≡ false = sym (met k t n (v, is, number)) ∙ none in cc
 
 -- what is planted is taken out again
-pub unplanted : (before after later : ℕ → Option Info) (place : Place) (t w : Tree) → IsPlanted before after place t w → ((k : ℕ) → later k ≡ cond (is_some (path_in k w)) None (after k)) → (k : ℕ) → later k ≡ before k
+pub unplanted : (before after later : ℕ → Option Info) (place : Place) (t w : Tree) → IsPlanted before after place t w
+    → ((k : ℕ) → later k ≡ cond (is_some (path_in k w)) None (after k)) → (k : ℕ) → later k ≡ before k
 unplanted before after later place t w h freed k = freed k ∙ by_test (is_some (path_in k w)) refl
   where
     by_test : (b : Bool) → is_some (path_in k w) ≡ b → cond b None (after k) ≡ before k
@@ -91,7 +92,8 @@ planted_waits before after s t w h p = record {
         ]
 
 -- a node with no component yet
-pub planted_first : (before after : ℕ → Option Info) (place : Place) (k class : ℕ) → before k ≡ None → ((j : ℕ) → after j ≡ cond (nat_eq j k) (Some (record { class = class; up = place.0; index = place.1; cells = [] })) (before j)) →
+pub planted_first : (before after : ℕ → Option Info) (place : Place) (k class : ℕ) → before k ≡ None → ((j : ℕ) → after
+    j ≡ cond (nat_eq j k) (Some (record { class = class; up = place.0; index = place.1; cells = [] })) (before j)) →
     IsPlanted before after place (branch class no_cells) (branch k no_cells)
 planted_first before after place k class free added = record {
   stored = stored_node k no_cells after place (record { class = class; is = here }) (λ w x child. absurd (let f : None ≡ Some x = child in cc));
@@ -164,7 +166,8 @@ module _ (a b c d : ℕ → Option Info) (place : Place) (k : ℕ) (cells next :
     | inr more ↦ (more_apart r y more, not_more [] old refl r y more)
   ]
 
-  across : (w r : Way) (x y : Tree) (n m : Node) (u v : Tree) → slice_get (children_at new w.0) w.1 ≡ Some x → slice_get (children_at new r.0) r.1 ≡ Some y → tree_at x n ≡ Some u → tree_at y m ≡ Some v → class_of u ≡ class_of v → w ≡ r
+  across : (w r : Way) (x y : Tree) (n m : Node) (u v : Tree) → slice_get (children_at new w.0) w.1 ≡ Some x → slice_get
+      (children_at new r.0) r.1 ≡ Some y → tree_at x n ≡ Some u → tree_at y m ≡ Some v → class_of u ≡ class_of v → w ≡ r
   across w r x y n m u v child other is at' same = by_source (kids_from w x child) (kids_from r y other)
     where
       by_source : (slice_get (children_at old w.0) w.1 ≡ Some x) ⊎ IsMore w x → (slice_get (children_at old r.0) r.1 ≡ Some y) ⊎ IsMore r y → w ≡ r
@@ -189,7 +192,9 @@ module _ (a b c d : ℕ → Option Info) (place : Place) (k : ℕ) (cells next :
   rests : (i : ℕ) → is_some (path_in i new) ≡ false → d i ≡ a i
   rests i none =
       at_rest i (λ e. outside new i none [] new refl (sym e)) ∙
-      more_rest i (λ r y more. nowhere y i (λ n v is number. outside new i none (r ∷ n) v (ap (option_and_then (λ z. tree_at z n)) (kids_more r y more) ∙ is) number)) ∙ h.rest i (nowhere old i old_out)
+      more_rest i (λ r y more. nowhere y i (λ n v is number.
+      outside new i none (r ∷ n) v (ap (option_and_then (λ z. tree_at z n)) (kids_more r y more) ∙ is) number))
+      ∙ h.rest i (nowhere old i old_out)
     where
       old_out : (n : Node) (v : Tree) → tree_at old n ≡ Some v → class_of v ≡ i → ⊥
       old_out [] v is number = let f : old ≡ v = cc in outside new i none [] new refl (ap class_of f ∙ number)

@@ -39,7 +39,8 @@ passed_tells false at k = tt
 
 param_tells : (classes : Classes) (i : ℕ) (p : Param) → TellsOne (param_named classes i p)
 param_tells classes i p =
-    then_tells (λ k. passed_if (can_be_passed k && nat_lt i max_parameters) p.kind.at k) (kind_named classes p.kind) (unknown_tells p.kind.at _) (λ k. passed_tells (can_be_passed k && nat_lt i max_parameters) p.kind.at k)
+    then_tells (λ k. passed_if (can_be_passed k && nat_lt i max_parameters) p.kind.at k) (kind_named classes p.kind)
+    (unknown_tells p.kind.at _) (λ k. passed_tells (can_be_passed k && nat_lt i max_parameters) p.kind.at k)
 
 params_tell : (classes : Classes) (i : ℕ) (ps : List Param) → TellsOne (params_named classes i ps)
 params_tell classes i [] = tt
@@ -128,13 +129,16 @@ module _ (classes : Classes) (ds : List Located) where
   own_tells : (d : Located) (body : Body) (c : ℕ) → is_synthesized classes ds (class_text d) (name_text d) ≡ true → TellsOne (own_meant classes ds d body c)
   own_tells d body c is =
       then_tells (λ e. Is (own_equation c e)) (body_meant classes (signatures classes ds) c d body (synthesized_named classes ds (class_text d) (name_text d)))
-      (meant_tells c d body (is_synthesized_by classes (class_text d) (name_text d)) (synthesized_named classes ds (class_text d) (name_text d)) refl (synthesized_there classes ds (class_text d) (name_text d) ∙ is))
+      (meant_tells c d body (is_synthesized_by classes (class_text d) (name_text d)) (synthesized_named classes ds
+      (class_text d) (name_text d)) refl (synthesized_there classes ds (class_text d) (name_text d) ∙ is))
       (λ e. tt)
 
   below_tells : (d : Located) (index : Option Word) (body : Body) (c : ℕ) (part : Option ℕ) → is_inherited_name ds (name_text d) ≡ true
       → TellsOne (inherited_meant classes ds d index body c part)
   below_tells d index body c part is =
-      then_tells (λ u. and_then (λ e. Is (inherited_equation d c part e.1)) (body_meant classes (signatures classes ds) c d body (inherited_named ds (name_text d)))) (index_of_list classes c part index) (index_tells classes c part index)
+      then_tells (λ u. and_then (λ e. Is (inherited_equation d c part e.1))
+      (body_meant classes (signatures classes ds) c d body (inherited_named ds (name_text d))))
+      (index_of_list classes c part index) (index_tells classes c part index)
       (λ u. then_tells (λ e. Is (inherited_equation d c part e.1)) (body_meant classes (signatures classes ds) c d body (inherited_named ds (name_text d)))
       (meant_tells c d body (λ (y : Located). is_inherited y.decl.form && bytes_eq (name_text d) (name_text y)) (inherited_named ds (name_text d)) refl (inherited_there ds (name_text d) ∙ is))
       (λ e. tt))

@@ -70,7 +70,9 @@ module _ (classes : Classes) (ds : List Located) where
     attributes = λ i j d e less is at declares other same.
         let none = second_off (is_attribute e.decl.form) (list_any (clashes classes e) (take j ds)) other (or_off (again j e) (binds_twice e.decl.form) (pass j e at)).0 in
         let off = not_true (clashes classes e d) (λ so. off_on (list_any (clashes classes e) (take j ds)) none (any_before (clashes classes e) ds j i d less is so)) in
-        apart classes e d (second_off (is_attribute d.decl.form && bytes_eq (name_text e) (name_text d)) _ (and_true (is_attribute d.decl.form) (bytes_eq (name_text e) (name_text d)) declares (text_same (name_text e) (name_text d) same)) off);
+        apart classes e d (second_off (is_attribute d.decl.form && bytes_eq (name_text e) (name_text d))
+        _ (and_true (is_attribute d.decl.form) (bytes_eq (name_text e) (name_text d)) declares
+        (text_same (name_text e) (name_text d) same)) off);
     names = λ i d is. (or_off (again i d) (binds_twice d.decl.form) (pass i d is)).1;
   }
 
@@ -82,7 +84,9 @@ module _ (classes : Classes) (ds : List Located) where
       let (k, e, less, at, clash) = before_any (clashes classes d) ds i any in
       let (one, two) = both (is_attribute e.decl.form && bytes_eq (name_text d) (name_text e)) (differs d.decl.form e.decl.form || is_on_one_line classes (class_text d) (class_text e)) clash in
       let (other, same) = both (is_attribute e.decl.form) (bytes_eq (name_text d) (name_text e)) one in
-      off_on (differs d.decl.form e.decl.form || is_on_one_line classes (class_text d) (class_text e)) (not_apart classes d e (h.attributes k i e d less at is other declares (same_text (name_text d) (name_text e) same))) two))
+      off_on (differs d.decl.form e.decl.form || is_on_one_line classes (class_text d) (class_text e))
+      (not_apart classes d e
+      (h.attributes k i e d less at is other declares (same_text (name_text d) (name_text e) same))) two))
       (h.names i d is)
 
 pub declared_once : (classes : Classes) (ds : List Located) → (declared_twice classes ds ≡ None) ↔ AreDeclaredOnce classes ds

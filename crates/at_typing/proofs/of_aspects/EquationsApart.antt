@@ -76,8 +76,12 @@ module _ (classes : Classes) (ds : List Located) where
 
 pub equations_declared : (classes : Classes) (ds : List Located) → (without_attribute classes ds ≡ None) ↔ AreOfAttributes classes ds
 equations_declared classes ds = (
-  λ none. of_attributes classes ds (λ i d is. off_not (is_of_attribute classes ds d.decl.form) (unfaulted (not (is_of_attribute classes ds d.decl.form)) code.EquationWithoutAttribute d (none_at (undeclared_at classes ds) ds none i d is))),
-  λ h. none_anywhere (undeclared_at classes ds) ds (λ i d is. faultless (not (is_of_attribute classes ds d.decl.form)) code.EquationWithoutAttribute d (not_off (is_of_attribute classes ds d.decl.form) (attributes_of classes ds h i d is))),
+  λ none. of_attributes classes ds (λ i d is. off_not (is_of_attribute classes ds d.decl.form)
+      (unfaulted (not (is_of_attribute classes ds d.decl.form)) code.EquationWithoutAttribute d
+      (none_at (undeclared_at classes ds) ds none i d is))),
+  λ h. none_anywhere (undeclared_at classes ds) ds
+      (λ i d is. faultless (not (is_of_attribute classes ds d.decl.form)) code.EquationWithoutAttribute d
+      (not_off (is_of_attribute classes ds d.decl.form) (attributes_of classes ds h i d is))),
 )
 
 -- once -----------------------------------------------------------------------------------------------------------------
@@ -115,7 +119,9 @@ equations_once ds = (
   λ none i j d e less is at class name same.
       let off = unfaulted (list_any (is_same_equation e) (take j ds)) code.EquationTwice e (none_at (equation_at ds) ds none j e at) in
       off_on (list_any (is_same_equation e) (take j ds)) off (any_before (is_same_equation e) ds j i d less is
-      (and_true (have_same_words e d) (are_own e d || are_below e d) (and_true (bytes_eq (class_text e) (class_text d)) (bytes_eq (name_text e) (name_text d)) (text_same (class_text e) (class_text d) class) (text_same (name_text e) (name_text d) name)) (same_for e d same))),
+      (and_true (have_same_words e d) (are_own e d || are_below e d) (and_true (bytes_eq (class_text e) (class_text d))
+      (bytes_eq (name_text e) (name_text d)) (text_same (class_text e) (class_text d) class)
+      (text_same (name_text e) (name_text d) name)) (same_for e d same))),
   λ h. none_anywhere (equation_at ds) ds (λ j e at. faultless (list_any (is_same_equation e) (take j ds)) code.EquationTwice e
       (not_true (list_any (is_same_equation e) (take j ds)) (λ any.
       let (i, d, less, is, same) = before_any (is_same_equation e) ds j any in

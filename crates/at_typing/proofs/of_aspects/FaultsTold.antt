@@ -153,16 +153,26 @@ module _ (classes : Classes) (ds : List Located) where
     where
       assoc : first_fault classes ds ≡ Some f → Whole ≡ Some f
       assoc e =
-          sym (next (over_limit ds) _ (refused classes ds) ∙ ap (option_or (over_limit ds)) (next (accessor_named classes ds) _ (refused classes ds) ∙ ap (option_or (accessor_named classes ds)) (next (declared_twice classes ds) _ (refused classes ds) ∙ ap (option_or (declared_twice classes ds)) (next (without_attribute classes ds) (equation_twice ds) (refused classes ds)))))
+          sym (next (over_limit ds) _ (refused classes ds) ∙ ap (option_or (over_limit ds))
+          (next (accessor_named classes ds) _ (refused classes ds) ∙ ap (option_or (accessor_named classes ds))
+          (next (declared_twice classes ds) _ (refused classes ds) ∙ ap (option_or (declared_twice classes ds))
+          (next (without_attribute classes ds) (equation_twice ds) (refused classes ds)))))
           ∙ e
 
       by : Tells Whole
       by =
           stage 0 (over_limit ds) _ (limits ds) (λ f e. let (i, d, at, gives) = given_at (limit_at ds) ds f e in in_order code.Limit f (limit_or _ d (body_in d.decl.form) f gives)) none_kept
-          (λ kept. stage 1 (accessor_named classes ds) _ (names_free classes ds) (λ f e. let (i, d, at, gives) = given_at (accessor_at classes) ds f e in in_order code.NameOfAccessor f (coded _ code.NameOfAccessor d f gives)) kept
-          (λ kept. stage 2 (declared_twice classes ds) _ (declared_once classes ds) (λ f e. let (i, d, at, gives) = given_at (twice_at classes ds) ds f e in in_order code.AttributeTwice f (coded _ code.AttributeTwice d f gives)) kept
-          (λ kept. stage 3 (without_attribute classes ds) _ (equations_declared classes ds) (λ f e. let (i, d, at, gives) = given_at (undeclared_at classes ds) ds f e in in_order code.EquationWithoutAttribute f (coded _ code.EquationWithoutAttribute d f gives)) kept
-          (λ kept. stage 4 (equation_twice ds) _ (equations_once ds) (λ f e. let (i, d, at, gives) = given_at (equation_at ds) ds f e in in_order code.EquationTwice f (coded _ code.EquationTwice d f gives)) kept
+          (λ kept. stage 1 (accessor_named classes ds) _ (names_free classes ds)
+          (λ f e. let (i, d, at, gives) = given_at (accessor_at classes) ds f e in
+          in_order code.NameOfAccessor f (coded _ code.NameOfAccessor d f gives)) kept
+          (λ kept. stage 2 (declared_twice classes ds) _ (declared_once classes ds)
+          (λ f e. let (i, d, at, gives) = given_at (twice_at classes ds) ds f e in
+          in_order code.AttributeTwice f (coded _ code.AttributeTwice d f gives)) kept
+          (λ kept. stage 3 (without_attribute classes ds) _ (equations_declared classes ds)
+          (λ f e. let (i, d, at, gives) = given_at (undeclared_at classes ds) ds f e in
+          in_order code.EquationWithoutAttribute f (coded _ code.EquationWithoutAttribute d f gives)) kept
+          (λ kept. stage 4 (equation_twice ds) _ (equations_once ds) (λ f e. let (i, d, at, gives) = given_at
+          (equation_at ds) ds f e in in_order code.EquationTwice f (coded _ code.EquationTwice d f gives)) kept
           (λ kept. alone kept)))))
 
   -- where none of these has a fault, each of them is kept
@@ -234,13 +244,24 @@ module _ (classes : Classes) (ds : List Located) where
     λ (rules, (fault, is)). by (first_fault classes ds) refl fault,
     λ h.
         let kept : Kept 6 = stages h in
-        let none = none_first kept in
-        (made, (subst (λ o. IsFault classes ds o None) (sym none) (None, (None, lacks_none made (h code.ClassWithoutEquation), refl), (None, covers_none made (h code.InheritedWithoutEquation), refl)), refl)),
+        let none = none_first kept in (
+          made,
+          (
+            subst (λ o. IsFault classes ds o None) (sym none) (
+              None,
+              (None, lacks_none made (h code.ClassWithoutEquation), refl),
+              (None, covers_none made (h code.InheritedWithoutEquation), refl),
+            ),
+            refl,
+          ),
+        ),
   )
     where
       stages : ((c : RuleCode) → Keeps classes ds c) → Kept 6
       stages h =
-          one_more 5 (one_more 4 (one_more 3 (one_more 2 (one_more 1 (one_more 0 none_kept (h code.Limit)) (h code.NameOfAccessor)) (h code.AttributeTwice)) (h code.EquationWithoutAttribute)) (h code.EquationTwice)) (h code.Kind)
+          one_more 5 (one_more 4
+          (one_more 3 (one_more 2 (one_more 1 (one_more 0 none_kept (h code.Limit)) (h code.NameOfAccessor))
+          (h code.AttributeTwice)) (h code.EquationWithoutAttribute)) (h code.EquationTwice)) (h code.Kind)
 
       early : (c : RuleCode) → Kept 8 → Keeps classes ds c
       early c kept = kept_at c (kept (order c) (below c))

@@ -40,7 +40,8 @@ module _ (classes : Classes) (name : List ℕ) where
       let (text, parent) = or_off (bytes_eq name (codes "equals")) (bytes_eq name (codes "getParent")) two in
       by h text parent child number (some_none (first_given by_class 0 classes) accessed)
     where
-      by : IsAccessorName classes name → bytes_eq name (codes "equals") ≡ false → bytes_eq name (codes "getParent") ≡ false → bytes_eq name (codes "getChild") ≡ false → bytes_eq name (codes "getNumChild") ≡ false
+      by : IsAccessorName classes name → bytes_eq name (codes "equals") ≡ false → bytes_eq name (codes "getParent")
+          ≡ false → bytes_eq name (codes "getChild") ≡ false → bytes_eq name (codes "getNumChild") ≡ false
           → first_given by_class 0 classes ≡ None → ⊥
       by (rule.of_texts s) t p c n none = other_text name (codes "equals") t s
       by (rule.of_parents s) t p c n none = other_text name (codes "getParent") p s

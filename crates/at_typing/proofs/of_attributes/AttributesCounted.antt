@@ -38,7 +38,9 @@ filter-more p [] y = by (p y)
     by false = refl
 filter-more p (x ∷ xs) y = by (p x) (filter-more p xs y)
   where
-    by : (b : Bool) → length (filter p (xs ++ y ∷ [])) ≡ length (filter p xs) + cond (p y) 1 0 → length (cond b (x ∷ filter p (xs ++ y ∷ [])) (filter p (xs ++ y ∷ []))) ≡ length (cond b (x ∷ filter p xs) (filter p xs)) + cond (p y) 1 0
+    by : (b : Bool) → length (filter p (xs ++ y ∷ [])) ≡ length (filter p xs) + cond (p y) 1 0
+        → length (cond b (x ∷ filter p (xs ++ y ∷ [])) (filter p (xs ++ y ∷ [])))
+        ≡ length (cond b (x ∷ filter p xs) (filter p xs)) + cond (p y) 1 0
     by true more = omega (arith, more)
     by false more = more
 

@@ -46,25 +46,34 @@ length_last : {A : Type 0} (xs : List A) (y : A) → length (xs ++ y ∷ []) ≡
 length_last [] y = refl
 length_last (x ∷ xs) y = ap suc (length_last xs y)
 
-one_more : (ds : List NumberedValue) (k : ℕ) (d : NumberedValue) → k < length ds → d ≡ get_or ds k d → attributes_in (take (k + 1) ds) ≡ attributes_in (take k ds) ++ cond (is_attribute (numbered_view d).decl.form) (d ∷ []) []
+one_more : (ds : List NumberedValue) (k : ℕ) (d : NumberedValue) → k < length ds → d ≡ get_or ds k d → attributes_in
+    (take (k + 1) ds) ≡ attributes_in (take k ds) ++ cond (is_attribute (numbered_view d).decl.form) (d ∷ []) []
 one_more ds k d less is =
     filter_more (λ (e : NumberedValue). is_attribute (numbered_view e).decl.form) ds k d less
     ∙ ap (λ (e : NumberedValue). attributes_in (take k ds) ++ cond (is_attribute (numbered_view e).decl.form) (e ∷ []) []) (sym is)
 
-pub with_attribute : (ds : List NumberedValue) (k : ℕ) (d : NumberedValue) → k < length ds → d ≡ get_or ds k d → is_attribute (numbered_view d).decl.form ≡ true → attributes_in (take (k + 1) ds) ≡ attributes_in (take k ds) ++ d ∷ []
+pub with_attribute : (ds : List NumberedValue) (k : ℕ) (d : NumberedValue) → k < length ds → d ≡ get_or ds k d
+    → is_attribute (numbered_view d).decl.form ≡ true
+    → attributes_in (take (k + 1) ds) ≡ attributes_in (take k ds) ++ d ∷ []
 with_attribute ds k d less is test = one_more ds k d less is ∙ ap (λ b. attributes_in (take k ds) ++ cond b (d ∷ []) []) test
 
-pub with_none : (ds : List NumberedValue) (k : ℕ) (d : NumberedValue) → k < length ds → d ≡ get_or ds k d → is_attribute (numbered_view d).decl.form ≡ false → attributes_in (take (k + 1) ds) ≡ attributes_in (take k ds)
+pub with_none : (ds : List NumberedValue) (k : ℕ) (d : NumberedValue) → k < length ds → d ≡ get_or ds k d
+    → is_attribute (numbered_view d).decl.form ≡ false → attributes_in (take (k + 1) ds) ≡ attributes_in (take k ds)
 with_none ds k d less is test = one_more ds k d less is ∙ ap (λ b. attributes_in (take k ds) ++ cond b (d ∷ []) []) test ∙ append-nil (attributes_in (take k ds))
 
-pub counted : (ds : List NumberedValue) (k : ℕ) (d : NumberedValue) (n : ℕ) → k < length ds → d ≡ get_or ds k d → is_attribute (numbered_view d).decl.form ≡ true → n ≡ length (attributes_in (take k ds)) → n + 1 ≡ length (attributes_in (take (k + 1) ds))
+pub counted : (ds : List NumberedValue) (k : ℕ) (d : NumberedValue) (n : ℕ) → k < length ds → d ≡ get_or ds k d
+    → is_attribute (numbered_view d).decl.form ≡ true → n ≡ length (attributes_in (take k ds))
+    → n + 1 ≡ length (attributes_in (take (k + 1) ds))
 counted ds k d n less is test count = next n ∙ ap suc count ∙ sym (length_last (attributes_in (take k ds)) d) ∙ ap length (sym (with_attribute ds k d less is test))
 
-pub one_noted : (ds : List NumberedValue) (k : ℕ) (d : NumberedValue) (n : ℕ) (old new : Attributes) → k < length ds → d ≡ get_or ds k d → is_attribute (numbered_view d).decl.form ≡ true → n ≡ length (attributes_in (take k ds))
+pub one_noted : (ds : List NumberedValue) (k : ℕ) (d : NumberedValue) (n : ℕ) (old new : Attributes) → k < length ds
+    → d ≡ get_or ds k d → is_attribute (numbered_view d).decl.form ≡ true → n ≡ length (attributes_in (take k ds))
     → AreAttributes (take k ds) old → Notes d n old new → AreAttributes (take (k + 1) ds) new
 one_noted ds k d n old new less is test count are notes = subst (λ xs. AreNotedAll xs new) (sym (with_attribute ds k d less is test)) (notes (attributes_in (take k ds)) count are)
 
-pub still_noted : (ds : List NumberedValue) (k : ℕ) (d : NumberedValue) (a : Attributes) → k < length ds → d ≡ get_or ds k d → is_attribute (numbered_view d).decl.form ≡ false → AreAttributes (take k ds) a → AreAttributes (take (k + 1) ds) a
+pub still_noted : (ds : List NumberedValue) (k : ℕ) (d : NumberedValue) (a : Attributes) → k < length ds
+    → d ≡ get_or ds k d → is_attribute (numbered_view d).decl.form ≡ false → AreAttributes (take k ds) a
+    → AreAttributes (take (k + 1) ds) a
 still_noted ds k d a less is test are = subst (λ xs. AreNotedAll xs a) (sym (with_none ds k d less is test)) are
 
 -- by words ------------------------------------------------------------------------------------------------------------
@@ -110,12 +119,15 @@ found_for classes ds d class name among of_class same_name =
     (λ k x less. (among.others k x less, among.alike k x less)) (λ e h. synthesized_by classes d e class name among.class h.0 h.1 of_class same_name)
 
 -- a class that is there
-class_test : (classes : Classes) → 0 < length classes → (c n : ℕ) (inherits : Bool) (class : NamedClass) (m : ℕ) → is_named n (chain classes c) (class_key inherits class m) ≡ (not inherits && (is_class_below classes (named.Known c) class && nat_eq n m))
+class_test : (classes : Classes) → 0 < length classes → (c n : ℕ) (inherits : Bool) (class : NamedClass) (m : ℕ)
+    → is_named n (chain classes c) (class_key inherits class m)
+    ≡ (not inherits && (is_class_below classes (named.Known c) class && nat_eq n m))
 class_test classes some c n true class m = refl
 class_test classes some c n false (named.Unknown u) m = refl
 class_test classes some c n false (named.Known b) m = any_both (nat_eq n m) b (chain classes c) ∙ switched (nat_eq n m) (is_sub classes c b) ∙ ap (λ t. t && nat_eq n m) (itself classes c b some)
 
-pub finds_of_class : (classes : Classes) (a : Attributes) (class : NamedClass) (c name : ℕ) (found : Option ℕ) → class ≡ named.Known c → IsFirst a.of_classes name (chain classes c) found → FindsSynthesized a classes class name found
+pub finds_of_class : (classes : Classes) (a : Attributes) (class : NamedClass) (c name : ℕ) (found : Option ℕ) → class
+    ≡ named.Known c → IsFirst a.of_classes name (chain classes c) found → FindsSynthesized a classes class name found
 finds_of_class classes a class c name found is first = λ ds d are among of_class same_name.
     let there = class_there classes (class_text (numbered_view d)) c (sym among.class ∙ ap known_class (sym of_class ∙ is)) in
     first (map by_class (attributes_in ds)) are.classes
@@ -125,7 +137,8 @@ finds_of_class classes a class c name found is first = λ ds d are among of_clas
     ∙ found_for classes ds d class name among of_class same_name
 
 -- a word that names none
-word_test : (classes : Classes) (u n : ℕ) (inherits : Bool) (class : NamedClass) (m : ℕ) → is_named n (u ∷ []) (word_key inherits class m) ≡ (not inherits && (is_class_below classes (named.Unknown u) class && nat_eq n m))
+word_test : (classes : Classes) (u n : ℕ) (inherits : Bool) (class : NamedClass) (m : ℕ) → is_named n (u ∷ [])
+    (word_key inherits class m) ≡ (not inherits && (is_class_below classes (named.Unknown u) class && nat_eq n m))
 word_test classes u n true class m = refl
 word_test classes u n false (named.Known b) m = refl
 word_test classes u n false (named.Unknown v) m = by (nat_eq u v) (nat_eq n m)
@@ -135,7 +148,8 @@ word_test classes u n false (named.Unknown v) m = by (nat_eq u v) (nat_eq n m)
     by true false = refl
     by false y = refl
 
-pub finds_of_word : (classes : Classes) (a : Attributes) (class : NamedClass) (u name : ℕ) (found : Option ℕ) → class ≡ named.Unknown u → IsFirst a.of_words name (u ∷ []) found → FindsSynthesized a classes class name found
+pub finds_of_word : (classes : Classes) (a : Attributes) (class : NamedClass) (u name : ℕ) (found : Option ℕ)
+    → class ≡ named.Unknown u → IsFirst a.of_words name (u ∷ []) found → FindsSynthesized a classes class name found
 finds_of_word classes a class u name found is first = λ ds d are among of_class same_name.
     first (map by_word (attributes_in ds)) are.words
     ∙ position-map (is_named name (u ∷ [])) by_word (attributes_in ds)
@@ -190,7 +204,9 @@ of_equation classes ds form class name params body found is named =
     ∙ ap (λ f. is_synthesized classes ds (class_word f).text (name_word f).text) is ∙ sym (ap (is_of_attribute classes ds) is)
 
 -- of an inherited equation
-pub of_inherited : (classes : Classes) (ds : List Located) (form : DeclForm) (class getter : Word) (index : Option Word) (name : Word) (params : Params) (body : Body) (found : Option ℕ) → form ≡ InheritedEquation class getter index name params body
+pub of_inherited : (classes : Classes) (ds : List Located) (form : DeclForm) (class getter : Word) (index : Option Word)
+    (name : Word) (params : Params) (body : Body) (found : Option ℕ)
+    → form ≡ InheritedEquation class getter index name params body
     → found ≡ inherited_named ds (name_word form).text → is_some found ≡ is_of_attribute classes ds form
 of_inherited classes ds form class getter index name params body found is named =
     ap is_some named ∙ inherited_there ds (name_word form).text

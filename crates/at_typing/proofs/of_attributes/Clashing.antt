@@ -129,14 +129,16 @@ differs_like d e f same =
 
 -- one more is declared ------------------------------------------------------------------------------------------------
 
-differs_more : (form own : DeclForm) (o : Option DeclForm) (b : Bool) → (b ≡ true → differs_from own o ≡ false) → differs_from form (option_or o (if b then Some own else None)) ≡ (differs_from form o || (b && differs form own))
+differs_more : (form own : DeclForm) (o : Option DeclForm) (b : Bool) → (b ≡ true → differs_from own o ≡ false)
+    → differs_from form (option_or o (if b then Some own else None)) ≡ (differs_from form o || (b && differs form own))
 differs_more form own None true fits = refl
 differs_more form own None false fits = refl
 differs_more form own (Some first) true fits = or_twice (differs form first) ∙ ap (λ c. differs form first || c) (sym (differs_like form own first (fits refl)))
 differs_more form own (Some first) false fits = sym (or_false (differs form first))
 
 -- where it doesn't differ from the first of its name
-pub one_added : (classes : Classes) (ds : List NumberedValue) (k : ℕ) (d : NumberedValue) (old new : Before) → k < length ds → d ≡ get_or ds k d → AreBefore classes (take k ds) old → Adds classes d old new
+pub one_added : (classes : Classes) (ds : List NumberedValue) (k : ℕ) (d : NumberedValue) (old new : Before)
+    → k < length ds → d ≡ get_or ds k d → AreBefore classes (take k ds) old → Adds classes d old new
     → (is_attribute (numbered_view d).decl.form ≡ true → differs_from (numbered_view d).decl.form (first_form old d.name) ≡ false) → AreBefore classes (take (k + 1) ds) new
 one_added classes ds k d old new less is are adds fits = record {
   first = λ form name.
@@ -144,8 +146,11 @@ one_added classes ds k d old new less is are adds fits = record {
       ∙ differs_more form (numbered_view d).decl.form (first_form old name) (declares name d) (same_name name)
       ∙ ap (λ b. b || (declares name d && differs form (numbered_view d).decl.form)) (are.first form name)
       ∙ sym (any_more (λ e. declares name e && differs form (numbered_view e).decl.form) ds k d less is);
-  declared = λ class name. adds.declared class name ∙ ap (λ b. b || (declares name d && same_class class d.class)) (are.declared class name) ∙ sym (any_more (λ e. declares name e && same_class class e.class) ds k d less is);
-  above = λ class name. adds.above class name ∙ ap (λ b. b || (declares name d && is_class_below classes d.class class)) (are.above class name) ∙ sym (any_more (λ e. declares name e && is_class_below classes e.class class) ds k d less is);
+  declared = λ class name. adds.declared class name ∙ ap (λ b. b || (declares name d && same_class class d.class))
+      (are.declared class name) ∙ sym (any_more (λ e. declares name e && same_class class e.class) ds k d less is);
+  above = λ class name. adds.above class name
+      ∙ ap (λ b. b || (declares name d && is_class_below classes d.class class)) (are.above class name)
+      ∙ sym (any_more (λ e. declares name e && is_class_below classes e.class class) ds k d less is);
 }
   where
     same_name : (name : ℕ) → declares name d ≡ true → differs_from (numbered_view d).decl.form (first_form old name) ≡ false
@@ -176,9 +181,12 @@ alike_back d e like = record {
 
 -- the attribute clashes with that one, by numbers
 abbrev pub clashes_by_number : Classes → NumberedValue → NumberedValue → Bool
-clashes_by_number classes d e = (declares d.name e && differs (numbered_view d).decl.form (numbered_view e).decl.form) || ((declares d.name e && is_class_below classes e.class d.class) || (declares d.name e && is_class_below classes d.class e.class))
+clashes_by_number classes d e = (declares d.name e && differs (numbered_view d).decl.form (numbered_view e).decl.form)
+    || ((declares d.name e && is_class_below classes e.class d.class)
+    || (declares d.name e && is_class_below classes d.class e.class))
 
-by_numbers : (classes : Classes) (d e : NumberedValue) → IsOfItsClass classes d → IsOfItsClass classes e → AreAlike d e → clashes classes (numbered_view d) (numbered_view e) ≡ clashes_by_number classes d e
+by_numbers : (classes : Classes) (d e : NumberedValue) → IsOfItsClass classes d → IsOfItsClass classes e → AreAlike d e
+    → clashes classes (numbered_view d) (numbered_view e) ≡ clashes_by_number classes d e
 by_numbers classes d e own other like =
     ap (λ b. (is_attribute (numbered_view e).decl.form && b) && (apart || is_on_one_line classes (class_text (numbered_view d)) (class_text (numbered_view e)))) (sym like.name)
     ∙ ap (λ b. declares d.name e && (apart || (b || is_below classes (class_text (numbered_view e)) (class_text (numbered_view d))))) (sym (below classes d e own other like))
@@ -210,23 +218,34 @@ declared_above classes some ds b are class name =
     ∙ any_turned (declares name) (λ c e. same_class c e.class) ds (line classes class)
     ∙ list_any-same _ _ ds (λ e. ap (λ x. declares name e && x) (on_line classes some class e.class))
 
-clash : (classes : Classes) (ds : List NumberedValue) (b : Before) (d : NumberedValue) → AreBefore classes ds b → IsAmong classes ds d → list_any (clashes classes (numbered_view d)) (map numbered_view ds) ≡ is_clash classes ds b d
+clash : (classes : Classes) (ds : List NumberedValue) (b : Before) (d : NumberedValue) → AreBefore classes ds b →
+    IsAmong classes ds d → list_any (clashes classes (numbered_view d)) (map numbered_view ds) ≡ is_clash classes ds b d
 clash classes ds b d are among =
     list_any-map (clashes classes (numbered_view d)) numbered_view ds
-    ∙ list_any-where (λ e. IsOfItsClass classes e × AreAlike d e) (λ e. clashes classes (numbered_view d) (numbered_view e)) (clashes_by_number classes d) ds (λ k x less. (among.others k x less, among.alike k x less)) (λ e h. by_numbers classes d e among.class h.0 h.1)
-    ∙ list_any-or (λ e. declares d.name e && differs (numbered_view d).decl.form (numbered_view e).decl.form) (λ e. (declares d.name e && is_class_below classes e.class d.class) || (declares d.name e && is_class_below classes d.class e.class)) ds
+    ∙ list_any-where (λ e. IsOfItsClass classes e × AreAlike d e)
+    (λ e. clashes classes (numbered_view d) (numbered_view e)) (clashes_by_number classes d) ds
+    (λ k x less. (among.others k x less, among.alike k x less)) (λ e h. by_numbers classes d e among.class h.0 h.1)
+    ∙ list_any-or (λ e. declares d.name e && differs (numbered_view d).decl.form (numbered_view e).decl.form)
+    (λ e. (declares d.name e && is_class_below classes e.class d.class)
+    || (declares d.name e && is_class_below classes d.class e.class)) ds
     ∙ ap₂ (λ x y. x || y) (sym (are.first (numbered_view d).decl.form d.name))
     (list_any-or (λ e. declares d.name e && is_class_below classes e.class d.class) (λ e. declares d.name e && is_class_below classes d.class e.class) ds
     ∙ ap (λ x. x || is_declared_above classes ds d) (sym (are.above d.class d.name)))
 
-pub tells_clash : (classes : Classes) (ds : List NumberedValue) (b : Before) (d : NumberedValue) → AreBefore classes ds b → IsAmong classes ds d → (r : Bool) → is_attribute (numbered_view d).decl.form ≡ true → is_clash classes ds b d ≡ r
+pub tells_clash : (classes : Classes) (ds : List NumberedValue) (b : Before) (d : NumberedValue)
+    → AreBefore classes ds b → IsAmong classes ds d → (r : Bool) → is_attribute (numbered_view d).decl.form ≡ true
+    → is_clash classes ds b d ≡ r
     → r ≡ (is_attribute (numbered_view d).decl.form && list_any (clashes classes (numbered_view d)) (map numbered_view ds))
 tells_clash classes ds b d are among r test found = sym (ap (λ a. a && list_any (clashes classes (numbered_view d)) (map numbered_view ds)) test ∙ clash classes ds b d are among ∙ found)
 
 -- where nothing clashes, it doesn't differ from the first of its name
-pub fits : (classes : Classes) (ds : List NumberedValue) (b : Before) (d : NumberedValue) → AreBefore classes ds b → IsAmong classes ds d → (r : Bool) → ((is_attribute (numbered_view d).decl.form && list_any (clashes classes (numbered_view d)) (map numbered_view ds)) || r) ≡ false
+pub fits : (classes : Classes) (ds : List NumberedValue) (b : Before) (d : NumberedValue) → AreBefore classes ds b
+    → IsAmong classes ds d → (r : Bool) → ((is_attribute (numbered_view d).decl.form
+    && list_any (clashes classes (numbered_view d)) (map numbered_view ds)) || r) ≡ false
     → is_attribute (numbered_view d).decl.form ≡ true → differs_from (numbered_view d).decl.form (first_form b d.name) ≡ false
-fits classes ds b d are among r none test = first (differs_from (numbered_view d).decl.form (first_form b d.name)) (has_key b.above.keys d.name d.class || is_declared_above classes ds d) (sym (clash classes ds b d are among) ∙ second (is_attribute (numbered_view d).decl.form) _ r none test)
+fits classes ds b d are among r none test = first (differs_from (numbered_view d).decl.form (first_form b d.name))
+    (has_key b.above.keys d.name d.class || is_declared_above classes ds d)
+    (sym (clash classes ds b d are among) ∙ second (is_attribute (numbered_view d).decl.form) _ r none test)
   where
     first : (x y : Bool) → (x || y) ≡ false → x ≡ false
     first true y e = e
@@ -247,7 +266,9 @@ InsertsUpTo classes class name old now k next = (c : NamedClass) (n : ℕ)
 pub inserts_first : (classes : Classes) (class : NamedClass) (name : ℕ) (old : List (NamedClass × ℕ)) → InsertsUpTo classes class name old old 0 (Some class)
 inserts_first classes class name old = λ c n. ap (λ l. has_key old n c || list_any (λ b. is_key c n (b, name)) l) (sym (line_begins classes class))
 
-pub inserts_more : (classes : Classes) (class : NamedClass) (name : ℕ) (old now new : List (NamedClass × ℕ)) (k : ℕ) (d : NamedClass) (o p : Option NamedClass) → k < length classes → o ≡ Some d → p ≡ parent_class classes d → InsertsKeys now new name (d ∷ [])
+pub inserts_more : (classes : Classes) (class : NamedClass) (name : ℕ) (old now new : List (NamedClass × ℕ)) (k : ℕ)
+    (d : NamedClass) (o p : Option NamedClass) → k < length classes → o ≡ Some d → p ≡ parent_class classes d
+    → InsertsKeys now new name (d ∷ [])
     → InsertsUpTo classes class name old now k o → InsertsUpTo classes class name old new (k + 1) p
 inserts_more classes class name old now new k d o p less is up inserts so_far = λ c n.
     ap (λ b. b || list_any (λ b. is_key c n (b, name)) (line_from classes (k + 1) p)) (inserts c n)
@@ -261,7 +282,9 @@ inserts_more classes class name old now new k d o p less is up inserts so_far = 
     by false true r = refl
     by false false r = refl
 
-pub inserts_last : (classes : Classes) (class : NamedClass) (name : ℕ) (old new : List (NamedClass × ℕ)) (k : ℕ) (o : Option NamedClass) → line_from classes k o ≡ [] → InsertsUpTo classes class name old new k o → InsertsKeys old new name (line classes class)
+pub inserts_last : (classes : Classes) (class : NamedClass) (name : ℕ) (old new : List (NamedClass × ℕ)) (k : ℕ)
+    (o : Option NamedClass) → line_from classes k o ≡ [] → InsertsUpTo classes class name old new k o
+    → InsertsKeys old new name (line classes class)
 inserts_last classes class name old new k o none so_far = λ c n. sym (or_false (has_key new n c)) ∙ ap (λ l. has_key new n c || list_any (λ b. is_key c n (b, name)) l) (sym none) ∙ so_far c n
 
 -- one declaration -----------------------------------------------------------------------------------------------------
@@ -285,7 +308,8 @@ viewed_or f None true v = refl
 viewed_or f None false v = refl
 viewed_or f (Some x) b v = refl
 
-pub adds_one : (classes : Classes) → 0 < length classes → (d : NumberedValue) (old new : Before) (form : Bor FormValue) → is_attribute (numbered_view d).decl.form ≡ true → decl_form_view form.now ≡ (numbered_view d).decl.form
+pub adds_one : (classes : Classes) → 0 < length classes → (d : NumberedValue) (old new : Before) (form : Bor FormValue)
+    → is_attribute (numbered_view d).decl.form ≡ true → decl_form_view form.now ≡ (numbered_view d).decl.form
     → ((name : ℕ) → get nat_eq new.first name ≡ option_or (get nat_eq old.first name) (if nat_eq name d.name then Some form else None))
     → InsertsKeys old.declared.keys new.declared.keys d.name (d.class ∷ []) → InsertsKeys old.above.keys new.above.keys d.name (line classes d.class) → Adds classes d old new
 adds_one classes some d old new form test viewed first declared above = record {

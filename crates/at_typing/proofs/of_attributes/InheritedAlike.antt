@@ -33,7 +33,8 @@ same_known classes (written.Class v) (written.Class w) is = ap (λ name. known_k
 same_known classes v w is = absurd (true≢false (sym is))
 
 same_written : (classes : Classes) (v w : KindWord) → is_same_kind v.kind w.kind ≡ true → written_kind classes [] v.kind ≡ written_kind classes [] w.kind
-same_written classes v w is = ap₂ as_written (none_first (is_some (known_kind classes v.kind)) v.kind ∙ sym (none_first (is_some (known_kind classes w.kind)) w.kind)) (same_known classes v.kind w.kind is)
+same_written classes v w is = ap₂ as_written (none_first (is_some (known_kind classes v.kind)) v.kind
+    ∙ sym (none_first (is_some (known_kind classes w.kind)) w.kind)) (same_known classes v.kind w.kind is)
   where
     none_first : (b : Bool) (k : written.Kind) → first_unless b [] k ≡ None
     none_first true k = refl
@@ -82,7 +83,12 @@ turned : (classes : Classes) (d e : Located) → AreWrittenAlike classes d e →
 turned classes d e alike = record { parameters = sym alike.parameters; result = λ r s is at. sym (alike.result s r at is) }
 
 alike_itself : (classes : Classes) (d e : Located) → d ≡ e → AreWrittenAlike classes d e
-alike_itself classes d e same = subst (AreWrittenAlike classes d) same (record { parameters = refl; result = λ r s is at. let f : r ≡ s = let g : Some r ≡ Some s = sym is ∙ at in cc in ap (λ (x : KindWord). written_kind classes [] x.kind) f })
+alike_itself classes d e same = subst (AreWrittenAlike classes d) same
+    (record {
+      parameters = refl;
+      result = λ r s is at. let f : r ≡ s = let g : Some r ≡ Some s = sym is ∙ at in cc in
+          ap (λ (x : KindWord). written_kind classes [] x.kind) f;
+    })
 
 off_left : (a b : Bool) → (a || b) ≡ false → a ≡ false
 off_left false b is = refl
@@ -97,10 +103,15 @@ abbrev are_alike : Located → Located → Bool
 are_alike d e = has_same_signature d.decl.form e.decl.form && has_same_start d.decl.form e.decl.form
 
 -- two that don't clash
-no_clash_alike : (classes : Classes) (d e : Located) → is_attribute e.decl.form ≡ true → is_inherited d.decl.form ≡ true → bytes_eq (name_text d) (name_text e) ≡ true → clashes classes d e ≡ false → AreWrittenAlike classes d e
-no_clash_alike classes d e declares inherits name none = of_signature (signature_same (is_inherited d.decl.form) inherits (off_left (differs d.decl.form e.decl.form) _ (by (is_attribute e.decl.form) declares (bytes_eq (name_text d) (name_text e)) name none)))
+no_clash_alike : (classes : Classes) (d e : Located) → is_attribute e.decl.form ≡ true → is_inherited d.decl.form ≡ true
+    → bytes_eq (name_text d) (name_text e) ≡ true → clashes classes d e ≡ false → AreWrittenAlike classes d e
+no_clash_alike classes d e declares inherits name none =
+    of_signature (signature_same (is_inherited d.decl.form) inherits (off_left (differs d.decl.form e.decl.form)
+    _ (by (is_attribute e.decl.form) declares (bytes_eq (name_text d) (name_text e)) name none)))
   where
-    by : (a : Bool) → a ≡ true → (b : Bool) → b ≡ true → ((a && b) && (differs d.decl.form e.decl.form || is_on_one_line classes (class_text d) (class_text e))) ≡ false → (differs d.decl.form e.decl.form || is_on_one_line classes (class_text d) (class_text e)) ≡ false
+    by : (a : Bool) → a ≡ true → (b : Bool) → b ≡ true
+        → ((a && b) && (differs d.decl.form e.decl.form || is_on_one_line classes (class_text d) (class_text e)))
+        ≡ false → (differs d.decl.form e.decl.form || is_on_one_line classes (class_text d) (class_text e)) ≡ false
     by true is true at off = off
     by true is false at off = absurd (true≢false (sym at))
     by false is b at off = absurd (true≢false (sym is))
@@ -138,21 +149,28 @@ place_of : {A : Type 0} (p : A → Bool) (xs : List A) (n : ℕ) (x : A) → sli
 place_of p [] n x is = absurd (none-some x is)
 place_of p (y ∷ ys) n x is = by (p y) refl n is (place_of p ys)
   where
-    by : (b : Bool) → p y ≡ b → (n : ℕ) → slice_get (cond b (y ∷ filter p ys) (filter p ys)) n ≡ Some x → ((n : ℕ) (x : _) → slice_get (filter p ys) n ≡ Some x → (i : ℕ) × (slice_get ys i ≡ Some x) × (p x ≡ true)) → (i : ℕ) × (slice_get (y ∷ ys) i ≡ Some x) × (p x ≡ true)
+    by : (b : Bool) → p y ≡ b → (n : ℕ) → slice_get (cond b (y ∷ filter p ys) (filter p ys)) n ≡ Some x
+        → ((n : ℕ) (x : _) → slice_get (filter p ys) n ≡ Some x → (i : ℕ) × (slice_get ys i ≡ Some x) × (p x ≡ true))
+        → (i : ℕ) × (slice_get (y ∷ ys) i ≡ Some x) × (p x ≡ true)
     by true passes zero is rest = let e : y ≡ x = cc in (0, is, ap p (sym e) ∙ passes)
     by true passes (suc n) is rest = let (i, at, too) = rest n x is in (suc i, at, too)
     by false passes n is rest = let (i, at, too) = rest n x is in (suc i, at, too)
 
 module _ (classes : Classes) (ds : List Located) (none : declared_twice classes ds ≡ None) where
   -- a later one and an earlier one
-  later_alike : (i j : ℕ) (d e : Located) → i < j → slice_get ds i ≡ Some e → slice_get ds j ≡ Some d → is_attribute d.decl.form ≡ true → is_attribute e.decl.form ≡ true → is_inherited d.decl.form ≡ true → bytes_eq (name_text d) (name_text e) ≡ true → AreWrittenAlike classes d e
+  later_alike : (i j : ℕ) (d e : Located) → i < j → slice_get ds i ≡ Some e → slice_get ds j ≡ Some d
+      → is_attribute d.decl.form ≡ true → is_attribute e.decl.form ≡ true → is_inherited d.decl.form ≡ true
+      → bytes_eq (name_text d) (name_text e) ≡ true → AreWrittenAlike classes d e
   later_alike i j d e less at there declares too inherits name =
-      no_clash_alike classes d e too inherits name (none_passes (clashes classes d) ds i j e less at (no_clash classes ds j d (slice_get_within ds j d there) (sym (get_or_from_slice_get ds j d d there)) none declares))
+      no_clash_alike classes d e too inherits name (none_passes (clashes classes d) ds i j e less at (no_clash classes
+      ds j d (slice_get_within ds j d there) (sym (get_or_from_slice_get ds j d d there)) none declares))
 
   turned_name : (v w : List ℕ) → bytes_eq v w ≡ true → bytes_eq w v ≡ true
   turned_name v w is = nat_list_eq_equiv.symm w v ∙ is
 
-  pub any_alike : (i j : ℕ) (d e : Located) → slice_get ds i ≡ Some d → slice_get ds j ≡ Some e → is_attribute d.decl.form ≡ true → is_attribute e.decl.form ≡ true → is_inherited d.decl.form ≡ true → is_inherited e.decl.form ≡ true → bytes_eq (name_text d) (name_text e) ≡ true → AreWrittenAlike classes d e
+  pub any_alike : (i j : ℕ) (d e : Located) → slice_get ds i ≡ Some d → slice_get ds j ≡ Some e
+      → is_attribute d.decl.form ≡ true → is_attribute e.decl.form ≡ true → is_inherited d.decl.form ≡ true
+      → is_inherited e.decl.form ≡ true → bytes_eq (name_text d) (name_text e) ≡ true → AreWrittenAlike classes d e
   any_alike i j d e at there declares too inherits also name = by (cases_order i j)
     where
       same : Some d ≡ Some e → AreWrittenAlike classes d e
@@ -171,6 +189,8 @@ inherited_alike rules ds none zip = λ j k a b at there inherits also name.
     let (m, d_there, d_declares) = place_of (λ (x : Located). is_attribute x.decl.form) ds j d d_at in
     let (n, e_there, e_declares) = place_of (λ (x : Located). is_attribute x.decl.form) ds k e e_at in
     let alike = any_alike rules.classes ds none m n d e d_there e_there d_declares e_declares (d_of.inherits ∙ inherits) (e_of.inherits ∙ also) (ap₂ bytes_eq d_of.same_name e_of.same_name ∙ name) in (
-      one_each (written_kinds rules.classes [] (params_in d.decl.form).items) a.parameters b.parameters (d_of.declared []).parameters (subst (λ ws. AllZip IsKind ws b.parameters) (sym alike.parameters) (e_of.declared []).parameters),
+      one_each (written_kinds rules.classes [] (params_in d.decl.form).items) a.parameters
+          b.parameters (d_of.declared []).parameters
+          (subst (λ ws. AllZip IsKind ws b.parameters) (sym alike.parameters) (e_of.declared []).parameters),
       one_kind (written_kind rules.classes [] r.kind) a.result b.result (d_of.declared []).result (subst (λ w. IsKind w b.result) (sym (alike.result r s r_is s_is)) (e_of.declared []).result),
     )

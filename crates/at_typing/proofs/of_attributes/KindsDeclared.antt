@@ -85,7 +85,9 @@ passed_there classes kind.Text is there = tt
 passed_there classes (kind.Class c) is there = there
 
 pub param_named_right : (classes : Classes) (i : ℕ) (p : Param) → Holds (IsPassed classes i p) (param_named classes i p)
-param_named_right classes i p = then_holds (IsNamed classes p.kind) (IsPassed classes i p) (λ k. passed_if (can_be_passed k && nat_lt i max_parameters) p.kind.at k) (kind_named classes p.kind) (kind_named_right classes p.kind) (λ k named. by k named (can_be_passed k && nat_lt i max_parameters) refl)
+param_named_right classes i p = then_holds (IsNamed classes p.kind) (IsPassed classes i p)
+    (λ k. passed_if (can_be_passed k && nat_lt i max_parameters) p.kind.at k) (kind_named classes p.kind)
+    (kind_named_right classes p.kind) (λ k named. by k named (can_be_passed k && nat_lt i max_parameters) refl)
   where
     by : (k : Kind) → IsNamed classes p.kind k → (b : Bool) → (can_be_passed k && nat_lt i max_parameters) ≡ b → Holds (IsPassed classes i p) (passed_if b p.kind.at k)
     by k named true is =
@@ -104,7 +106,8 @@ pub record ArePassed (classes : Classes) (i : ℕ) (ps : List Param) (ks : List 
 pub params_named_right : (classes : Classes) (i : ℕ) (ps : List Param) → Holds (ArePassed classes i ps) (params_named classes i ps)
 params_named_right classes i [] = record { named = λ words. tt; passed = tt; few = λ less. omega (arith, less) }
 params_named_right classes i (p ∷ ps) =
-    then_holds (IsPassed classes i p) (ArePassed classes i (p ∷ ps)) (λ k. and_then (λ ks. Is (k ∷ ks)) (params_named classes (i + 1) ps)) (param_named classes i p) (param_named_right classes i p) (λ k first.
+    then_holds (IsPassed classes i p) (ArePassed classes i (p ∷ ps)) (λ k. and_then (λ ks. Is (k ∷ ks))
+    (params_named classes (i + 1) ps)) (param_named classes i p) (param_named_right classes i p) (λ k first.
     then_holds (ArePassed classes (i + 1) ps) (ArePassed classes i (p ∷ ps)) (λ ks. Is (k ∷ ks)) (params_named classes (i + 1) ps) (params_named_right classes (i + 1) ps) (λ ks rest.
     record {
       named = λ words. (first.named.known (first_unless (is_some (known_kind classes p.kind.kind)) words p.kind.kind), rest.named words);
@@ -136,8 +139,12 @@ within n = omega arith
 pub attribute_right : (classes : Classes) (d : Located) (result : KindWord) → Holds (IsOfWord classes d result) (attribute_meant classes d result)
 attribute_right classes d result =
     then_holds (IsNamed classes result) (IsOfWord classes d result) (attribute_for classes d) (kind_named classes result) (kind_named_right classes result) (λ k named.
-    then_holds (λ c. class_of_name classes (class_text d) ≡ Some c) (IsOfWord classes d result) (attribute_with classes d k) (class_named classes (class_word d.decl.form)) (class_named_right classes (class_word d.decl.form)) (λ c class.
-    then_holds (ArePassed classes 0 (params_in d.decl.form).items) (IsOfWord classes d result) (λ params. Is (attribute d c k params)) (params_named classes 0 (params_in d.decl.form).items) (params_named_right classes 0 (params_in d.decl.form).items) (λ ks passed.
+    then_holds (λ c. class_of_name classes (class_text d) ≡ Some c) (IsOfWord classes d result)
+    (attribute_with classes d k) (class_named classes (class_word d.decl.form))
+    (class_named_right classes (class_word d.decl.form)) (λ c class.
+    then_holds (ArePassed classes 0 (params_in d.decl.form).items) (IsOfWord classes d result)
+    (λ params. Is (attribute d c k params)) (params_named classes 0 (params_in d.decl.form).items)
+    (params_named_right classes 0 (params_in d.decl.form).items) (λ ks passed.
     record {
       declared = λ words. record { class = class; parameters = passed.named words; result = named.known (first_unless (is_some (known_kind classes result.kind)) words result.kind) };
       typed = λ boolean. record {
@@ -165,12 +172,15 @@ Means' classes d form m = IsMeant classes d (result_in form) m.attribute
 
 form_right : (classes : Classes) (ds : List Located) (d : Located) (form : DeclForm) → Holds (Means' classes d form) (form_meant classes ds d form)
 form_right classes ds d (written.Synthesized lazy result class name params start ending) =
-    then_holds (IsOfWord classes d result) (λ (m : Meaning). IsMeant classes d (Some result) m.attribute) (with_body classes ds d _) (attribute_meant classes d result) (attribute_right classes d result) (λ a of. by a of _)
+    then_holds (IsOfWord classes d result) (λ (m : Meaning). IsMeant classes d (Some result) m.attribute) (with_body
+    classes ds d _) (attribute_meant classes d result) (attribute_right classes d result) (λ a of. by a of _)
   where
     by : (a : Attribute) → IsOfWord classes d result a → (o : Option written.Body) → Holds (λ (m : Meaning). IsMeant classes d (Some result) m.attribute) (with_body classes ds d o a)
     by a of None = of
     by a of (Some body) = none_holds (λ (m : Meaning). IsMeant classes d (Some result) m.attribute) (declared_with a) (own_meant classes ds d body a.class) (λ e. of)
-form_right classes ds d (written.Inherited lazy result class name params start) = then_holds (IsOfWord classes d result) (λ (m : Meaning). IsMeant classes d (Some result) m.attribute) declared_alone (attribute_meant classes d result) (attribute_right classes d result) (λ a of. of)
+form_right classes ds d (written.Inherited lazy result class name params start) =
+    then_holds (IsOfWord classes d result) (λ (m : Meaning). IsMeant classes d (Some result) m.attribute) declared_alone
+    (attribute_meant classes d result) (attribute_right classes d result) (λ a of. of)
 form_right classes ds d (written.Equation class name params body) =
     none_holds (λ (m : Meaning). IsMeant classes d None m.attribute) (λ c. and_then own_alone (own_meant classes ds d body c)) (class_named classes class) (λ c.
     none_holds (λ (m : Meaning). IsMeant classes d None m.attribute) own_alone (own_meant classes ds d body c) (λ e. tt))
@@ -192,25 +202,36 @@ declares_result (written.Equation class name params body) = refl
 declares_result (written.InheritedEquation class getter index name params body) = refl
 
 -- where no declaration has a fault, the attributes are those that are declared
-pub all_declared : (classes : Classes) (all : List Located) (k : ℕ) (some : List Located) → first_given (refused_at classes all) k some ≡ None → AllZip (Declares classes) (attributes some) (filter_map (λ (m : Meaning). m.attribute) (meanings classes all some))
+pub all_declared : (classes : Classes) (all : List Located) (k : ℕ) (some : List Located)
+    → first_given (refused_at classes all) k some ≡ None → AllZip (Declares classes) (attributes some)
+    (filter_map (λ (m : Meaning). m.attribute) (meanings classes all some))
 all_declared classes all k [] none = tt
-all_declared classes all k (d ∷ ds) none = by (meant classes all d) refl (form_right classes all d d.decl.form) (first_none (refused_at classes all k d) _ none) (all_declared classes all (k + 1) ds (other_none (refused_at classes all k d) _ none))
+all_declared classes all k (d ∷ ds) none = by (meant classes all d) refl (form_right classes all d d.decl.form)
+    (first_none (refused_at classes all k d) _ none)
+    (all_declared classes all (k + 1) ds (other_none (refused_at classes all k d) _ none))
   where
-    with_one : (r : Option KindWord) → result_in d.decl.form ≡ r → (o : Option Attribute) → IsMeant classes d r o → (xs : List Located) (ys : List Attribute) → AllZip (Declares classes) xs ys → AllZip (Declares classes) (cond (is_some r) (d ∷ xs) xs) (cons_option o ys)
+    with_one : (r : Option KindWord) → result_in d.decl.form ≡ r → (o : Option Attribute) → IsMeant classes d r o
+        → (xs : List Located) (ys : List Attribute) → AllZip (Declares classes) xs ys
+        → AllZip (Declares classes) (cond (is_some r) (d ∷ xs) xs) (cons_option o ys)
     with_one None at None is xs ys rest = rest
     with_one None at (Some a) is xs ys rest = absurd is
     with_one (Some result) at None is xs ys rest = absurd is
     with_one (Some result) at (Some a) is xs ys rest = ((result, at, is), rest)
 
-    by : (j : Judgement Meaning) → meant classes all d ≡ j → Holds (Means' classes d d.decl.form) j → refusal d j ≡ None → AllZip (Declares classes) (attributes ds) (filter_map (λ (m : Meaning). m.attribute) (meanings classes all ds))
-        → AllZip (Declares classes) (cond (is_attribute d.decl.form) (d ∷ attributes ds) (attributes ds)) (filter_map (λ (m : Meaning). m.attribute) (cons_option (meaning_if j) (meanings classes all ds)))
+    by : (j : Judgement Meaning) → meant classes all d ≡ j → Holds (Means' classes d d.decl.form) j
+        → refusal d j ≡ None → AllZip (Declares classes) (attributes ds)
+        (filter_map (λ (m : Meaning). m.attribute) (meanings classes all ds))
+        → AllZip (Declares classes) (cond (is_attribute d.decl.form) (d ∷ attributes ds) (attributes ds))
+        (filter_map (λ (m : Meaning). m.attribute) (cons_option (meaning_if j) (meanings classes all ds)))
     by (Is m) is holds faultless rest =
-        subst (λ b. AllZip (Declares classes) (cond b (d ∷ attributes ds) (attributes ds)) (cons_option m.attribute (filter_map (λ (m : Meaning). m.attribute) (meanings classes all ds)))) (declares_result d.decl.form)
+        subst (λ b. AllZip (Declares classes) (cond b (d ∷ attributes ds) (attributes ds)) (cons_option m.attribute
+        (filter_map (λ (m : Meaning). m.attribute) (meanings classes all ds)))) (declares_result d.decl.form)
         (with_one (result_in d.decl.form) refl m.attribute holds (attributes ds) _ rest)
     by (Wrong c at) is holds faultless rest = absurd (none-some _ (sym faultless))
 
 -- what is declared of attributes is what they are
-among_same : (classes : Classes) (words : List KindWord) (ds : List Located) (as' : List Attribute) → AllZip (Declares classes) (attributes ds) as' → AllZip IsDeclaredAs (signatures_among classes words ds) as'
+among_same : (classes : Classes) (words : List KindWord) (ds : List Located) (as' : List Attribute)
+    → AllZip (Declares classes) (attributes ds) as' → AllZip IsDeclaredAs (signatures_among classes words ds) as'
 among_same classes words [] as' zip = by as' zip
   where
     by : (as' : List Attribute) → AllZip (Declares classes) [] as' → AllZip IsDeclaredAs (signatures_among classes words []) as'
@@ -218,9 +239,12 @@ among_same classes words [] as' zip = by as' zip
     by (a ∷ as') zip = absurd zip
 among_same classes words (d ∷ ds) as' zip =
     subst (λ xs. AllZip IsDeclaredAs xs as') (sym (flat_map-cons (λ d. signature_if classes words d (result_in d.decl.form)) d ds))
-    (by (result_in d.decl.form) refl as' (subst (λ b. AllZip (Declares classes) (cond b (d ∷ attributes ds) (attributes ds)) as') (sym (declares_result d.decl.form)) zip) (among_same classes words ds))
+    (by (result_in d.decl.form) refl as' (subst (λ b. AllZip (Declares classes) (cond b (d ∷ attributes ds)
+    (attributes ds)) as') (sym (declares_result d.decl.form)) zip) (among_same classes words ds))
   where
-    by : (r : Option KindWord) → result_in d.decl.form ≡ r → (as' : List Attribute) → AllZip (Declares classes) (cond (is_some r) (d ∷ attributes ds) (attributes ds)) as' → ((bs : List Attribute) → AllZip (Declares classes) (attributes ds) bs → AllZip IsDeclaredAs (signatures_among classes words ds) bs)
+    by : (r : Option KindWord) → result_in d.decl.form ≡ r → (as' : List Attribute)
+        → AllZip (Declares classes) (cond (is_some r) (d ∷ attributes ds) (attributes ds)) as' → ((bs : List Attribute)
+        → AllZip (Declares classes) (attributes ds) bs → AllZip IsDeclaredAs (signatures_among classes words ds) bs)
         → AllZip IsDeclaredAs (signature_if classes words d r ++ signatures_among classes words ds) as'
     by None at as' zip rest = rest as' zip
     by (Some result) at [] zip rest = absurd zip

@@ -18,4 +18,5 @@ returns-clause-reads c = λ path injective rules t numbers alike known also k i 
 
 pub returns-clause-answers : goal.returns-clause-answers
 returns-clause-answers c = λ path injective rules t numbers alike i j a s h.
-    named_answer path injective numbers (content t) (evaluation rules nat_eq) (equations rules) (evaluation-like rules nat_eq node_eq (same_like nat_eq node_eq nat_eq-is node_eq-is path injective)) i j a s (λ l u. alike l) h
+    named_answer path injective numbers (content t) (evaluation rules nat_eq) (equations rules) (evaluation-like rules
+    nat_eq node_eq (same_like nat_eq node_eq nat_eq-is node_eq-is path injective)) i j a s (λ l u. alike l) h

@@ -53,12 +53,23 @@ one_line bytes line said is serves = record {
 
 pub returns-clause-version : goal.returns-clause-version
 unfolding digits
-returns-clause-version c = one_line _ (codes "0 version") (false, record { session = Some 0; done = None; form = Done 0 }) refl (handles (obeys (says Version) version_spelled (record { session = refl; done = refl; state = refl; says = refl })))
+returns-clause-version c = one_line _ (codes "0 version")
+    (false, record { session = Some 0; done = None; form = Done 0 }) refl
+    (handles (obeys (says Version) version_spelled (record { session = refl; done = refl; state = refl; says = refl })))
 
 pub returns-clause-refused : goal.returns-clause-refused
 unfolding digits
-returns-clause-refused c = one_line _ (codes "x version") (false, record { session = None; done = None; form = Refused code.Syntax }) refl (handles (refuses (λ l s. no_letter l.session _ _ s.is_line.session (s.text ∙ line_flat l.session l.expected l.command)) (λ n h. no_letter n h.rest _ h.exists h.front)))
+returns-clause-refused c = one_line _ (codes "x version") (
+  false,
+  record {
+    session = None;
+    done = None;
+    form = Refused code.Syntax;
+  },
+) refl (handles (refuses (λ l s. no_letter l.session _ _ s.is_line.session
+    (s.text ∙ line_flat l.session l.expected l.command)) (λ n h. no_letter n h.rest _ h.exists h.front)))
 
 pub returns-clause-memory : goal.returns-clause-memory
 unfolding digits
-returns-clause-memory c = one_line _ (codes "7 version") (true, record { session = Some 7; done = None; form = Memory }) refl (runs_out (record { exists = omega arith; rest = codes " version"; front = refl; behind = refl }))
+returns-clause-memory c = one_line _ (codes "7 version") (true, record { session = Some 7; done = None; form = Memory })
+    refl (runs_out (record { exists = omega arith; rest = codes " version"; front = refl; behind = refl }))

@@ -12,10 +12,15 @@ use Rattle.at_model.proofs.refusal_cases.a_parameter_takes_a_class.Goals as goal
 pub returns : goal.returns
 unfolding chain digits reserved_words
 returns c =
-    question (says (Ask (From_root (plain_step "Block" ∷ list_step "Stmt" 1 ∷ plain_step "Expr" ∷ [])) (codes "begins") (Ref (From_root (plain_step "Block" ∷ list_step "Stmt" 1 ∷ plain_step "Expr" ∷ plain_step "Left" ∷ [])) ∷ []))) (Outcomes (Finds (Truth true))) refl refl refl (9, refl) refl
-    (question (says (Ask (From_root (plain_step "Block" ∷ list_step "Stmt" 1 ∷ plain_step "Expr" ∷ [])) (codes "begins") (Ref (From_root (plain_step "Block" ∷ list_step "Stmt" 1 ∷ plain_step "Expr" ∷ plain_step "Right" ∷ [])) ∷ []))) (Outcomes (Finds (Truth false))) refl refl refl (9, refl) refl
+    question (says (Ask (From_root (plain_step "Block" ∷ list_step "Stmt" 1 ∷ plain_step "Expr" ∷ [])) (codes "begins")
+    (Ref (From_root (plain_step "Block" ∷ list_step "Stmt" 1 ∷ plain_step "Expr" ∷ plain_step "Left" ∷ [])) ∷ [])))
+    (Outcomes (Finds (Truth true))) refl refl refl (9, refl) refl
+    (question (says (Ask (From_root (plain_step "Block" ∷ list_step "Stmt" 1 ∷ plain_step "Expr" ∷ [])) (codes "begins")
+    (Ref (From_root (plain_step "Block" ∷ list_step "Stmt" 1 ∷ plain_step "Expr" ∷ plain_step "Right" ∷ [])) ∷ [])))
+    (Outcomes (Finds (Truth false))) refl refl refl (9, refl) refl
     (question (says (Ask (From_root (plain_step "Block" ∷ list_step "Stmt" 1 ∷ plain_step "Expr" ∷ [])) (codes "begins") (Null ∷ []))) (Outcomes (Finds (Truth false))) refl refl refl (9, refl) refl
-    (line (says (Ask (From_root (plain_step "Block" ∷ list_step "Stmt" 1 ∷ plain_step "Expr" ∷ [])) (codes "begins") (Ref (From_root (plain_step "Block" ∷ list_step "Stmt" 0 ∷ [])) ∷ []))) refl refl refl refl
+    (line (says (Ask (From_root (plain_step "Block" ∷ list_step "Stmt" 1 ∷ plain_step "Expr" ∷ [])) (codes "begins")
+    (Ref (From_root (plain_step "Block" ∷ list_step "Stmt" 0 ∷ [])) ∷ []))) refl refl refl refl
     (line (says (Ask (From_root (plain_step "Block" ∷ list_step "Stmt" 1 ∷ plain_step "Expr" ∷ [])) (codes "begins") (Text (codes "x") ∷ []))) refl refl refl refl
     (line (says (Ask (From_root (plain_step "Block" ∷ list_step "Stmt" 1 ∷ plain_step "Expr" ∷ [])) (codes "begins") ([]))) refl refl refl refl
     (line (says (Ask (From_root (plain_step "Block" ∷ list_step "Stmt" 1 ∷ plain_step "Expr" ∷ [])) (codes "begins") (Null ∷ Null ∷ []))) refl refl refl refl ends))))))

@@ -35,14 +35,16 @@ returns-clause-component c =
 pub returns-clause-class : goal.returns-clause-class
 unfolding chain digits reserved_words
 returns-clause-class c =
-    line (says (Set (From_root (plain_step "Block" ∷ list_step "Stmt" 0 ∷ [])) (term.Node (codes "Num") (term.cell (term.One (term.Node (codes "Expr") term.no_cells)) term.no_cells)))) refl refl refl refl
+    line (says (Set (From_root (plain_step "Block" ∷ list_step "Stmt" 0 ∷ [])) (term.Node (codes "Num")
+    (term.cell (term.One (term.Node (codes "Expr") term.no_cells)) term.no_cells)))) refl refl refl refl
     (line (says (Insert (From_root (plain_step "Block" ∷ [])) (codes "Stmt") 9 (term.Node (codes "Expr") term.no_cells))) refl refl refl refl ends)
 
 pub returns-clause-fit : goal.returns-clause-fit
 unfolding chain digits reserved_words
 returns-clause-fit c =
     line (says (Insert (From_root (plain_step "Block" ∷ [])) (codes "Stmt") 9 (term.Node (codes "Num") (term.cell (term.Holds (tree.Int (pos 1))) term.no_cells)))) refl refl refl refl
-    (line (says (Put (From_root (plain_step "Block" ∷ list_step "Stmt" 0 ∷ [])) (codes "Init") (term.Node (codes "Block") (term.cell (term.Many term.no_terms) term.no_cells)))) refl refl refl refl ends)
+    (line (says (Put (From_root (plain_step "Block" ∷ list_step "Stmt" 0 ∷ [])) (codes "Init")
+    (term.Node (codes "Block") (term.cell (term.Many term.no_terms) term.no_cells)))) refl refl refl refl ends)
 
 pub returns-clause-attribute : goal.returns-clause-attribute
 unfolding chain digits reserved_words

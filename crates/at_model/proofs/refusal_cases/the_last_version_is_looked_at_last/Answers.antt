@@ -18,7 +18,8 @@ returns c =
     (line (says (Insert (From_root (plain_step "Block" ∷ [])) (codes "Init") 0 (term.Node (codes "Num") (term.cell (term.Holds (tree.Int (pos 1))) term.no_cells)))) refl refl refl refl
     (line (says (Set (From_root (plain_step "Block" ∷ list_step "Stmt" 0 ∷ [])) (term.Node (codes "Expr") term.no_cells))) refl refl refl refl
     (line (says (Set (From_root (plain_step "Block" ∷ [])) (term.Node (codes "Num") (term.cell (term.Holds (tree.Int (pos 1))) term.no_cells)))) refl refl refl refl
-    (line (says (Insert (From_root (plain_step "Block" ∷ [])) (codes "Stmt") 3 (term.Node (codes "Decl") (term.cell (term.Holds (tree.Text (codes "z"))) (term.cell term.Empty term.no_cells))))) refl refl refl refl
+    (line (says (Insert (From_root (plain_step "Block" ∷ [])) (codes "Stmt") 3 (term.Node (codes "Decl")
+    (term.cell (term.Holds (tree.Text (codes "z"))) (term.cell term.Empty term.no_cells))))) refl refl refl refl
     (line (says (Put (From_root (plain_step "Block" ∷ list_step "Stmt" 0 ∷ [])) (codes "Init") (term.Node (codes "Num") (term.cell (term.Holds (tree.Int (pos 8))) term.no_cells)))) refl refl refl refl
     (line (says (Drop (From_root (plain_step "Block" ∷ [])))) refl refl refl refl
     (line (says (Mark (codes "u") (From_root ([])))) refl refl refl refl

@@ -16,7 +16,13 @@ pub returns : goal.returns
 unfolding chain digits reserved_words
 returns c =
     line (record { session = 1; expected = None; command = Mark (codes "u") (From_root (plain_step "Block" ∷ list_step "Stmt" 1 ∷ plain_step "Expr" ∷ plain_step "Left" ∷ [])) }) refl refl refl refl
-    (line (record { session = 2; expected = None; command = Insert (From_root (plain_step "Block" ∷ [])) (codes "Stmt") 0 (term.Node (codes "Decl") (term.cell (term.Holds (tree.Text (codes "y"))) (term.cell term.Empty term.no_cells))) }) refl refl refl refl
-    (question (record { session = 1; expected = None; command = Ask (From_mark (codes "u") ([])) (codes "decl") ([]) }) (Outcomes (Finds (run.Ref (Some ((0, 0) ∷ (0, 1) ∷ []))))) refl refl refl (9, refl) refl
+    (line (record {
+      session = 2;
+      expected = None;
+      command = Insert (From_root (plain_step "Block" ∷ [])) (codes "Stmt") 0 (term.Node (codes "Decl")
+          (term.cell (term.Holds (tree.Text (codes "y"))) (term.cell term.Empty term.no_cells)));
+    }) refl refl refl refl
+    (question (record { session = 1; expected = None; command = Ask (From_mark (codes "u") ([])) (codes "decl") ([]) })
+    (Outcomes (Finds (run.Ref (Some ((0, 0) ∷ (0, 1) ∷ []))))) refl refl refl (9, refl) refl
     (line (record { session = 1; expected = None; command = Where (codes "u") }) refl refl refl refl
     (line (record { session = 2; expected = None; command = Where (codes "u") }) refl refl refl refl ends))))

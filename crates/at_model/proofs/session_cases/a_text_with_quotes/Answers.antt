@@ -16,4 +16,5 @@ unfolding chain digits reserved_words
 returns c =
     line (says (Token (From_root (plain_step "Block" ∷ list_step "Stmt" 0 ∷ [])) (codes "ID") (tree.Text (codes "a\"b")))) refl refl refl refl
     (line (says (Show (From_root (plain_step "Block" ∷ list_step "Stmt" 0 ∷ [])))) refl refl refl refl
-    (question (says (Ask (From_root (plain_step "Block" ∷ [])) (codes "local") (Text (codes "a\"b") ∷ []))) (Outcomes (Finds (run.Ref (Some ((0, 0) ∷ (0, 0) ∷ []))))) refl refl refl (9, refl) refl ends))
+    (question (says (Ask (From_root (plain_step "Block" ∷ [])) (codes "local") (Text (codes "a\"b") ∷ [])))
+    (Outcomes (Finds (run.Ref (Some ((0, 0) ∷ (0, 0) ∷ []))))) refl refl refl (9, refl) refl ends))

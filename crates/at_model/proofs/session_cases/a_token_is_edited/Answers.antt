@@ -31,4 +31,6 @@ unfolding chain digits reserved_words
 returns-clause-name c =
     question (says (Ask (From_root (plain_step "Block" ∷ list_step "Stmt" 1 ∷ plain_step "Expr" ∷ [])) (codes "value") ([]))) (Outcomes (Finds (Int (pos 3)))) refl refl refl (9, refl) refl
     (line (says (Token (From_root (plain_step "Block" ∷ list_step "Stmt" 0 ∷ [])) (codes "ID") (tree.Text (codes "y")))) refl refl refl refl
-    (question (says (Ask (From_root (plain_step "Block" ∷ list_step "Stmt" 1 ∷ plain_step "Expr" ∷ [])) (codes "value") ([]))) (Outcomes (Faults run.Null (of_node ((0, 0) ∷ (0, 1) ∷ (0, 0) ∷ (0, 0) ∷ []) 5))) refl refl refl (9, refl) refl ends))
+    (question (says (Ask (From_root (plain_step "Block" ∷ list_step "Stmt" 1 ∷ plain_step "Expr" ∷ [])) (codes "value")
+    ([]))) (Outcomes (Faults run.Null (of_node ((0, 0) ∷ (0, 1) ∷ (0, 0) ∷ (0, 0) ∷ []) 5))) refl refl refl
+    (9, refl) refl ends))

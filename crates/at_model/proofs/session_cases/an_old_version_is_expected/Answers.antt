@@ -12,6 +12,11 @@ pub returns : goal.returns
 unfolding chain digits reserved_words
 returns c =
     line (says (Token (From_root (plain_step "Block" ∷ list_step "Stmt" 1 ∷ plain_step "Expr" ∷ plain_step "Right" ∷ [])) (codes "Value") (tree.Int (pos 5)))) refl refl refl refl
-    (line (record { session = 1; expected = Some 0; command = Token (From_root (plain_step "Block" ∷ list_step "Stmt" 1 ∷ plain_step "Expr" ∷ plain_step "Right" ∷ [])) (codes "Value") (tree.Int (pos 7)) }) refl refl refl refl
+    (line (record {
+      session = 1;
+      expected = Some 0;
+      command = Token (From_root (plain_step "Block" ∷ list_step "Stmt"
+          1 ∷ plain_step "Expr" ∷ plain_step "Right" ∷ [])) (codes "Value") (tree.Int (pos 7));
+    }) refl refl refl refl
     (line (record { session = 1; expected = None; command = Show (From_root (plain_step "Block" ∷ list_step "Stmt" 1 ∷ plain_step "Expr" ∷ plain_step "Right" ∷ [])) }) refl refl refl refl
     (line (record { session = 1; expected = Some 1; command = Version }) refl refl refl refl ends)))

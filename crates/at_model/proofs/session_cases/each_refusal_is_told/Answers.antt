@@ -20,7 +20,8 @@ returns c =
     (line (says (Ask (From_root (plain_step "Block" ∷ list_step "Stmt" 5 ∷ [])) (codes "value") ([]))) refl refl refl refl
     (line (says (Show (From_root (plain_step "Block" ∷ plain_step "Stmt" ∷ [])))) refl refl refl refl
     (line (says (Insert (From_root (plain_step "Block" ∷ [])) (codes "Init") 0 (term.Node (codes "Num") (term.cell (term.Holds (tree.Int (pos 1))) term.no_cells)))) refl refl refl refl
-    (line (says (Insert (From_root (plain_step "Block" ∷ [])) (codes "Stmt") 3 (term.Node (codes "Decl") (term.cell (term.Holds (tree.Text (codes "z"))) (term.cell term.Empty term.no_cells))))) refl refl refl refl
+    (line (says (Insert (From_root (plain_step "Block" ∷ [])) (codes "Stmt") 3 (term.Node (codes "Decl")
+    (term.cell (term.Holds (tree.Text (codes "z"))) (term.cell term.Empty term.no_cells))))) refl refl refl refl
     (line (says (Set (From_root (plain_step "Block" ∷ list_step "Stmt" 0 ∷ [])) (term.Node (codes "Expr") term.no_cells))) refl refl refl refl
     (line (says (Token (From_root (plain_step "Block" ∷ list_step "Stmt" 0 ∷ [])) (codes "ID") (tree.Int (pos 5)))) refl refl refl refl
     (question (says (Ask (From_root (plain_step "Block" ∷ [])) (codes "local") (Text (codes "q") ∷ []))) (Outcomes (Finds (run.Ref None))) refl refl refl (9, refl) refl ends))))))))

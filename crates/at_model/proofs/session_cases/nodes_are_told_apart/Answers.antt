@@ -14,6 +14,9 @@ use Rattle.at_model.proofs.session_cases.nodes_are_told_apart.Goals as goal
 pub returns : goal.returns
 unfolding chain digits reserved_words
 returns c =
-    line (says (Set (From_root (plain_step "Block" ∷ list_step "Stmt" 1 ∷ plain_step "Expr" ∷ [])) (term.Node (codes "Add") (term.cell (term.One (term.Node (codes "Num") (term.cell (term.Holds (tree.Int (pos 1))) term.no_cells))) (term.cell (term.One (term.Node (codes "Num") (term.cell (term.Holds (tree.Int (pos 1))) term.no_cells))) term.no_cells))))) refl refl refl refl
+    line (says (Set (From_root (plain_step "Block" ∷ list_step "Stmt" 1 ∷ plain_step "Expr" ∷ [])) (term.Node (codes
+    "Add") (term.cell (term.One (term.Node (codes "Num") (term.cell (term.Holds (tree.Int (pos 1))) term.no_cells)))
+    (term.cell (term.One (term.Node (codes "Num") (term.cell (term.Holds (tree.Int (pos 1))) term.no_cells)))
+    term.no_cells))))) refl refl refl refl
     (question (says (Ask (From_root (plain_step "Block" ∷ list_step "Stmt" 1 ∷ plain_step "Expr" ∷ [])) (codes "same") ([]))) (Outcomes (Finds (Truth false))) refl refl refl (9, refl) refl
     (question (says (Ask (From_root (plain_step "Block" ∷ list_step "Stmt" 1 ∷ plain_step "Expr" ∷ [])) (codes "alike") ([]))) (Outcomes (Finds (Truth true))) refl refl refl (9, refl) refl ends))

@@ -18,7 +18,9 @@ returns-clause-value c =
 pub returns-clause-decl : goal.returns-clause-decl
 unfolding chain digits reserved_words
 returns-clause-decl c =
-    question (says (Ask (From_root (plain_step "Block" ∷ list_step "Stmt" 1 ∷ plain_step "Expr" ∷ plain_step "Left" ∷ [])) (codes "decl") ([]))) (Outcomes (Finds (run.Ref (Some ((0, 0) ∷ (0, 0) ∷ []))))) refl refl refl (9, refl) refl ends
+    question (says (Ask (From_root
+    (plain_step "Block" ∷ list_step "Stmt" 1 ∷ plain_step "Expr" ∷ plain_step "Left" ∷ [])) (codes "decl") ([])))
+    (Outcomes (Finds (run.Ref (Some ((0, 0) ∷ (0, 0) ∷ []))))) refl refl refl (9, refl) refl ends
 
 pub returns-clause-twice : goal.returns-clause-twice
 unfolding chain digits reserved_words

@@ -22,13 +22,18 @@ pub returns-clause-least : goal.returns-clause-least
 unfolding chain digits reserved_words
 returns-clause-least c =
     line (says posting) refl refl refl refl
-    (answering_with (record { session = 1; expected = None; command = Post (From_root left_path) (codes "decl") [] }) (record (value_posted 1) { turns = 1 }) (Outcomes (Finds (Int (pos 3)))) refl refl refl refl refl refl (9, refl) refl
+    (answering_with (record { session = 1; expected = None; command = Post (From_root left_path) (codes "decl") [] })
+    (record (value_posted 1) { turns = 1 }) (Outcomes (Finds (Int (pos 3)))) refl refl refl refl refl refl
+    (9, refl) refl
     (answering_with (says Version) second (Outcomes (Finds (Ref (Some (statement 0))))) refl refl refl refl refl refl (9, refl) refl ends))
 
 pub returns-clause-circle : goal.returns-clause-circle
 unfolding chain digits reserved_words
 returns-clause-circle c =
-    answering_with (says (Post (From_root []) (codes "circ") [])) (record (value_posted 1) { place = From_root []; attribute = codes "circ" }) (Circle (of_node root 9)) refl refl refl refl refl refl self_circle refl ends
+    answering_with (says (Post (From_root []) (codes "circ") [])) (record (value_posted 1) {
+      place = From_root [];
+      attribute = codes "circ";
+    }) (Circle (of_node root 9)) refl refl refl refl refl refl self_circle refl ends
 
 pub returns-clause-path : goal.returns-clause-path
 unfolding chain digits reserved_words
@@ -39,5 +44,8 @@ returns-clause-path c =
 pub returns-clause-attribute : goal.returns-clause-attribute
 unfolding chain digits reserved_words
 returns-clause-attribute c =
-    answering (says (Post (From_root []) (codes "nosuch") [])) (record (value_posted 1) { place = From_root []; attribute = codes "nosuch" }) (Refused code.Attribute) refl refl refl refl refl refl refl
+    answering (says (Post (From_root []) (codes "nosuch") [])) (record (value_posted 1) {
+      place = From_root [];
+      attribute = codes "nosuch";
+    }) (Refused code.Attribute) refl refl refl refl refl refl refl
     (answering (says (Post (From_root printed_path) (codes "value") (Null ∷ []))) (record (value_posted 2) { arguments = Null ∷ [] }) (Refused code.Arguments) refl refl refl refl refl refl refl ends)

@@ -25,7 +25,8 @@ abbrev left : State
 left = record opened { posts = 1 }
 
 -- the line, and the turn that tells this
-line_and_turn : (said : Bool × Reply) → Turns calc waited 1 left (Some said) → Outputs calc 1 opened (codes "0 post /Block/Stmt:1/Expr value()\n") ((false, reply_to (says posting) (Opened 1)) ∷ said ∷ []) left
+line_and_turn : (said : Bool × Reply) → Turns calc waited 1 left (Some said) → Outputs calc 1 opened
+    (codes "0 post /Block/Stmt:1/Expr value()\n") ((false, reply_to (says posting) (Opened 1)) ∷ said ∷ []) left
 unfolding chain digits reserved_words
 line_and_turn said turn = record {
   mid = waited;

@@ -10,7 +10,8 @@ use Rattle.at_model.proofs.unread_cases.bytes_that_are_no_line.Goals as goal
 pub returns-clause-sessions : goal.returns-clause-sessions
 unfolding digits
 returns-clause-sessions c =
-    unread None (no_line (codes "1000") (codes " version") (refl, (refl, (refl, (refl, tt)))) refl no_thousand) (no_session (codes "1000") (codes " version") (refl, (refl, (refl, (refl, tt)))) refl no_thousand) refl
+    unread None (no_line (codes "1000") (codes " version") (refl, (refl, (refl, (refl, tt)))) refl no_thousand)
+    (no_session (codes "1000") (codes " version") (refl, (refl, (refl, (refl, tt)))) refl no_thousand) refl
     (unread None (no_line (codes "00") (codes " version") (refl, (refl, tt)) refl no_two_zeros) (no_session (codes "00") (codes " version") (refl, (refl, tt)) refl no_two_zeros) refl
     (line (record (says Version) { session = 999 }) refl refl refl refl ends))
 

@@ -28,8 +28,12 @@ returns c = record {
         | in-Some w ↦ (
             let up : up_in (old node) ≡ Some w.in-Some.place = sym c.up_at.ensures ∙ w.in-Some.is in
             let closed = w.close_gap.ensures.written old (reindexed_alike (place_in (stored_of c.args.slab.now)) (stored_of c.args.slab.now)) in
-            λ k. ap (λ o. with_index 0 (taken_out o index old k)) up ∙ ap (λ j. with_index 0 (taken_out (Some w.in-Some.place) j old k)) (sym (c.index_at-index.ensures once)) ∙ closed k ∙ ap (λ (s : Slab Entry). with_index 0 (stored_of s k)) (sym w.slab-is))
-        | in_default w ↦ (λ k. ap (λ o. with_index 0 (taken_out o index old k)) (sym c.up_at.ensures ∙ w.in_default.is) ∙ reindexed_alike (place_in (stored_of c.args.slab.now)) (stored_of c.args.slab.now) k ∙ ap (λ (s : Slab Entry). with_index 0 (stored_of s k)) (sym w.slab-is))
+            λ k. ap (λ o. with_index 0 (taken_out o index old k)) up ∙
+            ap (λ j. with_index 0 (taken_out (Some w.in-Some.place) j old k)) (sym (c.index_at-index.ensures once))
+            ∙ closed k ∙ ap (λ (s : Slab Entry). with_index 0 (stored_of s k)) (sym w.slab-is))
+        | in_default w ↦ (λ k. ap (λ o. with_index 0 (taken_out o index old k)) (sym c.up_at.ensures
+            ∙ w.in_default.is) ∙ reindexed_alike (place_in (stored_of c.args.slab.now)) (stored_of c.args.slab.now) k
+            ∙ ap (λ (s : Slab Entry). with_index 0 (stored_of s k)) (sym w.slab-is))
       ] in
       λ k. placed_alike node top (taken_out (up_in (old node)) index old) (stored_of c.match-up_at.slab) gap k ∙ ap (with_index 0) (sym (c.write_alone.ensures.written k));
 }

@@ -13,8 +13,13 @@ returns-in-Some c = record {
       let freed = viewed f c.free.new.slab in
       let index = index_in (old c.args.node) in
       let up : up_in (old c.args.node) ≡ Some c.in-Some.place = sym c.place_at-up.ensures ∙ c.in-Some.is in
-      let written = c.put_below.ensures.written freed (reindexed_alike f (stored_of c.free.new.slab)) in
-      (freed, c.free.ensures.freed f, λ k. ap (λ o. with_index 0 (replaced o index c.args.new freed k)) up ∙ ap (λ j. with_index 0 (replaced (Some c.in-Some.place) j c.args.new freed k)) (sym (c.index_at-index.ensures once)) ∙ written k);
+      let written = c.put_below.ensures.written freed (reindexed_alike f (stored_of c.free.new.slab)) in (
+        freed,
+        c.free.ensures.freed f,
+        λ k. ap (λ o. with_index 0 (replaced o index c.args.new freed k)) up
+            ∙ ap (λ j. with_index 0 (replaced (Some c.in-Some.place) j c.args.new freed k))
+            (sym (c.index_at-index.ensures once)) ∙ written k,
+      );
 }
 
 pub returns-in_default : goal.returns-in_default
@@ -23,6 +28,10 @@ returns-in_default c = record {
   written = λ once.
       let old = memory_of c.args.slab.now in
       let f = place_in (stored_of c.args.slab.now) in
-      let freed = viewed f c.free.new.slab in
-      (freed, c.free.ensures.freed f, λ k. ap (λ o. with_index 0 (replaced o (index_in (old c.args.node)) c.args.new freed k)) (sym c.place_at-up.ensures ∙ c.in_default.is) ∙ reindexed_alike f (stored_of c.free.new.slab) k);
+      let freed = viewed f c.free.new.slab in (
+        freed,
+        c.free.ensures.freed f,
+        λ k. ap (λ o. with_index 0 (replaced o (index_in (old c.args.node)) c.args.new
+            freed k)) (sym c.place_at-up.ensures ∙ c.in_default.is) ∙ reindexed_alike f (stored_of c.free.new.slab) k,
+      );
 }

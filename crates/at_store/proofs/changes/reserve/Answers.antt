@@ -17,7 +17,9 @@ returns-in-Some c =
     record {
       stays = arranged_same _ _ (written_same s key a cells there c.reserve_in_cells.ensures.stays);
       marks = marks_same s key a cells there;
-      room = on_ok c.reserve_in_cells.result (λ space. subst (λ (j : ℕ). HasRoom (with_value s key (new_entry s key a cells there)) j c.args.part) c.index.ensures (room_taken s key a cells there c.args.part space)) c.reserve_in_cells.ensures.room;
+      room = on_ok c.reserve_in_cells.result
+          (λ space. subst (λ (j : ℕ). HasRoom (with_value s key (new_entry s key a cells there)) j c.args.part)
+          c.index.ensures (room_taken s key a cells there c.args.part space)) c.reserve_in_cells.ensures.room;
     }
 
 pub returns-in-None : goal.returns-in-None

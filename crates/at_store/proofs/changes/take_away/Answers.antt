@@ -13,8 +13,12 @@ returns-in-Some c = record {
       let freed = viewed f c.free.new.slab in
       let index = index_in (old c.args.node) in
       let up : up_in (old c.args.node) ≡ Some c.in-Some.place = sym c.up_at-up.ensures ∙ c.in-Some.is in
-      let written = c.close_gap.ensures.written freed (reindexed_alike f (stored_of c.free.new.slab)) in
-      (freed, c.free.ensures.freed f, λ k. ap (λ o. with_index 0 (taken_out o index freed k)) up ∙ ap (λ j. with_index 0 (taken_out (Some c.in-Some.place) j freed k)) (sym (c.index_at-index.ensures once)) ∙ written k);
+      let written = c.close_gap.ensures.written freed (reindexed_alike f (stored_of c.free.new.slab)) in (
+        freed,
+        c.free.ensures.freed f,
+        λ k. ap (λ o. with_index 0 (taken_out o index freed k)) up ∙ ap (λ j.
+            with_index 0 (taken_out (Some c.in-Some.place) j freed k)) (sym (c.index_at-index.ensures once)) ∙ written k,
+      );
 }
 
 pub returns-in_default : goal.returns-in_default
@@ -23,6 +27,10 @@ returns-in_default c = record {
   written = λ once.
       let old = memory_of c.args.slab.now in
       let f = place_in (stored_of c.args.slab.now) in
-      let freed = viewed f c.free.new.slab in
-      (freed, c.free.ensures.freed f, λ k. ap (λ o. with_index 0 (taken_out o (index_in (old c.args.node)) freed k)) (sym c.up_at-up.ensures ∙ c.in_default.is) ∙ reindexed_alike f (stored_of c.free.new.slab) k);
+      let freed = viewed f c.free.new.slab in (
+        freed,
+        c.free.ensures.freed f,
+        λ k. ap (λ o. with_index 0 (taken_out o (index_in (old c.args.node)) freed k))
+            (sym c.up_at-up.ensures ∙ c.in_default.is) ∙ reindexed_alike f (stored_of c.free.new.slab) k,
+      );
 }

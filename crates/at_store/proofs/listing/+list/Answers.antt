@@ -36,7 +36,9 @@ list-loop-part-preserved t c =
 pub list-returns : goal.list-returns
 list-returns t c place x same apart stored shallow =
     let inv = c.loop-part.invariant in
-    whole_marked true (is_listed c.args.all.now.items) (is_listed c.loop-part.all.items) (memory_of c.args.slab.now) place x c.args.node c.loop-part.part same stored (omega (arith, inv.end, c.loop-part-test.false)) (inv.listed place x same apart stored shallow)
+    whole_marked true (is_listed c.args.all.now.items) (is_listed c.loop-part.all.items) (memory_of c.args.slab.now)
+    place x c.args.node c.loop-part.part same stored (omega (arith, inv.end, c.loop-part-test.false))
+    (inv.listed place x same apart stored shallow)
 
 pub list_slot-loop-index-init : goal.list_slot-loop-index-init
 list_slot-loop-index-init t c = record {
@@ -58,7 +60,9 @@ list_slot-loop-index-preserved t c =
             within = omega (arith, c.loop-index-test.true);
             listed = λ first place x same apart stored shallow h. rw w.all-is
                 (subst (λ (i : ℕ). IsSpreadTo true first (is_listed w.list.new.all.items) x (c.args.part, i)) (next c.loop-index.index)
-                (child_listed first memory c.loop-index.all.items w.list.new.all.items c.args.levels place x c.args.node c.args.part c.loop-index.index w.in-Some.kid same apart stored shallow at' (inv.listed first place x same apart stored shallow h) w.in_ok-list.ensures));
+                (child_listed first memory c.loop-index.all.items w.list.new.all.items c.args.levels place x c.args.node
+                c.args.part c.loop-index.index w.in-Some.kid same apart stored shallow at'
+                (inv.listed first place x same apart stored shallow h) w.in_ok-list.ensures));
           })
       | list_slot-in_default w ↦ (
           let nowhere : slice_get kids c.loop-index.index ≡ None = sym c.kid_at.ensures ∙ w.in_default.is in
@@ -69,4 +73,6 @@ list_slot-loop-index-preserved t c =
 pub list_slot-returns : goal.list_slot-returns
 list_slot-returns t c first place x same apart stored shallow h =
     let inv = c.loop-index.invariant in
-    part_marked true first (is_listed c.loop-index.all.items) (memory_of c.args.slab.now) place x c.args.node c.args.part c.loop-index.index same stored (sym inv.end ∙ omega (arith, inv.within, c.loop-index-test.false)) (inv.listed first place x same apart stored shallow h)
+    part_marked true first (is_listed c.loop-index.all.items) (memory_of c.args.slab.now) place x c.args.node
+    c.args.part c.loop-index.index same stored (sym inv.end ∙ omega (arith, inv.within, c.loop-index-test.false))
+    (inv.listed first place x same apart stored shallow h)

@@ -15,7 +15,8 @@ decreases-list_slot l = 2 * l.levels + 1
 abbrev pub invariant-list-loop-part : goal.invariant-list-loop-part
 invariant-list-loop-part l = record {
   end : l.part-end ≡ length (cells_in (memory_of l.slab l.node));
-  listed : (place : Place) (x : Tree) → class_of x ≡ l.node → IsApart x → Stored (memory_of l.slab) place x → IsShallow l.levels x → IsSpreadTo true (is_listed l.fn.all.items) (is_listed l.all.items) x (l.part, 0);
+  listed : (place : Place) (x : Tree) → class_of x ≡ l.node → IsApart x → Stored (memory_of l.slab) place x
+      → IsShallow l.levels x → IsSpreadTo true (is_listed l.fn.all.items) (is_listed l.all.items) x (l.part, 0);
 }
 
 abbrev pub invariant-list_slot-loop-index : goal.invariant-list_slot-loop-index

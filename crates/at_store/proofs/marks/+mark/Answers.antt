@@ -31,13 +31,17 @@ mark-loop-part-preserved t c =
       marks = λ place x same apart stored shallow.
           let less : c.args.levels ≡ suc (c.args.levels - 1) = omega (arith, c.if-levels-eq0.false) in
           subst (λ (i : ℕ). IsSpreadTo c.args.leaves (leaves_in c.args.slab.now) (leaves_in c.mark_slot.new.slab) x (i, 0)) (next c.loop-part.part)
-          (c.mark_slot.ensures.marks (leaves_in c.args.slab.now) place x same apart (stored_same c.args.slab.now c.loop-part.slab inv.stays place x stored) (subst (λ (n : ℕ). IsShallow n x) less shallow) (inv.marks place x same apart stored shallow));
+          (c.mark_slot.ensures.marks (leaves_in c.args.slab.now) place x same apart
+          (stored_same c.args.slab.now c.loop-part.slab inv.stays place x stored)
+          (subst (λ (n : ℕ). IsShallow n x) less shallow) (inv.marks place x same apart stored shallow));
     }
 
 pub mark-returns-clause-marks : goal.mark-returns-clause-marks
 mark-returns-clause-marks t c place x same apart stored shallow =
     let inv = c.loop-part.invariant in
-    whole_marked c.args.leaves (leaves_in c.args.slab.now) (leaves_in c.loop-part.slab) (memory_of c.args.slab.now) place x c.args.node c.loop-part.part same stored (omega (arith, inv.end, c.loop-part-test.false)) (inv.marks place x same apart stored shallow)
+    whole_marked c.args.leaves (leaves_in c.args.slab.now) (leaves_in c.loop-part.slab) (memory_of c.args.slab.now)
+    place x c.args.node c.loop-part.part same stored (omega (arith, inv.end, c.loop-part-test.false))
+    (inv.marks place x same apart stored shallow)
 
 pub mark_slot-loop-index-init : goal.mark_slot-loop-index-init
 mark_slot-loop-index-init t c = record {
@@ -54,7 +58,8 @@ mark_slot-loop-index-preserved t c =
     let inv = c.loop-index.invariant in
     elim c.match-kid_at.branch [
       | mark_slot-in-Some w ↦ (
-          let at' : slice_get kids c.loop-index.index ≡ Some w.in-Some.kid = ap (λ o. slice_get (kids_in o c.args.part) c.loop-index.index) (sym (inv.stays c.args.node)) ∙ sym c.kid_at.ensures ∙ w.in-Some.is in
+          let at' : slice_get kids c.loop-index.index ≡ Some w.in-Some.kid = ap (λ o. slice_get (kids_in o c.args.part)
+          c.loop-index.index) (sym (inv.stays c.args.node)) ∙ sym c.kid_at.ensures ∙ w.in-Some.is in
           record {
             end = inv.end;
             within = omega (arith, c.loop-index-test.true);
@@ -62,10 +67,13 @@ mark_slot-loop-index-preserved t c =
             marks = λ first place x same apart stored shallow h.
                 subst (λ (s : Slab Entry). IsSpreadTo c.args.leaves first (leaves_in s) x (c.args.part, c.loop-index.index + 1)) (sym w.slab-is)
                 (subst (λ (i : ℕ). IsSpreadTo c.args.leaves first (leaves_in w.mark.new.slab) x (c.args.part, i)) (next c.loop-index.index)
-                (child_marked first c.args.slab.now c.loop-index.slab w.mark.new.slab c.args.leaves c.args.levels place x c.args.node c.args.part c.loop-index.index w.in-Some.kid same apart stored inv.stays shallow at' (inv.marks first place x same apart stored shallow h) w.mark.ensures.marks));
+                (child_marked first c.args.slab.now c.loop-index.slab w.mark.new.slab c.args.leaves c.args.levels place
+                x c.args.node c.args.part c.loop-index.index w.in-Some.kid same apart stored inv.stays shallow at'
+                (inv.marks first place x same apart stored shallow h) w.mark.ensures.marks));
           })
       | mark_slot-in_default w ↦ (
-          let nowhere : slice_get kids c.loop-index.index ≡ None = ap (λ o. slice_get (kids_in o c.args.part) c.loop-index.index) (sym (inv.stays c.args.node)) ∙ sym c.kid_at.ensures ∙ w.in_default.is in
+          let nowhere : slice_get kids c.loop-index.index ≡ None = ap (λ o. slice_get (kids_in o c.args.part)
+          c.loop-index.index) (sym (inv.stays c.args.node)) ∙ sym c.kid_at.ensures ∙ w.in_default.is in
           let past : length kids ≤ c.loop-index.index = none_past kids c.loop-index.index nowhere in
           absurd (omega (arith, past, c.loop-index-test.true, inv.end)))
     ]
@@ -73,4 +81,6 @@ mark_slot-loop-index-preserved t c =
 pub mark_slot-returns-clause-marks : goal.mark_slot-returns-clause-marks
 mark_slot-returns-clause-marks t c first place x same apart stored shallow h =
     let inv = c.loop-index.invariant in
-    part_marked c.args.leaves first (leaves_in c.loop-index.slab) (memory_of c.args.slab.now) place x c.args.node c.args.part c.loop-index.index same stored (sym inv.end ∙ omega (arith, inv.within, c.loop-index-test.false)) (inv.marks first place x same apart stored shallow h)
+    part_marked c.args.leaves first (leaves_in c.loop-index.slab) (memory_of c.args.slab.now) place x c.args.node
+    c.args.part c.loop-index.index same stored (sym inv.end ∙ omega (arith, inv.within, c.loop-index-test.false))
+    (inv.marks first place x same apart stored shallow h)

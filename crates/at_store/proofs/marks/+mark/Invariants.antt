@@ -15,7 +15,8 @@ abbrev pub invariant-mark-loop-part : goal.invariant-mark-loop-part
 invariant-mark-loop-part l = record {
   end : l.part-end ≡ length (cells_in (memory_of l.fn.slab l.node));
   stays : (k : ℕ) → memory_of l.slab k ≡ memory_of l.fn.slab k;
-  marks : (place : Place) (x : Tree) → class_of x ≡ l.node → IsApart x → Stored (memory_of l.fn.slab) place x → IsShallow l.levels x → IsSpreadTo l.leaves (leaves_in l.fn.slab) (leaves_in l.slab) x (l.part, 0);
+  marks : (place : Place) (x : Tree) → class_of x ≡ l.node → IsApart x → Stored (memory_of l.fn.slab) place x
+      → IsShallow l.levels x → IsSpreadTo l.leaves (leaves_in l.fn.slab) (leaves_in l.slab) x (l.part, 0);
 }
 
 abbrev pub invariant-mark_slot-loop-index : goal.invariant-mark_slot-loop-index

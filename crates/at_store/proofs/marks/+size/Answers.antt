@@ -18,6 +18,8 @@ pub size_at-returns : goal.size_at-returns
 size_at-returns t c =
     let memory = memory_of c.args.slab.now in
     let f = size_told memory (c.args.levels - 1) in
-    let none : slots_size f (map kept_view (drop c.loop-slot.slot-index c.slots_at-slot-items.result.now)) ≡ 0 = ap (λ xs. slots_size f (map kept_view xs)) (drop_all c.loop-slot.slot-index c.slots_at-slot-items.result.now c.loop-slot-test.false) in
+    let none : slots_size f (map kept_view (drop c.loop-slot.slot-index c.slots_at-slot-items.result.now)) ≡ 0 =
+    ap (λ xs. slots_size f (map kept_view xs))
+    (drop_all c.loop-slot.slot-index c.slots_at-slot-items.result.now c.loop-slot-test.false) in
     let whole = ap (slots_size f) c.slots_at-slot-items.ensures in
     omega (arith, none, whole, size_above memory c.args.levels c.args.node (omega (arith, c.if-levels-eq0.false)), c.loop-slot.invariant.0, c.loop-slot.invariant.1)

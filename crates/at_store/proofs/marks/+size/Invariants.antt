@@ -12,7 +12,11 @@ decreases-list_size l = 2 * l.levels + 1
 
 -- what is counted, and what is left to count
 abbrev pub invariant-size_at-loop-slot : goal.invariant-size_at-loop-slot
-invariant-size_at-loop-slot l = (l.count ≤ 18446744073709551615) × (min (l.count + slots_size (size_told (memory_of l.slab) (l.levels - 1)) (map kept_view (drop l.slot-index l.slot-items))) 18446744073709551615 ≡ min (1 + slots_size (size_told (memory_of l.slab) (l.levels - 1)) (map kept_view l.slot-items)) 18446744073709551615)
+invariant-size_at-loop-slot l = (l.count ≤ 18446744073709551615) × (min (l.count + slots_size (size_told
+    (memory_of l.slab) (l.levels - 1)) (map kept_view (drop l.slot-index l.slot-items))) 18446744073709551615 ≡ min
+    (1 + slots_size (size_told (memory_of l.slab) (l.levels - 1)) (map kept_view l.slot-items)) 18446744073709551615)
 
 abbrev pub invariant-list_size-loop-kid : goal.invariant-list_size-loop-kid
-invariant-list_size-loop-kid l = (l.count ≤ 18446744073709551615) × (min (l.count + kids_size (size_told (memory_of l.slab) l.levels) (drop l.kid-index l.kids)) 18446744073709551615 ≡ min (kids_size (size_told (memory_of l.slab) l.levels) l.kids) 18446744073709551615)
+invariant-list_size-loop-kid l = (l.count ≤ 18446744073709551615)
+    × (min (l.count + kids_size (size_told (memory_of l.slab) l.levels) (drop l.kid-index l.kids)) 18446744073709551615
+    ≡ min (kids_size (size_told (memory_of l.slab) l.levels) l.kids) 18446744073709551615)

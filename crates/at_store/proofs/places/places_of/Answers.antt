@@ -9,17 +9,21 @@ use Rattle.at_store.proofs.places.places_of.Goals as goal
 pub returns-in-Set : goal.returns-in-Set
 returns-in-Set c leaves listed l child h =
     let memory = memory_of c.args.slab.now in
-    subst (λ (q : Prepared). touches_by nat_eq (told memory) leaves (change_in q) l ≡ false) (sym c.in-Set.is) (set_spared memory leaves c.args.leaving.now listed l c.in-Set.node c.parent.result c.parent.ensures h)
+    subst (λ (q : Prepared). touches_by nat_eq (told memory) leaves (change_in q) l ≡ false) (sym c.in-Set.is)
+    (set_spared memory leaves c.args.leaving.now listed l c.in-Set.node c.parent.result c.parent.ensures h)
 
 pub returns-in-Put : goal.returns-in-Put
 returns-in-Put c leaves listed l child h =
     let memory = memory_of c.args.slab.now in
-    subst (λ (q : Prepared). touches_by nat_eq (told memory) leaves (change_in q) l ≡ false) (sym c.in-Put.is) (put_spared memory leaves c.args.leaving.now listed l c.in-Put.node c.in-Put.part c.alone.result c.alone.ensures h)
+    subst (λ (q : Prepared). touches_by nat_eq (told memory) leaves (change_in q) l ≡ false) (sym c.in-Put.is)
+    (put_spared memory leaves c.args.leaving.now listed l c.in-Put.node c.in-Put.part c.alone.result
+    c.alone.ensures h)
 
 pub returns-in-Drop : goal.returns-in-Drop
 returns-in-Drop c leaves listed l child h =
     let memory = memory_of c.args.slab.now in
-    subst (λ (q : Prepared). touches_by nat_eq (told memory) leaves (change_in q) l ≡ false) (sym c.in-Drop.is) (drop_spared memory leaves c.args.leaving.now listed l c.in-Drop.node c.around.result c.around.ensures child h)
+    subst (λ (q : Prepared). touches_by nat_eq (told memory) leaves (change_in q) l ≡ false) (sym c.in-Drop.is)
+    (drop_spared memory leaves c.args.leaving.now listed l c.in-Drop.node c.around.result c.around.ensures child h)
 
 pub returns-in-Insert : goal.returns-in-Insert
 returns-in-Insert c leaves listed l child h =
@@ -30,10 +34,13 @@ returns-in-Insert c leaves listed l child h =
 pub returns-in-Token : goal.returns-in-Token
 returns-in-Token c leaves listed l child h =
     let memory = memory_of c.args.slab.now in
-    subst (λ (q : Prepared). touches_by nat_eq (told memory) leaves (change_in q) l ≡ false) (sym c.in-Token.is) (token_spared_by memory leaves c.args.leaving.now listed l c.in-Token.node c.in-Token.part c.alone-in-Token.result c.alone-in-Token.ensures h)
+    subst (λ (q : Prepared). touches_by nat_eq (told memory) leaves (change_in q) l ≡ false) (sym c.in-Token.is)
+    (token_spared_by memory leaves c.args.leaving.now listed l c.in-Token.node c.in-Token.part
+    c.alone-in-Token.result c.alone-in-Token.ensures h)
 
 pub returns-in-Move : goal.returns-in-Move
 returns-in-Move c leaves listed l child h =
     let memory = memory_of c.args.slab.now in
     subst (λ (q : Prepared). touches_by nat_eq (told memory) leaves (change_in q) l ≡ false) (sym c.in-Move.is)
-    (move_spared memory leaves c.args.leaving.now listed l c.in-Move.node c.in-Move.to c.in-Move.part c.component-in-Move.result c.around-in-Move.result c.component-in-Move.ensures c.around-in-Move.ensures child h)
+    (move_spared memory leaves c.args.leaving.now listed l c.in-Move.node c.in-Move.to c.in-Move.part
+    c.component-in-Move.result c.around-in-Move.result c.component-in-Move.ensures c.around-in-Move.ensures child h)

@@ -17,7 +17,8 @@ abbrev pub invariant-free-loop-slot : goal.invariant-free-loop-slot
 invariant-free-loop-slot l = record {
   fewer : slab_len l.slab < slab_len l.fn.slab;
   cells : (i : Info) × (stored_of l.fn.slab l.fn.node ≡ Some i) × (i.cells ≡ map kept_view l.slot-items);
-  freed : (f : ℕ → Option (ℕ × ℕ) → ℕ → ℕ) (place : Place) (x : Tree) → class_of x ≡ l.fn.node → IsApart x → Stored (viewed f l.fn.slab) place x → IsFreedTo (viewed f l.fn.slab) (viewed f l.slab) x (l.slot-index, 0);
+  freed : (f : ℕ → Option (ℕ × ℕ) → ℕ → ℕ) (place : Place) (x : Tree) → class_of x ≡ l.fn.node → IsApart x
+      → Stored (viewed f l.fn.slab) place x → IsFreedTo (viewed f l.fn.slab) (viewed f l.slab) x (l.slot-index, 0);
   marks : (k : ℕ) → leaves_in l.slab k ≡ true → leaves_in l.fn.slab k ≡ true;
 }
 
@@ -26,6 +27,8 @@ invariant-free_slot-loop-kid l = record {
   fewer : slab_len l.slab ≤ slab_len l.fn.slab;
   kids : numbers_in (Some (kept_view l.slot)) ≡ l.kid-items;
   within : l.kid-index ≤ length l.kid-items;
-  freed : (f : ℕ → Option (ℕ × ℕ) → ℕ → ℕ) (before : ℕ → Option Info) (place : Place) (x : Tree) (part : ℕ) → IsApart x → Stored before place x → slice_get (kept_of x) part ≡ Some (kept_view l.slot) → IsFreedTo before (viewed f l.fn.slab) x (part, 0) → IsFreedTo before (viewed f l.slab) x (part, l.kid-index);
+  freed : (f : ℕ → Option (ℕ × ℕ) → ℕ → ℕ) (before : ℕ → Option Info) (place : Place) (x : Tree) (part : ℕ) → IsApart x
+      → Stored before place x → slice_get (kept_of x) part ≡ Some (kept_view l.slot)
+      → IsFreedTo before (viewed f l.fn.slab) x (part, 0) → IsFreedTo before (viewed f l.slab) x (part, l.kid-index);
   marks : (k : ℕ) → leaves_in l.slab k ≡ true → leaves_in l.fn.slab k ≡ true;
 }

@@ -6,10 +6,12 @@ use Rattle.at_store.proofs.Written.{slot_same, slot_changed}
 use Rattle.at_store.proofs.plant.push_in_cells.Goals as goal
 
 pub returns-in_err-push_in_slot-clause-kept : goal.returns-in_err-push_in_slot-clause-kept
-returns-in_err-push_in_slot-clause-kept c = at_err c.from_residual.result (slot_same c.args.cells.now.items c.args.part c.in-Some.slot.now c.push_in_slot.new.slot (sym c.in-Some.ensures.value) c.in_err-push_in_slot.ensures.kept)
+returns-in_err-push_in_slot-clause-kept c = at_err c.from_residual.result (slot_same c.args.cells.now.items c.args.part
+    c.in-Some.slot.now c.push_in_slot.new.slot (sym c.in-Some.ensures.value) c.in_err-push_in_slot.ensures.kept)
 
 pub returns-in_ok-push_in_slot-clause-pushed : goal.returns-in_ok-push_in_slot-clause-pushed
-returns-in_ok-push_in_slot-clause-pushed c = slot_changed _ c.args.cells.now.items c.args.part c.in-Some.slot.now c.push_in_slot.new.slot (sym c.in-Some.ensures.value) c.in_ok-push_in_slot.ensures.pushed
+returns-in_ok-push_in_slot-clause-pushed c = slot_changed _ c.args.cells.now.items c.args.part c.in-Some.slot.now
+    c.push_in_slot.new.slot (sym c.in-Some.ensures.value) c.in_ok-push_in_slot.ensures.pushed
 
 pub returns-in_default-clause-pushed : goal.returns-in_default-clause-pushed
 returns-in_default-clause-pushed c =

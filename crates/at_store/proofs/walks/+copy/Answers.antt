@@ -20,7 +20,9 @@ tree_at-returns t c =
     let memory = memory_of c.args.slab.now in
     let deeper = shown_below memory (c.args.levels - 1) in
     made_tree c.class_at-class.result c.loop-slot.cells ∙
-    ap (λ xs. branch c.class_at-class.result (to_cells xs)) (c.loop-slot.invariant ∙ ap (λ xs. map (grown_cell deeper) (map kept_view xs)) (take_all c.loop-slot.slot-index c.slots_at-slot-items.result.now c.loop-slot-test.false) ∙ ap (map (grown_cell deeper)) c.slots_at-slot-items.ensures) ∙
+    ap (λ xs. branch c.class_at-class.result (to_cells xs)) (c.loop-slot.invariant ∙ ap (λ xs. map (grown_cell deeper)
+    (map kept_view xs)) (take_all c.loop-slot.slot-index c.slots_at-slot-items.result.now c.loop-slot-test.false)
+    ∙ ap (map (grown_cell deeper)) c.slots_at-slot-items.ensures) ∙
     ap (λ k. branch k (to_cells (map (grown_cell deeper) (cells_in (memory c.args.node))))) c.class_at-class.ensures ∙
     sym (level_above memory c.args.levels c.args.node (omega (arith, c.if-levels-eq0.false)))
 

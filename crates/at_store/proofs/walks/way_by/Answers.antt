@@ -12,15 +12,24 @@ returns-then-index-len c = sym (step_nowhere c.args.classes.now c.args.class (st
 pub returns-in_err-index : goal.returns-in_err-index
 returns-in_err-index c =
     let same = c.parts.ensures in
-    let named : part_named c.args.classes.now c.args.class (step_view c.args.step.now).part ≡ Some c.in_ok-part.part = ap (part_named c.args.classes.now c.args.class) (sym c.as_str.ensures.value) ∙ sym c.in_ok-part.ensures.found in
+    let named : part_named c.args.classes.now c.args.class (step_view c.args.step.now).part ≡ Some c.in_ok-part.part =
+    ap (part_named c.args.classes.now c.args.class) (sym c.as_str.ensures.value) ∙ sym c.in_ok-part.ensures.found in
     let within : c.in_ok-part.part < length c.parts.result.now = subst (λ n. c.in_ok-part.part < n) (ap length (sym same) ∙ length-map c.parts.result.now part_view) c.in_ok-part.ensures.within in
-    let place : place_in (shape_view c.index-parts-part.result.shape) c.args.step.now.index ≡ None = ap (λ q. place_in (shape_view q.shape) c.args.step.now.index) c.index-parts-part.is ∙ sym c.in_err-index.ensures in
-    c.from_residual-in_err-index.ensures ∙ sym (step_there c.args.classes.now c.args.class (step_view c.args.step.now) c.in_ok-part.part c.parts.result.now c.index-parts-part.result same named within c.index-parts-part.is ∙ ap (option_map (λ i. (c.in_ok-part.part, i))) place)
+    let place : place_in (shape_view c.index-parts-part.result.shape) c.args.step.now.index ≡ None = ap (λ q.
+    place_in (shape_view q.shape) c.args.step.now.index) c.index-parts-part.is ∙ sym c.in_err-index.ensures in
+    c.from_residual-in_err-index.ensures ∙ sym (step_there c.args.classes.now c.args.class (step_view c.args.step.now)
+    c.in_ok-part.part c.parts.result.now c.index-parts-part.result same named within c.index-parts-part.is
+    ∙ ap (option_map (λ i. (c.in_ok-part.part, i))) place)
 
 pub returns : goal.returns
 returns c =
     let same = c.parts.ensures in
-    let named : part_named c.args.classes.now c.args.class (step_view c.args.step.now).part ≡ Some c.in_ok-part.part = ap (part_named c.args.classes.now c.args.class) (sym c.as_str.ensures.value) ∙ sym c.in_ok-part.ensures.found in
+    let named : part_named c.args.classes.now c.args.class (step_view c.args.step.now).part ≡ Some c.in_ok-part.part =
+    ap (part_named c.args.classes.now c.args.class) (sym c.as_str.ensures.value) ∙ sym c.in_ok-part.ensures.found in
     let within : c.in_ok-part.part < length c.parts.result.now = subst (λ n. c.in_ok-part.part < n) (ap length (sym same) ∙ length-map c.parts.result.now part_view) c.in_ok-part.ensures.within in
-    let place : place_in (shape_view c.index-parts-part.result.shape) c.args.step.now.index ≡ Some c.in_ok-index.index = ap (λ q. place_in (shape_view q.shape) c.args.step.now.index) c.index-parts-part.is ∙ sym c.in_ok-index.ensures in
-    sym (step_there c.args.classes.now c.args.class (step_view c.args.step.now) c.in_ok-part.part c.parts.result.now c.index-parts-part.result same named within c.index-parts-part.is ∙ ap (option_map (λ i. (c.in_ok-part.part, i))) place)
+    let place : place_in (shape_view c.index-parts-part.result.shape) c.args.step.now.index ≡ Some c.in_ok-index.index =
+    ap (λ q. place_in (shape_view q.shape) c.args.step.now.index) c.index-parts-part.is
+    ∙ sym c.in_ok-index.ensures in
+    sym (step_there c.args.classes.now c.args.class (step_view c.args.step.now) c.in_ok-part.part c.parts.result.now
+    c.index-parts-part.result same named within c.index-parts-part.is
+    ∙ ap (option_map (λ i. (c.in_ok-part.part, i))) place)

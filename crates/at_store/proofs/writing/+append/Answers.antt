@@ -19,7 +19,8 @@ pub append_list-returns-in_err-append_tree-clause-err : goal.append_list-returns
 append_list-returns-in_err-append_tree-clause-err t c =
     let p = err_from_is_err_and c.from_residual-in_err-append_tree.result c.from_residual-in_err-append_tree.ensures.1 in
     let deeper = shown_below (memory_of c.args.slab.now) c.args.levels in
-    rw p.1 (stays _ _ _ _ (one_sep _ (91 ∷ []) (numbers_so_far c.args.classes.now deeper c.args.kids.now c.loop-i.i) _ _ _ c.loop-i.invariant c.in_ok-separate.ensures.ok) c.in_err-append_tree.ensures.err)
+    rw p.1 (stays _ _ _ _ (one_sep _ (91 ∷ []) (numbers_so_far c.args.classes.now deeper c.args.kids.now c.loop-i.i)
+    _ _ _ c.loop-i.invariant c.in_ok-separate.ensures.ok) c.in_err-append_tree.ensures.err)
 
 pub append_list-loop-i-preserved : goal.append_list-loop-i-preserved
 append_list-loop-i-preserved t c =
@@ -42,7 +43,8 @@ append_tree-returns-then-levels-eq0-clause-ok t c =
     let name = name_of classes (class_in memory c.args.node) in
     let opened = c.in_ok-open.ensures.ok ∙ ap (λ k. c.args.out.now.items ++ (name_of classes k ++ 40 ∷ [])) c.class_at.ensures in
     c.in_ok-push.ensures.items ∙ ap (λ ys. ys ++ 41 ∷ []) opened ∙ append_assoc c.args.out.now.items (name ++ 40 ∷ []) (41 ∷ [])
-    ∙ ap (λ ys. c.args.out.now.items ++ ys) (append_assoc name (40 ∷ []) (41 ∷ []) ∙ sym (ap (λ n. tree_text classes (shown_below memory n c.args.node)) c.if-levels-eq0.true ∙ text_at_no_level classes memory c.args.node))
+    ∙ ap (λ ys. c.args.out.now.items ++ ys) (append_assoc name (40 ∷ []) (41 ∷ []) ∙ sym (ap (λ n. tree_text classes
+    (shown_below memory n c.args.node)) c.if-levels-eq0.true ∙ text_at_no_level classes memory c.args.node))
 
 pub append_tree-returns-in_err-separate-clause-err : goal.append_tree-returns-in_err-separate-clause-err
 append_tree-returns-in_err-separate-clause-err t c =
@@ -54,7 +56,9 @@ append_tree-returns-in_err-append_slot-clause-err t c =
     let p = err_from_is_err_and c.from_residual-in_err-append_slot.result c.from_residual-in_err-append_slot.ensures.1 in
     let memory = memory_of c.args.slab.now in
     let classes = c.args.classes.now in
-    rw p.1 (stays _ _ _ _ (one_sep _ (name_of classes (class_in memory c.args.node) ++ 40 ∷ []) (slots_so_far classes (shown_below memory (c.args.levels - 1)) c.slots_at-slot-items.result.now c.loop-i.i) _ _ _ c.loop-i.invariant c.in_ok-separate.ensures.ok) c.in_err-append_slot.ensures.err)
+    rw p.1 (stays _ _ _ _ (one_sep _ (name_of classes (class_in memory c.args.node) ++ 40 ∷ [])
+    (slots_so_far classes (shown_below memory (c.args.levels - 1)) c.slots_at-slot-items.result.now c.loop-i.i)
+    _ _ _ c.loop-i.invariant c.in_ok-separate.ensures.ok) c.in_err-append_slot.ensures.err)
 
 pub append_tree-loop-i-preserved : goal.append_tree-loop-i-preserved
 append_tree-loop-i-preserved t c =
@@ -64,7 +68,8 @@ append_tree-loop-i-preserved t c =
     let text = slot_text classes deeper in
     let xs = c.slots_at-slot-items.result.now in
     let next = commas-more text xs c.loop-i.i c.slot-item.result (omega arith) c.slot-item.is in
-    one_more _ (name_of classes (class_in memory c.args.node) ++ 40 ∷ []) (slots_so_far classes deeper xs c.loop-i.i) (separator c.loop-i.i) (text c.slot-item.result) c.loop-i.out.items c.separate.new.out.items _ _
+    one_more _ (name_of classes (class_in memory c.args.node) ++ 40 ∷ []) (slots_so_far classes deeper xs c.loop-i.i)
+    (separator c.loop-i.i) (text c.slot-item.result) c.loop-i.out.items c.separate.new.out.items _ _
     c.loop-i.invariant c.in_ok-separate.ensures.ok c.in_ok-append_slot.ensures.ok next
 
 pub append_tree-returns-clause-ok : goal.append_tree-returns-clause-ok
@@ -74,4 +79,6 @@ append_tree-returns-clause-ok t c =
     let name = name_of classes (class_in memory c.args.node) in
     let so_far = slots_so_far classes (shown_below memory (c.args.levels - 1)) c.slots_at-slot-items.result.now c.loop-i.i in
     closed _ (name ++ 40 ∷ []) so_far c.loop-i.out.items _ (41 ∷ []) c.loop-i.invariant c.in_ok-push-2.ensures.items
-    ∙ ap (λ ys. c.args.out.now.items ++ ys) (append_assoc name (40 ∷ []) (so_far ++ 41 ∷ []) ∙ sym (text_above classes memory c.args.levels c.args.node c.slots_at-slot-items.result.now c.loop-i.i (omega (arith, c.if-levels-eq0.false)) c.loop-i-test.false c.slots_at-slot-items.ensures))
+    ∙ ap (λ ys. c.args.out.now.items ++ ys) (append_assoc name (40 ∷ []) (so_far ++ 41 ∷ [])
+    ∙ sym (text_above classes memory c.args.levels c.args.node c.slots_at-slot-items.result.now c.loop-i.i
+    (omega (arith, c.if-levels-eq0.false)) c.loop-i-test.false c.slots_at-slot-items.ensures))

@@ -22,7 +22,9 @@ abbrev pub decreases-append_slot : goal.decreases-append_slot
 decreases-append_slot l = 5 * l.levels + 4
 
 abbrev pub invariant-append_tree-loop-i : goal.invariant-append_tree-loop-i
-invariant-append_tree-loop-i l = l.out.items ≡ l.fn.out.items ++ ((name_of l.classes (class_in (memory_of l.slab) l.fn.node) ++ 40 ∷ []) ++ slots_so_far l.classes (shown_below (memory_of l.slab) (l.levels - 1)) l.slot-items l.i)
+invariant-append_tree-loop-i l = l.out.items ≡ l.fn.out.items
+    ++ ((name_of l.classes (class_in (memory_of l.slab) l.fn.node) ++ 40 ∷ [])
+    ++ slots_so_far l.classes (shown_below (memory_of l.slab) (l.levels - 1)) l.slot-items l.i)
 
 abbrev pub invariant-append_list-loop-i : goal.invariant-append_list-loop-i
 invariant-append_list-loop-i l = l.out.items ≡ l.fn.out.items ++ (91 ∷ numbers_so_far l.classes (shown_below (memory_of l.slab) l.levels) l.kids l.i)

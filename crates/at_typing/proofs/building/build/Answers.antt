@@ -28,7 +28,9 @@ complete_rules-requires c =
     let classes = c.args.classes in
     let keys = c.in_ok-declared.declared.names.keys in
     let named = subst (All (IsNamed keys)) (sym c.deref.ensures.value) c.in_ok-declared.ensures.named in
-    subst (λ xs. (first_fault classes (map numbered_view xs) ≡ None) × Stands keys (meanings classes (map numbered_view xs) (map numbered_view xs)) c.in_ok-meant.meant) c.deref.ensures.value (c.in_ok-meant.ensures.0, c.in_ok-meant.ensures.1 keys named)
+    subst (λ xs. (first_fault classes (map numbered_view xs) ≡ None)
+    × Stands keys (meanings classes (map numbered_view xs) (map numbered_view xs)) c.in_ok-meant.meant)
+    c.deref.ensures.value (c.in_ok-meant.ensures.0, c.in_ok-meant.ensures.1 keys named)
 
 pub returns-clause-built : goal.returns-clause-built
 returns-clause-built c = subst (λ ds. Builds c.args.classes ds c.complete_rules.result) c.in_ok-declared.ensures.declared c.complete_rules.ensures.built

@@ -35,7 +35,9 @@ returns-in_err-add c =
     let i = c.loop-numbered.numbered-index in
     let d = c.numbered-item.result in
     let p = err_from_is_err_and c.from_residual-in_err-add.result c.from_residual-in_err-add.ensures.1 in
-    rw (p.1, p.2) (refused_here classes xs i d c.loop-numbered.meant c.add.new.meant c.in_err-add.field-0.0 (omega arith) c.numbered-item.is (c.in_err-add.ensures xs (is_about xs i d _ (omega arith) c.numbered-item.is c.in_ok-signatures.ensures c.requires.1 c.requires.0)) c.loop-numbered.invariant.0)
+    rw (p.1, p.2) (refused_here classes xs i d c.loop-numbered.meant c.add.new.meant c.in_err-add.field-0.0
+    (omega arith) c.numbered-item.is (c.in_err-add.ensures xs (is_about xs i d _ (omega arith) c.numbered-item.is
+    c.in_ok-signatures.ensures c.requires.1 c.requires.0)) c.loop-numbered.invariant.0)
 
 pub returns : goal.returns
 returns c = all_meant c.args.classes.now c.args.declared.now c.loop-numbered.numbered-index c.loop-numbered.meant (omega arith) c.loop-numbered.invariant.0 c.loop-numbered.invariant.1

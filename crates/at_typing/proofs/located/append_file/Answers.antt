@@ -10,7 +10,8 @@ loop-aspect-preserved c =
     let file = c.args.file in
     let a = c.aspect-item.result in
     let left = λ (as' : List Aspect). from_file file (map aspect_view as') in
-    next_part left left _ _ (from_aspect file (aspect_view a)) _ c.args.aspects.now c.loop-aspect.aspect-index a (omega arith) c.aspect-item.is (λ rest. refl) c.in_ok-append_aspect.ensures c.loop-aspect.invariant
+    next_part left left _ _ (from_aspect file (aspect_view a)) _ c.args.aspects.now c.loop-aspect.aspect-index a
+    (omega arith) c.aspect-item.is (λ rest. refl) c.in_ok-append_aspect.ensures c.loop-aspect.invariant
 
 pub returns : goal.returns
 returns c =

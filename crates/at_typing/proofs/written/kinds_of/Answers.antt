@@ -11,7 +11,10 @@ loop-param-preserved c =
     let left = λ (ps : List Param). map (λ p. written_kind c.args.classes.now (words_view c.args.words.now) p.kind.kind) (map param_view ps) in
     let kind = written_kind c.args.classes.now (words_view c.args.words.now) (param_view p).kind.kind in
     next_part left left _ _ (kind ∷ []) _ c.args.params.now c.loop-param.param-index p (omega arith) c.param-item.is (λ rest. refl)
-    (pushed_part c.loop-param.kinds.items c.push.new.self.items c.as_written.result kind c.in_ok-push.ensures.items (c.as_written.ensures ∙ ap₂ as_written (c.first_unless-first.ensures ∙ ap (λ b. first_unless b (words_view c.args.words.now) (param_view p).kind.kind) (c.is_some.ensures ∙ ap is_some c.known_kind-known.ensures)) c.known_kind-known.ensures)) c.loop-param.invariant
+    (pushed_part c.loop-param.kinds.items c.push.new.self.items c.as_written.result kind
+    c.in_ok-push.ensures.items (c.as_written.ensures ∙ ap₂ as_written
+    (c.first_unless-first.ensures ∙ ap (λ b. first_unless b (words_view c.args.words.now) (param_view p).kind.kind)
+    (c.is_some.ensures ∙ ap is_some c.known_kind-known.ensures)) c.known_kind-known.ensures)) c.loop-param.invariant
 
 pub returns : goal.returns
 returns c =

@@ -11,7 +11,9 @@ pub loop-numbered-preserved : goal.loop-numbered-preserved
 loop-numbered-preserved c =
     let d = c.numbered-item.result in
     let left = λ (ds : List Numbered). results (map numbered_view ds) in
-    next_part left left _ _ (words_of (result_in (numbered_view d).decl.form)) _ c.args.declared.now c.loop-numbered.numbered-index d (omega arith) c.numbered-item.is (λ rest. refl) c.in_ok-append_result.ensures c.loop-numbered.invariant
+    next_part left left _ _ (words_of (result_in (numbered_view d).decl.form)) _ c.args.declared.now
+    c.loop-numbered.numbered-index d (omega arith) c.numbered-item.is (λ rest. refl) c.in_ok-append_result.ensures
+    c.loop-numbered.invariant
 
 pub returns : goal.returns
 returns c =

@@ -25,7 +25,9 @@ returns-in-Err-clause-kept c = λ none.
     let (freed, gone, after) = c.unbring.ensures.unbrought in
     let (root, leaving, limit) = rest in
     let (root', leaving', limit') = after in (
-      tree_freed c.in_ok-new.new top (tree_view c.args.tree) w (memory_of c.args.self.now.slab) (memory_of c.bring.new.self.slab) (memory_of c.reserve.new.slab) (memory_of c.unbring.new.self.slab) number p c.reserve.ensures.stays (freed c.in_ok-new.new waits),
+      tree_freed c.in_ok-new.new top (tree_view c.args.tree) w (memory_of c.args.self.now.slab)
+          (memory_of c.bring.new.self.slab) (memory_of c.reserve.new.slab) (memory_of c.unbring.new.self.slab) number p
+          c.reserve.ensures.stays (freed c.in_ok-new.new waits),
       gone ∙ sym none,
       (root' ∙ root, leaving' ∙ leaving, limit' ∙ limit),
     )

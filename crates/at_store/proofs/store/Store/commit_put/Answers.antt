@@ -4,4 +4,6 @@ use Rattle.at_store.proofs.store.Store.commit_put.Goals as goal
 
 pub returns : goal.returns
 returns c classes old e p =
-    put_committed classes old c.args.self.now (record c.args.self.now { slab = c.place.new.slab; waiting = None; leaving = None }) e c.args.node c.args.part c.args.new p c.place.ensures.written c.place.ensures.marks refl refl refl refl
+    put_committed classes old c.args.self.now
+    (record c.args.self.now { slab = c.place.new.slab; waiting = None; leaving = None }) e c.args.node c.args.part
+    c.args.new p c.place.ensures.written c.place.ensures.marks refl refl refl refl

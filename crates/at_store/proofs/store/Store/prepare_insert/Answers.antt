@@ -18,7 +18,9 @@ returns c =
       kept = search rules;
       marks = search rules;
       prepared = subst (λ (p : ℕ). Prepares old (asked.Insert c.args.node p c.args.index c.args.tree) new (plan.Insert c.args.node part c.args.index root)) c.in_ok-part.ensures
-          (insert_prepared old new c.args.node part c.args.index root c.args.tree (brings old new (tree_view c.args.tree) root c.in_ok-new.ensures.brought) leaving c.bring_child.ensures.marks c.in_ok-new.ensures.room);
+          (insert_prepared old new c.args.node part c.args.index root c.args.tree
+          (brings old new (tree_view c.args.tree) root c.in_ok-new.ensures.brought) leaving
+          c.bring_child.ensures.marks c.in_ok-new.ensures.room);
     }
 
 pub returns-in_err-part : goal.returns-in_err-part

@@ -18,7 +18,8 @@ returns c =
       kept = search rules;
       marks = search rules;
       prepared = subst (λ (p : ℕ). Prepares old (asked.Put c.args.node p c.args.tree) new (plan.Put c.args.node part root)) c.in_ok-part.ensures
-          (put_prepared old new c.args.node part root c.args.tree (brings old new (tree_view c.args.tree) root c.in_ok-new.ensures.brought) leaving c.bring_child.ensures.marks c.in_ok-new.ensures.room);
+          (put_prepared old new c.args.node part root c.args.tree (brings old new (tree_view c.args.tree) root
+          c.in_ok-new.ensures.brought) leaving c.bring_child.ensures.marks c.in_ok-new.ensures.room);
     }
 
 pub returns-in_err-part : goal.returns-in_err-part

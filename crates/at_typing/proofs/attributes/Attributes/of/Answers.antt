@@ -16,7 +16,10 @@ loop-numbered-preserved c =
     elim c.if-is_attribute.branch [
       | then-is_attribute+in_ok-note w ↦
           let test = sym c.is_attribute.ensures ∙ w.if-is_attribute.true in (
-            subst (AreAttributes (take (i + 1) ds)) (sym w.attributes-is) (one_noted ds i d w.new-then-is_attribute.result c.loop-numbered.attributes w.note.new.self (omega arith) c.numbered-item.is test (w.new-then-is_attribute.ensures ∙ c.loop-numbered.invariant.1) c.loop-numbered.invariant.0 w.in_ok-note.ensures),
+            subst (AreAttributes (take (i + 1) ds)) (sym w.attributes-is)
+                (one_noted ds i d w.new-then-is_attribute.result c.loop-numbered.attributes w.note.new.self
+                (omega arith) c.numbered-item.is test (w.new-then-is_attribute.ensures ∙ c.loop-numbered.invariant.1)
+                c.loop-numbered.invariant.0 w.in_ok-note.ensures),
             w.count-is ∙ counted ds i d c.loop-numbered.count (omega arith) c.numbered-item.is test c.loop-numbered.invariant.1,
             omega (arith, w.count-is, c.loop-numbered.invariant.2),
           )

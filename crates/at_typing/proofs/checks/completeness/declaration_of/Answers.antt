@@ -31,7 +31,9 @@ pub returns-then-position-index : goal.returns-then-position-index
 returns-then-position-index c =
     let ds = c.args.declared.now in
     let test = sym c.is_attribute.ensures ∙ c.if-not-is_attribute.false in
-    declared_here ds c.loop-numbered.numbered-index c.numbered-item.result c.loop-numbered.position c.args.attribute (omega arith) c.numbered-item.is test c.loop-numbered.invariant.0 (omega (arith, c.if-position-index.true, c.index.ensures))
+    declared_here ds c.loop-numbered.numbered-index c.numbered-item.result c.loop-numbered.position c.args.attribute
+    (omega arith) c.numbered-item.is test c.loop-numbered.invariant.0
+    (omega (arith, c.if-position-index.true, c.index.ensures))
 
 pub returns : goal.returns
 returns c = declared_nowhere c.args.declared.now c.loop-numbered.numbered-index c.loop-numbered.position c.args.attribute (omega arith) c.loop-numbered.invariant.0 c.loop-numbered.invariant.2

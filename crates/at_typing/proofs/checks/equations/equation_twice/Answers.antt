@@ -17,7 +17,9 @@ returns-then-not-branch c =
     let d = c.numbered-item.result in
     let i = c.loop-numbered.numbered-index in
     let there = before xs i d (omega arith) c.numbered-item.is c.requires c.loop-numbered.before c.loop-numbered.invariant.1 ∙ is_had _ _ c.in_ok-add.ensures.new c.if-not-branch.true in
-    sym (first_here (equation_at (map numbered_view xs)) numbered_view xs i d c.fault_at.result (omega arith) c.numbered-item.is c.loop-numbered.invariant.0 (fault_where _ code.EquationTwice (numbered_view d) there ∙ ap Some (sym c.fault_at.ensures)))
+    sym (first_here (equation_at (map numbered_view xs)) numbered_view xs i d c.fault_at.result (omega arith)
+    c.numbered-item.is c.loop-numbered.invariant.0
+    (fault_where _ code.EquationTwice (numbered_view d) there ∙ ap Some (sym c.fault_at.ensures)))
 
 pub loop-numbered-preserved : goal.loop-numbered-preserved
 loop-numbered-preserved c =

@@ -15,7 +15,9 @@ returns-then-not-is_of_attribute c =
     let i = c.loop-numbered.numbered-index in
     let among = among_all c.args.classes.now xs i d (omega arith) c.numbered-item.is c.requires.0 in
     let test = ap not (sym (c.is_of_attribute.ensures xs c.requires.1 among) ∙ c.if-not-is_of_attribute.true) in
-    sym (first_here (undeclared_at c.args.classes.now (map numbered_view xs)) numbered_view xs i d c.fault_at.result (omega arith) c.numbered-item.is c.loop-numbered.invariant (fault_where _ code.EquationWithoutAttribute (numbered_view d) test ∙ ap Some (sym c.fault_at.ensures)))
+    sym (first_here (undeclared_at c.args.classes.now (map numbered_view xs)) numbered_view xs i d c.fault_at.result
+    (omega arith) c.numbered-item.is c.loop-numbered.invariant
+    (fault_where _ code.EquationWithoutAttribute (numbered_view d) test ∙ ap Some (sym c.fault_at.ensures)))
 
 pub loop-numbered-preserved : goal.loop-numbered-preserved
 loop-numbered-preserved c =
@@ -24,7 +26,10 @@ loop-numbered-preserved c =
     let i = c.loop-numbered.numbered-index in
     let among = among_all c.args.classes.now xs i d (omega arith) c.numbered-item.is c.requires.0 in
     let test = ap not (sym (c.is_of_attribute.ensures xs c.requires.1 among) ∙ c.if-not-is_of_attribute.false) in
-    none_more (undeclared_at c.args.classes.now (map numbered_view xs)) numbered_view xs i d (omega arith) c.numbered-item.is (fault_nowhere _ code.EquationWithoutAttribute (numbered_view d) test) c.loop-numbered.invariant
+    none_more (undeclared_at c.args.classes.now (map numbered_view xs)) numbered_view xs i d (omega arith)
+    c.numbered-item.is (fault_nowhere _ code.EquationWithoutAttribute (numbered_view d) test)
+    c.loop-numbered.invariant
 
 pub returns : goal.returns
-returns c = sym (none_at_all (undeclared_at c.args.classes.now (map numbered_view c.args.declared.now)) numbered_view c.args.declared.now c.loop-numbered.numbered-index (omega arith) c.loop-numbered.invariant)
+returns c = sym (none_at_all (undeclared_at c.args.classes.now (map numbered_view c.args.declared.now)) numbered_view
+    c.args.declared.now c.loop-numbered.numbered-index (omega arith) c.loop-numbered.invariant)

@@ -16,7 +16,9 @@ returns-in-Some c =
     let xs = c.args.declared.now in
     let d = c.numbered-item.result in
     let i = c.loop-numbered.numbered-index in
-    let here = ap (λ b. limit_of b (numbered_view d)) (is_full c.loop-numbered.left (length (attributes (take i (map numbered_view xs)))) max_attributes c.loop-numbered.invariant.1) ∙ sym c.limit_of.ensures ∙ c.in-Some.is in
+    let here = ap (λ b. limit_of b (numbered_view d)) (is_full c.loop-numbered.left
+    (length (attributes (take i (map numbered_view xs)))) max_attributes c.loop-numbered.invariant.1)
+    ∙ sym c.limit_of.ensures ∙ c.in-Some.is in
     sym (first_here (limit_at (map numbered_view xs)) numbered_view xs i d _ (omega arith) c.numbered-item.is c.loop-numbered.invariant.0 here)
 
 pub loop-numbered-preserved : goal.loop-numbered-preserved

@@ -10,4 +10,5 @@ use Rattle.at_typing.proofs.checks.twice.insert_line.Given as goal
 
 abbrev pub invariant-loop-step : goal.invariant-loop-step
 invariant-loop-step l = (c : NamedClass) (n : ℕ)
-    → (has_key l.keys.keys n c || list_any (λ b. is_key c n (b, l.name)) (line_from l.classes l.step l.next)) ≡ (has_key l.fn.keys.keys n c || list_any (λ b. is_key c n (b, l.name)) (line l.classes l.fn.class))
+    → (has_key l.keys.keys n c || list_any (λ b. is_key c n (b, l.name)) (line_from l.classes l.step l.next))
+    ≡ (has_key l.fn.keys.keys n c || list_any (λ b. is_key c n (b, l.name)) (line l.classes l.fn.class))

@@ -11,4 +11,6 @@ returns-in_err-declare c =
     rw (p.1, p.2) (declares_fault (numbered_view c.args.numbered.now) c.args.numbered.now.name c.args.meant.now c.declare.new.meant declared_alone _ _ c.in_err-declare.ensures.declared)
 
 pub returns : goal.returns
-returns c = declares_alone (numbered_view c.args.numbered.now) c.args.numbered.now.name c.args.meant.now c.declare.new.meant declared_alone _ _ _ (λ a. refl) c.in_ok-declare.ensures.declared c.in_ok-declare.ensures.own c.in_ok-declare.ensures.inherited
+returns c = declares_alone (numbered_view c.args.numbered.now) c.args.numbered.now.name c.args.meant.now
+    c.declare.new.meant declared_alone _ _ _ (λ a. refl) c.in_ok-declare.ensures.declared c.in_ok-declare.ensures.own
+    c.in_ok-declare.ensures.inherited

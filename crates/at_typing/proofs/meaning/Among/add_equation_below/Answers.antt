@@ -24,7 +24,8 @@ returns-in_err-part c = λ ds about.
     let getter = word_view c.args.getter.now in
     let e = c.in_err-part.field-0.0 in
     let p = err_from_is_err_and c.from_residual-in_err-part.result c.from_residual-in_err-part.ensures.1 in
-    rw (p.1, p.2) (adds_then d n old old (below_class classes (map numbered_view ds) d getter index body) (class_named classes (word_view c.args.class.now)) c.in_ok-class.class (Err e) c.in_ok-class.ensures
+    rw (p.1, p.2) (adds_then d n old old (below_class classes (map numbered_view ds) d getter index body)
+    (class_named classes (word_view c.args.class.now)) c.in_ok-class.class (Err e) c.in_ok-class.ensures
     (adds_fault d n old old (λ k. k) (below_component classes (map numbered_view ds) d index body c.in_ok-class.class) (component_got classes c.in_ok-class.class getter) e c.in_err-part.ensures))
 
 pub returns-in_err-index_of_list : goal.returns-in_err-index_of_list
@@ -39,8 +40,10 @@ returns-in_err-index_of_list c = λ ds about.
     let e = c.in_err-index_of_list.field-0.0 in
     let p = err_from_is_err_and c.from_residual-in_err-index_of_list.result c.from_residual-in_err-index_of_list.ensures.1 in
     let fault = index_fault classes (map numbered_view ds) d n old old c.in_ok-class.class c.in_ok-part.part index body e c.in_err-index_of_list.ensures in
-    rw (p.1, p.2) (adds_then d n old old (below_class classes (map numbered_view ds) d getter index body) (class_named classes (word_view c.args.class.now)) c.in_ok-class.class (Err e) c.in_ok-class.ensures
-    (adds_then d n old old (below_component classes (map numbered_view ds) d index body c.in_ok-class.class) (component_got classes c.in_ok-class.class getter) c.in_ok-part.part (Err e) c.in_ok-part.ensures fault))
+    rw (p.1, p.2) (adds_then d n old old (below_class classes (map numbered_view ds) d getter index body)
+    (class_named classes (word_view c.args.class.now)) c.in_ok-class.class (Err e) c.in_ok-class.ensures
+    (adds_then d n old old (below_component classes (map numbered_view ds) d index body c.in_ok-class.class)
+    (component_got classes c.in_ok-class.class getter) c.in_ok-part.part (Err e) c.in_ok-part.ensures fault))
 
 pub returns : goal.returns
 returns c = λ ds about.
@@ -52,7 +55,11 @@ returns c = λ ds about.
     let index = option_map (λ w. word_view w.now) c.args.index in
     let body = body_view c.args.body.now in
     let getter = word_view c.args.getter.now in
-    let equation = adds_equation_below classes (map numbered_view ds) d body c.args.self.now.signatures.now c.in_ok-class.class c.inherited.result about.signatures n old new c.add_inherited.result c.in_ok-part.part index
+    let equation = adds_equation_below classes (map numbered_view ds) d body c.args.self.now.signatures.now
+    c.in_ok-class.class c.inherited.result about.signatures n old new c.add_inherited.result c.in_ok-part.part index
     (c.inherited.ensures ds about) c.in_ok-index_of_list.ensures c.add_inherited.ensures.added c.add_inherited.ensures.attributes c.add_inherited.ensures.own in
-    adds_then d n old new (below_class classes (map numbered_view ds) d getter index body) (class_named classes (word_view c.args.class.now)) c.in_ok-class.class c.add_inherited.result c.in_ok-class.ensures
-    (adds_then d n old new (below_component classes (map numbered_view ds) d index body c.in_ok-class.class) (component_got classes c.in_ok-class.class getter) c.in_ok-part.part c.add_inherited.result c.in_ok-part.ensures equation)
+    adds_then d n old new (below_class classes (map numbered_view ds) d getter index body) (class_named classes
+    (word_view c.args.class.now)) c.in_ok-class.class c.add_inherited.result c.in_ok-class.ensures
+    (adds_then d n old new (below_component classes (map numbered_view ds) d index body c.in_ok-class.class)
+    (component_got classes c.in_ok-class.class getter) c.in_ok-part.part c.add_inherited.result
+    c.in_ok-part.ensures equation)

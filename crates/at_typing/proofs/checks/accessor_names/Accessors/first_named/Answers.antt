@@ -13,13 +13,17 @@ pub returns-then-have_name_of : goal.returns-then-have_name_of
 returns-then-have_name_of c classes names =
     let d = c.numbered-item.result in
     let is = sym (c.have_name_of.ensures classes names) ∙ c.if-have_name_of.true in
-    sym (first_here (accessor_at classes) numbered_view c.args.declared.now c.loop-numbered.numbered-index d c.fault_at.result (omega arith) c.numbered-item.is (c.loop-numbered.invariant classes names) (fault_where _ code.NameOfAccessor (numbered_view d) is ∙ ap Some (sym c.fault_at.ensures)))
+    sym (first_here (accessor_at classes) numbered_view c.args.declared.now c.loop-numbered.numbered-index d
+    c.fault_at.result (omega arith) c.numbered-item.is (c.loop-numbered.invariant classes names)
+    (fault_where _ code.NameOfAccessor (numbered_view d) is ∙ ap Some (sym c.fault_at.ensures)))
 
 pub loop-numbered-preserved : goal.loop-numbered-preserved
 loop-numbered-preserved c classes names =
     let d = c.numbered-item.result in
     let is = sym (c.have_name_of.ensures classes names) ∙ c.if-have_name_of.false in
-    none_more (accessor_at classes) numbered_view c.args.declared.now c.loop-numbered.numbered-index d (omega arith) c.numbered-item.is (fault_nowhere _ code.NameOfAccessor (numbered_view d) is) (c.loop-numbered.invariant classes names)
+    none_more (accessor_at classes) numbered_view c.args.declared.now c.loop-numbered.numbered-index d (omega arith)
+    c.numbered-item.is (fault_nowhere _ code.NameOfAccessor (numbered_view d) is)
+    (c.loop-numbered.invariant classes names)
 
 pub returns : goal.returns
 returns c classes names = sym (none_at_all (accessor_at classes) numbered_view c.args.declared.now c.loop-numbered.numbered-index (omega arith) (c.loop-numbered.invariant classes names))

@@ -5,4 +5,6 @@ use Rattle.at_typing.proofs.checks.accessor_names.Accessors.have.Goals as goal
 
 pub returns : goal.returns
 returns c classes has =
-    c.is_named.ensures ∙ accessed_names classes c.args.self.now c.as_bytes.result.now has ∙ ap (is_accessed classes) c.as_bytes.ensures.value ∙ ap (λ b. b || is_accessed classes c.args.name.now) (sym c.if-is_common.false ∙ c.is_common.ensures)
+    c.is_named.ensures ∙ accessed_names classes c.args.self.now c.as_bytes.result.now has
+    ∙ ap (is_accessed classes) c.as_bytes.ensures.value
+    ∙ ap (λ b. b || is_accessed classes c.args.name.now) (sym c.if-is_common.false ∙ c.is_common.ensures)

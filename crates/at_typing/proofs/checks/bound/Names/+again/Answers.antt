@@ -16,8 +16,11 @@ pub is_bound_among-loop-argument-preserved : goal.is_bound_among-loop-argument-p
 is_bound_among-loop-argument-preserved t c =
     let names = names_view c.args.self.now in
     let e = c.argument-item.result in
-    let none = ap (λ ns. is_bound_again ns (expr_view e)) (sym c.loop-argument.invariant.0) ∙ sym c.in_ok-is_bound_again.ensures.again ∙ c.if-branch.false in
-    (c.in_ok-is_bound_again.ensures.kept c.if-branch.false ∙ c.loop-argument.invariant.0, c.loop-argument.invariant.1 ∙ among_more names c.args.arguments.now c.loop-argument.argument-index e (omega arith) c.argument-item.is none)
+    let none = ap (λ ns. is_bound_again ns (expr_view e)) (sym c.loop-argument.invariant.0) ∙ sym c.in_ok-is_bound_again.ensures.again ∙ c.if-branch.false in (
+      c.in_ok-is_bound_again.ensures.kept c.if-branch.false ∙ c.loop-argument.invariant.0,
+      c.loop-argument.invariant.1
+          ∙ among_more names c.args.arguments.now c.loop-argument.argument-index e (omega arith) c.argument-item.is none,
+    )
 
 pub is_bound_among-returns-clause-among : goal.is_bound_among-returns-clause-among
 is_bound_among-returns-clause-among t c =

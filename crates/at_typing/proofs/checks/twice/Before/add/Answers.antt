@@ -6,4 +6,6 @@ pub returns-then-not-is_attribute : goal.returns-then-not-is_attribute
 returns-then-not-is_attribute c = adds_none c.args.classes.now c.args.numbered.now c.args.self.now (sym c.is_attribute.ensures ∙ c.if-not-is_attribute.true)
 
 pub returns : goal.returns
-returns c = adds_one c.args.classes.now c.insert_line.ensures.sound.some c.args.numbered.now c.args.self.now _ _ (sym c.is_attribute.ensures ∙ c.if-not-is_attribute.false) refl c.in_ok-note_first.ensures c.in_ok-insert.ensures c.in_ok-insert_line.ensures.inserted
+returns c = adds_one c.args.classes.now c.insert_line.ensures.sound.some c.args.numbered.now c.args.self.now
+    _ _ (sym c.is_attribute.ensures ∙ c.if-not-is_attribute.false) refl c.in_ok-note_first.ensures
+    c.in_ok-insert.ensures c.in_ok-insert_line.ensures.inserted

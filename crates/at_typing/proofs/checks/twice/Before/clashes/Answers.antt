@@ -9,7 +9,9 @@ use Rattle.at_typing.proofs.Keys.{contained}
 use Rattle.at_typing.proofs.checks.twice.Before.clashes.Goals as goal
 
 pub returns-then-not-is_attribute : goal.returns-then-not-is_attribute
-returns-then-not-is_attribute c = λ ds are among. sym (ap (λ b. b && list_any (clashes c.args.classes.now (numbered_view c.args.numbered.now)) (map numbered_view ds)) (sym c.is_attribute.ensures ∙ c.if-not-is_attribute.true))
+returns-then-not-is_attribute c = λ ds are among.
+    sym (ap (λ b. b && list_any (clashes c.args.classes.now (numbered_view c.args.numbered.now)) (map numbered_view ds))
+    (sym c.is_attribute.ensures ∙ c.if-not-is_attribute.true))
 
 pub returns-then-differs : goal.returns-then-differs
 returns-then-differs c = λ ds are among.
