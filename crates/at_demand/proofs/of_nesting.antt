@@ -3,3 +3,4 @@ pub mod InnerPuts
 pub mod InnerGains
 pub mod InnerAnswered
 pub mod Asked
+pub mod Grown

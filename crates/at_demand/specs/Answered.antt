@@ -1,12 +1,13 @@
 -- What a question is answered, and what becomes of what is kept.
-use Rattle.std.specs.Prelude.{ℕ, Bool, Option, IsTrue, IfOk, IfSome, OnErr, Result}
+use Rattle.std.specs.Prelude.{◌≡◌, ℕ, Bool, Option, IsTrue, IfOk, IfSome, OnErr, Result}
 use Rattle.std.specs.Option.{option_map}
-use Rattle.at_model.specs.Run.{Instance}
+use Rattle.at_model.specs.Run.{Instance, Location}
 use Rattle.at_model.specs.Rules.{Rules}
 use Rattle.at_model.specs.Meaning.{Answers, Right}
 use Rattle.at_model.specs.Turning.{Turned, asked}
 use Rattle.at_store.specs.Shown.{Shown, contents}
-use Rattle.at_cache.specs.Kept.{Entries}
+use Rattle.at_cache.specs.Kept.{Entries, LeavesUntouched, LosesTouched}
+use Rattle.at_cache.specs.Traced.{FlushesTraces, Memories, StayTraced}
 use Rattle.at_demand.specs.declared.answer.Answer.{Answer}
 use Rattle.at_demand.specs.declared.question.Question.{Question}
 use Rattle.at_demand.specs.declared.trials.Trials.{Trials}
@@ -14,6 +15,7 @@ use Rattle.at_demand.specs.Known.{meaning, kept_values, ArePlain, answer_view}
 use Rattle.at_demand.specs.Right.{AreRight, IsThere}
 use Rattle.at_demand.specs.Sparing.{AddsWorthy, AreSpare, Counts, HasWorthy, IsWork}
 use Rattle.at_demand.specs.KeptTrials.{FitAfter}
+use Rattle.at_demand.specs.Traces.{StayJustified}
 use Rattle.at_demand.specs.Turns.{AreTurns, BreaksOff, GainsInTurn, HasGiven, IsSparingTurns, IsStanding, under_way}
 
 -- The instance has its answer. What is kept stays right; with an exact keeper it stays spare, has all that is worth keeping, and the
@@ -89,3 +91,22 @@ pub record HasTurnedOften {E : Type 0} (rules : Rules) (s : Shown) (exact : Bool
   pub sparing : IsTrue exact → AreSpare rules (contents s) before → IsSparingTurns rules (contents s) before old
       → IfOk r (λ g. IsSparingTurns rules (contents s) after new)
   pub counts : IsTrue exact → Counts before after earlier later
+
+-- The instance has its answer; what can be kept again is right still, and of the tree.
+pub record IsAnswered {E : Type 0} (rules : Rules) (s : Shown) (exact : Bool) (before after : Entries) (former latter : Memories)
+    (earlier later : ℕ) (i : Instance ℕ) (r : Result Answer E) : Type 0 where
+  pub answered : HasAnswered rules s exact before after earlier later i r
+  pub traces : StayJustified rules s i former latter
+
+-- turns come to that, and trace nothing
+pub record TracesNothing (Turns : Type 0) (former latter : Memories) : Type 0 where
+  pub turned : Turns
+  pub traces : StayTraced former latter
+
+-- an edit leaves all that it doesn't touch, an exact keeper loses the rest, and the work stays as it was
+pub record Forgets (says : Location ℕ → Bool → Type 0) (exact : Bool) (before after : Entries) (former latter : Memories) (earlier later : ℕ)
+    : Type 0 where
+  pub leaves : LeavesUntouched says before after
+  pub loses : IsTrue exact → LosesTouched says before after
+  pub traces : FlushesTraces says former latter
+  pub work : later ≡ earlier

@@ -10,10 +10,10 @@ use Rattle.at_cache.specs.Kept.{Entries}
 use Rattle.at_cache.specs.Traced.{Memories}
 use Rattle.at_demand.specs.declared.direct.Level.{Level}
 use Rattle.at_demand.specs.Known.{meaning, kept_values, IsKept, KeepsEntries}
-use Rattle.at_demand.specs.Inner.{AreKnown, StayRemembered, is_inner, known_by}
+use Rattle.at_demand.specs.Inner.{AreKnown, Gains, StayRemembered, is_inner, known_by}
 use Rattle.at_demand.specs.Right.{AreRight, IsThere}
 use Rattle.at_demand.specs.Sparing.{AreSpare, Counts, IsWorthKeeping}
-use Rattle.at_demand.specs.Traces.{AreJustified, AreOfTree}
+use Rattle.at_demand.specs.Traces.{AreJustified, AreOfTree, StayJustified}
 
 -- What an evaluation in one go goes by: what is kept, what can be kept again, what is remembered for the question, and the work up to now.
 pub record Held : Type 0 where
@@ -68,3 +68,9 @@ pub record HasGained {A : Type 0} (rules : Rules) (s : Shown) (exact : Bool) (r 
   pub there : AreDemandedThere rules s r → AreOfTree s old.memories → AreOfTree s new.memories
   pub spare : IsTrue exact → AreSpare rules (contents s) old.entries → AreSpare rules (contents s) new.entries
   pub counts : IsTrue exact → Counts old.entries new.entries old.work new.work
+
+-- What was held was `old` and is `new` now, for the instance that is asked for: what came to be kept is worth keeping for it, what was
+-- remembered is so still, and all is right, what can be kept again, too.
+pub record HasGrown (rules : Rules) (s : Shown) (exact : Bool) (i : Instance ℕ) (old new : Held) : Type 0 where
+  pub gains : Gains rules s exact i old.entries new.entries old.found new.found old.work new.work
+  pub traces : StayJustified rules s i old.memories new.memories

@@ -1,10 +1,12 @@
 -- What becomes of a find that is to be kept.
-use Rattle.std.specs.Prelude.{◌≡◌, ◌⊎◌, ℕ, Bool, true, List, map, Some, IsSome, IsTrue, IfOk, OnOk, Result}
-use Rattle.at_model.specs.Run.{Instance, Contents}
+use Rattle.std.specs.Prelude.{◌≡◌, ◌⊎◌, ℕ, Bool, true, List, map, Some, IsSome, IsTrue, IfOk, OnErr, OnOk, Result}
+use Rattle.at_model.specs.Run.{Instance, Location, Contents}
 use Rattle.at_model.specs.Rules.{Rules, is_lazy}
 use Rattle.at_store.specs.Located.{loc_view}
 use Rattle.at_body.specs.Values.{value_view}
-use Rattle.at_cache.specs.Kept.{AreKept, Entries, HasPut}
+use Rattle.at_body.specs.declared.value.Value.{Value as ValueCode}
+use Rattle.at_cache.specs.Kept.{AreKept, Entries, HasPut, KeepsAll}
+use Rattle.at_cache.specs.Traced.{Memories, StayTraced}
 use Rattle.at_cache.specs.declared.keeper.Put.{Put}
 use Rattle.at_cache.specs.declared.keeper.Put.TheVariants as put
 use Rattle.at_demand.specs.declared.evaluation.Find.{Find}
@@ -53,3 +55,40 @@ pub record KeepsWhereLazy {E : Type 0} (rules : Rules) (exact : Bool) (before af
   pub plain : ArePlain rules after
   pub counts : IsTrue exact → Counts before after earlier later
   pub says : IfOk r (SaysKept after i f)
+
+-- what is shared gets its entries; no value is counted, and nothing is traced
+pub record SharesAlone (rules : Rules) (exact : Bool) (found : List (Instance ℕ × Find)) (before after : Entries) (former latter : Memories)
+    (earlier later : ℕ) : Type 0 where
+  pub shares : Shares rules exact found before after
+  pub work : later ≡ earlier
+  pub traces : StayTraced former latter
+
+-- so it is once the sources of a find are gathered
+pub record IsGathered {E : Type 0} (rules : Rules) (exact : Bool) (before after : Entries) (former latter : Memories) (earlier later : ℕ)
+    (found : List (Instance ℕ × Find)) (f : Find) (r : Result Sources E) : Type 0 where
+  pub shares : Shares rules exact found before after
+  pub work : later ≡ earlier
+  pub sources : IfOk r (HasGathered after found f)
+  pub traces : StayTraced former latter
+
+-- the find is placed, or what is shared has its entries; the work counts it, and nothing is traced
+pub record IsPlaced {E : Type 0} (rules : Rules) (exact : Bool) (before after : Entries) (former latter : Memories) (earlier later : ℕ)
+    (found : List (Instance ℕ × Find)) (i : Instance ℕ) (f : Find) (r : Result Put E) : Type 0 where
+  pub placed : IfOk r (HasPlaced rules exact before found i f after)
+  pub err : OnErr r (Shares rules exact found before after)
+  pub counts : IsTrue exact → Counts before after earlier later
+  pub traces : StayTraced former latter
+
+-- the value is put, for these locations and uses, or all stays; the work counts it, and nothing is traced
+pub record IsPut {E : Type 0} (exact : Bool) (before after : Entries) (former latter : Memories) (earlier later : ℕ) (i : Instance ℕ)
+    (v : ValueCode) (ls : List (Location ℕ)) (us : List (Instance ℕ)) (r : Result Put E) : Type 0 where
+  pub puts : IfOk r (HasPut exact before i (Some (value_view v)) ls us after)
+  pub err : OnErr r (KeepsAll before after)
+  pub counts : IsTrue exact → Counts before after earlier later
+  pub traces : StayTraced former latter
+
+-- the find is kept where its attribute is lazy, and nothing is traced
+pub record IsKeptWhereLazy {E : Type 0} (rules : Rules) (exact : Bool) (before after : Entries) (former latter : Memories) (earlier later : ℕ)
+    (found : List (Instance ℕ × Find)) (i : Instance ℕ) (f : Find) (r : Result Put E) : Type 0 where
+  pub keeps : KeepsWhereLazy rules exact before after earlier later found i f r
+  pub traces : StayTraced former latter

@@ -18,3 +18,4 @@ pub mod Inner
 pub mod InParts
 pub mod Traces
 pub mod OneProof
+pub mod Answerable

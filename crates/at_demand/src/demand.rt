@@ -1,25 +1,23 @@
 //! Questions for the values of instances.
 
-ghost use Rattle.std.specs.Prelude.{◌≡◌, ◌<◌, ◌^◌, [], is_some, map, IfOk, IfSome, OnErr, IsTrue, None, Some, true};
+ghost use Rattle.std.specs.Prelude.{◌≡◌, ◌<◌, ◌^◌, [], is_some, map, IfOk, IfSome, IsTrue, None};
 ghost use Rattle.at_model.specs.Instances.{AnyText};
-ghost use Rattle.at_model.specs.Meaning.{HasValue, Right};
+ghost use Rattle.at_model.specs.Meaning.{HasValue};
 ghost use Rattle.at_model.specs.TypedRuns.{IsWellTyped};
-ghost use Rattle.at_model.specs.WellFormed.{AreWellFormed, IsTreeSound};
 ghost use Rattle.at_store.specs.Located.{loc_view};
-ghost use Rattle.at_store.specs.Shown.{IsIdle, contents, tree};
+ghost use Rattle.at_store.specs.Shown.{IsIdle, contents};
 ghost use Rattle.at_body.specs.Typed.{class_shown};
 ghost use Rattle.at_body.specs.Values.{value_view};
-ghost use Rattle.at_cache.specs.Kept.{AreKept, AreNamed, HasPut, KeepsAll, Answers as Says, LeavesUntouched, LosesTouched, value_at};
-ghost use Rattle.at_demand.specs.Known.{meaning, kept_values, ArePlain, AreValued, FoundKept};
-ghost use Rattle.at_demand.specs.Keeping.{HasPlaced, KeepsWhereLazy, Shares};
-ghost use Rattle.at_demand.specs.Answered.{HasAnswered};
-ghost use Rattle.at_model.specs.Rules.{is_lazy};
-ghost use Rattle.at_demand.specs.Sparing.{AreSpare, Counts, HasWorthy};
+ghost use Rattle.at_cache.specs.Kept.{AreKept, AreNamed, Answers as Says, value_at};
+ghost use Rattle.at_demand.specs.Answerable.{CanBeAsked, CanBeKept, CanBeKeptLazily, IsAnswerable};
+ghost use Rattle.at_demand.specs.Known.{meaning};
+ghost use Rattle.at_demand.specs.Keeping.{IsKeptWhereLazy, IsPlaced, IsPut};
+ghost use Rattle.at_demand.specs.Answered.{Forgets, HasAnswered, IsAnswered};
+ghost use Rattle.at_demand.specs.Sparing.{AreSpare, HasWorthy};
 ghost use Rattle.at_demand.specs.Inner.{Gains};
 ghost use Rattle.at_demand.specs.InParts.{IsHeld, held};
-ghost use Rattle.at_demand.specs.Right.{IsThere};
-ghost use Rattle.at_demand.specs.Traces.{AreJustified, AreOfTree, StayJustified};
-ghost use Rattle.at_cache.specs.Traced.{FlushesTraces, StayTraced};
+ghost use Rattle.at_demand.specs.Traces.{StayJustified};
+ghost use Rattle.at_cache.specs.Traced.{StayTraced};
 
 mod shared;
 mod turning;
@@ -70,17 +68,9 @@ impl<K: Keeper> Demand<K> {
         store: &Store,
         inst: &Inst,
     ) -> Result<Answer, AllocError>
-        requires idle { IsIdle store.now }
-        requires formed { AreWellFormed rules.now }
-        requires sound { IsTreeSound rules.now.classes (tree store.now) }
-        requires typed { IsWellTyped rules.now (class_shown store.now) AnyText inst.now }
-        requires right { Right (contents store.now) (meaning rules.now) (kept_values (K.contents self.old.keeper)) }
-        requires plain { ArePlain rules.now (K.contents self.old.keeper) }
-        requires justified { AreJustified rules.now (contents store.now) (K.memories self.old.keeper) }
-        ensures answered { HasAnswered rules.now store.now K.exact (K.contents self.old.keeper) (K.contents self.new.keeper)
-            self.old.work self.new.work inst.now result }
-        ensures justified { AreJustified rules.now (contents store.now) (K.memories self.new.keeper) }
-        ensures there { IsThere store.now inst.now → AreOfTree store.now (K.memories self.old.keeper) → AreOfTree store.now (K.memories self.new.keeper) }
+        requires { CanBeAsked rules.now store.now (K.contents self.old.keeper) (K.memories self.old.keeper) inst.now }
+        ensures { IsAnswered rules.now store.now K.exact (K.contents self.old.keeper) (K.contents self.new.keeper)
+            (K.memories self.old.keeper) (K.memories self.new.keeper) self.old.work self.new.work inst.now result }
     {
         if let Some(value) = self.keeper.get(inst) {
             return Ok(Answer::Value(value.copy()?));
@@ -103,16 +93,9 @@ impl<K: Keeper> Demand<K> {
         store: &Store,
         inst: &Inst,
     ) -> Result<Answer, AllocError>
-        requires idle { IsIdle store.now }
-        requires formed { AreWellFormed rules.now }
-        requires sound { IsTreeSound rules.now.classes (tree store.now) }
-        requires typed { IsWellTyped rules.now (class_shown store.now) AnyText inst.now }
-        requires right { Right (contents store.now) (meaning rules.now) (kept_values (K.contents self.old.keeper)) }
-        requires plain { ArePlain rules.now (K.contents self.old.keeper) }
-        requires justified { AreJustified rules.now (contents store.now) (K.memories self.old.keeper) }
-        ensures answered { HasAnswered rules.now store.now K.exact (K.contents self.old.keeper) (K.contents self.new.keeper)
-            self.old.work self.new.work inst.now result }
-        ensures traces { StayJustified rules.now store.now inst.now (K.memories self.old.keeper) (K.memories self.new.keeper) }
+        requires { CanBeAsked rules.now store.now (K.contents self.old.keeper) (K.memories self.old.keeper) inst.now }
+        ensures { IsAnswered rules.now store.now K.exact (K.contents self.old.keeper) (K.contents self.new.keeper)
+            (K.memories self.old.keeper) (K.memories self.new.keeper) self.old.work self.new.work inst.now result }
     {
         let at_once = self.answer_at_once(rules, store, inst)?;
         match at_once {
@@ -153,12 +136,8 @@ impl<K: Keeper> Demand<K> {
         store: &Store,
         inst: &Inst,
     ) -> Result<Answer, AllocError>
-        requires idle { IsIdle store.now }
-        requires formed { AreWellFormed rules.now }
-        requires sound { IsTreeSound rules.now.classes (tree store.now) }
+        requires answerable { IsAnswerable rules.now store.now (K.contents self.old.keeper) }
         requires typed { IsWellTyped rules.now (class_shown store.now) AnyText inst.now }
-        requires right { Right (contents store.now) (meaning rules.now) (kept_values (K.contents self.old.keeper)) }
-        requires plain { ArePlain rules.now (K.contents self.old.keeper) }
         ensures answered { HasAnswered rules.now store.now K.exact (K.contents self.old.keeper) (K.contents self.new.keeper)
             self.old.work self.new.work inst.now result }
         ensures traces { StayTraced (K.memories self.old.keeper) (K.memories self.new.keeper) }
@@ -171,10 +150,8 @@ impl<K: Keeper> Demand<K> {
     /// Forgets what an edit touches: called once the edit is decided, and before it is made.
     pub fn after_edit<F: Fn(Loc) -> bool>(&mut self, touched: &F)
         requires { F.IsAlwaysCallable touched.now }
-        ensures leaves { LeavesUntouched (Says (F.post touched.now)) (K.contents self.old.keeper) (K.contents self.new.keeper) }
-        ensures loses { IsTrue K.exact → LosesTouched (Says (F.post touched.now)) (K.contents self.old.keeper) (K.contents self.new.keeper) }
-        ensures traces { FlushesTraces (Says (F.post touched.now)) (K.memories self.old.keeper) (K.memories self.new.keeper) }
-        ensures work { self.new.work ≡ self.old.work }
+        ensures { Forgets (Says (F.post touched.now)) K.exact (K.contents self.old.keeper) (K.contents self.new.keeper)
+            (K.memories self.old.keeper) (K.memories self.new.keeper) self.old.work self.new.work }
     {
         self.keeper.flush(touched);
     }
@@ -183,10 +160,8 @@ impl<K: Keeper> Demand<K> {
     pub fn after_edit_at<F: Fn(Loc) -> bool>(&mut self, places: &Places<'_>, touched: &F)
         requires callable { F.IsAlwaysCallable touched.now }
         requires named { AreNamed places.now (F.post touched.now) }
-        ensures leaves { LeavesUntouched (Says (F.post touched.now)) (K.contents self.old.keeper) (K.contents self.new.keeper) }
-        ensures loses { IsTrue K.exact → LosesTouched (Says (F.post touched.now)) (K.contents self.old.keeper) (K.contents self.new.keeper) }
-        ensures traces { FlushesTraces (Says (F.post touched.now)) (K.memories self.old.keeper) (K.memories self.new.keeper) }
-        ensures work { self.new.work ≡ self.old.work }
+        ensures { Forgets (Says (F.post touched.now)) K.exact (K.contents self.old.keeper) (K.contents self.new.keeper)
+            (K.memories self.old.keeper) (K.memories self.new.keeper) self.old.work self.new.work }
     {
         self.keeper.flush_at(places, touched);
     }
@@ -206,13 +181,9 @@ impl<K: Keeper> Demand<K> {
         inst: &Inst,
         find: &Find,
     ) -> Result<Put, AllocError>
-        requires unkept { kept_values (K.contents self.old.keeper) inst.now ≡ None }
-        requires kept { AreValued (K.contents self.old.keeper) find.now.demanded.kept.items }
-        requires found { FoundKept (K.contents self.old.keeper) found.now.entries }
-        requires plain { ArePlain rules.now (K.contents self.old.keeper) }
-        ensures keeps { KeepsWhereLazy rules.now K.exact (K.contents self.old.keeper) (K.contents self.new.keeper) self.old.work self.new.work
-            found.now.entries inst.now find.now result }
-        ensures traces { StayTraced (K.memories self.old.keeper) (K.memories self.new.keeper) }
+        requires { CanBeKept rules.now (K.contents self.old.keeper) found.now.entries inst.now find.now }
+        ensures { IsKeptWhereLazy rules.now K.exact (K.contents self.old.keeper) (K.contents self.new.keeper)
+            (K.memories self.old.keeper) (K.memories self.new.keeper) self.old.work self.new.work found.now.entries inst.now find.now result }
     {
         if !rules.is_lazy(inst.attribute()) {
             return Ok(Put::Left);
@@ -229,14 +200,9 @@ impl<K: Keeper> Demand<K> {
         inst: &Inst,
         find: &Find,
     ) -> Result<Put, AllocError>
-        requires lazy { is_lazy rules.now inst.now.attribute ≡ true }
-        requires unkept { kept_values (K.contents self.old.keeper) inst.now ≡ None }
-        requires kept { AreValued (K.contents self.old.keeper) find.now.demanded.kept.items }
-        requires found { FoundKept (K.contents self.old.keeper) found.now.entries }
-        requires plain { ArePlain rules.now (K.contents self.old.keeper) }
-        ensures keeps { KeepsWhereLazy rules.now K.exact (K.contents self.old.keeper) (K.contents self.new.keeper) self.old.work self.new.work
-            found.now.entries inst.now find.now result }
-        ensures traces { StayTraced (K.memories self.old.keeper) (K.memories self.new.keeper) }
+        requires { CanBeKeptLazily rules.now (K.contents self.old.keeper) found.now.entries inst.now find.now }
+        ensures { IsKeptWhereLazy rules.now K.exact (K.contents self.old.keeper) (K.contents self.new.keeper)
+            (K.memories self.old.keeper) (K.memories self.new.keeper) self.old.work self.new.work found.now.entries inst.now find.now result }
     {
         // Where no other find stands below it, it rests on its own reads and what it took of what is kept.
         if find.demanded.finds.is_empty() {
@@ -255,16 +221,9 @@ impl<K: Keeper> Demand<K> {
         inst: &Inst,
         find: &Find,
     ) -> Result<Put, AllocError>
-        requires lazy { is_lazy rules.now inst.now.attribute ≡ true }
-        requires unkept { kept_values (K.contents self.old.keeper) inst.now ≡ None }
-        requires kept { AreValued (K.contents self.old.keeper) find.now.demanded.kept.items }
-        requires found { FoundKept (K.contents self.old.keeper) found.now.entries }
-        requires plain { ArePlain rules.now (K.contents self.old.keeper) }
-        ensures placed { IfOk result (HasPlaced rules.now K.exact (K.contents self.old.keeper) found.now.entries inst.now find.now
-            (K.contents self.new.keeper)) }
-        ensures err { OnErr result (Shares rules.now K.exact found.now.entries (K.contents self.old.keeper) (K.contents self.new.keeper)) }
-        ensures counts { IsTrue K.exact → Counts (K.contents self.old.keeper) (K.contents self.new.keeper) self.old.work self.new.work }
-        ensures traces { StayTraced (K.memories self.old.keeper) (K.memories self.new.keeper) }
+        requires { CanBeKeptLazily rules.now (K.contents self.old.keeper) found.now.entries inst.now find.now }
+        ensures { IsPlaced rules.now K.exact (K.contents self.old.keeper) (K.contents self.new.keeper)
+            (K.memories self.old.keeper) (K.memories self.new.keeper) self.old.work self.new.work found.now.entries inst.now find.now result }
     {
         let sources = self.gather(rules, found, find)?;
         let put = self.put(
@@ -287,11 +246,8 @@ impl<K: Keeper> Demand<K> {
     ) -> Result<Put, AllocError>
         requires absent { K.contents self.old.keeper inst.now ≡ None }
         requires present { AreKept (K.contents self.old.keeper) uses.now }
-        ensures puts { IfOk result (HasPut K.exact (K.contents self.old.keeper) inst.now (Some (value_view value.now)) (map loc_view reads.now)
-            uses.now (K.contents self.new.keeper)) }
-        ensures err { OnErr result (KeepsAll (K.contents self.old.keeper) (K.contents self.new.keeper)) }
-        ensures counts { IsTrue K.exact → Counts (K.contents self.old.keeper) (K.contents self.new.keeper) self.old.work self.new.work }
-        ensures traces { StayTraced (K.memories self.old.keeper) (K.memories self.new.keeper) }
+        ensures { IsPut K.exact (K.contents self.old.keeper) (K.contents self.new.keeper)
+            (K.memories self.old.keeper) (K.memories self.new.keeper) self.old.work self.new.work inst.now value.now (map loc_view reads.now) uses.now result }
     {
         let put = self.keeper.put(
             inst.copy(self.alloc)?,

@@ -13,10 +13,9 @@ ghost use Rattle.at_body.specs.Values.{value_view};
 ghost use Rattle.at_apply.specs.Parts.{call_of, either_of, fold_of, one_of, two_of};
 ghost use Rattle.at_apply.specs.Place.{place_at};
 ghost use Rattle.at_demand.specs.Known.{meaning};
-ghost use Rattle.at_demand.specs.Inner.{Gains, HasRecalled, HasTold, known_by};
-ghost use Rattle.at_demand.specs.InParts.{HasCome, HasGained, IsHeld, held};
+ghost use Rattle.at_demand.specs.Inner.{HasRecalled, HasTold, known_by};
+ghost use Rattle.at_demand.specs.InParts.{HasCome, HasGained, HasGrown, IsHeld, held};
 ghost use Rattle.at_demand.specs.Sparing.{AreSpare, HasWorthy};
-ghost use Rattle.at_demand.specs.Traces.{StayJustified};
 
 use crate::basis::Basis;
 use at_apply::{
@@ -128,9 +127,9 @@ impl Direct {
         ensures value { IfOk result (λ v. HasValue (contents basis.now.store.now) (meaning basis.now.rules.now) inst.now (value_view v)) }
         ensures all { IsTrue K.exact → AreSpare basis.now.rules.now (contents basis.now.store.now) (K.contents keeper.old)
             → IfOk result (λ v. HasWorthy basis.now.rules.now (contents basis.now.store.now) inst.now (K.contents keeper.new)) }
-        ensures gains { Gains basis.now.rules.now basis.now.store.now K.exact inst.now (K.contents keeper.old) (K.contents keeper.new) self.old.found.entries
-            self.new.found.entries self.old.work self.new.work }
-        ensures traces { StayJustified basis.now.rules.now basis.now.store.now inst.now (K.memories keeper.old) (K.memories keeper.new) }
+        ensures grown { HasGrown basis.now.rules.now basis.now.store.now K.exact inst.now
+            (held (K.contents keeper.old) (K.memories keeper.old) self.old.found.entries self.old.work)
+            (held (K.contents keeper.new) (K.memories keeper.new) self.new.found.entries self.new.work) }
     {
         let mut asks = self.level();
         let needed = inst.copy(self.alloc)?;
@@ -167,9 +166,9 @@ impl Direct {
             (held (K.contents keeper.old) (K.memories keeper.old) self.old.found.entries self.old.work) }
         ensures told { IfOk result (λ v. HasTold basis.now.rules.now (contents basis.now.store.now) (known_by (K.contents keeper.new) self.new.found.entries)
             level.old level.new needed (value_view v)) }
-        ensures gains { Gains basis.now.rules.now basis.now.store.now K.exact needed (K.contents keeper.old) (K.contents keeper.new) self.old.found.entries
-            self.new.found.entries self.old.work self.new.work }
-        ensures traces { StayJustified basis.now.rules.now basis.now.store.now needed (K.memories keeper.old) (K.memories keeper.new) }
+        ensures grown { HasGrown basis.now.rules.now basis.now.store.now K.exact needed
+            (held (K.contents keeper.old) (K.memories keeper.old) self.old.found.entries self.old.work)
+            (held (K.contents keeper.new) (K.memories keeper.new) self.new.found.entries self.new.work) }
     {
         let recalled = self.recall(keeper, basis, level, &needed)?;
         if let Some(value) = recalled {
@@ -196,9 +195,9 @@ impl Direct {
             (held (K.contents keeper.old) (K.memories keeper.old) self.old.found.entries self.old.work) }
         ensures told { IfOk result (λ v. HasTold basis.now.rules.now (contents basis.now.store.now) (known_by (K.contents keeper.new) self.new.found.entries)
             level.old level.new needed (value_view v)) }
-        ensures gains { Gains basis.now.rules.now basis.now.store.now K.exact needed (K.contents keeper.old) (K.contents keeper.new) self.old.found.entries
-            self.new.found.entries self.old.work self.new.work }
-        ensures traces { StayJustified basis.now.rules.now basis.now.store.now needed (K.memories keeper.old) (K.memories keeper.new) }
+        ensures grown { HasGrown basis.now.rules.now basis.now.store.now K.exact needed
+            (held (K.contents keeper.old) (K.memories keeper.old) self.old.found.entries self.old.work)
+            (held (K.contents keeper.new) (K.memories keeper.new) self.new.found.entries self.new.work) }
     {
         let reads = level.reads.len();
         let uses = level.uses.len();
@@ -226,9 +225,9 @@ impl Direct {
             (held (K.contents keeper.old) (K.memories keeper.old) self.old.found.entries self.old.work) }
         ensures told { IfOk result (λ v. HasTold basis.now.rules.now (contents basis.now.store.now) (known_by (K.contents keeper.new) self.new.found.entries)
             level.old level.new needed (value_view v)) }
-        ensures gains { Gains basis.now.rules.now basis.now.store.now K.exact needed (K.contents keeper.old) (K.contents keeper.new) self.old.found.entries
-            self.new.found.entries self.old.work self.new.work }
-        ensures traces { StayJustified basis.now.rules.now basis.now.store.now needed (K.memories keeper.old) (K.memories keeper.new) }
+        ensures grown { HasGrown basis.now.rules.now basis.now.store.now K.exact needed
+            (held (K.contents keeper.old) (K.memories keeper.old) self.old.found.entries self.old.work)
+            (held (K.contents keeper.new) (K.memories keeper.new) self.new.found.entries self.new.work) }
     {
         let verified = self.verify(keeper, basis, level, &needed, above)?;
         match verified {
@@ -252,9 +251,9 @@ impl Direct {
             (held (K.contents keeper.old) (K.memories keeper.old) self.old.found.entries self.old.work) }
         ensures recalled { IfOk result (HasRecalled basis.now.rules.now (contents basis.now.store.now) (known_by (K.contents keeper.new) self.new.found.entries)
             level.old level.new needed.now) }
-        ensures gains { Gains basis.now.rules.now basis.now.store.now K.exact needed.now (K.contents keeper.old) (K.contents keeper.new) self.old.found.entries
-            self.new.found.entries self.old.work self.new.work }
-        ensures traces { StayJustified basis.now.rules.now basis.now.store.now needed.now (K.memories keeper.old) (K.memories keeper.new) }
+        ensures grown { HasGrown basis.now.rules.now basis.now.store.now K.exact needed.now
+            (held (K.contents keeper.old) (K.memories keeper.old) self.old.found.entries self.old.work)
+            (held (K.contents keeper.new) (K.memories keeper.new) self.new.found.entries self.new.work) }
     {
         for _ in 0..IN_THE_WAY {
             let again = self.keep_again(keeper, basis, level, needed)?;
@@ -286,9 +285,9 @@ impl Direct {
             (held (K.contents keeper.old) (K.memories keeper.old) self.old.found.entries self.old.work) }
         ensures told { IfOk result (λ v. HasTold basis.now.rules.now (contents basis.now.store.now) (known_by (K.contents keeper.new) self.new.found.entries)
             level.old level.new needed (value_view v)) }
-        ensures gains { Gains basis.now.rules.now basis.now.store.now K.exact needed (K.contents keeper.old) (K.contents keeper.new) self.old.found.entries
-            self.new.found.entries self.old.work self.new.work }
-        ensures traces { StayJustified basis.now.rules.now basis.now.store.now needed (K.memories keeper.old) (K.memories keeper.new) }
+        ensures grown { HasGrown basis.now.rules.now basis.now.store.now K.exact needed
+            (held (K.contents keeper.old) (K.memories keeper.old) self.old.found.entries self.old.work)
+            (held (K.contents keeper.new) (K.memories keeper.new) self.new.found.entries self.new.work) }
     {
         let mut below = self.level();
         let value = self.evaluate(keeper, basis, &mut below, &needed, above)?;
@@ -313,9 +312,9 @@ impl Direct {
         ensures come { IfOk result (λ v. HasCome basis.now.rules.now (contents basis.now.store.now)
             (held (K.contents keeper.new) (K.memories keeper.new) self.new.found.entries self.new.work)
             level.old level.new (meaning basis.now.rules.now inst.now) (value_view v)) }
-        ensures gains { Gains basis.now.rules.now basis.now.store.now K.exact inst.now (K.contents keeper.old) (K.contents keeper.new) self.old.found.entries
-            self.new.found.entries self.old.work self.new.work }
-        ensures traces { StayJustified basis.now.rules.now basis.now.store.now inst.now (K.memories keeper.old) (K.memories keeper.new) }
+        ensures grown { HasGrown basis.now.rules.now basis.now.store.now K.exact inst.now
+            (held (K.contents keeper.old) (K.memories keeper.old) self.old.found.entries self.old.work)
+            (held (K.contents keeper.new) (K.memories keeper.new) self.new.found.entries self.new.work) }
     {
         let begun = begin(self.alloc, basis.rules, basis.store, &mut level.reads, inst)?;
         self.value(keeper, basis, level, &begun.0, begun.1, above)

@@ -5,12 +5,12 @@ ghost use Rattle.std.specs.Map.{keys_of};
 ghost use Rattle.at_model.specs.Instances.{AnyText};
 ghost use Rattle.at_model.specs.Meaning.{Among, Right};
 ghost use Rattle.at_model.specs.TypedRuns.{IsWellTyped};
-ghost use Rattle.at_model.specs.WellFormed.{AreWellFormed, IsTreeSound};
 ghost use Rattle.at_store.specs.Located.{loc_view};
-ghost use Rattle.at_store.specs.Shown.{IsIdle, contents, tree};
+ghost use Rattle.at_store.specs.Shown.{contents};
 ghost use Rattle.at_body.specs.Same.{same_instance};
 ghost use Rattle.at_body.specs.Typed.{IsTypedStep, class_shown};
 ghost use Rattle.indexmap.specs.IndexMap.{insert_entry};
+ghost use Rattle.at_demand.specs.Answerable.{IsBasis};
 ghost use Rattle.at_demand.specs.Known.{meaning, known_in, AreValued, IsRecalled};
 ghost use Rattle.at_demand.specs.Advancing.{HasBegun, HasGoneOn};
 ghost use Rattle.at_demand.specs.Covering.{Takes};
@@ -114,9 +114,7 @@ impl<'a> Frame<'a> {
         store: &'a Store,
         inst: &Inst,
     ) -> Result<(Frame<'a>, Step), AllocError>
-        requires idle { IsIdle store.now }
-        requires formed { AreWellFormed rules.now }
-        requires sound { IsTreeSound rules.now.classes (tree store.now) }
+        requires basis { IsBasis rules.now store.now }
         requires typed { IsWellTyped rules.now (class_shown store.now) AnyText inst.now }
         ensures { IfOk result (λ r. HasBegun rules.now store.now inst.now r.0 r.1) }
     {
@@ -138,9 +136,7 @@ impl<'a> Frame<'a> {
         store: &'a Store,
         step: Step,
     ) -> Result<Step, AllocError>
-        requires idle { IsIdle store.now }
-        requires formed { AreWellFormed rules.now }
-        requires sound { IsTreeSound rules.now.classes (tree store.now) }
+        requires basis { IsBasis rules.now store.now }
         requires right { Right (contents store.now) (meaning rules.now) (known_in (K.contents keeper.now) found.now.entries) }
         requires typed { IsTypedStep rules.now (class_shown store.now) step self.old.trial }
         requires kept { AreValued (K.contents keeper.now) self.old.demanded.kept.items }

@@ -7,7 +7,7 @@
 //! `Called` the same by paths. `Inner` is what instances are told that are evaluated in one go, and what comes of it, `InParts` the same of an
 //! expression, part by part, and `Traces` when what can be kept again with no evaluation is right. What a value may carry: `OneProof`. Of questions in turns, `Turns` shows one in the words of `at_model`, `Attempts` is what
 //! one try comes to, `ChainSteps` what that does to the chain, `KeptTrials` the trials that stay while turns follow
-//! each other.
+//! each other. `Answerable` says once on which conditions all of that is asked for.
 //!
 //! **Where to begin:** `Demand::answer` in `demand.rt`: a question is answered in one go by `direct.rt`, a recursion to which rules and tree are
 //! lent as one (`basis.rt`), or where that gives up by all turns of a question, which is `question.rt` and `demand/turning.rt`, with evaluations of `evaluation.rt`. It holds nothing of

@@ -1,10 +1,10 @@
 //! What many kept values rest on stands once: as an entry without a value, which they use.
 
-ghost use Rattle.std.specs.Prelude.{◌≡◌, IfOk, None, false};
+ghost use Rattle.std.specs.Prelude.{◌≡◌, None, false};
 ghost use Rattle.at_model.specs.Rules.{is_lazy};
-ghost use Rattle.at_cache.specs.Traced.{StayTraced};
-ghost use Rattle.at_demand.specs.Known.{AreValued, FoundAs, FoundKept};
-ghost use Rattle.at_demand.specs.Keeping.{HasGathered, Shares};
+ghost use Rattle.at_demand.specs.Answerable.{RestsOnKept};
+ghost use Rattle.at_demand.specs.Known.{FoundAs, FoundKept};
+ghost use Rattle.at_demand.specs.Keeping.{IsGathered, SharesAlone};
 
 use super::Demand;
 use crate::evaluation::Find;
@@ -23,12 +23,9 @@ impl<K: Keeper> Demand<K> {
         found: &IndexMap<Inst, Find>,
         find: &Find,
     ) -> Result<Sources, AllocError>
-        requires kept { AreValued (K.contents self.old.keeper) find.now.demanded.kept.items }
-        requires found { FoundKept (K.contents self.old.keeper) found.now.entries }
-        ensures shares { Shares rules.now K.exact found.now.entries (K.contents self.old.keeper) (K.contents self.new.keeper) }
-        ensures work { self.new.work ≡ self.old.work }
-        ensures sources { IfOk result (HasGathered (K.contents self.new.keeper) found.now.entries find.now) }
-        ensures traces { StayTraced (K.memories self.old.keeper) (K.memories self.new.keeper) }
+        requires { RestsOnKept (K.contents self.old.keeper) found.now.entries find.now }
+        ensures { IsGathered rules.now K.exact (K.contents self.old.keeper) (K.contents self.new.keeper)
+            (K.memories self.old.keeper) (K.memories self.new.keeper) self.old.work self.new.work found.now.entries find.now result }
     {
         let sources = Sources::of(self.alloc, &self.keeper, found, find, &mut self.sharing)?;
         let due = self.sharing.take_due(self.alloc);
@@ -50,10 +47,9 @@ impl<K: Keeper> Demand<K> {
         found: &IndexMap<Inst, Find>,
         positions: &[usize],
     ) -> Result<bool, AllocError>
-        requires found { FoundKept (K.contents self.old.keeper) found.now.entries }
-        ensures shares { Shares rules.now K.exact found.now.entries (K.contents self.old.keeper) (K.contents self.new.keeper) }
-        ensures work { self.new.work ≡ self.old.work }
-        ensures traces { StayTraced (K.memories self.old.keeper) (K.memories self.new.keeper) }
+        requires { FoundKept (K.contents self.old.keeper) found.now.entries }
+        ensures { SharesAlone rules.now K.exact found.now.entries (K.contents self.old.keeper) (K.contents self.new.keeper)
+            (K.memories self.old.keeper) (K.memories self.new.keeper) self.old.work self.new.work }
     {
         let mut any = false;
         for position in positions {
@@ -73,10 +69,9 @@ impl<K: Keeper> Demand<K> {
         found: &IndexMap<Inst, Find>,
         position: usize,
     ) -> Result<bool, AllocError>
-        requires found { FoundKept (K.contents self.old.keeper) found.now.entries }
-        ensures shares { Shares rules.now K.exact found.now.entries (K.contents self.old.keeper) (K.contents self.new.keeper) }
-        ensures work { self.new.work ≡ self.old.work }
-        ensures traces { StayTraced (K.memories self.old.keeper) (K.memories self.new.keeper) }
+        requires { FoundKept (K.contents self.old.keeper) found.now.entries }
+        ensures { SharesAlone rules.now K.exact found.now.entries (K.contents self.old.keeper) (K.contents self.new.keeper)
+            (K.memories self.old.keeper) (K.memories self.new.keeper) self.old.work self.new.work }
     {
         let Some((inst, find)) = found.get_index(position) else {
             return Ok(false);
@@ -98,14 +93,12 @@ impl<K: Keeper> Demand<K> {
         inst: &Inst,
         find: &Find,
     ) -> Result<bool, AllocError>
-        requires found { FoundKept (K.contents self.old.keeper) found.now.entries }
-        requires kept { AreValued (K.contents self.old.keeper) find.now.demanded.kept.items }
+        requires rests { RestsOnKept (K.contents self.old.keeper) found.now.entries find.now }
         requires absent { K.contents self.old.keeper inst.now ≡ None }
         requires plain { is_lazy rules.now inst.now.attribute ≡ false }
         requires at { FoundAs found.now.entries inst.now find.now }
-        ensures shares { Shares rules.now K.exact found.now.entries (K.contents self.old.keeper) (K.contents self.new.keeper) }
-        ensures work { self.new.work ≡ self.old.work }
-        ensures traces { StayTraced (K.memories self.old.keeper) (K.memories self.new.keeper) }
+        ensures { SharesAlone rules.now K.exact found.now.entries (K.contents self.old.keeper) (K.contents self.new.keeper)
+            (K.memories self.old.keeper) (K.memories self.new.keeper) self.old.work self.new.work }
     {
         let sources = Sources::of(self.alloc, &self.keeper, found, find, &mut self.sharing)?;
         let uses = sources.kept.as_slice();

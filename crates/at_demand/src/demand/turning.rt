@@ -3,19 +3,16 @@
 ghost use Rattle.std.specs.Prelude.{◌≡◌, ℕ, IfOk, None};
 ghost use Rattle.at_model.specs.Run.{Contents};
 ghost use Rattle.at_model.specs.Instances.{AnyText};
-ghost use Rattle.at_model.specs.Meaning.{Right};
 ghost use Rattle.at_model.specs.Rules.{Rules};
 ghost use Rattle.at_model.specs.TypedRuns.{IsWellTyped};
 ghost use Rattle.at_model.specs.Turning.{asked, posted};
-ghost use Rattle.at_model.specs.WellFormed.{AreWellFormed, IsTreeSound};
-ghost use Rattle.at_store.specs.Shown.{IsIdle, Shown, contents, tree};
+ghost use Rattle.at_store.specs.Shown.{Shown, contents};
 ghost use Rattle.at_body.specs.Typed.{class_shown};
 ghost use Rattle.at_cache.specs.Kept.{Entries};
-ghost use Rattle.at_cache.specs.Traced.{StayTraced};
-ghost use Rattle.at_demand.specs.Known.{meaning, kept_values, known_in, ArePlain, FoundKept};
-ghost use Rattle.at_demand.specs.Covering.{AreWhole};
+ghost use Rattle.at_demand.specs.Answerable.{AreFinds, CanTurn, IsAnswerable, IsBasis};
+ghost use Rattle.at_demand.specs.Known.{kept_values};
 ghost use Rattle.at_demand.specs.Turns.{IsStanding, IsSparingTurns, under_way};
-ghost use Rattle.at_demand.specs.Answered.{HasTurned, HasTurnedOften, HasTurnedWith};
+ghost use Rattle.at_demand.specs.Answered.{HasTurned, HasTurnedOften, HasTurnedWith, TracesNothing};
 ghost use Rattle.at_demand.specs.Attempts.{HasAttempted, HasComeTo};
 ghost use Rattle.at_demand.specs.KeptTrials.{Fit};
 ghost use Rattle.at_demand.specs.Traces.{StaysTraced};
@@ -52,15 +49,10 @@ impl<K: Keeper> Demand<K> {
         store: &Store,
         question: &mut Question,
     ) -> Result<Option<Answer>, AllocError>
-        requires idle { IsIdle store.now }
-        requires formed { AreWellFormed rules.now }
-        requires sound { IsTreeSound rules.now.classes (tree store.now) }
-        requires right { Right (contents store.now) (meaning rules.now) (kept_values (K.contents self.old.keeper)) }
-        requires plain { ArePlain rules.now (K.contents self.old.keeper) }
-        requires standing { IsStanding rules.now store.now (K.contents self.old.keeper) question.old }
-        ensures turned { HasTurned rules.now store.now K.exact (K.contents self.old.keeper) (K.contents self.new.keeper)
-            self.old.work self.new.work question.old question.new result }
-        ensures traces { StayTraced (K.memories self.old.keeper) (K.memories self.new.keeper) }
+        requires { CanTurn rules.now store.now (K.contents self.old.keeper) question.old }
+        ensures { TracesNothing (HasTurned rules.now store.now K.exact (K.contents self.old.keeper) (K.contents self.new.keeper)
+            self.old.work self.new.work question.old question.new result)
+            (K.memories self.old.keeper) (K.memories self.new.keeper) }
     {
         // Positions among the finds of one question say nothing of another one.
         self.sharing.clear();
@@ -78,15 +70,10 @@ impl<K: Keeper> Demand<K> {
         question: &mut Question,
         limit: u64,
     ) -> Result<(u64, Option<Answer>), AllocError>
-        requires idle { IsIdle store.now }
-        requires formed { AreWellFormed rules.now }
-        requires sound { IsTreeSound rules.now.classes (tree store.now) }
-        requires right { Right (contents store.now) (meaning rules.now) (kept_values (K.contents self.old.keeper)) }
-        requires plain { ArePlain rules.now (K.contents self.old.keeper) }
-        requires standing { IsStanding rules.now store.now (K.contents self.old.keeper) question.old }
-        ensures turned { HasTurnedOften rules.now store.now K.exact (K.contents self.old.keeper) (K.contents self.new.keeper)
-            self.old.work self.new.work limit question.old question.new result }
-        ensures traces { StayTraced (K.memories self.old.keeper) (K.memories self.new.keeper) }
+        requires { CanTurn rules.now store.now (K.contents self.old.keeper) question.old }
+        ensures { TracesNothing (HasTurnedOften rules.now store.now K.exact (K.contents self.old.keeper) (K.contents self.new.keeper)
+            self.old.work self.new.work limit question.old question.new result)
+            (K.memories self.old.keeper) (K.memories self.new.keeper) }
     {
         // As in one turn.
         self.sharing.clear();
@@ -110,16 +97,11 @@ impl<K: Keeper> Demand<K> {
         question: &mut Question,
         trials: &mut Trials<'a>,
     ) -> Result<Option<Answer>, AllocError>
-        requires idle { IsIdle store.now }
-        requires formed { AreWellFormed rules.now }
-        requires sound { IsTreeSound rules.now.classes (tree store.now) }
-        requires right { Right (contents store.now) (meaning rules.now) (kept_values (K.contents self.old.keeper)) }
-        requires plain { ArePlain rules.now (K.contents self.old.keeper) }
-        requires standing { IsStanding rules.now store.now (K.contents self.old.keeper) question.old }
+        requires turns { CanTurn rules.now store.now (K.contents self.old.keeper) question.old }
         requires fit { Fit rules.now store.now (K.contents self.old.keeper) question.old trials.old }
-        ensures turned { HasTurnedWith rules.now store.now K.exact (K.contents self.old.keeper) (K.contents self.new.keeper)
-            self.old.work self.new.work question.old question.new trials.new result }
-        ensures traces { StayTraced (K.memories self.old.keeper) (K.memories self.new.keeper) }
+        ensures { TracesNothing (HasTurnedWith rules.now store.now K.exact (K.contents self.old.keeper) (K.contents self.new.keeper)
+            self.old.work self.new.work question.old question.new trials.new result)
+            (K.memories self.old.keeper) (K.memories self.new.keeper) }
     {
         if let Some(value) = self.keeper.get(question.asked()) {
             return Ok(Some(Answer::Value(value.copy()?)));
@@ -165,9 +147,7 @@ impl<K: Keeper> Demand<K> {
         question: &Question,
         trials: &mut Trials<'a>,
     ) -> Result<(Frame<'a>, Step), AllocError>
-        requires idle { IsIdle store.now }
-        requires formed { AreWellFormed rules.now }
-        requires sound { IsTreeSound rules.now.classes (tree store.now) }
+        requires basis { IsBasis rules.now store.now }
         requires typed { IsWellTyped rules.now (class_shown store.now) AnyText question.now.inst }
         requires fit { Fit rules.now store.now (K.contents self.now.keeper) question.now trials.old }
         ensures standing { IfOk result (λ r. HasComeTo rules.now (class_shown store.now) (contents store.now) (K.contents self.now.keeper)
@@ -195,17 +175,11 @@ impl<K: Keeper> Demand<K> {
         frame: &mut Frame<'a>,
         step: Step,
     ) -> Result<Attempt, AllocError>
-        requires idle { IsIdle store.now }
-        requires formed { AreWellFormed rules.now }
-        requires sound { IsTreeSound rules.now.classes (tree store.now) }
+        requires answerable { IsAnswerable rules.now store.now (K.contents self.old.keeper) }
         requires standing { HasComeTo rules.now (class_shown store.now) (contents store.now) (K.contents self.old.keeper)
             found.now.entries inst.now frame.old step }
-        requires right { Right (contents store.now) (meaning rules.now) (known_in (K.contents self.old.keeper) found.now.entries) }
-        requires kept_right { Right (contents store.now) (meaning rules.now) (kept_values (K.contents self.old.keeper)) }
-        requires kept { FoundKept (K.contents self.old.keeper) found.now.entries }
+        requires finds { AreFinds rules.now store.now (K.contents self.old.keeper) found.now.entries }
         requires unkept { kept_values (K.contents self.old.keeper) inst.now ≡ None }
-        requires plain { ArePlain rules.now (K.contents self.old.keeper) }
-        requires whole { AreWhole rules.now (contents store.now) found.now.entries }
         ensures attempted { HasAttempted rules.now store.now K.exact (K.contents self.old.keeper) (K.contents self.new.keeper) self.old.work self.new.work
             found.now.entries inst.now frame.new result }
         ensures traces { StaysTraced K.memories self.old.keeper self.new.keeper }

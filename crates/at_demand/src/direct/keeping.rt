@@ -12,10 +12,9 @@ ghost use Rattle.at_cache.specs.Kept.{AreKept, HasPut, KeepsAll};
 ghost use Rattle.at_cache.specs.Traced.{PutsTrace};
 ghost use Rattle.at_cache.specs.declared.keeper.Order.TheVariants as order_code;
 ghost use Rattle.at_demand.specs.Known.{kept_values, meaning};
-ghost use Rattle.at_demand.specs.Inner.{AreKnown, AreLazy, Gains, HasRecalled, HasTold, IsEvaluated, IsOneOf, known_by, remembered};
-ghost use Rattle.at_demand.specs.InParts.{IsHeld, held};
+ghost use Rattle.at_demand.specs.Inner.{AreKnown, AreLazy, HasRecalled, HasTold, IsEvaluated, IsOneOf, known_by, remembered};
+ghost use Rattle.at_demand.specs.InParts.{HasGrown, IsHeld, held};
 ghost use Rattle.at_demand.specs.Sparing.{Counts};
-ghost use Rattle.at_demand.specs.Traces.{StayJustified};
 
 use super::{Direct, Level};
 use crate::basis::Basis;
@@ -68,9 +67,9 @@ impl Direct {
             (held (K.contents keeper.old) (K.memories keeper.old) self.old.found.entries self.old.work) }
         ensures recalled { IfOk result (HasRecalled basis.now.rules.now (contents basis.now.store.now) (known_by (K.contents keeper.new) self.new.found.entries)
             level.old level.new needed.now) }
-        ensures gains { Gains basis.now.rules.now basis.now.store.now K.exact needed.now (K.contents keeper.old) (K.contents keeper.new) self.old.found.entries
-            self.new.found.entries self.old.work self.new.work }
-        ensures traces { StayJustified basis.now.rules.now basis.now.store.now needed.now (K.memories keeper.old) (K.memories keeper.new) }
+        ensures grown { HasGrown basis.now.rules.now basis.now.store.now K.exact needed.now
+            (held (K.contents keeper.old) (K.memories keeper.old) self.old.found.entries self.old.work)
+            (held (K.contents keeper.new) (K.memories keeper.new) self.new.found.entries self.new.work) }
     {
         if !self.have_settled(keeper, basis, needed) {
             return Ok(None);
@@ -82,9 +81,9 @@ impl Direct {
     fn have_settled<K: Keeper>(&mut self, keeper: &mut K, basis: &Basis<'_>, needed: &Inst) -> bool
         requires { IsHeld basis.now.rules.now (contents basis.now.store.now)
             (held (K.contents keeper.old) (K.memories keeper.old) self.old.found.entries self.old.work) }
-        ensures gains { Gains basis.now.rules.now basis.now.store.now K.exact needed.now (K.contents keeper.old) (K.contents keeper.new) self.old.found.entries
-            self.new.found.entries self.old.work self.new.work }
-        ensures traces { StayJustified basis.now.rules.now basis.now.store.now needed.now (K.memories keeper.old) (K.memories keeper.new) }
+        ensures grown { HasGrown basis.now.rules.now basis.now.store.now K.exact needed.now
+            (held (K.contents keeper.old) (K.memories keeper.old) self.old.found.entries self.old.work)
+            (held (K.contents keeper.new) (K.memories keeper.new) self.new.found.entries self.new.work) }
     {
         let before = self.work;
         let later = keeper.settle(needed, before);
@@ -154,9 +153,9 @@ impl Direct {
             (value_view value.now) below.now.reads below.now.uses.items }
         ensures told { OnOk result (HasTold basis.now.rules.now (contents basis.now.store.now) (known_by (K.contents keeper.new) self.new.found.entries)
             level.old level.new needed (value_view value.now)) }
-        ensures gains { Gains basis.now.rules.now basis.now.store.now K.exact needed (K.contents keeper.old) (K.contents keeper.new) self.old.found.entries
-            self.new.found.entries self.old.work self.new.work }
-        ensures traces { StayJustified basis.now.rules.now basis.now.store.now needed (K.memories keeper.old) (K.memories keeper.new) }
+        ensures grown { HasGrown basis.now.rules.now basis.now.store.now K.exact needed
+            (held (K.contents keeper.old) (K.memories keeper.old) self.old.found.entries self.old.work)
+            (held (K.contents keeper.new) (K.memories keeper.new) self.new.found.entries self.new.work) }
     {
         if keeper.stands(&needed) {
             return Err(Stop::GivesUp);
@@ -221,9 +220,9 @@ impl Direct {
             (value_view value.now) below.now.reads below.now.uses.items }
         ensures told { OnOk result (HasTold basis.now.rules.now (contents basis.now.store.now) (known_by (K.contents keeper.new) self.new.found.entries)
             level.old level.new needed (value_view value.now)) }
-        ensures gains { Gains basis.now.rules.now basis.now.store.now K.exact needed (K.contents keeper.old) (K.contents keeper.new) self.old.found.entries
-            self.new.found.entries self.old.work self.new.work }
-        ensures traces { StayJustified basis.now.rules.now basis.now.store.now needed (K.memories keeper.old) (K.memories keeper.new) }
+        ensures grown { HasGrown basis.now.rules.now basis.now.store.now K.exact needed
+            (held (K.contents keeper.old) (K.memories keeper.old) self.old.found.entries self.old.work)
+            (held (K.contents keeper.new) (K.memories keeper.new) self.new.found.entries self.new.work) }
     {
         self.stand(keeper, basis, &needed, value, below)?;
         self.see(needed.attribute())?;
@@ -248,9 +247,9 @@ impl Direct {
             (value_view value.now) below.now.reads below.now.uses.items }
         ensures stands { OnOk result (IsSome (K.contents keeper.new needed.now)) }
         ensures found { self.new.found.entries ≡ self.old.found.entries }
-        ensures gains { Gains basis.now.rules.now basis.now.store.now K.exact needed.now (K.contents keeper.old) (K.contents keeper.new) self.old.found.entries
-            self.new.found.entries self.old.work self.new.work }
-        ensures traces { StayJustified basis.now.rules.now basis.now.store.now needed.now (K.memories keeper.old) (K.memories keeper.new) }
+        ensures grown { HasGrown basis.now.rules.now basis.now.store.now K.exact needed.now
+            (held (K.contents keeper.old) (K.memories keeper.old) self.old.found.entries self.old.work)
+            (held (K.contents keeper.new) (K.memories keeper.new) self.new.found.entries self.new.work) }
     {
         if keeper.stands(needed) {
             return Ok(());

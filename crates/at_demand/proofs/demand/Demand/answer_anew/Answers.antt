@@ -7,6 +7,7 @@ use Rattle.at_body.specs.declared.value.Value.{Value as ValueCode}
 use Rattle.at_demand.specs.Known.{meaning}
 use Rattle.at_demand.specs.Sparing.{HasWorthy}
 use Rattle.at_demand.proofs.of_nesting.InnerAnswered.{answered_after, answered_by}
+use Rattle.at_demand.proofs.of_nesting.InnerGains.{known_none}
 use Rattle.at_demand.proofs.of_traces.Putting.{traced_on, traced_then}
 use Rattle.at_demand.proofs.demand.Demand.answer_anew.Goals as goal
 
@@ -38,3 +39,23 @@ returns-in-None g c = record {
       (g.K.Keeper.memories c.answer_at_once.new.self.keeper) (g.K.Keeper.memories c.answer_by_turns.new.self.keeper) c.answer_by_turns.ensures.traces
       c.answer_at_once.ensures.traces.justified);
 }
+
+pub answer_at_once-requires-clause-idle : goal.answer_at_once-requires-clause-idle
+answer_at_once-requires-clause-idle g c = c.requires.answerable.basis.idle
+
+pub answer_at_once-requires-clause-held : goal.answer_at_once-requires-clause-held
+answer_at_once-requires-clause-held g c = record {
+  known = known_none c.args.rules.now (contents c.args.store.now) (g.K.Keeper.contents c.args.self.now.keeper) c.requires.answerable.right
+      c.requires.answerable.plain;
+  justified = c.requires.justified;
+}
+
+pub answer_by_turns-requires-clause-answerable : goal.answer_by_turns-requires-clause-answerable
+answer_by_turns-requires-clause-answerable g c = record {
+  basis = c.requires.answerable.basis;
+  right = c.answer_at_once.ensures.gains.known.right;
+  plain = c.answer_at_once.ensures.gains.known.plain;
+}
+
+pub answer_by_turns-requires-clause-typed : goal.answer_by_turns-requires-clause-typed
+answer_by_turns-requires-clause-typed g c = c.requires.typed

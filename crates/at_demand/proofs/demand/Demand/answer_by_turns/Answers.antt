@@ -15,12 +15,15 @@ use Rattle.at_demand.proofs.of_steps.AllTurns.{answered_turns, asked_is, told_so
 use Rattle.at_demand.proofs.of_traces.Justified.{stay_same}
 use Rattle.at_demand.proofs.demand.Demand.answer_by_turns.Goals as goal
 
-pub turns-requires-clause-standing : goal.turns-requires-clause-standing
-turns-requires-clause-standing g c =
+pub turns-requires : goal.turns-requires
+turns-requires g c =
     let rules = c.args.rules.now in
     let s = c.args.store.now in
-    c.in_ok-question.ensures.standing (g.K.Keeper.contents c.args.self.now.keeper) rules s
-    (subst (λ (i : Instance ℕ). IsWellTyped rules (class_shown s) AnyText i) (sym c.in_ok-copy.ensures) c.requires.typed)
+    record {
+      answerable = c.requires.answerable;
+      standing = c.in_ok-question.ensures.standing (g.K.Keeper.contents c.args.self.now.keeper) rules s
+          (subst (λ (i : Instance ℕ). IsWellTyped rules (class_shown s) AnyText i) (sym c.in_ok-copy.ensures) c.requires.typed);
+    }
 
 pub returns : goal.returns
 returns g c = record {
@@ -49,7 +52,7 @@ returns-in_err-copy g c = record {
       let is = (err_from_is_err_and c.from_residual.result c.from_residual.ensures.1).1 in
       answered_by rules s g.K.Keeper.exact c.args.inst.now _ entries entries c.args.self.now.work c.args.self.now.work
       (gains_none rules s g.K.Keeper.exact c.args.inst.now entries [] c.args.self.now.work c.args.self.now.few
-      (known_none rules (contents s) entries c.requires.right c.requires.plain)) (rw is tt) (λ k spare. rw is tt);
+      (known_none rules (contents s) entries c.requires.answerable.right c.requires.answerable.plain)) (rw is tt) (λ k spare. rw is tt);
   traces = stay_same (g.K.Keeper.memories c.args.self.now.keeper);
 }
 
@@ -62,7 +65,7 @@ returns-in_err-question g c = record {
       let is = (err_from_is_err_and c.from_residual-in_err-question.result c.from_residual-in_err-question.ensures.1).1 in
       answered_by rules s g.K.Keeper.exact c.args.inst.now _ entries entries c.args.self.now.work c.args.self.now.work
       (gains_none rules s g.K.Keeper.exact c.args.inst.now entries [] c.args.self.now.work c.args.self.now.few
-      (known_none rules (contents s) entries c.requires.right c.requires.plain)) (rw is tt) (λ k spare. rw is tt);
+      (known_none rules (contents s) entries c.requires.answerable.right c.requires.answerable.plain)) (rw is tt) (λ k spare. rw is tt);
   traces = stay_same (g.K.Keeper.memories c.args.self.now.keeper);
 }
 

@@ -9,7 +9,7 @@ use Rattle.at_demand.proofs.demand.Demand.enter.Goals as goal
 pub put-requires-clause-present : goal.put-requires-clause-present
 put-requires-clause-present g c =
     let old = g.K.Keeper.contents c.args.self.now.keeper in
-    subst (AreKept old) (sym c.as_slice-uses.ensures.value) (c.in_ok-sources.ensures.kept c.requires.found c.requires.kept)
+    subst (AreKept old) (sym c.as_slice-uses.ensures.value) (c.in_ok-sources.ensures.kept c.requires.rests.finds c.requires.rests.kept)
 
 pub returns-in_err-sources : goal.returns-in_err-sources
 returns-in_err-sources g c =
@@ -31,7 +31,7 @@ returns g c =
     let uses = c.as_slice-uses.result.now in
     record {
       shares = shares_put c.args.rules.now g.K.Keeper.exact c.args.found.now.entries old new c.args.inst.now c.args.find.now s c.requires.at c.requires.absent c.requires.plain
-          (record { gathered = e.gathered; from = e.only; kept = e.kept c.requires.found c.requires.kept }) reads uses c.in_ok-put.put (ap (map loc_view) c.as_slice-reads.ensures) c.as_slice-uses.ensures.value (subst (λ (i : Instance ℕ). HasPut g.K.Keeper.exact old i None reads uses new c.in_ok-put.put) c.in_ok-copy.ensures c.in_ok-put.ensures.puts);
+          (record { gathered = e.gathered; from = e.only; kept = e.kept c.requires.rests.finds c.requires.rests.kept }) reads uses c.in_ok-put.put (ap (map loc_view) c.as_slice-reads.ensures) c.as_slice-uses.ensures.value (subst (λ (i : Instance ℕ). HasPut g.K.Keeper.exact old i None reads uses new c.in_ok-put.put) c.in_ok-copy.ensures c.in_ok-put.ensures.puts);
       work = refl;
       traces = stay_any _ _ _ _ (g.K.Keeper.memories c.args.self.now.keeper) (g.K.Keeper.memories c.put.new.self) c.put.ensures.traces;
     }

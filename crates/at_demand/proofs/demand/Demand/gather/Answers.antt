@@ -6,7 +6,7 @@ use Rattle.at_demand.proofs.of_traces.Justified.{stay_same}
 use Rattle.at_demand.proofs.demand.Demand.gather.Goals as goal
 
 pub share_all-requires : goal.share_all-requires
-share_all-requires g c = record { found = c.requires.found }
+share_all-requires g c = c.requires.finds
 
 pub returns-in_err-sources : goal.returns-in_err-sources
 returns-in_err-sources g c =
@@ -21,7 +21,7 @@ returns-then-is_empty g c =
     record {
       shares = shares_none c.args.rules.now g.K.Keeper.exact c.args.found.now.entries old old (λ i. refl);
       work = refl;
-      sources = record { gathered = e.gathered; from = e.only; kept = e.kept c.requires.found c.requires.kept };
+      sources = record { gathered = e.gathered; from = e.only; kept = e.kept c.requires.finds c.requires.kept };
       traces = stay_same (g.K.Keeper.memories c.args.self.now.keeper);
     }
 
@@ -39,7 +39,7 @@ returns-then-not-any g c =
     record {
       shares = shares;
       work = c.share_all.ensures.work;
-      sources = record { gathered = e.gathered; from = e.only; kept = λ u h. entered_on old new shares.stays u (e.kept c.requires.found c.requires.kept u h) };
+      sources = record { gathered = e.gathered; from = e.only; kept = λ u h. entered_on old new shares.stays u (e.kept c.requires.finds c.requires.kept u h) };
       traces = c.share_all.ensures.traces;
     }
 
@@ -57,6 +57,6 @@ returns g c =
     record {
       shares = shares;
       work = c.share_all.ensures.work;
-      sources = record { gathered = e.gathered; from = e.only; kept = e.kept (founds_on old new shares.stays c.args.found.now.entries c.requires.found) (valued_on old new shares.stays c.args.find.now.demanded.kept.items c.requires.kept) };
+      sources = record { gathered = e.gathered; from = e.only; kept = e.kept (founds_on old new shares.stays c.args.found.now.entries c.requires.finds) (valued_on old new shares.stays c.args.find.now.demanded.kept.items c.requires.kept) };
       traces = c.share_all.ensures.traces;
     }

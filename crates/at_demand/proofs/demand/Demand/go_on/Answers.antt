@@ -27,12 +27,26 @@ returns-in_err-step g c = record {
   attempted =
       let is = (err_from_is_err_and c.from_residual.result c.from_residual.ensures.1).1 in
       let entries = g.K.Keeper.contents c.args.self.now.keeper in
-      record { tried = rw is tt; right = c.requires.kept_right; stays = λ there finds right. right; plain = c.requires.plain; gains = gain_none c.args.rules.now (contents c.args.store.now) c.args.found.now.entries entries c.args.inst.now; worthy = worthy_none c.args.rules.now (contents c.args.store.now) c.args.inst.now entries; spare = λ exact spare lean settled. spare; settles = λ exact spare settled. rw is tt; counts = λ exact. counts_none entries c.args.self.now.work c.args.self.now.few; keeps = rw is tt; waits = rw is tt };
+      record { tried = rw is tt; right = c.requires.answerable.right; stays = λ there finds right. right; plain = c.requires.answerable.plain; gains = gain_none c.args.rules.now (contents c.args.store.now) c.args.found.now.entries entries c.args.inst.now; worthy = worthy_none c.args.rules.now (contents c.args.store.now) c.args.inst.now entries; spare = λ exact spare lean settled. spare; settles = λ exact spare settled. rw is tt; counts = λ exact. counts_none entries c.args.self.now.work c.args.self.now.few; keeps = rw is tt; waits = rw is tt };
   traces = stay_same (g.K.Keeper.memories c.args.self.now.keeper);
 }
 
-pub keep-requires-clause-kept : goal.keep-requires-clause-kept
-keep-requires-clause-kept g c = subst (λ (d : Demanded). AreValued (g.K.Keeper.contents c.args.self.now.keeper) d.kept.items) (sym c.take_find-find.ensures.demanded) c.in_ok-step.ensures.kept
+pub go_on-requires-clause-basis : goal.go_on-requires-clause-basis
+go_on-requires-clause-basis g c = c.requires.answerable.basis
+
+pub go_on-requires-clause-right : goal.go_on-requires-clause-right
+go_on-requires-clause-right g c = c.requires.finds.right
+
+pub keep-requires : goal.keep-requires
+keep-requires g c = record {
+  rests = record {
+    kept = subst (λ (d : Demanded). AreValued (g.K.Keeper.contents c.args.self.now.keeper) d.kept.items)
+        (sym c.take_find-find.ensures.demanded) c.in_ok-step.ensures.kept;
+    finds = c.requires.finds.kept;
+  };
+  unkept = c.requires.unkept;
+  plain = c.requires.answerable.plain;
+}
 
 pub returns-in_err-put-in-Value : goal.returns-in_err-put-in-Value
 returns-in_err-put-in-Value g c = record {
@@ -54,12 +68,12 @@ returns-in_err-put-in-Value g c = record {
       let adds = c.keep.ensures.keeps.adds in
       record {
         tried = rw is tt;
-        right = right_added rules old new inst (value_view d.value) adds look has.value c.requires.kept_right;
-        stays = right_stays rules old new inst (value_view d.value) adds c.args.store.now found c.keep.ensures.keeps.gains c.keep.ensures.keeps.plain has.value (c.keep.ensures.keeps.covers look c.requires.whole has.whole);
+        right = right_added rules old new inst (value_view d.value) adds look has.value c.requires.answerable.right;
+        stays = right_stays rules old new inst (value_view d.value) adds c.args.store.now found c.keep.ensures.keeps.gains c.keep.ensures.keeps.plain has.value (c.keep.ensures.keeps.covers look c.requires.finds.whole has.whole);
         plain = c.keep.ensures.keeps.plain;
         gains = c.keep.ensures.keeps.gains;
         worthy = worthy_added rules look old new inst (value_view d.value) found c.keep.ensures.keeps.gains has.value;
-        spare = λ exact spare lean settled. spare_added rules look old new found inst d c.keep.ensures.keeps.gains c.requires.whole has settled spare (c.keep.ensures.keeps.only look exact lean has.lean spare.only);
+        spare = λ exact spare lean settled. spare_added rules look old new found inst d c.keep.ensures.keeps.gains c.requires.finds.whole has settled spare (c.keep.ensures.keeps.only look exact lean has.lean spare.only);
         settles = λ exact spare settled. rw is tt;
         counts = c.keep.ensures.keeps.counts;
         keeps = rw is tt;
@@ -88,12 +102,12 @@ returns-in-Kept g c = record {
       let kept = subst (λ (r : Put). SaysKept new inst d r) c.in-Kept.is c.in_ok-put-in-Value.ensures.keeps.says in
       record {
         tried = (d, sym c.into_value.ensures, has);
-        right = right_added rules old new inst (value_view d.value) adds look has.value c.requires.kept_right;
-        stays = right_stays rules old new inst (value_view d.value) adds c.args.store.now found c.keep.ensures.keeps.gains c.keep.ensures.keeps.plain has.value (c.keep.ensures.keeps.covers look c.requires.whole has.whole);
+        right = right_added rules old new inst (value_view d.value) adds look has.value c.requires.answerable.right;
+        stays = right_stays rules old new inst (value_view d.value) adds c.args.store.now found c.keep.ensures.keeps.gains c.keep.ensures.keeps.plain has.value (c.keep.ensures.keeps.covers look c.requires.finds.whole has.whole);
         plain = c.keep.ensures.keeps.plain;
         gains = c.keep.ensures.keeps.gains;
         worthy = worthy_added rules look old new inst (value_view d.value) found c.keep.ensures.keeps.gains has.value;
-        spare = λ exact spare lean settled. spare_added rules look old new found inst d c.keep.ensures.keeps.gains c.requires.whole has settled spare (c.keep.ensures.keeps.only look exact lean has.lean spare.only);
+        spare = λ exact spare lean settled. spare_added rules look old new found inst d c.keep.ensures.keeps.gains c.requires.finds.whole has settled spare (c.keep.ensures.keeps.only look exact lean has.lean spare.only);
         settles = λ exact spare settled. settled_still rules look old new inst found c.keep.ensures.keeps.gains found settled;
         counts = c.keep.ensures.keeps.counts;
         keeps = kept ∙ ap (λ (v : ValueCode). Some (value_view v)) (sym c.into_value.ensures);
@@ -121,13 +135,13 @@ returns-in-Left g c = record {
       let adds = c.keep.ensures.keeps.adds in
       record {
         tried = has;
-        right = right_added rules old new inst (value_view d.value) adds look has.value c.requires.kept_right;
-        stays = right_stays rules old new inst (value_view d.value) adds c.args.store.now found c.keep.ensures.keeps.gains c.keep.ensures.keeps.plain has.value (c.keep.ensures.keeps.covers look c.requires.whole has.whole);
+        right = right_added rules old new inst (value_view d.value) adds look has.value c.requires.answerable.right;
+        stays = right_stays rules old new inst (value_view d.value) adds c.args.store.now found c.keep.ensures.keeps.gains c.keep.ensures.keeps.plain has.value (c.keep.ensures.keeps.covers look c.requires.finds.whole has.whole);
         plain = c.keep.ensures.keeps.plain;
         gains = c.keep.ensures.keeps.gains;
         worthy = worthy_added rules look old new inst (value_view d.value) found c.keep.ensures.keeps.gains has.value;
-        spare = λ exact spare lean settled. spare_added rules look old new found inst d c.keep.ensures.keeps.gains c.requires.whole has settled spare (c.keep.ensures.keeps.only look exact lean has.lean spare.only);
-        settles = λ exact spare settled. settled_added rules look old new found inst d c.keep.ensures.keeps.gains c.requires.whole has settled spare (c.in_ok-put-in-Value.ensures.keeps.keeps exact);
+        spare = λ exact spare lean settled. spare_added rules look old new found inst d c.keep.ensures.keeps.gains c.requires.finds.whole has settled spare (c.keep.ensures.keeps.only look exact lean has.lean spare.only);
+        settles = λ exact spare settled. settled_added rules look old new found inst d c.keep.ensures.keeps.gains c.requires.finds.whole has settled spare (c.in_ok-put-in-Value.ensures.keeps.keeps exact);
         counts = c.keep.ensures.keeps.counts;
         keeps = tt;
         waits = tt;
@@ -147,7 +161,7 @@ returns-in-Fault g c = record {
       let typed = subst (λ (s : Step). IsTypedStep rules (class_shown c.args.store.now) s c.go_on.new.self.trial) c.in-Fault.is c.in_ok-step.ensures.typed in
       let passed = subst (λ (s : Step). HasPassedTo rules look found inst c.go_on.new.self s) c.in-Fault.is (c.in_ok-step.ensures.passed inst c.requires.standing.passed) in
       let takes = c.in_ok-step.ensures.only inst c.requires.standing.stepped c.requires.standing.takes in
-      record { tried = has_failed rules look entries found inst c.go_on.new.self.trial c.in-Fault.kind stepped; right = c.requires.kept_right; stays = λ there finds right. right; plain = c.requires.plain; gains = gain_none rules look found entries inst; worthy = worthy_none rules look inst entries; spare = λ exact spare lean settled. spare; settles = λ exact spare settled. settled; counts = λ exact. counts_none entries c.args.self.now.work c.args.self.now.few; keeps = tt; waits = record { stepped = stepped; passed = passed; takes = takes; typed = typed; kept = c.in_ok-step.ensures.kept } };
+      record { tried = has_failed rules look entries found inst c.go_on.new.self.trial c.in-Fault.kind stepped; right = c.requires.answerable.right; stays = λ there finds right. right; plain = c.requires.answerable.plain; gains = gain_none rules look found entries inst; worthy = worthy_none rules look inst entries; spare = λ exact spare lean settled. spare; settles = λ exact spare settled. settled; counts = λ exact. counts_none entries c.args.self.now.work c.args.self.now.few; keeps = tt; waits = record { stepped = stepped; passed = passed; takes = takes; typed = typed; kept = c.in_ok-step.ensures.kept } };
   traces = stay_same (g.K.Keeper.memories c.args.self.now.keeper);
 }
 
@@ -165,6 +179,6 @@ returns-in-Need g c = record {
       let typed = subst (λ (s : Step). IsTypedStep rules (class_shown c.args.store.now) s trial) c.in-Need.is c.in_ok-step.ensures.typed in
       let passed = subst (λ (s : Step). HasPassedTo rules look found inst c.go_on.new.self s) c.in-Need.is (c.in_ok-step.ensures.passed inst c.requires.standing.passed) in
       let takes = c.in_ok-step.ensures.only inst c.requires.standing.stepped c.requires.standing.takes in
-      record { tried = has_needed rules look entries found inst (class_shown c.args.store.now) trial c.in-Need.needed stepped unknown typed; right = c.requires.kept_right; stays = λ there finds right. right; plain = c.requires.plain; gains = gain_none rules look found entries inst; worthy = worthy_none rules look inst entries; spare = λ exact spare lean settled. spare; settles = λ exact spare settled. settled; counts = λ exact. counts_none entries c.args.self.now.work c.args.self.now.few; keeps = tt; waits = record { stepped = stepped; passed = passed; takes = takes; typed = typed; kept = c.in_ok-step.ensures.kept } };
+      record { tried = has_needed rules look entries found inst (class_shown c.args.store.now) trial c.in-Need.needed stepped unknown typed; right = c.requires.answerable.right; stays = λ there finds right. right; plain = c.requires.answerable.plain; gains = gain_none rules look found entries inst; worthy = worthy_none rules look inst entries; spare = λ exact spare lean settled. spare; settles = λ exact spare settled. settled; counts = λ exact. counts_none entries c.args.self.now.work c.args.self.now.few; keeps = tt; waits = record { stepped = stepped; passed = passed; takes = takes; typed = typed; kept = c.in_ok-step.ensures.kept } };
   traces = stay_same (g.K.Keeper.memories c.args.self.now.keeper);
 }

@@ -4,8 +4,12 @@ use Rattle.at_demand.proofs.Putting.{left_out}
 use Rattle.at_demand.proofs.of_traces.Justified.{stay_same}
 use Rattle.at_demand.proofs.demand.Demand.keep.Goals as goal
 
-pub keep_lazy-requires-clause-lazy : goal.keep_lazy-requires-clause-lazy
-keep_lazy-requires-clause-lazy g c = told_lazy c.args.rules.now c.is_lazy.result true c.attribute.result c.args.inst.now.attribute c.is_lazy.ensures c.attribute.ensures c.if-not-is_lazy.false
+pub keep_lazy-requires : goal.keep_lazy-requires
+keep_lazy-requires g c = record {
+  lazy = told_lazy c.args.rules.now c.is_lazy.result true c.attribute.result c.args.inst.now.attribute c.is_lazy.ensures
+      c.attribute.ensures c.if-not-is_lazy.false;
+  keepable = c.requires;
+}
 
 pub returns-then-not-is_lazy : goal.returns-then-not-is_lazy
 returns-then-not-is_lazy g c = record {

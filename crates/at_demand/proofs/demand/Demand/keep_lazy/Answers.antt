@@ -11,10 +11,10 @@ use Rattle.at_demand.proofs.demand.Demand.keep_lazy.Goals as goal
 pub put-requires-clause-present : goal.put-requires-clause-present
 put-requires-clause-present g c =
     let old = g.K.Keeper.contents c.args.self.now.keeper in
-    subst (AreKept old) (sym c.as_slice-kept.ensures.value) (all_entered old c.args.find.now.demanded.kept.items c.requires.kept)
+    subst (AreKept old) (sym c.as_slice-kept.ensures.value) (all_entered old c.args.find.now.demanded.kept.items c.requires.keepable.rests.kept)
 
 pub put-requires-clause-absent : goal.put-requires-clause-absent
-put-requires-clause-absent g c = absent c.args.rules.now (g.K.Keeper.contents c.args.self.now.keeper) c.requires.plain c.args.inst.now c.requires.lazy c.requires.unkept
+put-requires-clause-absent g c = absent c.args.rules.now (g.K.Keeper.contents c.args.self.now.keeper) c.requires.keepable.plain c.args.inst.now c.requires.lazy c.requires.keepable.unkept
 
 pub returns-then-is_empty : goal.returns-then-is_empty
 returns-then-is_empty g c = record {
@@ -28,17 +28,17 @@ returns-then-is_empty g c = record {
       let i = c.args.inst.now in
       let f = c.args.find.now in
       let e = c.put.ensures in
-      let none = absent rules old c.requires.plain i lazy c.requires.unkept in
+      let none = absent rules old c.requires.keepable.plain i lazy c.requires.keepable.unkept in
       let placed : IfOk c.put.result (HasPut exact old i (Some (value_view f.value)) (map loc_view f.reads.items) f.demanded.kept.items new) =
       IfOk-weaker c.put.result _ _ (λ p puts. put_as exact old i (value_view f.value) _ (map loc_view f.reads.items) _ f.demanded.kept.items new p puts (ap (map loc_view) c.as_slice-reads.ensures) c.as_slice-kept.ensures.value) e.puts in
-      let put = placed_alone rules exact old found i f new c.put.result none (none_below f.demanded.finds (sym c.is_empty.ensures ∙ c.if-is_empty.true)) (all_entered old f.demanded.kept.items c.requires.kept) placed e.err in
+      let put = placed_alone rules exact old found i f new c.put.result none (none_below f.demanded.finds (sym c.is_empty.ensures ∙ c.if-is_empty.true)) (all_entered old f.demanded.kept.items c.requires.keepable.rests.kept) placed e.err in
       record {
         adds = adds rules exact old found i f new put;
         covers = λ look. covers_all rules exact old found i f new look put;
         gains = gains rules exact old found i f new lazy put;
         keeps = λ is lazy. keeps_alone rules exact old found i f new old _ _ c.put.result is placed;
         only = λ look is. covers_only rules exact old found i f new look is put;
-        plain = plain_after rules exact old found i f new c.requires.plain put;
+        plain = plain_after rules exact old found i f new c.requires.keepable.plain put;
         counts = e.counts;
         says = says_alone rules exact old found i f new old _ _ c.put.result placed;
       };
@@ -57,14 +57,14 @@ returns g c = record {
       let i = c.args.inst.now in
       let f = c.args.find.now in
       let e = c.keep_with.ensures in
-      let put = placed_with rules exact old found i f new c.keep_with.result (λ mid shares. absent rules mid (shares.plain c.requires.plain) i lazy (shares.same i ∙ c.requires.unkept)) e.placed e.err in
+      let put = placed_with rules exact old found i f new c.keep_with.result (λ mid shares. absent rules mid (shares.plain c.requires.keepable.plain) i lazy (shares.same i ∙ c.requires.keepable.unkept)) e.placed e.err in
       record {
         adds = adds rules exact old found i f new put;
         covers = λ look. covers_all rules exact old found i f new look put;
         gains = gains rules exact old found i f new lazy put;
         keeps = λ is lazy. keeps_with rules exact old found i f new c.keep_with.result is e.placed;
         only = λ look is. covers_only rules exact old found i f new look is put;
-        plain = plain_after rules exact old found i f new c.requires.plain put;
+        plain = plain_after rules exact old found i f new c.requires.keepable.plain put;
         counts = e.counts;
         says = says_with rules exact old found i f new c.keep_with.result e.placed;
       };

@@ -16,7 +16,7 @@ put-requires-clause-present g c = subst (AreKept (g.K.Keeper.contents c.gather.n
 pub put-requires-clause-absent : goal.put-requires-clause-absent
 put-requires-clause-absent g c =
     let shares = c.gather.ensures.shares in
-    absent c.args.rules.now (g.K.Keeper.contents c.gather.new.self.keeper) (shares.plain c.requires.plain) c.args.inst.now c.requires.lazy (shares.same c.args.inst.now ∙ c.requires.unkept)
+    absent c.args.rules.now (g.K.Keeper.contents c.gather.new.self.keeper) (shares.plain c.requires.keepable.plain) c.args.inst.now c.requires.lazy (shares.same c.args.inst.now ∙ c.requires.keepable.unkept)
 
 pub returns-in_err-sources : goal.returns-in_err-sources
 returns-in_err-sources g c =
@@ -55,3 +55,6 @@ returns g c =
       counts = λ exact. counts_after old mid new c.args.self.now.work c.gather.new.self.work c.put.new.self.work e.work c.args.self.now.few e.shares.stays e.shares.same (c.put.ensures.counts exact);
       traces = stay_then (g.K.Keeper.memories c.args.self.now.keeper) (g.K.Keeper.memories c.gather.new.self.keeper) (g.K.Keeper.memories c.put.new.self.keeper) c.gather.ensures.traces c.put.ensures.traces;
     }
+
+pub gather-requires : goal.gather-requires
+gather-requires g c = c.requires.keepable.rests

@@ -5,8 +5,8 @@ use Rattle.at_demand.proofs.Entering.{shares_none}
 use Rattle.at_demand.proofs.of_traces.Justified.{stay_same}
 use Rattle.at_demand.proofs.demand.Demand.share.Goals as goal
 
-pub enter-requires-clause-kept : goal.enter-requires-clause-kept
-enter-requires-clause-kept g c = c.requires.found _ _ c.in-Some.ensures.value
+pub enter-requires-clause-rests : goal.enter-requires-clause-rests
+enter-requires-clause-rests g c = record { kept = c.requires _ _ c.in-Some.ensures.value; finds = c.requires }
 
 pub enter-requires-clause-absent : goal.enter-requires-clause-absent
 enter-requires-clause-absent g c = none_entered (g.K.Keeper.contents c.args.self.now.keeper c.in-Some.inst.now) c.stands.result c.stands.ensures c.if-stands.false

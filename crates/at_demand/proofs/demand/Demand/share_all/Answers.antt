@@ -7,7 +7,7 @@ pub loop-position-init : goal.loop-position-init
 loop-position-init g c = let old = g.K.Keeper.contents c.args.self.now.keeper in record { shares = shares_none c.args.rules.now g.K.Keeper.exact c.args.found.now.entries old old (λ i. refl); work = refl; traces = stay_same (g.K.Keeper.memories c.args.self.now.keeper) }
 
 pub share-requires : goal.share-requires
-share-requires g c = record { found = founds_on (g.K.Keeper.contents c.args.self.now.keeper) (g.K.Keeper.contents c.loop-position.self.keeper) c.loop-position.invariant.shares.stays c.args.found.now.entries c.requires.found }
+share-requires g c = founds_on (g.K.Keeper.contents c.args.self.now.keeper) (g.K.Keeper.contents c.loop-position.self.keeper) c.loop-position.invariant.shares.stays c.args.found.now.entries c.requires
 
 pub loop-position-preserved : goal.loop-position-preserved
 loop-position-preserved g c =

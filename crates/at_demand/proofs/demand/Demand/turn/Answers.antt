@@ -42,3 +42,6 @@ returns g c = record {
       };
   traces = c.turn_with.ensures.traces;
 }
+
+pub turn_with-requires-clause-turns : goal.turn_with-requires-clause-turns
+turn_with-requires-clause-turns g c = c.requires

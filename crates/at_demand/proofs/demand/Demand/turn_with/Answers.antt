@@ -18,10 +18,23 @@ use Rattle.at_demand.proofs.of_traces.Justified.{stay_same}
 use Rattle.at_demand.proofs.demand.Demand.turn_with.Goals as goal
 
 pub trial_of-requires-clause-typed : goal.trial_of-requires-clause-typed
-trial_of-requires-clause-typed g c = let entries = g.K.Keeper.contents c.args.self.now.keeper in last_typed c.args.rules.now c.args.store.now entries entries (λ i some. refl) c.args.question.now c.requires.standing
+trial_of-requires-clause-typed g c = let entries = g.K.Keeper.contents c.args.self.now.keeper in last_typed c.args.rules.now c.args.store.now entries entries (λ i some. refl) c.args.question.now c.requires.turns.standing
 
-pub go_on-requires-clause-right : goal.go_on-requires-clause-right
-go_on-requires-clause-right g c = let entries = g.K.Keeper.contents c.args.self.now.keeper in all_right c.args.rules.now c.args.store.now entries entries (λ i some. refl) c.args.question.now c.requires.standing c.requires.right
+pub trial_of-requires-clause-basis : goal.trial_of-requires-clause-basis
+trial_of-requires-clause-basis g c = c.requires.turns.answerable.basis
+
+pub go_on-requires-clause-answerable : goal.go_on-requires-clause-answerable
+go_on-requires-clause-answerable g c = c.requires.turns.answerable
+
+pub go_on-requires-clause-finds : goal.go_on-requires-clause-finds
+go_on-requires-clause-finds g c =
+    let entries = g.K.Keeper.contents c.args.self.now.keeper in
+    record {
+      right = all_right c.args.rules.now c.args.store.now entries entries (λ i some. refl) c.args.question.now
+          c.requires.turns.standing c.requires.turns.answerable.right;
+      kept = c.requires.turns.standing.kept;
+      whole = c.requires.turns.standing.whole;
+    }
 
 pub go_on-requires-clause-standing : goal.go_on-requires-clause-standing
 go_on-requires-clause-standing g c = c.in_ok-begun.ensures.standing
@@ -32,7 +45,7 @@ returns-in_err-copy g c = record {
       let rules = c.args.rules.now in
       let s = c.args.store.now in
       let q = c.args.question.now in
-      let st = c.requires.standing in
+      let st = c.requires.turns.standing in
       let old = g.K.Keeper.contents c.args.self.now.keeper in
       let is = (err_from_is_err_and c.from_residual.result c.from_residual.ensures.1).1 in
       record {
@@ -41,7 +54,7 @@ returns-in_err-copy g c = record {
         fit = rw is tt;
         all = λ exact spare sparing. rw is tt;
         sparing = λ exact spare sparing. rw is tt;
-        gains = gains_none rules s g.K.Keeper.exact old c.args.self.now.work c.args.self.now.few q c.requires.right c.requires.plain;
+        gains = gains_none rules s g.K.Keeper.exact old c.args.self.now.work c.args.self.now.few q c.requires.turns.answerable.right c.requires.turns.answerable.plain;
       };
   traces = stay_same (g.K.Keeper.memories c.args.self.now.keeper);
 }
@@ -52,7 +65,7 @@ returns-in_err-copy-2 g c = record {
       let rules = c.args.rules.now in
       let s = c.args.store.now in
       let q = c.args.question.now in
-      let st = c.requires.standing in
+      let st = c.requires.turns.standing in
       let old = g.K.Keeper.contents c.args.self.now.keeper in
       let is = (err_from_is_err_and c.from_residual-in_err-copy-2.result c.from_residual-in_err-copy-2.ensures.1).1 in
       record {
@@ -61,7 +74,7 @@ returns-in_err-copy-2 g c = record {
         fit = rw is tt;
         all = λ exact spare sparing. rw is tt;
         sparing = λ exact spare sparing. rw is tt;
-        gains = gains_none rules s g.K.Keeper.exact old c.args.self.now.work c.args.self.now.few q c.requires.right c.requires.plain;
+        gains = gains_none rules s g.K.Keeper.exact old c.args.self.now.work c.args.self.now.few q c.requires.turns.answerable.right c.requires.turns.answerable.plain;
       };
   traces = stay_same (g.K.Keeper.memories c.args.self.now.keeper);
 }
@@ -72,7 +85,7 @@ returns-in_err-begun g c = record {
       let rules = c.args.rules.now in
       let s = c.args.store.now in
       let q = c.args.question.now in
-      let st = c.requires.standing in
+      let st = c.requires.turns.standing in
       let old = g.K.Keeper.contents c.args.self.now.keeper in
       let is = (err_from_is_err_and c.from_residual-in_err-begun.result c.from_residual-in_err-begun.ensures.1).1 in
       record {
@@ -81,7 +94,7 @@ returns-in_err-begun g c = record {
         fit = rw is tt;
         all = λ exact spare sparing. rw is tt;
         sparing = λ exact spare sparing. rw is tt;
-        gains = gains_none rules s g.K.Keeper.exact old c.args.self.now.work c.args.self.now.few q c.requires.right c.requires.plain;
+        gains = gains_none rules s g.K.Keeper.exact old c.args.self.now.work c.args.self.now.few q c.requires.turns.answerable.right c.requires.turns.answerable.plain;
       };
   traces = stay_same (g.K.Keeper.memories c.args.self.now.keeper);
 }
@@ -92,7 +105,7 @@ returns-in_err-value g c = record {
       let rules = c.args.rules.now in
       let s = c.args.store.now in
       let q = c.args.question.now in
-      let st = c.requires.standing in
+      let st = c.requires.turns.standing in
       let old = g.K.Keeper.contents c.args.self.now.keeper in
       let new = g.K.Keeper.contents c.go_on.new.self.keeper in
       let grown = c.go_on.ensures.attempted.worthy.stays in
@@ -103,7 +116,7 @@ returns-in_err-value g c = record {
         fit = rw is tt;
         all = λ exact spare sparing. rw is tt;
         sparing = λ exact spare sparing. rw is tt;
-        gains = gains_tried rules s g.K.Keeper.exact old new c.args.self.now.work c.go_on.new.self.work q c.go_on.new.frame _ c.requires.idle st c.go_on.ensures.attempted;
+        gains = gains_tried rules s g.K.Keeper.exact old new c.args.self.now.work c.go_on.new.self.work q c.go_on.new.frame _ c.requires.turns.answerable.basis.idle st c.go_on.ensures.attempted;
       };
   traces = c.go_on.ensures.traces;
 }
@@ -114,7 +127,7 @@ returns-in_err-copy-in-Kept g c = record {
       let rules = c.args.rules.now in
       let s = c.args.store.now in
       let q = c.args.question.now in
-      let st = c.requires.standing in
+      let st = c.requires.turns.standing in
       let old = g.K.Keeper.contents c.args.self.now.keeper in
       let new = g.K.Keeper.contents c.go_on.new.self.keeper in
       let grown = c.go_on.ensures.attempted.worthy.stays in
@@ -125,7 +138,7 @@ returns-in_err-copy-in-Kept g c = record {
         fit = rw is tt;
         all = λ exact spare sparing. rw is tt;
         sparing = λ exact spare sparing. rw is tt;
-        gains = gains_tried rules s g.K.Keeper.exact old new c.args.self.now.work c.go_on.new.self.work q c.go_on.new.frame _ c.requires.idle st c.go_on.ensures.attempted;
+        gains = gains_tried rules s g.K.Keeper.exact old new c.args.self.now.work c.go_on.new.self.work q c.go_on.new.frame _ c.requires.turns.answerable.basis.idle st c.go_on.ensures.attempted;
       };
   traces = c.go_on.ensures.traces;
 }
@@ -136,7 +149,7 @@ returns-in_err-copy-in-Found g c = record {
       let rules = c.args.rules.now in
       let s = c.args.store.now in
       let q = c.args.question.now in
-      let st = c.requires.standing in
+      let st = c.requires.turns.standing in
       let old = g.K.Keeper.contents c.args.self.now.keeper in
       let new = g.K.Keeper.contents c.go_on.new.self.keeper in
       let grown = c.go_on.ensures.attempted.worthy.stays in
@@ -147,7 +160,7 @@ returns-in_err-copy-in-Found g c = record {
         fit = rw is tt;
         all = λ exact spare sparing. rw is tt;
         sparing = λ exact spare sparing. rw is tt;
-        gains = gains_tried rules s g.K.Keeper.exact old new c.args.self.now.work c.go_on.new.self.work q c.go_on.new.frame _ c.requires.idle st c.go_on.ensures.attempted;
+        gains = gains_tried rules s g.K.Keeper.exact old new c.args.self.now.work c.go_on.new.self.work q c.go_on.new.frame _ c.requires.turns.answerable.basis.idle st c.go_on.ensures.attempted;
       };
   traces = c.go_on.ensures.traces;
 }
@@ -158,7 +171,7 @@ returns-in_err-at-in-Fails g c = record {
       let rules = c.args.rules.now in
       let s = c.args.store.now in
       let q = c.args.question.now in
-      let st = c.requires.standing in
+      let st = c.requires.turns.standing in
       let old = g.K.Keeper.contents c.args.self.now.keeper in
       let new = g.K.Keeper.contents c.go_on.new.self.keeper in
       let grown = c.go_on.ensures.attempted.worthy.stays in
@@ -169,7 +182,7 @@ returns-in_err-at-in-Fails g c = record {
         fit = rw is tt;
         all = λ exact spare sparing. rw is tt;
         sparing = λ exact spare sparing. rw is tt;
-        gains = gains_tried rules s g.K.Keeper.exact old new c.args.self.now.work c.go_on.new.self.work q c.go_on.new.frame _ c.requires.idle st c.go_on.ensures.attempted;
+        gains = gains_tried rules s g.K.Keeper.exact old new c.args.self.now.work c.go_on.new.self.work q c.go_on.new.frame _ c.requires.turns.answerable.basis.idle st c.go_on.ensures.attempted;
       };
   traces = c.go_on.ensures.traces;
 }
@@ -180,7 +193,7 @@ returns-in_err-push-in-Needs g c = record {
       let rules = c.args.rules.now in
       let s = c.args.store.now in
       let q = c.args.question.now in
-      let st = c.requires.standing in
+      let st = c.requires.turns.standing in
       let old = g.K.Keeper.contents c.args.self.now.keeper in
       let new = g.K.Keeper.contents c.go_on.new.self.keeper in
       let grown = c.go_on.ensures.attempted.worthy.stays in
@@ -191,7 +204,7 @@ returns-in_err-push-in-Needs g c = record {
         fit = rw is tt;
         all = λ exact spare sparing. rw is tt;
         sparing = λ exact spare sparing. rw is tt;
-        gains = gains_tried rules s g.K.Keeper.exact old new c.args.self.now.work c.go_on.new.self.work q c.go_on.new.frame _ c.requires.idle st c.go_on.ensures.attempted;
+        gains = gains_tried rules s g.K.Keeper.exact old new c.args.self.now.work c.go_on.new.self.work q c.go_on.new.frame _ c.requires.turns.answerable.basis.idle st c.go_on.ensures.attempted;
       };
   traces = c.go_on.ensures.traces;
 }
@@ -202,18 +215,18 @@ returns-in-Some-get g c = record {
       let rules = c.args.rules.now in
       let s = c.args.store.now in
       let q = c.args.question.now in
-      let st = c.requires.standing in
+      let st = c.requires.turns.standing in
       let old = g.K.Keeper.contents c.args.self.now.keeper in
       let kept = sym (ap (λ w. Some w) c.in_ok-copy-2.ensures ∙ c.in-Some-get.ensures) in
       let v = c.in_ok-copy-2.field-0 in
       let p = c.pass.new.self in
       record {
-        turned = IfOk-weaker c.pass.result _ _ (passed_turn rules s old old q st p v c.requires.right kept) c.pass.ensures;
-        standing = IfOk-weaker c.pass.result _ _ (λ o r. stands_passed rules s old old (λ i some. refl) q st p v kept o r (passed_turn rules s old old q st p v c.requires.right kept o r)) c.pass.ensures;
+        turned = IfOk-weaker c.pass.result _ _ (passed_turn rules s old old q st p v c.requires.turns.answerable.right kept) c.pass.ensures;
+        standing = IfOk-weaker c.pass.result _ _ (λ o r. stands_passed rules s old old (λ i some. refl) q st p v kept o r (passed_turn rules s old old q st p v c.requires.turns.answerable.right kept o r)) c.pass.ensures;
         fit = IfOk-weaker c.pass.result _ _ (fit_passed rules s old old (λ i some. refl) q p st c.forget.new.self v c.forget.ensures.frames c.forget.ensures.awaited) c.pass.ensures;
         all = λ exact spare sparing. IfOk-weaker c.pass.result _ _ (passed_all rules s old q p v kept spare) c.pass.ensures;
         sparing = λ exact spare sparing. IfOk-weaker c.pass.result _ _ (λ o r. spares_passed rules s old old (λ i some. refl) q st p v o r sparing) c.pass.ensures;
-        gains = gains_none rules s g.K.Keeper.exact old c.args.self.now.work c.args.self.now.few q c.requires.right c.requires.plain;
+        gains = gains_none rules s g.K.Keeper.exact old c.args.self.now.work c.args.self.now.few q c.requires.turns.answerable.right c.requires.turns.answerable.plain;
       };
   traces = stay_same (g.K.Keeper.memories c.args.self.now.keeper);
 }
@@ -224,7 +237,7 @@ returns-in_ok-copy-in-Kept g c = record {
       let rules = c.args.rules.now in
       let s = c.args.store.now in
       let q = c.args.question.now in
-      let st = c.requires.standing in
+      let st = c.requires.turns.standing in
       let old = g.K.Keeper.contents c.args.self.now.keeper in
       let new = g.K.Keeper.contents c.go_on.new.self.keeper in
       let grown = c.go_on.ensures.attempted.worthy.stays in
@@ -240,7 +253,7 @@ returns-in_ok-copy-in-Kept g c = record {
         fit = IfOk-weaker c.pass-in-Kept.result _ _ (fit_gained rules s old new grown q c.pass-in-Kept.new.self st (record { frames = t.frames; awaited = Some c.in_ok-copy-in-Kept.field-0 }) c.in_ok-copy-in-Kept.field-0 c.in-Kept.value c.in_ok-copy-in-Kept.ensures refl fit) c.pass-in-Kept.ensures;
         all = λ exact spare sparing. IfOk-weaker c.pass-in-Kept.result _ _ (passed_all rules s new q p v kept (c.go_on.ensures.attempted.spare exact spare sparing.lean sparing.settled)) c.pass-in-Kept.ensures;
         sparing = λ exact spare sparing. IfOk-weaker c.pass-in-Kept.result _ _ (λ o r. spares_passed rules s old new grown q st c.pass-in-Kept.new.self c.in-Kept.value o r sparing) c.pass-in-Kept.ensures;
-        gains = gains_tried rules s g.K.Keeper.exact old new c.args.self.now.work c.go_on.new.self.work q c.go_on.new.frame _ c.requires.idle st c.go_on.ensures.attempted;
+        gains = gains_tried rules s g.K.Keeper.exact old new c.args.self.now.work c.go_on.new.self.work q c.go_on.new.frame _ c.requires.turns.answerable.basis.idle st c.go_on.ensures.attempted;
       };
   traces = c.go_on.ensures.traces;
 }
@@ -251,7 +264,7 @@ returns-in_ok-copy-in-Found g c = record {
       let rules = c.args.rules.now in
       let s = c.args.store.now in
       let q = c.args.question.now in
-      let st = c.requires.standing in
+      let st = c.requires.turns.standing in
       let old = g.K.Keeper.contents c.args.self.now.keeper in
       let new = g.K.Keeper.contents c.go_on.new.self.keeper in
       let grown = c.go_on.ensures.attempted.worthy.stays in
@@ -266,7 +279,7 @@ returns-in_ok-copy-in-Found g c = record {
         fit = IfOk-weaker c.settle.result _ _ (fit_settled rules s old new grown q p st (record { frames = t.frames; awaited = Some c.in_ok-copy-in-Found.field-0 }) c.in_ok-copy-in-Found.field-0 d c.in_ok-copy-in-Found.ensures refl fit) c.settle.ensures;
         all = λ exact spare sparing. let settled = subst (λ (t : Attempt). SettlesOn rules new q.found.entries q.inst t) c.in-Found.is (c.in_ok-value.ensures.attempted.settles exact spare sparing.settled) in IfOk-weaker c.settle.result _ _ (found_all rules s old new grown q st sparing (c.go_on.ensures.attempted.spare exact spare sparing.lean sparing.settled) p d has settled) c.settle.ensures;
         sparing = λ exact spare sparing. let settled = subst (λ (t : Attempt). SettlesOn rules new q.found.entries q.inst t) c.in-Found.is (c.in_ok-value.ensures.attempted.settles exact spare sparing.settled) in IfOk-weaker c.settle.result _ _ (λ o r. spares_settled rules s old new grown q st p d has o r sparing settled) c.settle.ensures;
-        gains = gains_tried rules s g.K.Keeper.exact old new c.args.self.now.work c.go_on.new.self.work q c.go_on.new.frame _ c.requires.idle st c.go_on.ensures.attempted;
+        gains = gains_tried rules s g.K.Keeper.exact old new c.args.self.now.work c.go_on.new.self.work q c.go_on.new.frame _ c.requires.turns.answerable.basis.idle st c.go_on.ensures.attempted;
       };
   traces = c.go_on.ensures.traces;
 }
@@ -277,7 +290,7 @@ returns-in_ok-push-in-Needs g c = record {
       let rules = c.args.rules.now in
       let s = c.args.store.now in
       let q = c.args.question.now in
-      let st = c.requires.standing in
+      let st = c.requires.turns.standing in
       let old = g.K.Keeper.contents c.args.self.now.keeper in
       let new = g.K.Keeper.contents c.go_on.new.self.keeper in
       let grown = c.go_on.ensures.attempted.worthy.stays in
@@ -295,7 +308,7 @@ returns-in_ok-push-in-Needs g c = record {
         fit = IfOk-weaker c.deepen.result _ _ (fit_deepened rules s old new grown q p st u t.frames.items frame j (c.push.ensures.awaited ∙ c.trial_of.ensures.none) c.in_ok-push-in-Needs.ensures.frames fit one) c.deepen.ensures;
         all = λ exact spare sparing. let settled = subst (λ (t : Attempt). SettlesOn rules new q.found.entries q.inst t) c.in-Needs.is (c.in_ok-value.ensures.attempted.settles exact spare sparing.settled) in IfOk-weaker c.deepen.result _ _ (circle_all rules s old new grown q st sparing (c.go_on.ensures.attempted.spare exact spare sparing.lean sparing.settled) p j (one_met rules s old q st sparing spare frame j one) settled) c.deepen.ensures;
         sparing = λ exact spare sparing. IfOk-weaker c.deepen.result _ _ (λ o r. spares_deepened rules s old new grown q st p j o r (one_met rules s old q st sparing spare frame j one) sparing) c.deepen.ensures;
-        gains = gains_tried rules s g.K.Keeper.exact old new c.args.self.now.work c.go_on.new.self.work q c.go_on.new.frame _ c.requires.idle st c.go_on.ensures.attempted;
+        gains = gains_tried rules s g.K.Keeper.exact old new c.args.self.now.work c.go_on.new.self.work q c.go_on.new.frame _ c.requires.turns.answerable.basis.idle st c.go_on.ensures.attempted;
       };
   traces = c.go_on.ensures.traces;
 }
@@ -306,7 +319,7 @@ returns-in_ok-at-in-Fails g c = record {
       let rules = c.args.rules.now in
       let s = c.args.store.now in
       let q = c.args.question.now in
-      let st = c.requires.standing in
+      let st = c.requires.turns.standing in
       let old = g.K.Keeper.contents c.args.self.now.keeper in
       let new = g.K.Keeper.contents c.go_on.new.self.keeper in
       let grown = c.go_on.ensures.attempted.worthy.stays in
@@ -319,7 +332,7 @@ returns-in_ok-at-in-Fails g c = record {
         fit = tt;
         all = λ exact spare sparing. let settled = subst (λ (t : Attempt). SettlesOn rules new q.found.entries q.inst t) c.in-Fails.is (c.in_ok-value.ensures.attempted.settles exact spare sparing.settled) in fault_all rules s old new grown q st sparing (c.go_on.ensures.attempted.spare exact spare sparing.lean sparing.settled) c.go_on.new.frame c.in-Fails.kind come has settled;
         sparing = λ exact spare sparing. let x = spares_as rules s old new grown q st q refl refl sparing in record { lean = x.lean; settled = subst (λ (t : Attempt). SettlesOn rules new q.found.entries q.inst t) c.in-Fails.is (c.in_ok-value.ensures.attempted.settles exact spare sparing.settled); met = x.met };
-        gains = gains_tried rules s g.K.Keeper.exact old new c.args.self.now.work c.go_on.new.self.work q c.go_on.new.frame _ c.requires.idle st c.go_on.ensures.attempted;
+        gains = gains_tried rules s g.K.Keeper.exact old new c.args.self.now.work c.go_on.new.self.work q c.go_on.new.frame _ c.requires.turns.answerable.basis.idle st c.go_on.ensures.attempted;
       };
   traces = c.go_on.ensures.traces;
 }
@@ -330,17 +343,17 @@ returns-in-Some g c = record {
       let rules = c.args.rules.now in
       let s = c.args.store.now in
       let q = c.args.question.now in
-      let st = c.requires.standing in
+      let st = c.requires.turns.standing in
       let old = g.K.Keeper.contents c.args.self.now.keeper in
       let v = c.in_ok-copy.field-0 in
       let kept = sym (ap (λ w. Some w) c.in_ok-copy.ensures ∙ c.in-Some.ensures ∙ ap (λ (i : Instance ℕ). kept_values old i) c.asked.ensures) in
       record {
-        turned = kept_turn rules s old old q st v c.requires.right kept;
+        turned = kept_turn rules s old old q st v c.requires.turns.answerable.right kept;
         standing = st;
         fit = tt;
         all = λ exact spare sparing. asked_all rules s old (asked (under_way q)) v kept spare;
         sparing = λ exact spare sparing. sparing;
-        gains = gains_none rules s g.K.Keeper.exact old c.args.self.now.work c.args.self.now.few q c.requires.right c.requires.plain;
+        gains = gains_none rules s g.K.Keeper.exact old c.args.self.now.work c.args.self.now.few q c.requires.turns.answerable.right c.requires.turns.answerable.plain;
       };
   traces = stay_same (g.K.Keeper.memories c.args.self.now.keeper);
 }

@@ -35,14 +35,14 @@ loop-given-init g c =
     record {
       standing = c.requires.standing;
       fit = subst (λ (o : Option (Instance ℕ)). FitAt rules s entries q t.frames.items o) (sym c.new-trials.ensures.awaited) (no_trials rules (class_shown s) (contents s) entries q.found.entries (keys_of q.waiting.entries) q.inst t.frames.items c.new-trials.ensures.frames);
-      right = c.requires.right;
+      right = c.requires.answerable.right;
       each = turns.none entries (under_way q);
       silent = none (under_way q);
       same = refl;
       within = omega arith;
       worthy = worthy_none rules (contents s) (asked (under_way q)) entries;
       stays = λ there right. right;
-      plain = c.requires.plain;
+      plain = c.requires.answerable.plain;
       spare = λ exact spare sparing. (spare, sparing);
       counts = λ exact. counts_none entries c.args.self.now.work c.args.self.now.few;
       traces = stay_same (g.K.Keeper.memories c.args.self.now.keeper);
@@ -169,4 +169,14 @@ returns g c = record {
         counts = inv.counts;
       };
   traces = c.loop-given.invariant.traces;
+}
+
+pub turn_with-requires-clause-turns : goal.turn_with-requires-clause-turns
+turn_with-requires-clause-turns g c = record {
+  answerable = record {
+    basis = c.requires.answerable.basis;
+    right = c.loop-given.invariant.right;
+    plain = c.loop-given.invariant.plain;
+  };
+  standing = c.loop-given.invariant.standing;
 }

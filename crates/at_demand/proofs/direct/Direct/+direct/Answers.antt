@@ -7,12 +7,11 @@ use Rattle.at_store.specs.Shown.{contents}
 use Rattle.at_body.specs.Values.{value_view}
 use Rattle.at_body.specs.declared.value.Value.{Value as ValueCode}
 use Rattle.at_demand.specs.declared.direct.Level.{Level}
-use Rattle.at_demand.specs.Inner.{AreKnown, Gains, HasRecalled, HasTold, IsEvaluated, known_by}
+use Rattle.at_demand.specs.Inner.{Gains, HasRecalled, HasTold, IsEvaluated, known_by}
 use Rattle.at_demand.specs.InParts.{HasCome, Held, held, values_in}
 use Rattle.at_demand.specs.Known.{meaning}
-use Rattle.at_demand.proofs.of_nesting.Asked.{evaluated_behind, evaluated_in, inner_told, reads_before, reads_longer, told_alike, uses_before, uses_longer, gains_evaluated, traced_evaluated}
-use Rattle.at_demand.proofs.of_nesting.InnerGains.{Found, gains_from, gains_none, gains_then, gains_up}
-use Rattle.at_demand.proofs.of_traces.Putting.{traced_same, traced_then, traced_up}
+use Rattle.at_demand.proofs.of_nesting.Asked.{evaluated_behind, evaluated_in, inner_told, reads_before, reads_longer, told_alike, uses_before, uses_longer}
+use Rattle.at_demand.proofs.of_nesting.Grown.{grown_evaluated, grown_from, grown_none, grown_then, grown_up, held_after}
 use Rattle.std.proofs.lemmas.List.{nil_from_length}
 use Rattle.at_rules.specs.Bodies.{bodies_view, body_view}
 use Rattle.at_body.specs.Rest.{ev, ev_all, over}
@@ -30,190 +29,59 @@ pub told-recall-requires : goal.told-recall-requires
 told-recall-requires g n c = c.requires.known
 
 pub afresh-keep-requires-clause-held : goal.afresh-keep-requires-clause-held
-afresh-keep-requires-clause-held g n c = record {
-  known = c.evaluate.ensures.gains.known;
-  justified = c.evaluate.ensures.traces.justified;
-}
+afresh-keep-requires-clause-held g n c = held_after c.evaluate.ensures.grown
 
 pub inner-remember-requires-clause-held : goal.inner-remember-requires-clause-held
-inner-remember-requires-clause-held g n c = record {
-  known = c.evaluate.ensures.gains.known;
-  justified = c.evaluate.ensures.traces.justified;
-}
+inner-remember-requires-clause-held g n c = held_after c.evaluate.ensures.grown
 
 pub verify-in_the_way-requires : goal.verify-in_the_way-requires
-verify-in_the_way-requires g n c = record {
-  known = c.keep_again.ensures.gains.known;
-  justified = c.keep_again.ensures.traces.justified;
-}
+verify-in_the_way-requires g n c = held_after c.keep_again.ensures.grown
 
 pub verify-loop-init : goal.verify-loop-init
 verify-loop-init g n c = record {
-  gains = gains_none c.args.basis.now.rules.now c.args.basis.now.store.now g.K.Keeper.exact c.args.needed.now (g.K.Keeper.contents
-      c.args.keeper.now) c.args.self.now.found.entries c.args.self.now.work c.args.self.now.few c.requires.known;
-  traces = traced_same c.args.basis.now.rules.now c.args.basis.now.store.now c.args.needed.now (g.K.Keeper.memories c.args.keeper.now)
-      c.requires.justified;
+  grown = grown_none c.args.basis.now.rules.now c.args.basis.now.store.now g.K.Keeper.exact c.args.needed.now _ c.args.self.now.few c.requires;
   level = refl;
 }
 
 pub verify-keep_again-requires : goal.verify-keep_again-requires
-verify-keep_again-requires g n c = record {
-  known = c.loop.invariant.gains.known;
-  justified = c.loop.invariant.traces.justified;
-}
+verify-keep_again-requires g n c = held_after c.loop.invariant.grown
 
-pub verify-returns-in_err-again-clause-gains : goal.verify-returns-in_err-again-clause-gains
-verify-returns-in_err-again-clause-gains g n c =
-    gains_then c.args.basis.now.rules.now c.args.basis.now.store.now g.K.Keeper.exact c.args.needed.now (g.K.Keeper.contents
-    c.args.keeper.now) (g.K.Keeper.contents c.loop.keeper) (g.K.Keeper.contents c.keep_again.new.keeper)
-    c.args.self.now.found.entries c.loop.self.found.entries c.keep_again.new.self.found.entries
-    c.args.self.now.work c.loop.self.work c.keep_again.new.self.work c.loop.invariant.gains c.keep_again.ensures.gains
+pub verify-returns-in_err-again-clause-grown : goal.verify-returns-in_err-again-clause-grown
+verify-returns-in_err-again-clause-grown g n c = grown_then c.loop.invariant.grown c.keep_again.ensures.grown
 
-pub verify-returns-in_err-again-clause-traces : goal.verify-returns-in_err-again-clause-traces
-verify-returns-in_err-again-clause-traces g n c =
-    traced_then c.args.basis.now.rules.now c.args.basis.now.store.now c.args.needed.now (g.K.Keeper.memories c.args.keeper.now)
-    (g.K.Keeper.memories c.loop.keeper) (g.K.Keeper.memories c.keep_again.new.keeper) c.loop.invariant.traces
-    c.keep_again.ensures.traces
+pub verify-returns-in-Some-clause-grown : goal.verify-returns-in-Some-clause-grown
+verify-returns-in-Some-clause-grown g n c = grown_then c.loop.invariant.grown c.keep_again.ensures.grown
 
-pub verify-returns-in-Some-clause-gains : goal.verify-returns-in-Some-clause-gains
-verify-returns-in-Some-clause-gains g n c =
-    gains_then c.args.basis.now.rules.now c.args.basis.now.store.now g.K.Keeper.exact c.args.needed.now (g.K.Keeper.contents
-    c.args.keeper.now) (g.K.Keeper.contents c.loop.keeper) (g.K.Keeper.contents c.keep_again.new.keeper)
-    c.args.self.now.found.entries c.loop.self.found.entries c.keep_again.new.self.found.entries
-    c.args.self.now.work c.loop.self.work c.keep_again.new.self.work c.loop.invariant.gains c.keep_again.ensures.gains
+pub verify-returns-in_err-other-clause-grown : goal.verify-returns-in_err-other-clause-grown
+verify-returns-in_err-other-clause-grown g n c = grown_then c.loop.invariant.grown c.keep_again.ensures.grown
 
-pub verify-returns-in-Some-clause-traces : goal.verify-returns-in-Some-clause-traces
-verify-returns-in-Some-clause-traces g n c =
-    traced_then c.args.basis.now.rules.now c.args.basis.now.store.now c.args.needed.now (g.K.Keeper.memories c.args.keeper.now)
-    (g.K.Keeper.memories c.loop.keeper) (g.K.Keeper.memories c.keep_again.new.keeper) c.loop.invariant.traces
-    c.keep_again.ensures.traces
+pub verify-returns-in_default-2-clause-grown : goal.verify-returns-in_default-2-clause-grown
+verify-returns-in_default-2-clause-grown g n c = grown_then c.loop.invariant.grown c.keep_again.ensures.grown
 
-pub verify-returns-in_err-other-clause-gains : goal.verify-returns-in_err-other-clause-gains
-verify-returns-in_err-other-clause-gains g n c =
-    gains_then c.args.basis.now.rules.now c.args.basis.now.store.now g.K.Keeper.exact c.args.needed.now (g.K.Keeper.contents
-    c.args.keeper.now) (g.K.Keeper.contents c.loop.keeper) (g.K.Keeper.contents c.keep_again.new.keeper)
-    c.args.self.now.found.entries c.loop.self.found.entries c.keep_again.new.self.found.entries
-    c.args.self.now.work c.loop.self.work c.keep_again.new.self.work c.loop.invariant.gains c.keep_again.ensures.gains
+pub verify-returns-in_err-afresh-clause-grown : goal.verify-returns-in_err-afresh-clause-grown
+verify-returns-in_err-afresh-clause-grown g n c =
+    let led : Leads (contents c.args.basis.now.store.now) (meaning c.args.basis.now.rules.now) c.args.needed.now c.in-Some-2.other =
+    subst (λ (o : Option (Instance ℕ)). IfSome o (Leads (contents c.args.basis.now.store.now) (meaning
+    c.args.basis.now.rules.now) c.args.needed.now)) c.in-Some-2.is c.in_ok-other.ensures.led in
+    grown_then (grown_then c.loop.invariant.grown c.keep_again.ensures.grown) (grown_up c.args.basis.now.idle led
+    (grown_from c.level-aside.ensures.found c.level-aside.ensures.work c.afresh.ensures.grown))
 
-pub verify-returns-in_err-other-clause-traces : goal.verify-returns-in_err-other-clause-traces
-verify-returns-in_err-other-clause-traces g n c =
-    traced_then c.args.basis.now.rules.now c.args.basis.now.store.now c.args.needed.now (g.K.Keeper.memories c.args.keeper.now)
-    (g.K.Keeper.memories c.loop.keeper) (g.K.Keeper.memories c.keep_again.new.keeper) c.loop.invariant.traces
-    c.keep_again.ensures.traces
-
-pub verify-returns-in_default-2-clause-gains : goal.verify-returns-in_default-2-clause-gains
-verify-returns-in_default-2-clause-gains g n c =
-    gains_then c.args.basis.now.rules.now c.args.basis.now.store.now g.K.Keeper.exact c.args.needed.now (g.K.Keeper.contents
-    c.args.keeper.now) (g.K.Keeper.contents c.loop.keeper) (g.K.Keeper.contents c.keep_again.new.keeper)
-    c.args.self.now.found.entries c.loop.self.found.entries c.keep_again.new.self.found.entries
-    c.args.self.now.work c.loop.self.work c.keep_again.new.self.work c.loop.invariant.gains c.keep_again.ensures.gains
-
-pub verify-returns-in_default-2-clause-traces : goal.verify-returns-in_default-2-clause-traces
-verify-returns-in_default-2-clause-traces g n c =
-    traced_then c.args.basis.now.rules.now c.args.basis.now.store.now c.args.needed.now (g.K.Keeper.memories c.args.keeper.now)
-    (g.K.Keeper.memories c.loop.keeper) (g.K.Keeper.memories c.keep_again.new.keeper) c.loop.invariant.traces
-    c.keep_again.ensures.traces
-
-pub verify-returns-in_err-afresh-clause-gains : goal.verify-returns-in_err-afresh-clause-gains
-verify-returns-in_err-afresh-clause-gains g n c =
-    gains_then c.args.basis.now.rules.now c.args.basis.now.store.now g.K.Keeper.exact c.args.needed.now (g.K.Keeper.contents
-    c.args.keeper.now) (g.K.Keeper.contents c.keep_again.new.keeper) (g.K.Keeper.contents c.afresh.new.keeper)
-    c.args.self.now.found.entries c.keep_again.new.self.found.entries c.afresh.new.self.found.entries
-    c.args.self.now.work c.keep_again.new.self.work c.afresh.new.self.work
-    (gains_then c.args.basis.now.rules.now c.args.basis.now.store.now g.K.Keeper.exact c.args.needed.now (g.K.Keeper.contents
-    c.args.keeper.now) (g.K.Keeper.contents c.loop.keeper) (g.K.Keeper.contents c.keep_again.new.keeper)
-    c.args.self.now.found.entries c.loop.self.found.entries c.keep_again.new.self.found.entries
-    c.args.self.now.work c.loop.self.work c.keep_again.new.self.work c.loop.invariant.gains c.keep_again.ensures.gains)
-    (gains_up c.args.basis.now.rules.now c.args.basis.now.store.now g.K.Keeper.exact c.args.basis.now.idle c.args.needed.now c.in-Some-2.other
-    (g.K.Keeper.contents c.keep_again.new.keeper) (g.K.Keeper.contents c.afresh.new.keeper)
-    c.keep_again.new.self.found.entries c.afresh.new.self.found.entries c.keep_again.new.self.work
-    c.afresh.new.self.work (subst (λ (o : Option (Instance ℕ)). IfSome o (Leads (contents c.args.basis.now.store.now)
-    (meaning c.args.basis.now.rules.now) c.args.needed.now)) c.in-Some-2.is c.in_ok-other.ensures.led)
-    (subst (λ (f : Found). Gains c.args.basis.now.rules.now c.args.basis.now.store.now g.K.Keeper.exact c.in-Some-2.other
-    (g.K.Keeper.contents c.keep_again.new.keeper) (g.K.Keeper.contents c.afresh.new.keeper) f
-    c.afresh.new.self.found.entries c.keep_again.new.self.work c.afresh.new.self.work) c.level-aside.ensures.found
-    (subst (λ (w : ℕ). Gains c.args.basis.now.rules.now c.args.basis.now.store.now g.K.Keeper.exact c.in-Some-2.other
-    (g.K.Keeper.contents c.keep_again.new.keeper) (g.K.Keeper.contents c.afresh.new.keeper)
-    c.level-aside.new.self.found.entries c.afresh.new.self.found.entries w c.afresh.new.self.work)
-    c.level-aside.ensures.work c.afresh.ensures.gains)))
-
-pub verify-returns-in_err-afresh-clause-traces : goal.verify-returns-in_err-afresh-clause-traces
-verify-returns-in_err-afresh-clause-traces g n c =
-    traced_then c.args.basis.now.rules.now c.args.basis.now.store.now c.args.needed.now (g.K.Keeper.memories c.args.keeper.now)
-    (g.K.Keeper.memories c.keep_again.new.keeper) (g.K.Keeper.memories c.afresh.new.keeper)
-    (traced_then c.args.basis.now.rules.now c.args.basis.now.store.now c.args.needed.now (g.K.Keeper.memories c.args.keeper.now)
-    (g.K.Keeper.memories c.loop.keeper) (g.K.Keeper.memories c.keep_again.new.keeper) c.loop.invariant.traces
-    c.keep_again.ensures.traces)
-    (traced_up c.args.basis.now.rules.now c.args.basis.now.store.now c.args.basis.now.idle c.args.needed.now c.in-Some-2.other
-    (g.K.Keeper.memories c.keep_again.new.keeper) (g.K.Keeper.memories c.afresh.new.keeper) (subst (λ (o : Option (Instance ℕ)). IfSome o (Leads (contents c.args.basis.now.store.now)
-    (meaning c.args.basis.now.rules.now) c.args.needed.now)) c.in-Some-2.is c.in_ok-other.ensures.led) c.afresh.ensures.traces)
-
-pub verify-returns-in_err-push-clause-gains : goal.verify-returns-in_err-push-clause-gains
-verify-returns-in_err-push-clause-gains g n c =
-    gains_then c.args.basis.now.rules.now c.args.basis.now.store.now g.K.Keeper.exact c.args.needed.now (g.K.Keeper.contents
-    c.args.keeper.now) (g.K.Keeper.contents c.keep_again.new.keeper) (g.K.Keeper.contents c.afresh.new.keeper)
-    c.args.self.now.found.entries c.keep_again.new.self.found.entries c.afresh.new.self.found.entries
-    c.args.self.now.work c.keep_again.new.self.work c.afresh.new.self.work
-    (gains_then c.args.basis.now.rules.now c.args.basis.now.store.now g.K.Keeper.exact c.args.needed.now (g.K.Keeper.contents
-    c.args.keeper.now) (g.K.Keeper.contents c.loop.keeper) (g.K.Keeper.contents c.keep_again.new.keeper)
-    c.args.self.now.found.entries c.loop.self.found.entries c.keep_again.new.self.found.entries
-    c.args.self.now.work c.loop.self.work c.keep_again.new.self.work c.loop.invariant.gains c.keep_again.ensures.gains)
-    (gains_up c.args.basis.now.rules.now c.args.basis.now.store.now g.K.Keeper.exact c.args.basis.now.idle c.args.needed.now c.in-Some-2.other
-    (g.K.Keeper.contents c.keep_again.new.keeper) (g.K.Keeper.contents c.afresh.new.keeper)
-    c.keep_again.new.self.found.entries c.afresh.new.self.found.entries c.keep_again.new.self.work
-    c.afresh.new.self.work (subst (λ (o : Option (Instance ℕ)). IfSome o (Leads (contents c.args.basis.now.store.now)
-    (meaning c.args.basis.now.rules.now) c.args.needed.now)) c.in-Some-2.is c.in_ok-other.ensures.led)
-    (subst (λ (f : Found). Gains c.args.basis.now.rules.now c.args.basis.now.store.now g.K.Keeper.exact c.in-Some-2.other
-    (g.K.Keeper.contents c.keep_again.new.keeper) (g.K.Keeper.contents c.afresh.new.keeper) f
-    c.afresh.new.self.found.entries c.keep_again.new.self.work c.afresh.new.self.work) c.level-aside.ensures.found
-    (subst (λ (w : ℕ). Gains c.args.basis.now.rules.now c.args.basis.now.store.now g.K.Keeper.exact c.in-Some-2.other
-    (g.K.Keeper.contents c.keep_again.new.keeper) (g.K.Keeper.contents c.afresh.new.keeper)
-    c.level-aside.new.self.found.entries c.afresh.new.self.found.entries w c.afresh.new.self.work)
-    c.level-aside.ensures.work c.afresh.ensures.gains)))
-
-pub verify-returns-in_err-push-clause-traces : goal.verify-returns-in_err-push-clause-traces
-verify-returns-in_err-push-clause-traces g n c =
-    traced_then c.args.basis.now.rules.now c.args.basis.now.store.now c.args.needed.now (g.K.Keeper.memories c.args.keeper.now)
-    (g.K.Keeper.memories c.keep_again.new.keeper) (g.K.Keeper.memories c.afresh.new.keeper)
-    (traced_then c.args.basis.now.rules.now c.args.basis.now.store.now c.args.needed.now (g.K.Keeper.memories c.args.keeper.now)
-    (g.K.Keeper.memories c.loop.keeper) (g.K.Keeper.memories c.keep_again.new.keeper) c.loop.invariant.traces
-    c.keep_again.ensures.traces)
-    (traced_up c.args.basis.now.rules.now c.args.basis.now.store.now c.args.basis.now.idle c.args.needed.now c.in-Some-2.other
-    (g.K.Keeper.memories c.keep_again.new.keeper) (g.K.Keeper.memories c.afresh.new.keeper) (subst (λ (o : Option (Instance ℕ)). IfSome o (Leads (contents c.args.basis.now.store.now)
-    (meaning c.args.basis.now.rules.now) c.args.needed.now)) c.in-Some-2.is c.in_ok-other.ensures.led) c.afresh.ensures.traces)
+pub verify-returns-in_err-push-clause-grown : goal.verify-returns-in_err-push-clause-grown
+verify-returns-in_err-push-clause-grown g n c =
+    let led : Leads (contents c.args.basis.now.store.now) (meaning c.args.basis.now.rules.now) c.args.needed.now c.in-Some-2.other =
+    subst (λ (o : Option (Instance ℕ)). IfSome o (Leads (contents c.args.basis.now.store.now) (meaning
+    c.args.basis.now.rules.now) c.args.needed.now)) c.in-Some-2.is c.in_ok-other.ensures.led in
+    grown_then (grown_then c.loop.invariant.grown c.keep_again.ensures.grown) (grown_up c.args.basis.now.idle led
+    (grown_from c.level-aside.ensures.found c.level-aside.ensures.work c.afresh.ensures.grown))
 
 pub verify-loop-preserved : goal.verify-loop-preserved
 verify-loop-preserved g n c = record {
-  gains =
-      gains_then c.args.basis.now.rules.now c.args.basis.now.store.now g.K.Keeper.exact c.args.needed.now (g.K.Keeper.contents
-      c.args.keeper.now) (g.K.Keeper.contents c.keep_again.new.keeper) (g.K.Keeper.contents c.afresh.new.keeper)
-      c.args.self.now.found.entries c.keep_again.new.self.found.entries c.afresh.new.self.found.entries
-      c.args.self.now.work c.keep_again.new.self.work c.afresh.new.self.work
-      (gains_then c.args.basis.now.rules.now c.args.basis.now.store.now g.K.Keeper.exact c.args.needed.now (g.K.Keeper.contents
-      c.args.keeper.now) (g.K.Keeper.contents c.loop.keeper) (g.K.Keeper.contents c.keep_again.new.keeper)
-      c.args.self.now.found.entries c.loop.self.found.entries c.keep_again.new.self.found.entries
-      c.args.self.now.work c.loop.self.work c.keep_again.new.self.work c.loop.invariant.gains c.keep_again.ensures.gains)
-      (gains_up c.args.basis.now.rules.now c.args.basis.now.store.now g.K.Keeper.exact c.args.basis.now.idle c.args.needed.now c.in-Some-2.other
-      (g.K.Keeper.contents c.keep_again.new.keeper) (g.K.Keeper.contents c.afresh.new.keeper)
-      c.keep_again.new.self.found.entries c.afresh.new.self.found.entries c.keep_again.new.self.work
-      c.afresh.new.self.work (subst (λ (o : Option (Instance ℕ)). IfSome o (Leads (contents c.args.basis.now.store.now)
-      (meaning c.args.basis.now.rules.now) c.args.needed.now)) c.in-Some-2.is c.in_ok-other.ensures.led)
-      (subst (λ (f : Found). Gains c.args.basis.now.rules.now c.args.basis.now.store.now g.K.Keeper.exact c.in-Some-2.other
-      (g.K.Keeper.contents c.keep_again.new.keeper) (g.K.Keeper.contents c.afresh.new.keeper) f
-      c.afresh.new.self.found.entries c.keep_again.new.self.work c.afresh.new.self.work) c.level-aside.ensures.found
-      (subst (λ (w : ℕ). Gains c.args.basis.now.rules.now c.args.basis.now.store.now g.K.Keeper.exact c.in-Some-2.other
-      (g.K.Keeper.contents c.keep_again.new.keeper) (g.K.Keeper.contents c.afresh.new.keeper)
-      c.level-aside.new.self.found.entries c.afresh.new.self.found.entries w c.afresh.new.self.work)
-      c.level-aside.ensures.work c.afresh.ensures.gains)));
-  traces =
-      traced_then c.args.basis.now.rules.now c.args.basis.now.store.now c.args.needed.now (g.K.Keeper.memories c.args.keeper.now)
-      (g.K.Keeper.memories c.keep_again.new.keeper) (g.K.Keeper.memories c.afresh.new.keeper)
-      (traced_then c.args.basis.now.rules.now c.args.basis.now.store.now c.args.needed.now (g.K.Keeper.memories c.args.keeper.now)
-      (g.K.Keeper.memories c.loop.keeper) (g.K.Keeper.memories c.keep_again.new.keeper) c.loop.invariant.traces
-      c.keep_again.ensures.traces)
-      (traced_up c.args.basis.now.rules.now c.args.basis.now.store.now c.args.basis.now.idle c.args.needed.now c.in-Some-2.other
-      (g.K.Keeper.memories c.keep_again.new.keeper) (g.K.Keeper.memories c.afresh.new.keeper) (subst (λ (o : Option (Instance ℕ)). IfSome o (Leads (contents c.args.basis.now.store.now)
-      (meaning c.args.basis.now.rules.now) c.args.needed.now)) c.in-Some-2.is c.in_ok-other.ensures.led) c.afresh.ensures.traces);
+  grown =
+      let led : Leads (contents c.args.basis.now.store.now) (meaning c.args.basis.now.rules.now) c.args.needed.now c.in-Some-2.other =
+      subst (λ (o : Option (Instance ℕ)). IfSome o (Leads (contents c.args.basis.now.store.now) (meaning
+      c.args.basis.now.rules.now) c.args.needed.now)) c.in-Some-2.is c.in_ok-other.ensures.led in
+      grown_then (grown_then c.loop.invariant.grown c.keep_again.ensures.grown) (grown_up c.args.basis.now.idle led
+      (grown_from c.level-aside.ensures.found c.level-aside.ensures.work c.afresh.ensures.grown));
   level = subst (λ (o : Option ValueCode). HasRecalled c.args.basis.now.rules.now (contents c.args.basis.now.store.now) (known_by
       (g.K.Keeper.contents c.keep_again.new.keeper) c.keep_again.new.self.found.entries) c.loop.level
       c.keep_again.new.level c.args.needed.now o) c.in_default.is c.in_ok-again.ensures.recalled ∙ c.loop.invariant.level;
@@ -225,10 +93,8 @@ lazily-returns-in-None g n c =
     let rules = c.args.basis.now.rules.now in
     let s = c.args.basis.now.store.now in
     let i = c.args.needed in
-    let e0 = g.K.Keeper.contents c.args.keeper.now in
     let e1 = g.K.Keeper.contents c.verify.new.keeper in
     let e2 = g.K.Keeper.contents c.afresh.new.keeper in
-    let d0 = c.args.self.now in
     let d1 = c.verify.new.self in
     let d2 = c.afresh.new.self in
     let same : c.verify.new.level ≡ c.args.level.now = subst (λ (o : Option ValueCode). HasRecalled rules (contents s)
@@ -237,20 +103,13 @@ lazily-returns-in-None g n c =
     record {
       told = IfOk-weaker c.afresh.result _ _ (λ v h. subst (λ (l : Level). HasTold rules (contents s) (known_by e2
           d2.found.entries) l c.afresh.new.level i (value_view v)) same h) c.afresh.ensures.told;
-      gains = gains_then rules s g.K.Keeper.exact i e0 e1 e2 d0.found.entries d1.found.entries d2.found.entries d0.work
-          d1.work d2.work c.verify.ensures.gains c.afresh.ensures.gains;
-      traces = traced_then rules s i (g.K.Keeper.memories c.args.keeper.now) (g.K.Keeper.memories c.verify.new.keeper)
-          (g.K.Keeper.memories c.afresh.new.keeper) c.verify.ensures.traces c.afresh.ensures.traces;
+      grown = grown_then c.verify.ensures.grown c.afresh.ensures.grown;
     }
 
 -- afresh
-pub afresh-returns-in_err-value-clause-gains : goal.afresh-returns-in_err-value-clause-gains
-afresh-returns-in_err-value-clause-gains g n c =
-    gains_from c.args.basis.now.rules.now c.args.basis.now.store.now g.K.Keeper.exact c.args.needed c.args.needed (g.K.Keeper.contents
-    c.args.keeper.now) (g.K.Keeper.contents c.evaluate.new.keeper) c.args.self.now.found.entries
-    c.level-below.new.self.found.entries c.evaluate.new.self.found.entries c.args.self.now.work
-    c.level-below.new.self.work c.evaluate.new.self.work refl c.level-below.ensures.found c.level-below.ensures.work
-    c.evaluate.ensures.gains
+pub afresh-returns-in_err-value-clause-grown : goal.afresh-returns-in_err-value-clause-grown
+afresh-returns-in_err-value-clause-grown g n c =
+    grown_from c.level-below.ensures.found c.level-below.ensures.work c.evaluate.ensures.grown
 
 pub afresh-keep-requires-clause-come : goal.afresh-keep-requires-clause-come
 afresh-keep-requires-clause-come g n c =
@@ -265,83 +124,20 @@ afresh-keep-requires-clause-come g n c =
     c.args.needed (value_view c.in_ok-value.value) c.in_ok-value.ensures.come c.level-below.ensures.reads
     c.level-below.ensures.uses
 
-pub afresh-returns-in_err-keep-clause-gains : goal.afresh-returns-in_err-keep-clause-gains
-afresh-returns-in_err-keep-clause-gains g n c =
-    let rules = c.args.basis.now.rules.now in
-    let s = c.args.basis.now.store.now in
-    let i = c.args.needed in
-    let e0 = g.K.Keeper.contents c.args.keeper.now in
-    let e1 = g.K.Keeper.contents c.evaluate.new.keeper in
-    let e2 = g.K.Keeper.contents c.keep.new.keeper in
-    let d0 = c.args.self.now in
-    let d = c.level-below.new.self in
-    let d1 = c.evaluate.new.self in
-    let d2 = c.keep.new.self in
-    gains_then rules s g.K.Keeper.exact i e0 e1 e2 d0.found.entries d1.found.entries d2.found.entries d0.work
-    d1.work d2.work
-    (gains_from rules s g.K.Keeper.exact i i e0 e1 d0.found.entries d.found.entries d1.found.entries d0.work
-    d.work d1.work refl c.level-below.ensures.found c.level-below.ensures.work c.evaluate.ensures.gains)
-    c.keep.ensures.gains
+pub afresh-returns-in_err-keep-clause-grown : goal.afresh-returns-in_err-keep-clause-grown
+afresh-returns-in_err-keep-clause-grown g n c =
+    grown_then (grown_from c.level-below.ensures.found c.level-below.ensures.work c.evaluate.ensures.grown) c.keep.ensures.grown
 
-pub afresh-returns-in_err-keep-clause-traces : goal.afresh-returns-in_err-keep-clause-traces
-afresh-returns-in_err-keep-clause-traces g n c =
-    let rules = c.args.basis.now.rules.now in
-    let s = c.args.basis.now.store.now in
-    let i = c.args.needed in
-    traced_then rules s i (g.K.Keeper.memories c.args.keeper.now) (g.K.Keeper.memories
-    c.evaluate.new.keeper) (g.K.Keeper.memories c.keep.new.keeper) c.evaluate.ensures.traces
-    c.keep.ensures.traces
-
-pub afresh-returns-in_err-push-clause-gains : goal.afresh-returns-in_err-push-clause-gains
-afresh-returns-in_err-push-clause-gains g n c =
-    let rules = c.args.basis.now.rules.now in
-    let s = c.args.basis.now.store.now in
-    let i = c.args.needed in
-    let e0 = g.K.Keeper.contents c.args.keeper.now in
-    let e1 = g.K.Keeper.contents c.evaluate.new.keeper in
-    let e2 = g.K.Keeper.contents c.keep.new.keeper in
-    let d0 = c.args.self.now in
-    let d = c.level-below.new.self in
-    let d1 = c.evaluate.new.self in
-    let d2 = c.keep.new.self in
-    gains_then rules s g.K.Keeper.exact i e0 e1 e2 d0.found.entries d1.found.entries d2.found.entries d0.work
-    d1.work d2.work
-    (gains_from rules s g.K.Keeper.exact i i e0 e1 d0.found.entries d.found.entries d1.found.entries d0.work
-    d.work d1.work refl c.level-below.ensures.found c.level-below.ensures.work c.evaluate.ensures.gains)
-    c.keep.ensures.gains
-
-pub afresh-returns-in_err-push-clause-traces : goal.afresh-returns-in_err-push-clause-traces
-afresh-returns-in_err-push-clause-traces g n c =
-    let rules = c.args.basis.now.rules.now in
-    let s = c.args.basis.now.store.now in
-    let i = c.args.needed in
-    traced_then rules s i (g.K.Keeper.memories c.args.keeper.now) (g.K.Keeper.memories
-    c.evaluate.new.keeper) (g.K.Keeper.memories c.keep.new.keeper) c.evaluate.ensures.traces
-    c.keep.ensures.traces
+pub afresh-returns-in_err-push-clause-grown : goal.afresh-returns-in_err-push-clause-grown
+afresh-returns-in_err-push-clause-grown g n c =
+    grown_then (grown_from c.level-below.ensures.found c.level-below.ensures.work c.evaluate.ensures.grown) c.keep.ensures.grown
 
 pub afresh-returns : goal.afresh-returns
-afresh-returns g n c =
-    let rules = c.args.basis.now.rules.now in
-    let s = c.args.basis.now.store.now in
-    let i = c.args.needed in
-    let e0 = g.K.Keeper.contents c.args.keeper.now in
-    let e1 = g.K.Keeper.contents c.evaluate.new.keeper in
-    let e2 = g.K.Keeper.contents c.keep.new.keeper in
-    let d0 = c.args.self.now in
-    let d = c.level-below.new.self in
-    let d1 = c.evaluate.new.self in
-    let d2 = c.keep.new.self in
-    record {
-      told = c.in_ok-keep.ensures.told;
-      gains = gains_then rules s g.K.Keeper.exact i e0 e1 e2 d0.found.entries d1.found.entries d2.found.entries d0.work
-          d1.work d2.work
-          (gains_from rules s g.K.Keeper.exact i i e0 e1 d0.found.entries d.found.entries d1.found.entries d0.work
-          d.work d1.work refl c.level-below.ensures.found c.level-below.ensures.work c.evaluate.ensures.gains)
-          c.keep.ensures.gains;
-      traces = traced_then rules s i (g.K.Keeper.memories c.args.keeper.now) (g.K.Keeper.memories
-          c.evaluate.new.keeper) (g.K.Keeper.memories c.keep.new.keeper) c.evaluate.ensures.traces
-          c.keep.ensures.traces;
-    }
+afresh-returns g n c = record {
+  told = c.in_ok-keep.ensures.told;
+  grown = grown_then (grown_from c.level-below.ensures.found c.level-below.ensures.work c.evaluate.ensures.grown)
+      c.keep.ensures.grown;
+}
 
 -- inner
 pub inner-returns-then-is_small-clause-told : goal.inner-returns-then-is_small-clause-told
@@ -414,38 +210,17 @@ inner-remember-requires-clause-come g n c =
     (subst (λ (xs : List (Instance ℕ)). IsEvaluated rules (contents s) known i v (drop (length c.args.level.now.reads)
     long) xs) uses rest)
 
-pub inner-returns-in_err-remember-clause-gains : goal.inner-returns-in_err-remember-clause-gains
-inner-returns-in_err-remember-clause-gains g n c =
-    let rules = c.args.basis.now.rules.now in
-    let s = c.args.basis.now.store.now in
-    let i = c.args.needed in
-    let e0 = g.K.Keeper.contents c.args.keeper.now in
-    let e1 = g.K.Keeper.contents c.evaluate.new.keeper in
-    let e2 = g.K.Keeper.contents c.remember.new.keeper in
-    let d0 = c.args.self.now in
-    let d1 = c.evaluate.new.self in
-    let d2 = c.remember.new.self in
-    gains_then rules s g.K.Keeper.exact i e0 e1 e2 d0.found.entries d1.found.entries d2.found.entries d0.work
-    d1.work d2.work c.evaluate.ensures.gains c.remember.ensures.gains
-
-pub inner-returns-in_err-remember-clause-traces : goal.inner-returns-in_err-remember-clause-traces
-inner-returns-in_err-remember-clause-traces g n c =
-    let rules = c.args.basis.now.rules.now in
-    let s = c.args.basis.now.store.now in
-    let i = c.args.needed in
-    traced_then rules s i (g.K.Keeper.memories c.args.keeper.now) (g.K.Keeper.memories
-    c.evaluate.new.keeper) (g.K.Keeper.memories c.remember.new.keeper) c.evaluate.ensures.traces
-    c.remember.ensures.traces
+pub inner-returns-in_err-remember-clause-grown : goal.inner-returns-in_err-remember-clause-grown
+inner-returns-in_err-remember-clause-grown g n c =
+    grown_then c.evaluate.ensures.grown c.remember.ensures.grown
 
 pub inner-returns : goal.inner-returns
 inner-returns g n c =
     let rules = c.args.basis.now.rules.now in
     let s = c.args.basis.now.store.now in
     let i = c.args.needed in
-    let e0 = g.K.Keeper.contents c.args.keeper.now in
     let e1 = g.K.Keeper.contents c.evaluate.new.keeper in
     let e2 = g.K.Keeper.contents c.remember.new.keeper in
-    let d0 = c.args.self.now in
     let d1 = c.evaluate.new.self in
     let d2 = c.remember.new.self in
     let v = value_view c.in_ok-value.value in
@@ -473,26 +248,12 @@ inner-returns g n c =
     record {
       told = told_alike rules s last old c.split_off.new.self c.remember.new.level i v reads uses
           c.in_ok-remember.ensures.told;
-      gains = gains_then rules s g.K.Keeper.exact i e0 e1 e2 d0.found.entries d1.found.entries d2.found.entries d0.work
-          d1.work d2.work c.evaluate.ensures.gains c.remember.ensures.gains;
-      traces = traced_then rules s i (g.K.Keeper.memories c.args.keeper.now) (g.K.Keeper.memories
-          c.evaluate.new.keeper) (g.K.Keeper.memories c.remember.new.keeper) c.evaluate.ensures.traces
-          c.remember.ensures.traces;
+      grown = grown_then c.evaluate.ensures.grown c.remember.ensures.grown;
     }
 
-pub evaluate-returns-in_err-begun-clause-gains : goal.evaluate-returns-in_err-begun-clause-gains
-evaluate-returns-in_err-begun-clause-gains g n c =
-    gains_evaluated c.args.basis.now.rules.now c.args.basis.now.store.now g.K.Keeper.exact c.args.basis.now.idle c.args.inst.now (held
-    (g.K.Keeper.contents c.args.keeper.now) (g.K.Keeper.memories c.args.keeper.now) c.args.self.now.found.entries
-    c.args.self.now.work) (held (g.K.Keeper.contents c.args.keeper.now) (g.K.Keeper.memories c.args.keeper.now)
-    c.args.self.now.found.entries c.args.self.now.work) (nothing_gained c.args.basis.now.rules.now c.args.basis.now.store.now
-    g.K.Keeper.exact (meaning c.args.basis.now.rules.now c.args.inst.now) (held (g.K.Keeper.contents c.args.keeper.now)
-    (g.K.Keeper.memories c.args.keeper.now) c.args.self.now.found.entries c.args.self.now.work) c.args.self.now.few
-    c.requires)
-
-pub evaluate-returns-in_err-begun-clause-traces : goal.evaluate-returns-in_err-begun-clause-traces
-evaluate-returns-in_err-begun-clause-traces g n c =
-    traced_evaluated c.args.basis.now.rules.now c.args.basis.now.store.now g.K.Keeper.exact c.args.basis.now.idle c.args.inst.now (held
+pub evaluate-returns-in_err-begun-clause-grown : goal.evaluate-returns-in_err-begun-clause-grown
+evaluate-returns-in_err-begun-clause-grown g n c =
+    grown_evaluated c.args.basis.now.rules.now c.args.basis.now.store.now g.K.Keeper.exact c.args.basis.now.idle c.args.inst.now (held
     (g.K.Keeper.contents c.args.keeper.now) (g.K.Keeper.memories c.args.keeper.now) c.args.self.now.found.entries
     c.args.self.now.work) (held (g.K.Keeper.contents c.args.keeper.now) (g.K.Keeper.memories c.args.keeper.now)
     c.args.self.now.found.entries c.args.self.now.work) (nothing_gained c.args.basis.now.rules.now c.args.basis.now.store.now
@@ -508,22 +269,9 @@ evaluate-returns-clause-come g n c =
     c.args.basis.now.rules.now c.args.inst.now) (ev c.args.basis.now.rules.now.classes (body_view c.in_ok-begun.begun.1.now) (place_at
     c.in_ok-begun.begun.0)) (value_view v) refl c.in_ok-begun.ensures h) c.value.ensures.come
 
-pub evaluate-returns-clause-gains : goal.evaluate-returns-clause-gains
-evaluate-returns-clause-gains g n c =
-    gains_evaluated c.args.basis.now.rules.now c.args.basis.now.store.now g.K.Keeper.exact c.args.basis.now.idle c.args.inst.now (held
-    (g.K.Keeper.contents c.args.keeper.now) (g.K.Keeper.memories c.args.keeper.now) c.args.self.now.found.entries
-    c.args.self.now.work) (held (g.K.Keeper.contents c.value.new.keeper) (g.K.Keeper.memories c.value.new.keeper)
-    c.value.new.self.found.entries c.value.new.self.work) (gains_begun c.args.basis.now.rules.now c.args.basis.now.store.now
-    g.K.Keeper.exact (held (g.K.Keeper.contents c.args.keeper.now) (g.K.Keeper.memories c.args.keeper.now)
-    c.args.self.now.found.entries c.args.self.now.work) (held (g.K.Keeper.contents c.value.new.keeper)
-    (g.K.Keeper.memories c.value.new.keeper) c.value.new.self.found.entries c.value.new.self.work)
-    c.args.level.now.reads c.begin.new.reads (meaning c.args.basis.now.rules.now c.args.inst.now) (ev c.args.basis.now.rules.now.classes
-    (body_view c.in_ok-begun.begun.1.now) (place_at c.in_ok-begun.begun.0)) c.in_ok-begun.ensures
-    c.value.ensures.gains)
-
-pub evaluate-returns-clause-traces : goal.evaluate-returns-clause-traces
-evaluate-returns-clause-traces g n c =
-    traced_evaluated c.args.basis.now.rules.now c.args.basis.now.store.now g.K.Keeper.exact c.args.basis.now.idle c.args.inst.now (held
+pub evaluate-returns-clause-grown : goal.evaluate-returns-clause-grown
+evaluate-returns-clause-grown g n c =
+    grown_evaluated c.args.basis.now.rules.now c.args.basis.now.store.now g.K.Keeper.exact c.args.basis.now.idle c.args.inst.now (held
     (g.K.Keeper.contents c.args.keeper.now) (g.K.Keeper.memories c.args.keeper.now) c.args.self.now.found.entries
     c.args.self.now.work) (held (g.K.Keeper.contents c.value.new.keeper) (g.K.Keeper.memories c.value.new.keeper)
     c.value.new.self.found.entries c.value.new.self.work) (gains_begun c.args.basis.now.rules.now c.args.basis.now.store.now
@@ -686,9 +434,9 @@ call-returns-clause-gains g n c =
     c.told.new.self.found.entries c.told.new.self.work) c.passed.new.level c.in_ok-node.ensures
     c.in_ok-arguments.ensures.come (subst (λ i. Gains c.args.basis.now.rules.now c.args.basis.now.store.now g.K.Keeper.exact i
     (g.K.Keeper.contents c.passed.new.keeper) (g.K.Keeper.contents c.told.new.keeper) c.passed.new.self.found.entries
-    c.told.new.self.found.entries c.passed.new.self.work c.told.new.self.work) c.new.ensures c.told.ensures.gains)
+    c.told.new.self.found.entries c.passed.new.self.work c.told.new.self.work) c.new.ensures c.told.ensures.grown.gains)
     (subst (λ i. StayJustified c.args.basis.now.rules.now c.args.basis.now.store.now i (g.K.Keeper.memories c.passed.new.keeper)
-    (g.K.Keeper.memories c.told.new.keeper)) c.new.ensures c.told.ensures.traces)
+    (g.K.Keeper.memories c.told.new.keeper)) c.new.ensures c.told.ensures.grown.traces)
 
 pub call-returns-clause-come : goal.call-returns-clause-come
 call-returns-clause-come g n c =
@@ -700,9 +448,9 @@ call-returns-clause-come g n c =
     c.told.new.self.found.entries c.told.new.self.work) c.passed.new.level c.in_ok-node.ensures
     c.in_ok-arguments.ensures.come (subst (λ i. Gains c.args.basis.now.rules.now c.args.basis.now.store.now g.K.Keeper.exact i
     (g.K.Keeper.contents c.passed.new.keeper) (g.K.Keeper.contents c.told.new.keeper) c.passed.new.self.found.entries
-    c.told.new.self.found.entries c.passed.new.self.work c.told.new.self.work) c.new.ensures c.told.ensures.gains)
+    c.told.new.self.found.entries c.passed.new.self.work c.told.new.self.work) c.new.ensures c.told.ensures.grown.gains)
     (subst (λ i. StayJustified c.args.basis.now.rules.now c.args.basis.now.store.now i (g.K.Keeper.memories c.passed.new.keeper)
-    (g.K.Keeper.memories c.told.new.keeper)) c.new.ensures c.told.ensures.traces) c.told.result c.told.new.level (subst
+    (g.K.Keeper.memories c.told.new.keeper)) c.new.ensures c.told.ensures.grown.traces) c.told.result c.told.new.level (subst
     (λ i. IfOk c.told.result (λ u. HasTold c.args.basis.now.rules.now (contents c.args.basis.now.store.now) (values_in (held
     (g.K.Keeper.contents c.told.new.keeper) (g.K.Keeper.memories c.told.new.keeper) c.told.new.self.found.entries
     c.told.new.self.work)) c.passed.new.level c.told.new.level i (value_view u))) c.new.ensures c.told.ensures.told)
@@ -989,3 +737,11 @@ value-returns-in-Plain-clause-come g n c =
     c.args.level.now (record { reads = c.value.new.reads; uses = c.args.level.now.uses }) (ev c.args.basis.now.rules.now.classes
     (body_view c.args.body.now) (place_at c.args.here.now)) (value_view v) refl h) (c.value.ensures
     c.args.basis.now.rules.now.classes)
+
+pub told-returns-in_err-recalled-clause-grown : goal.told-returns-in_err-recalled-clause-grown
+told-returns-in_err-recalled-clause-grown g n c =
+    grown_none c.args.basis.now.rules.now c.args.basis.now.store.now g.K.Keeper.exact c.args.needed _ c.args.self.now.few c.requires
+
+pub told-returns-in-Some-clause-grown : goal.told-returns-in-Some-clause-grown
+told-returns-in-Some-clause-grown g n c =
+    grown_none c.args.basis.now.rules.now c.args.basis.now.store.now g.K.Keeper.exact c.args.needed _ c.args.self.now.few c.requires

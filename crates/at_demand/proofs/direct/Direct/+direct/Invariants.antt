@@ -3,9 +3,7 @@ use Rattle.at_rules.specs.Bodies.{bodies_view, body_view}
 use Rattle.at_body.specs.Rest.{ev_all, over}
 use Rattle.at_body.specs.Values.{value_view}
 use Rattle.at_apply.specs.Place.{place_at}
-use Rattle.at_demand.specs.Inner.{Gains}
-use Rattle.at_demand.specs.InParts.{held}
-use Rattle.at_demand.specs.Traces.{StayJustified}
+use Rattle.at_demand.specs.InParts.{HasGrown, held}
 use Rattle.at_demand.proofs.of_parts.Looping.{GoesOn}
 use Rattle.at_demand.proofs.direct.Direct.+direct.Given as goal
 
@@ -56,10 +54,9 @@ decreases-call g l = 16 * l.above + 9
 
 abbrev pub invariant-verify-loop : goal.invariant-verify-loop
 invariant-verify-loop g l = record {
-  gains : Gains l.basis.rules.now l.basis.store.now g.K.Keeper.exact l.needed (g.K.Keeper.contents l.initial.keeper) (g.K.Keeper.contents
-      l.keeper) l.initial.self.found.entries
-      l.self.found.entries l.initial.self.work l.self.work;
-  traces : StayJustified l.basis.rules.now l.basis.store.now l.needed (g.K.Keeper.memories l.initial.keeper) (g.K.Keeper.memories l.keeper);
+  grown : HasGrown l.basis.rules.now l.basis.store.now g.K.Keeper.exact l.needed
+      (held (g.K.Keeper.contents l.initial.keeper) (g.K.Keeper.memories l.initial.keeper) l.initial.self.found.entries l.initial.self.work)
+      (held (g.K.Keeper.contents l.keeper) (g.K.Keeper.memories l.keeper) l.self.found.entries l.self.work);
   level : l.level ≡ l.initial.level;
 }
 

@@ -7,6 +7,8 @@ use Rattle.at_body.specs.Values.{value_view}
 use Rattle.at_demand.specs.Inner.{AreKnown}
 use Rattle.at_demand.specs.Known.{meaning}
 use Rattle.at_demand.specs.Sparing.{HasWorthy}
+use Rattle.at_demand.specs.Traces.{StayJustified}
+use Rattle.at_demand.proofs.of_traces.Putting.{traced_same}
 use Rattle.at_demand.proofs.of_nesting.InnerGains.{Found, gains_as, gains_from, gains_none, told_holds, told_whole}
 use Rattle.at_demand.proofs.direct.Direct.answer.Goals as goal
 
@@ -26,7 +28,7 @@ returns-clause-value g c =
     IfOk-weaker c.told.result _ _ (λ v h. subst (λ (i : Instance ℕ). HasValue (contents s) (meaning rules) i
     (value_view v)) c.in_ok-needed.ensures
     (told_holds rules s g.K.Keeper.exact new c.told.new.self.found.entries c.in_ok-needed.needed (value_view v) h.looks
-    h.takes c.told.ensures.gains.known h.given)) c.told.ensures.told
+    h.takes c.told.ensures.grown.gains.known h.given)) c.told.ensures.told
 
 pub returns-clause-all : goal.returns-clause-all
 returns-clause-all g c = λ k spare.
@@ -36,26 +38,34 @@ returns-clause-all g c = λ k spare.
     IfOk-weaker c.told.result _ _ (λ v h. subst (λ (i : Instance ℕ). HasWorthy rules (contents s) i new)
     c.in_ok-needed.ensures
     (told_whole rules s g.K.Keeper.exact new c.told.new.self.found.entries c.in_ok-needed.needed (value_view v) h.looks
-    h.takes (c.told.ensures.gains.spare k spare) c.told.ensures.gains.known h.given)) c.told.ensures.told
+    h.takes (c.told.ensures.grown.gains.spare k spare) c.told.ensures.grown.gains.known h.given)) c.told.ensures.told
 
-pub returns-clause-gains : goal.returns-clause-gains
-returns-clause-gains g c =
-    let old = g.K.Keeper.contents c.args.keeper.now in
-    let new = g.K.Keeper.contents c.told.new.keeper in
-    let self = c.args.self.now in
-    let asks = c.level-asks.new.self in
-    let later = c.told.new.self in
-    gains_from c.args.basis.now.rules.now c.args.basis.now.store.now g.K.Keeper.exact c.args.inst.now c.in_ok-needed.needed old new
-    self.found.entries asks.found.entries later.found.entries self.work asks.work later.work
-    c.in_ok-needed.ensures c.level-asks.ensures.found c.level-asks.ensures.work c.told.ensures.gains
+pub returns-clause-grown : goal.returns-clause-grown
+returns-clause-grown g c = record {
+  gains =
+      let old = g.K.Keeper.contents c.args.keeper.now in
+      let new = g.K.Keeper.contents c.told.new.keeper in
+      let self = c.args.self.now in
+      let asks = c.level-asks.new.self in
+      let later = c.told.new.self in
+      gains_from c.args.basis.now.rules.now c.args.basis.now.store.now g.K.Keeper.exact c.args.inst.now c.in_ok-needed.needed old new
+      self.found.entries asks.found.entries later.found.entries self.work asks.work later.work
+      c.in_ok-needed.ensures c.level-asks.ensures.found c.level-asks.ensures.work c.told.ensures.grown.gains;
+  traces = subst (λ (i : Instance ℕ). StayJustified c.args.basis.now.rules.now c.args.basis.now.store.now i (g.K.Keeper.memories
+      c.args.keeper.now) (g.K.Keeper.memories c.told.new.keeper)) c.in_ok-needed.ensures c.told.ensures.grown.traces;
+}
 
-pub returns-in_err-needed-clause-gains : goal.returns-in_err-needed-clause-gains
-returns-in_err-needed-clause-gains g c =
-    let entries = g.K.Keeper.contents c.args.keeper.now in
-    let self = c.args.self.now in
-    let asks = c.level-asks.new.self in
-    gains_as c.args.basis.now.rules.now c.args.basis.now.store.now g.K.Keeper.exact c.args.inst.now entries entries self.found.entries
-    self.found.entries asks.found.entries self.work self.work asks.work c.level-asks.ensures.found
-    c.level-asks.ensures.work
-    (gains_none c.args.basis.now.rules.now c.args.basis.now.store.now g.K.Keeper.exact c.args.inst.now entries self.found.entries
-    self.work self.few c.requires.known)
+pub returns-in_err-needed-clause-grown : goal.returns-in_err-needed-clause-grown
+returns-in_err-needed-clause-grown g c = record {
+  gains =
+      let entries = g.K.Keeper.contents c.args.keeper.now in
+      let self = c.args.self.now in
+      let asks = c.level-asks.new.self in
+      gains_as c.args.basis.now.rules.now c.args.basis.now.store.now g.K.Keeper.exact c.args.inst.now entries entries self.found.entries
+      self.found.entries asks.found.entries self.work self.work asks.work c.level-asks.ensures.found
+      c.level-asks.ensures.work
+      (gains_none c.args.basis.now.rules.now c.args.basis.now.store.now g.K.Keeper.exact c.args.inst.now entries self.found.entries
+      self.work self.few c.requires.known);
+  traces = traced_same c.args.basis.now.rules.now c.args.basis.now.store.now c.args.inst.now (g.K.Keeper.memories c.args.keeper.now)
+      c.requires.justified;
+}

@@ -4,6 +4,5 @@ use Rattle.at_demand.proofs.direct.Direct.keep_again.Goals as goal
 pub returns-then-not-have_settled : goal.returns-then-not-have_settled
 returns-then-not-have_settled g c = record {
   recalled = refl;
-  gains = c.have_settled.ensures.gains;
-  traces = c.have_settled.ensures.traces;
+  grown = c.have_settled.ensures.grown;
 }

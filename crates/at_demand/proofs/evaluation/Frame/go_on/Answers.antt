@@ -47,7 +47,7 @@ loop-step-preserved g c =
     }
 
 pub resume-requires-clause-over : goal.resume-requires-clause-over
-resume-requires-clause-over g c = shown_typed c.args.rules.now c.args.store.now c.requires.idle c.requires.formed c.requires.sound
+resume-requires-clause-over g c = shown_typed c.args.rules.now c.args.store.now c.requires.basis.idle c.requires.basis.formed c.requires.basis.sound
 
 pub resume-requires-clause-takes : goal.resume-requires-clause-takes
 resume-requires-clause-takes g c =
@@ -56,7 +56,7 @@ resume-requires-clause-takes g c =
     let known = known_in (g.K.Keeper.contents c.args.keeper.now) c.args.found.now.entries in
     let told = subst (λ (r : Recalled). IsRecalled known c.in-Need.needed r) c.in-Value.is c.in_ok-value-in-Need.ensures.recalled in
     let waits = subst (λ (x : Step). IsTypedStep rules (class_shown s) x c.loop-step.self.trial) c.in-Need.is c.loop-step.invariant.typed in
-    told_value rules c.requires.formed s c.requires.idle c.requires.sound c.loop-step.self.trial c.in-Need.needed (value_view c.in-Value.value) waits (c.requires.right c.in-Need.needed (value_view c.in-Value.value) told)
+    told_value rules c.requires.basis.formed s c.requires.basis.idle c.requires.basis.sound c.loop-step.self.trial c.in-Need.needed (value_view c.in-Value.value) waits (c.requires.right c.in-Need.needed (value_view c.in-Value.value) told)
 
 pub returns-in-Unknown : goal.returns-in-Unknown
 returns-in-Unknown g c =

@@ -32,7 +32,7 @@ returns g c q like =
         slice = refl;
         known = λ k. k;
         sound = sound_grown (rules_of e) e.store (k e.demand.keeper) (k new.demand.keeper) a.worthy.stays (marks_of e) e.posts held (a.right c.requires.there held.right)
-            (record { justified = c.answer.ensures.justified; there = c.answer.ensures.there c.requires.there held.remembered.there });
+            (record { justified = c.answer.ensures.traces.justified; there = c.answer.ensures.traces.there c.requires.there held.remembered.there });
       };
     }
 
@@ -56,27 +56,9 @@ returns-in_err-answer g c q like =
         slice = refl;
         known = λ k. k;
         sound = sound_grown (rules_of e) e.store (k e.demand.keeper) (k new.demand.keeper) a.worthy.stays (marks_of e) e.posts held (a.right c.requires.there held.right)
-            (record { justified = c.answer.ensures.justified; there = c.answer.ensures.there c.requires.there held.remembered.there });
+            (record { justified = c.answer.ensures.traces.justified; there = c.answer.ensures.traces.there c.requires.there held.remembered.there });
       };
     }
-
-pub answer-requires-clause-formed : goal.answer-requires-clause-formed
-answer-requires-clause-formed g c = c.requires.sound.typed.formed
-
-pub answer-requires-clause-sound : goal.answer-requires-clause-sound
-answer-requires-clause-sound g c = record { conform = c.requires.sound.held.conforming; within = c.requires.sound.held.idle.limits; tokens = c.requires.sound.typed.tokens }
-
-pub answer-requires-clause-idle : goal.answer-requires-clause-idle
-answer-requires-clause-idle g c = c.requires.sound.held.idle
-
-pub answer-requires-clause-typed : goal.answer-requires-clause-typed
-answer-requires-clause-typed g c = c.requires.well_typed
-
-pub answer-requires-clause-plain : goal.answer-requires-clause-plain
-answer-requires-clause-plain g c = c.requires.sound.held.right.plain
-
-pub answer-requires-clause-right : goal.answer-requires-clause-right
-answer-requires-clause-right g c = c.requires.sound.held.right.values
 
 pub told-requires : goal.told-requires
 told-requires g c =
@@ -84,8 +66,23 @@ told-requires g c =
     let a = c.answer.ensures.answered in
     record {
       sound = sound_grown (rules_of e) e.store (g.K.Keeper.contents e.demand.keeper) (g.K.Keeper.contents c.answer.new.self.keeper) a.worthy.stays (marks_of e) e.posts c.requires.sound.held (a.right c.requires.there c.requires.sound.held.right)
-          (record { justified = c.answer.ensures.justified; there = c.answer.ensures.there c.requires.there c.requires.sound.held.remembered.there });
+          (record { justified = c.answer.ensures.traces.justified; there = c.answer.ensures.traces.there c.requires.there c.requires.sound.held.remembered.there });
     }
 
-pub answer-requires-clause-justified : goal.answer-requires-clause-justified
-answer-requires-clause-justified g c = c.requires.sound.held.remembered.justified
+pub answer-requires : goal.answer-requires
+answer-requires g c =
+    let sound = c.requires.sound in
+    let held = sound.held in
+    record {
+      answerable = record {
+        basis = record {
+          idle = held.idle;
+          formed = sound.typed.formed;
+          sound = record { conform = held.conforming; within = held.idle.limits; tokens = sound.typed.tokens };
+        };
+        right = held.right.values;
+        plain = held.right.plain;
+      };
+      typed = c.requires.well_typed;
+      justified = held.remembered.justified;
+    }

@@ -156,3 +156,13 @@ returns-in-Some g c =
       sparing = λ exact spare sparing. let both = inv.spare exact spare sparing in e.sparing exact both.0 both.1;
       traces = stay_then _ _ _ inv.traces c.turns.ensures.traces;
     }
+
+pub turns-requires : goal.turns-requires
+turns-requires g c = record {
+  answerable = record {
+    basis = record { idle = c.requires.idle; formed = c.requires.formed; sound = c.requires.sound };
+    right = c.loop-turns.invariant.right;
+    plain = c.loop-turns.invariant.plain;
+  };
+  standing = c.loop-turns.invariant.standing;
+}

@@ -26,3 +26,13 @@ returns-in-None g c =
     (k old.keeper) (k new.keeper)
     (g.K.Keeper.memories old.keeper) (g.K.Keeper.memories new.keeper) c.args.question.now c.all_turns.new.question c.all_turns.result) (sym c.in-None.is)
     c.all_turns.ensures
+
+pub turns-requires : goal.turns-requires
+turns-requires g c = record {
+  answerable = record {
+    basis = record { idle = c.requires.idle; formed = c.requires.formed; sound = c.requires.sound };
+    right = c.requires.right;
+    plain = c.requires.plain;
+  };
+  standing = c.requires.standing;
+}
