@@ -1,5 +1,5 @@
 //! Paths to nodes: as they are written, by the names of components.
-ghost use Rattle.std.specs.Prelude.{◌≡◌, ◌≤◌, ◌++◌, OnOk, OnErr, vec_capacity};
+ghost use Rattle.std.specs.Prelude.{◌≡◌, ◌≤◌, ◌++◌, IfOk, OnOk, OnErr, vec_capacity};
 ghost use Rattle.at_model.specs.Paths.{IsPath, path_text, step_text};
 ghost use Rattle.at_tree.specs.Appending.{Appends};
 ghost use Rattle.at_tree.specs.PathView.{path_view, step_view};
