@@ -89,12 +89,13 @@ first_unique look forms (Demands m k) i j p q (inr (v, h, r)) (inr (w, g, s)) =
     let e : Finds v ≡ Finds w = once look forms m (Finds v) (Finds w) h g in let e' : v ≡ w = cc in
     first_unique look forms (k w) i j p q (subst (λ z. Reaches look (HasValue look forms) (k z) i) e' r) s
 
-not_ended : {N : Type 0} (look : Contents N) (forms : Forms N) (m j : Instance N) →
+-- what demands one that has no outcome doesn't end
+pub not_ended : {N : Type 0} (look : Contents N) (forms : Forms N) (m j : Instance N) →
     ((n : ℕ) → Settles look forms n j → ⊥) → Reaches look (HasValue look forms) (forms.formula m) j →
     (e : End N (Formula N)) → EndsSo look forms m e → ⊥
 not_ended look forms m j none c e (n, x) = none n (ends_lower look forms n m (forms.formula m) e j x c)
 
-no_settling : {N : Type 0} (look : Contents N) (forms : Forms N) (k : Instance N) → HasNone look forms k → (n : ℕ) →
+pub no_settling : {N : Type 0} (look : Contents N) (forms : Forms N) (k : Instance N) → HasNone look forms k → (n : ℕ) →
     Settles look forms n k → ⊥
 no_settling look forms k none n (o, h) = none o (n, h)
 

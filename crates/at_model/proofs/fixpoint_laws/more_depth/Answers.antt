@@ -1,3 +1,5 @@
+use Rattle.at_model.proofs.of_searching.PassedCircles.{closes_past}
+use Rattle.at_model.proofs.of_searching.PassedFaults.{meets_past}
 use Rattle.at_model.proofs.of_formulas.Heights.{higher}
 use Rattle.at_model.proofs.fixpoint_laws.more_depth.Goals as goal
 
