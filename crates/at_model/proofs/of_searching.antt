@@ -1,3 +1,5 @@
 pub mod Thinning
 pub mod PassedFaults
 pub mod PassedCircles
+pub mod Strictly
+pub mod InOrder

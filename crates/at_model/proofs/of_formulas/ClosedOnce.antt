@@ -13,7 +13,7 @@ abbrev pub Settles : {N : Type 0} → Contents N → Forms N → ℕ → Instanc
 Settles {N} look forms n i = (o : Outcome N) × HoldsAt look forms n i o
 
 -- an evaluation that ends at a depth has demanded what has outcomes there
-ends_lower : {N A : Type 0} (look : Contents N) (forms : Forms N) (n : ℕ) (i : Instance N) (r : Run N A) (e : End N A)
+pub ends_lower : {N A : Type 0} (look : Contents N) (forms : Forms N) (n : ℕ) (i : Instance N) (r : Run N A) (e : End N A)
     (j : Instance N) →
     Ends look (HoldsAt look forms n) i r e → Reaches look (HasValue look forms) r j → Settles look forms n j
 ends_lower look forms n i (Gives a) e j x c = absurd c

@@ -1,3 +1,5 @@
+use Rattle.at_model.proofs.of_searching.Strictly.{none_on_circle}
+use Rattle.at_model.proofs.of_searching.InOrder.{goes_on_in_order}
 use Rattle.at_model.proofs.of_searching.PassedCircles.{closes_past}
 use Rattle.at_model.proofs.of_searching.PassedFaults.{meets_past}
 use Rattle.at_model.proofs.of_formulas.Heights.{higher}
