@@ -3,3 +3,4 @@ pub mod PassedFaults
 pub mod PassedCircles
 pub mod Strictly
 pub mod InOrder
+pub mod Wholes

@@ -155,3 +155,12 @@ module _ {N : Type 0} (E : Ending N) (one : OneEnd E E) (Valued : Instance N →
         | inr (inr (inl g)) ↦ inr (inl (inl g))
         | inr (inr (inr g)) ↦ placed u (back_among u (asked_in e) todo g)
       ]
+
+  -- what was seen, and leads to one that is next or left to do, leads to the next one
+  pub leads_to_next : (seen : List (Instance N)) (next : Instance N) (todo : List (Instance N)) →
+      IsInOrder E Valued seen next todo → (s u : Instance N) → LeadsOver (Within E seen) s u → Among s seen →
+      Among u todo → (¬ (Among u (next ∷ seen))) → (¬ (Valued u)) → LeadsOver (Within E seen) s next
+  leads_to_next seen next todo o _ u (stays _) h a off none = absurd (off (inr h))
+  leads_to_next seen next todo o _ _ (goes s _ _ f (h, x) a (stays u)) g b off none = (o.leads s u f h x a b off none).0
+  leads_to_next seen next todo o _ u (goes s m _ f (h, x) a (goes _ n _ d (i, y) c l)) g b off none =
+      goes s m next f (h, x) a (leads_to_next seen next todo o m u (goes m n u d (i, y) c l) i b off none)

@@ -1,3 +1,4 @@
+use Rattle.at_model.proofs.of_searching.Wholes.{whole_faults}
 use Rattle.at_model.proofs.of_searching.Strictly.{none_on_circle}
 use Rattle.at_model.proofs.of_searching.InOrder.{goes_on_in_order}
 use Rattle.at_model.proofs.of_searching.PassedCircles.{closes_past}
