@@ -4,3 +4,4 @@ pub mod PassedCircles
 pub mod Strictly
 pub mod InOrder
 pub mod Wholes
+pub mod Steps

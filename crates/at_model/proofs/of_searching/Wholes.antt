@@ -7,39 +7,25 @@ use Rattle.at_model.specs.of_fixpoints.Formulas.{Formula, atoms, Forms}
 use Rattle.at_model.specs.of_fixpoints.Fixpoints.{End, Made, Spoilt, Meets, again, formed, spoilt, stays, EndsAt, EndsSo, HoldsAt, Holds}
 use Rattle.at_model.proofs.of_formulas.UniqueOutcomes.{Ending, ends_at}
 use Rattle.at_model.proofs.of_formulas.Heights.{ends_higher}
-use Rattle.at_model.proofs.of_formulas.Components.{asked_in, EndIn, are_ended}
+use Rattle.at_model.specs.of_fixpoints.Searching.{asked_in}
+use Rattle.at_model.specs.of_fixpoints.Searched.{EndsWell, AreClosed, IsClosedIn}
+use Rattle.at_model.proofs.of_formulas.Components.{EndIn, are_ended}
 use Rattle.at_model.proofs.of_formulas.Solved.{all_among}
 use Rattle.at_model.proofs.of_searching.Thinning.{IsPart}
 use Rattle.at_model.proofs.of_searching.PassedCircles.{ends_one}
 
--- The equation of i ends so well, and what it leads to is all of that kind.
-pub record EndsWell {N : Type 0} (E : Ending N) (Good : End N (Formula N) → Type 0) (Next : Instance N → Type 0) (i : Instance N) :
-    Type 0 where
-  pub end : End N (Formula N)
-  pub ends : E i end
-  pub good : Good end
-  pub next : (k : Instance N) → Among k (asked_in end) → Next k
-
--- so it is of each of these, and they lead to none but these
-abbrev pub IsClosed : {N : Type 0} → Ending N → (End N (Formula N) → Type 0) → List (Instance N) → Type 0
-IsClosed {N} E Good W = (i : Instance N) → Among i W → EndsWell E Good (λ k. Among k W) i
-
--- it is one of such a list
-abbrev pub IsWhole : {N : Type 0} → Ending N → (End N (Formula N) → Type 0) → Instance N → Type 0
-IsWhole {N} E Good i = (W : List (Instance N)) × IsClosed E Good W × Among i W
-
 module _ {N : Type 0} (E : Ending N) (Good : End N (Formula N) → Type 0) (seen : List (Instance N)) where
   abbrev Gathers : (Instance N → Type 0) → Type 0
-  Gathers Of = (W : List (Instance N)) × IsClosed E Good W × ((i : Instance N) → Of i → Among i W ⊎ Among i seen)
+  Gathers Of = (W : List (Instance N)) × AreClosed E Good W × ((i : Instance N) → Of i → Among i W ⊎ Among i seen)
 
-  joined_closed : (V W : List (Instance N)) → IsClosed E Good V → IsClosed E Good W → IsClosed E Good (V ++ W)
+  joined_closed : (V W : List (Instance N)) → AreClosed E Good V → AreClosed E Good W → AreClosed E Good (V ++ W)
   joined_closed V W c d i h = elim (either_among i V W h) [
     | inl a ↦ let x = c i a in record { end = x.end; ends = x.ends; good = x.good; next = λ k b. front_among k V W (x.next k b) }
     | inr a ↦ let x = d i a in record { end = x.end; ends = x.ends; good = x.good; next = λ k b. back_among k V W (x.next k b) }
   ]
 
   -- the lists of all of these that are whole
-  gathered : (is : List (Instance N)) → ((i : Instance N) → Among i is → IsWhole E Good i ⊎ Among i seen) →
+  gathered : (is : List (Instance N)) → ((i : Instance N) → Among i is → IsClosedIn E Good i ⊎ Among i seen) →
       Gathers (λ i. Among i is)
   gathered [] all = ([], (λ i h. absurd h), (λ i h. absurd h))
   gathered (j ∷ is) all =
@@ -54,8 +40,8 @@ module _ {N : Type 0} (E : Ending N) (Good : End N (Formula N) → Type 0) (seen
 
   -- so all to which each of these leads is gathered
   all_gathered : (js : List (Instance N)) →
-      ((j : Instance N) → Among j js → EndsWell E Good (λ k. IsWhole E Good k ⊎ Among k seen) j) →
-      (W : List (Instance N)) × IsClosed E Good W
+      ((j : Instance N) → Among j js → EndsWell E Good (λ k. IsClosedIn E Good k ⊎ Among k seen) j) →
+      (W : List (Instance N)) × AreClosed E Good W
       × ((j : Instance N) → Among j js → EndsWell E Good (λ k. Among k W ⊎ Among k seen) j)
   all_gathered [] all = ([], (λ i h. absurd h), (λ i h. absurd h))
   all_gathered (j ∷ js) all =
@@ -75,8 +61,8 @@ module _ {N : Type 0} (E : Ending N) (Good : End N (Formula N) → Type 0) (seen
       ])
 
   -- what was seen is whole, where it leads to what is whole or was seen
-  pub seen_whole : ((j : Instance N) → Among j seen → EndsWell E Good (λ k. IsWhole E Good k ⊎ Among k seen) j) →
-      (i : Instance N) → Among i seen → IsWhole E Good i
+  pub seen_whole : ((j : Instance N) → Among j seen → EndsWell E Good (λ k. IsClosedIn E Good k ⊎ Among k seen) j) →
+      (i : Instance N) → Among i seen → IsClosedIn E Good i
   seen_whole all i h =
       let (W, c, p) = all_gathered seen all in
       (seen ++ W, (λ j g. elim (either_among j seen W g) [
@@ -108,7 +94,7 @@ module _ {N : Type 0} (look : Contents N) (forms : Forms N) (Good : End N (Formu
       subst (λ z. EndIn (EndsAt look forms z) all js) q (ended_higher n m all js l)))
 
   -- a search among them meets what it meets at that depth
-  meets_at : (n : ℕ) (W : List (Instance N)) → IsClosed (EndsSo look forms) Good W →
+  meets_at : (n : ℕ) (W : List (Instance N)) → AreClosed (EndsSo look forms) Good W →
       ((j : Instance N) → Among j W → (e : End N (Formula N)) → EndsSo look forms j e → EndsAt look forms n j e) →
       (s t : List (Instance N)) (k : FaultKind) (at : Instance N) → IsPart t W → Meets (EndsSo look forms) s t k at →
       Meets (EndsAt look forms n) s t k at
@@ -125,7 +111,7 @@ module _ {N : Type 0} (look : Contents N) (forms : Forms N) (Good : End N (Formu
   meets_at n W c all s (i ∷ t) k at p (spoilt _ h y) = spoilt i h (all i (p i (inl refl)) (Spoilt k at) y)
 
   -- what is whole, and from which a search meets a fault, has that fault
-  pub whole_faults : (q : Instance N) (k : FaultKind) (at : Instance N) → IsWhole (EndsSo look forms) Good q →
+  pub whole_faults : (q : Instance N) (k : FaultKind) (at : Instance N) → IsClosedIn (EndsSo look forms) Good q →
       Meets (EndsSo look forms) [] (q ∷ []) k at → Holds look forms q (Faults k at)
   whole_faults q k at (W, c, h) x =
       let (n, l) = ended_at_one W W c in

@@ -1,6 +1,7 @@
+use Rattle.at_model.proofs.of_searching.Steps.{has_seen}
 use Rattle.at_model.proofs.of_searching.Wholes.{whole_faults}
 use Rattle.at_model.proofs.of_searching.Strictly.{none_on_circle}
-use Rattle.at_model.proofs.of_searching.InOrder.{goes_on_in_order}
+use Rattle.at_model.proofs.of_searching.InOrder.{leads_to_next}
 use Rattle.at_model.proofs.of_searching.PassedCircles.{closes_past}
 use Rattle.at_model.proofs.of_searching.PassedFaults.{meets_past}
 use Rattle.at_model.proofs.of_formulas.Heights.{higher}
