@@ -5,3 +5,4 @@ pub mod Strictly
 pub mod InOrder
 pub mod Wholes
 pub mod Steps
+pub mod Turned

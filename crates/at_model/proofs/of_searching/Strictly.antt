@@ -5,16 +5,11 @@ use Rattle.at_model.specs.Meaning.{Outcome, Among, Reaches}
 use Rattle.at_model.specs.of_fixpoints.Formulas.{Formula, atoms, Forms}
 use Rattle.at_model.specs.of_fixpoints.Fixpoints.{End, Made, Spoilt, LeadsOver, stays, goes, EndsAt, EndsSo, HasValue, Holds, HoldsAt, AreEnded}
 use Rattle.at_model.specs.of_fixpoints.Circles.{HasNone}
+use Rattle.at_model.specs.of_fixpoints.Searching.{Wants, IsStuck}
 use Rattle.at_model.proofs.of_formulas.UniqueOutcomes.{ends_at, one_further}
 use Rattle.at_model.proofs.of_formulas.ClosedOnce.{Settles, ended, ends_lower}
 
--- The equation of one to which formulas lead from i demands k.
-pub record Wants {N : Type 0} (look : Contents N) (forms : Forms N) (i k : Instance N) : Type 0 where
-  pub by : Instance N
-  pub led : LeadsOver (EndsSo look forms) i by
-  pub demands : Reaches look (HasValue look forms) (forms.formula by) k
-
--- so on, in one step or more
+-- one wants the other, in one step or more
 pub data WantsOn {N : Type 0} (look : Contents N) (forms : Forms N) : Instance N → Instance N → Type 0 where
   wants : (i k : Instance N) → Wants look forms i k → WantsOn look forms i k
   and_on : (i j k : Instance N) → Wants look forms i j → WantsOn look forms j k → WantsOn look forms i k
@@ -57,3 +52,13 @@ module _ {N : Type 0} (look : Contents N) (forms : Forms N) where
   -- what wants itself has no outcome
   pub none_on_circle : (i : Instance N) → WantsOn look forms i i → HasNone look forms i
   none_on_circle i w o (n, h) = none_at n n i (omega arith) w (o, h)
+
+  pub led_over : (i j k : Instance N) → LeadsOver (EndsSo look forms) i j → LeadsOver (EndsSo look forms) j k →
+      LeadsOver (EndsSo look forms) i k
+  led_over _ j k (stays _) l = l
+  led_over _ j k (goes i m _ f h a r) l = goes i m k f h a (led_over m j k r l)
+
+  -- what leads to one that is stuck is stuck, too
+  pub stuck_none : (i j : Instance N) → LeadsOver (EndsSo look forms) i j → IsStuck look forms j → HasNone look forms i
+  stuck_none i j l (k, w, none) =
+      wants_none i k (record { by = w.by; led = led_over i j w.by l w.led; demands = w.demands }) none

@@ -1,11 +1,11 @@
 -- A question of circular attributes that is given turns: a search, level by level of strict demands; how far it has come, and what
 -- one turn may do. Where no attribute is circular each level has one instance, and the levels are the chain of `Turning`.
-use Rattle.std.specs.Prelude.{◌≡◌, ◌⊎◌, ℕ, List, [], ◌∷◌, ◌++◌, map, Option, Some, None}
+use Rattle.std.specs.Prelude.{◌≡◌, ◌⊎◌, ℕ, List, [], ◌∷◌, ◌++◌, Option, Some, None}
 use Rattle.at_model.specs.Run.{Value, Instance, Contents, FaultKind, Known}
-use Rattle.at_model.specs.Meaning.{Outcome, Finds, Faults, Among, Distinct, Reaches, Answer, Outcomes, Circle}
+use Rattle.at_model.specs.Meaning.{Outcome, Finds, Faults, Among, Reaches, Answer, Outcomes, Circle}
 use Rattle.at_model.specs.of_fixpoints.Formulas.{Formula, atoms, Forms}
-use Rattle.at_model.specs.of_fixpoints.Fixpoints.{End, Made, Spoilt, LeadsOver, Meets, Holds, HasValue, EndsSo}
-use Rattle.at_model.specs.of_fixpoints.Circles.{IsOpen, Closes}
+use Rattle.at_model.specs.of_fixpoints.Fixpoints.{End, Made, Spoilt, LeadsOver, Holds, HasValue, EndsSo}
+use Rattle.at_model.specs.of_fixpoints.Circles.{HasNone, IsOpen}
 use Rattle.at_model.specs.of_fixpoints.Resting.{Comes}
 
 -- A level: what is demanded, the instances that were looked at, the one whose equation is tried, and those to be looked at behind it.
@@ -37,16 +37,16 @@ abbrev pub posted : {N : Type 0} → Instance N → Search N
 posted q = record { last = begun q; below = []; ended = []; told = [] }
 
 -- what is demanded at the lowest level: what was asked
-abbrev pub root_of : {N : Type 0} → Level N → List (Level N) → Instance N
-root_of l [] = l.root
-root_of l (m ∷ ms) = root_of m ms
+abbrev pub root_of : {N : Type 0} → Instance N → List (Level N) → Instance N
+root_of root [] = root
+root_of root (l ∷ ls) = root_of l.root ls
 
 abbrev pub asked : {N : Type 0} → Search N → Instance N
-asked s = root_of s.last s.below
+asked s = root_of s.last.root s.below
 
--- its value is kept, or its outcome was found
-abbrev pub IsKnown : {N : Type 0} → Known N → List (Instance N × Outcome N) → Instance N → Type 0
-IsKnown {N} kept told i = ((v : Value N) × (kept i ≡ Some v)) ⊎ ((o : Outcome N) × Among (i, o) told)
+-- its value is kept, or was found
+abbrev pub IsValued : {N : Type 0} → Known N → List (Instance N × Outcome N) → Instance N → Type 0
+IsValued {N} kept told i = (v : Value N) × ((kept i ≡ Some v) ⊎ Among (i, Finds v) told)
 
 -- the first one of those to do for which this doesn't hold, and those behind it
 pub data First {A : Type 0} (Done : A → Type 0) : List A → A → List A → Type 0 where
@@ -72,9 +72,9 @@ pub record Looked (N : Type 0) : Type 0 where
   pub ended : List (Instance N)
   pub told : List (Instance N × Outcome N)
 
--- it was seen at the last level, or is known
+-- it was seen at the last level, or has a value that is known
 abbrev pub IsPassed : {N : Type 0} → Known N → Looked N → Instance N → Type 0
-IsPassed kept s i = Among i s.seen ⊎ IsKnown kept s.told i
+IsPassed kept s i = Among i s.seen ⊎ IsValued kept s.told i
 
 -- the question behind the try of the last level's next one, which has ended so
 abbrev pub behind : {N : Type 0} → Search N → End N (Formula N) → Looked N
@@ -118,6 +118,16 @@ pub record Adds {N : Type 0} (look : Contents N) (forms : Forms N) (these : List
   pub stays : (i : Instance N) (o : Outcome N) → Among (i, o) told → Among (i, o) more
   pub holds : (i : Instance N) (o : Outcome N) → Among (i, o) more → Among (i, o) told ⊎ (Among i these × Holds look forms i o)
 
+-- the equation of one to which formulas lead from i demands k
+pub record Wants {N : Type 0} (look : Contents N) (forms : Forms N) (i k : Instance N) : Type 0 where
+  pub by : Instance N
+  pub led : LeadsOver (EndsSo look forms) i by
+  pub demands : Reaches look (HasValue look forms) (forms.formula by) k
+
+-- what it wants has no outcome, so it has none
+abbrev pub IsStuck : {N : Type 0} → Contents N → Forms N → Instance N → Type 0
+IsStuck {N} look forms i = (k : Instance N) × Wants look forms i k × HasNone look forms k
+
 -- What becomes of a question between two tries: it goes to the first of those to do that isn't passed, over those whose equations
 -- have ended already; or that is under way at a lower level and has no outcome, and closes a circle. Where all are passed the level
 -- goes, with its outcome, which is the question's, or is told to the level below.
@@ -130,9 +140,11 @@ pub data Follows {N : Type 0} (look : Contents N) (forms : Forms N) (kept : Know
       Among i s.ended → EndsSo look forms i e → Follows look forms kept (gone_over s i rest e) new o →
       Follows look forms kept s new o
   comes_back : {s : Looked N} {i : Instance N} {rest : List (Instance N)} → First (IsPassed kept s) s.todo i rest →
-      IsOpen look forms (under s.below) i → Follows look forms kept s (gone_to s i rest) (Some (Circle i))
-  answers : {s : Looked N} (new : Search N) (o : Outcome N) → AreAll (IsPassed kept s) s.todo → s.below ≡ [] →
-      Holds look forms s.root o → IsReady look forms kept s → Follows look forms kept s new (Some (Outcomes o))
+      Among i (under s.below) → IsStuck look forms i → Follows look forms kept s (gone_to s i rest) (Some (Circle i))
+  has_found : {s : Looked N} (new : Search N) (v : Value N) → AreAll (IsPassed kept s) s.todo → s.below ≡ [] →
+      HasValue look forms s.root v → IsReady look forms kept s → Follows look forms kept s new (Some (Outcomes (Finds v)))
+  has_failed : {s : Looked N} (new : Search N) (k : FaultKind) (at : Instance N) → AreAll (IsPassed kept s) s.todo →
+      s.below ≡ [] → Holds look forms s.root (Faults k at) → Follows look forms kept s new (Some (Outcomes (Faults k at)))
   finds : {s : Looked N} (l : Level N) (ls : List (Level N)) (v : Value N) (told : List (Instance N × Outcome N)) →
       AreAll (IsPassed kept s) s.todo → s.below ≡ l ∷ ls → HasValue look forms s.root v → IsReady look forms kept s →
       Adds look forms s.seen s.told told → Among (s.root, Finds v) told → Follows look forms kept s (fallen_to s l ls told) None
@@ -155,7 +167,7 @@ pub data Turned {N : Type 0} (look : Contents N) (forms : Forms N) (kept : Known
   closes : {s : Search N} (j : Instance N) → Reaches look (HasValue look forms) (forms.formula s.last.next) j →
       IsOpen look forms (under (s.last ∷ s.below)) j → Turned look forms kept s s (Some (Circle j))
   deepens : {s : Search N} (j : Instance N) → Reaches look (HasValue look forms) (forms.formula s.last.next) j →
-      (¬ (Among j (under (s.last ∷ s.below)))) → (¬ (IsKnown kept s.told j)) →
+      (¬ (Among j (under (s.last ∷ s.below)))) → (¬ (IsValued kept s.told j)) →
       Turned look forms kept s (record s { last = begun j; below = s.last ∷ s.below }) None
   settles : {s new : Search N} {o : Option (Answer N)} (told : List (Instance N × Outcome N)) →
       Adds look forms (under (s.last ∷ s.below)) s.told told → Turned look forms kept (record s { told = told }) new o →

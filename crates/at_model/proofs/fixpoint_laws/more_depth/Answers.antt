@@ -1,3 +1,4 @@
+use Rattle.at_model.proofs.of_searching.Turned.{first_at}
 use Rattle.at_model.proofs.of_searching.Steps.{has_seen}
 use Rattle.at_model.proofs.of_searching.Wholes.{whole_faults}
 use Rattle.at_model.proofs.of_searching.Strictly.{none_on_circle}
