@@ -5,7 +5,6 @@ use Rattle.at_model.specs.Meaning.{Outcome, Among, Reaches}
 use Rattle.at_model.specs.of_fixpoints.Formulas.{Formula, atoms, Forms}
 use Rattle.at_model.specs.of_fixpoints.Fixpoints.{End, Made, Spoilt, LeadsOver, Meets, Holds, HasValue, EndsSo}
 use Rattle.at_model.specs.of_fixpoints.Circles.{IsOpen, Closes}
-use Rattle.at_model.specs.of_fixpoints.Resting.{Leads}
 use Rattle.at_model.specs.of_fixpoints.Searching.{Level, Search, asked, asked_in, under}
 
 -- the equation gives a formula
@@ -86,5 +85,5 @@ pub record IsOn {N : Type 0} (look : Contents N) (forms : Forms N) (q : Instance
   pub starts : asked s ≡ q
   pub last : IsAt look forms (under s.below) s.last
   pub stacked : AreStacked look forms s.last.root s.below
-  pub told : (i : Instance N) (o : Outcome N) → Among (i, o) s.told → Holds look forms i o × Leads look forms q i
+  pub told : (i : Instance N) (o : Outcome N) → Among (i, o) s.told → Holds look forms i o
   pub ended : (i : Instance N) → Among i s.ended → (e : End N (Formula N)) × EndsSo look forms i e
