@@ -6,3 +6,4 @@ pub mod InOrder
 pub mod Wholes
 pub mod Steps
 pub mod Turned
+pub mod ByRules

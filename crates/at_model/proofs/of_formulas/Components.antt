@@ -43,7 +43,7 @@ pub all_end : {N : Type 0} (E : Ending N) (all js : List (Instance N)) → Forme
 all_end E all [] l = tt
 all_end E all (j ∷ js) ((f, x, m), l) = ((Made f, x, m), all_end E all js l)
 
-form_of : {N : Type 0} (E : Ending N) (all js : List (Instance N)) (j : Instance N) → FormedIn E all js → Among j js →
+pub form_of : {N : Type 0} (E : Ending N) (all js : List (Instance N)) (j : Instance N) → FormedIn E all js → Among j js →
     (f : Formula N) × E j (Made f) × AllAmong (atoms f) all
 form_of E all [] j l h = absurd h
 form_of {N} E all (k ∷ js) j (x, l) (inl q) =

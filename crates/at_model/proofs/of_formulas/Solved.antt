@@ -154,7 +154,7 @@ module _ {N : Type 0} (look : Contents N) (forms : Forms N) where
   all_among (a ∷ as') bs h = (h a (inl refl), all_among as' bs (λ c m. h c (inr m)))
 
   -- one depth for the whole list
-  one_depth : (all js : List (Instance N)) →
+  pub one_depth : (all js : List (Instance N)) →
       ((j : Instance N) → Among j js →
       (f : Formula N) × HasForm look forms j f × ((k : Instance N) → Among k (atoms f) → Among k all)) →
       (n : ℕ) × FormedIn (EndsAt look forms n) all js

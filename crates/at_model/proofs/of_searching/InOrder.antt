@@ -45,10 +45,13 @@ module _ {N : Type 0} (E : Ending N) (one : OneEnd E E) (Whole : Instance N → 
       | inr (inr (inr g)) ↦ inr (inr g)
     ];
     leads = λ s u f h x a g off none t b.
-        o.leads s u f h x a (inr g) off none t ((λ e. elim p [
-          | inl d ↦ off (subst (λ z. Among z seen) e d)
-          | inr w ↦ none (subst Whole e w)
-        ]), inr b);
+        o.leads s u f h x a (inr g) off none t (
+          (λ e. elim p [
+            | inl d ↦ off (subst (λ z. Among z seen) e d)
+            | inr w ↦ none (subst Whole e w)
+          ]),
+          inr b,
+        );
   }
 
   -- the equation of the first one to do has ended
@@ -64,6 +67,7 @@ module _ {N : Type 0} (E : Ending N) (one : OneEnd E E) (Whole : Instance N → 
       of_next s u f q y a =
           let same : Made f ≡ e = one c (Made f) e (subst (λ z. E z (Made f)) q y) x in
           subst (λ z. Among u (asked_in z)) same a
+
       covered : (s u : Instance N) (f : Formula N) → Among s (c ∷ seen) → E s (Made f) → Among u (atoms f) →
           Whole u ⊎ (Among u (c ∷ seen) ⊎ Among u (asked_in e ++ todo))
       covered s u f (inl q) y a = inr (inr (front_among u (asked_in e) todo (of_next s u f q y a)))
@@ -73,10 +77,12 @@ module _ {N : Type 0} (E : Ending N) (one : OneEnd E E) (Whole : Instance N → 
         | inr (inr (inl q)) ↦ inr (inl (inl q))
         | inr (inr (inr g)) ↦ inr (inr (back_among u (asked_in e) todo g))
       ]
+
       by_end : (d : End N (Formula N)) (s t : Instance N) → E c d → Among t (asked_in d) →
           LeadsOver (Within E (c ∷ seen)) s c → LeadsOver (Within E (c ∷ seen)) s t
       by_end (Made g) s t y d l = one_further (Within E (c ∷ seen)) s c t g (inl refl, y) d l
       by_end (Spoilt k at) s t y d l = absurd d
+
       led : (s u : Instance N) (f : Formula N) → Among s (c ∷ seen) → E s (Made f) → Among u (atoms f) →
           (¬ (Among u (c ∷ seen))) → (¬ (Whole u)) → (t : Instance N) → Before t u (asked_in e ++ todo) →
           LeadsOver (Within E (c ∷ seen)) s t

@@ -145,7 +145,7 @@ module _ {N : Type 0} (look : Contents N) (forms : Forms N) (told : IsTold (Inst
     | inr off ↦ walked (unseen told s W) (i ∷ []) u s t (omega arith)
         (λ a g. elim g [ inl e ↦ subst (λ z. Among z W) (sym e) (of_these (q i h) off) | inr n ↦ absurd n ])
         (λ more m r. closes_more x more (λ a g. elim (r a g) [ inl b ↦ p a b | inr b ↦ w a b ]) w
-            (λ a g. elim (q a g) [ inl b ↦ inl (m a b) | inr b ↦ inr b ]))
+        (λ a g. elim (q a g) [ inl b ↦ inl (m a b) | inr b ↦ inr b ]))
   ]
   closes_more {u} {s'} (formed i f o n h x) s p w q = formed i f o (λ a. n (p i a)) h
       (closes_more x (i ∷ s) (both_with_one i s s' p) (λ a g. inr (w a g)) (with_both W i s' s q))

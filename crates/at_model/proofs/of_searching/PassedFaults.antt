@@ -72,7 +72,7 @@ module _ {N : Type 0} (E : Ending N) (one : OneEnd E E) (told : IsTold (Instance
     | inr off ↦ walked (unseen told s W) (i ∷ []) s t (omega arith)
         (λ a g. elim g [ inl e ↦ subst (λ z. Among z W) (sym e) (of_these (q i h) off) | inr u ↦ absurd u ])
         (λ more m r. meets_more x more (λ a g. elim (r a g) [ inl b ↦ p a b | inr b ↦ w a b ]) w
-            (λ a g. elim (q a g) [ inl b ↦ inl (m a b) | inr b ↦ inr b ]))
+        (λ a g. elim (q a g) [ inl b ↦ inl (m a b) | inr b ↦ inr b ]))
   ]
   meets_more {s'} (formed i f n h x) s p w q =
       formed i f (λ a. n (p i a)) h (meets_more x (i ∷ s) (both_with_one i s s' p) (λ a g. inr (w a g)) (with_both W i s' s q))

@@ -56,11 +56,13 @@ module _ {N : Type 0} (look : Contents N) (forms : Forms N) (told : IsTold (Inst
       whole_valued : (W : List (Instance N)) → AreClosed (EndsSo look forms) IsMade W → (i : Instance N) → Among i W →
           HasNone look forms i → ⊥
       whole_valued W w i h n = valued i (W, w, h) n
+
       closed : (j : Instance N) → Closes look forms below seen todo j → Closes look forms below seen (c ∷ todo) j
       closed j x = elim p [
         | inl a ↦ closes.again c (s.shut c a) a x
         | inr (W, w, h) ↦ closes_past look forms told W (formed_of W w) (whole_valued W w) c below seen todo h x
       ]
+
       met : (k : FaultKind) (at : Instance N) → Meets (EndsSo look forms) seen todo k at →
           Meets (EndsSo look forms) seen (c ∷ todo) k at
       met k at x = elim p [
@@ -96,14 +98,17 @@ module _ {N : Type 0} (look : Contents N) (forms : Forms N) (told : IsTold (Inst
     where
       to_next : LeadsOver (EndsSo look forms) q c
       to_next = s.led c (back_among c seen (c ∷ todo) (inl refl))
+
       led_on : (d : End N (Formula N)) → EndsSo look forms c d → (i : Instance N) → Among i (asked_in d) →
           LeadsOver (EndsSo look forms) q i
       led_on (Made f) y i a = one_further (EndsSo look forms) q c i f y a to_next
       led_on (Spoilt k at) y i a = absurd a
+
       closed : (d : End N (Formula N)) → EndsSo look forms c d → (j : Instance N) →
           Closes look forms below (c ∷ seen) (asked_in d ++ todo) j → Closes look forms below seen (c ∷ todo) j
       closed (Made f) y j z = closes.formed c f off fresh y z
       closed (Spoilt k at) y j z = closes.spoilt c at k off fresh y z
+
       met : (d : End N (Formula N)) → EndsSo look forms c d → ((k : FaultKind) (at : Instance N) →
           Meets (EndsSo look forms) seen (c ∷ todo) k at → Meets (EndsSo look forms) [] (q ∷ []) k at) →
           HasMet look forms q ⊎ ((k : FaultKind) (at : Instance N) →

@@ -22,7 +22,7 @@ module _ {N : Type 0} (look : Contents N) (forms : Forms N) where
   leads_over _ j k (stays _) l = l
   leads_over _ j k (goes i m _ f h a r) l = led.goes i m k (inr (f, h, a)) (leads_over m j k r l)
 
-  leads_by : (i j k : Instance N) → Leads look forms i j → Leads look forms j k → Leads look forms i k
+  pub leads_by : (i j k : Instance N) → Leads look forms i j → Leads look forms j k → Leads look forms i k
   leads_by _ _ k (led.stays i) l = l
   leads_by _ _ k (led.goes i m j c r) l = led.goes i m k c (leads_by m j k r l)
 
@@ -57,11 +57,16 @@ demanded_fault look forms i k f at (Demands m c) (inl e) (n, h) =
     (n, inr (f, at, subst (λ z. HoldsAt look forms n z (Faults f at)) (sym e) h, refl))
 demanded_fault look forms i k f at (Demands m c) (inr (v, (d, g), x)) h =
     let (n, y) = demanded_fault look forms i k f at (c v) x h in
-    let p : n + d ≡ d + n = omega arith in
-    (d + n, inl (v, higher look forms d n m (Finds v) g,
-    subst (λ z. Ends look (HoldsAt look forms z) i (c v) (Spoilt f at)) p
-    (ends_more look (HoldsAt look forms n) (HoldsAt look forms (n + d)) (λ j o z. higher look forms n d j o z) i (c v)
-    (Spoilt f at) y)))
+    let p : n + d ≡ d + n = omega arith in (
+      d + n,
+      inl (
+        v,
+        higher look forms d n m (Finds v) g,
+        subst (λ z. Ends look (HoldsAt look forms z) i (c v) (Spoilt f at)) p
+            (ends_more look (HoldsAt look forms n) (HoldsAt look forms (n + d)) (λ j o z. higher look forms n d j o z) i (c v)
+            (Spoilt f at) y),
+      ),
+    )
 
 -- The question q has come so far between two tries.
 pub record IsBetween {N : Type 0} (look : Contents N) (forms : Forms N) (q : Instance N) (s : Looked N) : Type 0 where
@@ -218,10 +223,10 @@ module _ {N : Type 0} (look : Contents N) (forms : Forms N) (told : IsTold (Inst
   past_on s o v k =
       let (c, fresh, shut) = o.last in
       let l = subst (λ z. Leads look forms z s.last.next) o.starts
-          (leads_by look forms (asked s) s.last.root s.last.next (root_led look forms s.last.root s.below o.stacked)
-          (leads_over look forms s.last.root s.last.next s.last.next
-          (c.led s.last.next (back_among s.last.next s.last.seen (s.last.next ∷ s.last.todo) (inl refl)))
-          (led.stays s.last.next))) in
+      (leads_by look forms (asked s) s.last.root s.last.next (root_led look forms s.last.root s.below o.stacked)
+      (leads_over look forms s.last.root s.last.next s.last.next
+      (c.led s.last.next (back_among s.last.next s.last.seen (s.last.next ∷ s.last.todo) (inl refl)))
+      (led.stays s.last.next))) in
       record {
         starts = o.starts;
         come = has_passed look forms told (under s.below) s.last.root s.last.seen s.last.next s.last.todo valued c
@@ -270,9 +275,20 @@ module _ {N : Type 0} (look : Contents N) (forms : Forms N) (told : IsTold (Inst
       let to_next = c.led s.last.next (back_among s.last.next s.last.seen (s.last.next ∷ s.last.todo) (inl refl)) in
       let lost = wants_none look forms s.last.root j (record { by = s.last.next; led = to_next; demands = r }) none in
       let x = closes_down look forms s.last.root s.below j b.stacked lost
-          (c.closes j (closes.comes_back s.last.next j shut fresh (r, none) under_way)) in
+      (c.closes j (closes.comes_back s.last.next j shut fresh (r, none) under_way)) in
       let y : Answers look forms q (Circle j) = subst (λ z. Circular look forms z j) b.starts x in
       let d : Circle j ≡ a = cc in subst (Answers look forms q) d y
   turned_answers s _ _ a b (turn.deepens j r off unknown) e = absurd cc
   turned_answers s new o a b (turn.settles more m y) e =
       turned_answers (record s { told = more }) new o a (settled_on s b more m) y e
+
+-- a question as it is posted
+pub begun_on : {N : Type 0} (look : Contents N) (forms : Forms N) → IsTold (Instance N) → (q : Instance N) →
+    IsOn look forms q (posted q)
+begun_on look forms told q = record {
+  starts = refl;
+  last = (has_begun look forms told [] q, (λ a. a), (λ o. o.0));
+  stacked = tt;
+  told = λ i o h. absurd h;
+  ended = λ i h. absurd h;
+}

@@ -31,10 +31,14 @@ module _ {N : Type 0} (E : Ending N) (Good : End N (Formula N) → Type 0) (seen
   gathered (j ∷ is) all =
       let (W, c, p) = gathered is (λ i h. all i (inr h)) in
       elim (all j (inl refl)) [
-        | inl (V, d, a) ↦ (V ++ W, joined_closed V W d c, λ i h. elim h [
+        | inl (V, d, a) ↦ (
+          V ++ W,
+          joined_closed V W d c,
+          λ i h. elim h [
             | inl e ↦ inl (front_among i V W (subst (λ z. Among z V) (sym e) a))
             | inr g ↦ elim (p i g) [ inl b ↦ inl (back_among i V W b) | inr b ↦ inr b ]
-        ])
+          ],
+        )
         | inr a ↦ (W, c, λ i h. elim h [ inl e ↦ inr (subst (λ z. Among z seen) (sym e) a) | inr g ↦ p i g ])
       ]
 
@@ -47,31 +51,52 @@ module _ {N : Type 0} (E : Ending N) (Good : End N (Formula N) → Type 0) (seen
   all_gathered (j ∷ js) all =
       let (W, c, p) = all_gathered js (λ i h. all i (inr h)) in
       let x = all j (inl refl) in
-      let (V, d, q) = gathered (asked_in x.end) x.next in
-      (V ++ W, joined_closed V W d c, λ i h. elim h [
-        | inl e ↦ subst (λ z. EndsWell E Good (λ k. Among k (V ++ W) ⊎ Among k seen) z) (sym e)
-            (record { end = x.end; ends = x.ends; good = x.good; next = λ k b. elim (q k b) [
-              | inl a ↦ inl (front_among k V W a)
-              | inr a ↦ inr a
-            ] })
-        | inr g ↦ let y = p i g in record { end = y.end; ends = y.ends; good = y.good; next = λ k b. elim (y.next k b) [
+      let (V, d, q) = gathered (asked_in x.end) x.next in (
+        V ++ W,
+        joined_closed V W d c,
+        λ i h. elim h [
+          | inl e ↦ subst (λ z. EndsWell E Good (λ k. Among k (V ++ W) ⊎ Among k seen) z) (sym e)
+              (record {
+                end = x.end;
+                ends = x.ends;
+                good = x.good;
+                next = λ k b. elim (q k b) [
+                  | inl a ↦ inl (front_among k V W a)
+                  | inr a ↦ inr a
+                ];
+              })
+          | inr g ↦ let y = p i g in record {
+            end = y.end;
+            ends = y.ends;
+            good = y.good;
+            next = λ k b. elim (y.next k b) [
               | inl a ↦ inl (back_among k V W a)
               | inr a ↦ inr a
-            ] }
-      ])
+            ];
+          }
+        ],
+      )
 
   -- what was seen is whole, where it leads to what is whole or was seen
   pub seen_whole : ((j : Instance N) → Among j seen → EndsWell E Good (λ k. IsClosedIn E Good k ⊎ Among k seen) j) →
       (i : Instance N) → Among i seen → IsClosedIn E Good i
   seen_whole all i h =
-      let (W, c, p) = all_gathered seen all in
-      (seen ++ W, (λ j g. elim (either_among j seen W g) [
-        | inl a ↦ let x = p j a in record { end = x.end; ends = x.ends; good = x.good; next = λ k b. elim (x.next k b) [
+      let (W, c, p) = all_gathered seen all in (
+        seen ++ W,
+        (λ j g. elim (either_among j seen W g) [
+          | inl a ↦ let x = p j a in record {
+            end = x.end;
+            ends = x.ends;
+            good = x.good;
+            next = λ k b. elim (x.next k b) [
               | inl d ↦ back_among k seen W d
               | inr d ↦ front_among k seen W d
-            ] }
-        | inr a ↦ let x = c j a in record { end = x.end; ends = x.ends; good = x.good; next = λ k b. back_among k seen W (x.next k b) }
-      ]), front_among i seen W h)
+            ];
+          }
+          | inr a ↦ let x = c j a in record { end = x.end; ends = x.ends; good = x.good; next = λ k b. back_among k seen W (x.next k b) }
+        ]),
+        front_among i seen W h,
+      )
 
 module _ {N : Type 0} (look : Contents N) (forms : Forms N) (Good : End N (Formula N) → Type 0) where
   ended_higher : (n d : ℕ) (all js : List (Instance N)) → EndIn (EndsAt look forms n) all js →
@@ -89,9 +114,13 @@ module _ {N : Type 0} (look : Contents N) (forms : Forms N) (Good : End N (Formu
       let x = h j (inl refl) in
       let (m, y) = x.ends in
       let (n, l) = ended_at_one all js (λ k a. h k (inr a)) in
-      let q : n + m ≡ m + n = omega arith in
-      (m + n, ((x.end, ends_higher look forms m n j x.end y, all_among look forms (asked_in x.end) all x.next),
-      subst (λ z. EndIn (EndsAt look forms z) all js) q (ended_higher n m all js l)))
+      let q : n + m ≡ m + n = omega arith in (
+        m + n,
+        (
+          (x.end, ends_higher look forms m n j x.end y, all_among look forms (asked_in x.end) all x.next),
+          subst (λ z. EndIn (EndsAt look forms z) all js) q (ended_higher n m all js l),
+        ),
+      )
 
   -- a search among them meets what it meets at that depth
   meets_at : (n : ℕ) (W : List (Instance N)) → AreClosed (EndsSo look forms) Good W →
@@ -117,9 +146,14 @@ module _ {N : Type 0} (look : Contents N) (forms : Forms N) (Good : End N (Formu
       let (n, l) = ended_at_one W W c in
       let ends = are_ended (EndsAt look forms n) (ends_at look forms n n) W l in
       let same : (j : Instance N) → Among j W → (e : End N (Formula N)) → EndsSo look forms j e → EndsAt look forms n j e =
-          λ j a e y. at_one n W l j a e y in
-      (suc n, (ends q h, meets_at n W c same [] (q ∷ []) k at
-      (λ j a. elim a [ inl e ↦ subst (λ z. Among z W) (sym e) h | inr u ↦ absurd u ]) x))
+      λ j a e y. at_one n W l j a e y in (
+        suc n,
+        (
+          ends q h,
+          meets_at n W c same [] (q ∷ []) k at
+              (λ j a. elim a [ inl e ↦ subst (λ z. Among z W) (sym e) h | inr u ↦ absurd u ]) x,
+        ),
+      )
     where
       at_one : (n : ℕ) (W : List (Instance N)) → EndIn (EndsAt look forms n) W W → (j : Instance N) → Among j W →
           (e : End N (Formula N)) → EndsSo look forms j e → EndsAt look forms n j e
