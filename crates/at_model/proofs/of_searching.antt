@@ -7,3 +7,4 @@ pub mod Wholes
 pub mod Steps
 pub mod Turned
 pub mod ByRules
+pub mod Closing

@@ -80,6 +80,12 @@ AreStacked look forms root [] = Unit {0}
 AreStacked look forms root (l ∷ ls) = Reaches look (HasValue look forms) (forms.formula l.next) root
     × (¬ (Among root (under (l ∷ ls)))) × IsAt look forms (under ls) l × AreStacked look forms l.root ls
 
+-- formulas lead from it to the next one of one of these levels
+pub data LeadsToNext {N : Type 0} (look : Contents N) (forms : Forms N) : List (Level N) → Instance N → Type 0 where
+  here : {l : Level N} {ls : List (Level N)} {i : Instance N} → LeadsOver (EndsSo look forms) i l.next →
+      LeadsToNext look forms (l ∷ ls) i
+  below : {l : Level N} {ls : List (Level N)} {i : Instance N} → LeadsToNext look forms ls i → LeadsToNext look forms (l ∷ ls) i
+
 -- The question q has come so far on this tree: each level's search has, the levels are those of demands, and what was told holds.
 pub record IsOn {N : Type 0} (look : Contents N) (forms : Forms N) (q : Instance N) (s : Search N) : Type 0 where
   pub starts : asked s ≡ q
