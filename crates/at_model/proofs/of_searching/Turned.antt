@@ -233,8 +233,14 @@ module _ {N : Type 0} (look : Contents N) (forms : Forms N) (told : IsTold (Inst
             (inr (whole s.last.next v l (right s.last.next v k)));
         stacked = o.stacked;
         told = o.told;
-        ended = o.ended;
+        ended = λ i h. elim h [
+          | inl p ↦ subst (λ z. (e : End N (Formula N)) × EndsSo look forms z e) (sym p) (end_of s.last.next (whole s.last.next v l (right s.last.next v k)))
+          | inr a ↦ o.ended i a
+        ];
       }
+    where
+      end_of : (i : Instance N) → IsWhole look forms i → (e : End N (Formula N)) × EndsSo look forms i e
+      end_of i (W, c, h) = let x = c i h in (x.end, x.ends)
 
   settled_on : (s : Search N) → IsOn look forms q s → (more : List (Instance N × Outcome N)) →
       Adds look forms (under (s.last ∷ s.below)) s.told more → IsOn look forms q (record s { told = more })
@@ -251,9 +257,9 @@ module _ {N : Type 0} (look : Contents N) (forms : Forms N) (told : IsTold (Inst
       o ≡ None → IsOn look forms q new
   turned_on s _ _ b (turn.is_kept v k h) e = absurd cc
   turned_on s new o b (turn.passed v k y) e = follows_on (past s) new o (past_on s b v k) y e
-  turned_on s new o b (turn.ends d x off y) e = follows_on (behind s d) new o (behind_on s b d x) y e
+  turned_on s new o b (turn.ends d x y) e = follows_on (behind s d) new o (behind_on s b d x) y e
   turned_on s _ _ b (turn.closes j r i) e = absurd cc
-  turned_on s _ _ b (turn.deepens j r off unknown) e = record {
+  turned_on s _ _ b (turn.deepens j r off unknown fresh) e = record {
     starts = b.starts;
     last = (has_begun look forms told (under (s.last ∷ s.below)) j, (λ a. a), (λ i. off i.0));
     stacked = (r, off, b.last, b.stacked);
@@ -269,7 +275,7 @@ module _ {N : Type 0} (look : Contents N) (forms : Forms N) (told : IsTold (Inst
       let d : Outcomes (Finds v) ≡ a = cc in
       subst (Answers look forms q) d (subst (λ z. HasValue look forms z v) b.starts h)
   turned_answers s new o a b (turn.passed v k y) e = follows_answers (past s) new o a (past_on s b v k) y e
-  turned_answers s new o a b (turn.ends d x off y) e = follows_answers (behind s d) new o a (behind_on s b d x) y e
+  turned_answers s new o a b (turn.ends d x y) e = follows_answers (behind s d) new o a (behind_on s b d x) y e
   turned_answers s _ _ a b (turn.closes j r (under_way, none)) e =
       let (c, fresh, shut) = b.last in
       let to_next = c.led s.last.next (back_among s.last.next s.last.seen (s.last.next ∷ s.last.todo) (inl refl)) in
@@ -278,7 +284,7 @@ module _ {N : Type 0} (look : Contents N) (forms : Forms N) (told : IsTold (Inst
       (c.closes j (closes.comes_back s.last.next j shut fresh (r, none) under_way)) in
       let y : Answers look forms q (Circle j) = subst (λ z. Circular look forms z j) b.starts x in
       let d : Circle j ≡ a = cc in subst (Answers look forms q) d y
-  turned_answers s _ _ a b (turn.deepens j r off unknown) e = absurd cc
+  turned_answers s _ _ a b (turn.deepens j r off unknown fresh) e = absurd cc
   turned_answers s new o a b (turn.settles more m y) e =
       turned_answers (record s { told = more }) new o a (settled_on s b more m) y e
 

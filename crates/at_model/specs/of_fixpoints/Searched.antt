@@ -1,10 +1,11 @@
 -- What is true of a question's search on its tree.
 use Rattle.std.specs.Prelude.{◌≡◌, ◌⊎◌, ℕ, List, [], ◌∷◌, ◌++◌}
 use Rattle.at_model.specs.Run.{Instance, Contents, FaultKind}
-use Rattle.at_model.specs.Meaning.{Outcome, Among, Reaches}
+use Rattle.at_model.specs.Meaning.{Outcome, Among, Distinct, Reaches}
 use Rattle.at_model.specs.of_fixpoints.Formulas.{Formula, atoms, Forms}
 use Rattle.at_model.specs.of_fixpoints.Fixpoints.{End, Made, Spoilt, LeadsOver, Meets, Holds, HasValue, EndsSo}
 use Rattle.at_model.specs.of_fixpoints.Circles.{IsOpen, Closes}
+use Rattle.at_model.specs.of_fixpoints.Resting.{Leads}
 use Rattle.at_model.specs.of_fixpoints.Searching.{Level, Search, asked, asked_in, under}
 
 -- the equation gives a formula
@@ -93,3 +94,13 @@ pub record IsOn {N : Type 0} (look : Contents N) (forms : Forms N) (q : Instance
   pub stacked : AreStacked look forms s.last.root s.below
   pub told : (i : Instance N) (o : Outcome N) → Among (i, o) s.told → Holds look forms i o
   pub ended : (i : Instance N) → Among i s.ended → (e : End N (Formula N)) × EndsSo look forms i e
+
+-- the instances whose equations are tried at these levels
+abbrev pub tried_at : {N : Type 0} → List (Level N) → List (Instance N)
+tried_at [] = []
+tried_at (l ∷ ls) = l.next ∷ tried_at ls
+
+-- No equation is tried twice: those that are tried, and those that have ended, are apart, and what was asked leads to each.
+pub record IsFresh {N : Type 0} (look : Contents N) (forms : Forms N) (q : Instance N) (tried ended : List (Instance N)) : Type 0 where
+  pub apart : Distinct (tried ++ ended)
+  pub led : (i : Instance N) → Among i (tried ++ ended) → Leads look forms q i

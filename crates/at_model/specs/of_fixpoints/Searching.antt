@@ -1,6 +1,6 @@
 -- A question of circular attributes that is given turns: a search, level by level of strict demands; how far it has come, and what
 -- one turn may do. Where no attribute is circular each level has one instance, and the levels are the chain of `Turning`.
-use Rattle.std.specs.Prelude.{◌≡◌, ◌⊎◌, ℕ, List, [], ◌∷◌, ◌++◌, Option, Some, None}
+use Rattle.std.specs.Prelude.{◌≡◌, ◌⊎◌, ℕ, suc, ◌+◌, ◌*◌, List, [], ◌∷◌, ◌++◌, length, Option, Some, None}
 use Rattle.at_model.specs.Run.{Value, Instance, Contents, FaultKind, Known}
 use Rattle.at_model.specs.Meaning.{Outcome, Finds, Faults, Among, Reaches, Answer, Outcomes, Circle}
 use Rattle.at_model.specs.of_fixpoints.Formulas.{Formula, atoms, Forms}
@@ -89,7 +89,14 @@ behind s e = record {
 
 -- the question where the last level's next one is passed
 abbrev pub past : {N : Type 0} → Search N → Looked N
-past s = record { root = s.last.root; seen = s.last.seen; todo = s.last.todo; below = s.below; ended = s.ended; told = s.told }
+past s = record {
+  root = s.last.root;
+  seen = s.last.seen;
+  todo = s.last.todo;
+  below = s.below;
+  ended = s.last.next ∷ s.ended;
+  told = s.told;
+}
 
 -- the question at an instance of the last level, with those behind it
 abbrev pub gone_to : {N : Type 0} → Looked N → Instance N → List (Instance N) → Search N
@@ -163,12 +170,23 @@ pub data Turned {N : Type 0} (look : Contents N) (forms : Forms N) (kept : Known
   passed : {s new : Search N} {o : Option (Answer N)} (v : Value N) → kept s.last.next ≡ Some v →
       Follows look forms kept (past s) new o → Turned look forms kept s new o
   ends : {s new : Search N} {o : Option (Answer N)} (e : End N (Formula N)) → EndsSo look forms s.last.next e →
-      (¬ (Among s.last.next s.ended)) → Follows look forms kept (behind s e) new o → Turned look forms kept s new o
+      Follows look forms kept (behind s e) new o → Turned look forms kept s new o
   closes : {s : Search N} (j : Instance N) → Reaches look (HasValue look forms) (forms.formula s.last.next) j →
       IsOpen look forms (under (s.last ∷ s.below)) j → Turned look forms kept s s (Some (Circle j))
   deepens : {s : Search N} (j : Instance N) → Reaches look (HasValue look forms) (forms.formula s.last.next) j →
-      (¬ (Among j (under (s.last ∷ s.below)))) → (¬ (IsValued kept s.told j)) →
+      (¬ (Among j (under (s.last ∷ s.below)))) → (¬ (IsValued kept s.told j)) → (¬ (Among j s.ended)) →
       Turned look forms kept s (record s { last = begun j; below = s.last ∷ s.below }) None
   settles : {s new : Search N} {o : Option (Answer N)} (told : List (Instance N × Outcome N)) →
       Adds look forms (under (s.last ∷ s.below)) s.told told → Turned look forms kept (record s { told = told }) new o →
       Turned look forms kept s new o
+
+-- so many turns without an answer, whatever is kept at each of them
+pub data Silent {N : Type 0} (look : Contents N) (forms : Forms N) : ℕ → Search N → Search N → Type 0 where
+  none : (s : Search N) → Silent look forms 0 s s
+  one_more : {n : ℕ} {s mid new : Search N} (kept : Known N) →
+      ((i : Instance N) (v : Value N) → kept i ≡ Some v → HasValue look forms i v) → Silent look forms n s mid →
+      Turned look forms kept mid new None → Silent look forms (suc n) s new
+
+-- how many they can be: two for each equation that has ended, and one for each level that waits
+abbrev pub most_turns : {N : Type 0} → Search N → ℕ
+most_turns s = 2 * length s.ended + length s.below
