@@ -8,3 +8,4 @@ pub mod Steps
 pub mod Turned
 pub mod ByRules
 pub mod Closing
+pub mod FewTurns

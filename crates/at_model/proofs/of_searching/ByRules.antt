@@ -1,5 +1,5 @@
 -- Searches by rules, over a tree.
-use Rattle.std.proofs.Common.{◌≡◌, ◌⊎◌, ℕ, zero, suc, Bool, true, false, List, [], ◌∷◌, Option, Some, None, inl, inr, refl, sym, subst, ◌∙◌}
+use Rattle.std.proofs.Common.{◌≡◌, ◌⊎◌, ℕ, zero, suc, ◌+◌, ◌*◌, ◌≤◌, length, Bool, true, false, List, [], ◌∷◌, Option, Some, None, inl, inr, refl, sym, subst, ◌∙◌}
 use Rattle.at_model.specs.Run.{Value, Instance, Contents, Known}
 use Rattle.at_model.specs.Rules.{Rules, start_of}
 use Rattle.at_model.specs.Trees.{Tree}
@@ -14,7 +14,7 @@ use Rattle.at_model.specs.of_fixpoints.Formulas as formula
 use Rattle.at_model.specs.of_fixpoints.Fixpoints.{End, Made, Spoilt, LeadsOver, stays, goes, Valued, EndsAt, EndsSo, HasForm, HasValue, AreFormed}
 use Rattle.at_model.specs.of_fixpoints.Circles.{HasNone, Answers}
 use Rattle.at_model.specs.of_fixpoints.Resting.{Leads}
-use Rattle.at_model.specs.of_fixpoints.Searching.{Search, Turned, asked_in}
+use Rattle.at_model.specs.of_fixpoints.Searching.{Search, Silent, Turned, asked_in, posted}
 use Rattle.at_model.specs.of_fixpoints.Searched.{IsMade, EndsWell, AreClosed, IsWhole, IsOn}
 use Rattle.at_model.proofs.Computed.{is_among, among_sound, among_is}
 use Rattle.at_model.proofs.of_formulas.UniqueOutcomes.{ends_at}
@@ -24,6 +24,7 @@ use Rattle.at_model.proofs.of_formulas.FormulasTogether.{listed}
 use Rattle.at_model.proofs.of_formulas.Solved.{component_valued, one_depth}
 use Rattle.at_model.proofs.of_formulas.StartsKept.{of_none}
 use Rattle.at_model.proofs.of_searching.Thinning.{IsTold}
+use Rattle.at_model.proofs.of_searching.FewTurns.{few_turns}
 use Rattle.at_model.proofs.of_searching.Turned as turned
 
 -- whether an instance is one of a list can be told
@@ -100,3 +101,10 @@ module _ (rules : Rules) (ok : AreWellFormed rules) (t : Tree) (sound : IsTreeSo
       Turned (content t) (forms rules) kept s new (Some a) → Answers (content t) (forms rules) q a
   answered kept right s new a on x =
       turned.turned_answers (content t) (forms rules) told kept right q whole (valued rules t) s new (Some a) a on x refl
+
+  -- it has few turns without an answer
+  pub few_of_rules : (n : ℕ) (s : Search Node) → Silent (content t) (forms rules) n (posted q) s →
+      n + 2 ≤ 2 * length (instances rules t q.arguments)
+  few_of_rules n s x =
+      few_turns (content t) (forms rules) told q whole (valued rules t) (instances rules t q.arguments)
+      (λ i l. listed rules ok t sound q formed i l) n s x

@@ -18,7 +18,7 @@ use Rattle.at_model.proofs.of_searching.Strictly.{wants_none, stuck_none}
 use Rattle.at_model.proofs.of_searching.Steps.{has_begun, has_passed, has_seen}
 
 module _ {N : Type 0} (look : Contents N) (forms : Forms N) where
-  leads_over : (i j k : Instance N) → LeadsOver (EndsSo look forms) i j → Leads look forms j k → Leads look forms i k
+  pub leads_over : (i j k : Instance N) → LeadsOver (EndsSo look forms) i j → Leads look forms j k → Leads look forms i k
   leads_over _ j k (stays _) l = l
   leads_over _ j k (goes i m _ f h a r) l = led.goes i m k (inr (f, h, a)) (leads_over m j k r l)
 
@@ -88,7 +88,7 @@ module _ {N : Type 0} (look : Contents N) (forms : Forms N) (told : IsTold (Inst
   pass_of s b i l (inr (v, inr t)) = inr (whole i v l (b.told i (Finds v) t))
 
   -- all to do is led to
-  led_to : (s : Looked N) → IsBetween look forms q s → (i : Instance N) → Among i s.todo → Leads look forms q i
+  pub led_to : (s : Looked N) → IsBetween look forms q s → (i : Instance N) → Among i s.todo → Leads look forms q i
   led_to s b i a =
       subst (λ z. Leads look forms z i) b.starts
       (leads_by look forms (root_of s.root s.below) s.root i (root_led look forms s.root s.below b.stacked)
@@ -110,7 +110,7 @@ module _ {N : Type 0} (look : Contents N) (forms : Forms N) (told : IsTold (Inst
   first_at s b i rest f = passes_to s b s.todo i rest (led_to s b) b.come f
 
   -- between two tries, past one whose equation has ended
-  over_on : (s : Looked N) → IsBetween look forms q s → (i : Instance N) (rest : List (Instance N)) (e : End N (Formula N)) →
+  pub over_on : (s : Looked N) → IsBetween look forms q s → (i : Instance N) (rest : List (Instance N)) (e : End N (Formula N)) →
       First (IsPassed kept s) s.todo i rest → (¬ (IsOpen look forms (under s.below) i)) → EndsSo look forms i e →
       IsBetween look forms q (gone_over s i rest e)
   over_on s b i rest e f shut x =
@@ -124,7 +124,7 @@ module _ {N : Type 0} (look : Contents N) (forms : Forms N) (told : IsTold (Inst
       }
 
   -- at the level below, where the last one's outcome is told
-  fallen_on : (s : Looked N) → IsBetween look forms q s → (l : Level N) (ls : List (Level N))
+  pub fallen_on : (s : Looked N) → IsBetween look forms q s → (l : Level N) (ls : List (Level N))
       (more : List (Instance N × Outcome N)) → s.below ≡ l ∷ ls →
       ((i : Instance N) (o : Outcome N) → Among (i, o) more → Holds look forms i o) → IsOn look forms q (fallen_to s l ls more)
   fallen_on s b l ls more e holds =
@@ -158,7 +158,7 @@ module _ {N : Type 0} (look : Contents N) (forms : Forms N) (told : IsTold (Inst
       (i : Instance N) (o : Outcome N) → Among (i, o) more → Holds look forms i o
   adds_hold these told' more a h i o m = elim (a.holds i o m) [ inl t ↦ h i o t | inr (w, g) ↦ g ]
 
-  with_fault : (s : Looked N) → IsBetween look forms q s → (k : FaultKind) (at : Instance N) →
+  pub with_fault : (s : Looked N) → IsBetween look forms q s → (k : FaultKind) (at : Instance N) →
       Holds look forms s.root (Faults k at) → (i : Instance N) (o : Outcome N) →
       Among (i, o) ((s.root, Faults k at) ∷ s.told) → Holds look forms i o
   with_fault s b k at h i o (inl p) = let d : i ≡ s.root = ap (λ (x : Instance N × Outcome N). x.0) p in let g : o ≡ Faults k at = ap (λ (x : Instance N × Outcome N). x.1) p in
@@ -166,7 +166,7 @@ module _ {N : Type 0} (look : Contents N) (forms : Forms N) (told : IsTold (Inst
   with_fault s b k at h i o (inr a) = b.told i o a
 
   -- where the level below demanded that, its equation has ended by the fault
-  spoilt_below : (s : Looked N) → IsBetween look forms q s → (l : Level N) (ls : List (Level N)) → s.below ≡ l ∷ ls →
+  pub spoilt_below : (s : Looked N) → IsBetween look forms q s → (l : Level N) (ls : List (Level N)) → s.below ≡ l ∷ ls →
       (k : FaultKind) (at : Instance N) → Holds look forms s.root (Faults k at) → EndsSo look forms l.next (Spoilt k at)
   spoilt_below s b l ls e k at h =
       let (demands, off, come, rest) = subst (AreStacked look forms s.root) e b.stacked in
@@ -219,7 +219,7 @@ module _ {N : Type 0} (look : Contents N) (forms : Forms N) (told : IsTold (Inst
       (fallen_on s b l ls ((s.root, Faults k at) ∷ s.told) below (with_fault s b k at h)) (Spoilt k at)
       (spoilt_below s b l ls below k at h)) y e
 
-  past_on : (s : Search N) → IsOn look forms q s → (v : Value N) → kept s.last.next ≡ Some v → IsBetween look forms q (past s)
+  pub past_on : (s : Search N) → IsOn look forms q s → (v : Value N) → kept s.last.next ≡ Some v → IsBetween look forms q (past s)
   past_on s o v k =
       let (c, fresh, shut) = o.last in
       let l = subst (λ z. Leads look forms z s.last.next) o.starts
@@ -242,7 +242,7 @@ module _ {N : Type 0} (look : Contents N) (forms : Forms N) (told : IsTold (Inst
       end_of : (i : Instance N) → IsWhole look forms i → (e : End N (Formula N)) × EndsSo look forms i e
       end_of i (W, c, h) = let x = c i h in (x.end, x.ends)
 
-  settled_on : (s : Search N) → IsOn look forms q s → (more : List (Instance N × Outcome N)) →
+  pub settled_on : (s : Search N) → IsOn look forms q s → (more : List (Instance N × Outcome N)) →
       Adds look forms (under (s.last ∷ s.below)) s.told more → IsOn look forms q (record s { told = more })
   settled_on s o more a = record {
     starts = o.starts;
