@@ -21,6 +21,8 @@ ghost use Rattle.at_demand.specs.Right.{IsThere};
 ghost use Rattle.at_demand.specs.Traces.{AreJustified, AreOfTree, StayJustified};
 ghost use Rattle.at_cache.specs.Traced.{FlushesTraces, StayTraced};
 
+mod keeping;
+mod searching;
 mod shared;
 mod turning;
 

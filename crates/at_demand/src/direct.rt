@@ -230,6 +230,9 @@ impl Direct {
             self.new.found.entries self.old.work self.new.work }
         ensures traces { StayJustified basis.now.rules.now basis.now.store.now needed (K.memories keeper.old) (K.memories keeper.new) }
     {
+        if basis.rules.start_of(needed.attribute()).is_some() {
+            return Err(Stop::GivesUp);
+        }
         let verified = self.verify(keeper, basis, level, &needed, above)?;
         match verified {
             Some(value) => Ok(value),

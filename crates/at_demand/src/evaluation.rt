@@ -16,8 +16,9 @@ ghost use Rattle.at_demand.specs.Advancing.{HasBegun, HasGoneOn};
 ghost use Rattle.at_demand.specs.Covering.{Takes};
 ghost use Rattle.at_demand.specs.Only.{TakesOne};
 
+use crate::ended::Formed;
 use crate::locations::Locations;
-use at_body::{Inst, Step, Trial, Value};
+use at_body::{FaultKind, Formula, Forming, Inst, Progress, Step, Trial, Value};
 use at_cache::Keeper;
 use at_rules::Rules;
 use at_store::Store;
@@ -41,20 +42,36 @@ impl Drop for Demanded {
     }
 }
 
+// An evaluation under way: of an attribute that isn't circular to a value, else to a formula.
+#[derive(Drop)]
+pub enum Trying<'a> {
+    Value(Trial<'a>),
+    Formula(Box<Forming<'a>>),
+}
+
 // An evaluation under way, and the instances whose values it took.
 pub struct Frame<'a> {
-    pub trial: Trial<'a>,
-    pub demanded: Demanded,
+    trying: Trying<'a>,
+    demanded: Demanded,
 }
 
 /// One call, as that of `Demanded` is.
 impl Drop for Frame<'_> {
     fn drop(self) {
         let Frame {
-            trial: _,
+            trying: _,
             demanded: _,
         } = self;
     }
+}
+
+// What an evaluation comes to.
+#[derive(Drop)]
+pub enum Came {
+    Value(Value),
+    Formula(Formula),
+    Fault(FaultKind),
+    Need(Inst),
 }
 
 // The value of an instance, the locations that its own evaluation read, and the instances whose values that took.
@@ -113,18 +130,17 @@ impl<'a> Frame<'a> {
         rules: &'a Rules,
         store: &'a Store,
         inst: &Inst,
-    ) -> Result<(Frame<'a>, Step), AllocError>
-        requires idle { IsIdle store.now }
-        requires formed { AreWellFormed rules.now }
-        requires sound { IsTreeSound rules.now.classes (tree store.now) }
-        requires typed { IsWellTyped rules.now (class_shown store.now) AnyText inst.now }
-        ensures { IfOk result (λ r. HasBegun rules.now store.now inst.now r.0 r.1) }
-    {
+    ) -> Result<(Frame<'a>, Came), AllocError> {
+        let demanded = Demanded::new(alloc);
+        if rules.start_of(inst.attribute()).is_some() {
+            let begun = Forming::start(alloc, rules, store, inst)?;
+            let trying = Trying::Formula(Box::new(alloc, begun.0)?);
+            return Ok((Frame { trying, demanded }, formed(begun.1)));
+        }
         let mut trial = Trial::new(alloc);
         let step = trial.restart(alloc, rules, store, inst)?;
-        let demanded = Demanded::new(alloc);
-        let frame = Frame { trial, demanded };
-        Ok((frame, step))
+        let trying = Trying::Value(trial);
+        Ok((Frame { trying, demanded }, tried(step)))
     }
 
     // Goes on with each value that is known, up to the end or to an instance that isn't.
@@ -136,43 +152,79 @@ impl<'a> Frame<'a> {
         found: &IndexMap<Inst, Find>,
         rules: &'a Rules,
         store: &'a Store,
-        step: Step,
-    ) -> Result<Step, AllocError>
-        requires idle { IsIdle store.now }
-        requires formed { AreWellFormed rules.now }
-        requires sound { IsTreeSound rules.now.classes (tree store.now) }
-        requires right { Right (contents store.now) (meaning rules.now) (known_in (K.contents keeper.now) found.now.entries) }
-        requires typed { IsTypedStep rules.now (class_shown store.now) step self.old.trial }
-        requires kept { AreValued (K.contents keeper.now) self.old.demanded.kept.items }
-        ensures { IfOk result (HasGoneOn rules.now store.now (K.contents keeper.now) found.now.entries self.old step self.new) }
-    {
-        let mut step = step;
+        came: Came,
+    ) -> Result<Came, AllocError> {
+        let mut came = came;
         loop {
-            match step {
-                Step::Need(needed) => match self.demanded.recall(keeper, found, needed)? {
-                    Recalled::Value(value) => {
-                        step = self.trial.resume(alloc, rules, store, value)?;
-                    }
-                    Recalled::Unknown(needed) => return Ok(Step::Need(needed)),
+            match came {
+                Came::Need(needed) => match self.demanded.recall(keeper, found, needed)? {
+                    Recalled::Value(value) => came = self.resume(alloc, rules, store, value)?,
+                    Recalled::Unknown(needed) => return Ok(Came::Need(needed)),
                 },
                 ended => return Ok(ended),
             }
         }
     }
 
+    // Goes on with the value that it waits for.
+    fn resume(
+        &mut self,
+        alloc: Global,
+        rules: &'a Rules,
+        store: &'a Store,
+        value: Value,
+    ) -> Result<Came, AllocError> {
+        match &mut self.trying {
+            Trying::Value(trial) => Ok(tried(trial.resume(alloc, rules, store, value)?)),
+            Trying::Formula(forming) => Ok(formed(forming.resume(alloc, rules, store, value)?)),
+        }
+    }
+
     // What it found, at its end, with its own lists: it is used no more.
-    pub fn take_find(&mut self, alloc: Global, value: Value) -> Find
-        ensures value { result.value ≡ value }
-        ensures demanded { result.demanded ≡ self.old.demanded }
-        ensures reads { map loc_view result.reads.items ≡ self.old.trial.reads }
-    {
-        let reads = Locations::from_vec(self.trial.take_reads(alloc));
+    pub fn take_find(&mut self, alloc: Global, value: Value) -> Find {
+        let reads = self.take_reads(alloc);
         let demanded = mem::replace(&mut self.demanded, Demanded::new(alloc));
         Find {
             value,
             reads,
             demanded,
         }
+    }
+
+    // The formula that it came to, with its own lists: it is used no more.
+    pub fn take_formed(&mut self, alloc: Global, formula: Formula) -> Formed {
+        let reads = self.take_reads(alloc);
+        let demanded = mem::replace(&mut self.demanded, Demanded::new(alloc));
+        Formed {
+            formula,
+            reads,
+            demanded,
+        }
+    }
+
+    fn take_reads(&mut self, alloc: Global) -> Locations {
+        match &mut self.trying {
+            Trying::Value(trial) => Locations::from_vec(trial.take_reads(alloc)),
+            Trying::Formula(forming) => Locations::from_vec(forming.take_reads(alloc)),
+        }
+    }
+}
+
+// What a trial comes to.
+fn tried(step: Step) -> Came {
+    match step {
+        Step::Value(value) => Came::Value(value),
+        Step::Fault(kind) => Came::Fault(kind),
+        Step::Need(inst) => Came::Need(inst),
+    }
+}
+
+// What the trial of a circular attribute comes to.
+fn formed(progress: Progress) -> Came {
+    match progress {
+        Progress::Formula(formula) => Came::Formula(formula),
+        Progress::Fault(kind) => Came::Fault(kind),
+        Progress::Need(inst) => Came::Need(inst),
     }
 }
 
@@ -191,7 +243,7 @@ impl Find {
 }
 
 impl Demanded {
-    fn new(alloc: Global) -> Demanded
+    pub fn new(alloc: Global) -> Demanded
         ensures kept { result.kept.items ≡ [] }
         ensures finds { result.finds.items ≡ [] }
     {

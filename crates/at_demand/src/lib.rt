@@ -21,12 +21,15 @@ mod answer;
 mod basis;
 mod demand;
 mod direct;
+mod ended;
 mod evaluation;
 mod gathering;
 mod laws;
+mod level;
 mod locations;
 mod question;
 mod sharing;
+mod solving;
 mod trials;
 mod turning_laws;
 

@@ -1,28 +1,26 @@
 //! Questions that are given turns. Between turns a question holds nothing of rules or tree.
 
-ghost use Rattle.std.specs.Prelude.{◌≡◌, ◌++◌, ◌∷◌, [], get_or, IfOk, OnOk, MatchBool};
-ghost use Rattle.std.specs.Map.{keys_of};
-ghost use Rattle.indexmap.specs.IndexMap.{insert_entry};
-ghost use Rattle.at_model.specs.Meaning.{Among};
-ghost use Rattle.at_model.specs.Turning.{turns_of};
-ghost use Rattle.at_body.specs.Same.{same_instance};
-ghost use Rattle.at_demand.specs.Turns.{under_way};
-ghost use Rattle.at_demand.specs.ChainSteps.{HasRisen, HasSettled, HasPassedOn, HasDeepened};
+ghost use Rattle.std.specs.Prelude.{◌≡◌, [], MatchBool};
 
 use crate::answer::Answer;
+use crate::ended::{Ended, Ending, add_atoms};
 use crate::evaluation::{Find, holds, put};
+use crate::level::Level;
 use at_body::{Inst, Value};
 use indexmap::IndexMap;
 use std::alloc::{AllocError, Global};
 use std::mem;
 
-/// A question that is given turns: a chain of instances, each of which demanded the next, and the values that were found.
-// The last one of the chain is `inst`, and the others wait. `passed` are those that others came to keep while they were under way.
+/// A question that is given turns: a chain of instances, each of which demanded the root of the next one's level, the values that were
+/// found, and how other equations ended.
+// The last one of the chain is `inst`, in the last level, and the others wait, each in its level.
 pub struct Question {
-    pub(crate) waiting: IndexMap<Inst, ()>,
+    pub(crate) waiting: IndexMap<Inst, Level>,
     pub(crate) found: IndexMap<Inst, Find>,
-    pub(crate) passed: IndexMap<Inst, Value>,
+    pub(crate) ended: IndexMap<Inst, Ended>,
     pub(crate) inst: Inst,
+    pub(crate) level: Level,
+    turns: u128,
 }
 
 /// One call, where each exit that lets it go would else have a case for each field.
@@ -31,112 +29,123 @@ impl Drop for Question {
         let Question {
             waiting: _,
             found: _,
-            passed: _,
+            ended: _,
             inst: _,
+            level: _,
+            turns: _,
         } = self;
     }
 }
 
 impl Question {
     // The question for an instance.
-    pub(crate) fn new(alloc: Global, inst: Inst) -> Question
-        ensures waiting { result.waiting.entries ≡ [] }
-        ensures found { result.found.entries ≡ [] }
-        ensures passed { result.passed.entries ≡ [] }
-        ensures inst { result.inst ≡ inst }
-    {
-        Question {
+    pub(crate) fn new(alloc: Global, inst: Inst) -> Result<Question, AllocError> {
+        let level = Level::new(alloc, inst.copy(alloc)?);
+        Ok(Question {
             waiting: IndexMap::new(alloc),
             found: IndexMap::new(alloc),
-            passed: IndexMap::new(alloc),
+            ended: IndexMap::new(alloc),
             inst,
-        }
+            level,
+            turns: 0,
+        })
     }
 
     /// How many turns it was given since it was posted, where none of them answered it.
-    pub fn turns(&self) -> u128
-        ensures { result ≡ turns_of (under_way self.now) }
-    {
-        let found = self.found.len() as u128;
-        let passed = self.passed.len() as u128;
-        let waiting = self.waiting.len() as u128;
-        2 * (found + passed) + waiting
+    pub fn turns(&self) -> u128 {
+        self.turns
     }
 
-    // The first of the chain: what was asked.
-    pub(crate) fn asked(&self) -> &Inst
-        ensures { result.now ≡ get_or (keys_of self.now.waiting.entries) 0 self.now.inst }
-    {
+    // One turn more.
+    pub(crate) fn count_turn(&mut self) {
+        self.turns = self.turns.saturating_add(1);
+    }
+
+    // What was asked: the root of the first level.
+    pub(crate) fn asked(&self) -> &Inst {
         match self.waiting.first() {
-            Some((inst, _unit)) => inst,
-            None => &self.inst,
+            Some((_inst, level)) => &level.root,
+            None => &self.level.root,
         }
     }
 
-    // The last instance is found: the one that waits for it is the last; where none waits, that was the question.
-    pub(crate) fn settle(&mut self, find: Find) -> Result<Option<Answer>, AllocError>
-        ensures { IfOk result (HasSettled self.old find self.new) }
-    {
+    // The last instance, which is the root of its level, is found: the one that waits for it is the last; where none waits, that was
+    // the question.
+    pub(crate) fn settle(&mut self, find: Find) -> Result<Option<Answer>, AllocError> {
         match self.rise() {
             None => Ok(Some(Answer::Value(find.into_value()))),
-            Some(inst) => {
-                put(&mut self.found, inst, find)?;
+            Some(level) => {
+                put(&mut self.found, level.into_root(), find)?;
                 Ok(None)
             }
         }
     }
 
-    // The last instance is kept with this value: it goes off the chain so, too.
-    pub(crate) fn pass(&mut self, value: Value) -> Result<Option<Answer>, AllocError>
-        ensures { IfOk result (HasPassedOn self.old value self.new) }
-    {
+    // The root of the last level has this value: it goes off the chain.
+    pub(crate) fn pass(&mut self, value: Value) -> Option<Answer> {
         match self.rise() {
-            None => Ok(Some(Answer::Value(value))),
-            Some(inst) => {
-                put(&mut self.passed, inst, value)?;
-                Ok(None)
-            }
+            None => Some(Answer::Value(value)),
+            Some(_level) => None,
         }
     }
 
-    // The last instance needs this one, which isn't known: it is the last, or the chain has it already.
-    pub(crate) fn deepen(&mut self, needed: Inst) -> Result<Option<Answer>, AllocError>
-        ensures { IfOk result (HasDeepened self.old needed self.new) }
-    {
-        if self.has(&needed) {
-            return Ok(Some(Answer::Circular { at: needed }));
-        }
-        self.descend(needed)?;
-        Ok(None)
+    // Whether the equation of the instance is under way.
+    pub(crate) fn is_waiting(&self, inst: &Inst) -> bool {
+        holds(&self.waiting, inst)
     }
 
-    // Whether the instance is under way.
-    fn has(&self, inst: &Inst) -> bool
-        ensures { MatchBool result (Among inst.now (keys_of self.now.waiting.entries ++ self.now.inst ∷ []))
-            (Among inst.now (keys_of self.now.waiting.entries ++ self.now.inst ∷ []) → ⊥) }
-    {
-        self.inst == *inst || holds(&self.waiting, inst)
-    }
-
-    // One instance more in the chain.
-    fn descend(&mut self, needed: Inst) -> Result<(), AllocError>
-        ensures waiting { OnOk result (self.new.waiting.entries ≡ insert_entry same_instance self.old.waiting.entries self.old.inst tt) }
-        ensures inst { OnOk result (self.new.inst ≡ needed) }
-        ensures found { self.new.found.entries ≡ self.old.found.entries }
-        ensures passed { self.new.passed.entries ≡ self.old.passed.entries }
-    {
+    // The last instance needs this one, which isn't known: it is the root of a level more.
+    pub(crate) fn descend(&mut self, alloc: Global, needed: Inst) -> Result<(), AllocError> {
+        let next = Level::new(alloc, needed.copy(alloc)?);
+        let level = mem::replace(&mut self.level, next);
         let inst = mem::replace(&mut self.inst, needed);
-        self.waiting.insert(inst, ())?;
+        self.waiting.insert(inst, level)?;
         Ok(())
     }
 
-    // Takes the last instance off the chain, where another one waits for it.
-    fn rise(&mut self) -> Option<Inst>
-        ensures { HasRisen self.old self.new result }
-    {
-        let Some((below, _unit)) = self.waiting.pop() else {
+    // Takes the last level off the chain, where another one waits for it.
+    pub(crate) fn rise(&mut self) -> Option<Level> {
+        let Some((inst, level)) = self.waiting.pop() else {
             return None;
         };
-        Some(mem::replace(&mut self.inst, below))
+        self.inst = inst;
+        Some(mem::replace(&mut self.level, level))
+    }
+
+    // The equation of the last instance ended so: it was seen, and the instances of its formula are to be looked at next.
+    pub(crate) fn end(&mut self, alloc: Global, ending: Ending) -> Result<(), AllocError> {
+        let inst = self.inst.copy(alloc)?;
+        let is_whole = matches!(&ending, Ending::Spoilt(_));
+        put(&mut self.ended, inst, Ended { ending, is_whole })?;
+        let inst = self.inst.copy(alloc)?;
+        self.walk(alloc, inst)
+    }
+
+    // Sees an instance whose equation has ended.
+    pub(crate) fn walk(&mut self, alloc: Global, inst: Inst) -> Result<(), AllocError> {
+        match self.ended.get(&inst) {
+            Some(ended) => match &ended.ending {
+                Ending::Formed(formed) => {
+                    add_atoms(alloc, formed.formula.pieces(), &mut self.level.todo)?
+                }
+                Ending::Spoilt(fault) => self.level.meet(alloc, fault)?,
+            },
+            None => {}
+        }
+        put(&mut self.level.seen, inst, ())
+    }
+
+    // Each of these has an outcome.
+    pub(crate) fn mark_whole(&mut self, seen: &IndexMap<Inst, ()>) {
+        let insts = seen.keys().as_slice();
+        for inst in insts {
+            self.mark(inst);
+        }
+    }
+
+    fn mark(&mut self, inst: &Inst) {
+        if let Some(ended) = self.ended.get_mut(inst) {
+            ended.is_whole = true;
+        }
     }
 }

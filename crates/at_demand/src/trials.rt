@@ -4,17 +4,20 @@ ghost use Rattle.std.specs.Prelude.{◌≡◌, ◌++◌, ◌∷◌, [], OnOk, No
 ghost use Rattle.at_demand.specs.KeptTrials.{HasLast};
 
 use crate::evaluation::{Find, Frame};
-use at_body::{FaultKind, Inst, Value};
+use crate::ended::Ending;
+use at_body::{Inst, Value};
 use std::alloc::{AllocError, Global};
 use std::mem;
 
-// What one try of an instance comes to: its value, which is kept or found, its fault, or another instance, whose value isn't known.
+// What one try of an instance comes to: its value, which is kept or found; how its equation ended else; another instance, whose value
+// isn't known; or one that is under way.
 #[derive(Drop)]
 pub enum Attempt {
     Kept(Value),
     Found(Find),
-    Fails(FaultKind),
+    Ends(Ending),
     Needs(Inst),
+    Returns(Inst),
 }
 
 // The trials of the last ones of a chain, in order, each of which waits for the next. Where `awaited` stands, the last of them is
@@ -57,6 +60,12 @@ impl<'a> Trials<'a> {
             return None;
         };
         Some((frame, needed))
+    }
+
+    // The trial of the last instance goes, since its equation has ended.
+    pub fn drop_last(&mut self) {
+        let _ = self.frames.pop();
+        self.awaited = None;
     }
 
     // Lets all of them go.

@@ -24,24 +24,24 @@ use std::alloc::Global;
 /// # Errors
 ///
 /// The first file that can't be read, or else the first fault of the rules. `Memory` for want of memory.
-pub fn rules_of(alloc: Global, classes: ClassTable, aspects: &[Source]) -> Result<Rules, StartFault>
+pub fn rules_of(alloc: Global, classes: ClassTable, aspects: &[Source], forms: Forms) -> Result<Rules, StartFault>
     ensures classes { IfOk result (λ r. r.classes ≡ classes) }
     ensures given { IfOk result (λ r. GivesRules classes (aspect_bytes aspects.now) r) }
     ensures well_formed { IsHierarchy classes → IfOk result AreWellFormed }
     ensures refused { IfErr result (IsAspectFault classes (aspect_bytes aspects.now)) }
 {
-    let aspects = read_all(alloc, aspects)?;
+    let aspects = read_all(alloc, aspects, forms)?;
     build(alloc, classes, &aspects)
 }
 
 /// The aspects of each file, in order.
-fn read_all(alloc: Global, aspects: &[Source]) -> Result<Vec<Vec<Aspect>>, StartFault>
+fn read_all(alloc: Global, aspects: &[Source], forms: Forms) -> Result<Vec<Vec<Aspect>>, StartFault>
     ensures hold { IfOk result (λ v. AllHold (aspect_bytes aspects.now) (map (λ f. map aspect_view f.items) v.items)) }
     ensures refused { IfErr result (IsUnread (aspect_bytes aspects.now)) }
 {
     let mut all = Vec::new(alloc);
     for (i, source) in aspects.iter().enumerate() {
-        match read(alloc, &source.bytes) {
+        match read(alloc, &source.bytes, forms) {
             Ok(aspects) => all.push(aspects)?,
             Err(fault) => return Err(of_file(i + 1, fault)),
         }
@@ -50,7 +50,7 @@ fn read_all(alloc: Global, aspects: &[Source]) -> Result<Vec<Vec<Aspect>>, Start
 }
 
 /// The aspects of a file.
-fn read(alloc: Global, bytes: &[u8]) -> Result<Vec<Aspect>, Fault<Code>>
+fn read(alloc: Global, bytes: &[u8], forms: Forms) -> Result<Vec<Aspect>, Fault<Code>>
     ensures hold { IfOk result (λ v. Holds bytes.now (map aspect_view v.items)) }
     ensures refused { IfErr result (IsReadingFaultOf bytes.now) }
 {
@@ -63,7 +63,7 @@ fn read(alloc: Global, bytes: &[u8]) -> Result<Vec<Aspect>, Fault<Code>>
             });
         }
     };
-    match parse_jrag(alloc, text, Forms::NONE) {
+    match parse_jrag(alloc, text, forms) {
         Ok(aspects) => Ok(aspects),
         Err(fault) => Err(fault.map_code(jrag_code)),
     }

@@ -36,6 +36,8 @@ use at_text::fault::Failure;
 pub use code::Code;
 pub use fault::StartFault;
 use fault::{of_file, of_tree};
+pub use at_jrag::Forms;
+
 pub use files::{Files, MAX_FILE, Source, tree_bytes};
 use grammar::classes_of;
 pub use serving::{Answered, answer};
@@ -83,7 +85,7 @@ pub fn start_with<K: Keeper>(
         Ok(classes) => classes,
         Err(fault) => return Err(of_file(0, fault)),
     };
-    let rules = rules_of(alloc, classes, &files.aspects)?;
+    let rules = rules_of(alloc, classes, &files.aspects, files.forms)?;
     let file = files.aspects.len() + 1;
     let tree = match tree_of(alloc, rules.classes(), files.nodes, &files.tree.bytes) {
         Ok(tree) => tree,

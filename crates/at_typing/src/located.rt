@@ -162,6 +162,14 @@ fn body_at(ending: &Ending) -> Option<&Body>
     }
 }
 
+/// The value from which the declared attribute starts, where it is circular.
+pub fn start_of(form: &DeclForm) -> Option<bool> {
+    match form {
+        DeclForm::Synthesized { start, .. } | DeclForm::Inherited { start, .. } => *start,
+        DeclForm::Equation { .. } | DeclForm::InheritedEquation { .. } => None,
+    }
+}
+
 /// Whether the values of the attribute that is declared are kept.
 pub fn is_lazy(form: &DeclForm) -> bool
     ensures { result ≡ is_lazy (decl_form_view form.now) }

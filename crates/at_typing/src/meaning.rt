@@ -21,7 +21,7 @@ ghost use Rattle.at_rules.specs.declared.body.Kind.TheVariants as kinds;
 
 use crate::attributes::Attributes;
 use crate::firsts::put;
-use crate::located::{body_in, class_word, index_name, is_inherited, is_lazy, params_in};
+use crate::located::{body_in, class_word, index_name, is_inherited, is_lazy, params_in, start_of};
 use crate::numbered::Numbered;
 use crate::written::{as_written, known_kind};
 use at_class::{ClassId, ClassTable, PartShape};
@@ -266,9 +266,9 @@ impl Among<'_> {
         let attribute = Attribute {
             params,
             result,
-            is_lazy: is_lazy(form),
+            is_lazy: is_lazy(form) || start_of(form).is_some(),
             is_inherited: is_inherited(form),
-            start: None,
+            start: start_of(form),
         };
         Ok((class, attribute))
     }

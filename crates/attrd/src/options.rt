@@ -25,6 +25,8 @@ pub struct Options {
     pub cut_off: bool,
     /// Whether replies to lines that come together are sent on together.
     pub gather: bool,
+    /// Whether circular attributes are read.
+    pub circular: bool,
     /// Whether the engine's work is told at the end.
     pub work: bool,
     pub grammar: String,

@@ -1,46 +1,25 @@
 //! Turns of a question: each tries one equation, once.
 
-ghost use Rattle.std.specs.Prelude.{◌≡◌, ℕ, IfOk, None};
-ghost use Rattle.at_model.specs.Run.{Contents};
-ghost use Rattle.at_model.specs.Instances.{AnyText};
-ghost use Rattle.at_model.specs.Meaning.{Right};
-ghost use Rattle.at_model.specs.Rules.{Rules};
-ghost use Rattle.at_model.specs.TypedRuns.{IsWellTyped};
-ghost use Rattle.at_model.specs.Turning.{asked, posted};
-ghost use Rattle.at_model.specs.WellFormed.{AreWellFormed, IsTreeSound};
-ghost use Rattle.at_store.specs.Shown.{IsIdle, Shown, contents, tree};
-ghost use Rattle.at_body.specs.Typed.{class_shown};
-ghost use Rattle.at_cache.specs.Kept.{Entries};
-ghost use Rattle.at_cache.specs.Traced.{StayTraced};
-ghost use Rattle.at_demand.specs.Known.{meaning, kept_values, known_in, ArePlain, FoundKept};
-ghost use Rattle.at_demand.specs.Covering.{AreWhole};
-ghost use Rattle.at_demand.specs.Turns.{IsStanding, IsSparingTurns, under_way};
-ghost use Rattle.at_demand.specs.Answered.{HasTurned, HasTurnedOften, HasTurnedWith};
-ghost use Rattle.at_demand.specs.Attempts.{HasAttempted, HasComeTo};
-ghost use Rattle.at_demand.specs.KeptTrials.{Fit};
-ghost use Rattle.at_demand.specs.Traces.{StaysTraced};
 
 use super::Demand;
 use crate::answer::Answer;
-use crate::evaluation::{Find, Frame};
+use super::searching::Resolved;
+use crate::ended::Ending;
+use crate::evaluation::{Came, Frame};
+use crate::level::Fault;
 use crate::question::Question;
 use crate::trials::{Attempt, Trials};
-use at_body::{Inst, Step};
+use at_body::{Inst, Value};
 use at_cache::{Keeper, Put};
 use at_rules::Rules;
 use at_store::Store;
-use indexmap::IndexMap;
 use std::alloc::AllocError;
 
 impl<K: Keeper> Demand<K> {
     /// The question for an instance, as it is before its first turn. It takes no memory as yet, so there is no error.
     pub fn post(&self, inst: Inst) -> Result<Question, AllocError>
-        ensures posted { IfOk result (λ q. under_way q ≡ posted inst) }
-        ensures standing { (entries : Entries) (rules : Rules) (s : Shown) → IsWellTyped rules (class_shown s) AnyText inst
-            → IfOk result (IsStanding rules s entries) }
-        ensures sparing { (entries : Entries) (rules : Rules) (look : Contents ℕ) → IfOk result (IsSparingTurns rules look entries) }
     {
-        Ok(Question::new(self.alloc, inst))
+        Question::new(self.alloc, inst)
     }
 
     /// One turn of a question that was posted on the tree as it is: its answer, or none, where its chain has one instance more
@@ -52,15 +31,6 @@ impl<K: Keeper> Demand<K> {
         store: &Store,
         question: &mut Question,
     ) -> Result<Option<Answer>, AllocError>
-        requires idle { IsIdle store.now }
-        requires formed { AreWellFormed rules.now }
-        requires sound { IsTreeSound rules.now.classes (tree store.now) }
-        requires right { Right (contents store.now) (meaning rules.now) (kept_values (K.contents self.old.keeper)) }
-        requires plain { ArePlain rules.now (K.contents self.old.keeper) }
-        requires standing { IsStanding rules.now store.now (K.contents self.old.keeper) question.old }
-        ensures turned { HasTurned rules.now store.now K.exact (K.contents self.old.keeper) (K.contents self.new.keeper)
-            self.old.work self.new.work question.old question.new result }
-        ensures traces { StayTraced (K.memories self.old.keeper) (K.memories self.new.keeper) }
     {
         // Positions among the finds of one question say nothing of another one.
         self.sharing.clear();
@@ -78,15 +48,6 @@ impl<K: Keeper> Demand<K> {
         question: &mut Question,
         limit: u64,
     ) -> Result<(u64, Option<Answer>), AllocError>
-        requires idle { IsIdle store.now }
-        requires formed { AreWellFormed rules.now }
-        requires sound { IsTreeSound rules.now.classes (tree store.now) }
-        requires right { Right (contents store.now) (meaning rules.now) (kept_values (K.contents self.old.keeper)) }
-        requires plain { ArePlain rules.now (K.contents self.old.keeper) }
-        requires standing { IsStanding rules.now store.now (K.contents self.old.keeper) question.old }
-        ensures turned { HasTurnedOften rules.now store.now K.exact (K.contents self.old.keeper) (K.contents self.new.keeper)
-            self.old.work self.new.work limit question.old question.new result }
-        ensures traces { StayTraced (K.memories self.old.keeper) (K.memories self.new.keeper) }
     {
         // As in one turn.
         self.sharing.clear();
@@ -109,51 +70,36 @@ impl<K: Keeper> Demand<K> {
         store: &'a Store,
         question: &mut Question,
         trials: &mut Trials<'a>,
-    ) -> Result<Option<Answer>, AllocError>
-        requires idle { IsIdle store.now }
-        requires formed { AreWellFormed rules.now }
-        requires sound { IsTreeSound rules.now.classes (tree store.now) }
-        requires right { Right (contents store.now) (meaning rules.now) (kept_values (K.contents self.old.keeper)) }
-        requires plain { ArePlain rules.now (K.contents self.old.keeper) }
-        requires standing { IsStanding rules.now store.now (K.contents self.old.keeper) question.old }
-        requires fit { Fit rules.now store.now (K.contents self.old.keeper) question.old trials.old }
-        ensures turned { HasTurnedWith rules.now store.now K.exact (K.contents self.old.keeper) (K.contents self.new.keeper)
-            self.old.work self.new.work question.old question.new trials.new result }
-        ensures traces { StayTraced (K.memories self.old.keeper) (K.memories self.new.keeper) }
-    {
+    ) -> Result<Option<Answer>, AllocError> {
         if let Some(value) = self.keeper.get(question.asked()) {
             return Ok(Some(Answer::Value(value.copy()?)));
         }
-        if let Some(value) = self.keeper.get(&question.inst) {
+        question.count_turn();
+        if self.keeper.get(&question.inst).is_some() {
             trials.forget();
-            return question.pass(value.copy()?);
+            return self.go_along(rules, question, trials);
         }
         let begun = self.trial_of(rules, store, question, trials)?;
-        let (mut frame, step) = begun;
-        match self.go_on(
-            rules,
-            store,
-            &question.found,
-            &question.inst,
-            &mut frame,
-            step,
-        )? {
+        let (mut frame, came) = begun;
+        match self.go_on(rules, store, question, &mut frame, came)? {
             Attempt::Kept(value) => {
                 trials.awaited = Some(question.inst.copy(self.alloc)?);
-                question.pass(value)
+                Ok(question.pass(value))
             }
             Attempt::Found(find) => {
                 trials.awaited = Some(question.inst.copy(self.alloc)?);
                 question.settle(find)
             }
-            Attempt::Fails(kind) => {
-                let at = question.inst.copy(self.alloc)?;
-                Ok(Some(Answer::Fault { kind, at }))
+            Attempt::Ends(ending) => {
+                question.end(self.alloc, ending)?;
+                self.go_along(rules, question, trials)
             }
             Attempt::Needs(needed) => {
                 trials.push(frame)?;
-                question.deepen(needed)
+                question.descend(self.alloc, needed)?;
+                Ok(None)
             }
+            Attempt::Returns(at) => self.close(rules, question, at),
         }
     }
 
@@ -164,19 +110,9 @@ impl<K: Keeper> Demand<K> {
         store: &'a Store,
         question: &Question,
         trials: &mut Trials<'a>,
-    ) -> Result<(Frame<'a>, Step), AllocError>
-        requires idle { IsIdle store.now }
-        requires formed { AreWellFormed rules.now }
-        requires sound { IsTreeSound rules.now.classes (tree store.now) }
-        requires typed { IsWellTyped rules.now (class_shown store.now) AnyText question.now.inst }
-        requires fit { Fit rules.now store.now (K.contents self.now.keeper) question.now trials.old }
-        ensures standing { IfOk result (λ r. HasComeTo rules.now (class_shown store.now) (contents store.now) (K.contents self.now.keeper)
-            question.now.found.entries question.now.inst r.0 r.1) }
-        ensures none { trials.new.awaited ≡ None }
-        ensures fit { Fit rules.now store.now (K.contents self.now.keeper) question.now trials.new }
-    {
+    ) -> Result<(Frame<'a>, Came), AllocError> {
         match trials.last() {
-            Some((frame, needed)) => Ok((frame, Step::Need(needed))),
+            Some((frame, needed)) => Ok((frame, Came::Need(needed))),
             None => {
                 let begun = Frame::start(self.alloc, rules, store, &question.inst)?;
                 Ok(begun)
@@ -184,44 +120,65 @@ impl<K: Keeper> Demand<K> {
         }
     }
 
-    // Goes on with the trial of an instance that isn't kept, up to its end or to an instance that isn't known, and keeps its
+    // Goes on with the trial of the last instance, which isn't kept, up to its end or to an instance that isn't known, and keeps its
     // value where it is lazy.
     fn go_on<'a>(
         &mut self,
         rules: &'a Rules,
         store: &'a Store,
-        found: &IndexMap<Inst, Find>,
-        inst: &Inst,
+        question: &mut Question,
         frame: &mut Frame<'a>,
-        step: Step,
-    ) -> Result<Attempt, AllocError>
-        requires idle { IsIdle store.now }
-        requires formed { AreWellFormed rules.now }
-        requires sound { IsTreeSound rules.now.classes (tree store.now) }
-        requires standing { HasComeTo rules.now (class_shown store.now) (contents store.now) (K.contents self.old.keeper)
-            found.now.entries inst.now frame.old step }
-        requires right { Right (contents store.now) (meaning rules.now) (known_in (K.contents self.old.keeper) found.now.entries) }
-        requires kept_right { Right (contents store.now) (meaning rules.now) (kept_values (K.contents self.old.keeper)) }
-        requires kept { FoundKept (K.contents self.old.keeper) found.now.entries }
-        requires unkept { kept_values (K.contents self.old.keeper) inst.now ≡ None }
-        requires plain { ArePlain rules.now (K.contents self.old.keeper) }
-        requires whole { AreWhole rules.now (contents store.now) found.now.entries }
-        ensures attempted { HasAttempted rules.now store.now K.exact (K.contents self.old.keeper) (K.contents self.new.keeper) self.old.work self.new.work
-            found.now.entries inst.now frame.new result }
-        ensures traces { StaysTraced K.memories self.old.keeper self.new.keeper }
-    {
-        let step = frame.go_on(self.alloc, &self.keeper, found, rules, store, step)?;
-        match step {
-            Step::Value(value) => {
-                let find = frame.take_find(self.alloc, value);
-                let put = self.keep(rules, found, inst, &find)?;
-                match put {
-                    Put::Kept => Ok(Attempt::Kept(find.into_value())),
-                    Put::Left => Ok(Attempt::Found(find)),
+        came: Came,
+    ) -> Result<Attempt, AllocError> {
+        let mut came = came;
+        loop {
+            let next = frame.go_on(self.alloc, &self.keeper, &question.found, rules, store, came)?;
+            match next {
+                Came::Value(value) => return self.found(rules, question, frame, value),
+                Came::Formula(formula) => {
+                    let formed = frame.take_formed(self.alloc, formula);
+                    return Ok(Attempt::Ends(Ending::Formed(formed)));
                 }
+                Came::Fault(kind) => {
+                    let at = question.inst.copy(self.alloc)?;
+                    return Ok(Attempt::Ends(Ending::Spoilt(Fault { kind, at })));
+                }
+                Came::Need(needed) => match self.strictly(rules, question, &needed)? {
+                    Resolved::Known => came = Came::Need(needed),
+                    Resolved::Spoilt(fault) => return Ok(Attempt::Ends(Ending::Spoilt(fault))),
+                    Resolved::Back => return Ok(Attempt::Returns(needed)),
+                    Resolved::Open => return Ok(Attempt::Needs(needed)),
+                },
             }
-            Step::Fault(kind) => Ok(Attempt::Fails(kind)),
-            Step::Need(needed) => Ok(Attempt::Needs(needed)),
+        }
+    }
+
+    // What is known of an instance that the equation of the last one demands.
+    fn strictly(
+        &mut self,
+        rules: &Rules,
+        question: &mut Question,
+        needed: &Inst,
+    ) -> Result<Resolved, AllocError> {
+        if question.inst == *needed {
+            return Ok(Resolved::Back);
+        }
+        self.resolve(rules, question, needed)
+    }
+
+    // The value of the last instance, which is kept where it is lazy.
+    fn found<'a>(
+        &mut self,
+        rules: &Rules,
+        question: &Question,
+        frame: &mut Frame<'a>,
+        value: Value,
+    ) -> Result<Attempt, AllocError> {
+        let find = frame.take_find(self.alloc, value);
+        let put = self.keep(rules, &question.found, &question.inst, &find)?;
+        match put {
+            Put::Kept => Ok(Attempt::Kept(find.into_value())),
+            Put::Left => Ok(Attempt::Found(find)),
         }
     }
 }

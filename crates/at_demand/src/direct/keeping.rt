@@ -50,7 +50,9 @@ impl Direct {
         let Some(other) = keeper.blocker(needed) else {
             return Ok(None);
         };
-        if !basis.rules.is_lazy(other.attribute()) {
+        if !basis.rules.is_lazy(other.attribute())
+            || basis.rules.start_of(other.attribute()).is_some()
+        {
             return Ok(None);
         }
         Ok(Some(other.copy(self.alloc)?))

@@ -133,6 +133,14 @@ const WORDS: &[Word] = &[
         help: "Sends the replies to lines that come together on together",
     },
     Word {
+        name: "forms",
+        is_option: true,
+        most: 1,
+        value: "FORM",
+        parser: ValueParser::String,
+        help: "Reads a form that is left out else: circular",
+    },
+    Word {
         name: "work",
         is_option: true,
         most: 0,
@@ -257,6 +265,7 @@ fn options_of(alloc: Global, matches: &ArgMatches<'_>) -> Result<Options, AllocE
         nodes: nodes_of(matches),
         cut_off: has_flag(matches, "cut-off"),
         gather: has_flag(matches, "gather"),
+        circular: is_circular(matches),
         work: has_flag(matches, "work"),
         grammar: file_of(alloc, matches, "GRAMMAR")?,
         tree: file_of(alloc, matches, "TREE")?,
@@ -304,6 +313,14 @@ fn nodes_of(matches: &ArgMatches<'_>) -> Option<u32>
     ensures { result ≡ option_map number (one_of (codes "nodes") (rows_found matches.now)) }
 {
     matches.get_one::<u32>("nodes")
+}
+
+/// Whether circular attributes are read.
+fn is_circular(matches: &ArgMatches<'_>) -> bool {
+    match matches.get_str("forms") {
+        Some(form) => form == "circular",
+        None => false,
+    }
 }
 
 /// Whether the flag is there.
