@@ -443,7 +443,7 @@ class Language:
             return ("&&", ("hasB",), e)
         if r == "up" and self.rng.random() < 0.85:
             return ("||", ("noUp",), e)
-        if r == "kid" and self.rng.random() < 0.7:
+        if r == "kid" and not bound and self.rng.random() < 0.7:
             return ("exists", self.call(("k",), a, True))
         return e
 

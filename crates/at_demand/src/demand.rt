@@ -31,6 +31,7 @@ use crate::basis::Basis;
 use crate::direct::Direct;
 use crate::evaluation::Find;
 use crate::sharing::Sharing;
+use crate::trials::Trials;
 use at_apply::Stop;
 use at_body::{Inst, Value};
 use at_cache::{Keeper, Order, Put};
@@ -166,8 +167,15 @@ impl<K: Keeper> Demand<K> {
         ensures traces { StayTraced (K.memories self.old.keeper) (K.memories self.new.keeper) }
     {
         let mut question = self.post(inst.copy(self.alloc)?)?;
-        let given = self.turns(rules, store, &mut question, u64::MAX)?;
-        given.1.ok_or(AllocError)
+        self.sharing.clear();
+        let mut trials = Trials::new(self.alloc);
+        trials.direct = Some(Direct::new(self.alloc, self.work));
+        loop {
+            let told = self.turn_with(rules, store, &mut question, &mut trials)?;
+            if let Some(answer) = told {
+                return Ok(answer);
+            }
+        }
     }
 
     /// Forgets what an edit touches: called once the edit is decided, and before it is made.

@@ -53,8 +53,14 @@ impl Drop for Level {
 }
 
 impl Level {
+    // The instances that were taken.
+    pub fn into_uses(self) -> Vec<Inst> {
+        let Level { reads: _, uses } = self;
+        uses
+    }
+
     // Takes all out; the memory stays.
-    fn clear(&mut self)
+    pub fn clear(&mut self)
         ensures reads { self.new.reads ≡ [] }
         ensures uses { self.new.uses.items ≡ [] }
     {
@@ -84,6 +90,8 @@ pub struct Direct {
     pub found: IndexMap<Inst, Value>,
     seen: Vec<bool>,
     pub work: u64,
+    // Attributes that gave up before: a hint.
+    gave_up: Vec<bool>,
     ghost few: { work < 2 ^ 64 },
 }
 
@@ -96,6 +104,7 @@ impl Drop for Direct {
             found: _,
             seen: _,
             work: _,
+            gave_up: _,
         } = self;
     }
 }
@@ -113,7 +122,28 @@ impl Direct {
             found: IndexMap::new(alloc),
             seen: Vec::new(alloc),
             work,
+            gave_up: Vec::new(alloc),
         }
+    }
+
+    // Whether an evaluation of the attribute gave up.
+    pub fn has_given_up(&self, attribute: AttrId) -> bool {
+        match self.gave_up.get(attribute.index()) {
+            Some(gave_up) => *gave_up,
+            None => false,
+        }
+    }
+
+    // An evaluation of the attribute gave up.
+    pub fn give_up(&mut self, attribute: AttrId) -> Result<(), AllocError> {
+        let index = attribute.index();
+        if self.gave_up.len() <= index {
+            self.gave_up.resize(index.saturating_add(1), false)?;
+        }
+        if let Some(gave_up) = self.gave_up.get_mut(index) {
+            *gave_up = true;
+        }
+        Ok(())
     }
 
     // The value of an instance that isn't kept; then all that is worth keeping for it is kept.
@@ -137,8 +167,25 @@ impl Direct {
         self.told(keeper, basis, &mut asks, needed, DEPTH)
     }
 
+    // The value of an instance that an equation demands, with what was looked at and taken for it.
+    pub fn tell<K: Keeper>(
+        &mut self,
+        keeper: &mut K,
+        basis: &Basis<'_>,
+        level: &mut Level,
+        needed: Inst,
+    ) -> Result<Value, Stop> {
+        self.told(keeper, basis, level, needed, DEPTH)
+    }
+
+    // A level that is spare.
+    pub fn put_back(&mut self, level: Level) -> Result<(), AllocError> {
+        self.spare.push(level)?;
+        Ok(())
+    }
+
     // The level of an evaluation that ended, emptied, or a fresh one.
-    fn level(&mut self) -> Level
+    pub fn level(&mut self) -> Level
         ensures work { self.new.work ≡ self.old.work }
         ensures found { self.new.found.entries ≡ self.old.found.entries }
         ensures reads { result.reads ≡ [] }

@@ -21,7 +21,7 @@ use crate::locations::Locations;
 use at_body::{FaultKind, Formula, Forming, Inst, Progress, Step, Trial, Value};
 use at_cache::Keeper;
 use at_rules::Rules;
-use at_store::Store;
+use at_store::{Loc, Store};
 use indexmap::IndexMap;
 use std::alloc::{AllocError, Global};
 use std::mem;
@@ -52,6 +52,7 @@ pub enum Trying<'a> {
 // An evaluation under way, and the instances whose values it took.
 pub struct Frame<'a> {
     trying: Trying<'a>,
+    inner: Vec<Loc>,
     demanded: Demanded,
 }
 
@@ -60,6 +61,7 @@ impl Drop for Frame<'_> {
     fn drop(self) {
         let Frame {
             trying: _,
+            inner: _,
             demanded: _,
         } = self;
     }
@@ -132,15 +134,26 @@ impl<'a> Frame<'a> {
         inst: &Inst,
     ) -> Result<(Frame<'a>, Came), AllocError> {
         let demanded = Demanded::new(alloc);
+        let inner = Vec::new(alloc);
         if rules.start_of(inst.attribute()).is_some() {
             let begun = Forming::start(alloc, rules, store, inst)?;
             let trying = Trying::Formula(Box::new(alloc, begun.0)?);
-            return Ok((Frame { trying, demanded }, formed(begun.1)));
+            let frame = Frame {
+                trying,
+                inner,
+                demanded,
+            };
+            return Ok((frame, formed(begun.1)));
         }
         let mut trial = Trial::new(alloc);
         let step = trial.restart(alloc, rules, store, inst)?;
         let trying = Trying::Value(trial);
-        Ok((Frame { trying, demanded }, tried(step)))
+        let frame = Frame {
+            trying,
+            inner,
+            demanded,
+        };
+        Ok((frame, tried(step)))
     }
 
     // Goes on with each value that is known, up to the end or to an instance that isn't.
@@ -166,8 +179,24 @@ impl<'a> Frame<'a> {
         }
     }
 
+    // Whether it comes to a formula.
+    pub fn is_circular(&self) -> bool {
+        matches!(&self.trying, Trying::Formula(_))
+    }
+
+    // What was looked at and taken for the value that it waits for counts as its own.
+    pub fn take(&mut self, reads: &[Loc], uses: &[Inst], alloc: Global) -> Result<(), AllocError> {
+        for loc in reads {
+            self.inner.push(*loc)?;
+        }
+        for inst in uses {
+            self.demanded.kept.push(inst.copy(alloc)?)?;
+        }
+        Ok(())
+    }
+
     // Goes on with the value that it waits for.
-    fn resume(
+    pub fn resume(
         &mut self,
         alloc: Global,
         rules: &'a Rules,
@@ -192,14 +221,17 @@ impl<'a> Frame<'a> {
     }
 
     // The formula that it came to, with its own lists: it is used no more.
-    pub fn take_formed(&mut self, alloc: Global, formula: Formula) -> Formed {
-        let reads = self.take_reads(alloc);
+    pub fn take_formed(&mut self, alloc: Global, formula: Formula) -> Result<Formed, AllocError> {
+        let mut reads = self.take_reads(alloc);
+        for loc in &self.inner {
+            reads.push(*loc)?;
+        }
         let demanded = mem::replace(&mut self.demanded, Demanded::new(alloc));
-        Formed {
+        Ok(Formed {
             formula,
             reads,
             demanded,
-        }
+        })
     }
 
     fn take_reads(&mut self, alloc: Global) -> Locations {

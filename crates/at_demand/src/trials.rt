@@ -4,6 +4,7 @@ ghost use Rattle.std.specs.Prelude.{◌≡◌, ◌++◌, ◌∷◌, [], OnOk, No
 ghost use Rattle.at_demand.specs.KeptTrials.{HasLast};
 
 use crate::evaluation::{Find, Frame};
+use crate::direct::Direct;
 use crate::ended::Ending;
 use at_body::{Inst, Value};
 use std::alloc::{AllocError, Global};
@@ -25,6 +26,8 @@ pub enum Attempt {
 pub struct Trials<'a> {
     pub frames: Vec<Frame<'a>>,
     pub awaited: Option<Inst>,
+    // Where turns aren't counted, evaluations in one go of what equations of circular attributes demand.
+    pub direct: Option<Direct>,
 }
 
 /// One call, where each exit that lets it go would else have a case for each field.
@@ -33,6 +36,7 @@ impl Drop for Trials<'_> {
         let Trials {
             frames: _,
             awaited: _,
+            direct: _,
         } = self;
     }
 }
@@ -46,6 +50,7 @@ impl<'a> Trials<'a> {
         Trials {
             frames: Vec::new(alloc),
             awaited: None,
+            direct: None,
         }
     }
 

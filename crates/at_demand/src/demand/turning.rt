@@ -4,11 +4,14 @@
 use super::Demand;
 use crate::answer::Answer;
 use super::searching::Resolved;
+use crate::basis::Basis;
+use crate::direct::Direct;
 use crate::ended::Ending;
 use crate::evaluation::{Came, Frame};
 use crate::level::Fault;
 use crate::question::Question;
 use crate::trials::{Attempt, Trials};
+use at_apply::Stop;
 use at_body::{Inst, Value};
 use at_cache::{Keeper, Put};
 use at_rules::Rules;
@@ -64,7 +67,7 @@ impl<K: Keeper> Demand<K> {
     }
 
     // A turn, which goes on with the trial of the last instance where it is there, and leaves those of the others.
-    fn turn_with<'a>(
+    pub fn turn_with<'a>(
         &mut self,
         rules: &'a Rules,
         store: &'a Store,
@@ -81,7 +84,7 @@ impl<K: Keeper> Demand<K> {
         }
         let begun = self.trial_of(rules, store, question, trials)?;
         let (mut frame, came) = begun;
-        match self.go_on(rules, store, question, &mut frame, came)? {
+        match self.go_on(rules, store, question, trials, &mut frame, came)? {
             Attempt::Kept(value) => {
                 trials.awaited = Some(question.inst.copy(self.alloc)?);
                 Ok(question.pass(value))
@@ -127,6 +130,7 @@ impl<K: Keeper> Demand<K> {
         rules: &'a Rules,
         store: &'a Store,
         question: &mut Question,
+        trials: &mut Trials<'a>,
         frame: &mut Frame<'a>,
         came: Came,
     ) -> Result<Attempt, AllocError> {
@@ -136,20 +140,70 @@ impl<K: Keeper> Demand<K> {
             match next {
                 Came::Value(value) => return self.found(rules, question, frame, value),
                 Came::Formula(formula) => {
-                    let formed = frame.take_formed(self.alloc, formula);
+                    let formed = frame.take_formed(self.alloc, formula)?;
                     return Ok(Attempt::Ends(Ending::Formed(formed)));
                 }
                 Came::Fault(kind) => {
                     let at = question.inst.copy(self.alloc)?;
                     return Ok(Attempt::Ends(Ending::Spoilt(Fault { kind, at })));
                 }
-                Came::Need(needed) => match self.strictly(rules, question, &needed)? {
-                    Resolved::Known => came = Came::Need(needed),
-                    Resolved::Spoilt(fault) => return Ok(Attempt::Ends(Ending::Spoilt(fault))),
-                    Resolved::Back => return Ok(Attempt::Returns(needed)),
-                    Resolved::Open => return Ok(Attempt::Needs(needed)),
-                },
+                Came::Need(needed) => {
+                    let told = self.at_once(rules, store, &mut trials.direct, frame, &needed)?;
+                    if let Some(next) = told {
+                        came = next;
+                        continue;
+                    }
+                    match self.strictly(rules, question, &needed)? {
+                        Resolved::Known => came = Came::Need(needed),
+                        Resolved::Spoilt(fault) => {
+                            return Ok(Attempt::Ends(Ending::Spoilt(fault)));
+                        }
+                        Resolved::Back => return Ok(Attempt::Returns(needed)),
+                        Resolved::Open => return Ok(Attempt::Needs(needed)),
+                    }
+                }
             }
+        }
+    }
+
+    // Goes on with the value of an instance that isn't circular, by an evaluation in one go, where turns aren't counted and that one
+    // doesn't give up.
+    fn at_once<'a>(
+        &mut self,
+        rules: &'a Rules,
+        store: &'a Store,
+        direct: &mut Option<Direct>,
+        frame: &mut Frame<'a>,
+        needed: &Inst,
+    ) -> Result<Option<Came>, AllocError> {
+        let Some(direct) = direct else {
+            return Ok(None);
+        };
+        let attribute = needed.attribute();
+        if !frame.is_circular()
+            || rules.start_of(attribute).is_some()
+            || direct.has_given_up(attribute)
+        {
+            return Ok(None);
+        }
+        direct.work = self.work;
+        let mut level = direct.level();
+        let basis = Basis { rules, store };
+        let inst = needed.copy(self.alloc)?;
+        let told = direct.tell(&mut self.keeper, &basis, &mut level, inst);
+        self.work = direct.work;
+        match told {
+            Ok(value) => {
+                frame.take(level.reads.as_slice(), level.uses.as_slice(), self.alloc)?;
+                level.clear();
+                direct.put_back(level)?;
+                Ok(Some(frame.resume(self.alloc, rules, store, value)?))
+            }
+            Err(Stop::GivesUp) => {
+                direct.give_up(attribute)?;
+                Ok(None)
+            }
+            Err(Stop::Memory) => Err(AllocError),
         }
     }
 
