@@ -158,6 +158,7 @@ class Try:
         self.outcomes = outcomes
         self.reads: Set[tuple] = set()
         self.demands: List[tuple] = []
+        self.ups: Set[Optional[Node]] = set()        # of which nodes it demands what is above
         self.scope: Dict[str, Node] = {}
         start = self.attribute.start
         self.this, body = self.place()
@@ -201,6 +202,7 @@ class Try:
             if not self.this.kids:
                 raise Fails("index")
             return self.this.kids[0]
+        self.ups.add(self.this)
         return self.this.up
 
     def instance(self, e: tuple) -> tuple:
@@ -249,6 +251,8 @@ class Try:
             raise Fails("zero")
         if form == "on":
             return self.token("On")
+        if form == "noUp":
+            self.ups.add(self.this)
         return {"true": True, "false": False, "hasB": self.this is not None and self.this.b is not None,
                 "noUp": self.this is not None and self.this.up is None}[form]
 
@@ -493,6 +497,7 @@ class Session:
         self.lines: List[str] = []
         self.told: List[str] = []
         self.asked: List[Optional[str]] = []
+        self.met: List[int] = []                     # how many instances each question meets
         self.answers: List[Dict[str, str]] = []      # by version: what each question would be told
         self.work = 0
         self.kept: Dict[tuple, Set[tuple]] = {}
@@ -520,6 +525,8 @@ class Session:
         self.lines.append(f"0 ask {self.place(q)}")
         self.told.append(f"0 {self.meaning.answer(q)}")
         self.asked.append(self.place(q))
+        met = self.meaning.meets(q)
+        self.met.append(len(met) + len({up for i in met for up in self.meaning.tries[i].ups}))
         if q in self.kept:
             return
         for i in self.meaning.meets(q):
@@ -556,6 +563,7 @@ class Session:
         self.lines.append("0 " + line)
         self.told.append(f"0 ok {len(self.answers)}")
         self.asked.append(None)
+        self.met.append(0)
         self.kept = {i: s for i, s in self.kept.items() if not s & touched}
         self.anew()
 
@@ -581,9 +589,33 @@ def check(program: str, number: int, folder: Path) -> List[str]:
                           f"{session.told[first:first + 1]} {err[:200]}")
         elif not words and session.only_tokens and work != session.work:
             faults.append(f"{number} {words}: work {work} for {session.work}")
+    faults += check_count(program, session, folder)
     for slice_ in ("1", "3", "1000"):
         faults += check_turns(program, session, folder, slice_)
     return faults
+
+
+def check_count(program: str, session: Session, folder: Path) -> List[str]:
+    """Each question is answered by twice as many turns as it meets instances, and one more."""
+    lines, ends = [], []
+    for line, place, met in zip(session.lines, session.asked, session.met):
+        if place is None:
+            lines.append(line)
+            continue
+        lines += [line.replace(" ask ", " post ")] + ["0 version"] * (2 * met)
+        ends.append(len(lines))
+    got, _, _ = run(program, folder, ("--slice", "1"), lines)
+    out, replies = [], 0
+    done: Dict[int, int] = {}
+    for line in got:
+        if " done " in line:
+            done[int(line.split()[2])] = replies
+        else:
+            replies += 1
+    for number, end in enumerate(ends, 1):
+        if done.get(number, end + 1) > end:
+            out.append(f"question {number} takes more turns than {end}: {done.get(number)}")
+    return out
 
 
 def check_turns(program: str, session: Session, folder: Path, slice_: str) -> List[str]:
