@@ -36,8 +36,8 @@ impl Fault {
 
 // A search, depth first, over the instances of formulas, from the root, which is strictly demanded. The equations of those that were
 // `seen` have ended, each formula's instances stand among them or are `todo`, but for those that are known; the next one stands last
-// there. The `fault` is the first one that was met. Of an attribute that isn't circular all but the root is empty.
-pub struct Level {
+// there. The `fault` is the first one that was met.
+pub struct Search {
     pub root: Inst,
     pub todo: Vec<Inst>,
     pub seen: IndexMap<Inst, ()>,
@@ -45,9 +45,9 @@ pub struct Level {
 }
 
 /// One call, as that of `Fault` is.
-impl Drop for Level {
+impl Drop for Search {
     fn drop(self) {
-        let Level {
+        let Search {
             root: _,
             todo: _,
             seen: _,
@@ -56,10 +56,10 @@ impl Drop for Level {
     }
 }
 
-impl Level {
-    // A search that hasn't begun.
-    pub fn new(alloc: Global, root: Inst) -> Level {
-        Level {
+impl Search {
+    // A search that has seen nothing.
+    pub fn new(alloc: Global, root: Inst) -> Search {
+        Search {
             root,
             todo: Vec::new(alloc),
             seen: IndexMap::new(alloc),
@@ -69,7 +69,7 @@ impl Level {
 
     // What was strictly demanded.
     pub fn into_root(self) -> Inst {
-        let Level {
+        let Search {
             root,
             todo: _,
             seen: _,
@@ -86,3 +86,7 @@ impl Level {
         Ok(())
     }
 }
+
+// From one strict demand to the next: a search once the equation of what was demanded has ended. Before that it is empty, and the
+// instance whose equation is tried is the one that was demanded; of an attribute that isn't circular it stays so.
+pub type Level = Option<Box<Search>>;

@@ -5,7 +5,7 @@ ghost use Rattle.std.specs.Prelude.{◌≡◌, [], MatchBool};
 use crate::answer::Answer;
 use crate::ended::{Ended, Ending, add_atoms};
 use crate::evaluation::{Find, holds, put};
-use crate::level::Level;
+use crate::level::{Fault, Level, Search};
 use at_body::{Inst, Value};
 use indexmap::IndexMap;
 use std::alloc::{AllocError, Global};
@@ -39,16 +39,15 @@ impl Drop for Question {
 
 impl Question {
     // The question for an instance.
-    pub(crate) fn new(alloc: Global, inst: Inst) -> Result<Question, AllocError> {
-        let level = Level::new(alloc, inst.copy(alloc)?);
-        Ok(Question {
+    pub(crate) fn new(alloc: Global, inst: Inst) -> Question {
+        Question {
             waiting: IndexMap::new(alloc),
             found: IndexMap::new(alloc),
             ended: IndexMap::new(alloc),
             inst,
-            level,
+            level: None,
             turns: 0,
-        })
+        }
     }
 
     /// How many turns it was given since it was posted, where none of them answered it.
@@ -64,9 +63,14 @@ impl Question {
     // What was asked: the root of the first level.
     pub(crate) fn asked(&self) -> &Inst {
         match self.waiting.first() {
-            Some((_inst, level)) => &level.root,
-            None => &self.level.root,
+            Some((inst, level)) => root_of(level, inst),
+            None => self.root(),
         }
+    }
+
+    // The root of the last level.
+    pub(crate) fn root(&self) -> &Inst {
+        root_of(&self.level, &self.inst)
     }
 
     // The last instance, which is the root of its level, is found: the one that waits for it is the last; where none waits, that was
@@ -74,8 +78,8 @@ impl Question {
     pub(crate) fn settle(&mut self, find: Find) -> Result<Option<Answer>, AllocError> {
         match self.rise() {
             None => Ok(Some(Answer::Value(find.into_value()))),
-            Some(level) => {
-                put(&mut self.found, level.into_root(), find)?;
+            Some(inst) => {
+                put(&mut self.found, inst, find)?;
                 Ok(None)
             }
         }
@@ -85,7 +89,7 @@ impl Question {
     pub(crate) fn pass(&mut self, value: Value) -> Option<Answer> {
         match self.rise() {
             None => Some(Answer::Value(value)),
-            Some(_level) => None,
+            Some(_inst) => None,
         }
     }
 
@@ -95,44 +99,93 @@ impl Question {
     }
 
     // The last instance needs this one, which isn't known: it is the root of a level more.
-    pub(crate) fn descend(&mut self, alloc: Global, needed: Inst) -> Result<(), AllocError> {
-        let next = Level::new(alloc, needed.copy(alloc)?);
-        let level = mem::replace(&mut self.level, next);
+    pub(crate) fn descend(&mut self, needed: Inst) -> Result<(), AllocError> {
+        let level = mem::replace(&mut self.level, None);
         let inst = mem::replace(&mut self.inst, needed);
         self.waiting.insert(inst, level)?;
         Ok(())
     }
 
-    // Takes the last level off the chain, where another one waits for it.
-    pub(crate) fn rise(&mut self) -> Option<Level> {
-        let Some((inst, level)) = self.waiting.pop() else {
+    // Takes the last level off the chain, where another one waits for its root.
+    pub(crate) fn rise(&mut self) -> Option<Inst> {
+        let Some((below, level)) = self.waiting.pop() else {
             return None;
         };
-        self.inst = inst;
-        Some(mem::replace(&mut self.level, level))
+        let inst = mem::replace(&mut self.inst, below);
+        match mem::replace(&mut self.level, level) {
+            Some(search) => Some(Box::into_inner(search).into_root()),
+            None => Some(inst),
+        }
+    }
+
+    // Whether no equation has ended but by a value: then no search is under way, and a fault is the answer.
+    pub(crate) fn is_plain(&self) -> bool {
+        self.ended.is_empty()
     }
 
     // The equation of the last instance ended so: it was seen, and the instances of its formula are to be looked at next.
     pub(crate) fn end(&mut self, alloc: Global, ending: Ending) -> Result<(), AllocError> {
-        let inst = self.inst.copy(alloc)?;
         let is_whole = matches!(&ending, Ending::Spoilt(_));
-        put(&mut self.ended, inst, Ended { ending, is_whole })?;
+        put(
+            &mut self.ended,
+            self.inst.copy(alloc)?,
+            Ended { ending, is_whole },
+        )?;
+        if self.level.is_none() {
+            let search = Search::new(alloc, self.inst.copy(alloc)?);
+            self.level = Some(Box::new(alloc, search)?);
+        }
         let inst = self.inst.copy(alloc)?;
         self.walk(alloc, inst)
     }
 
     // Sees an instance whose equation has ended.
     pub(crate) fn walk(&mut self, alloc: Global, inst: Inst) -> Result<(), AllocError> {
+        let Some(search) = &mut self.level else {
+            return Ok(());
+        };
         match self.ended.get(&inst) {
             Some(ended) => match &ended.ending {
                 Ending::Formed(formed) => {
-                    add_atoms(alloc, formed.formula.pieces(), &mut self.level.todo)?
+                    add_atoms(alloc, formed.formula.pieces(), &mut search.todo)?
                 }
-                Ending::Spoilt(fault) => self.level.meet(alloc, fault)?,
+                Ending::Spoilt(fault) => search.meet(alloc, fault)?,
             },
             None => {}
         }
-        put(&mut self.level.seen, inst, ())
+        put(&mut search.seen, inst, ())
+    }
+
+    // The next instance that the search looks at.
+    pub(crate) fn next(&mut self) -> Option<Inst> {
+        match &mut self.level {
+            Some(search) => search.todo.pop(),
+            None => None,
+        }
+    }
+
+    // Whether the search has seen the instance.
+    pub(crate) fn has_seen(&self, inst: &Inst) -> bool {
+        match &self.level {
+            Some(search) => holds(&search.seen, inst),
+            None => false,
+        }
+    }
+
+    // The fault that the search has met first, taken out.
+    pub(crate) fn take_fault(&mut self) -> Option<Fault> {
+        match &mut self.level {
+            Some(search) => mem::replace(&mut search.fault, None),
+            None => None,
+        }
+    }
+
+    // What the search has seen, taken out.
+    pub(crate) fn take_seen(&mut self, alloc: Global) -> IndexMap<Inst, ()> {
+        match &mut self.level {
+            Some(search) => mem::replace(&mut search.seen, IndexMap::new(alloc)),
+            None => IndexMap::new(alloc),
+        }
     }
 
     // Each of these has an outcome.
@@ -147,5 +200,13 @@ impl Question {
         if let Some(ended) = self.ended.get_mut(inst) {
             ended.is_whole = true;
         }
+    }
+}
+
+// The root of a level, where that is the instance whose equation is tried.
+fn root_of<'q>(level: &'q Level, inst: &'q Inst) -> &'q Inst {
+    match level {
+        Some(search) => &search.root,
+        None => inst,
     }
 }

@@ -5,18 +5,20 @@ ghost use Rattle.at_demand.specs.KeptTrials.{HasLast};
 
 use crate::evaluation::{Find, Frame};
 use crate::direct::Direct;
-use crate::ended::Ending;
+use crate::ended::Formed;
+use crate::level::Fault;
 use at_body::{Inst, Value};
 use std::alloc::{AllocError, Global};
 use std::mem;
 
-// What one try of an instance comes to: its value, which is kept or found; how its equation ended else; another instance, whose value
+// What one try of an instance comes to: its value, which is kept or found; a formula, or a fault; another instance, whose value
 // isn't known; or one that is under way.
 #[derive(Drop)]
 pub enum Attempt {
     Kept(Value),
     Found(Find),
-    Ends(Ending),
+    Forms(Formed),
+    Spoils(Fault),
     Needs(Inst),
     Returns(Inst),
 }

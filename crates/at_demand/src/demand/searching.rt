@@ -12,7 +12,6 @@ use at_cache::Keeper;
 use at_rules::Rules;
 use indexmap::IndexMap;
 use std::alloc::AllocError;
-use std::mem;
 
 // What is to be done with an instance that is looked at: nothing, since it is known or was seen; its equation has ended, and its formula
 // is gone over; its equation is to be tried; or it is under way.
@@ -57,7 +56,7 @@ impl<K: Keeper> Demand<K> {
                 Searched::Over => {}
             }
             self.solve_level(rules, question)?;
-            let Some(fault) = mem::replace(&mut question.level.fault, None) else {
+            let Some(fault) = question.take_fault() else {
                 return self.rise(question, trials);
             };
             if question.rise().is_none() {
@@ -74,7 +73,7 @@ impl<K: Keeper> Demand<K> {
         question: &mut Question,
         trials: &mut Trials<'a>,
     ) -> Result<Option<Answer>, AllocError> {
-        let root = question.level.root.copy(self.alloc)?;
+        let root = question.root().copy(self.alloc)?;
         if question.rise().is_some() {
             trials.awaited = Some(root);
             return Ok(None);
@@ -102,7 +101,7 @@ impl<K: Keeper> Demand<K> {
 
     // Looks at those to do, up to one whose equation is to be tried: that is the last one.
     fn search(&mut self, rules: &Rules, question: &mut Question) -> Result<Searched, AllocError> {
-        while let Some(inst) = question.level.todo.pop() {
+        while let Some(inst) = question.next() {
             match self.look(rules, question, &inst)? {
                 Look::Passed => {}
                 Look::Ended => question.walk(self.alloc, inst)?,
@@ -122,7 +121,7 @@ impl<K: Keeper> Demand<K> {
         question: &mut Question,
         inst: &Inst,
     ) -> Result<Look, AllocError> {
-        if holds(&question.level.seen, inst) || self.known(question, inst).is_some() {
+        if question.has_seen(inst) || self.known(question, inst).is_some() {
             return Ok(Look::Passed);
         }
         match self.resolve(rules, question, inst)? {
@@ -229,10 +228,7 @@ impl<K: Keeper> Demand<K> {
 
     // What the last level has seen has an outcome: what has a value is known from now on.
     fn solve_level(&mut self, rules: &Rules, question: &mut Question) -> Result<(), AllocError> {
-        if question.level.seen.is_empty() {
-            return Ok(());
-        }
-        let seen = mem::replace(&mut question.level.seen, IndexMap::new(self.alloc));
+        let seen = question.take_seen(self.alloc);
         self.solve(rules, question, &seen)?;
         question.mark_whole(&seen);
         Ok(())

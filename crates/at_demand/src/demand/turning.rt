@@ -22,7 +22,7 @@ impl<K: Keeper> Demand<K> {
     /// The question for an instance, as it is before its first turn. It takes no memory as yet, so there is no error.
     pub fn post(&self, inst: Inst) -> Result<Question, AllocError>
     {
-        Question::new(self.alloc, inst)
+        Ok(Question::new(self.alloc, inst))
     }
 
     /// One turn of a question that was posted on the tree as it is: its answer, or none, where its chain has one instance more
@@ -93,13 +93,18 @@ impl<K: Keeper> Demand<K> {
                 trials.awaited = Some(question.inst.copy(self.alloc)?);
                 question.settle(find)
             }
-            Attempt::Ends(ending) => {
-                question.end(self.alloc, ending)?;
+            Attempt::Spoils(fault) if question.is_plain() => Ok(Some(fault.into_answer())),
+            Attempt::Spoils(fault) => {
+                question.end(self.alloc, Ending::Spoilt(fault))?;
+                self.go_along(rules, question, trials)
+            }
+            Attempt::Forms(formed) => {
+                question.end(self.alloc, Ending::Formed(formed))?;
                 self.go_along(rules, question, trials)
             }
             Attempt::Needs(needed) => {
                 trials.push(frame)?;
-                question.descend(self.alloc, needed)?;
+                question.descend(needed)?;
                 Ok(None)
             }
             Attempt::Returns(at) => self.close(rules, question, at),
@@ -141,11 +146,11 @@ impl<K: Keeper> Demand<K> {
                 Came::Value(value) => return self.found(rules, question, frame, value),
                 Came::Formula(formula) => {
                     let formed = frame.take_formed(self.alloc, formula)?;
-                    return Ok(Attempt::Ends(Ending::Formed(formed)));
+                    return Ok(Attempt::Forms(formed));
                 }
                 Came::Fault(kind) => {
                     let at = question.inst.copy(self.alloc)?;
-                    return Ok(Attempt::Ends(Ending::Spoilt(Fault { kind, at })));
+                    return Ok(Attempt::Spoils(Fault { kind, at }));
                 }
                 Came::Need(needed) => {
                     let told = self.at_once(rules, store, &mut trials.direct, frame, &needed)?;
@@ -155,9 +160,7 @@ impl<K: Keeper> Demand<K> {
                     }
                     match self.strictly(rules, question, &needed)? {
                         Resolved::Known => came = Came::Need(needed),
-                        Resolved::Spoilt(fault) => {
-                            return Ok(Attempt::Ends(Ending::Spoilt(fault)));
-                        }
+                        Resolved::Spoilt(fault) => return Ok(Attempt::Spoils(fault)),
                         Resolved::Back => return Ok(Attempt::Returns(needed)),
                         Resolved::Open => return Ok(Attempt::Needs(needed)),
                     }
