@@ -18,7 +18,7 @@ ghost use Rattle.at_demand.specs.Only.{TakesOne};
 
 use crate::ended::Formed;
 use crate::locations::Locations;
-use at_body::{FaultKind, Formula, Forming, Inst, Progress, Step, Trial, Value};
+use at_body::{FaultKind, Forming, Formula, Inst, Progress, Step, Trial, Value};
 use at_cache::Keeper;
 use at_rules::Rules;
 use at_store::{Loc, Store};
@@ -49,7 +49,7 @@ pub enum Trying<'a> {
     Formula(Box<Forming<'a>>),
 }
 
-// An evaluation under way, and the instances whose values it took.
+// An evaluation under way, the instances whose values it took, and what was looked at for values that were told at once.
 pub struct Frame<'a> {
     trying: Trying<'a>,
     inner: Vec<Loc>,
@@ -133,27 +133,23 @@ impl<'a> Frame<'a> {
         store: &'a Store,
         inst: &Inst,
     ) -> Result<(Frame<'a>, Came), AllocError> {
-        let demanded = Demanded::new(alloc);
-        let inner = Vec::new(alloc);
         if rules.start_of(inst.attribute()).is_some() {
             let begun = Forming::start(alloc, rules, store, inst)?;
             let trying = Trying::Formula(Box::new(alloc, begun.0)?);
-            let frame = Frame {
-                trying,
-                inner,
-                demanded,
-            };
-            return Ok((frame, formed(begun.1)));
+            return Ok((Frame::new(alloc, trying), formed(begun.1)));
         }
         let mut trial = Trial::new(alloc);
         let step = trial.restart(alloc, rules, store, inst)?;
-        let trying = Trying::Value(trial);
-        let frame = Frame {
+        Ok((Frame::new(alloc, Trying::Value(trial)), tried(step)))
+    }
+
+    // One that took nothing yet.
+    fn new(alloc: Global, trying: Trying<'a>) -> Frame<'a> {
+        Frame {
             trying,
-            inner,
-            demanded,
-        };
-        Ok((frame, tried(step)))
+            inner: Vec::new(alloc),
+            demanded: Demanded::new(alloc),
+        }
     }
 
     // Goes on with each value that is known, up to the end or to an instance that isn't.
@@ -177,11 +173,6 @@ impl<'a> Frame<'a> {
                 ended => return Ok(ended),
             }
         }
-    }
-
-    // Whether it comes to a formula.
-    pub fn is_circular(&self) -> bool {
-        matches!(&self.trying, Trying::Formula(_))
     }
 
     // What was looked at and taken for the value that it waits for counts as its own.
@@ -210,22 +201,19 @@ impl<'a> Frame<'a> {
     }
 
     // What it found, at its end, with its own lists: it is used no more.
-    pub fn take_find(&mut self, alloc: Global, value: Value) -> Find {
-        let reads = self.take_reads(alloc);
+    pub fn take_find(&mut self, alloc: Global, value: Value) -> Result<Find, AllocError> {
+        let reads = self.take_reads(alloc)?;
         let demanded = mem::replace(&mut self.demanded, Demanded::new(alloc));
-        Find {
+        Ok(Find {
             value,
             reads,
             demanded,
-        }
+        })
     }
 
     // The formula that it came to, with its own lists: it is used no more.
     pub fn take_formed(&mut self, alloc: Global, formula: Formula) -> Result<Formed, AllocError> {
-        let mut reads = self.take_reads(alloc);
-        for loc in &self.inner {
-            reads.push(*loc)?;
-        }
+        let reads = self.take_reads(alloc)?;
         let demanded = mem::replace(&mut self.demanded, Demanded::new(alloc));
         Ok(Formed {
             formula,
@@ -234,11 +222,16 @@ impl<'a> Frame<'a> {
         })
     }
 
-    fn take_reads(&mut self, alloc: Global) -> Locations {
-        match &mut self.trying {
-            Trying::Value(trial) => Locations::from_vec(trial.take_reads(alloc)),
-            Trying::Formula(forming) => Locations::from_vec(forming.take_reads(alloc)),
+    // All that was looked at.
+    fn take_reads(&mut self, alloc: Global) -> Result<Locations, AllocError> {
+        let mut reads = match &mut self.trying {
+            Trying::Value(trial) => trial.take_reads(alloc),
+            Trying::Formula(forming) => forming.take_reads(alloc),
+        };
+        for loc in &self.inner {
+            reads.push(*loc)?;
         }
+        Ok(Locations::from_vec(reads))
     }
 }
 
