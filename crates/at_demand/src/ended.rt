@@ -49,7 +49,11 @@ impl Drop for Ended {
 }
 
 // The instances of the formula come to those to do, so that the first is the next one.
-pub fn add_atoms(alloc: Global, pieces: &[Piece], todo: &mut Vec<Inst>) -> Result<(), AllocError> {
+pub fn add_atoms(
+    alloc: Global,
+    pieces: &[Piece],
+    todo: &mut Vec<Inst>,
+) -> Result<(), AllocError> {
     let mut position = pieces.len();
     while position > 0 {
         position -= 1;

@@ -18,7 +18,7 @@ ghost use Rattle.at_demand.specs.Only.{TakesOne};
 
 use crate::ended::Formed;
 use crate::locations::Locations;
-use at_body::{FaultKind, Forming, Formula, Inst, Progress, Step, Trial, Value};
+use at_body::{FaultKind, Formula, Forming, Inst, Progress, Step, Trial, Value};
 use at_cache::Keeper;
 use at_rules::Rules;
 use at_store::{Loc, Store};
@@ -49,7 +49,7 @@ pub enum Trying<'a> {
     Formula(Box<Forming<'a>>),
 }
 
-// An evaluation under way, the instances whose values it took, and what was looked at for values that were told at once.
+// An evaluation under way, and the instances whose values it took.
 pub struct Frame<'a> {
     trying: Trying<'a>,
     inner: Vec<Loc>,
@@ -133,23 +133,27 @@ impl<'a> Frame<'a> {
         store: &'a Store,
         inst: &Inst,
     ) -> Result<(Frame<'a>, Came), AllocError> {
+        let demanded = Demanded::new(alloc);
+        let inner = Vec::new(alloc);
         if rules.start_of(inst.attribute()).is_some() {
             let begun = Forming::start(alloc, rules, store, inst)?;
             let trying = Trying::Formula(Box::new(alloc, begun.0)?);
-            return Ok((Frame::new(alloc, trying), formed(begun.1)));
+            let frame = Frame {
+                trying,
+                inner,
+                demanded,
+            };
+            return Ok((frame, formed(begun.1)));
         }
         let mut trial = Trial::new(alloc);
         let step = trial.restart(alloc, rules, store, inst)?;
-        Ok((Frame::new(alloc, Trying::Value(trial)), tried(step)))
-    }
-
-    // One that took nothing yet.
-    fn new(alloc: Global, trying: Trying<'a>) -> Frame<'a> {
-        Frame {
+        let trying = Trying::Value(trial);
+        let frame = Frame {
             trying,
-            inner: Vec::new(alloc),
-            demanded: Demanded::new(alloc),
-        }
+            inner,
+            demanded,
+        };
+        Ok((frame, tried(step)))
     }
 
     // Goes on with each value that is known, up to the end or to an instance that isn't.
@@ -173,6 +177,11 @@ impl<'a> Frame<'a> {
                 ended => return Ok(ended),
             }
         }
+    }
+
+    // Whether it comes to a formula.
+    pub fn is_circular(&self) -> bool {
+        matches!(&self.trying, Trying::Formula(_))
     }
 
     // What was looked at and taken for the value that it waits for counts as its own.
@@ -202,7 +211,10 @@ impl<'a> Frame<'a> {
 
     // What it found, at its end, with its own lists: it is used no more.
     pub fn take_find(&mut self, alloc: Global, value: Value) -> Result<Find, AllocError> {
-        let reads = self.take_reads(alloc)?;
+        let mut reads = self.take_reads(alloc);
+        for loc in &self.inner {
+            reads.push(*loc)?;
+        }
         let demanded = mem::replace(&mut self.demanded, Demanded::new(alloc));
         Ok(Find {
             value,
@@ -213,7 +225,10 @@ impl<'a> Frame<'a> {
 
     // The formula that it came to, with its own lists: it is used no more.
     pub fn take_formed(&mut self, alloc: Global, formula: Formula) -> Result<Formed, AllocError> {
-        let reads = self.take_reads(alloc)?;
+        let mut reads = self.take_reads(alloc);
+        for loc in &self.inner {
+            reads.push(*loc)?;
+        }
         let demanded = mem::replace(&mut self.demanded, Demanded::new(alloc));
         Ok(Formed {
             formula,
@@ -222,16 +237,11 @@ impl<'a> Frame<'a> {
         })
     }
 
-    // All that was looked at.
-    fn take_reads(&mut self, alloc: Global) -> Result<Locations, AllocError> {
-        let mut reads = match &mut self.trying {
-            Trying::Value(trial) => trial.take_reads(alloc),
-            Trying::Formula(forming) => forming.take_reads(alloc),
-        };
-        for loc in &self.inner {
-            reads.push(*loc)?;
+    fn take_reads(&mut self, alloc: Global) -> Locations {
+        match &mut self.trying {
+            Trying::Value(trial) => Locations::from_vec(trial.take_reads(alloc)),
+            Trying::Formula(forming) => Locations::from_vec(forming.take_reads(alloc)),
         }
-        Ok(Locations::from_vec(reads))
     }
 }
 

@@ -172,14 +172,6 @@ impl Question {
         }
     }
 
-    // Whether the search has met a fault.
-    pub(crate) fn has_fault(&self) -> bool {
-        match &self.level {
-            Some(search) => search.fault.is_some(),
-            None => false,
-        }
-    }
-
     // The fault that the search has met first, taken out.
     pub(crate) fn take_fault(&mut self) -> Option<Fault> {
         match &mut self.level {

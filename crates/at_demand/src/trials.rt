@@ -3,9 +3,9 @@
 ghost use Rattle.std.specs.Prelude.{◌≡◌, ◌++◌, ◌∷◌, [], OnOk, None};
 ghost use Rattle.at_demand.specs.KeptTrials.{HasLast};
 
+use crate::evaluation::{Find, Frame};
 use crate::direct::Direct;
 use crate::ended::Formed;
-use crate::evaluation::{Find, Frame};
 use crate::level::Fault;
 use at_body::{Inst, Value};
 use std::alloc::{AllocError, Global};
@@ -28,7 +28,7 @@ pub enum Attempt {
 pub struct Trials<'a> {
     pub frames: Vec<Frame<'a>>,
     pub awaited: Option<Inst>,
-    // Where turns aren't counted, evaluations in one go of what equations demand.
+    // Where turns aren't counted, evaluations in one go of what equations of circular attributes demand.
     pub direct: Option<Direct>,
 }
 

@@ -24,12 +24,7 @@ use std::alloc::Global;
 /// # Errors
 ///
 /// The first file that can't be read, or else the first fault of the rules. `Memory` for want of memory.
-pub fn rules_of(
-    alloc: Global,
-    classes: ClassTable,
-    aspects: &[Source],
-    forms: Forms,
-) -> Result<Rules, StartFault>
+pub fn rules_of(alloc: Global, classes: ClassTable, aspects: &[Source], forms: Forms) -> Result<Rules, StartFault>
     ensures classes { IfOk result (λ r. r.classes ≡ classes) }
     ensures given { IfOk result (λ r. GivesRules classes (aspect_bytes aspects.now) r) }
     ensures well_formed { IsHierarchy classes → IfOk result AreWellFormed }

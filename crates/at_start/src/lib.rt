@@ -30,13 +30,14 @@ mod tree;
 use aspects::rules_of;
 use at_cache::{KeepRecorded, Keeper};
 use at_engine::Engine;
-pub use at_jrag::Forms;
 use at_store::LoadFault;
 pub use at_store::USUAL_NODES;
 use at_text::fault::Failure;
 pub use code::Code;
 pub use fault::StartFault;
 use fault::{of_file, of_tree};
+pub use at_jrag::Forms;
+
 pub use files::{Files, MAX_FILE, Source, tree_bytes};
 use grammar::classes_of;
 pub use serving::{Answered, answer};

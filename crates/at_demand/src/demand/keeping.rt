@@ -36,14 +36,7 @@ impl<K: Keeper> Demand<K> {
                 let place = self.keep_first(rules, question, insts, members, value)?;
                 for member in members.split_at(1).1 {
                     let value = system.value(derived.as_slice(), *member);
-                    self.keep_other(
-                        rules,
-                        question,
-                        &insts[*member],
-                        &insts[first],
-                        place,
-                        value,
-                    )?;
+                    self.keep_other(rules, question, &insts[*member], &insts[first], place, value)?;
                 }
             }
         }
@@ -60,8 +53,8 @@ impl<K: Keeper> Demand<K> {
         let insts = seen.keys().as_slice();
         let mut open = Vec::new(self.alloc);
         for inst in insts {
-            let is_open = self.known(question, inst).is_some()
-                || formed_of(&question.ended, inst).is_none();
+            let is_open =
+                self.known(question, inst).is_some() || formed_of(&question.ended, inst).is_none();
             open.push(is_open)?;
         }
         let ends = ends_of(self.alloc, &question.ended, insts, open.as_slice())?;
@@ -138,7 +131,12 @@ impl<K: Keeper> Demand<K> {
     }
 
     // Adds what the equation read, and what it used outside: those in its formula that are known, too.
-    fn add(&self, question: &Question, formed: &Formed, find: &mut Find) -> Result<(), AllocError> {
+    fn add(
+        &self,
+        question: &Question,
+        formed: &Formed,
+        find: &mut Find,
+    ) -> Result<(), AllocError> {
         for loc in formed.reads.as_slice() {
             find.reads.push(*loc)?;
         }

@@ -31,11 +31,11 @@ enum Searched {
     Over,
 }
 
-// What is known of an instance that wasn't known: it is now; its outcome is a fault; it is under way; or nothing.
+// What is known of an instance that is strictly demanded.
 #[derive(Drop)]
 pub enum Resolved {
     Known,
-    Spoilt,
+    Spoilt(Fault),
     Back,
     Open,
 }
@@ -126,8 +126,7 @@ impl<K: Keeper> Demand<K> {
         }
         match self.resolve(rules, question, inst)? {
             Resolved::Known => Ok(Look::Passed),
-            Resolved::Spoilt if question.has_fault() => Ok(Look::Passed),
-            Resolved::Spoilt => Ok(Look::Ended),
+            Resolved::Spoilt(_) => Ok(Look::Ended),
             Resolved::Back => Ok(Look::Back),
             Resolved::Open => Ok(Look::Untried),
         }
@@ -144,10 +143,6 @@ impl<K: Keeper> Demand<K> {
         if question.is_waiting(inst) {
             return Ok(Resolved::Back);
         }
-        // The map makes the hash of what is looked up in it, empty as it may be.
-        if question.is_plain() {
-            return Ok(Resolved::Open);
-        }
         let is_whole = match question.ended.get(inst) {
             Some(ended) => ended.is_whole,
             None => return Ok(Resolved::Open),
@@ -162,7 +157,10 @@ impl<K: Keeper> Demand<K> {
                 return Ok(Resolved::Known);
             }
         }
-        Ok(Resolved::Spoilt)
+        match self.first_fault(question, inst)? {
+            Some(fault) => Ok(Resolved::Spoilt(fault)),
+            None => Err(AllocError),
+        }
     }
 
     // The instances without an outcome to which formulas lead from this one; none where the equation of one hasn't ended.
@@ -193,11 +191,7 @@ impl<K: Keeper> Demand<K> {
     }
 
     // The fault that a search, depth first, from this instance meets first, where each equation that it comes to has ended.
-    pub(super) fn first_fault(
-        &self,
-        question: &Question,
-        inst: &Inst,
-    ) -> Result<Option<Fault>, AllocError> {
+    fn first_fault(&self, question: &Question, inst: &Inst) -> Result<Option<Fault>, AllocError> {
         let mut seen: IndexMap<Inst, ()> = IndexMap::new(self.alloc);
         let mut todo = Vec::new(self.alloc);
         todo.push(inst.copy(self.alloc)?)?;

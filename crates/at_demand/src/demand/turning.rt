@@ -1,8 +1,9 @@
 //! Turns of a question: each tries one equation, once.
 
+
 use super::Demand;
-use super::searching::Resolved;
 use crate::answer::Answer;
+use super::searching::Resolved;
 use crate::basis::Basis;
 use crate::direct::Direct;
 use crate::ended::Ending;
@@ -19,7 +20,8 @@ use std::alloc::AllocError;
 
 impl<K: Keeper> Demand<K> {
     /// The question for an instance, as it is before its first turn. It takes no memory as yet, so there is no error.
-    pub fn post(&self, inst: Inst) -> Result<Question, AllocError> {
+    pub fn post(&self, inst: Inst) -> Result<Question, AllocError>
+    {
         Ok(Question::new(self.alloc, inst))
     }
 
@@ -31,7 +33,8 @@ impl<K: Keeper> Demand<K> {
         rules: &Rules,
         store: &Store,
         question: &mut Question,
-    ) -> Result<Option<Answer>, AllocError> {
+    ) -> Result<Option<Answer>, AllocError>
+    {
         // Positions among the finds of one question say nothing of another one.
         self.sharing.clear();
         let mut trials = Trials::new(self.alloc);
@@ -47,7 +50,8 @@ impl<K: Keeper> Demand<K> {
         store: &Store,
         question: &mut Question,
         limit: u64,
-    ) -> Result<(u64, Option<Answer>), AllocError> {
+    ) -> Result<(u64, Option<Answer>), AllocError>
+    {
         // As in one turn.
         self.sharing.clear();
         let mut trials = Trials::new(self.alloc);
@@ -137,14 +141,7 @@ impl<K: Keeper> Demand<K> {
     ) -> Result<Attempt, AllocError> {
         let mut came = came;
         loop {
-            let next = frame.go_on(
-                self.alloc,
-                &self.keeper,
-                &question.found,
-                rules,
-                store,
-                came,
-            )?;
+            let next = frame.go_on(self.alloc, &self.keeper, &question.found, rules, store, came)?;
             match next {
                 Came::Value(value) => return self.found(rules, question, frame, value),
                 Came::Formula(formula) => {
@@ -163,10 +160,7 @@ impl<K: Keeper> Demand<K> {
                     }
                     match self.strictly(rules, question, &needed)? {
                         Resolved::Known => came = Came::Need(needed),
-                        Resolved::Spoilt => {
-                            let fault = self.first_fault(question, &needed)?;
-                            return Ok(Attempt::Spoils(fault.ok_or(AllocError)?));
-                        }
+                        Resolved::Spoilt(fault) => return Ok(Attempt::Spoils(fault)),
                         Resolved::Back => return Ok(Attempt::Returns(needed)),
                         Resolved::Open => return Ok(Attempt::Needs(needed)),
                     }
@@ -189,7 +183,9 @@ impl<K: Keeper> Demand<K> {
             return Ok(None);
         };
         let attribute = needed.attribute();
-        if rules.start_of(attribute).is_some() || direct.has_given_up(attribute) {
+        if rules.start_of(attribute).is_some()
+            || direct.has_given_up(attribute)
+        {
             return Ok(None);
         }
         direct.work = self.work;
