@@ -22,11 +22,14 @@
 
 mod attributes;
 mod blocking;
+mod checking;
+mod choosing;
 mod cut;
 mod cutting;
 mod edge;
 mod entry;
 mod facet;
+mod folding;
 mod forgetting;
 mod keep_at_most;
 mod keep_cut_off;
@@ -40,7 +43,9 @@ mod marked;
 mod noting;
 mod places;
 mod putting;
+mod relinking;
 mod renewing;
+mod rewriting;
 mod row;
 mod scope;
 mod settling;
