@@ -16,8 +16,9 @@ use at_store::{Loc, Places};
 use std::alloc::{AllocError, Global};
 use std::mem;
 
-/// Keeps what a `KeepRecorded` keeps, but forgets all at an edit that finds more entries than a number, with the memory that
-/// they took. One wants it where a session is long: values that are asked no more, and that no edit touches, else stay for ever.
+/// Keeps what a `KeepRecorded` keeps, but folds entries into those that used them at an edit that finds more than a number, so that about three
+/// quarters of it are left, or fewer; where that can't be all is forgotten. One wants it where a session is long: values that are asked no
+/// more, and that no edit touches, else stay for ever.
 pub struct KeepAtMost {
     alloc: Global,
     most: usize,
@@ -142,11 +143,12 @@ impl Keeper for KeepAtMost {
         requires { F.IsAlwaysCallable touched.now }
         ensures leaves { LeavesUntouched (Answers (F.post touched.now)) (kept_by self.old) (kept_by self.new) }
         ensures over { ForgetsOver (Answers (F.post touched.now)) self.old self.new }
+        ensures few { table_len self.new.keeper.entries ≤ self.old.most }
         ensures bound { self.new.most ≡ self.old.most }
     {
         self.shrink();
         self.since = self.keeper.puts();
-        self.keeper.flush(touched);
+        self.keeper.forget(touched);
     }
 
     fn flush_at<F: Fn(Loc) -> bool>(&mut self, places: &Places<'_>, touched: &F)
@@ -154,10 +156,11 @@ impl Keeper for KeepAtMost {
         requires named { AreNamed places.now (F.post touched.now) }
         ensures leaves { LeavesUntouched (Answers (F.post touched.now)) (kept_by self.old) (kept_by self.new) }
         ensures over { ForgetsOver (Answers (F.post touched.now)) self.old self.new }
+        ensures few { table_len self.new.keeper.entries ≤ self.old.most }
         ensures bound { self.new.most ≡ self.old.most }
     {
         self.shrink();
         self.since = self.keeper.puts();
-        self.keeper.flush_at(places, touched);
+        self.keeper.forget_at(places, touched);
     }
 }

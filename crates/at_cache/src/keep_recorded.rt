@@ -4,7 +4,7 @@ ghost use Rattle.std.specs.Prelude.{◌≡◌, ◌≤◌, ◌-◌, ◌^◌, leng
 ghost use Rattle.at_cache.specs.Asking.{AreNoted};
 ghost use Rattle.at_cache.specs.Folding.{LeavesKept};
 ghost use Rattle.at_cache.specs.Info.{memory_of, table_len};
-ghost use Rattle.at_cache.specs.Kept.{KeepsAll, value_at};
+ghost use Rattle.at_cache.specs.Kept.{Answers, AreNamed, KeepsAll, LeavesUntouched, LosesTouched, value_at};
 ghost use Rattle.at_cache.specs.Readers.{edges_at};
 ghost use Rattle.at_cache.specs.Recorded.{IsIndexed, kept_in};
 ghost use Rattle.at_cache.specs.Stored.{reads_held};
@@ -137,6 +137,37 @@ impl KeepRecorded {
         })
     }
 
+    /// As `flush`: no more entries are left than there were.
+    pub fn forget<F: Fn(Loc) -> bool>(&mut self, touched: &F)
+        requires { F.IsAlwaysCallable touched.now }
+        ensures leaves { LeavesUntouched (Answers (F.post touched.now)) (kept_in (edges_at self.old.readers.items) self.old.entries self.old.puts)
+            (kept_in (edges_at self.new.readers.items) self.new.entries self.new.puts) }
+        ensures loses { LosesTouched (Answers (F.post touched.now)) (kept_in (edges_at self.old.readers.items) self.old.entries self.old.puts)
+            (kept_in (edges_at self.new.readers.items) self.new.entries self.new.puts) }
+        ensures fewer { table_len self.new.entries ≤ table_len self.old.entries }
+    {
+        take_out(&mut self.entries, self.readers.as_slice(), touched);
+    }
+
+    /// As `flush_at`: no more entries are left than there were.
+    pub fn forget_at<F: Fn(Loc) -> bool>(&mut self, places: &Places<'_>, touched: &F)
+        requires callable { F.IsAlwaysCallable touched.now }
+        requires named { AreNamed places.now (F.post touched.now) }
+        ensures leaves { LeavesUntouched (Answers (F.post touched.now)) (kept_in (edges_at self.old.readers.items) self.old.entries self.old.puts)
+            (kept_in (edges_at self.new.readers.items) self.new.entries self.new.puts) }
+        ensures loses { LosesTouched (Answers (F.post touched.now)) (kept_in (edges_at self.old.readers.items) self.old.entries self.old.puts)
+            (kept_in (edges_at self.new.readers.items) self.new.entries self.new.puts) }
+        ensures fewer { table_len self.new.entries ≤ table_len self.old.entries }
+    {
+        take_out_at(
+            &mut self.entries,
+            self.readers.as_slice(),
+            self.index_read.as_slice(),
+            places,
+            touched,
+        );
+    }
+
     /// How many direct reads the entries have: of an entry a location once, however often it was put, and a node's class once for each
     /// location that is read next to it; or the greatest `usize` if they are more. It goes over all that was ever read.
     pub fn stored(&self) -> usize
@@ -203,16 +234,10 @@ impl Keeper for KeepRecorded {
     }
 
     fn flush<F: Fn(Loc) -> bool>(&mut self, touched: &F) {
-        take_out(&mut self.entries, self.readers.as_slice(), touched);
+        self.forget(touched);
     }
 
     fn flush_at<F: Fn(Loc) -> bool>(&mut self, places: &Places<'_>, touched: &F) {
-        take_out_at(
-            &mut self.entries,
-            self.readers.as_slice(),
-            self.index_read.as_slice(),
-            places,
-            touched,
-        );
+        self.forget_at(places, touched);
     }
 }
