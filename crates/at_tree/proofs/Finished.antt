@@ -19,5 +19,5 @@ fault m view (Err Memory) text offset rest p r e f = tt
 
 pub only : {A P V : Type 0} (m : Machine P V) (view : A → V) (result : Result A TermFault) (text : List ℕ) → IsUtf8 text → IfOk result (λ a. m.IsValue (view a) × (m.text_of (view a) ≡ text)) → IfErr result (StopsWith (IsWhole m) text) → (v : V) → m.IsValue v → m.text_of v ≡ text → Reads view result v
 only m view (Ok a) text utf8 good bad v fits is = unique m (view a) v good.0 fits (good.1 ∙ sym is)
-only m view (Err (Syntax place)) text utf8 good bad v fits is = absurd (no_value m text place utf8 bad (v, fits, is))
+only m view (Err (Syntax place)) text utf8 good bad v fits is = absurd (no_value (IsWhole m) text place utf8 bad (v, fits, is))
 only m view (Err Memory) text utf8 good bad v fits is = refl

@@ -3,8 +3,7 @@ pub mod Machine
 pub mod Pieces
 pub mod Passing
 pub mod Finished
-pub mod PathMachine
-pub mod PathRuns
+pub mod PathStops
 pub mod NameBytes
 pub mod PlainNamesLemmas
 pub mod PathFronts

@@ -184,8 +184,8 @@ stops_at_end m text offset rest p r e open_still =
     }
 
 -- where the text stops being one of the kind, it is none
-pub no_value : {P V : Type 0} (m : Machine P V) (text : List ℕ) (place : ℕ) → IsUtf8 text → StopsAt (IsWhole m) text place → IsWhole m text → ⊥
-no_value m text place utf8 s w = last (chars (drop place text)) refl s.no_further
+pub no_value : (IsText : List ℕ → Type 0) (text : List ℕ) (place : ℕ) → IsUtf8 text → StopsAt IsText text place → IsText text → ⊥
+no_value IsText text place utf8 s w = last (chars (drop place text)) refl s.no_further
   where
     joined : take place text ++ drop place text ≡ text
     joined = take-append-drop place text
@@ -193,12 +193,12 @@ no_value m text place utf8 s w = last (chars (drop place text)) refl s.no_furthe
     behind : encode_utf8_all (chars (drop place text)) ≡ drop place text
     behind = encodes-chars (drop place text) (IsUtf8-drop text place utf8 s.boundary)
 
-    last : (cs : List ℕ) → chars (drop place text) ≡ cs → NoFurther (IsWhole m) (take place text) cs → ⊥
+    last : (cs : List ℕ) → chars (drop place text) ≡ cs → NoFurther IsText (take place text) cs → ⊥
     last [] is no_more =
         let none : drop place text ≡ [] = sym behind ∙ rw is refl in
         let all : text ≡ take place text = sym joined ∙ rw none (append-nil (take place text)) in
-        no_more (subst (IsWhole m) all w)
+        no_more (subst IsText all w)
     last (c ∷ cs) is no_more =
         let rest : drop place text ≡ encode_utf8 c ++ encode_utf8_all cs = sym behind ∙ rw is refl in
         let all : text ≡ (take place text ++ encode_utf8 c) ++ encode_utf8_all cs = sym joined ∙ ap (λ y. take place text ++ y) rest ∙ sym (append_assoc (take place text) (encode_utf8 c) (encode_utf8_all cs)) in
-        no_more (encode_utf8_all cs, subst (IsWhole m) all w)
+        no_more (encode_utf8_all cs, subst IsText all w)

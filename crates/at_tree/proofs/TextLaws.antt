@@ -3,10 +3,11 @@ use Rattle.std.proofs.Common.{◌≡◌, ℕ, List, [], ◌∷◌, ◌++◌, len
 use Rattle.std.specs.Prelude.{chars}
 use Rattle.std.proofs.lemmas.Str.{chars-nil}
 use Rattle.at_model.specs.Terms.{Term, IsTerm, term_text}
+use Rattle.at_model.specs.Paths.{path_text}
+use Rattle.at_model.proofs.of_texts.OneLine.{same_path}
 use Rattle.at_tree.specs.Laws.{NoneBeginsAnother, OnePathEach}
 use Rattle.at_tree.specs.Partial.{Start, Done, at, nothing_read, step}
-use Rattle.at_tree.proofs.Machine.{run, run_none, unique}
-use Rattle.at_tree.proofs.PathMachine.{path_machine}
+use Rattle.at_tree.proofs.Machine.{run, run_none}
 use Rattle.at_tree.proofs.TermRuns.{run_term}
 
 -- nothing follows a whole term
@@ -29,4 +30,4 @@ pub one_term_each : (t u : Term) → IsTerm t → IsTerm u → term_text t ≡ t
 one_term_each t u h k e = (none_begins_another t u [] h k (sym e ∙ sym (append-nil (term_text t)))).0
 
 pub one_path_each : OnePathEach
-one_path_each p q h k e = unique path_machine p q h k e
+one_path_each p q h k e = (same_path p q [] [] h k tt tt (append-nil (path_text p) ∙ e ∙ sym (append-nil (path_text q)))).0

@@ -9,8 +9,7 @@ pub mod Runs
 pub mod Leads
 pub mod Partial
 pub mod Seen
-pub mod PartialPath
-pub mod PathSeen
+pub mod Steps
 pub mod PlainNames
 pub mod Laws
 pub mod TreeView

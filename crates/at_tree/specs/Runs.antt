@@ -16,10 +16,6 @@ takes run.Name = continues_name
 takes run.Plain = stands_for_itself
 takes run.Number = is_of_number
 
--- the text is characters that pass the test, and then the rest
-abbrev pub Passes : (ℕ → Bool) → List ℕ → List ℕ → Type 0
-Passes passes text rest = (cs : List ℕ) × (text ≡ encode_utf8_all cs ++ rest) × AllByRecursion (λ c. passes c ≡ true) cs
-
 -- a text is cut behind characters that pass the test
 abbrev pub Cuts : (ℕ → Bool) → List ℕ → List ℕ → List ℕ → Type 0
 Cuts passes text front rest = (cs : List ℕ) × (front ≡ encode_utf8_all cs) × (text ≡ encode_utf8_all cs ++ rest) × AllByRecursion (λ c. passes c ≡ true) cs

@@ -1,10 +1,13 @@
-//! Names of ASCII alone, which are told by their bytes.
-ghost use Rattle.std.specs.Prelude.{◌≡◌, ◌++◌, true, IfOk};
-ghost use Rattle.at_model.specs.Names.{IsName};
-ghost use Rattle.at_tree.specs.PlainNames.{is_name_byte, name_len, begins_name};
+//! Names at the front of a text. Those of ASCII alone are told by their bytes.
+ghost use Rattle.std.specs.Prelude.{◌≡◌, ◌++◌, true, IfOk, MatchOption};
+ghost use Rattle.at_model.specs.Names.{IsName, starts_name};
+ghost use Rattle.at_text.specs.Pieces.{NotBefore};
+ghost use Rattle.at_tree.specs.PlainNames.{is_name_byte, name_len, begins_name, is_ascii_next};
+ghost use Rattle.at_tree.specs.Steps.{IsWordBefore};
 
 use crate::fault::{Misfit, Untaken};
-use at_text::names::is_reserved;
+use crate::runs::{Run, past};
+use at_text::names::{is_reserved, starts_name};
 
 /// Which bytes are letters or digits of ASCII, or the underscore.
 const NAME_BYTES: [bool; 256] = [
@@ -39,15 +42,54 @@ pub fn is_plain_name(word: &str) -> bool
     !is_reserved(word)
 }
 
-/// The name of ASCII alone at the front, and what follows it.
+/// The name at the front, and what follows it.
 pub(crate) fn name_first(text: &str) -> Result<(&str, &str), Untaken>
     ensures { IfOk result (λ r. IsName r.0.now × (text.now ≡ r.0.now ++ r.1.now)) }
 {
-    let (name, rest) = text.split_at(name_len(text));
-    if !begins_name(name) || is_reserved(name) {
+    let Some((name, rest)) = word_first(text) else {
+        return Err(Untaken::For(Misfit::Form));
+    };
+    if is_reserved(name) {
         return Err(Untaken::For(Misfit::Form));
     }
     Ok((name, rest))
+}
+
+/// What has the form of a name at the front, as long as it goes on, and what follows it. Most are of ASCII, and told by their bytes.
+pub(crate) fn word_first(text: &str) -> Option<(&str, &str)>
+    ensures { MatchOption result (NotBefore starts_name text.now) (λ r. IsWordBefore text.now r.0.now r.1.now) }
+{
+    let (word, rest) = text.split_at(name_len(text));
+    if !begins_name(word) || !is_ascii_next(rest) {
+        return any_word_first(text);
+    }
+    Some((word, rest))
+}
+
+/// Whether a character of ASCII comes next, or nothing.
+fn is_ascii_next(text: &str) -> bool
+    ensures { result ≡ is_ascii_next text.now }
+{
+    match text.as_bytes() {
+        [next, ..] => next.is_ascii(),
+        [] => true,
+    }
+}
+
+/// The same word, told by its characters.
+#[inline(never)]
+fn any_word_first(text: &str) -> Option<(&str, &str)>
+    ensures { MatchOption result (NotBefore starts_name text.now) (λ r. IsWordBefore text.now r.0.now r.1.now) }
+{
+    let mut chars = text.chars();
+    let Some(c) = chars.next() else {
+        return None;
+    };
+    if !starts_name(c) {
+        return None;
+    }
+    let rest = past(chars.as_str(), Run::Name);
+    Some(text.split_at(text.len() - rest.len()))
 }
 
 /// How many bytes stand before the first that is none of a name in ASCII.

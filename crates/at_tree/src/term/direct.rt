@@ -36,8 +36,8 @@ fn sort_of(text: &str) -> Sort {
     }
 }
 
-/// The term that the whole text is written of. What isn't read so (a name that is not of ASCII alone, for one) may
-/// still be a term's text, of which the reader by characters tells the term, or where it stops.
+/// The term that the whole text is written of. What isn't read so may still be a term's text, of which the reader by
+/// characters tells the term, or where it stops.
 pub(crate) fn whole_term(alloc: Global, text: &str) -> Result<Term, Untaken>
     ensures { IfOk result (λ t. IsTerm (term_view t) × (term_text (term_view t) ≡ text.now)) }
 {
@@ -63,7 +63,7 @@ fn take_term(alloc: Global, front: &mut Front<'_>, levels: usize) -> Result<Term
     Ok(Term { name, cells })
 }
 
-/// Takes a name of ASCII alone, and the parenthesis behind it.
+/// Takes a name, and the parenthesis behind it.
 fn take_name(alloc: Global, front: &mut Front<'_>) -> Result<String, Untaken>
     ensures named { IfOk result (λ s. IsName (string_bytes s)) }
     ensures taken { IfOk result (λ s. front.old.rest.now ≡ string_bytes s ++ 40 ∷ front.new.rest.now) }

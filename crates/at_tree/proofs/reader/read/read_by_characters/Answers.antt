@@ -29,7 +29,7 @@ refused c =
 pub returns-in-Err-For : goal.returns-in-Err-For
 returns-in-Err-For c = record {
   found = search rules;
-  only = λ v fits is. absurd (no_value term_machine _ _ c.utf8.text (refused c) (v, fits, is));
+  only = λ v fits is. absurd (no_value IsTermText _ _ c.utf8.text (refused c) (v, fits, is));
   fault = refused c;
 }
 

@@ -1,7 +1,7 @@
 use Rattle.std.proofs.Common.{refl, rules}
 use Rattle.std.specs.Prelude.{IsUtf8}
 use Rattle.at_tree.proofs.PathFronts.{one_digit_first, one_digit_more}
-use Rattle.at_tree.proofs.path.direct.index_first.Goals as goal
+use Rattle.at_tree.proofs.path.read.index_first.Goals as goal
 
 pub loop-value-init : goal.loop-value-init
 loop-value-init c =
