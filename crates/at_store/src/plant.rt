@@ -8,6 +8,7 @@ ghost use Rattle.at_store.specs.Memory.{IsCellFreed, IsFreed, Kids, with_numbers
 ghost use Rattle.at_store.specs.Planting.{GainsCell, GainsTree, IsAdded, IsAsBefore, IsPlanted, IsPushed, IsPushedKid, StaysPlanted, holding};
 ghost use Rattle.at_store.specs.View.{MarksNoMore, form_view, kept_view, stored_of, viewed};
 
+use crate::components::Components;
 use crate::entry::{Children, Entry, Form, Slot, small, small_index, small_place};
 use crate::node::Node;
 use at_class::ClassId;
@@ -23,7 +24,7 @@ pub(crate) fn free(slab: &mut Slab<Entry>, node: Node)
     ensures marks { MarksNoMore slab.old slab.new }
 {
     if let Some(entry) = slab.try_remove(node.index()) {
-        for slot in &entry.cells {
+        for slot in entry.cells.as_slice() {
             free_slot(slab, slot);
         }
     }
@@ -63,7 +64,7 @@ fn add(
         leaves: false,
         up: small_place(up)?,
         number: small_index(index)?,
-        cells: Vec::with_capacity(alloc, parts)?,
+        cells: Components::with_room(alloc, parts)?,
     };
     slab.insert(entry)?;
     Ok(node)
@@ -91,7 +92,7 @@ fn push_in_slot(slot: &mut Slot, kid: Node) -> Result<(), AllocError>
     Ok(())
 }
 
-fn push_in_cells(cells: &mut Vec<Slot>, part: usize, kid: Node) -> Result<(), AllocError>
+fn push_in_cells(cells: &mut Components, part: usize, kid: Node) -> Result<(), AllocError>
     ensures pushed { OnOk result (map kept_view cells.new.items ≡ changed_at (with_numbers (λ ns. ns ++ kid ∷ [])) (map kept_view cells.old.items) part) }
     ensures kept { OnErr result (map kept_view cells.new.items ≡ map kept_view cells.old.items) }
 {
