@@ -13,6 +13,7 @@ mod comparing;
 mod folding;
 mod form;
 mod here;
+mod near;
 mod stop;
 
 pub use applying::{node_of, truth_in, with_one, with_two};
@@ -20,4 +21,5 @@ pub use comparing::compare;
 pub use folding::{Next, chosen, settle};
 pub use form::{Form, form_of};
 pub use here::{Here, begin};
+pub use near::{asked_of_each, plain_value};
 pub use stop::Stop;

@@ -20,7 +20,7 @@ ghost use Rattle.at_demand.specs.Sparing.{AreSpare, HasWorthy};
 use crate::basis::Basis;
 use at_apply::{
     Form, Here, Next, Stop, begin, chosen, compare, form_of, node_of, settle, truth_in, with_one,
-    with_two,
+    with_two, asked_of_each, plain_value,
 };
 use at_body::{Arguments, Binary, Fold, Inst, Reads, Unary, Value, come_to};
 use at_cache::Keeper;
@@ -626,10 +626,18 @@ impl Direct {
         let mut inside = here.copy()?;
         let mut going = fold;
         let mut rest = nodes;
+        let near = self.near(basis, here, body);
         while let Some((node, others)) = rest.split_first() {
-            inside.bound.push(*node)?;
-            let value = self.value(keeper, basis, level, &inside, body, above)?;
-            let _ = inside.bound.pop();
+            let at_once = self.at_once(basis, level, here, near, *node)?;
+            let value = match at_once {
+                Some(value) => value,
+                None => {
+                    inside.bound.push(*node)?;
+                    let value = self.value(keeper, basis, level, &inside, body, above)?;
+                    let _ = inside.bound.pop();
+                    value
+                }
+            };
             let next = settle(going, *node, &value)?;
             match next {
                 Next::On(further) => going = further,
@@ -638,6 +646,27 @@ impl Direct {
             rest = others;
         }
         Ok(come_to(&going))
+    }
+
+    // The attribute of which the expression asks each element of a fold, where it hands on all that was passed and that isn't lazy.
+    fn near(&self, basis: &Basis<'_>, here: &Here, body: &Body) -> Option<AttrId> {
+        let attribute = asked_of_each(here, body)?;
+        if basis.rules.is_lazy(attribute) || basis.rules.is_inherited(attribute) {
+            return None;
+        }
+        if self.is_seen(attribute) {
+            return None;
+        }
+        Some(attribute)
+    }
+
+    // The value of that attribute of an element, where its equation needs no evaluation.
+    #[inline(always)]
+    fn at_once(&self, basis: &Basis<'_>, level: &mut Level, here: &Here, near: Option<AttrId>, node: Node) -> Result<Option<Value>, Stop> {
+        match near {
+            Some(attribute) => plain_value(basis.rules, basis.store, &mut level.reads, &here.arguments, node, attribute),
+            None => Ok(None),
+        }
     }
 }
 

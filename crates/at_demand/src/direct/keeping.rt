@@ -129,6 +129,11 @@ impl Direct {
     }
 
     // Whether an instance of the attribute may be remembered.
+    pub(super) fn is_seen(&self, attribute: AttrId) -> bool {
+        self.may_have(attribute)
+    }
+
+    // Whether an instance of the attribute may be remembered.
     fn may_have(&self, attribute: AttrId) -> bool {
         match self.seen.get(attribute.index()) {
             Some(seen) => *seen,
