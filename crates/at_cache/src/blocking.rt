@@ -4,7 +4,7 @@ ghost use Rattle.std.specs.Prelude.{◌≡◌, IfSome};
 ghost use Rattle.at_cache.specs.Blocking.{IsFirstOpen, LeadsTo, is_valued};
 
 use crate::edge::Slot;
-use crate::settling::LEVELS;
+use crate::settling::{LEVELS, known_of};
 use crate::standing::{Standing, standing_at};
 use crate::table::Table;
 
@@ -35,7 +35,7 @@ fn first_open(entries: &Table, standings: &[Standing], slots: &[Slot]) -> Option
 }
 
 // Where the entry in the slot isn't kept, and can be again once all that it used is, the first of those that isn't.
-fn next_open(entries: &Table, standings: &[Standing], slot: Slot) -> Option<Slot>
+fn next_open(entries: &Table, standings: &[Standing], edited: u64, slot: Slot) -> Option<Slot>
     ensures { IfSome result (LeadsTo entries.now standings.now slot) }
 {
     let (_, entry) = entries.pair(slot)?;
@@ -43,17 +43,21 @@ fn next_open(entries: &Table, standings: &[Standing], slot: Slot) -> Option<Slot
     if standing.holds || !standing.traced {
         return None;
     }
-    first_open(entries, standings, entry.links.as_slice())
+    let known = known_of(standing, edited);
+    if entry.links.len() < known {
+        return None;
+    }
+    first_open(entries, standings, entry.links.as_slice().split_at(known).1)
 }
 
 /// The first entry that stands in the way of keeping the one in the slot again, of what it used and so on; the slot
 /// itself, where nothing else does. Of a chain that is too long it is one in its midst.
-pub fn blocking(entries: &Table, standings: &[Standing], slot: Slot) -> Slot
+pub fn blocking(entries: &Table, standings: &[Standing], edited: u64, slot: Slot) -> Slot
     ensures { LeadsTo entries.now standings.now slot result }
 {
     let mut last = slot;
     for _ in 0..LEVELS {
-        match next_open(entries, standings, last) {
+        match next_open(entries, standings, edited, last) {
             Some(next) => last = next,
             None => return last,
         }

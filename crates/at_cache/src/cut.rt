@@ -58,11 +58,13 @@ impl Pass {
                 since: standing.since,
                 holds: standing.holds,
                 traced: false,
+                cursor: standing.cursor,
             },
             Pass::Values => Standing {
                 since: standing.since,
                 holds: false,
                 traced: standing.traced,
+                cursor: 0,
             },
         }
     }

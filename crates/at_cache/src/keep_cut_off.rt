@@ -36,6 +36,8 @@ pub struct KeepCutOff {
     index_read: Vec<Node>,
     // How many numbers were given, by `put` and where an entry was kept again.
     puts: u64,
+    // How many were given before the last edit. Nothing rests on it.
+    edited: u64,
     // Whether there ever was an edit; before that there is nothing to be kept again. Nothing rests on it.
     doubtful: bool,
     ghost indexed: { IsIndexed (edges_at readers.items) puts (held cut.standings.items (memory_of cut.entries)) },
@@ -54,6 +56,7 @@ impl Drop for KeepCutOff {
             readers: _,
             index_read: _,
             puts: _,
+            edited: _,
             doubtful: _,
         } = self;
     }
@@ -79,6 +82,7 @@ impl KeepCutOff {
             readers: Vec::new(alloc),
             index_read: Vec::new(alloc),
             puts: 0,
+            edited: 0,
             doubtful: false,
         }
     }
@@ -146,6 +150,7 @@ impl Keeper for KeepCutOff {
         let slot = entry.slot;
         let mut counts = Counts {
             puts: self.puts,
+            edited: self.edited,
             work,
         };
         settle_at(
@@ -164,7 +169,7 @@ impl Keeper for KeepCutOff {
             return None;
         }
         let entry = self.cut.entries.get(inst)?;
-        let slot = blocking(&self.cut.entries, self.cut.standings.as_slice(), entry.slot);
+        let slot = blocking(&self.cut.entries, self.cut.standings.as_slice(), self.edited, entry.slot);
         if slot == entry.slot {
             return None;
         }
@@ -178,6 +183,8 @@ impl Keeper for KeepCutOff {
 
     fn flush<F: Fn(Loc) -> bool>(&mut self, touched: &F) {
         self.doubtful = true;
+        self.puts = self.puts.saturating_add(1);
+        self.edited = self.puts;
         let readers = self.readers.as_slice();
         take_away(&mut self.cut, Pass::Traces, readers, touched);
         take_away(&mut self.cut, Pass::Values, readers, touched);
@@ -185,6 +192,8 @@ impl Keeper for KeepCutOff {
 
     fn flush_at<F: Fn(Loc) -> bool>(&mut self, places: &Places<'_>, touched: &F) {
         self.doubtful = true;
+        self.puts = self.puts.saturating_add(1);
+        self.edited = self.puts;
         let readers = self.readers.as_slice();
         let index_read = self.index_read.as_slice();
         take_away_at(

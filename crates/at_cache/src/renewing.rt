@@ -96,7 +96,7 @@ fn put_in(cut: &mut Cut, inst: Inst, entry: Entry) -> Result<(), AllocError>
         cut.old.standings.items (memory_of cut.old.entries) cut.new.standings.items (memory_of cut.new.entries)) }
     ensures err { OnErr result (((k : ℕ) → memory_of cut.new.entries k ≡ memory_of cut.old.entries k) × (cut.new.standings.items ≡ cut.old.standings.items)) }
 {
-    if cut.entries.get(&inst).is_none() {
+    if cut.entries.pair(entry.slot).is_none() {
         return cut.entries.enter(inst, entry);
     }
     renew(cut, &inst, entry);
@@ -145,6 +145,7 @@ pub fn enter_held(
         since: stamp,
         holds: true,
         traced: is_traced(&value, order),
+        cursor: 0,
     };
     put_in(cut, inst, fresh(value, links, edge))?;
     set_standing(&mut cut.standings, slot, standing);

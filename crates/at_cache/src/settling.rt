@@ -19,6 +19,8 @@ pub const LEVELS: usize = 400;
 pub struct Counts {
     pub puts: u64,
     pub work: u64,
+    /// How many numbers were given before the last edit.
+    pub edited: u64,
 }
 
 /// Whether the entry in the slot is kept with a value, once all that can be kept again is, of what it used, and so on, and of itself. What lies
@@ -44,37 +46,56 @@ pub fn settle_at(
     if !standing.traced || levels == 0 {
         return false;
     }
-    if !settle_all(
+    let at = settle_all(
         entries,
         standings,
         counts,
         entry.links.as_slice(),
+        known_of(standing, counts.edited),
         levels - 1,
-    ) {
+    );
+    if at < entry.links.len() {
+        stay_at(standings, counts, slot, at);
         return false;
     }
     keep_again(entries, standings, counts, slot)
 }
 
-// Whether the entries in all these slots are; those behind one that isn't stay as they are.
+// Where the first of these slots stands from that place on whose entry isn't; those behind it stay as they are.
 #[cycle(settling)]
 fn settle_all(
     entries: &Table,
     standings: &mut Vec<Standing>,
     counts: &mut Counts,
     slots: &[Slot],
+    known: usize,
     levels: usize,
-) -> bool
-    ensures { (lists : Location ℕ → List Edge) → IsWhole lists entries.now standings.old.items counts.old
-        → AreTaken (memory_of entries.now) slots.now
-        → HasSettledAll lists entries.now slots.now standings.old.items counts.old result standings.new.items counts.new }
-{
-    for slot in slots {
-        if !settle_at(entries, standings, counts, *slot, levels) {
-            return false;
+) -> usize {
+    for place in known..slots.len() {
+        if !settle_at(entries, standings, counts, slots[place], levels) {
+            return place;
         }
     }
-    true
+    slots.len()
+}
+
+/// How many of what it used are known to be kept.
+pub fn known_of(standing: Standing, edited: u64) -> usize {
+    if standing.since < edited {
+        return 0;
+    }
+    standing.cursor as usize
+}
+
+// What the entry in the slot used is kept up to that place.
+fn stay_at(standings: &mut Vec<Standing>, counts: &Counts, slot: Slot, place: usize) {
+    let stays = Standing {
+        since: counts.puts,
+        holds: false,
+        traced: true,
+        cursor: place as u32,
+    };
+    set_standing(standings, slot, stays);
 }
 
 // Whether the traced entry in the slot, of which all that it used is kept, is kept, which it is from now on, where there is a number left.
@@ -99,6 +120,7 @@ fn keep_again(
         since: counts.puts,
         holds: true,
         traced: true,
+        cursor: 0,
     };
     set_standing(standings, slot, again);
     counts.puts += 1;

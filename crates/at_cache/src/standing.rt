@@ -15,6 +15,8 @@ pub struct Standing {
     pub holds: bool,
     /// Whether it can be kept again once all that it used is.
     pub traced: bool,
+    /// How many of what it used are known to be kept, where it isn't and `since` isn't before the last edit.
+    pub cursor: u32,
 }
 
 /// How the entry in the slot stands.

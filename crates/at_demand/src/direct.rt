@@ -36,7 +36,7 @@ mod keeping;
 const DEPTH: usize = 800;
 
 // How many instances are evaluated at most, one behind the other, so that one which used them may be kept again.
-const IN_THE_WAY: usize = 16;
+const IN_THE_WAY: usize = 1 << 20;
 
 // What an evaluation under way has looked at, and the known instances whose values it took.
 pub struct Level {
