@@ -9,7 +9,7 @@ ghost use Rattle.at_cache.specs.Recorded.{IsIndexed};
 ghost use Rattle.at_cache.specs.Standings.{AreValued, IsTied, held, kept_held, last_is, remembered};
 ghost use Rattle.at_cache.specs.Traced.{TracesNothing};
 
-use crate::blocking::blocking;
+use crate::edge::Slot;
 use crate::cut::{Cut, Pass};
 use crate::cutting::{take_away, take_away_at};
 use crate::facet::Facets;
@@ -38,6 +38,8 @@ pub struct KeepCutOff {
     puts: u64,
     // How many were given before the last edit. Nothing rests on it.
     edited: u64,
+    // What stood in the way when something was to be kept again last.
+    open: Option<Slot>,
     // Whether there ever was an edit; before that there is nothing to be kept again. Nothing rests on it.
     doubtful: bool,
     ghost indexed: { IsIndexed (edges_at readers.items) puts (held cut.standings.items (memory_of cut.entries)) },
@@ -57,6 +59,7 @@ impl Drop for KeepCutOff {
             index_read: _,
             puts: _,
             edited: _,
+            open: _,
             doubtful: _,
         } = self;
     }
@@ -83,6 +86,7 @@ impl KeepCutOff {
             index_read: Vec::new(alloc),
             puts: 0,
             edited: 0,
+            open: None,
             doubtful: false,
         }
     }
@@ -141,6 +145,7 @@ impl Keeper for KeepCutOff {
     }
 
     fn settle(&mut self, inst: &Inst, work: u64) -> u64 {
+        self.open = None;
         if !self.doubtful {
             return work;
         }
@@ -151,9 +156,10 @@ impl Keeper for KeepCutOff {
         let mut counts = Counts {
             puts: self.puts,
             edited: self.edited,
+            open: slot,
             work,
         };
-        settle_at(
+        let kept = settle_at(
             &self.cut.entries,
             &mut self.cut.standings,
             &mut counts,
@@ -161,18 +167,14 @@ impl Keeper for KeepCutOff {
             LEVELS,
         );
         self.puts = counts.puts;
+        if !kept && counts.open != slot {
+            self.open = Some(counts.open);
+        }
         counts.work
     }
 
-    fn blocker(&self, inst: &Inst) -> Option<&Inst> {
-        if !self.doubtful {
-            return None;
-        }
-        let entry = self.cut.entries.get(inst)?;
-        let slot = blocking(&self.cut.entries, self.cut.standings.as_slice(), self.edited, entry.slot);
-        if slot == entry.slot {
-            return None;
-        }
+    fn blocker(&self, _inst: &Inst) -> Option<&Inst> {
+        let slot = self.open?;
         let (instance, _) = self.cut.entries.pair(slot)?;
         Some(instance)
     }

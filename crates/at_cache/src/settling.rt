@@ -21,6 +21,8 @@ pub struct Counts {
     pub work: u64,
     /// How many numbers were given before the last edit.
     pub edited: u64,
+    /// Where it was that it didn't go on.
+    pub open: Slot,
 }
 
 /// Whether the entry in the slot is kept with a value, once all that can be kept again is, of what it used, and so on, and of itself. What lies
@@ -40,10 +42,11 @@ pub fn settle_at(
         return false;
     };
     let standing = standing_at(standings.as_slice(), slot);
-    if standing.holds {
-        return entry.value.is_some();
+    if standing.holds && entry.value.is_some() {
+        return true;
     }
-    if !standing.traced || levels == 0 {
+    if standing.holds || !standing.traced || levels == 0 {
+        counts.open = slot;
         return false;
     }
     let at = settle_all(
