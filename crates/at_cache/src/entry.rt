@@ -18,6 +18,8 @@ pub struct Entry {
     pub slot: Slot,
     /// The number of its `put`.
     pub stamp: u64,
+    /// The number of the edges at what it used.
+    pub linked: u64,
     pub users: Edges,
     pub mark: Mark,
 }
@@ -30,6 +32,7 @@ impl Drop for Entry {
             links: _,
             slot: _,
             stamp: _,
+            linked: _,
             users: _,
             mark: _,
         } = self;
@@ -46,6 +49,7 @@ impl Entry {
             links,
             slot,
             stamp,
+            linked: _,
             users: _,
             mark: _,
         } = self;

@@ -14,7 +14,7 @@ ghost use Rattle.at_cache.specs.Readers.{edges_at};
 ghost use Rattle.at_cache.specs.Recorded.{AreOf, IsIndexed, kept_in};
 ghost use Rattle.at_cache.specs.Theirs.{AreTheirs};
 
-use crate::edge::{Edge, Edges};
+use crate::edge::{Edge, Edges, Slot};
 use crate::entry::{Entry, Links};
 use crate::facet::Facets;
 use crate::keeper::Put;
@@ -40,6 +40,46 @@ pub fn slots_of(alloc: Global, entries: &Table, uses: &[Inst]) -> Result<Links, 
     Ok(slots)
 }
 
+// How an edge at something used is told from one at something read.
+const LINKING: u64 = 1 << 63;
+
+/// The edge at what the entry used.
+pub fn linking(edge: Edge) -> Edge {
+    Edge {
+        slot: edge.slot,
+        stamp: edge.stamp | LINKING,
+    }
+}
+
+/// The slots of these instances, of which the old ones may be some.
+pub fn slots_like(
+    alloc: Global,
+    entries: &Table,
+    uses: &[Inst],
+    old: &[Slot],
+) -> Result<Links, AllocError> {
+    let mut slots = Links::with_capacity(alloc, uses.len())?;
+    for (place, used) in uses.iter().enumerate() {
+        if let Some(slot) = slot_like(entries, used, old, place) {
+            slots.push(slot)?;
+        }
+    }
+    Ok(slots)
+}
+
+// The slot of the instance, which may be the old one at that place.
+fn slot_like(entries: &Table, used: &Inst, old: &[Slot], place: usize) -> Option<Slot> {
+    if let Some(slot) = old.get(place) {
+        if let Some((instance, _)) = entries.pair(*slot) {
+            if *instance == *used {
+                return Some(*slot);
+            }
+        }
+    }
+    let entry = entries.entries.get(used)?;
+    Some(entry.slot)
+}
+
 /// An entry that is to come, which that edge tells of.
 pub fn fresh(value: Option<Value>, links: Links, edge: Edge) -> Entry
     ensures entry { (i : Instance ℕ) → info (i, result) ≡ fresh_entry i (option_map value_view value) links.items edge.stamp }
@@ -50,6 +90,7 @@ pub fn fresh(value: Option<Value>, links: Links, edge: Edge) -> Entry
         links,
         slot: edge.slot,
         stamp: edge.stamp,
+        linked: linking(edge).stamp,
         users: Edges::Empty,
         mark: Mark::Stays,
     }
@@ -82,7 +123,7 @@ pub fn enter_with(
     let slot = entries.next()?;
     let edge = Edge { slot, stamp };
     add_readers(alloc, entries, readers, index_read, reads, edge)?;
-    add_users(alloc, entries, links.as_slice(), edge)?;
+    add_users(alloc, entries, links.as_slice(), linking(edge))?;
     entries.enter(inst, fresh(value, links, edge))?;
     Ok(Put::Kept)
 }

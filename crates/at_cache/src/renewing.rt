@@ -22,7 +22,7 @@ use crate::entry::Entry;
 use crate::facet::Facets;
 use crate::keeper::{Order, Put};
 use crate::linking::{add_readers, add_users};
-use crate::putting::{fresh, slots_of};
+use crate::putting::{fresh, linking, slots_like};
 use crate::standing::{Standing, make_standing, set_standing};
 use crate::table::Table;
 use at_body::{Inst, Value};
@@ -135,12 +135,18 @@ pub fn enter_held(
         (remembered (edges_at readers.old.items) cut.old.entries cut.old.standings.items)
         (remembered (edges_at readers.new.items) cut.new.entries cut.new.standings.items) }
 {
-    let links = slots_of(alloc, &cut.entries, uses)?;
     let slot = slot_for(&cut.entries, &inst)?;
+    let links = slots_like(alloc, &cut.entries, uses, cut.entries.links_in(slot))?;
     make_standing(&mut cut.standings, slot)?;
     let edge = Edge { slot, stamp };
     add_readers(alloc, &cut.entries, readers, index_read, reads, edge)?;
-    add_users(alloc, &mut cut.entries, links.as_slice(), edge)?;
+    let linked = match cut.entries.linked_so(slot, links.as_slice()) {
+        Some(linked) => linked,
+        None => {
+            add_users(alloc, &mut cut.entries, links.as_slice(), linking(edge))?;
+            linking(edge).stamp
+        }
+    };
     let standing = Standing {
         since: stamp,
         holds: true,
@@ -148,6 +154,7 @@ pub fn enter_held(
         cursor: 0,
     };
     put_in(cut, inst, fresh(value, links, edge))?;
+    cut.entries.set_linked(slot, linked);
     set_standing(&mut cut.standings, slot, standing);
     Ok(Put::Kept)
 }

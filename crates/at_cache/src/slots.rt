@@ -80,7 +80,7 @@ impl Table {
         ensures { result ≡ is_current (memory_of self.now) edge.now }
     {
         match self.pair(edge.slot) {
-            Some((_, entry)) => entry.stamp == edge.stamp,
+            Some((_, entry)) => entry.has(edge),
             None => false,
         }
     }
@@ -122,6 +122,31 @@ impl Table {
     {
         if let Some(place) = self.places.get(slot as usize) {
             write_entry(&mut self.entries, *place, value, links, stamp);
+        }
+    }
+
+    /// The slots of what the entry in the slot used.
+    pub fn links_in(&self, slot: Slot) -> &[Slot] {
+        match self.pair(slot) {
+            Some((_, entry)) => entry.links.as_slice(),
+            None => &[],
+        }
+    }
+
+    /// The number of its edges at what it used, where these are just the ones in these slots.
+    pub fn linked_so(&self, slot: Slot, slots: &[Slot]) -> Option<u64> {
+        let (_, entry) = self.pair(slot)?;
+        if are_these(entry.links.as_slice(), slots) {
+            return Some(entry.linked);
+        }
+        None
+    }
+
+    /// The edges at what it used have that number.
+    pub fn set_linked(&mut self, slot: Slot, linked: u64) {
+        if let Some(place) = self.places.get(slot as usize) {
+            let (_, entry) = self.entries.pair_mut(*place);
+            entry.linked = linked;
         }
     }
 
@@ -217,6 +242,19 @@ fn write_entry(
     entry.stamp = stamp;
 }
 
+// Whether both are the same slots.
+fn are_these(old: &[Slot], new: &[Slot]) -> bool {
+    if old.len() != new.len() {
+        return false;
+    }
+    for place in 0..old.len() {
+        if old[place] != new[place] {
+            return false;
+        }
+    }
+    true
+}
+
 // Whether the value is that one.
 fn is_value(old: &Option<Value>, new: &Value) -> bool
     ensures { IsTrue result → option_map value_view old.now ≡ Some (value_view new.now) }
@@ -296,6 +334,11 @@ impl Entry {
     fn is_fresh(&self, edge: &Edge) -> bool
         ensures { result ≡ (nat_eq self.now.stamp edge.now.stamp && not (is_going self.now.mark)) }
     {
-        self.stamp == edge.stamp && !self.mark.is_going()
+        self.has(edge) && !self.mark.is_going()
+    }
+
+    // Whether the edge tells of it as it was put last.
+    fn has(&self, edge: &Edge) -> bool {
+        self.stamp == edge.stamp || self.linked == edge.stamp
     }
 }
