@@ -19,7 +19,7 @@ use Rattle.at_cache.specs.Traced.{Memories, Trace}
 
 -- how what isn't there stands
 abbrev pub nothing : Standing
-nothing = record { since = 0; holds = false; traced = false }
+nothing = record { since = 0; holds = false; traced = false; cursor = 0 }
 
 -- how the entry in a slot stands
 abbrev pub standing_of : List Standing → ℕ → Standing
