@@ -51,8 +51,21 @@ pub fn linking(edge: Edge) -> Edge {
     }
 }
 
-/// The slots of these instances, of which the old ones may be some.
-pub fn slots_like(
+/// The slots of these instances, of which what is in the slot may have used some before.
+pub fn slots_again(
+    alloc: Global,
+    entries: &Table,
+    uses: &[Inst],
+    slot: Slot,
+) -> Result<Links, AllocError> {
+    match entries.pair(slot) {
+        Some((_, entry)) => slots_like(alloc, entries, uses, entry.links.as_slice()),
+        None => slots_of(alloc, entries, uses),
+    }
+}
+
+// The slots of these instances, of which the old ones may be some.
+fn slots_like(
     alloc: Global,
     entries: &Table,
     uses: &[Inst],

@@ -22,7 +22,7 @@ use crate::entry::Entry;
 use crate::facet::Facets;
 use crate::keeper::{Order, Put};
 use crate::linking::{add_readers, add_users};
-use crate::putting::{fresh, linking, slots_like};
+use crate::putting::{fresh, linking, slots_again};
 use crate::standing::{Standing, make_standing, set_standing};
 use crate::table::Table;
 use at_body::{Inst, Value};
@@ -136,7 +136,7 @@ pub fn enter_held(
         (remembered (edges_at readers.new.items) cut.new.entries cut.new.standings.items) }
 {
     let slot = slot_for(&cut.entries, &inst)?;
-    let links = slots_like(alloc, &cut.entries, uses, cut.entries.links_in(slot))?;
+    let links = slots_again(alloc, &cut.entries, uses, slot)?;
     make_standing(&mut cut.standings, slot)?;
     let edge = Edge { slot, stamp };
     add_readers(alloc, &cut.entries, readers, index_read, reads, edge)?;

@@ -49,12 +49,13 @@ pub fn settle_at(
         counts.open = slot;
         return false;
     }
+    let known = known_of(standing, counts.edited);
     let at = settle_all(
         entries,
         standings,
         counts,
         entry.links.as_slice(),
-        known_of(standing, counts.edited),
+        known,
         levels - 1,
     );
     if at < entry.links.len() {

@@ -125,14 +125,6 @@ impl Table {
         }
     }
 
-    /// The slots of what the entry in the slot used.
-    pub fn links_in(&self, slot: Slot) -> &[Slot] {
-        match self.pair(slot) {
-            Some((_, entry)) => entry.links.as_slice(),
-            None => &[],
-        }
-    }
-
     /// The number of its edges at what it used, where these are just the ones in these slots.
     pub fn linked_so(&self, slot: Slot, slots: &[Slot]) -> Option<u64> {
         let (_, entry) = self.pair(slot)?;
