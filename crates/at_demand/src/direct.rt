@@ -628,16 +628,13 @@ impl Direct {
         let mut rest = nodes;
         let near = self.near(basis, here, body);
         while let Some((node, others)) = rest.split_first() {
-            let at_once = self.at_once(basis, level, here, near, *node)?;
+            inside.bound.push(*node)?;
+            let at_once = self.at_once(basis, level, &inside, near, body, *node)?;
             let value = match at_once {
                 Some(value) => value,
-                None => {
-                    inside.bound.push(*node)?;
-                    let value = self.value(keeper, basis, level, &inside, body, above)?;
-                    let _ = inside.bound.pop();
-                    value
-                }
+                None => self.value(keeper, basis, level, &inside, body, above)?,
             };
+            let _ = inside.bound.pop();
             let next = settle(going, *node, &value)?;
             match next {
                 Next::On(further) => going = further,
@@ -660,12 +657,37 @@ impl Direct {
         Some(attribute)
     }
 
-    // The value of that attribute of an element, where its equation needs no evaluation.
+    // The value of that attribute of an element, or of a comparison with it, where that needs no evaluation.
     #[inline(always)]
-    fn at_once(&self, basis: &Basis<'_>, level: &mut Level, here: &Here, near: Option<AttrId>, node: Node) -> Result<Option<Value>, Stop> {
-        match near {
-            Some(attribute) => plain_value(basis.rules, basis.store, &mut level.reads, &here.arguments, node, attribute),
-            None => Ok(None),
+    fn at_once(
+        &self,
+        basis: &Basis<'_>,
+        level: &mut Level,
+        inside: &Here,
+        near: Option<AttrId>,
+        body: &Body,
+        node: Node,
+    ) -> Result<Option<Value>, Stop> {
+        if let Some(attribute) = near {
+            return plain_value(
+                basis.rules,
+                basis.store,
+                &mut level.reads,
+                &inside.arguments,
+                node,
+                attribute,
+            );
+        }
+        match body {
+            Body::Equals(left, right) => compare(
+                inside,
+                basis.store,
+                &mut level.reads,
+                &Binary::Equals,
+                left,
+                right,
+            ),
+            _ => Ok(None),
         }
     }
 }
