@@ -9,9 +9,9 @@ ghost use Rattle.at_cache.specs.Recorded.{IsIndexed};
 ghost use Rattle.at_cache.specs.Standings.{AreValued, IsTied, held, kept_held, last_is, remembered};
 ghost use Rattle.at_cache.specs.Traced.{TracesNothing};
 
-use crate::edge::Slot;
 use crate::cut::{Cut, Pass};
 use crate::cutting::{take_away, take_away_at};
+use crate::edge::Slot;
 use crate::facet::Facets;
 use crate::keeper::{Keeper, Order, Put};
 use crate::renewing::enter_held;

@@ -19,8 +19,8 @@ ghost use Rattle.at_demand.specs.Sparing.{AreSpare, HasWorthy};
 
 use crate::basis::Basis;
 use at_apply::{
-    Form, Here, Next, Stop, begin, chosen, compare, form_of, node_of, settle, truth_in, with_one,
-    with_two, asked_of_each, plain_value,
+    Form, Here, Next, Stop, asked_of_each, begin, chosen, compare, form_of, node_of, plain_value,
+    settle, truth_in, with_one, with_two,
 };
 use at_body::{Arguments, Binary, Fold, Inst, Reads, Unary, Value, come_to};
 use at_cache::Keeper;
