@@ -15,6 +15,7 @@ pub mod Comparing
 pub mod Starting
 pub mod Trying
 pub mod Typed
+pub mod Others
 pub mod Asked
 pub mod TypedForms
 pub mod TypedStart

@@ -15,6 +15,7 @@ ghost use Rattle.at_body.specs.Typed.{Calls, ComesTo, Enters, IsOver, IsTypedNow
 ghost use Rattle.at_body.specs.ValueKinds.{IsTruth};
 ghost use Rattle.at_body.specs.Values.{value_view};
 ghost use Rattle.at_rules.specs.Bodies.{body_view, bodies_view};
+ghost use Rattle.at_body.specs.Others.{IsOther};
 ghost use Rattle.at_body.specs.Standing.{scope};
 ghost use Rattle.at_body.specs.declared.todo.Now.TheVariants.{Ask, Enter};
 ghost use Rattle.at_body.specs.declared.todo.Todo.TheVariants.{And, Choose, Elements, Or, Right, Use};
@@ -196,7 +197,7 @@ impl<'a> Trial<'a> {
         }
     }
 
-    /// The first thing to do for the value of an expression of any form.
+    /// The same for an expression of any other form.
     fn enter_any(
         &mut self,
         rules: &'a Rules,
@@ -206,6 +207,7 @@ impl<'a> Trial<'a> {
         requires idle_store { IsIdle store.now }
         requires over { IsOver rules.now (class_shown store.now) (contents store.now) }
         requires typed { Enters rules.now (class_shown store.now) self.old body.now }
+        requires other { IsOther body.now }
         ensures same { IfOk result (λ now. GoesOn (contents store.now) rules.now.classes self.old.reads
             (begun rules.now.classes self.old (body_view body.now)) now self.new) }
         ensures less { IfOk result (λ now. weight now self.new < size (body_view body.now) + load self.old.todo) }
@@ -221,7 +223,6 @@ impl<'a> Trial<'a> {
             Body::IndexName => self.index(store),
             Body::Negate(a) => self.operand(rules, store, Unary::Negate, a),
             Body::Not(a) => self.operand(rules, store, Unary::Not, a),
-            Body::Arithmetic(o, a, b) => self.operands(store, Binary::Arithmetic(*o), a, b),
             Body::Compare(o, a, b) => self.operands(store, Binary::Compare(*o), a, b),
             Body::Join(a, b) => self.operands(store, Binary::Join, a, b),
             Body::JoinInt(a, b) => self.operands(store, Binary::JoinInt, a, b),
@@ -237,11 +238,12 @@ impl<'a> Trial<'a> {
             Body::Element(a, part, b) => self.operands(store, Binary::Element(*part), a, b),
             Body::Count(a, part) => self.operand(rules, store, Unary::Count(*part), a),
             Body::Has(a, part) => self.operand(rules, store, Unary::Has(*part), a),
-            Body::TokenOf(a, part) => self.operand(rules, store, Unary::Token(*part), a),
-            Body::Call(a, attribute, passed) => self.then(Todo::Arguments(*attribute, passed), a),
             Body::Exists(a, part, b) => self.over(Fold::Exists, a, *part, b),
             Body::First(a, part, b) => self.over(Fold::First, a, *part, b),
             Body::Sum(a, part, b) => self.over(Fold::Sum(0), a, *part, b),
+            Body::TokenOf(_, _) => unreachable!(),
+            Body::Arithmetic(_, _, _) => unreachable!(),
+            Body::Call(_, _, _) => unreachable!(),
         }
     }
 

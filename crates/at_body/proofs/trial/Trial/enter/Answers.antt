@@ -45,3 +45,6 @@ returns-in-Call-clause-less c = bounded _ _ (load c.args.self.now.todo) (size (b
 pub returns-in-Call-clause-typed : goal.returns-in-Call-clause-typed
 returns-in-Call-clause-typed c = c.call.ensures.typed c.args.rules.now (class_shown c.args.store.now) c.requires.over (part_enters c.args.rules.now (class_shown c.args.store.now) c.args.self.now c.args.body.now c.deref-in-Call.result.now (Arguments c.in-Call.attribute c.deref-in-Call-2.result) (Call (body_view c.deref-in-Call.result.now) c.in-Call.attribute (bodies_view c.deref-in-Call-2.result.now))
     (call_view _ _ _ _ _ _ _ _ c.in-Call.is (items_hidden-the_row-Body-0 c.in-Call.passed ∙ sym c.deref-in-Call-2.ensures.value) c.deref-in-Call.ensures) (λ s k x h. calls c.args.rules.now (class_shown c.args.store.now) s (body_view c.deref-in-Call.result.now) c.in-Call.attribute c.deref-in-Call-2.result k c.args.self.now.todo x h) c.requires.typed)
+
+pub enter_any-requires-clause-other : goal.enter_any-requires-clause-other
+enter_any-requires-clause-other c = record { no_token = c.in_default.not-TokenOf; no_arithmetic = c.in_default.not-Arithmetic; no_call = c.in_default.not-Call }

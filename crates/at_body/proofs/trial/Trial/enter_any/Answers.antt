@@ -1,20 +1,19 @@
 use Rattle.at_store.specs.Shown.{contents}
-use Rattle.std.proofs.Common.{◌+◌, ◌∙◌, sym, refl, ap, arith, pos}
+use Rattle.std.proofs.Common.{◌+◌, refl, arith, pos}
 use Rattle.at_body.specs.declared.todo.Unary.TheVariants as unary
 use Rattle.at_body.specs.declared.todo.Binary.TheVariants as binary
 use Rattle.at_body.specs.declared.todo.Fold.TheVariants as fold
-use Rattle.at_body.specs.declared.todo.Todo.TheVariants.{Use, Right, And, Or, Choose, Arguments, Elements}
-use Rattle.at_rules.specs.declared.body.Body.{items_hidden-the_row-Body-0}
-use Rattle.at_body.specs.Rest.{ev, load, place_of}
+use Rattle.at_body.specs.declared.todo.Todo.TheVariants.{Use, Right, And, Or, Choose, Elements}
+use Rattle.at_body.specs.Rest.{load}
 use Rattle.at_body.specs.Size.{size}
 use Rattle.at_rules.specs.Bodies.{body_view}
-use Rattle.at_body.proofs.Entering.{bounded, brought, entered, lighter, call_view}
+use Rattle.at_body.proofs.Entering.{bounded, brought, entered}
 use Rattle.at_body.proofs.Uses.{followed, kept}
-use Rattle.at_model.specs.Bodies.{Negate, Not, InstanceOf, CastTo, Child, Count, Has, TokenOf, Arithmetic, Compare, Join, JoinInt, Same, Differ, Equals, Element, Call, Exists, First, Sum}
+use Rattle.at_model.specs.Bodies.{Negate, Not, InstanceOf, CastTo, Child, Count, Has, Compare, Join, JoinInt, Same, Differ, Equals, Element, Exists, First, Sum}
 use Rattle.at_model.specs.Bodies as model
-use Rattle.at_rules.specs.Bodies.{bodies_view, operator_view, order_view}
+use Rattle.at_rules.specs.Bodies.{order_view}
 use Rattle.at_body.specs.Typed.{class_shown}
-use Rattle.at_body.proofs.TypedParts.{part_enters, put_typed, negates, opposes, tests, casts, asks_child, asks_count, asks_has, asks_token, computes, compares, joins, joins_int, same, differs, equals, asks_element, conjoins, disjoins, chooses, calls, exists, first, sums}
+use Rattle.at_body.proofs.TypedParts.{part_enters, put_typed, negates, opposes, tests, casts, asks_child, asks_count, asks_has, compares, joins, joins_int, same, differs, equals, asks_element, conjoins, disjoins, chooses, exists, first, sums}
 use Rattle.at_body.proofs.TypedAnswers.{at_hand_takes}
 use Rattle.at_body.proofs.TypedSteps.{entered_same, entered_told, index_there, name_there}
 use Rattle.at_body.proofs.trial.Trial.enter_any.Goals as goal
@@ -28,11 +27,8 @@ returns-in-Negate-clause-same c = brought c.args.rules.now.classes _ _ c.args.se
 pub returns-in-Not-clause-same : goal.returns-in-Not-clause-same
 returns-in-Not-clause-same c = brought c.args.rules.now.classes _ _ c.args.self.now _ (body_view c.args.body.now) (body_view c.deref-in-Not.result.now) (Use unary.Not) c.operand-in-Not.ensures.same refl (rw (c.in-Not.is, ← c.deref-in-Not.ensures) refl)
 
-pub returns-in-Arithmetic-clause-same : goal.returns-in-Arithmetic-clause-same
-returns-in-Arithmetic-clause-same c = brought c.args.rules.now.classes _ _ c.args.self.now _ (body_view c.args.body.now) (body_view c.deref-in-Arithmetic.result.now) (Right (binary.Arithmetic c.in-Arithmetic.o) c.deref-in-Arithmetic-2.result) (c.operands.ensures.same c.args.rules.now.classes) refl (rw (c.in-Arithmetic.is, ← c.deref-in-Arithmetic.ensures, ← c.deref-in-Arithmetic-2.ensures) refl)
-
 pub returns-in-Compare-clause-same : goal.returns-in-Compare-clause-same
-returns-in-Compare-clause-same c = brought c.args.rules.now.classes _ _ c.args.self.now _ (body_view c.args.body.now) (body_view c.deref-in-Compare.result.now) (Right (binary.Compare c.in-Compare.o) c.deref-in-Compare-2.result) (c.operands-in-Compare.ensures.same c.args.rules.now.classes) refl (rw (c.in-Compare.is, ← c.deref-in-Compare.ensures, ← c.deref-in-Compare-2.ensures) refl)
+returns-in-Compare-clause-same c = brought c.args.rules.now.classes _ _ c.args.self.now _ (body_view c.args.body.now) (body_view c.deref-in-Compare.result.now) (Right (binary.Compare c.in-Compare.o) c.deref-in-Compare-2.result) (c.operands.ensures.same c.args.rules.now.classes) refl (rw (c.in-Compare.is, ← c.deref-in-Compare.ensures, ← c.deref-in-Compare-2.ensures) refl)
 
 pub returns-in-Join-clause-same : goal.returns-in-Join-clause-same
 returns-in-Join-clause-same c = brought c.args.rules.now.classes _ _ c.args.self.now _ (body_view c.args.body.now) (body_view c.deref-in-Join.result.now) (Right binary.Join c.deref-in-Join-2.result) (c.operands-in-Join.ensures.same c.args.rules.now.classes) refl (rw (c.in-Join.is, ← c.deref-in-Join.ensures, ← c.deref-in-Join-2.ensures) refl)
@@ -76,9 +72,6 @@ returns-in-Count-clause-same c = brought c.args.rules.now.classes _ _ c.args.sel
 pub returns-in-Has-clause-same : goal.returns-in-Has-clause-same
 returns-in-Has-clause-same c = brought c.args.rules.now.classes _ _ c.args.self.now _ (body_view c.args.body.now) (body_view c.deref-in-Has.result.now) (Use (unary.Has c.in-Has.part)) c.operand-in-Has.ensures.same refl (rw (c.in-Has.is, ← c.deref-in-Has.ensures) refl)
 
-pub returns-in-TokenOf-clause-same : goal.returns-in-TokenOf-clause-same
-returns-in-TokenOf-clause-same c = brought c.args.rules.now.classes _ _ c.args.self.now _ (body_view c.args.body.now) (body_view c.deref-in-TokenOf.result.now) (Use (unary.Token c.in-TokenOf.part)) c.operand-in-TokenOf.ensures.same refl (rw (c.in-TokenOf.is, ← c.deref-in-TokenOf.ensures) refl)
-
 pub returns-in-Exists-clause-same : goal.returns-in-Exists-clause-same
 returns-in-Exists-clause-same c = entered c.args.rules.now.classes _ _ c.args.self.now _ (body_view c.args.body.now) c.deref-in-Exists.result (Elements fold.Exists c.in-Exists.part c.deref-in-Exists-2.result) c.over.ensures refl (rw (c.in-Exists.is, ← c.deref-in-Exists.ensures, ← c.deref-in-Exists-2.ensures) refl)
 
@@ -87,14 +80,6 @@ returns-in-First-clause-same c = entered c.args.rules.now.classes _ _ c.args.sel
 
 pub returns-in-Sum-clause-same : goal.returns-in-Sum-clause-same
 returns-in-Sum-clause-same c = entered c.args.rules.now.classes _ _ c.args.self.now _ (body_view c.args.body.now) c.deref-in-Sum.result (Elements (fold.Sum (pos 0)) c.in-Sum.part c.deref-in-Sum-2.result) c.over-in-Sum.ensures refl (rw (c.in-Sum.is, ← c.deref-in-Sum.ensures, ← c.deref-in-Sum-2.ensures) refl)
-
-pub returns-in-Call-clause-same : goal.returns-in-Call-clause-same
-returns-in-Call-clause-same c = entered c.args.rules.now.classes (contents c.args.store.now) _ c.args.self.now _ (body_view c.args.body.now) c.deref-in-Call-2.result (Arguments c.in-Call.attribute c.deref-in-Call.result) c.then-in-Call.ensures refl
-    (ap (λ e. ev c.args.rules.now.classes e (place_of c.args.self.now)) (call_view _ _ _ _ _ _ _ _ c.in-Call.is (items_hidden-the_row-Body-0 c.in-Call.passed ∙ sym c.deref-in-Call.ensures.value) c.deref-in-Call-2.ensures))
-
-pub returns-in-Call-clause-less : goal.returns-in-Call-clause-less
-returns-in-Call-clause-less c = lighter _ c.args.self.now _ (size (body_view c.args.body.now)) c.deref-in-Call-2.result (Arguments c.in-Call.attribute c.deref-in-Call.result) c.then-in-Call.ensures
-    (rw (call_view _ _ _ _ _ _ _ _ c.in-Call.is (items_hidden-the_row-Body-0 c.in-Call.passed ∙ sym c.deref-in-Call.ensures.value) c.deref-in-Call-2.ensures) (omega arith))
 
 pub returns-in-IndexName-clause-same : goal.returns-in-IndexName-clause-same
 returns-in-IndexName-clause-same c = rw c.in-IndexName.is (c.index.ensures.same c.args.rules.now.classes)
@@ -105,11 +90,8 @@ returns-in-Negate-clause-less c = bounded _ _ (load c.args.self.now.todo) (size 
 pub returns-in-Not-clause-less : goal.returns-in-Not-clause-less
 returns-in-Not-clause-less c = bounded _ _ (load c.args.self.now.todo) (size (body_view c.deref-in-Not.result.now) + 2) (size (body_view c.args.body.now)) c.operand-in-Not.ensures.less (rw (c.in-Not.is, ← c.deref-in-Not.ensures) refl)
 
-pub returns-in-Arithmetic-clause-less : goal.returns-in-Arithmetic-clause-less
-returns-in-Arithmetic-clause-less c = bounded _ _ (load c.args.self.now.todo) (size (body_view c.deref-in-Arithmetic.result.now) + size (body_view c.deref-in-Arithmetic-2.result.now) + 3) (size (body_view c.args.body.now)) c.operands.ensures.less (rw (c.in-Arithmetic.is, ← c.deref-in-Arithmetic.ensures, ← c.deref-in-Arithmetic-2.ensures) refl)
-
 pub returns-in-Compare-clause-less : goal.returns-in-Compare-clause-less
-returns-in-Compare-clause-less c = bounded _ _ (load c.args.self.now.todo) (size (body_view c.deref-in-Compare.result.now) + size (body_view c.deref-in-Compare-2.result.now) + 3) (size (body_view c.args.body.now)) c.operands-in-Compare.ensures.less (rw (c.in-Compare.is, ← c.deref-in-Compare.ensures, ← c.deref-in-Compare-2.ensures) refl)
+returns-in-Compare-clause-less c = bounded _ _ (load c.args.self.now.todo) (size (body_view c.deref-in-Compare.result.now) + size (body_view c.deref-in-Compare-2.result.now) + 3) (size (body_view c.args.body.now)) c.operands.ensures.less (rw (c.in-Compare.is, ← c.deref-in-Compare.ensures, ← c.deref-in-Compare-2.ensures) refl)
 
 pub returns-in-Join-clause-less : goal.returns-in-Join-clause-less
 returns-in-Join-clause-less c = bounded _ _ (load c.args.self.now.todo) (size (body_view c.deref-in-Join.result.now) + size (body_view c.deref-in-Join-2.result.now) + 3) (size (body_view c.args.body.now)) c.operands-in-Join.ensures.less (rw (c.in-Join.is, ← c.deref-in-Join.ensures, ← c.deref-in-Join-2.ensures) refl)
@@ -144,9 +126,6 @@ returns-in-Count-clause-less c = bounded _ _ (load c.args.self.now.todo) (size (
 pub returns-in-Has-clause-less : goal.returns-in-Has-clause-less
 returns-in-Has-clause-less c = bounded _ _ (load c.args.self.now.todo) (size (body_view c.deref-in-Has.result.now) + 2) (size (body_view c.args.body.now)) c.operand-in-Has.ensures.less (rw (c.in-Has.is, ← c.deref-in-Has.ensures) refl)
 
-pub returns-in-TokenOf-clause-less : goal.returns-in-TokenOf-clause-less
-returns-in-TokenOf-clause-less c = bounded _ _ (load c.args.self.now.todo) (size (body_view c.deref-in-TokenOf.result.now) + 2) (size (body_view c.args.body.now)) c.operand-in-TokenOf.ensures.less (rw (c.in-TokenOf.is, ← c.deref-in-TokenOf.ensures) refl)
-
 pub operand-requires-clause-typed : goal.operand-requires-clause-typed
 operand-requires-clause-typed c = part_enters c.args.rules.now (class_shown c.args.store.now) c.args.self.now c.args.body.now c.deref.result.now (Use unary.Negate) (Negate (body_view c.deref.result.now)) (rw (c.in-Negate.is, ← c.deref.ensures) refl) (λ s k x h. negates c.args.rules.now (class_shown c.args.store.now) s (body_view c.deref.result.now) k c.args.self.now.todo x h) c.requires.typed
 
@@ -154,16 +133,10 @@ pub operand-requires-in-Not-clause-typed : goal.operand-requires-in-Not-clause-t
 operand-requires-in-Not-clause-typed c = part_enters c.args.rules.now (class_shown c.args.store.now) c.args.self.now c.args.body.now c.deref-in-Not.result.now (Use unary.Not) (Not (body_view c.deref-in-Not.result.now)) (rw (c.in-Not.is, ← c.deref-in-Not.ensures) refl) (λ s k x h. opposes c.args.rules.now (class_shown c.args.store.now) s (body_view c.deref-in-Not.result.now) k c.args.self.now.todo x h) c.requires.typed
 
 pub operands-requires-clause-typed : goal.operands-requires-clause-typed
-operands-requires-clause-typed c = (c.args.rules.now, class_shown c.args.store.now, c.requires.over, part_enters c.args.rules.now (class_shown c.args.store.now) c.args.self.now c.args.body.now c.deref-in-Arithmetic.result.now (Right (binary.Arithmetic c.in-Arithmetic.o) c.deref-in-Arithmetic-2.result) (Arithmetic (operator_view c.in-Arithmetic.o) (body_view c.deref-in-Arithmetic.result.now) (body_view c.deref-in-Arithmetic-2.result.now)) (rw (c.in-Arithmetic.is, ← c.deref-in-Arithmetic.ensures, ← c.deref-in-Arithmetic-2.ensures) refl) (λ s k x h. computes c.args.rules.now (class_shown c.args.store.now) s (body_view c.deref-in-Arithmetic.result.now) c.deref-in-Arithmetic-2.result c.in-Arithmetic.o k c.args.self.now.todo x h) c.requires.typed)
-
-pub returns-in-Arithmetic-clause-typed : goal.returns-in-Arithmetic-clause-typed
-returns-in-Arithmetic-clause-typed c = c.operands.ensures.typed c.args.rules.now (class_shown c.args.store.now) c.requires.over (part_enters c.args.rules.now (class_shown c.args.store.now) c.args.self.now c.args.body.now c.deref-in-Arithmetic.result.now (Right (binary.Arithmetic c.in-Arithmetic.o) c.deref-in-Arithmetic-2.result) (Arithmetic (operator_view c.in-Arithmetic.o) (body_view c.deref-in-Arithmetic.result.now) (body_view c.deref-in-Arithmetic-2.result.now)) (rw (c.in-Arithmetic.is, ← c.deref-in-Arithmetic.ensures, ← c.deref-in-Arithmetic-2.ensures) refl) (λ s k x h. computes c.args.rules.now (class_shown c.args.store.now) s (body_view c.deref-in-Arithmetic.result.now) c.deref-in-Arithmetic-2.result c.in-Arithmetic.o k c.args.self.now.todo x h) c.requires.typed)
-
-pub operands-requires-in-Compare-clause-typed : goal.operands-requires-in-Compare-clause-typed
-operands-requires-in-Compare-clause-typed c = (c.args.rules.now, class_shown c.args.store.now, c.requires.over, part_enters c.args.rules.now (class_shown c.args.store.now) c.args.self.now c.args.body.now c.deref-in-Compare.result.now (Right (binary.Compare c.in-Compare.o) c.deref-in-Compare-2.result) (Compare (order_view c.in-Compare.o) (body_view c.deref-in-Compare.result.now) (body_view c.deref-in-Compare-2.result.now)) (rw (c.in-Compare.is, ← c.deref-in-Compare.ensures, ← c.deref-in-Compare-2.ensures) refl) (λ s k x h. compares c.args.rules.now (class_shown c.args.store.now) s (body_view c.deref-in-Compare.result.now) c.deref-in-Compare-2.result c.in-Compare.o k c.args.self.now.todo x h) c.requires.typed)
+operands-requires-clause-typed c = (c.args.rules.now, class_shown c.args.store.now, c.requires.over, part_enters c.args.rules.now (class_shown c.args.store.now) c.args.self.now c.args.body.now c.deref-in-Compare.result.now (Right (binary.Compare c.in-Compare.o) c.deref-in-Compare-2.result) (Compare (order_view c.in-Compare.o) (body_view c.deref-in-Compare.result.now) (body_view c.deref-in-Compare-2.result.now)) (rw (c.in-Compare.is, ← c.deref-in-Compare.ensures, ← c.deref-in-Compare-2.ensures) refl) (λ s k x h. compares c.args.rules.now (class_shown c.args.store.now) s (body_view c.deref-in-Compare.result.now) c.deref-in-Compare-2.result c.in-Compare.o k c.args.self.now.todo x h) c.requires.typed)
 
 pub returns-in-Compare-clause-typed : goal.returns-in-Compare-clause-typed
-returns-in-Compare-clause-typed c = c.operands-in-Compare.ensures.typed c.args.rules.now (class_shown c.args.store.now) c.requires.over (part_enters c.args.rules.now (class_shown c.args.store.now) c.args.self.now c.args.body.now c.deref-in-Compare.result.now (Right (binary.Compare c.in-Compare.o) c.deref-in-Compare-2.result) (Compare (order_view c.in-Compare.o) (body_view c.deref-in-Compare.result.now) (body_view c.deref-in-Compare-2.result.now)) (rw (c.in-Compare.is, ← c.deref-in-Compare.ensures, ← c.deref-in-Compare-2.ensures) refl) (λ s k x h. compares c.args.rules.now (class_shown c.args.store.now) s (body_view c.deref-in-Compare.result.now) c.deref-in-Compare-2.result c.in-Compare.o k c.args.self.now.todo x h) c.requires.typed)
+returns-in-Compare-clause-typed c = c.operands.ensures.typed c.args.rules.now (class_shown c.args.store.now) c.requires.over (part_enters c.args.rules.now (class_shown c.args.store.now) c.args.self.now c.args.body.now c.deref-in-Compare.result.now (Right (binary.Compare c.in-Compare.o) c.deref-in-Compare-2.result) (Compare (order_view c.in-Compare.o) (body_view c.deref-in-Compare.result.now) (body_view c.deref-in-Compare-2.result.now)) (rw (c.in-Compare.is, ← c.deref-in-Compare.ensures, ← c.deref-in-Compare-2.ensures) refl) (λ s k x h. compares c.args.rules.now (class_shown c.args.store.now) s (body_view c.deref-in-Compare.result.now) c.deref-in-Compare-2.result c.in-Compare.o k c.args.self.now.todo x h) c.requires.typed)
 
 pub operands-requires-in-Join-clause-typed : goal.operands-requires-in-Join-clause-typed
 operands-requires-in-Join-clause-typed c = (c.args.rules.now, class_shown c.args.store.now, c.requires.over, part_enters c.args.rules.now (class_shown c.args.store.now) c.args.self.now c.args.body.now c.deref-in-Join.result.now (Right binary.Join c.deref-in-Join-2.result) (Join (body_view c.deref-in-Join.result.now) (body_view c.deref-in-Join-2.result.now)) (rw (c.in-Join.is, ← c.deref-in-Join.ensures, ← c.deref-in-Join-2.ensures) refl) (λ s k x h. joins c.args.rules.now (class_shown c.args.store.now) s (body_view c.deref-in-Join.result.now) c.deref-in-Join-2.result k c.args.self.now.todo x h) c.requires.typed)
@@ -224,12 +197,6 @@ operand-requires-in-Count-clause-typed c = part_enters c.args.rules.now (class_s
 
 pub operand-requires-in-Has-clause-typed : goal.operand-requires-in-Has-clause-typed
 operand-requires-in-Has-clause-typed c = part_enters c.args.rules.now (class_shown c.args.store.now) c.args.self.now c.args.body.now c.deref-in-Has.result.now (Use (unary.Has c.in-Has.part)) (Has (body_view c.deref-in-Has.result.now) c.in-Has.part) (rw (c.in-Has.is, ← c.deref-in-Has.ensures) refl) (λ s k x h. asks_has c.args.rules.now (class_shown c.args.store.now) s (body_view c.deref-in-Has.result.now) c.in-Has.part k c.args.self.now.todo x h) c.requires.typed
-
-pub operand-requires-in-TokenOf-clause-typed : goal.operand-requires-in-TokenOf-clause-typed
-operand-requires-in-TokenOf-clause-typed c = part_enters c.args.rules.now (class_shown c.args.store.now) c.args.self.now c.args.body.now c.deref-in-TokenOf.result.now (Use (unary.Token c.in-TokenOf.part)) (TokenOf (body_view c.deref-in-TokenOf.result.now) c.in-TokenOf.part) (rw (c.in-TokenOf.is, ← c.deref-in-TokenOf.ensures) refl) (λ s k x h. asks_token c.args.rules.now (class_shown c.args.store.now) s (body_view c.deref-in-TokenOf.result.now) c.in-TokenOf.part k c.args.self.now.todo x h) c.requires.typed
-
-pub returns-in-Call-clause-typed : goal.returns-in-Call-clause-typed
-returns-in-Call-clause-typed c = put_typed c.args.rules.now (class_shown c.args.store.now) _ c.args.self.now _ c.deref-in-Call-2.result (Arguments c.in-Call.attribute c.deref-in-Call.result) c.then-in-Call.ensures (part_enters c.args.rules.now (class_shown c.args.store.now) c.args.self.now c.args.body.now c.deref-in-Call-2.result.now (Arguments c.in-Call.attribute c.deref-in-Call.result) (Call (body_view c.deref-in-Call-2.result.now) c.in-Call.attribute (bodies_view c.deref-in-Call.result.now)) (call_view _ _ _ _ _ _ _ _ c.in-Call.is (items_hidden-the_row-Body-0 c.in-Call.passed ∙ sym c.deref-in-Call.ensures.value) c.deref-in-Call-2.ensures) (λ s k x h. calls c.args.rules.now (class_shown c.args.store.now) s (body_view c.deref-in-Call-2.result.now) c.in-Call.attribute c.deref-in-Call.result k c.args.self.now.todo x h) c.requires.typed)
 
 pub returns-in-Exists-clause-typed : goal.returns-in-Exists-clause-typed
 returns-in-Exists-clause-typed c = put_typed c.args.rules.now (class_shown c.args.store.now) _ c.args.self.now _ c.deref-in-Exists.result (Elements fold.Exists c.in-Exists.part c.deref-in-Exists-2.result) c.over.ensures (part_enters c.args.rules.now (class_shown c.args.store.now) c.args.self.now c.args.body.now c.deref-in-Exists.result.now (Elements fold.Exists c.in-Exists.part c.deref-in-Exists-2.result) (Exists (body_view c.deref-in-Exists.result.now) c.in-Exists.part (body_view c.deref-in-Exists-2.result.now)) (rw (c.in-Exists.is, ← c.deref-in-Exists.ensures, ← c.deref-in-Exists-2.ensures) refl) (λ s k x h. exists c.args.rules.now (class_shown c.args.store.now) s (body_view c.deref-in-Exists.result.now) c.in-Exists.part c.deref-in-Exists-2.result k c.args.self.now.todo x h) c.requires.typed)
