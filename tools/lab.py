@@ -1,12 +1,15 @@
 #!/usr/bin/env python3
 """Proves functions of a crate before the crates below it are proved.
 
-    tools/lab.py [--whole] CRATE [FUNCTION...]
+    tools/lab.py [--whole] [--built FOLDER] CRATE [FUNCTION...]
 
 The folder that it runs in is a repository; its files are read as they stand. FUNCTION is a path as the prover has it, such as
 `table::Table::enter`. The libraries below are given as source, in copies in which each function is left open: what is proved rests
 on their contracts. So does it on those of the crate's other functions, which are left open, too, unless --whole is given. Without
 a FUNCTION the front end's errors are told alone. What was checked is kept below /tmp/attrd-lab for the next run.
+
+With `--built FOLDER` crates below whose files are those of the repository in FOLDER are taken as they were built there, by a check or
+by `rt ci` (its copy, below /tmp/rt-copy-*): most of a run's time is the reading of crates.
 
 A line `fn F: no holes`, or one that names the holes of callees alone, tells that F is proved. One that says that F calls what isn't
 proved doesn't: then the goals of F weren't tried. For work only: the gate trusts nothing of it.
@@ -44,11 +47,20 @@ def copied(source: Path, folder: Path) -> None:
 
 
 class Lab:
-    """A folder of its own for each repository, with copies of its crates."""
+    """A folder of its own for each repository, with copies of its crates. Some of those below are taken from where they were built."""
 
-    def __init__(self, root: str) -> None:
+    def __init__(self, root: str, built: Optional[Path] = None) -> None:
         self.proved = Proved(root)
         self.room = ROOM / hashlib.sha256(str(self.proved.root).encode()).hexdigest()[:12]
+        self.built = built
+
+    def library(self, crate: str) -> Optional[Path]:
+        """Where the crate was built, if its files and those of all below it are the same there."""
+        if self.built is None:
+            return None
+        folder, below = self.built / "crates" / crate, [it for it in self.proved.uses[crate] if it in self.proved.uses]
+        is_same = contents(folder) == contents(self.proved.root / "crates" / crate) and all(map(self.library, below))
+        return folder / "out/rlib" if is_same and (folder / f"out/rlib/{crate}.rlib/interface").exists() else None
 
     def opened(self, crate: str, functions: Optional[Sequence[str]]) -> Path:
         """A copy of the crate in which all but these functions is left open."""
@@ -82,8 +94,11 @@ class Lab:
         root = "main" if (self.proved.root / "crates" / crate / "src/main.rt").exists() else "lib"
         words = [str(self.proved.kit / "bin/rattle"), "check", "--crate-name", crate, f"src/{root}.rt", "--jobs", "1", "--allow-holes"]
         for name in order:
-            uses = ",".join(["std", *self.proved.uses[name]])
-            words += ["--lib", f"{name}:{uses}={self.opened(name, [])}/src/lib.rt"]
+            uses, library = ",".join(["std", *self.proved.uses[name]]), self.library(name)
+            if library:
+                words += ["--extern", f"{name}={library}/{name}.rlib", "-L", f"dependency={library}"]
+            else:
+                words += ["--lib", f"{name}:{uses}={self.opened(name, [])}/src/lib.rt"]
         for name in kit:
             words += ["--extern", f"{name}={rlibs}/{name}.rlib"]
         kept = self.room / f"checked-{crate}"
@@ -96,10 +111,11 @@ class Lab:
 def main() -> int:
     words = argparse.ArgumentParser(description="Proves functions of a crate before the crates below it are proved.")
     words.add_argument("--whole", action="store_true", help="leave nothing open in the crate itself")
+    words.add_argument("--built", type=Path, metavar="FOLDER", help="a repository whose built crates are taken where they are the same")
     words.add_argument("crate")
     words.add_argument("functions", metavar="FUNCTION", nargs="*")
     given = words.parse_args()
-    lab = Lab(".")
+    lab = Lab(".", given.built and given.built.resolve())
     check = lab.words(given.crate, given.functions)
     folder = lab.opened(given.crate, given.functions if given.functions and not given.whole else None)
     return subprocess.run(check, cwd=folder, check=False).returncode
