@@ -9,21 +9,10 @@ ghost use Rattle.at_body.specs.Values.{value_view};
 ghost use Rattle.at_body.specs.ValueKinds.{AreAlike, IsInt, IsRef, IsText, IsTruth};
 
 use at_store::{Node, Token};
+pub use at_tree::fault::FaultKind;
 use std::alloc::AllocError;
 use std::hash::{Hash, Hasher};
 use std::rc::Rc;
-
-/// Why an evaluation has no value: something is asked of null, a list has no such index, an optional is empty, a divisor is
-/// zero, a node is not of the class, a text is too long.
-#[derive(Clone, Copy, PartialEq, Eq, Debug)]
-pub enum FaultKind {
-    Null,
-    Index,
-    Absent,
-    Zero,
-    Cast,
-    Long,
-}
 
 /// The value of an attribute: also a reference to a node, or null. A text is shared by all that hold it.
 #[derive(Debug, Drop)]

@@ -7,8 +7,7 @@ use Rattle.at_model.specs.TypedRuns.{ClassAt}
 use Rattle.at_store.specs.Shown.{Shown, contents}
 use Rattle.at_store.specs.Located.{loc_view}
 use Rattle.at_body.specs.Typed.{IsTypedStep}
-use Rattle.at_body.specs.Values.{value_view, fault_view}
-use Rattle.at_body.specs.declared.value.FaultKind.{FaultKind as FaultCode}
+use Rattle.at_body.specs.Values.{FaultCode, fault_view, value_view}
 use Rattle.at_body.specs.declared.value.Value.{Value as ValueCode}
 use Rattle.at_body.specs.declared.trial.Trial.{Trial}
 use Rattle.at_body.specs.declared.trial.Step.TheVariants as step

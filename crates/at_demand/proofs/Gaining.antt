@@ -4,8 +4,7 @@ use Rattle.std.specs.Prelude.{IsSome}
 use Rattle.at_model.specs.Run.{Instance, Contents, Fails}
 use Rattle.at_model.specs.Rules.{Rules, is_lazy}
 use Rattle.at_model.specs.Meaning.{HasValue, Among, Comes, Leads}
-use Rattle.at_body.specs.Values.{fault_view}
-use Rattle.at_body.specs.declared.value.FaultKind.{FaultKind as FaultCode}
+use Rattle.at_body.specs.Values.{FaultCode, fault_view}
 use Rattle.at_body.specs.declared.trial.Step.TheVariants as step
 use Rattle.at_cache.specs.Kept.{Kept, Entries}
 use Rattle.at_cache.proofs.Lists.{get_push, get_contains}

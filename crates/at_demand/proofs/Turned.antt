@@ -13,8 +13,7 @@ use Rattle.at_model.proofs.Members.{among_either, among_last}
 use Rattle.at_store.specs.Shown.{Shown, contents}
 use Rattle.at_body.specs.Same.{same_instance}
 use Rattle.at_body.specs.Typed.{class_shown}
-use Rattle.at_body.specs.Values.{value_view, fault_view}
-use Rattle.at_body.specs.declared.value.FaultKind.{FaultKind as FaultCode}
+use Rattle.at_body.specs.Values.{FaultCode, fault_view, value_view}
 use Rattle.at_body.specs.declared.value.Value.{Value as ValueCode}
 use Rattle.at_cache.specs.Kept.{Entries}
 use Rattle.at_demand.specs.declared.answer.Answer.{Answer as AnswerCode}

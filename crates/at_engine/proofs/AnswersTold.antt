@@ -5,7 +5,7 @@ use Rattle.std.specs.Global.{Global}
 use Rattle.at_model.specs.Trees.{Tree}
 use Rattle.at_model.specs.Trees as tree
 use Rattle.at_model.specs.Paths.{Node, Path, IsPath}
-use Rattle.at_model.specs.Run.{Value, Int, Truth, Text, Ref, Instance, FaultKind}
+use Rattle.at_model.specs.Run.{Value, Int, Truth, Text, Ref, Instance}
 use Rattle.at_model.specs.Rules.{Rules, attribute_name}
 use Rattle.at_model.specs.Classes.{Classes}
 use Rattle.at_model.specs.Meaning.{Answer, Outcomes, Circle, Finds, Faults}
@@ -17,8 +17,7 @@ use Rattle.at_tree.specs.declared.path.Path.{Path as PathValue}
 use Rattle.at_tree.specs.Token.{token_view}
 use Rattle.at_tree.specs.declared.token.TokVal.{TokVal}
 use Rattle.at_tree.specs.declared.token.TokVal.TheVariants as token
-use Rattle.at_protocol.specs.ReplyView.{fault_view}
-use Rattle.at_protocol.specs.declared.reply.FaultWord.{FaultWord}
+use Rattle.at_body.specs.Values.{FaultCode, fault_view}
 use Rattle.at_protocol.specs.declared.reply.Shown.{Shown as ShownValue}
 use Rattle.at_protocol.specs.declared.reply.Shown.TheVariants as shown
 use Rattle.at_protocol.specs.declared.reply.Form.TheVariants as form
@@ -50,11 +49,10 @@ module _ (path : ℕ → Option Node) (rules : Rules) (t : Tree) where
   module _ (p : PathValue) (name : String Global) (i : Instance ℕ) (writable : IsPath (path_view p))
       (is_path : (n : Node) → path i.node ≡ Some n → path_view p ≡ path_to rules.classes t n)
       (is_name : string_bytes name ≡ attribute_name rules i.attribute) where
-    pub told_fault : (word : FaultWord) {f : FaultKind} → fault_view word ≡ f → {a : Answer Node} → AnswerLike (Names path) (Outcomes (Faults f i)) a → IsToldAs rules t a (form.Fault word p name)
-    told_fault word same (outcome (fault f {j = j} l)) = record {
-      is_form = ap (λ (k : FaultKind). Fails k (path_to rules.classes t j.node) (attribute_name rules j.attribute)) (sym same)
-          ∙ ap (λ (q : Path). Fails (fault_view word) q (attribute_name rules j.attribute)) (sym (is_path j.node l.node))
-          ∙ ap (λ x. Fails (fault_view word) (path_view p) x) (ap (attribute_name rules) (sym l.attribute) ∙ sym is_name);
+    pub told_fault : (kind : FaultCode) {a : Answer Node} → AnswerLike (Names path) (Outcomes (Faults (fault_view kind) i)) a → IsToldAs rules t a (form.Fault kind p name)
+    told_fault kind (outcome (fault f {j = j} l)) = record {
+      is_form = ap (λ (q : Path). Fails f q (attribute_name rules j.attribute)) (sym (is_path j.node l.node))
+          ∙ ap (λ x. Fails f (path_view p) x) (ap (attribute_name rules) (sym l.attribute) ∙ sym is_name);
       writable = writable;
     }
 

@@ -1,4 +1,5 @@
 pub mod Token
+pub mod Faults
 pub mod View
 pub mod PathView
 pub mod Stops

@@ -1,6 +1,6 @@
 //! Terms, nested trees and paths, and the one text of each.
 //!
-//! **Its specs:** `View`, `TreeView`, `PathView` and `Token` are what terms, trees, paths and tokens stand for;
+//! **Its specs:** `View`, `TreeView`, `PathView`, `Token` and `Faults` are what terms, trees, paths, tokens and kinds of faults stand for;
 //! `Reads`, `ReadTrees` and `Shape` what the readers and `shape` answer; `Laws` and `TreeLaws` what is promised of
 //! texts. `Partial`, `PartialPath`, `Gives`, `Leads`, `Stops` and `Finishes` are the readers by characters,
 //! `Fronts`, `TermFronts`, `Runs` and `PlainNames` those that take whole names, cells and steps; `Seen`, `PathSeen` and

@@ -29,7 +29,7 @@ pub fn write_found(world: &World, found: &Tried, out: &mut Vec<u8>) -> Result<()
 /// Appends that there is a fault.
 pub fn write_fault(kind: FaultKind, out: &mut Vec<u8>) -> Result<(), AllocError> {
     out.extend_from_slice(b"fault ")?;
-    out.extend_from_slice(fault_word(kind).as_bytes())
+    out.extend_from_slice(kind.text().as_bytes())
 }
 
 /// Appends that the value of an instance is wanted.
@@ -38,17 +38,6 @@ pub fn write_need(world: &World, inst: &Inst, out: &mut Vec<u8>) -> Result<(), A
 {
     out.extend_from_slice(b"need ")?;
     write_instance(world, inst, out)
-}
-
-fn fault_word(kind: FaultKind) -> &'static str {
-    match kind {
-        FaultKind::Null => "null",
-        FaultKind::Index => "index",
-        FaultKind::Absent => "absent",
-        FaultKind::Zero => "zero",
-        FaultKind::Cast => "cast",
-        FaultKind::Long => "long",
-    }
 }
 
 /// Appends a value.

@@ -8,9 +8,8 @@ use Rattle.at_model.specs.Meaning.{Faults, Holds}
 use Rattle.at_model.specs.Turning.{asked}
 use Rattle.at_store.specs.Shown.{Shown, contents}
 use Rattle.at_body.specs.Typed.{class_shown}
-use Rattle.at_body.specs.Values.{fault_view, value_view}
+use Rattle.at_body.specs.Values.{FaultCode, fault_view, value_view}
 use Rattle.at_body.specs.declared.trial.Step.TheVariants as step
-use Rattle.at_body.specs.declared.value.FaultKind.{FaultKind as FaultCode}
 use Rattle.at_body.specs.declared.value.Value.{Value as ValueCode}
 use Rattle.at_cache.specs.Kept.{Entries}
 use Rattle.at_cache.proofs.Lists.{get_seam}

@@ -7,9 +7,8 @@ use Rattle.at_model.specs.Meaning.{Finds, Faults, Holds, HasValue, Among, Comes}
 use Rattle.at_model.specs.TypedRuns.{ClassAt}
 use Rattle.at_model.proofs.Outcomes.{once}
 use Rattle.at_body.specs.Rest.{resumed}
-use Rattle.at_body.specs.Values.{fault_view}
+use Rattle.at_body.specs.Values.{FaultCode, fault_view}
 use Rattle.at_body.specs.declared.trial.Step.TheVariants as step
-use Rattle.at_body.specs.declared.value.FaultKind.{FaultKind as FaultCode}
 use Rattle.at_cache.specs.Kept.{Entries}
 use Rattle.at_demand.specs.declared.evaluation.Find.{Find}
 use Rattle.at_demand.specs.declared.evaluation.Frame.{Frame}

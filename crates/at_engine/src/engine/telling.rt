@@ -5,8 +5,7 @@ ghost use Rattle.at_model.specs.Bodies.{int_of};
 ghost use Rattle.at_model.specs.Trees.{Int as Number};
 ghost use Rattle.at_tree.specs.Token.{token_view};
 ghost use Rattle.at_body.specs.ValueKinds.{IsInt};
-ghost use Rattle.at_body.specs.Values.{fault_view, value_view};
-ghost use Rattle.at_protocol.specs.ReplyView.{fault_view as word_view};
+ghost use Rattle.at_body.specs.Values.{value_view};
 
 use super::Engine;
 use super::view::View;
@@ -15,25 +14,11 @@ use at_body::{FaultKind, Inst, Value};
 use at_cache::Keeper;
 use at_demand::Answer;
 use at_protocol::line::Place;
-use at_protocol::reply::{FaultWord, Form, Refusal, Shown};
+use at_protocol::reply::{Form, Refusal, Shown};
 use at_store::Node;
 use at_tree::token::TokVal;
 use std::alloc::AllocError;
 use std::rc::Rc;
-
-/// The word for a fault.
-fn fault_word(kind: FaultKind) -> FaultWord
-    ensures { word_view result ≡ fault_view kind }
-{
-    match kind {
-        FaultKind::Null => FaultWord::Null,
-        FaultKind::Index => FaultWord::Index,
-        FaultKind::Absent => FaultWord::Absent,
-        FaultKind::Zero => FaultWord::Zero,
-        FaultKind::Cast => FaultWord::Cast,
-        FaultKind::Long => FaultWord::Long,
-    }
-}
 
 /// The int as a token.
 fn number_of(value: &Value) -> TokVal
@@ -125,7 +110,7 @@ impl<'e, M: Lookup> View<'e, M> {
         let path = self.path_to(at.node())?;
         let attribute = self.attribute_of(at)?;
         Ok(Form::Fault {
-            kind: fault_word(kind),
+            kind,
             path,
             attribute,
         })
