@@ -4,8 +4,8 @@ use Rattle.std.specs.Prelude.{encode_utf8, IsUtf8}
 use Rattle.std.specs.Str.{IsCharBoundary}
 use Rattle.std.specs.List.{AllByRecursion}
 use Rattle.std.proofs.Math.Seq.{take-append_seam, drop-append_seam}
-use Rattle.std.proofs.lemmas.Str.{length-encode, len_utf8_bounds, IsCharBoundary-at_seam}
-use Rattle.at_tree.specs.Leads.{Leads, Takes}
+use Rattle.std.proofs.lemmas.Str.{length-encode, len_utf8_bounds, IsCharBoundary-at_seam, encode_ascii, encodes-append}
+use Rattle.at_tree.specs.Leads.{Leads, LeadsTo, Takes}
 
 -- where a text is cut
 seam : (text front rest : List ℕ) → text ≡ front ++ rest → length text - length rest ≡ length front
@@ -40,3 +40,19 @@ takes_more step p next q c cs text rest rest' first split more leads = (c, cs, o
 pub less_left : (c : ℕ) (cs text rest : List ℕ) → text ≡ encode_utf8_all (c ∷ cs) ++ rest → length rest < length text
 less_left c cs text rest e =
     omega (arith, ap length e, length-append (encode_utf8 c ++ encode_utf8_all cs) rest, length-append (encode_utf8 c) (encode_utf8_all cs), length-encode c, len_utf8_bounds c)
+
+-- one way behind another
+leads_then : {P : Type 0} (step : P → ℕ → Option P) (p q r : P) (cs ds : List ℕ) → Leads step p cs q → Leads step q ds r → Leads step p (cs ++ ds) r
+leads_then step p q r [] ds h k = subst (λ x. Leads step x ds r) (sym h) k
+leads_then step p q r (c ∷ cs) ds h k = (h.0, h.1, leads_then step h.0 q r cs ds h.2 k)
+
+pub joined : (text mid rest cs ds : List ℕ) → text ≡ encode_utf8_all cs ++ mid → mid ≡ encode_utf8_all ds ++ rest → text ≡ encode_utf8_all (cs ++ ds) ++ rest
+joined text mid rest cs ds e f =
+    e ∙ ap (λ y. encode_utf8_all cs ++ y) f ∙ sym (append_assoc (encode_utf8_all cs) (encode_utf8_all ds) rest) ∙ ap (λ y. y ++ rest) (sym (encodes-append cs ds))
+
+pub leads_on : {P : Type 0} (step : P → ℕ → Option P) (p q r : P) (text mid rest : List ℕ) → LeadsTo step p text q mid → LeadsTo step q mid r rest → LeadsTo step p text r rest
+leads_on step p q r text mid rest h k = (h.0 ++ k.0, joined text mid rest h.0 k.0 h.1 k.1, leads_then step p q r h.0 k.0 h.2 k.2)
+
+-- over a byte that is a character
+pub leads_byte : {P : Type 0} (step : P → ℕ → Option P) (p q : P) (b : ℕ) (text rest : List ℕ) → b < 128 → text ≡ b ∷ rest → step p b ≡ Some q → LeadsTo step p text q rest
+leads_byte step p q b text rest low e taken = (b ∷ [], e ∙ ap (λ y. (y ++ []) ++ rest) (sym (encode_ascii b low)), (q, taken, refl))

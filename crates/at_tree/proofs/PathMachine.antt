@@ -150,7 +150,7 @@ run_part ss part z utf8 e = run_name step (at ss Slash) (λ word. at ss (InPart 
 next_slash : (ss : Path) (part : List ℕ) → is_reserved part ≡ false → in_part ss part 47 ≡ Some (next_step ss (plain part))
 next_slash ss part r = rw (slash_ends, r) refl
 
-next_colon : (ss : Path) (part : List ℕ) → is_reserved part ≡ false → in_part ss part 58 ≡ Some (at ss (Colon part))
+pub next_colon : (ss : Path) (part : List ℕ) → is_reserved part ≡ false → in_part ss part 58 ≡ Some (at ss (Colon part))
 next_colon ss part r = rw (colon_ends, r) refl
 
 run_index : (ss : Path) (part : List ℕ) (n : ℕ) (z : List ℕ) → n < 1000000000 → run step (Some (at ss (Colon part))) (chars (decimal n ++ z)) ≡ run step (Some (at ss (InIndex part n))) (chars z)

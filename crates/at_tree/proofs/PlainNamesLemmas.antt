@@ -1,19 +1,23 @@
 -- Names of ASCII, told by their bytes.
-use Rattle.std.proofs.Common.{◌≡◌, ℕ, zero, suc, ◌+◌, ◌<◌, ◌≤◌, Bool, true, false, ◌&&◌, ◌||◌, ◌==◌, not, List, [], ◌∷◌, length, take, get_or, Some, None, refl, ap, ◌∙◌, subst, arith, cond, ltb}
-use Rattle.std.specs.Prelude.{chars, IsUtf8}
+use Rattle.std.proofs.Common.{◌≡◌, ℕ, zero, suc, ◌+◌, ◌<◌, ◌≤◌, Bool, true, false, ◌&&◌, ◌||◌, ◌==◌, not, List, [], ◌∷◌, ◌++◌, ◌-◌, length, take, drop, get_or, Some, None, refl, ap, sym, ◌∙◌, subst, arith, cond, ltb, encode_utf8_all}
+use Rattle.std.specs.Prelude.{chars, encode_utf8, IsUtf8}
 use Rattle.std.specs.Char.{is_ascii_alphabetic, is_ascii_digit}
-use Rattle.std.specs.List.{list_all}
+use Rattle.std.specs.List.{list_all, AllByRecursion}
 use Rattle.std.specs.Str.{IsAscii, IsCharBoundary}
 use Rattle.std.proofs.lemmas.Bool.Decides.{nat_tests}
 use Rattle.std.proofs.lemmas.List.Sums.{fails_before_first, prefix_len-le-length}
 use Rattle.std.proofs.lemmas.List.Folds.{list_all_more}
-use Rattle.std.proofs.lemmas.List.{take_all}
-use Rattle.std.proofs.lemmas.Str.{chars-IsAscii, IsUtf8-from_ascii, IsCharBoundary-from_take}
+use Rattle.std.proofs.lemmas.List.{take_all, take-append-drop}
+use Rattle.std.proofs.lemmas.Str.{chars-IsAscii, encodes-chars, IsUtf8-from_ascii, IsCharBoundary-from_take}
 use Rattle.std.proofs.lemmas.Str.Ascii.{IsAscii-nil, IsAscii-cons}
 use Rattle.unicode_ident.proofs.IdentLemmas.{is_xid_start-ascii, is_xid_continue-ascii}
 use Rattle.at_model.specs.Names.{starts_name, continues_name, is_word, IsName, is_reserved}
 use Rattle.at_model.proofs.Options.{both}
+use Rattle.at_text.specs.Front.{EndsRun}
+use Rattle.at_text.proofs.ReadingLaws.{all_append}
 use Rattle.at_tree.specs.PlainNames.{is_name_byte, name_len, begins_name}
+use Rattle.at_tree.specs.Runs.{Passes, IsWordBefore}
+use Rattle.at_tree.proofs.Passing.{cut_back, cut_front, joined, one_before}
 
 below_128 : (b : ℕ) → is_name_byte b ≡ true → b < 128
 below_128 b h = grind (arith, nat_tests, h)
@@ -92,3 +96,27 @@ cut_behind_name text u = IsCharBoundary-from_take text (name_len text) u (within
 -- a word that is such bytes alone
 pub plain : (word : List ℕ) → length word ≤ name_len word → begins_name word ≡ true → is_reserved word ≡ false → IsName word
 plain word all begins free = named word (subst AreNameBytes (take_all (name_len word) word all) (name_bytes word)) begins free
+
+-- words at the front: a character, bytes of ASCII, and a run
+all_of : (p : ℕ → Bool) (cs : List ℕ) → list_all p cs ≡ true → AllByRecursion (λ c. p c ≡ true) cs
+all_of p [] h = tt
+all_of p (c ∷ cs) h = let f = both (p c) (list_all p cs) h in (f.0, all_of p cs f.1)
+
+pub plain_passes : (text rest : List ℕ) → rest ≡ drop (name_len text) text → Passes continues_name text rest
+plain_passes text rest is =
+    let name = take (name_len text) text in
+    let ascii : IsAscii name = all_ascii name (name_bytes text) in
+    let same : encode_utf8_all name ≡ name = ap encode_utf8_all (sym (chars-IsAscii name ascii)) ∙ encodes-chars name (IsUtf8-from_ascii name ascii) in
+    (name, sym (ap (λ y. y ++ rest) same ∙ ap (λ y. name ++ y) is ∙ take-append-drop (name_len text) text), all_of continues_name name (all_go_on name (name_bytes text)))
+
+pub word_split : (text behind next rest : List ℕ) (c : ℕ) → text ≡ encode_utf8 c ++ behind → (plain : Passes continues_name behind next) → (run : EndsRun continues_name next rest)
+    → text ≡ encode_utf8_all (c ∷ (plain.0 ++ run.0)) ++ rest
+word_split text behind next rest c first plain run = one_before c (plain.0 ++ run.0) text behind rest first (joined behind next rest plain.0 run.0 plain.1 run.1)
+
+pub word_before : (text behind next rest word after : List ℕ) (c : ℕ) → text ≡ encode_utf8 c ++ behind → starts_name c ≡ true → Passes continues_name behind next → EndsRun continues_name next rest
+    → word ≡ take (length text - length rest) text → after ≡ drop (length text - length rest) text → IsWordBefore text word after
+word_before text behind next rest word after c first starts plain run front back =
+    let cs = plain.0 ++ run.0 in
+    let split : text ≡ encode_utf8_all (c ∷ cs) ++ rest = word_split text behind next rest c first plain run in
+    subst (λ x. IsWordBefore text word x) (sym (back ∙ cut_back text (encode_utf8_all (c ∷ cs)) rest split))
+    (c, cs, front ∙ cut_front text (encode_utf8_all (c ∷ cs)) rest split, split, starts, (all_append (λ c. continues_name c ≡ true) plain.0 run.0 plain.2 run.2.0, run.2.1))

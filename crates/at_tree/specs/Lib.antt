@@ -11,7 +11,7 @@ pub mod Leads
 pub mod Partial
 pub mod Seen
 pub mod PartialPath
-pub mod PathSeen
+pub mod PathSteps
 pub mod PlainNames
 pub mod Laws
 pub mod TreeView

@@ -1,5 +1,5 @@
 -- What has been read of a path's text, character by character.
-use Rattle.std.specs.Prelude.{ℕ, ◌+◌, ◌-◌, ◌*◌, ◌&&◌, ◌==◌, nat_lt, List, [], ◌∷◌, ◌++◌, Option, Some, None, if◌then◌else◌, encode_utf8}
+use Rattle.std.specs.Prelude.{ℕ, ◌+◌, ◌-◌, ◌*◌, ◌&&◌, ◌==◌, Bool, nat_lt, List, [], ◌∷◌, ◌++◌, Option, Some, None, if◌then◌else◌, encode_utf8}
 use Rattle.at_model.specs.Names.{starts_name, continues_name, is_reserved}
 use Rattle.at_model.specs.Paths.{Step, Path}
 use Rattle.at_tree.specs.Partial.{is_digit, is_empty}
@@ -51,9 +51,13 @@ in_part ss part c =
 abbrev pub in_colon : Path → List ℕ → ℕ → Option Partial
 in_colon ss part c = if is_digit c then Some (at ss (InIndex part (c - 48))) else None
 
+-- an index goes on with the character
+abbrev pub goes_on : ℕ → ℕ → Bool
+goes_on n c = is_digit c && (nat_lt 0 n && nat_lt n 100000000)
+
 abbrev pub in_index : Path → List ℕ → ℕ → ℕ → Option Partial
 in_index ss part n c =
-    if is_digit c && (nat_lt 0 n && nat_lt n 100000000) then Some (at ss (InIndex part (n * 10 + (c - 48))))
+    if goes_on n c then Some (at ss (InIndex part (n * 10 + (c - 48))))
     else (if c == 47 then Some (next_step ss (indexed part n))
     else None)
 

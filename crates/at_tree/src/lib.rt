@@ -2,12 +2,12 @@
 //!
 //! **Its specs:** `View`, `TreeView`, `PathView`, `Token` and `Faults` are what terms, trees, paths, tokens and kinds of faults stand for;
 //! `Reads`, `ReadTrees` and `Shape` what the readers and `shape` answer; `Laws` and `TreeLaws` what is promised of
-//! texts. `Partial`, `PartialPath`, `Gives`, `Leads`, `Stops` and `Finishes` are the readers by characters,
-//! `Fronts`, `TermFronts`, `Runs` and `PlainNames` those that take whole names, cells and steps; `Seen`, `PathSeen` and
-//! `Separated` say what their values stand for, `Appending` what a writer adds to an output.
+//! texts. `Partial`, `PartialPath`, `Gives`, `Leads`, `Stops` and `Finishes` are texts by characters,
+//! `Fronts`, `TermFronts`, `PathSteps`, `Runs` and `PlainNames` the readers that take whole names, cells and steps; `Seen`
+//! and `Separated` say what values of readers stand for, `Appending` what a writer adds to an output.
 //!
 //! **Where to begin:** `term.rt` and `tree.rt`. A file is read in one pass, straight to its tree, and read again by
-//! characters where that fails, to tell the first fault; so are a path and a term in a line.
+//! characters where that fails, to tell the first fault; so is a term in a line. A path is read once.
 //!
 //! **What it keeps true:** one text for each tree and each path, from which the same is read.
 #![tactic(auto)]

@@ -1,10 +1,13 @@
-//! Names of ASCII alone, which are told by their bytes.
-ghost use Rattle.std.specs.Prelude.{◌≡◌, ◌++◌, true, IfOk};
-ghost use Rattle.at_model.specs.Names.{IsName};
+//! Names at the front of a text. What is of ASCII in them is told by its bytes.
+ghost use Rattle.std.specs.Prelude.{◌≡◌, ◌++◌, true, IfOk, MatchOption};
+ghost use Rattle.at_model.specs.Names.{IsName, starts_name, continues_name};
+ghost use Rattle.at_text.specs.Pieces.{NotBefore};
 ghost use Rattle.at_tree.specs.PlainNames.{is_name_byte, name_len, begins_name};
+ghost use Rattle.at_tree.specs.Runs.{Passes, IsWordBefore};
 
 use crate::fault::{Misfit, Untaken};
-use at_text::names::is_reserved;
+use crate::runs::{Run, past};
+use at_text::names::{is_reserved, starts_name};
 
 /// Which bytes are letters or digits of ASCII, or the underscore.
 const NAME_BYTES: [bool; 256] = [
@@ -48,6 +51,28 @@ pub(crate) fn name_first(text: &str) -> Result<(&str, &str), Untaken>
         return Err(Untaken::For(Misfit::Form));
     }
     Ok((name, rest))
+}
+
+/// What has the form of a name at the front, as long as it goes on, and what follows it.
+pub(crate) fn word_first(text: &str) -> Option<(&str, &str)>
+    ensures { MatchOption result (NotBefore starts_name text.now) (λ r. IsWordBefore text.now r.0.now r.1.now) }
+{
+    let mut chars = text.chars();
+    let Some(c) = chars.next() else {
+        return None;
+    };
+    if !starts_name(c) {
+        return None;
+    }
+    let rest = past(behind_plain(chars.as_str()), Run::Name);
+    Some(text.split_at(text.len() - rest.len()))
+}
+
+/// What follows the bytes at the front with which a name in ASCII goes on.
+fn behind_plain(text: &str) -> &str
+    ensures { Passes continues_name text.now result.now }
+{
+    text.split_at(name_len(text)).1
 }
 
 /// How many bytes stand before the first that is none of a name in ASCII.

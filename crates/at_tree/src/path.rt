@@ -47,10 +47,7 @@ impl<'a> Path<'a> {
     }
 }
 
-mod direct;
-mod partial;
 mod read;
-mod steps;
 
 pub use read::read_path;
 

@@ -1,6 +1,7 @@
 //! Runs: characters of one sort at the front of a text.
 ghost use Rattle.std.specs.Prelude.{◌≡◌};
-ghost use Rattle.at_tree.specs.Runs.{takes, Passes, Cuts};
+ghost use Rattle.at_text.specs.Front.{EndsRun};
+ghost use Rattle.at_tree.specs.Runs.{takes, Cuts};
 
 use at_text::names::continues_name;
 
@@ -28,7 +29,7 @@ fn takes(run: Run, c: char) -> bool
 
 /// What follows the run at the front.
 pub(crate) fn past(text: &str, run: Run) -> &str
-    ensures { Passes (takes run) text.now result.now }
+    ensures { EndsRun (takes run) text.now result.now }
 {
     let mut chars = text.chars();
     let mut rest = text;

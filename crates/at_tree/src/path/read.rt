@@ -1,58 +1,28 @@
-//! The whole run over a path's text.
-ghost use Rattle.std.specs.Prelude.{◌≡◌, ◌++◌, ◌∷◌, [], Some, string_bytes, IfOk, IfErr};
+//! A path in one pass over its text, a step at a time.
+ghost use Rattle.std.specs.Prelude.{◌≡◌, ◌≢◌, ◌<◌, ◌∷◌, ◌+◌, ◌==◌, [], ℕ, List, true, IfOk, IfErr, MatchOption};
 ghost use Rattle.at_model.specs.Paths.{Path as Steps, IsPath, path_text};
-ghost use Rattle.at_tree.specs.PathView.{path_view, steps_view, step_view};
-ghost use Rattle.at_tree.specs.PartialPath.{InPart, whole_at, whole_path};
-ghost use Rattle.at_tree.specs.PathSeen.{partial_view};
+ghost use Rattle.at_text.specs.Pieces.{NotBefore};
+ghost use Rattle.at_tree.specs.Leads.{LeadsTo};
+ghost use Rattle.at_tree.specs.Partial.{is_digit, is_empty};
+ghost use Rattle.at_tree.specs.PartialPath.{at, Slash, Colon, InIndex, step, goes_on};
+ghost use Rattle.at_tree.specs.PathSteps.{TakesStep, StopsBehind, StopsLeaving};
+ghost use Rattle.at_tree.specs.PathView.{path_view, step_view};
+ghost use Rattle.at_tree.specs.Reads.{Reads, StopsWith};
 ghost use Rattle.at_tree.specs.Stops.{IsPathText};
-ghost use Rattle.at_tree.specs.Reads.{Reads, StopsWith, ReadsText};
-ghost use Rattle.at_tree.specs.Finishes.{Finishes};
 
-use super::direct::whole_path;
-use super::partial::Place;
-use super::steps::advance;
 use super::{Path, Step};
-use crate::fault::{TermFault, Untaken};
+use crate::fault::TermFault;
+use crate::names::word_first;
+use at_text::fault::Failure;
 use at_text::names::is_reserved;
 use std::alloc::Global;
 use std::borrow::CowStr;
 
-/// The path that ends with this step.
-fn ends_with<'a>(mut steps: Vec<Step<'a>>, step: Step<'a>) -> Result<Path<'a>, TermFault>
-    ensures { Finishes path_view result (Some (steps_view steps.entry.items ++ step_view step.entry ∷ [])) 0 }
-{
-    match steps.push(step) {
-        Ok(()) => Ok(Path { steps }),
-        Err(_) => Err(TermFault::Memory),
-    }
-}
+/// Why no path was read: how many bytes are left where the text stops being a path's, or want of memory.
+type Stopped = Failure<usize>;
 
-/// The path that ends with a name.
-fn ends_with_part<'a>(steps: Vec<Step<'a>>, part: String, at: usize) -> Result<Path<'a>, TermFault>
-    ensures { Finishes path_view result (whole_at (steps_view steps.entry.items) (InPart (string_bytes part))) at }
-{
-    if is_reserved(&part) {
-        return Err(TermFault::Syntax { at });
-    }
-    let part = CowStr::Owned(part);
-    ends_with(steps, Step { part, index: None })
-}
-
-/// The path that is whole at the end of its text.
-fn finish<'a>(steps: Vec<Step<'a>>, place: Place, at: usize) -> Result<Path<'a>, TermFault>
-    ensures { Finishes path_view result (whole_path (partial_view steps.entry.items place)) at }
-{
-    match place {
-        Place::InPart(part) => ends_with_part(steps, part, at),
-        Place::InIndex(part, index) => {
-            let index = Some(index.value);
-            let part = CowStr::Owned(part);
-            ends_with(steps, Step { part, index })
-        }
-        Place::Slash if steps.is_empty() => Ok(Path { steps }),
-        _ => Err(TermFault::Syntax { at }),
-    }
-}
+/// About how many bytes a step has, for the room that a path's steps take.
+const STEP_LENGTH: usize = 5;
 
 /// The path of a text. Its work is linear in the text.
 ///
@@ -73,31 +43,99 @@ pub fn read_path<'a>(alloc: Global, text: &'a str) -> Result<Path<'a>, TermFault
 {
     match whole_path(alloc, text) {
         Ok(path) => Ok(path),
-        Err(Untaken::Memory) => Err(TermFault::Memory),
-        Err(Untaken::For(_)) => read_by_characters(alloc, text),
+        Err(Failure::For(left)) => Err(TermFault::Syntax {
+            at: text.len() - left,
+        }),
+        Err(Failure::Memory) => Err(TermFault::Memory),
     }
 }
 
-/// The same for any text, character by character, which shows where it stops.
-fn read_by_characters<'a>(alloc: Global, text: &'a str) -> Result<Path<'a>, TermFault>
-    ensures { ReadsText path_view IsPath path_text IsPathText text.now result }
+/// The path that the whole text is written of.
+fn whole_path<'a>(alloc: Global, text: &'a str) -> Result<Path<'a>, Stopped>
+    ensures found { IfOk result (λ p. IsPath (path_view p) × (path_text (path_view p) ≡ text.now)) }
+    ensures stops { IfErr result (StopsLeaving text.now) }
 {
-    let mut steps = Vec::new(alloc);
-    let mut place = Place::Start;
-    let mut rest = text;
-    while !rest.is_empty() {
-        match advance(alloc, &mut steps, place, rest) {
-            Ok((next, behind)) => {
-                place = next;
-                rest = behind;
-            }
-            Err(Untaken::For(_)) => {
-                return Err(TermFault::Syntax {
-                    at: text.len() - rest.len(),
-                });
-            }
-            Err(Untaken::Memory) => return Err(TermFault::Memory),
-        }
+    if text == "/" {
+        return Ok(Path {
+            steps: Vec::new(alloc),
+        });
     }
-    finish(steps, place, text.len())
+    let mut steps = Vec::with_capacity(alloc, text.len() / STEP_LENGTH + 1)?;
+    let mut rest = text;
+    while let Some(behind) = behind_sign(rest, b'/') {
+        let (step, next) = step_first(behind)?;
+        steps.push(step)?;
+        rest = next;
+    }
+    if steps.is_empty() {
+        return Err(Stopped::For(rest.len()));
+    }
+    if !rest.is_empty() {
+        return Err(Stopped::For(rest.len()));
+    }
+    Ok(Path { steps })
+}
+
+/// The step at the front, behind its slash, and what follows it.
+fn step_first<'a>(text: &'a str) -> Result<(Step<'a>, &'a str), Stopped>
+    ensures taken { IfOk result (λ r. (ss : Steps) → TakesStep ss text.now (step_view r.0) r.1.now) }
+    ensures stops { IfErr result (λ e. (ss : Steps) → (is_empty ss ≡ true → text.now ≢ []) → StopsBehind (at ss Slash) text.now e) }
+{
+    let Some((name, behind)) = word_first(text) else {
+        return Err(Stopped::For(text.len()));
+    };
+    if is_reserved(name) {
+        return Err(Stopped::For(behind.len()));
+    }
+    let part = CowStr::Borrowed(name);
+    let Some(digits) = behind_sign(behind, b':') else {
+        return Ok((Step { part, index: None }, behind));
+    };
+    let Some((index, rest)) = index_first(digits) else {
+        return Err(Stopped::For(digits.len()));
+    };
+    let index = Some(index);
+    Ok((Step { part, index }, rest))
+}
+
+/// What follows the sign of ASCII at the front.
+fn behind_sign(text: &str, sign: u8) -> Option<&str>
+    requires { sign < 128 }
+    ensures { MatchOption result (NotBefore (λ c. c == sign) text.now) (λ rest. text.now ≡ sign ∷ rest.now) }
+{
+    match text.as_bytes() {
+        [first, ..] if *first == sign => Some(text.split_at(1).1),
+        _ => None,
+    }
+}
+
+/// The index whose decimal stands at the front, and what follows it: no digit with which it would go on.
+fn index_first(text: &str) -> Option<(u32, &str)>
+    ensures { MatchOption result
+        (NotBefore is_digit text.now)
+        (λ r. NotBefore (goes_on r.0) r.1.now
+        × ((ss : Steps) (part : List ℕ) → LeadsTo step (at ss (Colon part)) text.now (at ss (InIndex part r.0)) r.1.now)) }
+{
+    let (mut value, mut rest) = digit_first(text)?;
+    while value > 0 && value < 100_000_000 {
+        let Some((digit, behind)) = digit_first(rest) else {
+            return Some((value, rest));
+        };
+        value = value * 10 + digit;
+        rest = behind;
+    }
+    Some((value, rest))
+}
+
+/// The digit at the front, and what follows it.
+fn digit_first(text: &str) -> Option<(u32, &str)>
+    ensures { MatchOption result (NotBefore is_digit text.now) (λ r. (r.0 < 10) × (text.now ≡ (48 + r.0) ∷ r.1.now)) }
+{
+    match text.as_bytes() {
+        [first, ..] if first.is_ascii_digit() => {
+            let digit = u32::from(*first - b'0');
+            Some((digit, text.split_at(1).1))
+        }
+        _ => None,
+    }
 }

@@ -12,5 +12,5 @@ returns c =
       p.0,
       c.split_at.ensures.front ∙ cut_front c.args.text.now front c.past-rest.result.now p.1,
       p.1 ∙ ap (λ l. front ++ l) (sym (c.split_at.ensures.back ∙ cut_back c.args.text.now front c.past-rest.result.now p.1)),
-      p.2,
+      p.2.0,
     )

@@ -1,6 +1,6 @@
 use Rattle.std.proofs.Common.{◌<◌, sym, ap, ◌∙◌, subst, get_or, rules}
 use Rattle.at_tree.proofs.PathFronts.{behind_low}
-use Rattle.at_tree.proofs.path.direct.behind_sign.Goals as goal
+use Rattle.at_tree.proofs.path.read.behind_sign.Goals as goal
 
 pub split_at-requires : goal.split_at-requires
 split_at-requires c =
