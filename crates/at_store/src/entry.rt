@@ -40,7 +40,7 @@ pub enum Up {
     In(u16, Node),
 }
 
-/// What is kept of a node, in forty bytes. Two hold a class or a component, since a grammar has at most 1,000 classes of at most 32
+/// What is kept of a node, in 32 bytes. Two hold a class or a component, since a grammar has at most 1,000 classes of at most 32
 /// components.
 #[derive(Drop)]
 pub struct Entry {

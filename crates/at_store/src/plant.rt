@@ -4,6 +4,7 @@ ghost use Rattle.slab.specs.Slab.{slab_len};
 ghost use Rattle.at_model.specs.Edits.{changed_at};
 ghost use Rattle.at_model.specs.Trees.{Many, Tree as Numbered, class_of, to_trees};
 ghost use Rattle.at_tree.specs.TreeView.{cell_view, tree_view};
+ghost use Rattle.at_store.specs.Held.{held};
 ghost use Rattle.at_store.specs.Memory.{IsCellFreed, IsFreed, Kids, with_numbers};
 ghost use Rattle.at_store.specs.Planting.{GainsCell, GainsTree, IsAdded, IsAsBefore, IsPlanted, IsPushed, IsPushedKid, StaysPlanted, holding};
 ghost use Rattle.at_store.specs.Writing.{Pushes};
@@ -90,13 +91,13 @@ fn push_in_slot(slot: &mut Slot, kid: Node) -> Result<(), AllocError>
 }
 
 fn push_in_cells(cells: &mut Components, part: usize, kid: Node) -> Result<(), AllocError>
-    ensures pushed { OnOk result (map kept_view cells.new.items ≡ changed_at (with_numbers (λ ns. ns ++ kid ∷ [])) (map kept_view cells.old.items) part) }
-    ensures kept { OnErr result (map kept_view cells.new.items ≡ map kept_view cells.old.items) }
+    ensures pushed { OnOk result (map kept_view (held cells.new) ≡ changed_at (with_numbers (λ ns. ns ++ kid ∷ [])) (map kept_view (held cells.old)) part) }
+    ensures kept { OnErr result (map kept_view (held cells.new) ≡ map kept_view (held cells.old)) }
 {
-    if let Some(slot) = cells.get_mut(part) {
-        push_in_slot(slot, kid)?;
-    }
-    Ok(())
+    let mut slot = cells.take(part);
+    let pushed = push_in_slot(&mut slot, kid);
+    cells.put(part, slot);
+    pushed
 }
 
 /// One more child in a component of a node.
