@@ -1,18 +1,18 @@
 -- An entry of the slab that is written and shows the same.
 use Rattle.std.proofs.Common.{◌≡◌, ℕ, zero, suc, List, [], ◌∷◌, get_or, slice_set, Some, refl, sym, ap, ◌∙◌, inl, inr, is_some}
-use Rattle.std.specs.Prelude.{Vec, map}
-use Rattle.std.specs.Global.{Global}
+use Rattle.std.specs.Prelude.{map}
 use Rattle.std.proofs.lemmas.Bool.{cases_eq}
 use Rattle.slab.specs.Slab.{Slab, get, with_value}
 use Rattle.slab.proofs.SlabLemmas.{Updates-with_value}
+use Rattle.at_store.specs.Held.{held}
+use Rattle.at_store.specs.declared.components.Components.{Components}
 use Rattle.at_store.specs.declared.entry.Entry.{Entry}
 use Rattle.at_store.specs.declared.entry.Slot.{Slot}
-use Rattle.at_model.specs.Edits.{changed_at}
-use Rattle.at_store.specs.Memory.{Info, Kept}
+use Rattle.at_store.specs.Memory.{Info}
 use Rattle.at_store.specs.Planting.{IsAsBefore}
 use Rattle.at_store.specs.View.{info, info_of, kept_view, leaves_in, marked, stored_of, up_view}
 
-pub written_same : (s : Slab Entry) (node : ℕ) (a : Entry) (cells : Vec Slot Global) → Some a ≡ get s node → map kept_view cells.items ≡ map kept_view a.cells.items →
+pub written_same : (s : Slab Entry) (node : ℕ) (a : Entry) (cells : Components) → Some a ≡ get s node → map kept_view (held cells) ≡ map kept_view (held a.cells) →
     IsAsBefore (stored_of s) (stored_of (with_value s node (record { class = a.class; up = a.up; number = a.number; leaves = a.leaves; cells = cells })))
 written_same s node a cells there same k =
     let new : Entry = record { class = a.class; up = a.up; number = a.number; leaves = a.leaves; cells = cells } in
@@ -24,7 +24,7 @@ written_same s node a cells there same k =
     ]
 
 -- and is marked as before
-pub marks_same : (s : Slab Entry) (node : ℕ) (a : Entry) (cells : Vec Slot Global) → Some a ≡ get s node → (k : ℕ) →
+pub marks_same : (s : Slab Entry) (node : ℕ) (a : Entry) (cells : Components) → Some a ≡ get s node → (k : ℕ) →
     leaves_in (with_value s node (record { class = a.class; up = a.up; number = a.number; leaves = a.leaves; cells = cells })) k ≡ leaves_in s k
 marks_same s node a cells there k =
     let new : Entry = record { class = a.class; up = a.up; number = a.number; leaves = a.leaves; cells = cells } in
@@ -34,13 +34,7 @@ marks_same s node a cells there k =
       | inr q ↦ ap marked (u.others k q)
     ]
 
--- a component that is written, found as slice_get or as get_or finds it
-pub slot_changed : (g : Kept → Kept) (xs : List Slot) (i : ℕ) (a b : Slot) → get_or xs i a ≡ a → kept_view b ≡ g (kept_view a) → map kept_view (slice_set xs i b) ≡ changed_at g (map kept_view xs) i
-slot_changed g [] zero a b e h = refl
-slot_changed g [] (suc i) a b e h = refl
-slot_changed g (x ∷ xs) zero a b e h = ap (λ y. y ∷ map kept_view xs) (h ∙ ap (λ z. g (kept_view z)) (sym e))
-slot_changed g (x ∷ xs) (suc i) a b e h = ap (λ ys. kept_view x ∷ ys) (slot_changed g xs i a b e h)
-
+-- a component that is written and shows the same
 pub slot_same : (xs : List Slot) (i : ℕ) (a b : Slot) → get_or xs i a ≡ a → kept_view b ≡ kept_view a → map kept_view (slice_set xs i b) ≡ map kept_view xs
 slot_same [] zero a b e h = refl
 slot_same [] (suc i) a b e h = refl

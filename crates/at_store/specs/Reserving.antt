@@ -6,6 +6,7 @@ use Rattle.smallvec.specs.SmallVec.{SmallVec, HasRoomFor}
 use Rattle.at_model.specs.Edits.{Edit}
 use Rattle.at_model.specs.Edits as edit
 use Rattle.at_model.specs.Trees.{Tree}
+use Rattle.at_store.specs.Held.{held}
 use Rattle.at_store.specs.Memory.{AreAlike, Form, Info, Kids, cell_in, come_to}
 use Rattle.at_store.specs.Numbers.{number_at}
 use Rattle.at_store.specs.View.{stored_of}
@@ -24,7 +25,7 @@ HasSpace o = ⊤
 
 abbrev pub slots_of : Option Entry → List Slot
 slots_of None = []
-slots_of (Some e) = e.cells.items
+slots_of (Some e) = held e.cells
 
 abbrev pub slots_in : Slab Entry → ℕ → List Slot
 slots_in slab k = slots_of (get slab k)

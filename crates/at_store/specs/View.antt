@@ -2,6 +2,7 @@
 use Rattle.std.specs.Prelude.{◌≡◌, ℕ, Bool, true, false, cond, nat_eq, map, Option, Some, None}
 use Rattle.slab.specs.Slab.{Slab, get}
 use Rattle.at_tree.specs.Token.{token_view}
+use Rattle.at_store.specs.Held.{held}
 use Rattle.at_store.specs.Memory.{Form, Plain, List_of, Optional, Kept, Kids, Token_of, Info, arranged, reindexed}
 use Rattle.at_store.specs.declared.entry.Entry.{Entry}
 use Rattle.at_store.specs.declared.entry.Slot.{Slot}
@@ -25,7 +26,7 @@ up_view up.Alone = None
 up_view (up.In part parent) = Some (parent, part)
 
 abbrev pub info : Entry → Info
-info e = record { class = e.class; up = up_view e.up; index = e.number; cells = map kept_view e.cells.items }
+info e = record { class = e.class; up = up_view e.up; index = e.number; cells = map kept_view (held e.cells) }
 
 abbrev pub info_of : Option Entry → Option Info
 info_of None = None

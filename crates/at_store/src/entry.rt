@@ -6,6 +6,7 @@ ghost use Rattle.at_store.specs.Memory.{IsOnceAmong, StandsOnce, beside, or_firs
 ghost use Rattle.at_store.specs.Tokens.{lent_view};
 ghost use Rattle.at_store.specs.View.{kept_view, leaves_in, memory_of, up_view};
 
+use crate::components::Components;
 use crate::node::Node;
 use crate::token::Token;
 use at_class::ClassId;
@@ -39,7 +40,7 @@ pub enum Up {
     In(u16, Node),
 }
 
-/// What is kept of a node, in forty bytes. Two hold a class or a component, since a grammar has at most 1,000 classes of at most 32
+/// What is kept of a node, in 32 bytes. Two hold a class or a component, since a grammar has at most 1,000 classes of at most 32
 /// components.
 #[derive(Drop)]
 pub struct Entry {
@@ -50,7 +51,7 @@ pub struct Entry {
     /// As much more than the number of the first child as it stands behind it, modulo 2^32: so its position is found in constant
     /// time, and an insert into a list or a drop writes the numbers on the shorter side alone.
     pub number: u32,
-    pub cells: Vec<Slot>,
+    pub cells: Components,
 }
 
 impl Up {
@@ -204,7 +205,7 @@ pub(crate) fn slot_at(slab: &Slab<Entry>, node: Node, part: usize) -> Option<&Sl
     ensures { option_map kept_view (option_copied result) ≡ cell_in (memory_of slab.now node) part }
 {
     match slab.get(node.index()) {
-        Some(entry) => entry.cells.get(part),
+        Some(entry) => entry.cells.as_slice().get(part),
         None => None,
     }
 }
@@ -214,7 +215,7 @@ pub(crate) fn slots_at(slab: &Slab<Entry>, node: Node) -> &[Slot]
     ensures { map kept_view result.now ≡ cells_in (memory_of slab.now node) }
 {
     match slab.get(node.index()) {
-        Some(entry) => &entry.cells,
+        Some(entry) => entry.cells.as_slice(),
         None => &[],
     }
 }

@@ -4,11 +4,13 @@ ghost use Rattle.slab.specs.Slab.{slab_len};
 ghost use Rattle.at_model.specs.Edits.{changed_at};
 ghost use Rattle.at_model.specs.Trees.{Many, Tree as Numbered, class_of, to_trees};
 ghost use Rattle.at_tree.specs.TreeView.{cell_view, tree_view};
+ghost use Rattle.at_store.specs.Held.{held};
 ghost use Rattle.at_store.specs.Memory.{IsCellFreed, IsFreed, Kids, with_numbers};
 ghost use Rattle.at_store.specs.Planting.{GainsCell, GainsTree, IsAdded, IsAsBefore, IsPlanted, IsPushed, IsPushedKid, StaysPlanted, holding};
 ghost use Rattle.at_store.specs.Writing.{Pushes};
 ghost use Rattle.at_store.specs.View.{MarksNoMore, form_view, kept_view, stored_of, viewed};
 
+use crate::components::Components;
 use crate::entry::{Children, Entry, Form, Slot, small, small_index, small_place};
 use crate::node::Node;
 use at_class::ClassId;
@@ -24,7 +26,7 @@ pub(crate) fn free(slab: &mut Slab<Entry>, node: Node)
     ensures marks { MarksNoMore slab.old slab.new }
 {
     if let Some(entry) = slab.try_remove(node.index()) {
-        for slot in &entry.cells {
+        for slot in entry.cells.as_slice() {
             free_slot(slab, slot);
         }
     }
@@ -62,7 +64,7 @@ fn add(
         leaves: false,
         up: small_place(up)?,
         number: small_index(index)?,
-        cells: Vec::with_capacity(alloc, parts)?,
+        cells: Components::with_room(alloc, parts)?,
     };
     slab.insert(entry)?;
     Ok(node)
@@ -88,14 +90,14 @@ fn push_in_slot(slot: &mut Slot, kid: Node) -> Result<(), AllocError>
     Ok(())
 }
 
-fn push_in_cells(cells: &mut Vec<Slot>, part: usize, kid: Node) -> Result<(), AllocError>
-    ensures pushed { OnOk result (map kept_view cells.new.items ≡ changed_at (with_numbers (λ ns. ns ++ kid ∷ [])) (map kept_view cells.old.items) part) }
-    ensures kept { OnErr result (map kept_view cells.new.items ≡ map kept_view cells.old.items) }
+fn push_in_cells(cells: &mut Components, part: usize, kid: Node) -> Result<(), AllocError>
+    ensures pushed { OnOk result (map kept_view (held cells.new) ≡ changed_at (with_numbers (λ ns. ns ++ kid ∷ [])) (map kept_view (held cells.old)) part) }
+    ensures kept { OnErr result (map kept_view (held cells.new) ≡ map kept_view (held cells.old)) }
 {
-    if let Some(slot) = cells.get_mut(part) {
-        push_in_slot(slot, kid)?;
-    }
-    Ok(())
+    let mut slot = cells.take(part);
+    let pushed = push_in_slot(&mut slot, kid);
+    cells.put(part, slot);
+    pushed
 }
 
 /// One more child in a component of a node.

@@ -1,7 +1,6 @@
 -- A list with another element, as a cell that is written anew; and where there is room.
-use Rattle.std.proofs.Common.{◌≡◌, ◌<◌, ◌≤◌, ℕ, zero, suc, Bool, List, [], ◌∷◌, cond, get_or, length, nat_eq, slice_set, true, false, Option, Some, None, inl, inr, refl, sym, ap, ◌∙◌, subst, arith, is_some, Result, Ok, Err, IsOk, OnOk}
-use Rattle.std.specs.Prelude.{Vec, map}
-use Rattle.std.specs.Global.{Global}
+use Rattle.std.proofs.Common.{◌≡◌, ℕ, zero, suc, Bool, List, [], ◌∷◌, cond, get_or, nat_eq, slice_set, true, false, Option, Some, None, inl, inr, refl, sym, ap, ◌∙◌, subst, is_some, Result, Ok, Err, IsOk, OnOk}
+use Rattle.std.specs.Prelude.{map}
 use Rattle.std.specs.List.{slice_get}
 use Rattle.std.proofs.lemmas.Bool.{cases_eq, eq-eqb, ne_eqb}
 use Rattle.slab.specs.Slab.{Slab, Updates, get, with_value}
@@ -10,6 +9,8 @@ use Rattle.at_model.specs.Edits.{changed_at}
 use Rattle.at_store.specs.Memory.{Form, Info, Kept, Kids, cell_in, kids_in, numbers_in, relinked, rewritten, with_kept, with_kids, with_numbers}
 use Rattle.at_store.specs.Reserving.{HasRoom, HasSpace, KeepsRoom, slots_of}
 use Rattle.at_store.specs.View.{info_of, kept_view, stored_of, up_view}
+use Rattle.at_store.specs.Held.{held}
+use Rattle.at_store.specs.declared.components.Components.{Components}
 use Rattle.at_store.specs.declared.entry.Entry.{Entry}
 use Rattle.at_store.specs.declared.entry.Slot.{Slot}
 use Rattle.at_store.proofs.of_edits.Taken.{one_changed}
@@ -44,22 +45,12 @@ space_taken [] (suc i) b h = tt
 space_taken (x ∷ xs) zero b h = h
 space_taken (x ∷ xs) (suc i) b h = space_taken xs i b h
 
-pub slot_at : (cells : List Slot) (i : ℕ) (a : Slot) → get_or cells i a ≡ a → i < length cells → slice_get cells i ≡ Some a
-slot_at [] i a e less = absurd (omega (arith, less))
-slot_at (x ∷ xs) zero a e less = ap Some e
-slot_at (x ∷ xs) (suc i) a e less = slot_at xs i a e (omega (arith, less))
-
-pub no_space_needed : (cells : List Slot) (i : ℕ) → length cells ≤ i → HasSpace (slice_get cells i)
-no_space_needed [] i h = tt
-no_space_needed (x ∷ xs) zero h = absurd (omega (arith, h))
-no_space_needed (x ∷ xs) (suc i) h = no_space_needed xs i (omega (arith, h))
-
 pub done : {T E P : Type 0} (r : Result T E) → IsOk r → OnOk r P → P
 done (Ok x) ok h = h
 done (Err e) ok h = absurd cc
 
 -- an entry whose components are written
-module _ (s : Slab Entry) (node : ℕ) (a : Entry) (cells : Vec Slot Global) (there : Some a ≡ get s node) where
+module _ (s : Slab Entry) (node : ℕ) (a : Entry) (cells : Components) (there : Some a ≡ get s node) where
   abbrev pub new_entry : Entry
   new_entry = record { class = a.class; up = a.up; number = a.number; leaves = a.leaves; cells = cells }
 
@@ -69,23 +60,23 @@ module _ (s : Slab Entry) (node : ℕ) (a : Entry) (cells : Vec Slot Global) (th
   updates : Updates s later node (Some new_entry)
   updates = Updates-with_value s node new_entry (ap is_some (sym there))
 
-  pub room_was : (p : ℕ) → HasRoom s node p → HasSpace (slice_get a.cells.items p)
+  pub room_was : (p : ℕ) → HasRoom s node p → HasSpace (slice_get (held a.cells) p)
   room_was p h = subst (λ (o : Option Entry). HasSpace (slice_get (slots_of o) p)) (sym there) h
 
-  pub room_taken : (p : ℕ) → HasSpace (slice_get cells.items p) → HasRoom later node p
+  pub room_taken : (p : ℕ) → HasSpace (slice_get (held cells) p) → HasRoom later node p
   room_taken p h = subst (λ (o : Option Entry). HasSpace (slice_get (slots_of o) p)) (sym updates.changed) h
 
-  pub room_kept : ((p : ℕ) → HasSpace (slice_get a.cells.items p) → HasSpace (slice_get cells.items p)) → KeepsRoom s later
+  pub room_kept : ((p : ℕ) → HasSpace (slice_get (held a.cells) p) → HasSpace (slice_get (held cells) p)) → KeepsRoom s later
   room_kept f k p h = elim (cases_eq k node) [
     | inl e ↦ subst (λ (j : ℕ). HasRoom later j p) (sym e) (room_taken p (f p (room_was p (subst (λ (j : ℕ). HasRoom s j p) e h))))
     | inr e ↦ subst (λ (o : Option Entry). HasSpace (slice_get (slots_of o) p)) (sym (updates.others k e)) h
   ]
 
-  pub kids_were : (p : ℕ) → numbers_in (slice_get (map kept_view a.cells.items) p) ≡ kids_in (stored_of s node) p
+  pub kids_were : (p : ℕ) → numbers_in (slice_get (map kept_view (held a.cells)) p) ≡ kids_in (stored_of s node) p
   kids_were p = ap (λ o. kids_in (info_of o) p) there
 
-  pub relinked_later : (g : List ℕ → List ℕ) (part : ℕ) → map kept_view cells.items ≡ changed_at (with_numbers g)
-      (map kept_view a.cells.items) part → (k : ℕ) → stored_of later k ≡ relinked node part g k (stored_of s k)
+  pub relinked_later : (g : List ℕ → List ℕ) (part : ℕ) → map kept_view (held cells) ≡ changed_at (with_numbers g)
+      (map kept_view (held a.cells)) part → (k : ℕ) → stored_of later k ≡ relinked node part g k (stored_of s k)
   relinked_later g part written k = elim (cases_eq k node) [
     | inl e ↦ subst (λ (j : ℕ). stored_of later j ≡ relinked node part g j (stored_of s j)) (sym e) at_node
     | inr e ↦ ap info_of (updates.others k e) ∙ sym (ap (λ b. cond b (with_kids part g (stored_of s k)) (stored_of s k)) (ne_eqb k node e))

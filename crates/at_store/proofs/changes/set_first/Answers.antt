@@ -1,10 +1,11 @@
-use Rattle.std.proofs.Common.{sym}
-use Rattle.at_store.proofs.of_edits.Reserved.{space_kept}
-use Rattle.at_store.proofs.Written.{slot_same}
+use Rattle.at_store.specs.Held.{held}
+use Rattle.at_store.proofs.PutBack.{back_room, back_same}
 use Rattle.at_store.proofs.changes.set_first.Goals as goal
 
-pub returns-in-Some-clause-stays : goal.returns-in-Some-clause-stays
-returns-in-Some-clause-stays c = slot_same c.args.cells.now.items c.args.part c.in-Some.slot.now c.set_first_in_slot.new.slot (sym c.in-Some.ensures.value) c.set_first_in_slot.ensures.stays
+pub returns-clause-stays : goal.returns-clause-stays
+returns-clause-stays c = back_same (held c.args.cells.now) _ _ c.args.part c.take-slot.result c.set_first_in_slot.new.slot
+    c.take-slot.ensures.taken c.take-slot.ensures.left c.put.ensures c.set_first_in_slot.ensures.stays
 
-pub returns-in-Some-clause-room : goal.returns-in-Some-clause-room
-returns-in-Some-clause-room c = space_kept c.args.cells.now.items c.args.part c.in-Some.slot.now c.set_first_in_slot.new.slot (sym c.in-Some.ensures.value) c.set_first_in_slot.ensures.room
+pub returns-clause-room : goal.returns-clause-room
+returns-clause-room c = back_room (held c.args.cells.now) _ _ c.args.part c.take-slot.result c.set_first_in_slot.new.slot
+    c.take-slot.ensures.taken c.take-slot.ensures.left c.put.ensures c.set_first_in_slot.ensures.room

@@ -39,7 +39,7 @@ free-loop-slot-init t c = record {
     info c.in-Some.entry,
     ap (stored_of c.args.slab.now) (sym c.index.ensures) ∙ ap info_of
         (sym c.try_remove.ensures.value ∙ c.in-Some.is),
-    ap (map kept_view) (sym c.deref-slot-items.ensures.value),
+    ap (map kept_view) (sym c.as_slice-slot-items.ensures),
   );
   freed = λ f place x same apart stored. spread_root None _ _ x (λ k. removed f _ _ _ c.try_remove.ensures.updates k
       ∙ ap (λ n. cond (nat_eq k n) None (viewed f c.args.slab.now k)) (c.index.ensures ∙ sym same));
@@ -53,7 +53,7 @@ free-loop-slot-preserved t c =
       fewer = omega (arith, c.free_slot.ensures.fewer, inv.fewer);
       cells = inv.cells;
       freed = λ f place x same apart stored.
-          let kept_is : kept_of x ≡ map kept_view c.deref-slot-items.result.now =
+          let kept_is : kept_of x ≡ map kept_view c.as_slice-slot-items.result.now =
           root_cells _ place x (as_viewed f c.args.node inv.cells.0) stored
           (ap (viewed f c.args.slab.now) same ∙ ap (reindexed f c.args.node) inv.cells.1) ∙ inv.cells.2 in
           let cell : slice_get (kept_of x) c.loop-slot.slot-index ≡ Some (kept_view c.slot-item.result) =
@@ -69,11 +69,11 @@ free-loop-slot-preserved t c =
 pub free-returns-after-loop-slot-clause-freed : goal.free-returns-after-loop-slot-clause-freed
 free-returns-after-loop-slot-clause-freed t c = λ f place x same apart stored.
     let inv = c.loop-slot.invariant in
-    let kept_is : kept_of x ≡ map kept_view c.deref-slot-items.result.now =
+    let kept_is : kept_of x ≡ map kept_view c.as_slice-slot-items.result.now =
     root_cells _ place x (as_viewed f c.args.node inv.cells.0) stored
     (ap (viewed f c.args.slab.now) same ∙ ap (reindexed f c.args.node) inv.cells.1) ∙ inv.cells.2 in
-    let long : length (from_cells (cells_of x)) ≡ length c.deref-slot-items.result.now = sym (map_length kept
-    (from_cells (cells_of x))) ∙ ap length kept_is ∙ map_length kept_view c.deref-slot-items.result.now in
+    let long : length (from_cells (cells_of x)) ≡ length c.as_slice-slot-items.result.now = sym (map_length kept
+    (from_cells (cells_of x))) ∙ ap length kept_is ∙ map_length kept_view c.as_slice-slot-items.result.now in
     spread_whole None _ _ x c.loop-slot.slot-index (omega (arith, long, c.loop-slot-test.false)) (inv.freed f place x same apart stored)
 
 pub free-returns-in_default-clause-freed : goal.free-returns-in_default-clause-freed

@@ -1,19 +1,14 @@
-use Rattle.std.proofs.Common.{◌≤◌, length, map, sym, arith}
-use Rattle.at_store.specs.View.{kept_view}
-use Rattle.at_store.proofs.Slots.{none_changed, map_length}
-use Rattle.at_store.proofs.of_planting.Gains.{at_err}
-use Rattle.at_store.proofs.Written.{slot_same, slot_changed}
+use Rattle.at_store.specs.Held.{held}
+use Rattle.at_store.proofs.PutBack.{back_same, back_shown}
+use Rattle.at_store.proofs.of_planting.Gains.{on_err, on_ok}
 use Rattle.at_store.proofs.plant.push_in_cells.Goals as goal
 
-pub returns-in_err-push_in_slot-clause-kept : goal.returns-in_err-push_in_slot-clause-kept
-returns-in_err-push_in_slot-clause-kept c = at_err c.from_residual.result (slot_same c.args.cells.now.items c.args.part
-    c.in-Some.slot.now c.push_in_slot.new.slot (sym c.in-Some.ensures.value) c.in_err-push_in_slot.ensures.kept)
+pub returns-clause-pushed : goal.returns-clause-pushed
+returns-clause-pushed c = on_ok c.push_in_slot-pushed.result
+    (back_shown (held c.args.cells.now) _ _ c.args.part c.take-slot.result c.push_in_slot-pushed.new.slot
+    c.take-slot.ensures.taken c.take-slot.ensures.left c.put.ensures _) c.push_in_slot-pushed.ensures.pushed
 
-pub returns-in_ok-push_in_slot-clause-pushed : goal.returns-in_ok-push_in_slot-clause-pushed
-returns-in_ok-push_in_slot-clause-pushed c = slot_changed _ c.args.cells.now.items c.args.part c.in-Some.slot.now
-    c.push_in_slot.new.slot (sym c.in-Some.ensures.value) c.in_ok-push_in_slot.ensures.pushed
-
-pub returns-in_default-clause-pushed : goal.returns-in_default-clause-pushed
-returns-in_default-clause-pushed c =
-    let outside : length c.args.cells.now.items ≤ c.args.part = (c.in_default.ensures {u = tt}).item.3 in
-    sym (none_changed _ (map kept_view c.args.cells.now.items) c.args.part (omega (arith, map_length kept_view c.args.cells.now.items)))
+pub returns-clause-kept : goal.returns-clause-kept
+returns-clause-kept c = on_err c.push_in_slot-pushed.result
+    (back_same (held c.args.cells.now) _ _ c.args.part c.take-slot.result c.push_in_slot-pushed.new.slot
+    c.take-slot.ensures.taken c.take-slot.ensures.left c.put.ensures) c.push_in_slot-pushed.ensures.kept

@@ -9,5 +9,5 @@ pub returns-in_err-push : goal.returns-in_err-push
 returns-in_err-push c = record {
   pushed = search rules;
   marks = λ k e. sym (marks_same c.args.slab.now c.index.result c.in-Some.entry.now c.push.new.self c.in-Some.ensures.value k) ∙ e;
-  kept = at_err c.from_residual.result (written_same c.args.slab.now c.index.result c.in-Some.entry.now c.push.new.self c.in-Some.ensures.value (ap (map kept_view) c.in_err-push.ensures.items));
+  kept = at_err c.from_residual.result (written_same c.args.slab.now c.index.result c.in-Some.entry.now c.push.new.self c.in-Some.ensures.value (ap (map kept_view) c.in_err-push.ensures.kept));
 }
