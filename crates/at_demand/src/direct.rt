@@ -4,7 +4,6 @@
 
 ghost use Rattle.std.specs.Prelude.{◌≡◌, ◌<◌, ◌≤◌, ◌^◌, [], IfOk, OnOk, IsTrue, drop, false, length, map, take, true};
 ghost use Rattle.at_model.specs.Meaning.{HasValue};
-ghost use Rattle.at_model.specs.Rules.{is_lazy};
 ghost use Rattle.at_store.specs.Shown.{contents};
 ghost use Rattle.at_rules.specs.Bodies.{bodies_view, body_view};
 ghost use Rattle.at_body.specs.Comparing.{IsComparison};
@@ -13,8 +12,7 @@ ghost use Rattle.at_body.specs.Values.{value_view};
 ghost use Rattle.at_apply.specs.Parts.{call_of, either_of, fold_of, one_of, two_of};
 ghost use Rattle.at_apply.specs.Place.{place_at};
 ghost use Rattle.at_demand.specs.Known.{meaning};
-ghost use Rattle.at_demand.specs.Inner.{HasRecalled, HasTold, known_by};
-ghost use Rattle.at_demand.specs.InParts.{HasCome, HasGained, HasGrown, IsHeld, held};
+ghost use Rattle.at_demand.specs.InParts.{EndsEvaluated, EndsRecalled, EndsTold, EvaluatesTo, GivesLevel, HasGrown, IsEmptied, IsHeld, IsHeldFor, held_by};
 ghost use Rattle.at_demand.specs.Sparing.{AreSpare, HasWorthy};
 
 use crate::basis::Basis;
@@ -54,8 +52,7 @@ impl Drop for Level {
 impl Level {
     // Takes all out; the memory stays.
     fn clear(&mut self)
-        ensures reads { self.new.reads ≡ [] }
-        ensures uses { self.new.uses.items ≡ [] }
+        ensures { IsEmptied self.new }
     {
         self.reads.clear();
         self.uses.clear();
@@ -122,14 +119,12 @@ impl Direct {
         basis: &Basis<'_>,
         inst: &Inst,
     ) -> Result<Value, Stop>
-        requires { IsHeld basis.now.rules.now (contents basis.now.store.now)
-            (held (K.contents keeper.old) (K.memories keeper.old) self.old.found.entries self.old.work) }
+        requires { IsHeld basis.now.rules.now (contents basis.now.store.now) (held_by K.contents K.memories keeper.old self.old) }
         ensures value { IfOk result (λ v. HasValue (contents basis.now.store.now) (meaning basis.now.rules.now) inst.now (value_view v)) }
         ensures all { IsTrue K.exact → AreSpare basis.now.rules.now (contents basis.now.store.now) (K.contents keeper.old)
             → IfOk result (λ v. HasWorthy basis.now.rules.now (contents basis.now.store.now) inst.now (K.contents keeper.new)) }
         ensures grown { HasGrown basis.now.rules.now basis.now.store.now K.exact inst.now
-            (held (K.contents keeper.old) (K.memories keeper.old) self.old.found.entries self.old.work)
-            (held (K.contents keeper.new) (K.memories keeper.new) self.new.found.entries self.new.work) }
+            (held_by K.contents K.memories keeper.old self.old) (held_by K.contents K.memories keeper.new self.new) }
     {
         let mut asks = self.level();
         let needed = inst.copy(self.alloc)?;
@@ -138,10 +133,7 @@ impl Direct {
 
     // The level of an evaluation that ended, emptied, or a fresh one.
     fn level(&mut self) -> Level
-        ensures work { self.new.work ≡ self.old.work }
-        ensures found { self.new.found.entries ≡ self.old.found.entries }
-        ensures reads { result.reads ≡ [] }
-        ensures uses { result.uses.items ≡ [] }
+        ensures { GivesLevel self.old self.new result }
     {
         match self.spare.pop() {
             Some(level) => emptied(level),
@@ -162,13 +154,9 @@ impl Direct {
         needed: Inst,
         above: usize,
     ) -> Result<Value, Stop>
-        requires { IsHeld basis.now.rules.now (contents basis.now.store.now)
-            (held (K.contents keeper.old) (K.memories keeper.old) self.old.found.entries self.old.work) }
-        ensures told { IfOk result (λ v. HasTold basis.now.rules.now (contents basis.now.store.now) (known_by (K.contents keeper.new) self.new.found.entries)
-            level.old level.new needed (value_view v)) }
-        ensures grown { HasGrown basis.now.rules.now basis.now.store.now K.exact needed
-            (held (K.contents keeper.old) (K.memories keeper.old) self.old.found.entries self.old.work)
-            (held (K.contents keeper.new) (K.memories keeper.new) self.new.found.entries self.new.work) }
+        requires { IsHeld basis.now.rules.now (contents basis.now.store.now) (held_by K.contents K.memories keeper.old self.old) }
+        ensures { EndsTold basis.now.rules.now basis.now.store.now K.exact needed (held_by K.contents K.memories keeper.old self.old)
+            (held_by K.contents K.memories keeper.new self.new) level.old level.new result }
     {
         let recalled = self.recall(keeper, basis, level, &needed)?;
         if let Some(value) = recalled {
@@ -190,14 +178,9 @@ impl Direct {
         needed: Inst,
         above: usize,
     ) -> Result<Value, Stop>
-        requires lazy { is_lazy basis.now.rules.now needed.attribute ≡ false }
-        requires held { IsHeld basis.now.rules.now (contents basis.now.store.now)
-            (held (K.contents keeper.old) (K.memories keeper.old) self.old.found.entries self.old.work) }
-        ensures told { IfOk result (λ v. HasTold basis.now.rules.now (contents basis.now.store.now) (known_by (K.contents keeper.new) self.new.found.entries)
-            level.old level.new needed (value_view v)) }
-        ensures grown { HasGrown basis.now.rules.now basis.now.store.now K.exact needed
-            (held (K.contents keeper.old) (K.memories keeper.old) self.old.found.entries self.old.work)
-            (held (K.contents keeper.new) (K.memories keeper.new) self.new.found.entries self.new.work) }
+        requires { IsHeldFor basis.now.rules.now (contents basis.now.store.now) (held_by K.contents K.memories keeper.old self.old) false needed }
+        ensures { EndsTold basis.now.rules.now basis.now.store.now K.exact needed (held_by K.contents K.memories keeper.old self.old)
+            (held_by K.contents K.memories keeper.new self.new) level.old level.new result }
     {
         let reads = level.reads.len();
         let uses = level.uses.len();
@@ -220,14 +203,9 @@ impl Direct {
         needed: Inst,
         above: usize,
     ) -> Result<Value, Stop>
-        requires lazy { is_lazy basis.now.rules.now needed.attribute ≡ true }
-        requires held { IsHeld basis.now.rules.now (contents basis.now.store.now)
-            (held (K.contents keeper.old) (K.memories keeper.old) self.old.found.entries self.old.work) }
-        ensures told { IfOk result (λ v. HasTold basis.now.rules.now (contents basis.now.store.now) (known_by (K.contents keeper.new) self.new.found.entries)
-            level.old level.new needed (value_view v)) }
-        ensures grown { HasGrown basis.now.rules.now basis.now.store.now K.exact needed
-            (held (K.contents keeper.old) (K.memories keeper.old) self.old.found.entries self.old.work)
-            (held (K.contents keeper.new) (K.memories keeper.new) self.new.found.entries self.new.work) }
+        requires { IsHeldFor basis.now.rules.now (contents basis.now.store.now) (held_by K.contents K.memories keeper.old self.old) true needed }
+        ensures { EndsTold basis.now.rules.now basis.now.store.now K.exact needed (held_by K.contents K.memories keeper.old self.old)
+            (held_by K.contents K.memories keeper.new self.new) level.old level.new result }
     {
         let verified = self.verify(keeper, basis, level, &needed, above)?;
         match verified {
@@ -247,13 +225,9 @@ impl Direct {
         needed: &Inst,
         above: usize,
     ) -> Result<Option<Value>, Stop>
-        requires { IsHeld basis.now.rules.now (contents basis.now.store.now)
-            (held (K.contents keeper.old) (K.memories keeper.old) self.old.found.entries self.old.work) }
-        ensures recalled { IfOk result (HasRecalled basis.now.rules.now (contents basis.now.store.now) (known_by (K.contents keeper.new) self.new.found.entries)
-            level.old level.new needed.now) }
-        ensures grown { HasGrown basis.now.rules.now basis.now.store.now K.exact needed.now
-            (held (K.contents keeper.old) (K.memories keeper.old) self.old.found.entries self.old.work)
-            (held (K.contents keeper.new) (K.memories keeper.new) self.new.found.entries self.new.work) }
+        requires { IsHeld basis.now.rules.now (contents basis.now.store.now) (held_by K.contents K.memories keeper.old self.old) }
+        ensures { EndsRecalled basis.now.rules.now basis.now.store.now K.exact needed.now (held_by K.contents K.memories keeper.old self.old)
+            (held_by K.contents K.memories keeper.new self.new) level.old level.new result }
     {
         for _ in 0..IN_THE_WAY {
             let again = self.keep_again(keeper, basis, level, needed)?;
@@ -280,14 +254,9 @@ impl Direct {
         needed: Inst,
         above: usize,
     ) -> Result<Value, Stop>
-        requires lazy { is_lazy basis.now.rules.now needed.attribute ≡ true }
-        requires held { IsHeld basis.now.rules.now (contents basis.now.store.now)
-            (held (K.contents keeper.old) (K.memories keeper.old) self.old.found.entries self.old.work) }
-        ensures told { IfOk result (λ v. HasTold basis.now.rules.now (contents basis.now.store.now) (known_by (K.contents keeper.new) self.new.found.entries)
-            level.old level.new needed (value_view v)) }
-        ensures grown { HasGrown basis.now.rules.now basis.now.store.now K.exact needed
-            (held (K.contents keeper.old) (K.memories keeper.old) self.old.found.entries self.old.work)
-            (held (K.contents keeper.new) (K.memories keeper.new) self.new.found.entries self.new.work) }
+        requires { IsHeldFor basis.now.rules.now (contents basis.now.store.now) (held_by K.contents K.memories keeper.old self.old) true needed }
+        ensures { EndsTold basis.now.rules.now basis.now.store.now K.exact needed (held_by K.contents K.memories keeper.old self.old)
+            (held_by K.contents K.memories keeper.new self.new) level.old level.new result }
     {
         let mut below = self.level();
         let value = self.evaluate(keeper, basis, &mut below, &needed, above)?;
@@ -307,14 +276,9 @@ impl Direct {
         inst: &Inst,
         above: usize,
     ) -> Result<Value, Stop>
-        requires { IsHeld basis.now.rules.now (contents basis.now.store.now)
-            (held (K.contents keeper.old) (K.memories keeper.old) self.old.found.entries self.old.work) }
-        ensures come { IfOk result (λ v. HasCome basis.now.rules.now (contents basis.now.store.now)
-            (held (K.contents keeper.new) (K.memories keeper.new) self.new.found.entries self.new.work)
-            level.old level.new (meaning basis.now.rules.now inst.now) (value_view v)) }
-        ensures grown { HasGrown basis.now.rules.now basis.now.store.now K.exact inst.now
-            (held (K.contents keeper.old) (K.memories keeper.old) self.old.found.entries self.old.work)
-            (held (K.contents keeper.new) (K.memories keeper.new) self.new.found.entries self.new.work) }
+        requires { IsHeld basis.now.rules.now (contents basis.now.store.now) (held_by K.contents K.memories keeper.old self.old) }
+        ensures { EndsEvaluated basis.now.rules.now basis.now.store.now K.exact inst.now (held_by K.contents K.memories keeper.old self.old)
+            (held_by K.contents K.memories keeper.new self.new) level.old level.new result }
     {
         let begun = begin(self.alloc, basis.rules, basis.store, &mut level.reads, inst)?;
         self.value(keeper, basis, level, &begun.0, begun.1, above)
@@ -331,15 +295,10 @@ impl Direct {
         body: &Body,
         above: usize,
     ) -> Result<Value, Stop>
-        requires { IsHeld basis.now.rules.now (contents basis.now.store.now)
-            (held (K.contents keeper.old) (K.memories keeper.old) self.old.found.entries self.old.work) }
-        ensures come { IfOk result (λ v. HasCome basis.now.rules.now (contents basis.now.store.now)
-            (held (K.contents keeper.new) (K.memories keeper.new) self.new.found.entries self.new.work)
-            level.old level.new (ev basis.now.rules.now.classes (body_view body.now) (place_at here.now)) (value_view v)) }
-        ensures gains { HasGained basis.now.rules.now basis.now.store.now K.exact
-            (ev basis.now.rules.now.classes (body_view body.now) (place_at here.now))
-            (held (K.contents keeper.old) (K.memories keeper.old) self.old.found.entries self.old.work)
-            (held (K.contents keeper.new) (K.memories keeper.new) self.new.found.entries self.new.work) }
+        requires { IsHeld basis.now.rules.now (contents basis.now.store.now) (held_by K.contents K.memories keeper.old self.old) }
+        ensures { EvaluatesTo basis.now.rules.now basis.now.store.now K.exact
+            (ev basis.now.rules.now.classes (body_view body.now) (place_at here.now)) value_view
+            (held_by K.contents K.memories keeper.old self.old) (held_by K.contents K.memories keeper.new self.new) level.old level.new result }
     {
         if above == 0 {
             return Err(Stop::GivesUp);
@@ -377,15 +336,10 @@ impl Direct {
         operand: &Body,
         above: usize,
     ) -> Result<Value, Stop>
-        requires { IsHeld basis.now.rules.now (contents basis.now.store.now)
-            (held (K.contents keeper.old) (K.memories keeper.old) self.old.found.entries self.old.work) }
-        ensures come { IfOk result (λ v. HasCome basis.now.rules.now (contents basis.now.store.now)
-            (held (K.contents keeper.new) (K.memories keeper.new) self.new.found.entries self.new.work)
-            level.old level.new (one_of basis.now.rules.now.classes (place_at here.now) unary operand.now) (value_view v)) }
-        ensures gains { HasGained basis.now.rules.now basis.now.store.now K.exact
-            (one_of basis.now.rules.now.classes (place_at here.now) unary operand.now)
-            (held (K.contents keeper.old) (K.memories keeper.old) self.old.found.entries self.old.work)
-            (held (K.contents keeper.new) (K.memories keeper.new) self.new.found.entries self.new.work) }
+        requires { IsHeld basis.now.rules.now (contents basis.now.store.now) (held_by K.contents K.memories keeper.old self.old) }
+        ensures { EvaluatesTo basis.now.rules.now basis.now.store.now K.exact
+            (one_of basis.now.rules.now.classes (place_at here.now) unary operand.now) value_view
+            (held_by K.contents K.memories keeper.old self.old) (held_by K.contents K.memories keeper.new self.new) level.old level.new result }
     {
         let value = self.value(keeper, basis, level, here, operand, above)?;
         with_one(basis.rules, basis.store, &mut level.reads, unary, &value)
@@ -405,15 +359,10 @@ impl Direct {
         right: &Body,
         above: usize,
     ) -> Result<Value, Stop>
-        requires { IsHeld basis.now.rules.now (contents basis.now.store.now)
-            (held (K.contents keeper.old) (K.memories keeper.old) self.old.found.entries self.old.work) }
-        ensures come { IfOk result (λ v. HasCome basis.now.rules.now (contents basis.now.store.now)
-            (held (K.contents keeper.new) (K.memories keeper.new) self.new.found.entries self.new.work)
-            level.old level.new (two_of basis.now.rules.now.classes (place_at here.now) binary left.now right.now) (value_view v)) }
-        ensures gains { HasGained basis.now.rules.now basis.now.store.now K.exact
-            (two_of basis.now.rules.now.classes (place_at here.now) binary left.now right.now)
-            (held (K.contents keeper.old) (K.memories keeper.old) self.old.found.entries self.old.work)
-            (held (K.contents keeper.new) (K.memories keeper.new) self.new.found.entries self.new.work) }
+        requires { IsHeld basis.now.rules.now (contents basis.now.store.now) (held_by K.contents K.memories keeper.old self.old) }
+        ensures { EvaluatesTo basis.now.rules.now basis.now.store.now K.exact
+            (two_of basis.now.rules.now.classes (place_at here.now) binary left.now right.now) value_view
+            (held_by K.contents K.memories keeper.old self.old) (held_by K.contents K.memories keeper.new self.new) level.old level.new result }
     {
         let first = self.value(keeper, basis, level, here, left, above)?;
         let second = self.value(keeper, basis, level, here, right, above)?;
@@ -434,15 +383,10 @@ impl Direct {
         above: usize,
     ) -> Result<Value, Stop>
         requires comparison { IsComparison comparison }
-        requires held { IsHeld basis.now.rules.now (contents basis.now.store.now)
-            (held (K.contents keeper.old) (K.memories keeper.old) self.old.found.entries self.old.work) }
-        ensures come { IfOk result (λ v. HasCome basis.now.rules.now (contents basis.now.store.now)
-            (held (K.contents keeper.new) (K.memories keeper.new) self.new.found.entries self.new.work)
-            level.old level.new (two_of basis.now.rules.now.classes (place_at here.now) comparison left.now right.now) (value_view v)) }
-        ensures gains { HasGained basis.now.rules.now basis.now.store.now K.exact
-            (two_of basis.now.rules.now.classes (place_at here.now) comparison left.now right.now)
-            (held (K.contents keeper.old) (K.memories keeper.old) self.old.found.entries self.old.work)
-            (held (K.contents keeper.new) (K.memories keeper.new) self.new.found.entries self.new.work) }
+        requires held { IsHeld basis.now.rules.now (contents basis.now.store.now) (held_by K.contents K.memories keeper.old self.old) }
+        ensures { EvaluatesTo basis.now.rules.now basis.now.store.now K.exact
+            (two_of basis.now.rules.now.classes (place_at here.now) comparison left.now right.now) value_view
+            (held_by K.contents K.memories keeper.old self.old) (held_by K.contents K.memories keeper.new self.new) level.old level.new result }
     {
         let at_once = compare(
             here,
@@ -471,15 +415,10 @@ impl Direct {
         no: Option<&Body>,
         above: usize,
     ) -> Result<Value, Stop>
-        requires { IsHeld basis.now.rules.now (contents basis.now.store.now)
-            (held (K.contents keeper.old) (K.memories keeper.old) self.old.found.entries self.old.work) }
-        ensures come { IfOk result (λ v. HasCome basis.now.rules.now (contents basis.now.store.now)
-            (held (K.contents keeper.new) (K.memories keeper.new) self.new.found.entries self.new.work)
-            level.old level.new (either_of basis.now.rules.now.classes (place_at here.now) test.now yes.entry no.entry) (value_view v)) }
-        ensures gains { HasGained basis.now.rules.now basis.now.store.now K.exact
-            (either_of basis.now.rules.now.classes (place_at here.now) test.now yes.entry no.entry)
-            (held (K.contents keeper.old) (K.memories keeper.old) self.old.found.entries self.old.work)
-            (held (K.contents keeper.new) (K.memories keeper.new) self.new.found.entries self.new.work) }
+        requires { IsHeld basis.now.rules.now (contents basis.now.store.now) (held_by K.contents K.memories keeper.old self.old) }
+        ensures { EvaluatesTo basis.now.rules.now basis.now.store.now K.exact
+            (either_of basis.now.rules.now.classes (place_at here.now) test.now yes.entry no.entry) value_view
+            (held_by K.contents K.memories keeper.old self.old) (held_by K.contents K.memories keeper.new self.new) level.old level.new result }
     {
         let value = self.value(keeper, basis, level, here, test, above)?;
         let holds = truth_in(&value)?;
@@ -503,15 +442,10 @@ impl Direct {
         passed: &[Body],
         above: usize,
     ) -> Result<Value, Stop>
-        requires { IsHeld basis.now.rules.now (contents basis.now.store.now)
-            (held (K.contents keeper.old) (K.memories keeper.old) self.old.found.entries self.old.work) }
-        ensures come { IfOk result (λ v. HasCome basis.now.rules.now (contents basis.now.store.now)
-            (held (K.contents keeper.new) (K.memories keeper.new) self.new.found.entries self.new.work)
-            level.old level.new (call_of basis.now.rules.now.classes (place_at here.now) receiver.now attribute passed.now) (value_view v)) }
-        ensures gains { HasGained basis.now.rules.now basis.now.store.now K.exact
-            (call_of basis.now.rules.now.classes (place_at here.now) receiver.now attribute passed.now)
-            (held (K.contents keeper.old) (K.memories keeper.old) self.old.found.entries self.old.work)
-            (held (K.contents keeper.new) (K.memories keeper.new) self.new.found.entries self.new.work) }
+        requires { IsHeld basis.now.rules.now (contents basis.now.store.now) (held_by K.contents K.memories keeper.old self.old) }
+        ensures { EvaluatesTo basis.now.rules.now basis.now.store.now K.exact
+            (call_of basis.now.rules.now.classes (place_at here.now) receiver.now attribute passed.now) value_view
+            (held_by K.contents K.memories keeper.old self.old) (held_by K.contents K.memories keeper.new self.new) level.old level.new result }
     {
         let value = self.value(keeper, basis, level, here, receiver, above)?;
         let arguments = self.passed(keeper, basis, level, here, passed, above)?;
@@ -537,15 +471,10 @@ impl Direct {
         passed: &[Body],
         above: usize,
     ) -> Result<Arguments, Stop>
-        requires { IsHeld basis.now.rules.now (contents basis.now.store.now)
-            (held (K.contents keeper.old) (K.memories keeper.old) self.old.found.entries self.old.work) }
-        ensures come { IfOk result (λ v. HasCome basis.now.rules.now (contents basis.now.store.now)
-            (held (K.contents keeper.new) (K.memories keeper.new) self.new.found.entries self.new.work)
-            level.old level.new (ev_all basis.now.rules.now.classes (bodies_view passed.now) (place_at here.now)) (map value_view v)) }
-        ensures gains { HasGained basis.now.rules.now basis.now.store.now K.exact
-            (ev_all basis.now.rules.now.classes (bodies_view passed.now) (place_at here.now))
-            (held (K.contents keeper.old) (K.memories keeper.old) self.old.found.entries self.old.work)
-            (held (K.contents keeper.new) (K.memories keeper.new) self.new.found.entries self.new.work) }
+        requires { IsHeld basis.now.rules.now (contents basis.now.store.now) (held_by K.contents K.memories keeper.old self.old) }
+        ensures { EvaluatesTo basis.now.rules.now basis.now.store.now K.exact
+            (ev_all basis.now.rules.now.classes (bodies_view passed.now) (place_at here.now)) (map value_view)
+            (held_by K.contents K.memories keeper.old self.old) (held_by K.contents K.memories keeper.new self.new) level.old level.new result }
     {
         if here.hands_on(passed) {
             return here.handed_on();
@@ -575,15 +504,10 @@ impl Direct {
         body: &Body,
         above: usize,
     ) -> Result<Value, Stop>
-        requires { IsHeld basis.now.rules.now (contents basis.now.store.now)
-            (held (K.contents keeper.old) (K.memories keeper.old) self.old.found.entries self.old.work) }
-        ensures come { IfOk result (λ v. HasCome basis.now.rules.now (contents basis.now.store.now)
-            (held (K.contents keeper.new) (K.memories keeper.new) self.new.found.entries self.new.work)
-            level.old level.new (fold_of basis.now.rules.now.classes (place_at here.now) fold of.now part body.now) (value_view v)) }
-        ensures gains { HasGained basis.now.rules.now basis.now.store.now K.exact
-            (fold_of basis.now.rules.now.classes (place_at here.now) fold of.now part body.now)
-            (held (K.contents keeper.old) (K.memories keeper.old) self.old.found.entries self.old.work)
-            (held (K.contents keeper.new) (K.memories keeper.new) self.new.found.entries self.new.work) }
+        requires { IsHeld basis.now.rules.now (contents basis.now.store.now) (held_by K.contents K.memories keeper.old self.old) }
+        ensures { EvaluatesTo basis.now.rules.now basis.now.store.now K.exact
+            (fold_of basis.now.rules.now.classes (place_at here.now) fold of.now part body.now) value_view
+            (held_by K.contents K.memories keeper.old self.old) (held_by K.contents K.memories keeper.new self.new) level.old level.new result }
     {
         let value = self.value(keeper, basis, level, here, of, above)?;
         let node = node_of(&value)?;
@@ -613,15 +537,10 @@ impl Direct {
         nodes: &[Node],
         above: usize,
     ) -> Result<Value, Stop>
-        requires { IsHeld basis.now.rules.now (contents basis.now.store.now)
-            (held (K.contents keeper.old) (K.memories keeper.old) self.old.found.entries self.old.work) }
-        ensures come { IfOk result (λ v. HasCome basis.now.rules.now (contents basis.now.store.now)
-            (held (K.contents keeper.new) (K.memories keeper.new) self.new.found.entries self.new.work)
-            level.old level.new (over basis.now.rules.now.classes fold (body_view body.now) (place_at here.now) nodes.now) (value_view v)) }
-        ensures gains { HasGained basis.now.rules.now basis.now.store.now K.exact
-            (over basis.now.rules.now.classes fold (body_view body.now) (place_at here.now) nodes.now)
-            (held (K.contents keeper.old) (K.memories keeper.old) self.old.found.entries self.old.work)
-            (held (K.contents keeper.new) (K.memories keeper.new) self.new.found.entries self.new.work) }
+        requires { IsHeld basis.now.rules.now (contents basis.now.store.now) (held_by K.contents K.memories keeper.old self.old) }
+        ensures { EvaluatesTo basis.now.rules.now basis.now.store.now K.exact
+            (over basis.now.rules.now.classes fold (body_view body.now) (place_at here.now) nodes.now) value_view
+            (held_by K.contents K.memories keeper.old self.old) (held_by K.contents K.memories keeper.new self.new) level.old level.new result }
     {
         let mut inside = here.copy()?;
         let mut going = fold;
@@ -643,8 +562,7 @@ impl Direct {
 
 // A level with nothing in it.
 fn emptied(level: Level) -> Level
-    ensures reads { result.reads ≡ [] }
-    ensures uses { result.uses.items ≡ [] }
+    ensures { IsEmptied result }
 {
     let mut level = level;
     level.clear();
