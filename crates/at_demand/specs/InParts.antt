@@ -1,16 +1,18 @@
 -- Evaluations in one go, part by part: what an expression comes to, and what comes to what is kept meanwhile.
-use Rattle.std.specs.Prelude.{◌≡◌, ℕ, Bool, List, ◌++◌, None, IsTrue}
+use Rattle.std.specs.Prelude.{◌≡◌, ℕ, Bool, List, ◌++◌, [], Option, None, IsSome, IsTrue, IfOk, OnOk, Result}
 use Rattle.at_model.specs.Run.{Value, Instance, Location, Contents, Known, Run, Gives, Demands}
-use Rattle.at_model.specs.Rules.{Rules}
+use Rattle.at_model.specs.Rules.{Rules, is_lazy}
 use Rattle.at_model.specs.Meaning.{HasValue, Reaches}
 use Rattle.at_model.specs.Nested.{Evaluates}
 use Rattle.at_store.specs.Shown.{Shown, contents}
+use Rattle.at_body.specs.Values.{value_view}
 use Rattle.at_body.specs.declared.value.Value.{Value as ValueCode}
 use Rattle.at_cache.specs.Kept.{Entries}
 use Rattle.at_cache.specs.Traced.{Memories}
+use Rattle.at_demand.specs.declared.direct.Direct.{Direct}
 use Rattle.at_demand.specs.declared.direct.Level.{Level}
 use Rattle.at_demand.specs.Known.{meaning, kept_values, IsKept, KeepsEntries}
-use Rattle.at_demand.specs.Inner.{AreKnown, Gains, StayRemembered, is_inner, known_by}
+use Rattle.at_demand.specs.Inner.{AreKnown, Gains, HasRecalled, HasTold, IsEvaluated, StayRemembered, is_inner, known_by}
 use Rattle.at_demand.specs.Right.{AreRight, IsThere}
 use Rattle.at_demand.specs.Sparing.{AreSpare, Counts, IsWorthKeeping}
 use Rattle.at_demand.specs.Traces.{AreJustified, AreOfTree, StayJustified}
@@ -24,6 +26,10 @@ pub record Held : Type 0 where
 
 abbrev pub held : Entries → Memories → List (Instance ℕ × ValueCode) → ℕ → Held
 held entries memories found work = record { entries = entries; memories = memories; found = found; work = work }
+
+-- what those of a question go by now
+abbrev pub held_by : {K : Type 0} → (K → Entries) → (K → Memories) → K → Direct → Held
+held_by entries memories keeper d = held (entries keeper) (memories keeper) d.found.entries d.work
 
 -- the values that are known
 abbrev pub values_in : Held → Known ℕ
@@ -74,3 +80,67 @@ pub record HasGained {A : Type 0} (rules : Rules) (s : Shown) (exact : Bool) (r 
 pub record HasGrown (rules : Rules) (s : Shown) (exact : Bool) (i : Instance ℕ) (old new : Held) : Type 0 where
   pub gains : Gains rules s exact i old.entries new.entries old.found new.found old.work new.work
   pub traces : StayJustified rules s i old.memories new.memories
+
+-- all is right, for an instance whose attribute is lazy, or isn't
+pub record IsHeldFor (rules : Rules) (look : Contents ℕ) (h : Held) (lazily : Bool) (i : Instance ℕ) : Type 0 where
+  pub lazy : is_lazy rules i.attribute ≡ lazily
+  pub held : IsHeld rules look h
+
+-- and its evaluation has come to v, with what stands with the level
+pub record IsEvaluatedFor (rules : Rules) (look : Contents ℕ) (h : Held) (lazily : Bool) (i : Instance ℕ) (v : Value ℕ) (below : Level) : Type 0 where
+  pub lazy : is_lazy rules i.attribute ≡ lazily
+  pub held : IsHeld rules look h
+  pub come : IsEvaluated rules look (values_in h) i v below.reads below.uses.items
+
+-- the instance is told what comes out, and what was held has grown for it
+pub record EndsTold {E : Type 0} (rules : Rules) (s : Shown) (exact : Bool) (i : Instance ℕ) (old new : Held) (before after : Level)
+    (r : Result ValueCode E) : Type 0 where
+  pub told : IfOk r (λ v. HasTold rules (contents s) (values_in new) before after i (value_view v))
+  pub grown : HasGrown rules s exact i old new
+
+-- so it is where the value is known before
+pub record EndsTaken {A E : Type 0} (rules : Rules) (s : Shown) (exact : Bool) (i : Instance ℕ) (v : Value ℕ) (old new : Held) (before after : Level)
+    (r : Result A E) : Type 0 where
+  pub told : OnOk r (HasTold rules (contents s) (values_in new) before after i v)
+  pub grown : HasGrown rules s exact i old new
+
+-- and where it may be known
+pub record EndsRecalled {E : Type 0} (rules : Rules) (s : Shown) (exact : Bool) (i : Instance ℕ) (old new : Held) (before after : Level)
+    (r : Result (Option ValueCode) E) : Type 0 where
+  pub recalled : IfOk r (HasRecalled rules (contents s) (values_in new) before after i)
+  pub grown : HasGrown rules s exact i old new
+
+-- the evaluation of the instance comes to what comes out, and what was held has grown for it
+pub record EndsEvaluated {E : Type 0} (rules : Rules) (s : Shown) (exact : Bool) (i : Instance ℕ) (old new : Held) (before after : Level)
+    (r : Result ValueCode E) : Type 0 where
+  pub come : IfOk r (λ v. HasCome rules (contents s) new before after (meaning rules i) (value_view v))
+  pub grown : HasGrown rules s exact i old new
+
+-- the evaluation r of an expression comes to the view of what comes out, and what was held has gained what r demands
+pub record EvaluatesTo {A C E : Type 0} (rules : Rules) (s : Shown) (exact : Bool) (r : Run ℕ A) (view : C → A) (old new : Held)
+    (before after : Level) (x : Result C E) : Type 0 where
+  pub come : IfOk x (λ v. HasCome rules (contents s) new before after r (view v))
+  pub gains : HasGained rules s exact r old new
+
+-- the instance has an entry, and what was held has grown for it; nothing is remembered
+pub record HasEntered {A E : Type 0} (rules : Rules) (s : Shown) (exact : Bool) (i : Instance ℕ) (old new : Held) (r : Result A E) : Type 0 where
+  pub stands : OnOk r (IsSome (new.entries i))
+  pub found : new.found ≡ old.found
+  pub grown : HasGrown rules s exact i old new
+
+-- nothing was looked at or taken
+pub record IsEmptied (l : Level) : Type 0 where
+  pub reads : l.reads ≡ []
+  pub uses : l.uses.items ≡ []
+
+-- what was found stays, and the work
+pub record LeavesFinds (old new : Direct) : Type 0 where
+  pub work : new.work ≡ old.work
+  pub found : new.found.entries ≡ old.found.entries
+
+-- so it does, and the level is empty
+pub record GivesLevel (old new : Direct) (l : Level) : Type 0 where
+  pub work : new.work ≡ old.work
+  pub found : new.found.entries ≡ old.found.entries
+  pub reads : l.reads ≡ []
+  pub uses : l.uses.items ≡ []

@@ -1,15 +1,12 @@
 //! Questions for the values of instances.
 
 ghost use Rattle.std.specs.Prelude.{◌≡◌, ◌<◌, ◌^◌, [], is_some, map, IfOk, IfSome, IsTrue, None};
-ghost use Rattle.at_model.specs.Instances.{AnyText};
 ghost use Rattle.at_model.specs.Meaning.{HasValue};
-ghost use Rattle.at_model.specs.TypedRuns.{IsWellTyped};
 ghost use Rattle.at_store.specs.Located.{loc_view};
 ghost use Rattle.at_store.specs.Shown.{IsIdle, contents};
-ghost use Rattle.at_body.specs.Typed.{class_shown};
 ghost use Rattle.at_body.specs.Values.{value_view};
 ghost use Rattle.at_cache.specs.Kept.{AreKept, AreNamed, Answers as Says, value_at};
-ghost use Rattle.at_demand.specs.Answerable.{CanBeAsked, CanBeKept, CanBeKeptLazily, IsAnswerable};
+ghost use Rattle.at_demand.specs.Answerable.{CanBeAnswered, CanBeAsked, CanBeKept, CanBeKeptLazily};
 ghost use Rattle.at_demand.specs.Known.{meaning};
 ghost use Rattle.at_demand.specs.Keeping.{IsKeptWhereLazy, IsPlaced, IsPut};
 ghost use Rattle.at_demand.specs.Answered.{Forgets, HasAnswered, IsAnswered};
@@ -136,8 +133,7 @@ impl<K: Keeper> Demand<K> {
         store: &Store,
         inst: &Inst,
     ) -> Result<Answer, AllocError>
-        requires answerable { IsAnswerable rules.now store.now (K.contents self.old.keeper) }
-        requires typed { IsWellTyped rules.now (class_shown store.now) AnyText inst.now }
+        requires { CanBeAnswered rules.now store.now (K.contents self.old.keeper) inst.now }
         ensures answered { HasAnswered rules.now store.now K.exact (K.contents self.old.keeper) (K.contents self.new.keeper)
             self.old.work self.new.work inst.now result }
         ensures traces { StayTraced (K.memories self.old.keeper) (K.memories self.new.keeper) }

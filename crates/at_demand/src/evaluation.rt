@@ -2,15 +2,13 @@
 
 ghost use Rattle.std.specs.Prelude.{◌≡◌, [], map, IfOk, OnOk, MatchBool};
 ghost use Rattle.std.specs.Map.{keys_of};
-ghost use Rattle.at_model.specs.Instances.{AnyText};
 ghost use Rattle.at_model.specs.Meaning.{Among, Right};
-ghost use Rattle.at_model.specs.TypedRuns.{IsWellTyped};
 ghost use Rattle.at_store.specs.Located.{loc_view};
 ghost use Rattle.at_store.specs.Shown.{contents};
 ghost use Rattle.at_body.specs.Same.{same_instance};
 ghost use Rattle.at_body.specs.Typed.{IsTypedStep, class_shown};
 ghost use Rattle.indexmap.specs.IndexMap.{insert_entry};
-ghost use Rattle.at_demand.specs.Answerable.{IsBasis};
+ghost use Rattle.at_demand.specs.Answerable.{CanBegin, IsBasis};
 ghost use Rattle.at_demand.specs.Known.{meaning, known_in, AreValued, IsRecalled};
 ghost use Rattle.at_demand.specs.Advancing.{HasBegun, HasGoneOn};
 ghost use Rattle.at_demand.specs.Covering.{Takes};
@@ -114,8 +112,7 @@ impl<'a> Frame<'a> {
         store: &'a Store,
         inst: &Inst,
     ) -> Result<(Frame<'a>, Step), AllocError>
-        requires basis { IsBasis rules.now store.now }
-        requires typed { IsWellTyped rules.now (class_shown store.now) AnyText inst.now }
+        requires { CanBegin rules.now store.now inst.now }
         ensures { IfOk result (λ r. HasBegun rules.now store.now inst.now r.0 r.1) }
     {
         let mut trial = Trial::new(alloc);

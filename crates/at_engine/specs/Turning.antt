@@ -12,12 +12,12 @@ use Rattle.at_model.specs.Replies.{Code, Form as FormOf, Reply}
 use Rattle.at_model.specs.Rules.{Rules}
 use Rattle.at_model.specs.Run.{Contents, Instance}
 use Rattle.at_model.specs.Turning.{UnderWay, asked}
-use Rattle.at_model.specs.WellFormed.{AreWellFormed, IsTreeSound}
 use Rattle.at_protocol.specs.ReplyView.{code_view}
 use Rattle.at_protocol.specs.declared.reply.Form.{Form}
-use Rattle.at_store.specs.Shown.{Shown, contents, path, tree, IsIdle}
+use Rattle.at_store.specs.Shown.{Shown, contents, path, tree}
 use Rattle.at_cache.specs.Kept.{Entries}
 use Rattle.at_cache.specs.Traced.{Memories, StayTraced}
+use Rattle.at_demand.specs.Answerable.{CanTurn as CanBeTurned}
 use Rattle.at_demand.specs.Known.{answer_view, kept_values, meaning, ArePlain}
 use Rattle.at_demand.specs.Right.{AreRight, IsThere}
 use Rattle.at_demand.specs.Sparing.{AddsWorthy, AreSpare, HasWorthy}
@@ -224,12 +224,7 @@ pub record TakesOff {K : Type 0} (exact : Bool) (entries : K → Entries) (memor
 
 -- what is done for the question stands on the tree, and its answer can be found
 pub record CanAnswer (rules : Rules) (s : Shown) (entries : Entries) (q : Question) : Type 0 where
-  pub idle : IsIdle s
-  pub formed : AreWellFormed rules
-  pub sound : IsTreeSound rules.classes (tree s)
-  pub right : Right (contents s) (meaning rules) (kept_values entries)
-  pub plain : ArePlain rules entries
-  pub standing : IsStanding rules s entries q
+  pub turns : CanBeTurned rules s entries q
   pub named : IsAskedOf rules s (asked (under_way q))
 
 -- It was given turns: so many, or fewer where one of them answers it, or, without a limit, until one does. What is kept is right still,

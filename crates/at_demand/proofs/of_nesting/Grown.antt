@@ -1,18 +1,29 @@
--- What grows while an evaluation in one go goes on: how it begins, goes on, and counts for who asks.
-use Rattle.std.proofs.Common.{◌≡◌, ℕ, ◌<◌, ◌^◌, Bool, subst}
-use Rattle.at_model.specs.Run.{Instance}
-use Rattle.at_model.specs.Rules.{Rules}
-use Rattle.at_model.specs.Meaning.{Leads}
+-- What grows while an evaluation in one go goes on: how it begins, goes on, and counts for who asks, and what is kept or remembered.
+use Rattle.std.proofs.Common.{◌≡◌, ℕ, ◌<◌, ◌+◌, ◌-◌, ◌^◌, min, Bool, true, false, List, Option, Some, None, inl, inr, refl, sym, subst}
+use Rattle.std.specs.Option.{IfSome}
+use Rattle.std.specs.Prelude.{IsSome, IsTrue}
+use Rattle.indexmap.specs.IndexMap.{insert_entry}
+use Rattle.at_model.specs.Run.{Instance, Location, Value}
+use Rattle.at_model.specs.Rules.{Rules, is_lazy}
+use Rattle.at_model.specs.Meaning.{HasValue, Leads}
 use Rattle.at_store.specs.Shown.{Shown, IsIdle, contents}
-use Rattle.at_cache.specs.Kept.{Entries}
-use Rattle.at_cache.specs.Traced.{Memories}
+use Rattle.at_body.specs.Same.{same_instance}
+use Rattle.at_body.specs.Values.{value_view}
+use Rattle.at_body.specs.declared.value.Value.{Value as ValueCode}
+use Rattle.at_cache.specs.Kept.{Entries, HasPut, KeepsAll}
+use Rattle.at_cache.specs.Traced.{Memories, PutsTrace, Settled, StayTraced}
+use Rattle.at_cache.specs.declared.keeper.Order.{Order}
+use Rattle.at_cache.specs.declared.keeper.Order.TheVariants as order
+use Rattle.at_cache.specs.declared.keeper.Put.{Put}
+use Rattle.at_demand.specs.declared.direct.Level.{Level}
 use Rattle.at_demand.specs.Known.{meaning}
-use Rattle.at_demand.specs.Inner.{Gains}
-use Rattle.at_demand.specs.InParts.{HasGained, HasGrown, Held, IsHeld, held}
-use Rattle.at_demand.specs.Traces.{StayJustified}
+use Rattle.at_demand.specs.Inner.{AreLazy, Gains, known_by}
+use Rattle.at_demand.specs.InParts.{HasGained, HasGrown, Held, IsEvaluatedFor, IsHeld, held}
+use Rattle.at_demand.specs.Sparing.{Counts}
 use Rattle.at_demand.proofs.of_nesting.Asked.{gains_evaluated, traced_evaluated}
-use Rattle.at_demand.proofs.of_nesting.InnerGains.{Found, gains_none, gains_then, gains_up}
-use Rattle.at_demand.proofs.of_traces.Putting.{traced_same, traced_then, traced_up}
+use Rattle.at_demand.proofs.of_nesting.InnerGains.{Found, counts_shared_so, gains_as, gains_more, gains_none, gains_put_so, gains_same, gains_then, gains_up, more_known, valued}
+use Rattle.at_demand.proofs.of_traces.Putting.{put_traced, stays_put, traced_on, traced_same, traced_then, traced_up}
+use Rattle.at_demand.proofs.of_traces.Settled.{LastKept, settled_gains}
 
 -- nothing comes
 pub grown_none : (rules : Rules) (s : Shown) (exact : Bool) (i : Instance ℕ) (h : Held) → h.work < 2 ^ 64 →
@@ -49,6 +60,27 @@ grown_from {rules} {s} {exact} {i} {entries} {m} {f} {g} {w} {x} {new} e d a = r
   traces = a.traces;
 }
 
+-- behind what came for an instance, what came for one that it leads to, in a level that was given
+pub grown_aside : {rules : Rules} {s : Shown} {exact : Bool} {i j : Instance ℕ} {old new : Held} {entries : Entries}
+    {m : Memories} {f g : Found} {w x : ℕ} {o : Option (Instance ℕ)} → IsIdle s → o ≡ Some j →
+    IfSome o (Leads (contents s) (meaning rules) i) → HasGrown rules s exact i old (held entries m f w) →
+    g ≡ f → x ≡ w → HasGrown rules s exact j (held entries m g x) new → HasGrown rules s exact i old new
+grown_aside {rules} {s} {exact} {i} {j} {old} {new} {entries} {m} {f} {g} {w} {x} {o} idle is led a e d b =
+    let leads : Leads (contents s) (meaning rules) i j =
+    subst (λ (p : Option (Instance ℕ)). IfSome p (Leads (contents s) (meaning rules) i)) is led in
+    grown_then a (grown_up idle leads (grown_from e d b))
+
+-- what can be kept again is kept, and counted
+pub grown_settled : (rules : Rules) (s : Shown) → IsIdle s → (exact : Bool) (i : Instance ℕ) (old : Held) (entries : Entries)
+    (m : Memories) (n w : ℕ) → IsHeld rules (contents s) old → old.work < 2 ^ 64 → LastKept old.memories old.entries →
+    Settled exact old.memories i n old.entries entries → w ≡ min (old.work + n) (2 ^ 64 - 1) → StayTraced old.memories m →
+    HasGrown rules s exact i old (held entries m old.found w)
+grown_settled rules s idle exact i old entries m n w is few last steps counted stay = record {
+  gains = settled_gains rules s idle exact old.memories is.justified i n old.entries entries old.found old.work w
+      steps few counted is.known last;
+  traces = traced_on rules s i old.memories m stay is.justified;
+}
+
 -- then all is right still
 pub held_after : {rules : Rules} {s : Shown} {exact : Bool} {i : Instance ℕ} {old new : Held} →
     HasGrown rules s exact i old new → IsHeld rules (contents s) new
@@ -61,3 +93,85 @@ grown_evaluated rules s exact idle i old new h = record {
   gains = gains_evaluated rules s exact idle i old new h;
   traces = traced_evaluated rules s exact idle i old new h;
 }
+
+-- a lazy one was evaluated, and is kept or left: what comes so
+module _ {rules : Rules} {s : Shown} {exact : Bool} {i : Instance ℕ} {old new : Held} {v : Value ℕ} {below : Level}
+    (idle : IsIdle s) (is : IsEvaluatedFor rules (contents s) old true i v below) (found : new.found ≡ old.found)
+    {us : List (Instance ℕ)} (same : us ≡ below.uses.items) (o : Order) (ordered : o ≡ order.AsTaken → AreLazy rules us)
+    (last : LastKept new.memories new.entries)
+    (puts : PutsTrace i (Some v) below.reads below.uses.items o old.memories new.memories)
+    (counts : IsTrue exact → Counts old.entries new.entries old.work new.work) where
+  pub grown_kept : old.entries i ≡ None → (p : Put) →
+      HasPut exact old.entries i (Some v) below.reads below.uses.items new.entries p → HasGrown rules s exact i old new
+  grown_kept absent p put = record {
+    gains = subst (λ (f : Found). Gains rules s exact i old.entries new.entries old.found f old.work new.work) (sym found)
+        (gains_put_so rules s exact i old.entries new.entries old.found v below.reads below.uses.items is.held.known
+        is.come (Some v) (inl (refl, is.lazy)) absent old.work new.work counts p put);
+    traces = put_traced rules s idle i old.entries new.entries old.found v below.reads below.uses.items o old.memories
+        new.memories is.held.known is.come is.lazy
+        (λ e. subst (λ (xs : List (Instance ℕ)). AreLazy rules xs) same (ordered e))
+        (stays_put exact old.entries new.entries i (Some v) below.reads below.uses.items p absent put) last puts
+        is.held.justified;
+  }
+
+  -- where memory was wanting
+  pub grown_unkept : KeepsAll old.entries new.entries → HasGrown rules s exact i old new
+  grown_unkept all = record {
+    gains = subst (λ (f : Found). Gains rules s exact i old.entries new.entries old.found f old.work new.work) (sym found)
+        (gains_same rules s exact i old.entries new.entries old.found old.work new.work all is.held.known counts);
+    traces = put_traced rules s idle i old.entries new.entries old.found v below.reads below.uses.items o old.memories
+        new.memories is.held.known is.come is.lazy
+        (λ e. subst (λ (xs : List (Instance ℕ)). AreLazy rules xs) same (ordered e)) (λ j some. all j) last puts
+        is.held.justified;
+  }
+
+-- one that isn't lazy was evaluated, and has an entry, or is left
+pub grown_entered : (rules : Rules) (s : Shown) {exact : Bool} {i : Instance ℕ} {v : Value ℕ} {below : Level}
+    {before after : Entries} {m n : Memories} {f : Found} {w : ℕ} → w < 2 ^ 64 →
+    IsEvaluatedFor rules (contents s) (held before m f w) false i v below → before i ≡ None → StayTraced m n → (p : Put) →
+    HasPut exact before i None below.reads below.uses.items after p →
+    HasGrown rules s exact i (held before m f w) (held after n f w)
+grown_entered rules s {exact} {i} {v} {below} {before} {after} {m} {n} {f} {w} few is absent stay p put = record {
+  gains = gains_put_so rules s exact i before after f v below.reads below.uses.items is.held.known is.come None
+      (inr (refl, is.lazy)) absent w w
+      (λ k. counts_shared_so rules s exact before after i below.reads below.uses.items w few absent p put) p put;
+  traces = traced_on rules s i m n stay is.held.justified;
+}
+
+-- up to what was remembered and counted so before
+pub grown_as : {rules : Rules} {s : Shown} {exact : Bool} {i : Instance ℕ} {old : Held} {entries : Entries} {m : Memories}
+    {f g : Found} {w x : ℕ} → g ≡ f → x ≡ w →
+    HasGrown rules s exact i old (held entries m f w) → HasGrown rules s exact i old (held entries m g x)
+grown_as {rules} {s} {exact} {i} {old} {entries} {m} {f} {g} {w} {x} e d a = record {
+  gains = gains_as rules s exact i old.entries entries old.found f g old.work w x e d a.gains;
+  traces = a.traces;
+}
+
+-- the instance has the value to which it was evaluated
+pub evaluated_has : (rules : Rules) (s : Shown) (exact : Bool) {h : Held} {lazily : Bool} {i : Instance ℕ} {v : Value ℕ}
+    {below : Level} → IsEvaluatedFor rules (contents s) h lazily i v below → HasValue (contents s) (meaning rules) i v
+evaluated_has rules s exact {h} {lazily} {i} {v} {below} is =
+    valued rules s exact i h.entries h.entries h.found v below.reads below.uses.items is.held.known is.come
+
+-- its value is remembered, and known then
+module _ {rules : Rules} {s : Shown} {exact : Bool} {i : Instance ℕ} {old : Held} {entries : Entries} {m : Memories}
+    {f g : Found} {w : ℕ} (a : HasGrown rules s exact i old (held entries m f w)) (c : ValueCode)
+    (put : g ≡ insert_entry same_instance f i c) (has : HasValue (contents s) (meaning rules) i (value_view c))
+    (some : IsSome (entries i)) (lazy : is_lazy rules i.attribute ≡ false) where
+  pub grown_more : HasGrown rules s exact i old (held entries m g w)
+  grown_more = record {
+    gains = gains_more rules s exact i old.entries entries old.found f g old.work w c a.gains put has some lazy;
+    traces = a.traces;
+  }
+
+  pub grown_known : known_by entries g i ≡ Some (value_view c)
+  grown_known = more_known rules s exact i old.entries entries old.found f g old.work w c a.gains put has some lazy
+
+-- what was put for an instance, locations and uses was put for those that they are
+pub put_alike : (exact : Bool) (old new : Entries) (o : Option (Value ℕ)) (p : Put) {i j : Instance ℕ}
+    {ls ms : List (Location ℕ)} {us vs : List (Instance ℕ)} → j ≡ i → ls ≡ ms → us ≡ vs →
+    HasPut exact old j o ls us new p → HasPut exact old i o ms vs new p
+put_alike exact old new o p {i} {j} {ls} {ms} {us} {vs} is at took put =
+    subst (λ (xs : List (Instance ℕ)). HasPut exact old i o ms xs new p) took
+    (subst (λ (xs : List (Location ℕ)). HasPut exact old i o xs us new p) at
+    (subst (λ (x : Instance ℕ). HasPut exact old x o ls us new p) is put))

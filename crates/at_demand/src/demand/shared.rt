@@ -1,9 +1,7 @@
 //! What many kept values rest on stands once: as an entry without a value, which they use.
 
-ghost use Rattle.std.specs.Prelude.{◌≡◌, None, false};
-ghost use Rattle.at_model.specs.Rules.{is_lazy};
-ghost use Rattle.at_demand.specs.Answerable.{RestsOnKept};
-ghost use Rattle.at_demand.specs.Known.{FoundAs, FoundKept};
+ghost use Rattle.at_demand.specs.Answerable.{CanBeEntered, RestsOnKept};
+ghost use Rattle.at_demand.specs.Known.{FoundKept};
 ghost use Rattle.at_demand.specs.Keeping.{IsGathered, SharesAlone};
 
 use super::Demand;
@@ -93,10 +91,7 @@ impl<K: Keeper> Demand<K> {
         inst: &Inst,
         find: &Find,
     ) -> Result<bool, AllocError>
-        requires rests { RestsOnKept (K.contents self.old.keeper) found.now.entries find.now }
-        requires absent { K.contents self.old.keeper inst.now ≡ None }
-        requires plain { is_lazy rules.now inst.now.attribute ≡ false }
-        requires at { FoundAs found.now.entries inst.now find.now }
+        requires { CanBeEntered rules.now (K.contents self.old.keeper) found.now.entries inst.now find.now }
         ensures { SharesAlone rules.now K.exact found.now.entries (K.contents self.old.keeper) (K.contents self.new.keeper)
             (K.memories self.old.keeper) (K.memories self.new.keeper) self.old.work self.new.work }
     {

@@ -9,8 +9,7 @@ ghost use Rattle.at_model.specs.Turning.{asked, posted};
 ghost use Rattle.at_store.specs.Shown.{Shown, contents};
 ghost use Rattle.at_body.specs.Typed.{class_shown};
 ghost use Rattle.at_cache.specs.Kept.{Entries};
-ghost use Rattle.at_demand.specs.Answerable.{AreFinds, CanTurn, IsAnswerable, IsBasis};
-ghost use Rattle.at_demand.specs.Known.{kept_values};
+ghost use Rattle.at_demand.specs.Answerable.{CanBeTried, CanGoOn, CanTurn, CanTurnWith};
 ghost use Rattle.at_demand.specs.Turns.{IsStanding, IsSparingTurns, under_way};
 ghost use Rattle.at_demand.specs.Answered.{HasTurned, HasTurnedOften, HasTurnedWith, TracesNothing};
 ghost use Rattle.at_demand.specs.Attempts.{HasAttempted, HasComeTo};
@@ -97,8 +96,7 @@ impl<K: Keeper> Demand<K> {
         question: &mut Question,
         trials: &mut Trials<'a>,
     ) -> Result<Option<Answer>, AllocError>
-        requires turns { CanTurn rules.now store.now (K.contents self.old.keeper) question.old }
-        requires fit { Fit rules.now store.now (K.contents self.old.keeper) question.old trials.old }
+        requires { CanTurnWith rules.now store.now (K.contents self.old.keeper) question.old trials.old }
         ensures { TracesNothing (HasTurnedWith rules.now store.now K.exact (K.contents self.old.keeper) (K.contents self.new.keeper)
             self.old.work self.new.work question.old question.new trials.new result)
             (K.memories self.old.keeper) (K.memories self.new.keeper) }
@@ -147,9 +145,7 @@ impl<K: Keeper> Demand<K> {
         question: &Question,
         trials: &mut Trials<'a>,
     ) -> Result<(Frame<'a>, Step), AllocError>
-        requires basis { IsBasis rules.now store.now }
-        requires typed { IsWellTyped rules.now (class_shown store.now) AnyText question.now.inst }
-        requires fit { Fit rules.now store.now (K.contents self.now.keeper) question.now trials.old }
+        requires { CanBeTried rules.now store.now (K.contents self.now.keeper) question.now trials.old }
         ensures standing { IfOk result (λ r. HasComeTo rules.now (class_shown store.now) (contents store.now) (K.contents self.now.keeper)
             question.now.found.entries question.now.inst r.0 r.1) }
         ensures none { trials.new.awaited ≡ None }
@@ -175,11 +171,7 @@ impl<K: Keeper> Demand<K> {
         frame: &mut Frame<'a>,
         step: Step,
     ) -> Result<Attempt, AllocError>
-        requires answerable { IsAnswerable rules.now store.now (K.contents self.old.keeper) }
-        requires standing { HasComeTo rules.now (class_shown store.now) (contents store.now) (K.contents self.old.keeper)
-            found.now.entries inst.now frame.old step }
-        requires finds { AreFinds rules.now store.now (K.contents self.old.keeper) found.now.entries }
-        requires unkept { kept_values (K.contents self.old.keeper) inst.now ≡ None }
+        requires { CanGoOn rules.now store.now (K.contents self.old.keeper) found.now.entries inst.now frame.old step }
         ensures attempted { HasAttempted rules.now store.now K.exact (K.contents self.old.keeper) (K.contents self.new.keeper) self.old.work self.new.work
             found.now.entries inst.now frame.new result }
         ensures traces { StaysTraced K.memories self.old.keeper self.new.keeper }

@@ -1,6 +1,6 @@
 //! What is done at the end of an evaluation in one go, and with what is known: it is told, kept, kept again or remembered.
 
-ghost use Rattle.std.specs.Prelude.{◌≡◌, IfOk, IfSome, IsSome, OnErr, OnOk, IsTrue, None, Some, false, true};
+ghost use Rattle.std.specs.Prelude.{◌≡◌, IfOk, IfSome, OnErr, OnOk, IsTrue, None, Some, false, true};
 ghost use Rattle.std.specs.Option.{option_map};
 ghost use Rattle.at_model.specs.Meaning.{Leads};
 ghost use Rattle.at_model.specs.Rules.{is_lazy};
@@ -12,8 +12,8 @@ ghost use Rattle.at_cache.specs.Kept.{AreKept, HasPut, KeepsAll};
 ghost use Rattle.at_cache.specs.Traced.{PutsTrace};
 ghost use Rattle.at_cache.specs.declared.keeper.Order.TheVariants as order_code;
 ghost use Rattle.at_demand.specs.Known.{kept_values, meaning};
-ghost use Rattle.at_demand.specs.Inner.{AreKnown, AreLazy, HasRecalled, HasTold, IsEvaluated, IsOneOf, known_by, remembered};
-ghost use Rattle.at_demand.specs.InParts.{HasGrown, IsHeld, held};
+ghost use Rattle.at_demand.specs.Inner.{AreKnown, AreLazy, HasRecalled, IsOneOf, known_by, remembered};
+ghost use Rattle.at_demand.specs.InParts.{EndsRecalled, EndsTaken, HasEntered, IsEvaluatedFor, IsHeld, LeavesFinds, held_by};
 ghost use Rattle.at_demand.specs.Sparing.{Counts};
 
 use super::{Direct, Level};
@@ -41,8 +41,7 @@ impl Direct {
         basis: &Basis<'_>,
         needed: &Inst,
     ) -> Result<Option<Inst>, AllocError>
-        requires { IsHeld basis.now.rules.now (contents basis.now.store.now)
-            (held (K.contents keeper.now) (K.memories keeper.now) self.now.found.entries self.now.work) }
+        requires { IsHeld basis.now.rules.now (contents basis.now.store.now) (held_by K.contents K.memories keeper.now self.now) }
         ensures lazy { IfOk result (λ o. IfSome o (λ i. is_lazy basis.now.rules.now i.attribute ≡ true)) }
         ensures led { IfOk result (λ o. IfSome o (Leads (contents basis.now.store.now) (meaning basis.now.rules.now) needed.now)) }
     {
@@ -55,7 +54,7 @@ impl Direct {
         Ok(Some(other.copy(self.alloc)?))
     }
 
-    // The value of an instance that isn't known, where it can be kept again with no evaluation; it is taken then.
+    // The value of an instance that isn't known, where it can be kept again with no evaluation; it is taken then. What is kept again is counted.
     pub(super) fn keep_again<K: Keeper>(
         &mut self,
         keeper: &mut K,
@@ -63,32 +62,17 @@ impl Direct {
         level: &mut Level,
         needed: &Inst,
     ) -> Result<Option<Value>, AllocError>
-        requires { IsHeld basis.now.rules.now (contents basis.now.store.now)
-            (held (K.contents keeper.old) (K.memories keeper.old) self.old.found.entries self.old.work) }
-        ensures recalled { IfOk result (HasRecalled basis.now.rules.now (contents basis.now.store.now) (known_by (K.contents keeper.new) self.new.found.entries)
-            level.old level.new needed.now) }
-        ensures grown { HasGrown basis.now.rules.now basis.now.store.now K.exact needed.now
-            (held (K.contents keeper.old) (K.memories keeper.old) self.old.found.entries self.old.work)
-            (held (K.contents keeper.new) (K.memories keeper.new) self.new.found.entries self.new.work) }
-    {
-        if !self.have_settled(keeper, basis, needed) {
-            return Ok(None);
-        }
-        self.recall(keeper, basis, level, needed)
-    }
-
-    // Whether anything was kept again for the instance, which is counted.
-    fn have_settled<K: Keeper>(&mut self, keeper: &mut K, basis: &Basis<'_>, needed: &Inst) -> bool
-        requires { IsHeld basis.now.rules.now (contents basis.now.store.now)
-            (held (K.contents keeper.old) (K.memories keeper.old) self.old.found.entries self.old.work) }
-        ensures grown { HasGrown basis.now.rules.now basis.now.store.now K.exact needed.now
-            (held (K.contents keeper.old) (K.memories keeper.old) self.old.found.entries self.old.work)
-            (held (K.contents keeper.new) (K.memories keeper.new) self.new.found.entries self.new.work) }
+        requires { IsHeld basis.now.rules.now (contents basis.now.store.now) (held_by K.contents K.memories keeper.old self.old) }
+        ensures { EndsRecalled basis.now.rules.now basis.now.store.now K.exact needed.now (held_by K.contents K.memories keeper.old self.old)
+            (held_by K.contents K.memories keeper.new self.new) level.old level.new result }
     {
         let before = self.work;
         let later = keeper.settle(needed, before);
         self.work = later;
-        before < later
+        if later <= before {
+            return Ok(None);
+        }
+        self.recall(keeper, basis, level, needed)
     }
 
     // The known value of an instance, which is taken then.
@@ -146,16 +130,10 @@ impl Direct {
         needed: Inst,
         value: &Value,
     ) -> Result<(), Stop>
-        requires lazy { is_lazy basis.now.rules.now needed.attribute ≡ true }
-        requires held { IsHeld basis.now.rules.now (contents basis.now.store.now)
-            (held (K.contents keeper.old) (K.memories keeper.old) self.old.found.entries self.old.work) }
-        requires come { IsEvaluated basis.now.rules.now (contents basis.now.store.now) (known_by (K.contents keeper.old) self.old.found.entries) needed
-            (value_view value.now) below.now.reads below.now.uses.items }
-        ensures told { OnOk result (HasTold basis.now.rules.now (contents basis.now.store.now) (known_by (K.contents keeper.new) self.new.found.entries)
-            level.old level.new needed (value_view value.now)) }
-        ensures grown { HasGrown basis.now.rules.now basis.now.store.now K.exact needed
-            (held (K.contents keeper.old) (K.memories keeper.old) self.old.found.entries self.old.work)
-            (held (K.contents keeper.new) (K.memories keeper.new) self.new.found.entries self.new.work) }
+        requires { IsEvaluatedFor basis.now.rules.now (contents basis.now.store.now) (held_by K.contents K.memories keeper.old self.old) true
+            needed (value_view value.now) below.now }
+        ensures { EndsTaken basis.now.rules.now basis.now.store.now K.exact needed (value_view value.now)
+            (held_by K.contents K.memories keeper.old self.old) (held_by K.contents K.memories keeper.new self.new) level.old level.new result }
     {
         if keeper.stands(&needed) {
             return Err(Stop::GivesUp);
@@ -213,16 +191,10 @@ impl Direct {
         needed: Inst,
         value: &Value,
     ) -> Result<(), Stop>
-        requires lazy { is_lazy basis.now.rules.now needed.attribute ≡ false }
-        requires held { IsHeld basis.now.rules.now (contents basis.now.store.now)
-            (held (K.contents keeper.old) (K.memories keeper.old) self.old.found.entries self.old.work) }
-        requires come { IsEvaluated basis.now.rules.now (contents basis.now.store.now) (known_by (K.contents keeper.old) self.old.found.entries) needed
-            (value_view value.now) below.now.reads below.now.uses.items }
-        ensures told { OnOk result (HasTold basis.now.rules.now (contents basis.now.store.now) (known_by (K.contents keeper.new) self.new.found.entries)
-            level.old level.new needed (value_view value.now)) }
-        ensures grown { HasGrown basis.now.rules.now basis.now.store.now K.exact needed
-            (held (K.contents keeper.old) (K.memories keeper.old) self.old.found.entries self.old.work)
-            (held (K.contents keeper.new) (K.memories keeper.new) self.new.found.entries self.new.work) }
+        requires { IsEvaluatedFor basis.now.rules.now (contents basis.now.store.now) (held_by K.contents K.memories keeper.old self.old) false
+            needed (value_view value.now) below.now }
+        ensures { EndsTaken basis.now.rules.now basis.now.store.now K.exact needed (value_view value.now)
+            (held_by K.contents K.memories keeper.old self.old) (held_by K.contents K.memories keeper.new self.new) level.old level.new result }
     {
         self.stand(keeper, basis, &needed, value, below)?;
         self.see(needed.attribute())?;
@@ -240,16 +212,10 @@ impl Direct {
         value: &Value,
         below: &Level,
     ) -> Result<(), Stop>
-        requires lazy { is_lazy basis.now.rules.now needed.now.attribute ≡ false }
-        requires held { IsHeld basis.now.rules.now (contents basis.now.store.now)
-            (held (K.contents keeper.old) (K.memories keeper.old) self.old.found.entries self.old.work) }
-        requires come { IsEvaluated basis.now.rules.now (contents basis.now.store.now) (known_by (K.contents keeper.old) self.old.found.entries) needed.now
-            (value_view value.now) below.now.reads below.now.uses.items }
-        ensures stands { OnOk result (IsSome (K.contents keeper.new needed.now)) }
-        ensures found { self.new.found.entries ≡ self.old.found.entries }
-        ensures grown { HasGrown basis.now.rules.now basis.now.store.now K.exact needed.now
-            (held (K.contents keeper.old) (K.memories keeper.old) self.old.found.entries self.old.work)
-            (held (K.contents keeper.new) (K.memories keeper.new) self.new.found.entries self.new.work) }
+        requires { IsEvaluatedFor basis.now.rules.now (contents basis.now.store.now) (held_by K.contents K.memories keeper.old self.old) false
+            needed.now (value_view value.now) below.now }
+        ensures { HasEntered basis.now.rules.now basis.now.store.now K.exact needed.now (held_by K.contents K.memories keeper.old self.old)
+            (held_by K.contents K.memories keeper.new self.new) result }
     {
         if keeper.stands(needed) {
             return Ok(());
@@ -265,8 +231,7 @@ impl Direct {
 
     // An instance of the attribute is remembered.
     fn see(&mut self, attribute: AttrId) -> Result<(), AllocError>
-        ensures work { self.new.work ≡ self.old.work }
-        ensures found { self.new.found.entries ≡ self.old.found.entries }
+        ensures { LeavesFinds self.old self.new }
     {
         let index = attribute.index();
         if self.seen.len() <= index {

@@ -179,12 +179,18 @@ module _ {K : Type 0} (exact : Bool) (kept : K → Entries) (memories : K
   can_answer q b typed =
       let v = posted_view (path e.store) bare in
       record {
-        idle = it.held.idle;
-        formed = typed.formed;
-        sound = record { conform = it.held.conforming; within = it.held.idle.limits; tokens = typed.tokens };
-        right = it.held.right.values;
-        plain = it.held.right.plain;
-        standing = b.begun.standing;
+        turns = record {
+          answerable = record {
+            basis = record {
+              idle = it.held.idle;
+              formed = typed.formed;
+              sound = record { conform = it.held.conforming; within = it.held.idle.limits; tokens = typed.tokens };
+            };
+            right = it.held.right.values;
+            plain = it.held.right.plain;
+          };
+          standing = b.begun.standing;
+        };
         named = record {
           named = b.begun.named;
           like = b.begun.like;

@@ -50,12 +50,12 @@ answer_at_once-requires-clause-held g c = record {
   justified = c.requires.justified;
 }
 
-pub answer_by_turns-requires-clause-answerable : goal.answer_by_turns-requires-clause-answerable
-answer_by_turns-requires-clause-answerable g c = record {
-  basis = c.requires.answerable.basis;
-  right = c.answer_at_once.ensures.gains.known.right;
-  plain = c.answer_at_once.ensures.gains.known.plain;
+pub answer_by_turns-requires : goal.answer_by_turns-requires
+answer_by_turns-requires g c = record {
+  answerable = record {
+    basis = c.requires.answerable.basis;
+    right = c.answer_at_once.ensures.gains.known.right;
+    plain = c.answer_at_once.ensures.gains.known.plain;
+  };
+  typed = c.requires.typed;
 }
-
-pub answer_by_turns-requires-clause-typed : goal.answer_by_turns-requires-clause-typed
-answer_by_turns-requires-clause-typed g c = c.requires.typed

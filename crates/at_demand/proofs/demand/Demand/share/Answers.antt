@@ -5,17 +5,15 @@ use Rattle.at_demand.proofs.Entering.{shares_none}
 use Rattle.at_demand.proofs.of_traces.Justified.{stay_same}
 use Rattle.at_demand.proofs.demand.Demand.share.Goals as goal
 
-pub enter-requires-clause-rests : goal.enter-requires-clause-rests
-enter-requires-clause-rests g c = record { kept = c.requires _ _ c.in-Some.ensures.value; finds = c.requires }
-
-pub enter-requires-clause-absent : goal.enter-requires-clause-absent
-enter-requires-clause-absent g c = none_entered (g.K.Keeper.contents c.args.self.now.keeper c.in-Some.inst.now) c.stands.result c.stands.ensures c.if-stands.false
-
-pub enter-requires-clause-plain : goal.enter-requires-clause-plain
-enter-requires-clause-plain g c = told_lazy c.args.rules.now c.is_lazy.result false c.attribute.result c.in-Some.inst.now.attribute c.is_lazy.ensures c.attribute.ensures c.if-is_lazy.false
-
-pub enter-requires-clause-at : goal.enter-requires-clause-at
-enter-requires-clause-at g c = (c.args.position, sym c.in-Some.ensures.entry)
+pub enter-requires : goal.enter-requires
+enter-requires g c = record {
+  rests = record { kept = c.requires _ _ c.in-Some.ensures.value; finds = c.requires };
+  absent = none_entered (g.K.Keeper.contents c.args.self.now.keeper c.in-Some.inst.now) c.stands.result
+      c.stands.ensures c.if-stands.false;
+  plain = told_lazy c.args.rules.now c.is_lazy.result false c.attribute.result c.in-Some.inst.now.attribute
+      c.is_lazy.ensures c.attribute.ensures c.if-is_lazy.false;
+  at = (c.args.position, sym c.in-Some.ensures.entry);
+}
 
 pub returns-then-is_lazy : goal.returns-then-is_lazy
 returns-then-is_lazy g c = let old = g.K.Keeper.contents c.args.self.now.keeper in record { shares = shares_none c.args.rules.now g.K.Keeper.exact c.args.found.now.entries old old (λ i. refl); work = refl; traces = stay_same (g.K.Keeper.memories c.args.self.now.keeper) }

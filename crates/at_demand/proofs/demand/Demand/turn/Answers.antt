@@ -10,14 +10,17 @@ use Rattle.at_demand.proofs.Fitting.{no_trials}
 use Rattle.at_demand.proofs.Standing.{told_right}
 use Rattle.at_demand.proofs.demand.Demand.turn.Goals as goal
 
-pub turn_with-requires-clause-fit : goal.turn_with-requires-clause-fit
-turn_with-requires-clause-fit g c =
-    let rules = c.args.rules.now in
-    let s = c.args.store.now in
-    let q = c.args.question.now in
-    let entries = g.K.Keeper.contents c.args.self.now.keeper in
-    let t = c.new-trials.result in
-    subst (λ (o : Option (Instance ℕ)). FitAt rules s entries q t.frames.items o) (sym c.new-trials.ensures.awaited) (no_trials rules (class_shown s) (contents s) entries q.found.entries (keys_of q.waiting.entries) q.inst t.frames.items c.new-trials.ensures.frames)
+pub turn_with-requires : goal.turn_with-requires
+turn_with-requires g c = record {
+  turns = c.requires;
+  fit =
+      let rules = c.args.rules.now in
+      let s = c.args.store.now in
+      let q = c.args.question.now in
+      let entries = g.K.Keeper.contents c.args.self.now.keeper in
+      let t = c.new-trials.result in
+      subst (λ (o : Option (Instance ℕ)). FitAt rules s entries q t.frames.items o) (sym c.new-trials.ensures.awaited) (no_trials rules (class_shown s) (contents s) entries q.found.entries (keys_of q.waiting.entries) q.inst t.frames.items c.new-trials.ensures.frames);
+}
 
 pub returns : goal.returns
 returns g c = record {
@@ -42,6 +45,3 @@ returns g c = record {
       };
   traces = c.turn_with.ensures.traces;
 }
-
-pub turn_with-requires-clause-turns : goal.turn_with-requires-clause-turns
-turn_with-requires-clause-turns g c = c.requires

@@ -17,27 +17,30 @@ use Rattle.at_demand.proofs.Fitting.{fit_gained, fit_passed, fit_settled, fit_de
 use Rattle.at_demand.proofs.of_traces.Justified.{stay_same}
 use Rattle.at_demand.proofs.demand.Demand.turn_with.Goals as goal
 
-pub trial_of-requires-clause-typed : goal.trial_of-requires-clause-typed
-trial_of-requires-clause-typed g c = let entries = g.K.Keeper.contents c.args.self.now.keeper in last_typed c.args.rules.now c.args.store.now entries entries (λ i some. refl) c.args.question.now c.requires.turns.standing
+pub trial_of-requires : goal.trial_of-requires
+trial_of-requires g c = record {
+  basis = c.requires.turns.answerable.basis;
+  typed =
+      let entries = g.K.Keeper.contents c.args.self.now.keeper in
+      last_typed c.args.rules.now c.args.store.now entries entries (λ i some. refl) c.args.question.now
+      c.requires.turns.standing;
+  fit = c.requires.fit;
+}
 
-pub trial_of-requires-clause-basis : goal.trial_of-requires-clause-basis
-trial_of-requires-clause-basis g c = c.requires.turns.answerable.basis
-
-pub go_on-requires-clause-answerable : goal.go_on-requires-clause-answerable
-go_on-requires-clause-answerable g c = c.requires.turns.answerable
-
-pub go_on-requires-clause-finds : goal.go_on-requires-clause-finds
-go_on-requires-clause-finds g c =
-    let entries = g.K.Keeper.contents c.args.self.now.keeper in
-    record {
-      right = all_right c.args.rules.now c.args.store.now entries entries (λ i some. refl) c.args.question.now
-          c.requires.turns.standing c.requires.turns.answerable.right;
-      kept = c.requires.turns.standing.kept;
-      whole = c.requires.turns.standing.whole;
-    }
-
-pub go_on-requires-clause-standing : goal.go_on-requires-clause-standing
-go_on-requires-clause-standing g c = c.in_ok-begun.ensures.standing
+pub go_on-requires : goal.go_on-requires
+go_on-requires g c = record {
+  answerable = c.requires.turns.answerable;
+  standing = c.in_ok-begun.ensures.standing;
+  finds =
+      let entries = g.K.Keeper.contents c.args.self.now.keeper in
+      record {
+        right = all_right c.args.rules.now c.args.store.now entries entries (λ i some. refl) c.args.question.now
+            c.requires.turns.standing c.requires.turns.answerable.right;
+        kept = c.requires.turns.standing.kept;
+        whole = c.requires.turns.standing.whole;
+      };
+  unkept = search rules;
+}
 
 pub returns-in_err-copy : goal.returns-in_err-copy
 returns-in_err-copy g c = record {

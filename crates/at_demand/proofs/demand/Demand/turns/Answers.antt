@@ -171,12 +171,15 @@ returns g c = record {
   traces = c.loop-given.invariant.traces;
 }
 
-pub turn_with-requires-clause-turns : goal.turn_with-requires-clause-turns
-turn_with-requires-clause-turns g c = record {
-  answerable = record {
-    basis = c.requires.answerable.basis;
-    right = c.loop-given.invariant.right;
-    plain = c.loop-given.invariant.plain;
+pub turn_with-requires : goal.turn_with-requires
+turn_with-requires g c = record {
+  turns = record {
+    answerable = record {
+      basis = c.requires.answerable.basis;
+      right = c.loop-given.invariant.right;
+      plain = c.loop-given.invariant.plain;
+    };
+    standing = c.loop-given.invariant.standing;
   };
-  standing = c.loop-given.invariant.standing;
+  fit = search rules;
 }

@@ -1,17 +1,15 @@
-use Rattle.std.proofs.Common.{◌≡◌, ℕ, List, true, drop, take, length, Option, refl, sym, ap, ◌+◌, ◌∙◌, subst, arith, ◌++◌, Ok, IfOk, map}
-use Rattle.std.specs.Option.{IfSome}
+use Rattle.std.proofs.Common.{◌≡◌, ℕ, List, true, drop, take, length, Option, refl, sym, ap, ◌+◌, ◌∙◌, subst, arith, ◌++◌, Ok, IfOk, map, rules}
 use Rattle.std.proofs.lemmas.Result.{IfOk-weaker}
-use Rattle.at_model.specs.Meaning.{Leads}
 use Rattle.at_model.specs.Run.{Instance, Location, Gives, Truth}
 use Rattle.at_store.specs.Shown.{contents}
 use Rattle.at_body.specs.Values.{value_view}
 use Rattle.at_body.specs.declared.value.Value.{Value as ValueCode}
 use Rattle.at_demand.specs.declared.direct.Level.{Level}
 use Rattle.at_demand.specs.Inner.{Gains, HasRecalled, HasTold, IsEvaluated, known_by}
-use Rattle.at_demand.specs.InParts.{HasCome, Held, held, values_in}
+use Rattle.at_demand.specs.InParts.{HasCome, held_by, values_in}
 use Rattle.at_demand.specs.Known.{meaning}
 use Rattle.at_demand.proofs.of_nesting.Asked.{evaluated_behind, evaluated_in, inner_told, reads_before, reads_longer, told_alike, uses_before, uses_longer}
-use Rattle.at_demand.proofs.of_nesting.Grown.{grown_evaluated, grown_from, grown_none, grown_then, grown_up, held_after}
+use Rattle.at_demand.proofs.of_nesting.Grown.{grown_aside, grown_evaluated, grown_from, grown_none, grown_then, held_after}
 use Rattle.std.proofs.lemmas.List.{nil_from_length}
 use Rattle.at_rules.specs.Bodies.{bodies_view, body_view}
 use Rattle.at_body.specs.Rest.{ev, ev_all, over}
@@ -28,11 +26,47 @@ use Rattle.at_body.specs.declared.value.Value.TheVariants as value
 pub told-recall-requires : goal.told-recall-requires
 told-recall-requires g n c = c.requires.known
 
-pub afresh-keep-requires-clause-held : goal.afresh-keep-requires-clause-held
-afresh-keep-requires-clause-held g n c = held_after c.evaluate.ensures.grown
+pub afresh-keep-requires : goal.afresh-keep-requires
+afresh-keep-requires g n c = record {
+  lazy = c.requires.lazy;
+  held = held_after c.evaluate.ensures.grown;
+  come =
+      let h = held_by g.K.Keeper.contents g.K.Keeper.memories c.evaluate.new.keeper c.evaluate.new.self in
+      evaluated_in c.args.basis.now.rules.now c.args.basis.now.store.now g.K.Keeper.exact h c.level-below.result
+      c.evaluate.new.level c.args.needed (value_view c.in_ok-value.value) c.in_ok-value.ensures.come
+      c.level-below.ensures.reads c.level-below.ensures.uses;
+}
 
-pub inner-remember-requires-clause-held : goal.inner-remember-requires-clause-held
-inner-remember-requires-clause-held g n c = held_after c.evaluate.ensures.grown
+pub inner-remember-requires : goal.inner-remember-requires
+inner-remember-requires g n c = record {
+  lazy = c.requires.lazy;
+  held = held_after c.evaluate.ensures.grown;
+  come =
+      let rules = c.args.basis.now.rules.now in
+      let s = c.args.basis.now.store.now in
+      let i = c.args.needed in
+      let v = value_view c.in_ok-value.value in
+      let d = c.evaluate.new.self in
+      let known = known_by (g.K.Keeper.contents c.evaluate.new.keeper) d.found.entries in
+      let h = held_by g.K.Keeper.contents g.K.Keeper.memories c.evaluate.new.keeper c.evaluate.new.self in
+      let rest = evaluated_behind rules s g.K.Keeper.exact h c.args.level.now c.evaluate.new.level i v
+      c.in_ok-value.ensures.come in
+      let below = c.in_ok-below.below in
+      let long : List (Location ℕ) = c.evaluate.new.level.reads in
+      let many : List (Instance ℕ) = c.evaluate.new.level.uses.items in
+      let reads : drop (length c.args.level.now.reads) long ≡ below.reads = ap (λ k. drop k long) (sym
+      c.len-reads.ensures) ∙ sym c.in_ok-below.ensures.tail.0 in
+      let count : c.len-uses.result ≡ length c.args.level.now.uses.items = omega (
+        arith,
+        c.len-uses.ensures,
+        c.args.level.now.uses.ok.0,
+      ) in
+      let uses : drop (length c.args.level.now.uses.items) many ≡ below.uses.items = ap (λ k. drop k many) (sym count) ∙
+      sym c.in_ok-below.ensures.tail.1 in
+      subst (λ (xs : List (Location ℕ)). IsEvaluated rules (contents s) known i v xs below.uses.items) reads (subst (λ
+      (xs : List (Instance ℕ)). IsEvaluated rules (contents s) known i v (drop (length c.args.level.now.reads) long) xs)
+      uses rest);
+}
 
 pub verify-in_the_way-requires : goal.verify-in_the_way-requires
 verify-in_the_way-requires g n c = held_after c.keep_again.ensures.grown
@@ -46,91 +80,102 @@ verify-loop-init g n c = record {
 pub verify-keep_again-requires : goal.verify-keep_again-requires
 verify-keep_again-requires g n c = held_after c.loop.invariant.grown
 
-pub verify-returns-in_err-again-clause-grown : goal.verify-returns-in_err-again-clause-grown
-verify-returns-in_err-again-clause-grown g n c = grown_then c.loop.invariant.grown c.keep_again.ensures.grown
+pub verify-returns-in_err-again : goal.verify-returns-in_err-again
+verify-returns-in_err-again g n c = record {
+  recalled = search rules;
+  grown = grown_then c.loop.invariant.grown c.keep_again.ensures.grown;
+}
 
-pub verify-returns-in-Some-clause-grown : goal.verify-returns-in-Some-clause-grown
-verify-returns-in-Some-clause-grown g n c = grown_then c.loop.invariant.grown c.keep_again.ensures.grown
+pub verify-returns-in-Some : goal.verify-returns-in-Some
+verify-returns-in-Some g n c = record {
+  recalled = search rules;
+  grown = grown_then c.loop.invariant.grown c.keep_again.ensures.grown;
+}
 
-pub verify-returns-in_err-other-clause-grown : goal.verify-returns-in_err-other-clause-grown
-verify-returns-in_err-other-clause-grown g n c = grown_then c.loop.invariant.grown c.keep_again.ensures.grown
+pub verify-returns-in_err-other : goal.verify-returns-in_err-other
+verify-returns-in_err-other g n c = record {
+  recalled = search rules;
+  grown = grown_then c.loop.invariant.grown c.keep_again.ensures.grown;
+}
 
-pub verify-returns-in_default-2-clause-grown : goal.verify-returns-in_default-2-clause-grown
-verify-returns-in_default-2-clause-grown g n c = grown_then c.loop.invariant.grown c.keep_again.ensures.grown
+pub verify-returns-in_default-2 : goal.verify-returns-in_default-2
+verify-returns-in_default-2 g n c = record {
+  recalled = search rules;
+  grown = grown_then c.loop.invariant.grown c.keep_again.ensures.grown;
+}
 
-pub verify-returns-in_err-afresh-clause-grown : goal.verify-returns-in_err-afresh-clause-grown
-verify-returns-in_err-afresh-clause-grown g n c =
-    let led : Leads (contents c.args.basis.now.store.now) (meaning c.args.basis.now.rules.now) c.args.needed.now c.in-Some-2.other =
-    subst (λ (o : Option (Instance ℕ)). IfSome o (Leads (contents c.args.basis.now.store.now) (meaning
-    c.args.basis.now.rules.now) c.args.needed.now)) c.in-Some-2.is c.in_ok-other.ensures.led in
-    grown_then (grown_then c.loop.invariant.grown c.keep_again.ensures.grown) (grown_up c.args.basis.now.idle led
-    (grown_from c.level-aside.ensures.found c.level-aside.ensures.work c.afresh.ensures.grown))
+pub verify-returns-in_err-afresh : goal.verify-returns-in_err-afresh
+verify-returns-in_err-afresh g n c = record {
+  recalled = search rules;
+  grown = grown_aside c.args.basis.now.idle c.in-Some-2.is c.in_ok-other.ensures.led
+      (grown_then c.loop.invariant.grown c.keep_again.ensures.grown) c.level-aside.ensures.found
+      c.level-aside.ensures.work c.afresh.ensures.grown;
+}
 
-pub verify-returns-in_err-push-clause-grown : goal.verify-returns-in_err-push-clause-grown
-verify-returns-in_err-push-clause-grown g n c =
-    let led : Leads (contents c.args.basis.now.store.now) (meaning c.args.basis.now.rules.now) c.args.needed.now c.in-Some-2.other =
-    subst (λ (o : Option (Instance ℕ)). IfSome o (Leads (contents c.args.basis.now.store.now) (meaning
-    c.args.basis.now.rules.now) c.args.needed.now)) c.in-Some-2.is c.in_ok-other.ensures.led in
-    grown_then (grown_then c.loop.invariant.grown c.keep_again.ensures.grown) (grown_up c.args.basis.now.idle led
-    (grown_from c.level-aside.ensures.found c.level-aside.ensures.work c.afresh.ensures.grown))
+pub verify-returns-in_err-push : goal.verify-returns-in_err-push
+verify-returns-in_err-push g n c = record {
+  recalled = search rules;
+  grown = grown_aside c.args.basis.now.idle c.in-Some-2.is c.in_ok-other.ensures.led
+      (grown_then c.loop.invariant.grown c.keep_again.ensures.grown) c.level-aside.ensures.found
+      c.level-aside.ensures.work c.afresh.ensures.grown;
+}
 
 pub verify-loop-preserved : goal.verify-loop-preserved
 verify-loop-preserved g n c = record {
-  grown =
-      let led : Leads (contents c.args.basis.now.store.now) (meaning c.args.basis.now.rules.now) c.args.needed.now c.in-Some-2.other =
-      subst (λ (o : Option (Instance ℕ)). IfSome o (Leads (contents c.args.basis.now.store.now) (meaning
-      c.args.basis.now.rules.now) c.args.needed.now)) c.in-Some-2.is c.in_ok-other.ensures.led in
-      grown_then (grown_then c.loop.invariant.grown c.keep_again.ensures.grown) (grown_up c.args.basis.now.idle led
-      (grown_from c.level-aside.ensures.found c.level-aside.ensures.work c.afresh.ensures.grown));
+  grown = grown_aside c.args.basis.now.idle c.in-Some-2.is c.in_ok-other.ensures.led
+      (grown_then c.loop.invariant.grown c.keep_again.ensures.grown) c.level-aside.ensures.found
+      c.level-aside.ensures.work c.afresh.ensures.grown;
   level = subst (λ (o : Option ValueCode). HasRecalled c.args.basis.now.rules.now (contents c.args.basis.now.store.now) (known_by
       (g.K.Keeper.contents c.keep_again.new.keeper) c.keep_again.new.self.found.entries) c.loop.level
-      c.keep_again.new.level c.args.needed.now o) c.in_default.is c.in_ok-again.ensures.recalled ∙ c.loop.invariant.level;
+      c.keep_again.new.level c.args.needed.now o) c.in_default.is c.in_ok-again.ensures.recalled ∙
+      c.loop.invariant.level;
 }
 
--- lazily, where it can't be verified
-pub lazily-returns-in-None : goal.lazily-returns-in-None
-lazily-returns-in-None g n c =
+-- told, where it isn't known and can't be kept again
+pub told-returns-in-None : goal.told-returns-in-None
+told-returns-in-None g n c =
     let rules = c.args.basis.now.rules.now in
     let s = c.args.basis.now.store.now in
     let i = c.args.needed in
+    let e0 = g.K.Keeper.contents c.args.keeper.now in
     let e1 = g.K.Keeper.contents c.verify.new.keeper in
     let e2 = g.K.Keeper.contents c.afresh.new.keeper in
+    let d0 = c.args.self.now in
     let d1 = c.verify.new.self in
     let d2 = c.afresh.new.self in
-    let same : c.verify.new.level ≡ c.args.level.now = subst (λ (o : Option ValueCode). HasRecalled rules (contents s)
-    (known_by e1 d1.found.entries) c.args.level.now c.verify.new.level i o) c.in-None.is
+    let before : c.recall.new.level ≡ c.args.level.now = subst (λ (o : Option ValueCode). HasRecalled rules (contents s)
+    (known_by e0 d0.found.entries) c.args.level.now c.recall.new.level i o) c.in_default.is c.in_ok-recalled.ensures in
+    let same : c.verify.new.level ≡ c.recall.new.level = subst (λ (o : Option ValueCode). HasRecalled rules (contents s)
+    (known_by e1 d1.found.entries) c.recall.new.level c.verify.new.level i o) c.in-None.is
     c.in_ok-verified.ensures.recalled in
     record {
       told = IfOk-weaker c.afresh.result _ _ (λ v h. subst (λ (l : Level). HasTold rules (contents s) (known_by e2
-          d2.found.entries) l c.afresh.new.level i (value_view v)) same h) c.afresh.ensures.told;
+          d2.found.entries) l c.afresh.new.level i (value_view v)) (same ∙ before) h) c.afresh.ensures.told;
       grown = grown_then c.verify.ensures.grown c.afresh.ensures.grown;
     }
 
 -- afresh
-pub afresh-returns-in_err-value-clause-grown : goal.afresh-returns-in_err-value-clause-grown
-afresh-returns-in_err-value-clause-grown g n c =
-    grown_from c.level-below.ensures.found c.level-below.ensures.work c.evaluate.ensures.grown
+pub afresh-returns-in_err-value : goal.afresh-returns-in_err-value
+afresh-returns-in_err-value g n c = record {
+  told = search rules;
+  grown = grown_from c.level-below.ensures.found c.level-below.ensures.work c.evaluate.ensures.grown;
+}
 
-pub afresh-keep-requires-clause-come : goal.afresh-keep-requires-clause-come
-afresh-keep-requires-clause-come g n c =
-    let d = c.evaluate.new.self in
-    let h : Held = record {
-      entries = g.K.Keeper.contents c.evaluate.new.keeper;
-      memories = g.K.Keeper.memories c.evaluate.new.keeper;
-      found = d.found.entries;
-      work = d.work;
-    } in
-    evaluated_in c.args.basis.now.rules.now c.args.basis.now.store.now g.K.Keeper.exact h c.level-below.result c.evaluate.new.level
-    c.args.needed (value_view c.in_ok-value.value) c.in_ok-value.ensures.come c.level-below.ensures.reads
-    c.level-below.ensures.uses
+pub afresh-returns-in_err-keep : goal.afresh-returns-in_err-keep
+afresh-returns-in_err-keep g n c = record {
+  told = search rules;
+  grown =
+      grown_then (grown_from c.level-below.ensures.found c.level-below.ensures.work c.evaluate.ensures.grown)
+      c.keep.ensures.grown;
+}
 
-pub afresh-returns-in_err-keep-clause-grown : goal.afresh-returns-in_err-keep-clause-grown
-afresh-returns-in_err-keep-clause-grown g n c =
-    grown_then (grown_from c.level-below.ensures.found c.level-below.ensures.work c.evaluate.ensures.grown) c.keep.ensures.grown
-
-pub afresh-returns-in_err-push-clause-grown : goal.afresh-returns-in_err-push-clause-grown
-afresh-returns-in_err-push-clause-grown g n c =
-    grown_then (grown_from c.level-below.ensures.found c.level-below.ensures.work c.evaluate.ensures.grown) c.keep.ensures.grown
+pub afresh-returns-in_err-push : goal.afresh-returns-in_err-push
+afresh-returns-in_err-push g n c = record {
+  told = search rules;
+  grown =
+      grown_then (grown_from c.level-below.ensures.found c.level-below.ensures.work c.evaluate.ensures.grown)
+      c.keep.ensures.grown;
+}
 
 pub afresh-returns : goal.afresh-returns
 afresh-returns g n c = record {
@@ -140,103 +185,44 @@ afresh-returns g n c = record {
 }
 
 -- inner
-pub inner-returns-then-is_small-clause-told : goal.inner-returns-then-is_small-clause-told
-inner-returns-then-is_small-clause-told g n c =
-    let d = c.evaluate.new.self in
-    let h : Held = record {
-      entries = g.K.Keeper.contents c.evaluate.new.keeper;
-      memories = g.K.Keeper.memories c.evaluate.new.keeper;
-      found = d.found.entries;
-      work = d.work;
-    } in
-    inner_told c.args.basis.now.rules.now c.args.basis.now.store.now g.K.Keeper.exact h c.args.level.now c.evaluate.new.level c.args.needed
-    (value_view c.in_ok-value.value) c.in_ok-value.ensures.come c.requires.lazy
+pub inner-returns-then-is_small : goal.inner-returns-then-is_small
+inner-returns-then-is_small g n c = record {
+  told =
+      let h = held_by g.K.Keeper.contents g.K.Keeper.memories c.evaluate.new.keeper c.evaluate.new.self in
+      inner_told c.args.basis.now.rules.now c.args.basis.now.store.now g.K.Keeper.exact h c.args.level.now
+      c.evaluate.new.level c.args.needed (value_view c.in_ok-value.value) c.in_ok-value.ensures.come c.requires.lazy;
+  grown = search rules;
+}
 
 pub inner-split_off-requires-clause-reads : goal.inner-split_off-requires-clause-reads
 inner-split_off-requires-clause-reads g n c =
-    let d = c.evaluate.new.self in
-    let h : Held = record {
-      entries = g.K.Keeper.contents c.evaluate.new.keeper;
-      memories = g.K.Keeper.memories c.evaluate.new.keeper;
-      found = d.found.entries;
-      work = d.work;
-    } in
-    let longer = reads_longer c.args.basis.now.rules.now c.args.basis.now.store.now g.K.Keeper.exact h c.args.level.now c.evaluate.new.level
-    c.args.needed (value_view c.in_ok-value.value) c.in_ok-value.ensures.come in
+    let h = held_by g.K.Keeper.contents g.K.Keeper.memories c.evaluate.new.keeper c.evaluate.new.self in
+    let longer = reads_longer c.args.basis.now.rules.now c.args.basis.now.store.now g.K.Keeper.exact h c.args.level.now
+    c.evaluate.new.level c.args.needed (value_view c.in_ok-value.value) c.in_ok-value.ensures.come in
     omega (arith, c.len-reads.ensures, longer)
 
 pub inner-split_off-requires-clause-uses : goal.inner-split_off-requires-clause-uses
 inner-split_off-requires-clause-uses g n c =
-    let d = c.evaluate.new.self in
-    let h : Held = record {
-      entries = g.K.Keeper.contents c.evaluate.new.keeper;
-      memories = g.K.Keeper.memories c.evaluate.new.keeper;
-      found = d.found.entries;
-      work = d.work;
-    } in
-    let longer = uses_longer c.args.basis.now.rules.now c.args.basis.now.store.now g.K.Keeper.exact h c.args.level.now c.evaluate.new.level
-    c.args.needed (value_view c.in_ok-value.value) c.in_ok-value.ensures.come in
+    let h = held_by g.K.Keeper.contents g.K.Keeper.memories c.evaluate.new.keeper c.evaluate.new.self in
+    let longer = uses_longer c.args.basis.now.rules.now c.args.basis.now.store.now g.K.Keeper.exact h c.args.level.now
+    c.evaluate.new.level c.args.needed (value_view c.in_ok-value.value) c.in_ok-value.ensures.come in
     omega (arith, c.len-uses.ensures, longer)
 
-pub inner-remember-requires-clause-come : goal.inner-remember-requires-clause-come
-inner-remember-requires-clause-come g n c =
-    let rules = c.args.basis.now.rules.now in
-    let s = c.args.basis.now.store.now in
-    let i = c.args.needed in
-    let v = value_view c.in_ok-value.value in
-    let d = c.evaluate.new.self in
-    let known = known_by (g.K.Keeper.contents c.evaluate.new.keeper) d.found.entries in
-    let h : Held = record {
-      entries = g.K.Keeper.contents c.evaluate.new.keeper;
-      memories = g.K.Keeper.memories c.evaluate.new.keeper;
-      found = d.found.entries;
-      work = d.work;
-    } in
-    let rest = evaluated_behind rules s g.K.Keeper.exact h c.args.level.now c.evaluate.new.level i v
-    c.in_ok-value.ensures.come in
-    let below = c.in_ok-below.below in
-    let long : List (Location ℕ) = c.evaluate.new.level.reads in
-    let many : List (Instance ℕ) = c.evaluate.new.level.uses.items in
-    let reads : drop (length c.args.level.now.reads) long ≡ below.reads = ap (λ k. drop k long) (sym
-    c.len-reads.ensures) ∙ sym c.in_ok-below.ensures.tail.0 in
-    let count : c.len-uses.result ≡ length c.args.level.now.uses.items = omega (
-      arith,
-      c.len-uses.ensures,
-      c.args.level.now.uses.ok.0,
-    ) in
-    let uses : drop (length c.args.level.now.uses.items) many ≡ below.uses.items = ap (λ k. drop k many) (sym
-    count) ∙ sym c.in_ok-below.ensures.tail.1 in
-    subst (λ (xs : List (Location ℕ)). IsEvaluated rules (contents s) known i v xs below.uses.items) reads
-    (subst (λ (xs : List (Instance ℕ)). IsEvaluated rules (contents s) known i v (drop (length c.args.level.now.reads)
-    long) xs) uses rest)
-
-pub inner-returns-in_err-remember-clause-grown : goal.inner-returns-in_err-remember-clause-grown
-inner-returns-in_err-remember-clause-grown g n c =
-    grown_then c.evaluate.ensures.grown c.remember.ensures.grown
+pub inner-returns-in_err-remember : goal.inner-returns-in_err-remember
+inner-returns-in_err-remember g n c = record {
+  told = search rules;
+  grown = grown_then c.evaluate.ensures.grown c.remember.ensures.grown;
+}
 
 pub inner-returns : goal.inner-returns
 inner-returns g n c =
     let rules = c.args.basis.now.rules.now in
     let s = c.args.basis.now.store.now in
     let i = c.args.needed in
-    let e1 = g.K.Keeper.contents c.evaluate.new.keeper in
-    let e2 = g.K.Keeper.contents c.remember.new.keeper in
-    let d1 = c.evaluate.new.self in
-    let d2 = c.remember.new.self in
     let v = value_view c.in_ok-value.value in
     let old = c.args.level.now in
-    let first : Held = record {
-      entries = e1;
-      memories = g.K.Keeper.memories c.evaluate.new.keeper;
-      found = d1.found.entries;
-      work = d1.work;
-    } in
-    let last : Held = record {
-      entries = e2;
-      memories = g.K.Keeper.memories c.remember.new.keeper;
-      found = d2.found.entries;
-      work = d2.work;
-    } in
+    let first = held_by g.K.Keeper.contents g.K.Keeper.memories c.evaluate.new.keeper c.evaluate.new.self in
+    let last = held_by g.K.Keeper.contents g.K.Keeper.memories c.remember.new.keeper c.remember.new.self in
     let come = c.in_ok-value.ensures.come in
     let long : List (Location ℕ) = c.evaluate.new.level.reads in
     let many : List (Instance ℕ) = c.evaluate.new.level.uses.items in
@@ -251,366 +237,440 @@ inner-returns g n c =
       grown = grown_then c.evaluate.ensures.grown c.remember.ensures.grown;
     }
 
-pub evaluate-returns-in_err-begun-clause-grown : goal.evaluate-returns-in_err-begun-clause-grown
-evaluate-returns-in_err-begun-clause-grown g n c =
-    grown_evaluated c.args.basis.now.rules.now c.args.basis.now.store.now g.K.Keeper.exact c.args.basis.now.idle c.args.inst.now (held
-    (g.K.Keeper.contents c.args.keeper.now) (g.K.Keeper.memories c.args.keeper.now) c.args.self.now.found.entries
-    c.args.self.now.work) (held (g.K.Keeper.contents c.args.keeper.now) (g.K.Keeper.memories c.args.keeper.now)
-    c.args.self.now.found.entries c.args.self.now.work) (nothing_gained c.args.basis.now.rules.now c.args.basis.now.store.now
-    g.K.Keeper.exact (meaning c.args.basis.now.rules.now c.args.inst.now) (held (g.K.Keeper.contents c.args.keeper.now)
-    (g.K.Keeper.memories c.args.keeper.now) c.args.self.now.found.entries c.args.self.now.work) c.args.self.now.few
-    c.requires)
+pub evaluate-returns-in_err-begun : goal.evaluate-returns-in_err-begun
+evaluate-returns-in_err-begun g n c = record {
+  come = search rules;
+  grown =
+      grown_evaluated c.args.basis.now.rules.now c.args.basis.now.store.now g.K.Keeper.exact c.args.basis.now.idle
+      c.args.inst.now (held_by g.K.Keeper.contents g.K.Keeper.memories c.args.keeper.now c.args.self.now) (held_by
+      g.K.Keeper.contents g.K.Keeper.memories c.args.keeper.now c.args.self.now) (nothing_gained
+      c.args.basis.now.rules.now c.args.basis.now.store.now g.K.Keeper.exact (meaning c.args.basis.now.rules.now
+      c.args.inst.now) (held_by g.K.Keeper.contents g.K.Keeper.memories c.args.keeper.now c.args.self.now)
+      c.args.self.now.few c.requires);
+}
 
-pub evaluate-returns-clause-come : goal.evaluate-returns-clause-come
-evaluate-returns-clause-come g n c =
-    IfOk-weaker c.value.result _ _ (λ v h. come_begun c.args.basis.now.rules.now c.args.basis.now.store.now (held (g.K.Keeper.contents
-    c.value.new.keeper) (g.K.Keeper.memories c.value.new.keeper) c.value.new.self.found.entries c.value.new.self.work)
-    c.args.level.now (record { reads = c.begin.new.reads; uses = c.args.level.now.uses }) c.value.new.level (meaning
-    c.args.basis.now.rules.now c.args.inst.now) (ev c.args.basis.now.rules.now.classes (body_view c.in_ok-begun.begun.1.now) (place_at
-    c.in_ok-begun.begun.0)) (value_view v) refl c.in_ok-begun.ensures h) c.value.ensures.come
+pub evaluate-returns : goal.evaluate-returns
+evaluate-returns g n c = record {
+  come =
+      IfOk-weaker c.value.result _ _ (λ v h. come_begun c.args.basis.now.rules.now c.args.basis.now.store.now (held_by
+      g.K.Keeper.contents g.K.Keeper.memories c.value.new.keeper c.value.new.self) c.args.level.now
+      (record { reads = c.begin.new.reads; uses = c.args.level.now.uses }) c.value.new.level (meaning
+      c.args.basis.now.rules.now c.args.inst.now) (ev c.args.basis.now.rules.now.classes (body_view
+      c.in_ok-begun.begun.1.now) (place_at c.in_ok-begun.begun.0)) (value_view v) refl c.in_ok-begun.ensures h)
+      c.value.ensures.come;
+  grown =
+      grown_evaluated c.args.basis.now.rules.now c.args.basis.now.store.now g.K.Keeper.exact c.args.basis.now.idle
+      c.args.inst.now (held_by g.K.Keeper.contents g.K.Keeper.memories c.args.keeper.now c.args.self.now) (held_by
+      g.K.Keeper.contents g.K.Keeper.memories c.value.new.keeper c.value.new.self) (gains_begun
+      c.args.basis.now.rules.now c.args.basis.now.store.now g.K.Keeper.exact (held_by g.K.Keeper.contents
+      g.K.Keeper.memories c.args.keeper.now c.args.self.now) (held_by g.K.Keeper.contents g.K.Keeper.memories
+      c.value.new.keeper c.value.new.self) c.args.level.now.reads c.begin.new.reads (meaning c.args.basis.now.rules.now
+      c.args.inst.now) (ev c.args.basis.now.rules.now.classes (body_view c.in_ok-begun.begun.1.now) (place_at
+      c.in_ok-begun.begun.0)) c.in_ok-begun.ensures c.value.ensures.gains);
+}
 
-pub evaluate-returns-clause-grown : goal.evaluate-returns-clause-grown
-evaluate-returns-clause-grown g n c =
-    grown_evaluated c.args.basis.now.rules.now c.args.basis.now.store.now g.K.Keeper.exact c.args.basis.now.idle c.args.inst.now (held
-    (g.K.Keeper.contents c.args.keeper.now) (g.K.Keeper.memories c.args.keeper.now) c.args.self.now.found.entries
-    c.args.self.now.work) (held (g.K.Keeper.contents c.value.new.keeper) (g.K.Keeper.memories c.value.new.keeper)
-    c.value.new.self.found.entries c.value.new.self.work) (gains_begun c.args.basis.now.rules.now c.args.basis.now.store.now
-    g.K.Keeper.exact (held (g.K.Keeper.contents c.args.keeper.now) (g.K.Keeper.memories c.args.keeper.now)
-    c.args.self.now.found.entries c.args.self.now.work) (held (g.K.Keeper.contents c.value.new.keeper)
-    (g.K.Keeper.memories c.value.new.keeper) c.value.new.self.found.entries c.value.new.self.work)
-    c.args.level.now.reads c.begin.new.reads (meaning c.args.basis.now.rules.now c.args.inst.now) (ev c.args.basis.now.rules.now.classes
-    (body_view c.in_ok-begun.begun.1.now) (place_at c.in_ok-begun.begun.0)) c.in_ok-begun.ensures
-    c.value.ensures.gains)
+pub one-returns-in_err-value : goal.one-returns-in_err-value
+one-returns-in_err-value g n c = record {
+  come = search rules;
+  gains =
+      one_gains c.args.basis.now.rules.now c.args.basis.now.store.now g.K.Keeper.exact (place_at c.args.here.now)
+      c.args.unary c.args.operand.now _ _ c.value.ensures.gains;
+}
 
-pub one-returns-in_err-value-clause-gains : goal.one-returns-in_err-value-clause-gains
-one-returns-in_err-value-clause-gains g n c =
-    one_gains c.args.basis.now.rules.now c.args.basis.now.store.now g.K.Keeper.exact (place_at c.args.here.now) c.args.unary
-    c.args.operand.now _ _ c.value.ensures.gains
+pub one-returns : goal.one-returns
+one-returns g n c = record {
+  come =
+      one_come c.args.basis.now.rules.now c.args.basis.now.store.now g.K.Keeper.exact (place_at c.args.here.now)
+      c.args.unary c.args.operand.now c.in_ok-value.value c.with_one.result _ _ _ _ _ refl c.value.ensures.gains
+      c.in_ok-value.ensures.come c.with_one.ensures;
+  gains =
+      one_gains c.args.basis.now.rules.now c.args.basis.now.store.now g.K.Keeper.exact (place_at c.args.here.now)
+      c.args.unary c.args.operand.now _ _ c.value.ensures.gains;
+}
 
-pub one-returns-clause-gains : goal.one-returns-clause-gains
-one-returns-clause-gains g n c =
-    one_gains c.args.basis.now.rules.now c.args.basis.now.store.now g.K.Keeper.exact (place_at c.args.here.now) c.args.unary
-    c.args.operand.now _ _ c.value.ensures.gains
+pub two-returns-in_err-first : goal.two-returns-in_err-first
+two-returns-in_err-first g n c = record {
+  come = search rules;
+  gains =
+      two_gains_first c.args.basis.now.rules.now c.args.basis.now.store.now g.K.Keeper.exact (place_at c.args.here.now)
+      c.args.binary c.args.left.now c.args.right.now _ _ c.value.ensures.gains;
+}
 
-pub one-returns-clause-come : goal.one-returns-clause-come
-one-returns-clause-come g n c =
-    one_come c.args.basis.now.rules.now c.args.basis.now.store.now g.K.Keeper.exact (place_at c.args.here.now) c.args.unary
-    c.args.operand.now c.in_ok-value.value c.with_one.result _ _ _ _ _ refl c.value.ensures.gains
-    c.in_ok-value.ensures.come c.with_one.ensures
+pub two-returns-in_err-second : goal.two-returns-in_err-second
+two-returns-in_err-second g n c = record {
+  come = search rules;
+  gains =
+      two_gains c.args.basis.now.rules.now c.args.basis.now.store.now g.K.Keeper.exact (place_at c.args.here.now)
+      c.args.binary c.args.left.now c.args.right.now c.in_ok-first.first _ _ _ _ _ c.value.ensures.gains
+      c.in_ok-first.ensures.come c.value-2.ensures.gains;
+}
 
-pub two-returns-in_err-first-clause-gains : goal.two-returns-in_err-first-clause-gains
-two-returns-in_err-first-clause-gains g n c =
-    two_gains_first c.args.basis.now.rules.now c.args.basis.now.store.now g.K.Keeper.exact (place_at c.args.here.now) c.args.binary
-    c.args.left.now c.args.right.now _ _ c.value.ensures.gains
+pub two-returns : goal.two-returns
+two-returns g n c = record {
+  come =
+      two_come c.args.basis.now.rules.now c.args.basis.now.store.now g.K.Keeper.exact (place_at c.args.here.now)
+      c.args.binary c.args.left.now c.args.right.now c.in_ok-first.first c.in_ok-second.second c.with_two.result _ _ _ _
+      _ _ _ refl c.value.ensures.gains c.in_ok-first.ensures.come c.value-2.ensures.gains c.in_ok-second.ensures.come
+      c.with_two.ensures;
+  gains =
+      two_gains c.args.basis.now.rules.now c.args.basis.now.store.now g.K.Keeper.exact (place_at c.args.here.now)
+      c.args.binary c.args.left.now c.args.right.now c.in_ok-first.first _ _ _ _ _ c.value.ensures.gains
+      c.in_ok-first.ensures.come c.value-2.ensures.gains;
+}
 
-pub two-returns-in_err-second-clause-gains : goal.two-returns-in_err-second-clause-gains
-two-returns-in_err-second-clause-gains g n c =
-    two_gains c.args.basis.now.rules.now c.args.basis.now.store.now g.K.Keeper.exact (place_at c.args.here.now) c.args.binary
-    c.args.left.now c.args.right.now c.in_ok-first.first _ _ _ _ _ c.value.ensures.gains c.in_ok-first.ensures.come
-    c.value-2.ensures.gains
+pub compared-returns-in_err-at_once : goal.compared-returns-in_err-at_once
+compared-returns-in_err-at_once g n c = record {
+  come = search rules;
+  gains =
+      nothing_gained c.args.basis.now.rules.now c.args.basis.now.store.now g.K.Keeper.exact (two_of
+      c.args.basis.now.rules.now.classes (place_at c.args.here.now) c.args.comparison c.args.left.now c.args.right.now)
+      _ c.args.self.now.few c.requires.held;
+}
 
-pub two-returns-clause-gains : goal.two-returns-clause-gains
-two-returns-clause-gains g n c =
-    two_gains c.args.basis.now.rules.now c.args.basis.now.store.now g.K.Keeper.exact (place_at c.args.here.now) c.args.binary
-    c.args.left.now c.args.right.now c.in_ok-first.first _ _ _ _ _ c.value.ensures.gains c.in_ok-first.ensures.come
-    c.value-2.ensures.gains
+pub compared-returns-in-Some : goal.compared-returns-in-Some
+compared-returns-in-Some g n c = record {
+  come =
+      come_looked c.args.basis.now.rules.now c.args.basis.now.store.now _ c.args.level.now (record {
+        reads = c.compare.new.reads;
+        uses =
+            c.args.level.now.uses;
+      }) (two_of c.args.basis.now.rules.now.classes (place_at c.args.here.now) c.args.comparison
+      c.args.left.now c.args.right.now) (value_view c.in-Some.value) refl (subst (λ o. MayHaveLooked (contents
+      c.args.basis.now.store.now) c.args.level.now.reads c.compare.new.reads (two_of c.args.basis.now.rules.now.classes
+      (place_at c.args.here.now) c.args.comparison c.args.left.now c.args.right.now) o) c.in-Some.is
+      (c.in_ok-at_once.ensures c.args.basis.now.rules.now.classes));
+  gains =
+      nothing_gained c.args.basis.now.rules.now c.args.basis.now.store.now g.K.Keeper.exact (two_of
+      c.args.basis.now.rules.now.classes (place_at c.args.here.now) c.args.comparison c.args.left.now c.args.right.now)
+      _ c.args.self.now.few c.requires.held;
+}
 
-pub two-returns-clause-come : goal.two-returns-clause-come
-two-returns-clause-come g n c =
-    two_come c.args.basis.now.rules.now c.args.basis.now.store.now g.K.Keeper.exact (place_at c.args.here.now) c.args.binary
-    c.args.left.now c.args.right.now c.in_ok-first.first c.in_ok-second.second c.with_two.result _ _ _ _ _ _ _ refl
-    c.value.ensures.gains c.in_ok-first.ensures.come c.value-2.ensures.gains c.in_ok-second.ensures.come
-    c.with_two.ensures
+pub compared-returns-in-None : goal.compared-returns-in-None
+compared-returns-in-None g n c = record {
+  come =
+      subst (λ (ls : List (Location ℕ)). IfOk c.two.result (λ v. HasCome c.args.basis.now.rules.now (contents
+      c.args.basis.now.store.now) (held_by g.K.Keeper.contents g.K.Keeper.memories c.two.new.keeper c.two.new.self)
+      (record { reads = ls; uses = c.args.level.now.uses }) c.two.new.level (two_of c.args.basis.now.rules.now.classes
+      (place_at c.args.here.now) c.args.comparison c.args.left.now c.args.right.now) (value_view v))) (subst (λ o.
+      MayHaveLooked (contents c.args.basis.now.store.now) c.args.level.now.reads c.compare.new.reads (two_of
+      c.args.basis.now.rules.now.classes (place_at c.args.here.now) c.args.comparison c.args.left.now c.args.right.now)
+      o) c.in-None.is (c.in_ok-at_once.ensures c.args.basis.now.rules.now.classes)) c.two.ensures.come;
+  gains = c.two.ensures.gains;
+}
 
-pub compared-returns-in_err-at_once-clause-gains : goal.compared-returns-in_err-at_once-clause-gains
-compared-returns-in_err-at_once-clause-gains g n c =
-    nothing_gained c.args.basis.now.rules.now c.args.basis.now.store.now g.K.Keeper.exact (two_of c.args.basis.now.rules.now.classes (place_at
-    c.args.here.now) c.args.comparison c.args.left.now c.args.right.now) _ c.args.self.now.few c.requires.held
+pub either-returns-in_err-value : goal.either-returns-in_err-value
+either-returns-in_err-value g n c = record {
+  come = search rules;
+  gains =
+      either_gains_test c.args.basis.now.rules.now c.args.basis.now.store.now g.K.Keeper.exact (place_at
+      c.args.here.now) c.args.test.now c.args.yes c.args.no _ _ c.value.ensures.gains;
+}
 
-pub compared-returns-in-Some-clause-gains : goal.compared-returns-in-Some-clause-gains
-compared-returns-in-Some-clause-gains g n c =
-    nothing_gained c.args.basis.now.rules.now c.args.basis.now.store.now g.K.Keeper.exact (two_of c.args.basis.now.rules.now.classes (place_at
-    c.args.here.now) c.args.comparison c.args.left.now c.args.right.now) _ c.args.self.now.few c.requires.held
+pub either-returns-in_err-holds : goal.either-returns-in_err-holds
+either-returns-in_err-holds g n c = record {
+  come = search rules;
+  gains =
+      either_gains_test c.args.basis.now.rules.now c.args.basis.now.store.now g.K.Keeper.exact (place_at
+      c.args.here.now) c.args.test.now c.args.yes c.args.no _ _ c.value.ensures.gains;
+}
 
-pub compared-returns-in-Some-clause-come : goal.compared-returns-in-Some-clause-come
-compared-returns-in-Some-clause-come g n c =
-    come_looked c.args.basis.now.rules.now c.args.basis.now.store.now _ c.args.level.now (record {
-      reads = c.compare.new.reads;
-      uses =
-          c.args.level.now.uses;
-    }) (two_of c.args.basis.now.rules.now.classes (place_at c.args.here.now) c.args.comparison
-    c.args.left.now c.args.right.now) (value_view c.in-Some.value) refl (subst (λ o. MayHaveLooked (contents
-    c.args.basis.now.store.now) c.args.level.now.reads c.compare.new.reads (two_of c.args.basis.now.rules.now.classes (place_at
-    c.args.here.now) c.args.comparison c.args.left.now c.args.right.now) o) c.in-Some.is (c.in_ok-at_once.ensures
-    c.args.basis.now.rules.now.classes))
+pub either-returns-in-Some : goal.either-returns-in-Some
+either-returns-in-Some g n c = record {
+  come =
+      either_come c.args.basis.now.rules.now c.args.basis.now.store.now g.K.Keeper.exact (place_at c.args.here.now)
+      c.args.test.now c.args.yes c.args.no c.in_ok-value.value c.in_ok-holds.holds (ev
+      c.args.basis.now.rules.now.classes (body_view c.in-Some.body.now) (place_at c.args.here.now)) _ _ _ _ _
+      c.in_ok-holds.ensures (ap (λ o. or_truth c.args.basis.now.rules.now.classes (place_at c.args.here.now) o
+      c.in_ok-holds.holds) (sym c.in-Some.is) ∙ c.chosen.ensures c.args.basis.now.rules.now.classes (place_at
+      c.args.here.now)) c.value.ensures.gains c.in_ok-value.ensures.come c.value-in-Some.ensures.gains
+      c.value-in-Some.result c.value-in-Some.new.level c.value-in-Some.ensures.come;
+  gains =
+      either_gains c.args.basis.now.rules.now c.args.basis.now.store.now g.K.Keeper.exact (place_at c.args.here.now)
+      c.args.test.now c.args.yes c.args.no c.in_ok-value.value c.in_ok-holds.holds (ev
+      c.args.basis.now.rules.now.classes (body_view c.in-Some.body.now) (place_at c.args.here.now)) _ _ _ _ _
+      c.in_ok-holds.ensures (ap (λ o. or_truth c.args.basis.now.rules.now.classes (place_at c.args.here.now) o
+      c.in_ok-holds.holds) (sym c.in-Some.is) ∙ c.chosen.ensures c.args.basis.now.rules.now.classes (place_at
+      c.args.here.now)) c.value.ensures.gains c.in_ok-value.ensures.come c.value-in-Some.ensures.gains;
+}
 
-pub compared-returns-in-None-clause-gains : goal.compared-returns-in-None-clause-gains
-compared-returns-in-None-clause-gains g n c = c.two.ensures.gains
+pub either-returns : goal.either-returns
+either-returns g n c = record {
+  come =
+      either_come c.args.basis.now.rules.now c.args.basis.now.store.now g.K.Keeper.exact (place_at c.args.here.now)
+      c.args.test.now c.args.yes c.args.no c.in_ok-value.value c.in_ok-holds.holds (Gives (Truth c.in_ok-holds.holds)) _
+      _ _ _ _ c.in_ok-holds.ensures (ap (λ o. or_truth c.args.basis.now.rules.now.classes (place_at c.args.here.now) o
+      c.in_ok-holds.holds) (sym c.in-None.is) ∙ c.chosen.ensures c.args.basis.now.rules.now.classes (place_at
+      c.args.here.now)) c.value.ensures.gains c.in_ok-value.ensures.come (nothing_gained c.args.basis.now.rules.now
+      c.args.basis.now.store.now g.K.Keeper.exact (Gives (Truth c.in_ok-holds.holds)) _ c.value.new.self.few
+      c.value.ensures.gains.right) {E = ℕ} (Ok (value.Bool c.in_ok-holds.holds)) c.value.new.level (come_gives
+      c.args.basis.now.rules.now c.args.basis.now.store.now _ c.value.new.level (Gives (Truth c.in_ok-holds.holds))
+      (Truth c.in_ok-holds.holds) refl);
+  gains =
+      either_gains c.args.basis.now.rules.now c.args.basis.now.store.now g.K.Keeper.exact (place_at c.args.here.now)
+      c.args.test.now c.args.yes c.args.no c.in_ok-value.value c.in_ok-holds.holds (Gives (Truth c.in_ok-holds.holds)) _
+      _ _ _ _ c.in_ok-holds.ensures (ap (λ o. or_truth c.args.basis.now.rules.now.classes (place_at c.args.here.now) o
+      c.in_ok-holds.holds) (sym c.in-None.is) ∙ c.chosen.ensures c.args.basis.now.rules.now.classes (place_at
+      c.args.here.now)) c.value.ensures.gains c.in_ok-value.ensures.come (nothing_gained c.args.basis.now.rules.now
+      c.args.basis.now.store.now g.K.Keeper.exact (Gives (Truth c.in_ok-holds.holds)) _ c.value.new.self.few
+      c.value.ensures.gains.right);
+}
 
-pub compared-returns-in-None-clause-come : goal.compared-returns-in-None-clause-come
-compared-returns-in-None-clause-come g n c =
-    subst (λ (ls : List (Location ℕ)). IfOk c.two.result (λ v. HasCome c.args.basis.now.rules.now (contents c.args.basis.now.store.now)
-    (held (g.K.Keeper.contents c.two.new.keeper) (g.K.Keeper.memories c.two.new.keeper) c.two.new.self.found.entries
-    c.two.new.self.work) (record { reads = ls; uses = c.args.level.now.uses }) c.two.new.level (two_of
-    c.args.basis.now.rules.now.classes (place_at c.args.here.now) c.args.comparison c.args.left.now c.args.right.now) (value_view
-    v))) (subst (λ o. MayHaveLooked (contents c.args.basis.now.store.now) c.args.level.now.reads c.compare.new.reads (two_of
-    c.args.basis.now.rules.now.classes (place_at c.args.here.now) c.args.comparison c.args.left.now c.args.right.now) o)
-    c.in-None.is (c.in_ok-at_once.ensures c.args.basis.now.rules.now.classes)) c.two.ensures.come
+pub call-returns-in_err-value : goal.call-returns-in_err-value
+call-returns-in_err-value g n c = record {
+  come = search rules;
+  gains =
+      call_gains_first c.args.basis.now.rules.now c.args.basis.now.store.now g.K.Keeper.exact (place_at c.args.here.now)
+      c.args.receiver.now c.args.attribute c.args.passed.now _ _ c.value.ensures.gains;
+}
 
-pub either-returns-in_err-value-clause-gains : goal.either-returns-in_err-value-clause-gains
-either-returns-in_err-value-clause-gains g n c =
-    either_gains_test c.args.basis.now.rules.now c.args.basis.now.store.now g.K.Keeper.exact (place_at c.args.here.now) c.args.test.now
-    c.args.yes c.args.no _ _ c.value.ensures.gains
+pub call-returns-in_err-arguments : goal.call-returns-in_err-arguments
+call-returns-in_err-arguments g n c = record {
+  come = search rules;
+  gains =
+      call_gains_second c.args.basis.now.rules.now c.args.basis.now.store.now g.K.Keeper.exact (place_at
+      c.args.here.now) c.args.receiver.now c.args.attribute c.args.passed.now c.in_ok-value.value _ _ (held_by
+      g.K.Keeper.contents g.K.Keeper.memories c.passed.new.keeper c.passed.new.self) _ _ c.value.ensures.gains
+      c.in_ok-value.ensures.come c.passed.ensures.gains;
+}
 
-pub either-returns-in_err-holds-clause-gains : goal.either-returns-in_err-holds-clause-gains
-either-returns-in_err-holds-clause-gains g n c =
-    either_gains_test c.args.basis.now.rules.now c.args.basis.now.store.now g.K.Keeper.exact (place_at c.args.here.now) c.args.test.now
-    c.args.yes c.args.no _ _ c.value.ensures.gains
+pub call-returns-in_err-node : goal.call-returns-in_err-node
+call-returns-in_err-node g n c = record {
+  come = search rules;
+  gains =
+      call_gains_second c.args.basis.now.rules.now c.args.basis.now.store.now g.K.Keeper.exact (place_at
+      c.args.here.now) c.args.receiver.now c.args.attribute c.args.passed.now c.in_ok-value.value _ _ (held_by
+      g.K.Keeper.contents g.K.Keeper.memories c.passed.new.keeper c.passed.new.self) _ _ c.value.ensures.gains
+      c.in_ok-value.ensures.come c.passed.ensures.gains;
+}
 
-pub either-returns-in-Some-clause-gains : goal.either-returns-in-Some-clause-gains
-either-returns-in-Some-clause-gains g n c =
-    either_gains c.args.basis.now.rules.now c.args.basis.now.store.now g.K.Keeper.exact (place_at c.args.here.now) c.args.test.now
-    c.args.yes c.args.no c.in_ok-value.value c.in_ok-holds.holds (ev c.args.basis.now.rules.now.classes (body_view
-    c.in-Some.body.now) (place_at c.args.here.now)) _ _ _ _ _ c.in_ok-holds.ensures (ap (λ o. or_truth
-    c.args.basis.now.rules.now.classes (place_at c.args.here.now) o c.in_ok-holds.holds) (sym c.in-Some.is) ∙ c.chosen.ensures
-    c.args.basis.now.rules.now.classes (place_at c.args.here.now)) c.value.ensures.gains c.in_ok-value.ensures.come
-    c.value-in-Some.ensures.gains
+pub call-returns : goal.call-returns
+call-returns g n c = record {
+  come =
+      call_come c.args.basis.now.rules.now c.args.basis.now.store.now g.K.Keeper.exact (place_at c.args.here.now)
+      c.args.receiver.now c.args.attribute c.args.passed.now c.in_ok-value.value _ _ (held_by g.K.Keeper.contents
+      g.K.Keeper.memories c.passed.new.keeper c.passed.new.self) _ _ c.value.ensures.gains c.in_ok-value.ensures.come
+      c.passed.ensures.gains c.in_ok-node.node c.in_ok-arguments.arguments (held_by g.K.Keeper.contents
+      g.K.Keeper.memories c.told.new.keeper c.told.new.self) c.passed.new.level c.in_ok-node.ensures
+      c.in_ok-arguments.ensures.come (subst (λ i. Gains c.args.basis.now.rules.now c.args.basis.now.store.now
+      g.K.Keeper.exact i (g.K.Keeper.contents c.passed.new.keeper) (g.K.Keeper.contents c.told.new.keeper)
+      c.passed.new.self.found.entries c.told.new.self.found.entries c.passed.new.self.work c.told.new.self.work)
+      c.new.ensures c.told.ensures.grown.gains) (subst (λ i. StayJustified c.args.basis.now.rules.now
+      c.args.basis.now.store.now i (g.K.Keeper.memories c.passed.new.keeper) (g.K.Keeper.memories c.told.new.keeper))
+      c.new.ensures c.told.ensures.grown.traces) c.told.result c.told.new.level (subst (λ i. IfOk c.told.result (λ u.
+      HasTold c.args.basis.now.rules.now (contents c.args.basis.now.store.now) (values_in (held_by g.K.Keeper.contents
+      g.K.Keeper.memories c.told.new.keeper c.told.new.self)) c.passed.new.level c.told.new.level i (value_view u)))
+      c.new.ensures c.told.ensures.told);
+  gains =
+      call_gains c.args.basis.now.rules.now c.args.basis.now.store.now g.K.Keeper.exact (place_at c.args.here.now)
+      c.args.receiver.now c.args.attribute c.args.passed.now c.in_ok-value.value _ _ (held_by g.K.Keeper.contents
+      g.K.Keeper.memories c.passed.new.keeper c.passed.new.self) _ _ c.value.ensures.gains c.in_ok-value.ensures.come
+      c.passed.ensures.gains c.in_ok-node.node c.in_ok-arguments.arguments (held_by g.K.Keeper.contents
+      g.K.Keeper.memories c.told.new.keeper c.told.new.self) c.passed.new.level c.in_ok-node.ensures
+      c.in_ok-arguments.ensures.come (subst (λ i. Gains c.args.basis.now.rules.now c.args.basis.now.store.now
+      g.K.Keeper.exact i (g.K.Keeper.contents c.passed.new.keeper) (g.K.Keeper.contents c.told.new.keeper)
+      c.passed.new.self.found.entries c.told.new.self.found.entries c.passed.new.self.work c.told.new.self.work)
+      c.new.ensures c.told.ensures.grown.gains) (subst (λ i. StayJustified c.args.basis.now.rules.now
+      c.args.basis.now.store.now i (g.K.Keeper.memories c.passed.new.keeper) (g.K.Keeper.memories c.told.new.keeper))
+      c.new.ensures c.told.ensures.grown.traces);
+}
 
-pub either-returns-in-Some-clause-come : goal.either-returns-in-Some-clause-come
-either-returns-in-Some-clause-come g n c =
-    either_come c.args.basis.now.rules.now c.args.basis.now.store.now g.K.Keeper.exact (place_at c.args.here.now) c.args.test.now
-    c.args.yes c.args.no c.in_ok-value.value c.in_ok-holds.holds (ev c.args.basis.now.rules.now.classes (body_view
-    c.in-Some.body.now) (place_at c.args.here.now)) _ _ _ _ _ c.in_ok-holds.ensures (ap (λ o. or_truth
-    c.args.basis.now.rules.now.classes (place_at c.args.here.now) o c.in_ok-holds.holds) (sym c.in-Some.is) ∙ c.chosen.ensures
-    c.args.basis.now.rules.now.classes (place_at c.args.here.now)) c.value.ensures.gains c.in_ok-value.ensures.come
-    c.value-in-Some.ensures.gains c.value-in-Some.result c.value-in-Some.new.level c.value-in-Some.ensures.come
+pub over-returns-in_err-value : goal.over-returns-in_err-value
+over-returns-in_err-value g n c = record {
+  come = search rules;
+  gains =
+      fold_gains_first c.args.basis.now.rules.now c.args.basis.now.store.now g.K.Keeper.exact (place_at c.args.here.now)
+      c.args.fold c.args.of.now c.args.part c.args.body.now _ _ c.value.ensures.gains;
+}
 
-pub either-returns-clause-gains : goal.either-returns-clause-gains
-either-returns-clause-gains g n c =
-    either_gains c.args.basis.now.rules.now c.args.basis.now.store.now g.K.Keeper.exact (place_at c.args.here.now) c.args.test.now
-    c.args.yes c.args.no c.in_ok-value.value c.in_ok-holds.holds (Gives (Truth c.in_ok-holds.holds)) _ _ _ _ _
-    c.in_ok-holds.ensures (ap (λ o. or_truth c.args.basis.now.rules.now.classes (place_at c.args.here.now) o c.in_ok-holds.holds)
-    (sym c.in-None.is) ∙ c.chosen.ensures c.args.basis.now.rules.now.classes (place_at c.args.here.now)) c.value.ensures.gains
-    c.in_ok-value.ensures.come (nothing_gained c.args.basis.now.rules.now c.args.basis.now.store.now g.K.Keeper.exact (Gives (Truth
-    c.in_ok-holds.holds)) _ c.value.new.self.few c.value.ensures.gains.right)
+pub over-returns-in_err-node : goal.over-returns-in_err-node
+over-returns-in_err-node g n c = record {
+  come = search rules;
+  gains =
+      fold_gains_first c.args.basis.now.rules.now c.args.basis.now.store.now g.K.Keeper.exact (place_at c.args.here.now)
+      c.args.fold c.args.of.now c.args.part c.args.body.now _ _ c.value.ensures.gains;
+}
 
-pub either-returns-clause-come : goal.either-returns-clause-come
-either-returns-clause-come g n c =
-    either_come c.args.basis.now.rules.now c.args.basis.now.store.now g.K.Keeper.exact (place_at c.args.here.now) c.args.test.now
-    c.args.yes c.args.no c.in_ok-value.value c.in_ok-holds.holds (Gives (Truth c.in_ok-holds.holds)) _ _ _ _ _
-    c.in_ok-holds.ensures (ap (λ o. or_truth c.args.basis.now.rules.now.classes (place_at c.args.here.now) o c.in_ok-holds.holds)
-    (sym c.in-None.is) ∙ c.chosen.ensures c.args.basis.now.rules.now.classes (place_at c.args.here.now)) c.value.ensures.gains
-    c.in_ok-value.ensures.come (nothing_gained c.args.basis.now.rules.now c.args.basis.now.store.now g.K.Keeper.exact (Gives (Truth
-    c.in_ok-holds.holds)) _ c.value.new.self.few c.value.ensures.gains.right) {E = ℕ} (Ok (value.Bool
-    c.in_ok-holds.holds)) c.value.new.level (come_gives c.args.basis.now.rules.now c.args.basis.now.store.now _ c.value.new.level (Gives
-    (Truth c.in_ok-holds.holds)) (Truth c.in_ok-holds.holds) refl)
+pub over-returns-in_err-push : goal.over-returns-in_err-push
+over-returns-in_err-push g n c = record {
+  come = search rules;
+  gains =
+      fold_gains_first c.args.basis.now.rules.now c.args.basis.now.store.now g.K.Keeper.exact (place_at c.args.here.now)
+      c.args.fold c.args.of.now c.args.part c.args.body.now _ _ c.value.ensures.gains;
+}
 
-pub call-returns-in_err-value-clause-gains : goal.call-returns-in_err-value-clause-gains
-call-returns-in_err-value-clause-gains g n c =
-    call_gains_first c.args.basis.now.rules.now c.args.basis.now.store.now g.K.Keeper.exact (place_at c.args.here.now) c.args.receiver.now
-    c.args.attribute c.args.passed.now _ _ c.value.ensures.gains
+pub over-returns : goal.over-returns
+over-returns g n c = record {
+  come =
+      fold_come c.args.basis.now.rules.now c.args.basis.now.store.now g.K.Keeper.exact (place_at c.args.here.now)
+      c.args.fold c.args.of.now c.args.part c.args.body.now c.in_ok-value.value c.in_ok-node.node c.children.result.now
+      _ _ _ _ _ (record {
+        reads =
+            c.push.new.self;
+        uses = c.value.new.level.uses;
+      }) c.in_ok-node.ensures c.children.ensures.shown
+      c.in_ok-push.ensures.gained c.value.ensures.gains c.in_ok-value.ensures.come c.each.ensures.gains c.each.result
+      c.each.new.level refl c.each.ensures.come;
+  gains =
+      fold_gains c.args.basis.now.rules.now c.args.basis.now.store.now g.K.Keeper.exact (place_at c.args.here.now)
+      c.args.fold c.args.of.now c.args.part c.args.body.now c.in_ok-value.value c.in_ok-node.node c.children.result.now
+      _ _ _ _ _ (record {
+        reads =
+            c.push.new.self;
+        uses = c.value.new.level.uses;
+      }) c.in_ok-node.ensures c.children.ensures.shown
+      c.in_ok-push.ensures.gained c.value.ensures.gains c.in_ok-value.ensures.come c.each.ensures.gains;
+}
 
-pub call-returns-in_err-arguments-clause-gains : goal.call-returns-in_err-arguments-clause-gains
-call-returns-in_err-arguments-clause-gains g n c =
-    call_gains_second c.args.basis.now.rules.now c.args.basis.now.store.now g.K.Keeper.exact (place_at c.args.here.now) c.args.receiver.now
-    c.args.attribute c.args.passed.now c.in_ok-value.value _ _ (held (g.K.Keeper.contents c.passed.new.keeper)
-    (g.K.Keeper.memories c.passed.new.keeper) c.passed.new.self.found.entries c.passed.new.self.work) _ _
-    c.value.ensures.gains c.in_ok-value.ensures.come c.passed.ensures.gains
-
-pub call-returns-in_err-node-clause-gains : goal.call-returns-in_err-node-clause-gains
-call-returns-in_err-node-clause-gains g n c =
-    call_gains_second c.args.basis.now.rules.now c.args.basis.now.store.now g.K.Keeper.exact (place_at c.args.here.now) c.args.receiver.now
-    c.args.attribute c.args.passed.now c.in_ok-value.value _ _ (held (g.K.Keeper.contents c.passed.new.keeper)
-    (g.K.Keeper.memories c.passed.new.keeper) c.passed.new.self.found.entries c.passed.new.self.work) _ _
-    c.value.ensures.gains c.in_ok-value.ensures.come c.passed.ensures.gains
-
-pub call-returns-clause-gains : goal.call-returns-clause-gains
-call-returns-clause-gains g n c =
-    call_gains c.args.basis.now.rules.now c.args.basis.now.store.now g.K.Keeper.exact (place_at c.args.here.now) c.args.receiver.now
-    c.args.attribute c.args.passed.now c.in_ok-value.value _ _ (held (g.K.Keeper.contents c.passed.new.keeper)
-    (g.K.Keeper.memories c.passed.new.keeper) c.passed.new.self.found.entries c.passed.new.self.work) _ _
-    c.value.ensures.gains c.in_ok-value.ensures.come c.passed.ensures.gains c.in_ok-node.node
-    c.in_ok-arguments.arguments (held (g.K.Keeper.contents c.told.new.keeper) (g.K.Keeper.memories c.told.new.keeper)
-    c.told.new.self.found.entries c.told.new.self.work) c.passed.new.level c.in_ok-node.ensures
-    c.in_ok-arguments.ensures.come (subst (λ i. Gains c.args.basis.now.rules.now c.args.basis.now.store.now g.K.Keeper.exact i
-    (g.K.Keeper.contents c.passed.new.keeper) (g.K.Keeper.contents c.told.new.keeper) c.passed.new.self.found.entries
-    c.told.new.self.found.entries c.passed.new.self.work c.told.new.self.work) c.new.ensures c.told.ensures.grown.gains)
-    (subst (λ i. StayJustified c.args.basis.now.rules.now c.args.basis.now.store.now i (g.K.Keeper.memories c.passed.new.keeper)
-    (g.K.Keeper.memories c.told.new.keeper)) c.new.ensures c.told.ensures.grown.traces)
-
-pub call-returns-clause-come : goal.call-returns-clause-come
-call-returns-clause-come g n c =
-    call_come c.args.basis.now.rules.now c.args.basis.now.store.now g.K.Keeper.exact (place_at c.args.here.now) c.args.receiver.now
-    c.args.attribute c.args.passed.now c.in_ok-value.value _ _ (held (g.K.Keeper.contents c.passed.new.keeper)
-    (g.K.Keeper.memories c.passed.new.keeper) c.passed.new.self.found.entries c.passed.new.self.work) _ _
-    c.value.ensures.gains c.in_ok-value.ensures.come c.passed.ensures.gains c.in_ok-node.node
-    c.in_ok-arguments.arguments (held (g.K.Keeper.contents c.told.new.keeper) (g.K.Keeper.memories c.told.new.keeper)
-    c.told.new.self.found.entries c.told.new.self.work) c.passed.new.level c.in_ok-node.ensures
-    c.in_ok-arguments.ensures.come (subst (λ i. Gains c.args.basis.now.rules.now c.args.basis.now.store.now g.K.Keeper.exact i
-    (g.K.Keeper.contents c.passed.new.keeper) (g.K.Keeper.contents c.told.new.keeper) c.passed.new.self.found.entries
-    c.told.new.self.found.entries c.passed.new.self.work c.told.new.self.work) c.new.ensures c.told.ensures.grown.gains)
-    (subst (λ i. StayJustified c.args.basis.now.rules.now c.args.basis.now.store.now i (g.K.Keeper.memories c.passed.new.keeper)
-    (g.K.Keeper.memories c.told.new.keeper)) c.new.ensures c.told.ensures.grown.traces) c.told.result c.told.new.level (subst
-    (λ i. IfOk c.told.result (λ u. HasTold c.args.basis.now.rules.now (contents c.args.basis.now.store.now) (values_in (held
-    (g.K.Keeper.contents c.told.new.keeper) (g.K.Keeper.memories c.told.new.keeper) c.told.new.self.found.entries
-    c.told.new.self.work)) c.passed.new.level c.told.new.level i (value_view u))) c.new.ensures c.told.ensures.told)
-
-pub over-returns-in_err-value-clause-gains : goal.over-returns-in_err-value-clause-gains
-over-returns-in_err-value-clause-gains g n c =
-    fold_gains_first c.args.basis.now.rules.now c.args.basis.now.store.now g.K.Keeper.exact (place_at c.args.here.now) c.args.fold
-    c.args.of.now c.args.part c.args.body.now _ _ c.value.ensures.gains
-
-pub over-returns-in_err-node-clause-gains : goal.over-returns-in_err-node-clause-gains
-over-returns-in_err-node-clause-gains g n c =
-    fold_gains_first c.args.basis.now.rules.now c.args.basis.now.store.now g.K.Keeper.exact (place_at c.args.here.now) c.args.fold
-    c.args.of.now c.args.part c.args.body.now _ _ c.value.ensures.gains
-
-pub over-returns-in_err-push-clause-gains : goal.over-returns-in_err-push-clause-gains
-over-returns-in_err-push-clause-gains g n c =
-    fold_gains_first c.args.basis.now.rules.now c.args.basis.now.store.now g.K.Keeper.exact (place_at c.args.here.now) c.args.fold
-    c.args.of.now c.args.part c.args.body.now _ _ c.value.ensures.gains
-
-pub over-returns-clause-gains : goal.over-returns-clause-gains
-over-returns-clause-gains g n c =
-    fold_gains c.args.basis.now.rules.now c.args.basis.now.store.now g.K.Keeper.exact (place_at c.args.here.now) c.args.fold c.args.of.now
-    c.args.part c.args.body.now c.in_ok-value.value c.in_ok-node.node c.children.result.now _ _ _ _ _ (record {
-      reads =
-          c.push.new.self;
-      uses = c.value.new.level.uses;
-    }) c.in_ok-node.ensures c.children.ensures.shown
-    c.in_ok-push.ensures.gained c.value.ensures.gains c.in_ok-value.ensures.come c.each.ensures.gains
-
-pub over-returns-clause-come : goal.over-returns-clause-come
-over-returns-clause-come g n c =
-    fold_come c.args.basis.now.rules.now c.args.basis.now.store.now g.K.Keeper.exact (place_at c.args.here.now) c.args.fold c.args.of.now
-    c.args.part c.args.body.now c.in_ok-value.value c.in_ok-node.node c.children.result.now _ _ _ _ _ (record {
-      reads =
-          c.push.new.self;
-      uses = c.value.new.level.uses;
-    }) c.in_ok-node.ensures c.children.ensures.shown
-    c.in_ok-push.ensures.gained c.value.ensures.gains c.in_ok-value.ensures.come c.each.ensures.gains c.each.result
-    c.each.new.level refl c.each.ensures.come
-
-pub passed-returns-then-hands_on-clause-gains : goal.passed-returns-then-hands_on-clause-gains
-passed-returns-then-hands_on-clause-gains g n c =
-    nothing_gained c.args.basis.now.rules.now c.args.basis.now.store.now g.K.Keeper.exact (ev_all c.args.basis.now.rules.now.classes (bodies_view
-    c.args.passed.now) (place_at c.args.here.now)) _ c.args.self.now.few c.requires
-
-pub passed-returns-then-hands_on-clause-come : goal.passed-returns-then-hands_on-clause-come
-passed-returns-then-hands_on-clause-come g n c =
-    IfOk-weaker c.handed_on.result _ _ (λ a h. come_gives c.args.basis.now.rules.now c.args.basis.now.store.now (held (g.K.Keeper.contents
-    c.args.keeper.now) (g.K.Keeper.memories c.args.keeper.now) c.args.self.now.found.entries c.args.self.now.work)
-    c.args.level.now (ev_all c.args.basis.now.rules.now.classes (bodies_view c.args.passed.now) (place_at c.args.here.now)) (map
-    value_view a) (c.hands_on.ensures c.if-hands_on.true c.args.basis.now.rules.now.classes ∙ ap (λ (vs : List ValueCode). Gives
-    (map value_view vs)) (sym h))) c.handed_on.ensures
+pub passed-returns-then-hands_on : goal.passed-returns-then-hands_on
+passed-returns-then-hands_on g n c = record {
+  come =
+      IfOk-weaker c.handed_on.result _ _ (λ a h. come_gives c.args.basis.now.rules.now c.args.basis.now.store.now
+      (held_by g.K.Keeper.contents g.K.Keeper.memories c.args.keeper.now c.args.self.now) c.args.level.now (ev_all
+      c.args.basis.now.rules.now.classes (bodies_view c.args.passed.now) (place_at c.args.here.now)) (map value_view a)
+      (c.hands_on.ensures c.if-hands_on.true c.args.basis.now.rules.now.classes ∙ ap (λ (vs : List ValueCode). Gives
+      (map value_view vs)) (sym h))) c.handed_on.ensures;
+  gains =
+      nothing_gained c.args.basis.now.rules.now c.args.basis.now.store.now g.K.Keeper.exact (ev_all
+      c.args.basis.now.rules.now.classes (bodies_view c.args.passed.now) (place_at c.args.here.now)) _
+      c.args.self.now.few c.requires;
+}
 
 pub passed-loop-argument-init : goal.passed-loop-argument-init
 passed-loop-argument-init g n c =
-    starts c.args.basis.now.rules.now c.args.basis.now.store.now g.K.Keeper.exact _ c.args.level.now (ev_all c.args.basis.now.rules.now.classes
-    (bodies_view c.args.passed.now) (place_at c.args.here.now)) (λ vs. map value_view c.new-values.result.items ++ vs)
-    (λ vs. ap (λ (us : List ValueCode). map value_view us ++ vs) c.new-values.ensures.items) c.requires
+    starts c.args.basis.now.rules.now c.args.basis.now.store.now g.K.Keeper.exact _ c.args.level.now (ev_all
+    c.args.basis.now.rules.now.classes (bodies_view c.args.passed.now) (place_at c.args.here.now)) (λ vs. map value_view
+    c.new-values.result.items ++ vs) (λ vs. ap (λ (us : List ValueCode). map value_view us ++ vs)
+    c.new-values.ensures.items) c.requires
 
-pub passed-returns-in_err-value-clause-gains : goal.passed-returns-in_err-value-clause-gains
-passed-returns-in_err-value-clause-gains g n c =
-    passed_gains c.args.basis.now.rules.now c.args.basis.now.store.now g.K.Keeper.exact (place_at c.args.here.now) (ev_all
-    c.args.basis.now.rules.now.classes (bodies_view c.args.passed.now) (place_at c.args.here.now)) _ _ _ _ _ c.value.new.level
-    c.in-Some.argument.now c.in-Some.others.now c.loop-argument.rest.now c.in-Some.ensures.cases.0
-    c.loop-argument.values.items c.loop-argument.invariant c.value.ensures.gains
+pub passed-returns-in_err-value : goal.passed-returns-in_err-value
+passed-returns-in_err-value g n c = record {
+  come = search rules;
+  gains =
+      passed_gains c.args.basis.now.rules.now c.args.basis.now.store.now g.K.Keeper.exact (place_at c.args.here.now)
+      (ev_all c.args.basis.now.rules.now.classes (bodies_view c.args.passed.now) (place_at c.args.here.now)) _ _ _ _ _
+      c.value.new.level c.in-Some.argument.now c.in-Some.others.now c.loop-argument.rest.now c.in-Some.ensures.cases.0
+      c.loop-argument.values.items c.loop-argument.invariant c.value.ensures.gains;
+}
 
-pub passed-returns-in_err-push-clause-gains : goal.passed-returns-in_err-push-clause-gains
-passed-returns-in_err-push-clause-gains g n c =
-    passed_gains c.args.basis.now.rules.now c.args.basis.now.store.now g.K.Keeper.exact (place_at c.args.here.now) (ev_all
-    c.args.basis.now.rules.now.classes (bodies_view c.args.passed.now) (place_at c.args.here.now)) _ _ _ _ _ c.value.new.level
-    c.in-Some.argument.now c.in-Some.others.now c.loop-argument.rest.now c.in-Some.ensures.cases.0
-    c.loop-argument.values.items c.loop-argument.invariant c.value.ensures.gains
+pub passed-returns-in_err-push : goal.passed-returns-in_err-push
+passed-returns-in_err-push g n c = record {
+  come = search rules;
+  gains =
+      passed_gains c.args.basis.now.rules.now c.args.basis.now.store.now g.K.Keeper.exact (place_at c.args.here.now)
+      (ev_all c.args.basis.now.rules.now.classes (bodies_view c.args.passed.now) (place_at c.args.here.now)) _ _ _ _ _
+      c.value.new.level c.in-Some.argument.now c.in-Some.others.now c.loop-argument.rest.now c.in-Some.ensures.cases.0
+      c.loop-argument.values.items c.loop-argument.invariant c.value.ensures.gains;
+}
 
 pub passed-loop-argument-preserved : goal.passed-loop-argument-preserved
 passed-loop-argument-preserved g n c =
     passed_on c.args.basis.now.rules.now c.args.basis.now.store.now g.K.Keeper.exact (place_at c.args.here.now) (ev_all
-    c.args.basis.now.rules.now.classes (bodies_view c.args.passed.now) (place_at c.args.here.now)) _ _ _ _ _ c.value.new.level
-    c.in-Some.argument.now c.in-Some.others.now c.loop-argument.rest.now c.in-Some.ensures.cases.0
+    c.args.basis.now.rules.now.classes (bodies_view c.args.passed.now) (place_at c.args.here.now)) _ _ _ _ _
+    c.value.new.level c.in-Some.argument.now c.in-Some.others.now c.loop-argument.rest.now c.in-Some.ensures.cases.0
     c.loop-argument.values.items c.loop-argument.invariant c.value.ensures.gains c.in_ok-value.value
     c.push.new.self.items c.in_ok-push.ensures.items c.in_ok-value.ensures.come
 
-pub passed-returns-in_err-arguments-clause-gains : goal.passed-returns-in_err-arguments-clause-gains
-passed-returns-in_err-arguments-clause-gains g n c =
-    gains_so_far c.args.basis.now.rules.now c.args.basis.now.store.now g.K.Keeper.exact (ev_all c.args.basis.now.rules.now.classes (bodies_view
-    c.args.passed.now) (place_at c.args.here.now)) _ _ _ _ _ _ c.loop-argument.self.few c.loop-argument.invariant
+pub passed-returns-in_err-arguments : goal.passed-returns-in_err-arguments
+passed-returns-in_err-arguments g n c = record {
+  come = search rules;
+  gains =
+      gains_so_far c.args.basis.now.rules.now c.args.basis.now.store.now g.K.Keeper.exact (ev_all
+      c.args.basis.now.rules.now.classes (bodies_view c.args.passed.now) (place_at c.args.here.now)) _ _ _ _ _ _
+      c.loop-argument.self.few c.loop-argument.invariant;
+}
 
-pub passed-returns-clause-gains : goal.passed-returns-clause-gains
-passed-returns-clause-gains g n c =
-    gains_so_far c.args.basis.now.rules.now c.args.basis.now.store.now g.K.Keeper.exact (ev_all c.args.basis.now.rules.now.classes (bodies_view
-    c.args.passed.now) (place_at c.args.here.now)) _ _ _ _ _ _ c.loop-argument.self.few c.loop-argument.invariant
+pub passed-returns : goal.passed-returns
+passed-returns g n c = record {
+  come =
+      subst (λ (vs : List ValueCode). HasCome c.args.basis.now.rules.now (contents c.args.basis.now.store.now) (held_by
+      g.K.Keeper.contents g.K.Keeper.memories c.loop-argument.keeper c.loop-argument.self) c.args.level.now
+      c.loop-argument.level (ev_all c.args.basis.now.rules.now.classes (bodies_view c.args.passed.now) (place_at
+      c.args.here.now)) (map value_view vs)) (sym c.in_ok-arguments.ensures) (passed_all c.args.basis.now.rules.now
+      c.args.basis.now.store.now g.K.Keeper.exact (place_at c.args.here.now) (ev_all c.args.basis.now.rules.now.classes
+      (bodies_view c.args.passed.now) (place_at c.args.here.now)) _ _ c.args.level.now c.loop-argument.level
+      c.loop-argument.rest.now (nil_from_length _ c.in_default.ensures.cases) c.loop-argument.values.items
+      c.loop-argument.invariant);
+  gains =
+      gains_so_far c.args.basis.now.rules.now c.args.basis.now.store.now g.K.Keeper.exact (ev_all
+      c.args.basis.now.rules.now.classes (bodies_view c.args.passed.now) (place_at c.args.here.now)) _ _ _ _ _ _
+      c.loop-argument.self.few c.loop-argument.invariant;
+}
 
-pub passed-returns-clause-come : goal.passed-returns-clause-come
-passed-returns-clause-come g n c =
-    subst (λ (vs : List ValueCode). HasCome c.args.basis.now.rules.now (contents c.args.basis.now.store.now) (held (g.K.Keeper.contents
-    c.loop-argument.keeper) (g.K.Keeper.memories c.loop-argument.keeper) c.loop-argument.self.found.entries
-    c.loop-argument.self.work) c.args.level.now c.loop-argument.level (ev_all c.args.basis.now.rules.now.classes (bodies_view
-    c.args.passed.now) (place_at c.args.here.now)) (map value_view vs)) (sym c.in_ok-arguments.ensures) (passed_all
-    c.args.basis.now.rules.now c.args.basis.now.store.now g.K.Keeper.exact (place_at c.args.here.now) (ev_all c.args.basis.now.rules.now.classes
-    (bodies_view c.args.passed.now) (place_at c.args.here.now)) _ _ c.args.level.now c.loop-argument.level
-    c.loop-argument.rest.now (nil_from_length _ c.in_default.ensures.cases) c.loop-argument.values.items
-    c.loop-argument.invariant)
-
-pub each-returns-in_err-inside-clause-gains : goal.each-returns-in_err-inside-clause-gains
-each-returns-in_err-inside-clause-gains g n c =
-    nothing_gained c.args.basis.now.rules.now c.args.basis.now.store.now g.K.Keeper.exact (over c.args.basis.now.rules.now.classes c.args.fold
-    (body_view c.args.body.now) (place_at c.args.here.now) c.args.nodes.now) _ c.args.self.now.few c.requires
+pub each-returns-in_err-inside : goal.each-returns-in_err-inside
+each-returns-in_err-inside g n c = record {
+  come = search rules;
+  gains =
+      nothing_gained c.args.basis.now.rules.now c.args.basis.now.store.now g.K.Keeper.exact (over
+      c.args.basis.now.rules.now.classes c.args.fold (body_view c.args.body.now) (place_at c.args.here.now)
+      c.args.nodes.now) _ c.args.self.now.few c.requires;
+}
 
 pub each-loop-node-init : goal.each-loop-node-init
 each-loop-node-init g n c =
     record {
       place = c.in_ok-inside.ensures;
       goes = starts c.args.basis.now.rules.now c.args.basis.now.store.now g.K.Keeper.exact _
-          c.args.level.now (over c.args.basis.now.rules.now.classes c.args.fold (body_view c.args.body.now) (place_at c.args.here.now)
-          c.args.nodes.now) (λ v. v) (λ v. refl) c.requires;
+          c.args.level.now (over c.args.basis.now.rules.now.classes c.args.fold (body_view c.args.body.now) (place_at
+          c.args.here.now) c.args.nodes.now) (λ v. v) (λ v. refl) c.requires;
     }
 
-pub each-returns-in_err-push-clause-gains : goal.each-returns-in_err-push-clause-gains
-each-returns-in_err-push-clause-gains g n c =
-    gains_so_far c.args.basis.now.rules.now c.args.basis.now.store.now g.K.Keeper.exact (over c.args.basis.now.rules.now.classes c.args.fold
-    (body_view c.args.body.now) (place_at c.args.here.now) c.args.nodes.now) _ _ _ _ _ _ c.loop-node.self.few
-    c.loop-node.invariant.goes
+pub each-returns-in_err-push : goal.each-returns-in_err-push
+each-returns-in_err-push g n c = record {
+  come = search rules;
+  gains =
+      gains_so_far c.args.basis.now.rules.now c.args.basis.now.store.now g.K.Keeper.exact (over
+      c.args.basis.now.rules.now.classes c.args.fold (body_view c.args.body.now) (place_at c.args.here.now)
+      c.args.nodes.now) _ _ _ _ _ _ c.loop-node.self.few c.loop-node.invariant.goes;
+}
 
-pub each-returns-in_err-value-clause-gains : goal.each-returns-in_err-value-clause-gains
-each-returns-in_err-value-clause-gains g n c =
-    each_gains c.args.basis.now.rules.now c.args.basis.now.store.now g.K.Keeper.exact (place_at c.args.here.now) (over
-    c.args.basis.now.rules.now.classes c.args.fold (body_view c.args.body.now) (place_at c.args.here.now) c.args.nodes.now) _ _ _
-    _ _ c.value.new.level c.loop-node.going c.args.body.now c.in-Some.node.now c.in-Some.others.now
-    c.loop-node.rest.now c.in-Some.ensures.cases.0 (place_at (record c.loop-node.inside { bound = c.push.new.self }))
-    (bound_at (place_at c.loop-node.inside) (place_at c.args.here.now) c.in-Some.node.now c.push.new.self
-    c.loop-node.invariant.place c.in_ok-push.ensures) c.loop-node.invariant.goes c.value.ensures.gains
+pub each-returns-in_err-value : goal.each-returns-in_err-value
+each-returns-in_err-value g n c = record {
+  come = search rules;
+  gains =
+      each_gains c.args.basis.now.rules.now c.args.basis.now.store.now g.K.Keeper.exact (place_at c.args.here.now) (over
+      c.args.basis.now.rules.now.classes c.args.fold (body_view c.args.body.now) (place_at c.args.here.now)
+      c.args.nodes.now) _ _ _ _ _ c.value.new.level c.loop-node.going c.args.body.now c.in-Some.node.now
+      c.in-Some.others.now c.loop-node.rest.now c.in-Some.ensures.cases.0 (place_at
+      (record c.loop-node.inside { bound = c.push.new.self })) (bound_at (place_at c.loop-node.inside) (place_at
+      c.args.here.now) c.in-Some.node.now c.push.new.self c.loop-node.invariant.place c.in_ok-push.ensures)
+      c.loop-node.invariant.goes c.value.ensures.gains;
+}
 
-pub each-returns-in_err-next-clause-gains : goal.each-returns-in_err-next-clause-gains
-each-returns-in_err-next-clause-gains g n c =
-    each_gains c.args.basis.now.rules.now c.args.basis.now.store.now g.K.Keeper.exact (place_at c.args.here.now) (over
-    c.args.basis.now.rules.now.classes c.args.fold (body_view c.args.body.now) (place_at c.args.here.now) c.args.nodes.now) _ _ _
-    _ _ c.value.new.level c.loop-node.going c.args.body.now c.in-Some.node.now c.in-Some.others.now
-    c.loop-node.rest.now c.in-Some.ensures.cases.0 (place_at (record c.loop-node.inside { bound = c.push.new.self }))
-    (bound_at (place_at c.loop-node.inside) (place_at c.args.here.now) c.in-Some.node.now c.push.new.self
-    c.loop-node.invariant.place c.in_ok-push.ensures) c.loop-node.invariant.goes c.value.ensures.gains
+pub each-returns-in_err-next : goal.each-returns-in_err-next
+each-returns-in_err-next g n c = record {
+  come = search rules;
+  gains =
+      each_gains c.args.basis.now.rules.now c.args.basis.now.store.now g.K.Keeper.exact (place_at c.args.here.now) (over
+      c.args.basis.now.rules.now.classes c.args.fold (body_view c.args.body.now) (place_at c.args.here.now)
+      c.args.nodes.now) _ _ _ _ _ c.value.new.level c.loop-node.going c.args.body.now c.in-Some.node.now
+      c.in-Some.others.now c.loop-node.rest.now c.in-Some.ensures.cases.0 (place_at
+      (record c.loop-node.inside { bound = c.push.new.self })) (bound_at (place_at c.loop-node.inside) (place_at
+      c.args.here.now) c.in-Some.node.now c.push.new.self c.loop-node.invariant.place c.in_ok-push.ensures)
+      c.loop-node.invariant.goes c.value.ensures.gains;
+}
 
-pub each-returns-in-End-clause-gains : goal.each-returns-in-End-clause-gains
-each-returns-in-End-clause-gains g n c =
-    each_gains c.args.basis.now.rules.now c.args.basis.now.store.now g.K.Keeper.exact (place_at c.args.here.now) (over
-    c.args.basis.now.rules.now.classes c.args.fold (body_view c.args.body.now) (place_at c.args.here.now) c.args.nodes.now) _ _ _
-    _ _ c.value.new.level c.loop-node.going c.args.body.now c.in-Some.node.now c.in-Some.others.now
-    c.loop-node.rest.now c.in-Some.ensures.cases.0 (place_at (record c.loop-node.inside { bound = c.push.new.self }))
-    (bound_at (place_at c.loop-node.inside) (place_at c.args.here.now) c.in-Some.node.now c.push.new.self
-    c.loop-node.invariant.place c.in_ok-push.ensures) c.loop-node.invariant.goes c.value.ensures.gains
-
-pub each-returns-in-End-clause-come : goal.each-returns-in-End-clause-come
-each-returns-in-End-clause-come g n c =
-    each_ends c.args.basis.now.rules.now c.args.basis.now.store.now g.K.Keeper.exact (place_at c.args.here.now) (over
-    c.args.basis.now.rules.now.classes c.args.fold (body_view c.args.body.now) (place_at c.args.here.now) c.args.nodes.now) _ _ _
-    _ _ c.value.new.level c.loop-node.going c.args.body.now c.in-Some.node.now c.in-Some.others.now
-    c.loop-node.rest.now c.in-Some.ensures.cases.0 (place_at (record c.loop-node.inside { bound = c.push.new.self }))
-    (bound_at (place_at c.loop-node.inside) (place_at c.args.here.now) c.in-Some.node.now c.push.new.self
-    c.loop-node.invariant.place c.in_ok-push.ensures) c.loop-node.invariant.goes c.value.ensures.gains (value_view
-    c.in_ok-value.value) c.in_ok-value.ensures.come (value_view c.in-End.value) (c.in_ok-next.ensures
-    c.args.basis.now.rules.now.classes (body_view c.args.body.now) (place_at c.args.here.now) c.in-Some.others.now ∙ ap (next_of
-    c.args.basis.now.rules.now.classes (body_view c.args.body.now) (place_at c.args.here.now) c.in-Some.others.now) c.in-End.is)
+pub each-returns-in-End : goal.each-returns-in-End
+each-returns-in-End g n c = record {
+  come =
+      each_ends c.args.basis.now.rules.now c.args.basis.now.store.now g.K.Keeper.exact (place_at c.args.here.now) (over
+      c.args.basis.now.rules.now.classes c.args.fold (body_view c.args.body.now) (place_at c.args.here.now)
+      c.args.nodes.now) _ _ _ _ _ c.value.new.level c.loop-node.going c.args.body.now c.in-Some.node.now
+      c.in-Some.others.now c.loop-node.rest.now c.in-Some.ensures.cases.0 (place_at
+      (record c.loop-node.inside { bound = c.push.new.self })) (bound_at (place_at c.loop-node.inside) (place_at
+      c.args.here.now) c.in-Some.node.now c.push.new.self c.loop-node.invariant.place c.in_ok-push.ensures)
+      c.loop-node.invariant.goes c.value.ensures.gains (value_view c.in_ok-value.value) c.in_ok-value.ensures.come
+      (value_view c.in-End.value) (c.in_ok-next.ensures c.args.basis.now.rules.now.classes (body_view c.args.body.now)
+      (place_at c.args.here.now) c.in-Some.others.now ∙ ap (next_of c.args.basis.now.rules.now.classes (body_view
+      c.args.body.now) (place_at c.args.here.now) c.in-Some.others.now) c.in-End.is);
+  gains =
+      each_gains c.args.basis.now.rules.now c.args.basis.now.store.now g.K.Keeper.exact (place_at c.args.here.now) (over
+      c.args.basis.now.rules.now.classes c.args.fold (body_view c.args.body.now) (place_at c.args.here.now)
+      c.args.nodes.now) _ _ _ _ _ c.value.new.level c.loop-node.going c.args.body.now c.in-Some.node.now
+      c.in-Some.others.now c.loop-node.rest.now c.in-Some.ensures.cases.0 (place_at
+      (record c.loop-node.inside { bound = c.push.new.self })) (bound_at (place_at c.loop-node.inside) (place_at
+      c.args.here.now) c.in-Some.node.now c.push.new.self c.loop-node.invariant.place c.in_ok-push.ensures)
+      c.loop-node.invariant.goes c.value.ensures.gains;
+}
 
 pub each-loop-node-preserved : goal.each-loop-node-preserved
 each-loop-node-preserved g n c =
@@ -618,14 +678,15 @@ each-loop-node-preserved g n c =
       place = unbound_at (place_at c.loop-node.inside) (place_at c.args.here.now) c.in-Some.node.now
           c.push.new.self c.pop.new.self c.loop-node.invariant.place c.in_ok-push.ensures c.pop.ensures.left;
       goes = each_on
-          c.args.basis.now.rules.now c.args.basis.now.store.now g.K.Keeper.exact (place_at c.args.here.now) (over c.args.basis.now.rules.now.classes
-          c.args.fold (body_view c.args.body.now) (place_at c.args.here.now) c.args.nodes.now) _ _ _ _ _ c.value.new.level
-          c.loop-node.going c.args.body.now c.in-Some.node.now c.in-Some.others.now c.loop-node.rest.now
-          c.in-Some.ensures.cases.0 (place_at (record c.loop-node.inside { bound = c.push.new.self })) (bound_at (place_at
-          c.loop-node.inside) (place_at c.args.here.now) c.in-Some.node.now c.push.new.self c.loop-node.invariant.place
-          c.in_ok-push.ensures) c.loop-node.invariant.goes c.value.ensures.gains (value_view c.in_ok-value.value)
-          c.in_ok-value.ensures.come c.in-On.further (c.in_ok-next.ensures c.args.basis.now.rules.now.classes (body_view
-          c.args.body.now) (place_at c.args.here.now) c.in-Some.others.now ∙ ap (next_of c.args.basis.now.rules.now.classes (body_view
+          c.args.basis.now.rules.now c.args.basis.now.store.now g.K.Keeper.exact (place_at c.args.here.now) (over
+          c.args.basis.now.rules.now.classes c.args.fold (body_view c.args.body.now) (place_at c.args.here.now)
+          c.args.nodes.now) _ _ _ _ _ c.value.new.level c.loop-node.going c.args.body.now c.in-Some.node.now
+          c.in-Some.others.now c.loop-node.rest.now c.in-Some.ensures.cases.0 (place_at
+          (record c.loop-node.inside { bound = c.push.new.self })) (bound_at (place_at c.loop-node.inside) (place_at
+          c.args.here.now) c.in-Some.node.now c.push.new.self c.loop-node.invariant.place c.in_ok-push.ensures)
+          c.loop-node.invariant.goes c.value.ensures.gains (value_view c.in_ok-value.value) c.in_ok-value.ensures.come
+          c.in-On.further (c.in_ok-next.ensures c.args.basis.now.rules.now.classes (body_view c.args.body.now) (place_at
+          c.args.here.now) c.in-Some.others.now ∙ ap (next_of c.args.basis.now.rules.now.classes (body_view
           c.args.body.now) (place_at c.args.here.now) c.in-Some.others.now) c.in-On.is);
     }
 
@@ -635,113 +696,98 @@ each-loop-node-preserved-in-On g n c =
       place = unbound_at (place_at c.loop-node.inside) (place_at c.args.here.now) c.in-Some.node.now
           c.push.new.self c.pop.new.self c.loop-node.invariant.place c.in_ok-push.ensures c.pop.ensures.left;
       goes = each_on
-          c.args.basis.now.rules.now c.args.basis.now.store.now g.K.Keeper.exact (place_at c.args.here.now) (over c.args.basis.now.rules.now.classes
-          c.args.fold (body_view c.args.body.now) (place_at c.args.here.now) c.args.nodes.now) _ _ _ _ _ c.value.new.level
-          c.loop-node.going c.args.body.now c.in-Some.node.now c.in-Some.others.now c.loop-node.rest.now
-          c.in-Some.ensures.cases.0 (place_at (record c.loop-node.inside { bound = c.push.new.self })) (bound_at (place_at
-          c.loop-node.inside) (place_at c.args.here.now) c.in-Some.node.now c.push.new.self c.loop-node.invariant.place
-          c.in_ok-push.ensures) c.loop-node.invariant.goes c.value.ensures.gains (value_view c.in_ok-value.value)
-          c.in_ok-value.ensures.come c.in-On.further (c.in_ok-next.ensures c.args.basis.now.rules.now.classes (body_view
-          c.args.body.now) (place_at c.args.here.now) c.in-Some.others.now ∙ ap (next_of c.args.basis.now.rules.now.classes (body_view
+          c.args.basis.now.rules.now c.args.basis.now.store.now g.K.Keeper.exact (place_at c.args.here.now) (over
+          c.args.basis.now.rules.now.classes c.args.fold (body_view c.args.body.now) (place_at c.args.here.now)
+          c.args.nodes.now) _ _ _ _ _ c.value.new.level c.loop-node.going c.args.body.now c.in-Some.node.now
+          c.in-Some.others.now c.loop-node.rest.now c.in-Some.ensures.cases.0 (place_at
+          (record c.loop-node.inside { bound = c.push.new.self })) (bound_at (place_at c.loop-node.inside) (place_at
+          c.args.here.now) c.in-Some.node.now c.push.new.self c.loop-node.invariant.place c.in_ok-push.ensures)
+          c.loop-node.invariant.goes c.value.ensures.gains (value_view c.in_ok-value.value) c.in_ok-value.ensures.come
+          c.in-On.further (c.in_ok-next.ensures c.args.basis.now.rules.now.classes (body_view c.args.body.now) (place_at
+          c.args.here.now) c.in-Some.others.now ∙ ap (next_of c.args.basis.now.rules.now.classes (body_view
           c.args.body.now) (place_at c.args.here.now) c.in-Some.others.now) c.in-On.is);
     }
 
-pub each-returns-clause-gains : goal.each-returns-clause-gains
-each-returns-clause-gains g n c =
-    gains_so_far c.args.basis.now.rules.now c.args.basis.now.store.now g.K.Keeper.exact (over c.args.basis.now.rules.now.classes c.args.fold
-    (body_view c.args.body.now) (place_at c.args.here.now) c.args.nodes.now) _ _ _ _ _ _ c.loop-node.self.few
-    c.loop-node.invariant.goes
+pub each-returns : goal.each-returns
+each-returns g n c = record {
+  come =
+      each_all c.args.basis.now.rules.now c.args.basis.now.store.now g.K.Keeper.exact (place_at c.args.here.now) (over
+      c.args.basis.now.rules.now.classes c.args.fold (body_view c.args.body.now) (place_at c.args.here.now)
+      c.args.nodes.now) _ _ c.args.level.now c.loop-node.level c.loop-node.going c.args.body.now c.loop-node.rest.now
+      (nil_from_length _ c.in_default.ensures.cases) (value_view c.come_to.result) (c.come_to.ensures
+      c.args.basis.now.rules.now.classes (body_view c.args.body.now) (place_at c.args.here.now))
+      c.loop-node.invariant.goes;
+  gains =
+      gains_so_far c.args.basis.now.rules.now c.args.basis.now.store.now g.K.Keeper.exact (over
+      c.args.basis.now.rules.now.classes c.args.fold (body_view c.args.body.now) (place_at c.args.here.now)
+      c.args.nodes.now) _ _ _ _ _ _ c.loop-node.self.few c.loop-node.invariant.goes;
+}
 
-pub each-returns-clause-come : goal.each-returns-clause-come
-each-returns-clause-come g n c =
-    each_all c.args.basis.now.rules.now c.args.basis.now.store.now g.K.Keeper.exact (place_at c.args.here.now) (over
-    c.args.basis.now.rules.now.classes c.args.fold (body_view c.args.body.now) (place_at c.args.here.now) c.args.nodes.now) _ _
-    c.args.level.now c.loop-node.level c.loop-node.going c.args.body.now c.loop-node.rest.now (nil_from_length _
-    c.in_default.ensures.cases) (value_view c.come_to.result) (c.come_to.ensures c.args.basis.now.rules.now.classes (body_view
-    c.args.body.now) (place_at c.args.here.now)) c.loop-node.invariant.goes
+pub value-returns-then-above-eq0 : goal.value-returns-then-above-eq0
+value-returns-then-above-eq0 g n c = record {
+  come = search rules;
+  gains =
+      nothing_gained c.args.basis.now.rules.now c.args.basis.now.store.now g.K.Keeper.exact (ev
+      c.args.basis.now.rules.now.classes (body_view c.args.body.now) (place_at c.args.here.now)) _ c.args.self.now.few
+      c.requires;
+}
 
-pub value-returns-then-above-eq0-clause-gains : goal.value-returns-then-above-eq0-clause-gains
-value-returns-then-above-eq0-clause-gains g n c =
-    nothing_gained c.args.basis.now.rules.now c.args.basis.now.store.now g.K.Keeper.exact (ev c.args.basis.now.rules.now.classes (body_view
-    c.args.body.now) (place_at c.args.here.now)) _ c.args.self.now.few c.requires
-
-pub value-returns-in-One-clause-gains : goal.value-returns-in-One-clause-gains
-value-returns-in-One-clause-gains g n c =
+pub value-returns-in-One : goal.value-returns-in-One
+value-returns-in-One g n c =
     rw (c.form_of.ensures.means c.args.basis.now.rules.now.classes (place_at c.args.here.now), c.in-One.is)
-    c.one.ensures.gains
+    c.one.ensures
 
-pub value-returns-in-One-clause-come : goal.value-returns-in-One-clause-come
-value-returns-in-One-clause-come g n c =
-    rw (c.form_of.ensures.means c.args.basis.now.rules.now.classes (place_at c.args.here.now), c.in-One.is)
-    c.one.ensures.come
-
-pub value-returns-in-Two-clause-gains : goal.value-returns-in-Two-clause-gains
-value-returns-in-Two-clause-gains g n c =
+pub value-returns-in-Two : goal.value-returns-in-Two
+value-returns-in-Two g n c =
     rw (c.form_of.ensures.means c.args.basis.now.rules.now.classes (place_at c.args.here.now), c.in-Two.is)
-    c.two.ensures.gains
+    c.two.ensures
 
-pub value-returns-in-Two-clause-come : goal.value-returns-in-Two-clause-come
-value-returns-in-Two-clause-come g n c =
-    rw (c.form_of.ensures.means c.args.basis.now.rules.now.classes (place_at c.args.here.now), c.in-Two.is)
-    c.two.ensures.come
-
-pub value-returns-in-Compared-clause-gains : goal.value-returns-in-Compared-clause-gains
-value-returns-in-Compared-clause-gains g n c =
+pub value-returns-in-Compared : goal.value-returns-in-Compared
+value-returns-in-Compared g n c =
     rw (c.form_of.ensures.means c.args.basis.now.rules.now.classes (place_at c.args.here.now), c.in-Compared.is)
-    c.compared.ensures.gains
+    c.compared.ensures
 
-pub value-returns-in-Compared-clause-come : goal.value-returns-in-Compared-clause-come
-value-returns-in-Compared-clause-come g n c =
-    rw (c.form_of.ensures.means c.args.basis.now.rules.now.classes (place_at c.args.here.now), c.in-Compared.is)
-    c.compared.ensures.come
-
-pub value-returns-in-Either-clause-gains : goal.value-returns-in-Either-clause-gains
-value-returns-in-Either-clause-gains g n c =
+pub value-returns-in-Either : goal.value-returns-in-Either
+value-returns-in-Either g n c =
     rw (c.form_of.ensures.means c.args.basis.now.rules.now.classes (place_at c.args.here.now), c.in-Either.is)
-    c.either.ensures.gains
+    c.either.ensures
 
-pub value-returns-in-Either-clause-come : goal.value-returns-in-Either-clause-come
-value-returns-in-Either-clause-come g n c =
-    rw (c.form_of.ensures.means c.args.basis.now.rules.now.classes (place_at c.args.here.now), c.in-Either.is)
-    c.either.ensures.come
-
-pub value-returns-in-Call-clause-gains : goal.value-returns-in-Call-clause-gains
-value-returns-in-Call-clause-gains g n c =
+pub value-returns-in-Call : goal.value-returns-in-Call
+value-returns-in-Call g n c =
     rw (c.form_of.ensures.means c.args.basis.now.rules.now.classes (place_at c.args.here.now), c.in-Call.is)
-    c.call.ensures.gains
+    c.call.ensures
 
-pub value-returns-in-Call-clause-come : goal.value-returns-in-Call-clause-come
-value-returns-in-Call-clause-come g n c =
-    rw (c.form_of.ensures.means c.args.basis.now.rules.now.classes (place_at c.args.here.now), c.in-Call.is)
-    c.call.ensures.come
-
-pub value-returns-in-Over-clause-gains : goal.value-returns-in-Over-clause-gains
-value-returns-in-Over-clause-gains g n c =
+pub value-returns-in-Over : goal.value-returns-in-Over
+value-returns-in-Over g n c =
     rw (c.form_of.ensures.means c.args.basis.now.rules.now.classes (place_at c.args.here.now), c.in-Over.is)
-    c.over.ensures.gains
+    c.over.ensures
 
-pub value-returns-in-Over-clause-come : goal.value-returns-in-Over-clause-come
-value-returns-in-Over-clause-come g n c =
-    rw (c.form_of.ensures.means c.args.basis.now.rules.now.classes (place_at c.args.here.now), c.in-Over.is)
-    c.over.ensures.come
+pub value-returns-in-Plain : goal.value-returns-in-Plain
+value-returns-in-Plain g n c = record {
+  come =
+      IfOk-weaker c.value.result _ _ (λ v h. come_looked c.args.basis.now.rules.now c.args.basis.now.store.now (held_by
+      g.K.Keeper.contents g.K.Keeper.memories c.args.keeper.now c.args.self.now) c.args.level.now
+      (record { reads = c.value.new.reads; uses = c.args.level.now.uses }) (ev c.args.basis.now.rules.now.classes
+      (body_view c.args.body.now) (place_at c.args.here.now)) (value_view v) refl h) (c.value.ensures
+      c.args.basis.now.rules.now.classes);
+  gains =
+      nothing_gained c.args.basis.now.rules.now c.args.basis.now.store.now g.K.Keeper.exact (ev
+      c.args.basis.now.rules.now.classes (body_view c.args.body.now) (place_at c.args.here.now)) _ c.args.self.now.few
+      c.requires;
+}
 
-pub value-returns-in-Plain-clause-gains : goal.value-returns-in-Plain-clause-gains
-value-returns-in-Plain-clause-gains g n c =
-    nothing_gained c.args.basis.now.rules.now c.args.basis.now.store.now g.K.Keeper.exact (ev c.args.basis.now.rules.now.classes (body_view
-    c.args.body.now) (place_at c.args.here.now)) _ c.args.self.now.few c.requires
+pub told-returns-in_err-recalled : goal.told-returns-in_err-recalled
+told-returns-in_err-recalled g n c = record {
+  told = search rules;
+  grown =
+      grown_none c.args.basis.now.rules.now c.args.basis.now.store.now g.K.Keeper.exact c.args.needed _
+      c.args.self.now.few c.requires;
+}
 
-pub value-returns-in-Plain-clause-come : goal.value-returns-in-Plain-clause-come
-value-returns-in-Plain-clause-come g n c =
-    IfOk-weaker c.value.result _ _ (λ v h. come_looked c.args.basis.now.rules.now c.args.basis.now.store.now (held (g.K.Keeper.contents
-    c.args.keeper.now) (g.K.Keeper.memories c.args.keeper.now) c.args.self.now.found.entries c.args.self.now.work)
-    c.args.level.now (record { reads = c.value.new.reads; uses = c.args.level.now.uses }) (ev c.args.basis.now.rules.now.classes
-    (body_view c.args.body.now) (place_at c.args.here.now)) (value_view v) refl h) (c.value.ensures
-    c.args.basis.now.rules.now.classes)
-
-pub told-returns-in_err-recalled-clause-grown : goal.told-returns-in_err-recalled-clause-grown
-told-returns-in_err-recalled-clause-grown g n c =
-    grown_none c.args.basis.now.rules.now c.args.basis.now.store.now g.K.Keeper.exact c.args.needed _ c.args.self.now.few c.requires
-
-pub told-returns-in-Some-clause-grown : goal.told-returns-in-Some-clause-grown
-told-returns-in-Some-clause-grown g n c =
-    grown_none c.args.basis.now.rules.now c.args.basis.now.store.now g.K.Keeper.exact c.args.needed _ c.args.self.now.few c.requires
+pub told-returns-in-Some : goal.told-returns-in-Some
+told-returns-in-Some g n c = record {
+  told = search rules;
+  grown =
+      grown_none c.args.basis.now.rules.now c.args.basis.now.store.now g.K.Keeper.exact c.args.needed _
+      c.args.self.now.few c.requires;
+}

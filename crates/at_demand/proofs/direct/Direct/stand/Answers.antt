@@ -1,14 +1,13 @@
-use Rattle.std.proofs.Common.{ℕ, List, None, inr, map, refl, subst}
+use Rattle.std.proofs.Common.{ℕ, List, None, refl, subst, rules}
 use Rattle.std.specs.Prelude.{Contains}
-use Rattle.at_model.specs.Run.{Instance, Location}
-use Rattle.at_store.specs.Located.{loc_view}
+use Rattle.at_model.specs.Run.{Instance}
 use Rattle.at_body.specs.Values.{value_view}
 use Rattle.at_cache.specs.Kept.{HasPut}
 use Rattle.at_cache.specs.declared.keeper.Put.{Put}
 use Rattle.at_demand.proofs.Counting.{counts_same}
 use Rattle.at_demand.proofs.Entered.{none_entered}
-use Rattle.at_demand.proofs.of_nesting.Grown.{grown_none}
-use Rattle.at_demand.proofs.of_nesting.InnerGains.{counts_shared_so, gains_put_so, gains_same, put_there, taken}
+use Rattle.at_demand.proofs.of_nesting.Grown.{grown_entered, grown_none, put_alike}
+use Rattle.at_demand.proofs.of_nesting.InnerGains.{gains_same, put_there, taken}
 use Rattle.at_demand.proofs.of_traces.Justified.{stay_any}
 use Rattle.at_demand.proofs.of_traces.Putting.{traced_on}
 use Rattle.at_demand.proofs.direct.Direct.stand.Goals as goal
@@ -22,99 +21,70 @@ put-requires-clause-present g c = λ u h.
     c.requires.come u
     (subst (λ (xs : List (Instance ℕ)). Contains xs u) c.as_slice-uses.ensures.value h)
 
-pub returns-in_err-put-clause-grown : goal.returns-in_err-put-clause-grown
-returns-in_err-put-clause-grown g c = record {
-  gains =
-      let old = g.K.Keeper.contents c.args.keeper.now in
-      let new = g.K.Keeper.contents c.put.new.self in
-      gains_same c.args.basis.now.rules.now c.args.basis.now.store.now g.K.Keeper.exact c.args.needed.now old new
-      c.args.self.now.found.entries c.args.self.now.work c.args.self.now.work c.in_err-put.ensures.err
-      c.requires.held.known
-      (λ k. counts_same old new c.args.self.now.work c.args.self.now.few c.in_err-put.ensures.err);
-  traces =
-      let old = g.K.Keeper.memories c.args.keeper.now in
-      let new = g.K.Keeper.memories c.put.new.self in
-      traced_on c.args.basis.now.rules.now c.args.basis.now.store.now c.args.needed.now old new (stay_any _ _ _ _ old new
-      c.put.ensures.traces)
-      c.requires.held.justified;
+pub returns-then-stands : goal.returns-then-stands
+returns-then-stands g c = record {
+  stands = search rules;
+  found = refl;
+  grown = grown_none c.args.basis.now.rules.now c.args.basis.now.store.now g.K.Keeper.exact c.args.needed.now _
+      c.args.self.now.few c.requires.held;
 }
 
-pub returns-in-Kept-clause-stands : goal.returns-in-Kept-clause-stands
-returns-in-Kept-clause-stands g c =
-    let exact = g.K.Keeper.exact in
+pub returns-in_err-copy : goal.returns-in_err-copy
+returns-in_err-copy g c = record {
+  stands = search rules;
+  found = refl;
+  grown = grown_none c.args.basis.now.rules.now c.args.basis.now.store.now g.K.Keeper.exact c.args.needed.now _
+      c.args.self.now.few c.requires.held;
+}
+
+pub returns-in_err-put : goal.returns-in_err-put
+returns-in_err-put g c = record {
+  stands = search rules;
+  found = refl;
+  grown = record {
+    gains =
+        let old = g.K.Keeper.contents c.args.keeper.now in
+        let new = g.K.Keeper.contents c.put.new.self in
+        gains_same c.args.basis.now.rules.now c.args.basis.now.store.now g.K.Keeper.exact c.args.needed.now old new
+        c.args.self.now.found.entries c.args.self.now.work c.args.self.now.work c.in_err-put.ensures.err
+        c.requires.held.known
+        (λ k. counts_same old new c.args.self.now.work c.args.self.now.few c.in_err-put.ensures.err);
+    traces =
+        let old = g.K.Keeper.memories c.args.keeper.now in
+        let new = g.K.Keeper.memories c.put.new.self in
+        traced_on c.args.basis.now.rules.now c.args.basis.now.store.now c.args.needed.now old new
+        (stay_any _ _ _ _ old new c.put.ensures.traces) c.requires.held.justified;
+  };
+}
+
+pub returns-in-Kept : goal.returns-in-Kept
+returns-in-Kept g c =
     let old = g.K.Keeper.contents c.args.keeper.now in
     let new = g.K.Keeper.contents c.put.new.self in
-    let ls = map loc_view c.as_slice-reads.result.now in
-    let us = c.as_slice-uses.result.now in
-    let one = subst (λ (i : Instance ℕ). HasPut exact old i None ls us new c.in_ok-put.put) c.in_ok-copy.ensures
-    c.in_ok-put.ensures.puts in
-    let puts = subst (λ (p : Put). HasPut exact old c.args.needed.now None ls us new p) c.in-Kept.is one in
-    put_there exact old new c.args.needed.now None ls us puts
+    let i = c.args.needed.now in
+    let below = c.args.below.now in
+    let puts = put_alike g.K.Keeper.exact old new None c.in_ok-put.put c.in_ok-copy.ensures c.as_slice-reads.ensures
+    c.as_slice-uses.ensures.value c.in_ok-put.ensures.puts in
+    record {
+      stands = put_there g.K.Keeper.exact old new i None below.reads below.uses.items
+          (subst (λ (p : Put). HasPut g.K.Keeper.exact old i None below.reads below.uses.items new p) c.in-Kept.is puts);
+      found = refl;
+      grown = grown_entered c.args.basis.now.rules.now c.args.basis.now.store.now c.args.self.now.few c.requires
+          (none_entered (old i) c.stands.result c.stands.ensures c.if-stands.false)
+          (stay_any _ _ _ _ (g.K.Keeper.memories c.args.keeper.now) (g.K.Keeper.memories c.put.new.self)
+          c.put.ensures.traces) c.in_ok-put.put puts;
+    }
 
-pub returns-in-Kept-clause-grown : goal.returns-in-Kept-clause-grown
-returns-in-Kept-clause-grown g c = record {
-  gains =
-      let exact = g.K.Keeper.exact in
-      let old = g.K.Keeper.contents c.args.keeper.now in
-      let new = g.K.Keeper.contents c.put.new.self in
-      let below = c.args.below.now in
-      let ls = map loc_view c.as_slice-reads.result.now in
-      let us = c.as_slice-uses.result.now in
-      let i = c.args.needed.now in
-      let w = c.args.self.now.work in
-      let absent = none_entered (old i) c.stands.result c.stands.ensures c.if-stands.false in
-      let one = subst (λ (x : Instance ℕ). HasPut exact old x None ls us new c.in_ok-put.put) c.in_ok-copy.ensures
-      c.in_ok-put.ensures.puts in
-      let two = subst (λ (xs : List (Location ℕ)). HasPut exact old i None xs us new c.in_ok-put.put)
-      c.as_slice-reads.ensures one in
-      let puts = subst (λ (xs : List (Instance ℕ)). HasPut exact old i None below.reads xs new c.in_ok-put.put)
-      c.as_slice-uses.ensures.value two in
-      gains_put_so c.args.basis.now.rules.now c.args.basis.now.store.now exact i old new c.args.self.now.found.entries (value_view
-      c.args.value.now) below.reads below.uses.items c.requires.held.known c.requires.come
-      None (inr (refl, c.requires.lazy)) absent w w (λ k. counts_shared_so c.args.basis.now.rules.now c.args.basis.now.store.now exact old
-      new i below.reads below.uses.items w c.args.self.now.few absent c.in_ok-put.put puts) c.in_ok-put.put puts;
-  traces =
-      let old = g.K.Keeper.memories c.args.keeper.now in
-      let new = g.K.Keeper.memories c.put.new.self in
-      traced_on c.args.basis.now.rules.now c.args.basis.now.store.now c.args.needed.now old new (stay_any _ _ _ _ old new
-      c.put.ensures.traces)
-      c.requires.held.justified;
+pub returns-in-Left : goal.returns-in-Left
+returns-in-Left g c = record {
+  stands = search rules;
+  found = refl;
+  grown = grown_entered c.args.basis.now.rules.now c.args.basis.now.store.now c.args.self.now.few c.requires
+      (none_entered (g.K.Keeper.contents c.args.keeper.now c.args.needed.now) c.stands.result c.stands.ensures
+      c.if-stands.false)
+      (stay_any _ _ _ _ (g.K.Keeper.memories c.args.keeper.now) (g.K.Keeper.memories c.put.new.self)
+      c.put.ensures.traces) c.in_ok-put.put
+      (put_alike g.K.Keeper.exact (g.K.Keeper.contents c.args.keeper.now) (g.K.Keeper.contents c.put.new.self) None
+      c.in_ok-put.put c.in_ok-copy.ensures c.as_slice-reads.ensures c.as_slice-uses.ensures.value
+      c.in_ok-put.ensures.puts);
 }
-
-pub returns-in-Left-clause-grown : goal.returns-in-Left-clause-grown
-returns-in-Left-clause-grown g c = record {
-  gains =
-      let exact = g.K.Keeper.exact in
-      let old = g.K.Keeper.contents c.args.keeper.now in
-      let new = g.K.Keeper.contents c.put.new.self in
-      let below = c.args.below.now in
-      let ls = map loc_view c.as_slice-reads.result.now in
-      let us = c.as_slice-uses.result.now in
-      let i = c.args.needed.now in
-      let w = c.args.self.now.work in
-      let absent = none_entered (old i) c.stands.result c.stands.ensures c.if-stands.false in
-      let one = subst (λ (x : Instance ℕ). HasPut exact old x None ls us new c.in_ok-put.put) c.in_ok-copy.ensures
-      c.in_ok-put.ensures.puts in
-      let two = subst (λ (xs : List (Location ℕ)). HasPut exact old i None xs us new c.in_ok-put.put)
-      c.as_slice-reads.ensures one in
-      let puts = subst (λ (xs : List (Instance ℕ)). HasPut exact old i None below.reads xs new c.in_ok-put.put)
-      c.as_slice-uses.ensures.value two in
-      gains_put_so c.args.basis.now.rules.now c.args.basis.now.store.now exact i old new c.args.self.now.found.entries (value_view
-      c.args.value.now) below.reads below.uses.items c.requires.held.known c.requires.come
-      None (inr (refl, c.requires.lazy)) absent w w (λ k. counts_shared_so c.args.basis.now.rules.now c.args.basis.now.store.now exact old
-      new i below.reads below.uses.items w c.args.self.now.few absent c.in_ok-put.put puts) c.in_ok-put.put puts;
-  traces =
-      let old = g.K.Keeper.memories c.args.keeper.now in
-      let new = g.K.Keeper.memories c.put.new.self in
-      traced_on c.args.basis.now.rules.now c.args.basis.now.store.now c.args.needed.now old new (stay_any _ _ _ _ old new
-      c.put.ensures.traces)
-      c.requires.held.justified;
-}
-
-pub returns-then-stands-clause-grown : goal.returns-then-stands-clause-grown
-returns-then-stands-clause-grown g c =
-    grown_none c.args.basis.now.rules.now c.args.basis.now.store.now g.K.Keeper.exact c.args.needed.now _ c.args.self.now.few c.requires.held
-
-pub returns-in_err-copy-clause-grown : goal.returns-in_err-copy-clause-grown
-returns-in_err-copy-clause-grown g c =
-    grown_none c.args.basis.now.rules.now c.args.basis.now.store.now g.K.Keeper.exact c.args.needed.now _ c.args.self.now.few c.requires.held

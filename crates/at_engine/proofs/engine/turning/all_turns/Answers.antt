@@ -25,9 +25,9 @@ loop-turns-init g c =
     let entries = g.K.Keeper.contents c.args.demand.now.keeper in
     record {
       each = (0, turns.none entries (under_way q));
-      standing = c.requires.standing;
-      right = c.requires.right;
-      plain = c.requires.plain;
+      standing = c.requires.turns.standing;
+      right = c.requires.turns.answerable.right;
+      plain = c.requires.turns.answerable.plain;
       same = refl;
       worthy = worthy_none c.args.rules.now (contents c.args.store.now) (asked (under_way q)) entries;
       stays = λ there right. right;
@@ -85,7 +85,8 @@ loop-turns-smaller g c =
     (under_way q) (under_way p)
     (option_map answer_view o)) c.in_default.is c.in_ok-turns.ensures.turned.given in
     let named = subst (IsAskedOf rules s) (sym inv.same) c.requires.named in
-    fewer_left rules s old q inv.standing c.requires.idle c.requires.formed c.requires.sound named 18446744073709551615 n (omega arith) p given
+    let on = c.requires.turns.answerable.basis in
+    fewer_left rules s old q inv.standing on.idle on.formed on.sound named 18446744073709551615 n (omega arith) p given
 
 pub returns-in_err-turns : goal.returns-in_err-turns
 returns-in_err-turns g c =
@@ -160,7 +161,7 @@ returns-in-Some g c =
 pub turns-requires : goal.turns-requires
 turns-requires g c = record {
   answerable = record {
-    basis = record { idle = c.requires.idle; formed = c.requires.formed; sound = c.requires.sound };
+    basis = c.requires.turns.answerable.basis;
     right = c.loop-turns.invariant.right;
     plain = c.loop-turns.invariant.plain;
   };

@@ -28,11 +28,4 @@ returns-in-None g c =
     c.all_turns.ensures
 
 pub turns-requires : goal.turns-requires
-turns-requires g c = record {
-  answerable = record {
-    basis = record { idle = c.requires.idle; formed = c.requires.formed; sound = c.requires.sound };
-    right = c.requires.right;
-    plain = c.requires.plain;
-  };
-  standing = c.requires.standing;
-}
+turns-requires g c = c.requires.turns

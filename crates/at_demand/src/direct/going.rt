@@ -1,0 +1,497 @@
+//! The recursion of an evaluation in one go: over the parts of expressions, and through the instances that they demand.
+
+ghost use Rattle.std.specs.Prelude.{◌≡◌, ◌≤◌, IfOk, OnOk, IsTrue, drop, false, length, map, take, true};
+ghost use Rattle.at_model.specs.Meaning.{HasValue};
+ghost use Rattle.at_store.specs.Shown.{contents};
+ghost use Rattle.at_rules.specs.Bodies.{bodies_view, body_view};
+ghost use Rattle.at_body.specs.Comparing.{IsComparison};
+ghost use Rattle.at_body.specs.Rest.{ev, ev_all, over};
+ghost use Rattle.at_body.specs.Values.{value_view};
+ghost use Rattle.at_apply.specs.Parts.{call_of, either_of, fold_of, one_of, two_of};
+ghost use Rattle.at_apply.specs.Place.{place_at};
+ghost use Rattle.at_demand.specs.Known.{meaning};
+ghost use Rattle.at_demand.specs.InParts.{EndsEvaluated, EndsRecalled, EndsTold, EvaluatesTo, GivesLevel, HasGrown, IsEmptied, IsHeld, IsHeldFor, held_by};
+ghost use Rattle.at_demand.specs.Sparing.{AreSpare, HasWorthy};
+
+use super::keeping::{few_of, is_small};
+use super::{Direct, Level};
+use crate::basis::Basis;
+use at_apply::{
+    Form, Here, Next, Stop, begin, chosen, compare, form_of, node_of, settle, truth_in, with_one,
+    with_two,
+};
+use at_body::{Arguments, Binary, Fold, Inst, Reads, Unary, Value, come_to};
+use at_cache::Keeper;
+use at_rules::{AttrId, Body};
+use at_store::{Loc, Node};
+use std::alloc::AllocError;
+
+// How deep expressions nest at most, with those of the instances that they demand.
+const DEPTH: usize = 800;
+
+// How many instances are evaluated at most, one behind the other, so that one which used them may be kept again.
+const IN_THE_WAY: usize = 16;
+
+impl Level {
+    // Takes all out; the memory stays.
+    fn clear(&mut self)
+        ensures { IsEmptied self.new }
+    {
+        self.reads.clear();
+        self.uses.clear();
+    }
+
+    // What stands behind the first so many locations and instances, taken out.
+    fn split_off(&mut self, reads: usize, uses: usize) -> Result<Level, AllocError>
+        requires reads { reads ≤ length self.old.reads }
+        requires uses { uses ≤ length self.old.uses.items }
+        ensures front { OnOk result ((self.new.reads ≡ take reads self.old.reads) × (self.new.uses.items ≡ take uses self.old.uses.items)) }
+        ensures tail { IfOk result (λ l. (l.reads ≡ drop reads self.old.reads) × (l.uses.items ≡ drop uses self.old.uses.items)) }
+    {
+        Ok(Level {
+            reads: self.reads.split_off(reads)?,
+            uses: self.uses.split_off(uses)?,
+        })
+    }
+}
+
+impl Direct {
+    // The value of an instance that isn't kept; then all that is worth keeping for it is kept.
+    pub fn answer<K: Keeper>(
+        &mut self,
+        keeper: &mut K,
+        basis: &Basis<'_>,
+        inst: &Inst,
+    ) -> Result<Value, Stop>
+        requires { IsHeld basis.now.rules.now (contents basis.now.store.now) (held_by K.contents K.memories keeper.old self.old) }
+        ensures value { IfOk result (λ v. HasValue (contents basis.now.store.now) (meaning basis.now.rules.now) inst.now (value_view v)) }
+        ensures all { IsTrue K.exact → AreSpare basis.now.rules.now (contents basis.now.store.now) (K.contents keeper.old)
+            → IfOk result (λ v. HasWorthy basis.now.rules.now (contents basis.now.store.now) inst.now (K.contents keeper.new)) }
+        ensures grown { HasGrown basis.now.rules.now basis.now.store.now K.exact inst.now
+            (held_by K.contents K.memories keeper.old self.old) (held_by K.contents K.memories keeper.new self.new) }
+    {
+        let mut asks = self.level();
+        let needed = inst.copy(self.alloc)?;
+        self.told(keeper, basis, &mut asks, needed, DEPTH)
+    }
+
+    // The level of an evaluation that ended, emptied, or a fresh one.
+    fn level(&mut self) -> Level
+        ensures { GivesLevel self.old self.new result }
+    {
+        match self.spare.pop() {
+            Some(level) => emptied(level),
+            None => Level {
+                reads: Reads::new(self.alloc),
+                uses: Vec::new(self.alloc),
+            },
+        }
+    }
+
+    // The value of an instance that an evaluation demands: it is known, or can be verified, or is evaluated at once.
+    #[cycle(direct)]
+    fn told<K: Keeper>(
+        &mut self,
+        keeper: &mut K,
+        basis: &Basis<'_>,
+        level: &mut Level,
+        needed: Inst,
+        above: usize,
+    ) -> Result<Value, Stop>
+        requires { IsHeld basis.now.rules.now (contents basis.now.store.now) (held_by K.contents K.memories keeper.old self.old) }
+        ensures { EndsTold basis.now.rules.now basis.now.store.now K.exact needed (held_by K.contents K.memories keeper.old self.old)
+            (held_by K.contents K.memories keeper.new self.new) level.old level.new result }
+    {
+        let recalled = self.recall(keeper, basis, level, &needed)?;
+        if let Some(value) = recalled {
+            return Ok(value);
+        }
+        if !basis.rules.is_lazy(needed.attribute()) {
+            return self.inner(keeper, basis, level, needed, above);
+        }
+        let verified = self.verify(keeper, basis, level, &needed, above)?;
+        match verified {
+            Some(value) => Ok(value),
+            None => self.afresh(keeper, basis, level, needed, above),
+        }
+    }
+
+    // The value of an instance that isn't known and isn't lazy, in the evaluation that asks. Where that looks at many locations it is remembered.
+    #[cycle(direct)]
+    fn inner<K: Keeper>(
+        &mut self,
+        keeper: &mut K,
+        basis: &Basis<'_>,
+        level: &mut Level,
+        needed: Inst,
+        above: usize,
+    ) -> Result<Value, Stop>
+        requires { IsHeldFor basis.now.rules.now (contents basis.now.store.now) (held_by K.contents K.memories keeper.old self.old) false needed }
+        ensures { EndsTold basis.now.rules.now basis.now.store.now K.exact needed (held_by K.contents K.memories keeper.old self.old)
+            (held_by K.contents K.memories keeper.new self.new) level.old level.new result }
+    {
+        let reads = level.reads.len();
+        let uses = level.uses.len();
+        let value = self.evaluate(keeper, basis, level, &needed, above)?;
+        if is_small(basis, level.reads.as_slice(), reads, few_of(keeper)) {
+            return Ok(value);
+        }
+        let below = level.split_off(reads, uses)?;
+        self.remember(keeper, basis, level, &below, needed, &value)?;
+        Ok(value)
+    }
+
+    // The value of a lazy instance that isn't known, where it can be kept again; it is taken then. What stands in the way is
+    // evaluated first, one behind the other, as long as these are few.
+    #[cycle(direct)]
+    fn verify<K: Keeper>(
+        &mut self,
+        keeper: &mut K,
+        basis: &Basis<'_>,
+        level: &mut Level,
+        needed: &Inst,
+        above: usize,
+    ) -> Result<Option<Value>, Stop>
+        requires { IsHeld basis.now.rules.now (contents basis.now.store.now) (held_by K.contents K.memories keeper.old self.old) }
+        ensures { EndsRecalled basis.now.rules.now basis.now.store.now K.exact needed.now (held_by K.contents K.memories keeper.old self.old)
+            (held_by K.contents K.memories keeper.new self.new) level.old level.new result }
+    {
+        for _ in 0..IN_THE_WAY {
+            let again = self.keep_again(keeper, basis, level, needed)?;
+            if let Some(value) = again {
+                return Ok(Some(value));
+            }
+            let Some(other) = self.in_the_way(keeper, basis, needed)? else {
+                return Ok(None);
+            };
+            let mut aside = self.level();
+            self.afresh(keeper, basis, &mut aside, other, above)?;
+            self.spare.push(aside)?;
+        }
+        Ok(None)
+    }
+
+    // The value of a lazy instance, by an evaluation of its own; it is kept at its end, and taken then.
+    #[cycle(direct)]
+    fn afresh<K: Keeper>(
+        &mut self,
+        keeper: &mut K,
+        basis: &Basis<'_>,
+        level: &mut Level,
+        needed: Inst,
+        above: usize,
+    ) -> Result<Value, Stop>
+        requires { IsHeldFor basis.now.rules.now (contents basis.now.store.now) (held_by K.contents K.memories keeper.old self.old) true needed }
+        ensures { EndsTold basis.now.rules.now basis.now.store.now K.exact needed (held_by K.contents K.memories keeper.old self.old)
+            (held_by K.contents K.memories keeper.new self.new) level.old level.new result }
+    {
+        let mut below = self.level();
+        let value = self.evaluate(keeper, basis, &mut below, &needed, above)?;
+        self.keep(keeper, basis, level, &below, needed, &value)?;
+        self.spare.push(below)?;
+        Ok(value)
+    }
+
+    // Evaluates an instance, from its beginning to its end.
+    #[inline(always)]
+    #[cycle(direct)]
+    fn evaluate<K: Keeper>(
+        &mut self,
+        keeper: &mut K,
+        basis: &Basis<'_>,
+        level: &mut Level,
+        inst: &Inst,
+        above: usize,
+    ) -> Result<Value, Stop>
+        requires { IsHeld basis.now.rules.now (contents basis.now.store.now) (held_by K.contents K.memories keeper.old self.old) }
+        ensures { EndsEvaluated basis.now.rules.now basis.now.store.now K.exact inst.now (held_by K.contents K.memories keeper.old self.old)
+            (held_by K.contents K.memories keeper.new self.new) level.old level.new result }
+    {
+        let begun = begin(self.alloc, basis.rules, basis.store, &mut level.reads, inst)?;
+        self.value(keeper, basis, level, &begun.0, begun.1, above)
+    }
+
+    // The value of an expression.
+    #[cycle(direct)]
+    fn value<K: Keeper>(
+        &mut self,
+        keeper: &mut K,
+        basis: &Basis<'_>,
+        level: &mut Level,
+        here: &Here,
+        body: &Body,
+        above: usize,
+    ) -> Result<Value, Stop>
+        requires { IsHeld basis.now.rules.now (contents basis.now.store.now) (held_by K.contents K.memories keeper.old self.old) }
+        ensures { EvaluatesTo basis.now.rules.now basis.now.store.now K.exact
+            (ev basis.now.rules.now.classes (body_view body.now) (place_at here.now)) value_view
+            (held_by K.contents K.memories keeper.old self.old) (held_by K.contents K.memories keeper.new self.new) level.old level.new result }
+    {
+        if above == 0 {
+            return Err(Stop::GivesUp);
+        }
+        let left = above - 1;
+        match form_of(body) {
+            Form::One(unary, a) => self.one(keeper, basis, level, here, unary, a, left),
+            Form::Two(binary, a, b) => { self.two(keeper, basis, level, here, binary, a, b, left) }
+            Form::Compared(comparison, a, b) => {
+                self.compared(keeper, basis, level, here, comparison, a, b, left)
+            }
+            Form::Either(test, yes, no) => {
+                self.either(keeper, basis, level, here, test, yes, no, left)
+            }
+            Form::Call(receiver, attribute, passed) => self.call(
+                keeper, basis, level, here, receiver, attribute, passed, left,
+            ),
+            Form::Over(fold, of, part, each) => {
+                self.over(keeper, basis, level, here, fold, of, part, each, left)
+            }
+            Form::Plain => here.value(basis.store, &mut level.reads, body),
+        }
+    }
+
+    // What is done with the value of an operand.
+    #[inline(always)]
+    #[cycle(direct)]
+    fn one<K: Keeper>(
+        &mut self,
+        keeper: &mut K,
+        basis: &Basis<'_>,
+        level: &mut Level,
+        here: &Here,
+        unary: Unary,
+        operand: &Body,
+        above: usize,
+    ) -> Result<Value, Stop>
+        requires { IsHeld basis.now.rules.now (contents basis.now.store.now) (held_by K.contents K.memories keeper.old self.old) }
+        ensures { EvaluatesTo basis.now.rules.now basis.now.store.now K.exact
+            (one_of basis.now.rules.now.classes (place_at here.now) unary operand.now) value_view
+            (held_by K.contents K.memories keeper.old self.old) (held_by K.contents K.memories keeper.new self.new) level.old level.new result }
+    {
+        let value = self.value(keeper, basis, level, here, operand, above)?;
+        with_one(basis.rules, basis.store, &mut level.reads, unary, &value)
+    }
+
+    // What is done with the values of two operands.
+    #[inline(always)]
+    #[cycle(direct)]
+    fn two<K: Keeper>(
+        &mut self,
+        keeper: &mut K,
+        basis: &Basis<'_>,
+        level: &mut Level,
+        here: &Here,
+        binary: Binary,
+        left: &Body,
+        right: &Body,
+        above: usize,
+    ) -> Result<Value, Stop>
+        requires { IsHeld basis.now.rules.now (contents basis.now.store.now) (held_by K.contents K.memories keeper.old self.old) }
+        ensures { EvaluatesTo basis.now.rules.now basis.now.store.now K.exact
+            (two_of basis.now.rules.now.classes (place_at here.now) binary left.now right.now) value_view
+            (held_by K.contents K.memories keeper.old self.old) (held_by K.contents K.memories keeper.new self.new) level.old level.new result }
+    {
+        let first = self.value(keeper, basis, level, here, left, above)?;
+        let second = self.value(keeper, basis, level, here, right, above)?;
+        with_two(basis.store, &mut level.reads, binary, first, &second)
+    }
+
+    // The comparison of two values. A token of a node at hand is compared where it stands with an argument or a literal.
+    #[cycle(direct)]
+    fn compared<K: Keeper>(
+        &mut self,
+        keeper: &mut K,
+        basis: &Basis<'_>,
+        level: &mut Level,
+        here: &Here,
+        comparison: Binary,
+        left: &Body,
+        right: &Body,
+        above: usize,
+    ) -> Result<Value, Stop>
+        requires comparison { IsComparison comparison }
+        requires held { IsHeld basis.now.rules.now (contents basis.now.store.now) (held_by K.contents K.memories keeper.old self.old) }
+        ensures { EvaluatesTo basis.now.rules.now basis.now.store.now K.exact
+            (two_of basis.now.rules.now.classes (place_at here.now) comparison left.now right.now) value_view
+            (held_by K.contents K.memories keeper.old self.old) (held_by K.contents K.memories keeper.new self.new) level.old level.new result }
+    {
+        let at_once = compare(
+            here,
+            basis.store,
+            &mut level.reads,
+            &comparison,
+            left,
+            right,
+        )?;
+        match at_once {
+            Some(value) => Ok(value),
+            None => self.two(keeper, basis, level, here, comparison, left, right, above),
+        }
+    }
+
+    // The value of the expression that a test chooses, or what the test is where there is none.
+    #[cycle(direct)]
+    fn either<K: Keeper>(
+        &mut self,
+        keeper: &mut K,
+        basis: &Basis<'_>,
+        level: &mut Level,
+        here: &Here,
+        test: &Body,
+        yes: Option<&Body>,
+        no: Option<&Body>,
+        above: usize,
+    ) -> Result<Value, Stop>
+        requires { IsHeld basis.now.rules.now (contents basis.now.store.now) (held_by K.contents K.memories keeper.old self.old) }
+        ensures { EvaluatesTo basis.now.rules.now basis.now.store.now K.exact
+            (either_of basis.now.rules.now.classes (place_at here.now) test.now yes.entry no.entry) value_view
+            (held_by K.contents K.memories keeper.old self.old) (held_by K.contents K.memories keeper.new self.new) level.old level.new result }
+    {
+        let value = self.value(keeper, basis, level, here, test, above)?;
+        let holds = truth_in(&value)?;
+        match chosen(holds, yes, no) {
+            Some(body) => self.value(keeper, basis, level, here, body, above),
+            None => Ok(Value::Bool(holds)),
+        }
+    }
+
+    // The value of an attribute of a node, with the values of arguments.
+    #[inline(always)]
+    #[cycle(direct)]
+    fn call<K: Keeper>(
+        &mut self,
+        keeper: &mut K,
+        basis: &Basis<'_>,
+        level: &mut Level,
+        here: &Here,
+        receiver: &Body,
+        attribute: AttrId,
+        passed: &[Body],
+        above: usize,
+    ) -> Result<Value, Stop>
+        requires { IsHeld basis.now.rules.now (contents basis.now.store.now) (held_by K.contents K.memories keeper.old self.old) }
+        ensures { EvaluatesTo basis.now.rules.now basis.now.store.now K.exact
+            (call_of basis.now.rules.now.classes (place_at here.now) receiver.now attribute passed.now) value_view
+            (held_by K.contents K.memories keeper.old self.old) (held_by K.contents K.memories keeper.new self.new) level.old level.new result }
+    {
+        let value = self.value(keeper, basis, level, here, receiver, above)?;
+        let arguments = self.passed(keeper, basis, level, here, passed, above)?;
+        let node = node_of(&value)?;
+        self.told(
+            keeper,
+            basis,
+            level,
+            Inst::new(node, attribute, arguments),
+            above,
+        )
+    }
+
+    // The values of arguments.
+    #[inline(always)]
+    #[cycle(direct)]
+    fn passed<K: Keeper>(
+        &mut self,
+        keeper: &mut K,
+        basis: &Basis<'_>,
+        level: &mut Level,
+        here: &Here,
+        passed: &[Body],
+        above: usize,
+    ) -> Result<Arguments, Stop>
+        requires { IsHeld basis.now.rules.now (contents basis.now.store.now) (held_by K.contents K.memories keeper.old self.old) }
+        ensures { EvaluatesTo basis.now.rules.now basis.now.store.now K.exact
+            (ev_all basis.now.rules.now.classes (bodies_view passed.now) (place_at here.now)) (map value_view)
+            (held_by K.contents K.memories keeper.old self.old) (held_by K.contents K.memories keeper.new self.new) level.old level.new result }
+    {
+        if here.hands_on(passed) {
+            return here.handed_on();
+        }
+        let mut values = Vec::new(self.alloc);
+        let mut rest = passed;
+        while let Some((argument, others)) = rest.split_first() {
+            let value = self.value(keeper, basis, level, here, argument, above)?;
+            values.push(value)?;
+            rest = others;
+        }
+        let arguments = Arguments::of(values)?;
+        Ok(arguments)
+    }
+
+    // A fold over the elements in a component of a node.
+    #[cycle(direct)]
+    fn over<K: Keeper>(
+        &mut self,
+        keeper: &mut K,
+        basis: &Basis<'_>,
+        level: &mut Level,
+        here: &Here,
+        fold: Fold,
+        of: &Body,
+        part: usize,
+        body: &Body,
+        above: usize,
+    ) -> Result<Value, Stop>
+        requires { IsHeld basis.now.rules.now (contents basis.now.store.now) (held_by K.contents K.memories keeper.old self.old) }
+        ensures { EvaluatesTo basis.now.rules.now basis.now.store.now K.exact
+            (fold_of basis.now.rules.now.classes (place_at here.now) fold of.now part body.now) value_view
+            (held_by K.contents K.memories keeper.old self.old) (held_by K.contents K.memories keeper.new self.new) level.old level.new result }
+    {
+        let value = self.value(keeper, basis, level, here, of, above)?;
+        let node = node_of(&value)?;
+        level.reads.push(Loc::Slot(node, part))?;
+        self.each(
+            keeper,
+            basis,
+            level,
+            here,
+            fold,
+            body,
+            basis.store.children(node, part),
+            above,
+        )
+    }
+
+    // A fold over these nodes.
+    #[cycle(direct)]
+    fn each<K: Keeper>(
+        &mut self,
+        keeper: &mut K,
+        basis: &Basis<'_>,
+        level: &mut Level,
+        here: &Here,
+        fold: Fold,
+        body: &Body,
+        nodes: &[Node],
+        above: usize,
+    ) -> Result<Value, Stop>
+        requires { IsHeld basis.now.rules.now (contents basis.now.store.now) (held_by K.contents K.memories keeper.old self.old) }
+        ensures { EvaluatesTo basis.now.rules.now basis.now.store.now K.exact
+            (over basis.now.rules.now.classes fold (body_view body.now) (place_at here.now) nodes.now) value_view
+            (held_by K.contents K.memories keeper.old self.old) (held_by K.contents K.memories keeper.new self.new) level.old level.new result }
+    {
+        let mut inside = here.copy()?;
+        let mut going = fold;
+        let mut rest = nodes;
+        while let Some((node, others)) = rest.split_first() {
+            inside.bound.push(*node)?;
+            let value = self.value(keeper, basis, level, &inside, body, above)?;
+            let _ = inside.bound.pop();
+            let next = settle(going, *node, &value)?;
+            match next {
+                Next::On(further) => going = further,
+                Next::End(value) => return Ok(value),
+            }
+            rest = others;
+        }
+        Ok(come_to(&going))
+    }
+}
+
+// A level with nothing in it.
+fn emptied(level: Level) -> Level
+    ensures { IsEmptied result }
+{
+    let mut level = level;
+    level.clear();
+    level
+}
