@@ -55,6 +55,11 @@ abbrev pub HasPassedOn : Question → ValueCode → Question → Option AnswerCo
 HasPassedOn old v new None = IsPassedTo old new v
 HasPassedOn old v new (Some a) = IsEnded old new v a
 
+-- what was found stays, and so does what others came to keep
+pub record KeepsFinds (old new : Question) : Type 0 where
+  pub found : new.found.entries ≡ old.found.entries
+  pub passed : new.passed.entries ≡ old.passed.entries
+
 -- the last one waits for one that wasn't in the chain
 pub record IsDeeper (old new : Question) (j : Instance ℕ) : Type 0 where
   pub apart : ¬ (Among j (keys_of old.waiting.entries ++ old.inst ∷ []))

@@ -184,22 +184,6 @@ impl<K: Keeper> Demand<K> {
         if !rules.is_lazy(inst.attribute()) {
             return Ok(Put::Left);
         }
-        self.keep_lazy(rules, found, inst, find)
-    }
-
-    // Keeps the value that was found of the instance, whose attribute is lazy, and says whether it is kept.
-    #[inline(always)]
-    fn keep_lazy(
-        &mut self,
-        rules: &Rules,
-        found: &IndexMap<Inst, Find>,
-        inst: &Inst,
-        find: &Find,
-    ) -> Result<Put, AllocError>
-        requires { CanBeKeptLazily rules.now (K.contents self.old.keeper) found.now.entries inst.now find.now }
-        ensures { IsKeptWhereLazy rules.now K.exact (K.contents self.old.keeper) (K.contents self.new.keeper)
-            (K.memories self.old.keeper) (K.memories self.new.keeper) self.old.work self.new.work found.now.entries inst.now find.now result }
-    {
         // Where no other find stands below it, it rests on its own reads and what it took of what is kept.
         if find.demanded.finds.is_empty() {
             let reads = find.reads.as_slice();

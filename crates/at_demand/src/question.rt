@@ -7,7 +7,7 @@ ghost use Rattle.at_model.specs.Meaning.{Among};
 ghost use Rattle.at_model.specs.Turning.{turns_of};
 ghost use Rattle.at_body.specs.Same.{same_instance};
 ghost use Rattle.at_demand.specs.Turns.{under_way};
-ghost use Rattle.at_demand.specs.ChainSteps.{HasRisen, HasSettled, HasPassedOn, HasDeepened};
+ghost use Rattle.at_demand.specs.ChainSteps.{HasRisen, HasSettled, HasPassedOn, HasDeepened, KeepsFinds};
 
 use crate::answer::Answer;
 use crate::evaluation::{Find, holds, put};
@@ -122,8 +122,7 @@ impl Question {
     fn descend(&mut self, needed: Inst) -> Result<(), AllocError>
         ensures waiting { OnOk result (self.new.waiting.entries ≡ insert_entry same_instance self.old.waiting.entries self.old.inst tt) }
         ensures inst { OnOk result (self.new.inst ≡ needed) }
-        ensures found { self.new.found.entries ≡ self.old.found.entries }
-        ensures passed { self.new.passed.entries ≡ self.old.passed.entries }
+        ensures finds { KeepsFinds self.old self.new }
     {
         let inst = mem::replace(&mut self.inst, needed);
         self.waiting.insert(inst, ())?;

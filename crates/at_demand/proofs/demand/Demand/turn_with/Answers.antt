@@ -1,4 +1,4 @@
-use Rattle.std.proofs.Common.{ℕ, Some, Option, refl, sym, ap, ◌∙◌, subst}
+use Rattle.std.proofs.Common.{ℕ, Some, Option, refl, sym, ap, ◌∙◌, subst, rules}
 use Rattle.std.proofs.lemmas.Result.{IfOk-weaker, err_from_is_err_and}
 use Rattle.at_store.specs.Shown.{contents}
 use Rattle.at_body.specs.Typed.{class_shown}

@@ -181,5 +181,5 @@ turn_with-requires g c = record {
     };
     standing = c.loop-given.invariant.standing;
   };
-  fit = search rules;
+  fit = c.loop-given.invariant.fit;
 }

@@ -7,4 +7,4 @@ returns-then-has c = record { among = c.if-has.ensures; same = refl; is = refl }
 pub returns : goal.returns
 returns c =
     let e = c.in_ok-descend.ensures in
-    record { apart = c.if-has.ensures; waiting = e.waiting; inst = e.inst; found = e.found; passed = e.passed }
+    record { apart = c.if-has.ensures; waiting = e.waiting; inst = e.inst; found = e.finds.found; passed = e.finds.passed }
