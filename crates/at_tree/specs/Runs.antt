@@ -28,4 +28,5 @@ Cuts passes text front rest = (cs : List ℕ) × (front ≡ encode_utf8_all cs) 
 -- the text is what has the form of a name, as long as it goes on, and then the rest
 abbrev pub IsWordBefore : List ℕ → List ℕ → List ℕ → Type 0
 IsWordBefore text word rest =
-    (c : ℕ) × (cs : List ℕ) × (word ≡ encode_utf8_all (c ∷ cs)) × (text ≡ encode_utf8_all (c ∷ cs) ++ rest) × (starts_name c ≡ true) × IsLongestRun continues_name cs rest
+    (c : ℕ) × (cs : List ℕ) × (word ≡ encode_utf8_all (c ∷ cs)) × (text ≡ encode_utf8_all (c ∷ cs) ++ rest)
+    × (starts_name c ≡ true) × IsLongestRun continues_name cs rest
