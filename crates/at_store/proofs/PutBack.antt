@@ -63,3 +63,20 @@ take_set (suc n) [] zero s = refl
 take_set (suc n) [] (suc i) s = refl
 take_set (suc n) (x ∷ xs) zero s = refl
 take_set (suc n) (x ∷ xs) (suc i) s = ap (λ ys. x ∷ ys) (take_set n xs i s)
+
+-- such a place that is written shows what it came to
+pub row_shown : (g : Kept → Kept) (n : ℕ) (xs : List Slot) (i : ℕ) (d b : Slot) → kept_view b ≡ g (kept_view (get_or xs i d))
+    → map kept_view (take n (slice_set xs i b)) ≡ changed_at g (map kept_view (take n xs)) i
+row_shown g zero xs i d b h = refl
+row_shown g (suc n) [] zero d b h = refl
+row_shown g (suc n) [] (suc i) d b h = refl
+row_shown g (suc n) (x ∷ xs) zero d b h = ap (λ y. y ∷ map kept_view (take n xs)) h
+row_shown g (suc n) (x ∷ xs) (suc i) d b h = ap (λ ys. kept_view x ∷ ys) (row_shown g n xs i d b h)
+
+pub row_same : (n : ℕ) (xs : List Slot) (i : ℕ) (d b : Slot) → kept_view b ≡ kept_view (get_or xs i d)
+    → map kept_view (take n (slice_set xs i b)) ≡ map kept_view (take n xs)
+row_same zero xs i d b h = refl
+row_same (suc n) [] zero d b h = refl
+row_same (suc n) [] (suc i) d b h = refl
+row_same (suc n) (x ∷ xs) zero d b h = ap (λ y. y ∷ map kept_view (take n xs)) h
+row_same (suc n) (x ∷ xs) (suc i) d b h = ap (λ ys. kept_view x ∷ ys) (row_same n xs i d b h)

@@ -1,5 +1,5 @@
 -- An entry of the slab that is written and shows the same.
-use Rattle.std.proofs.Common.{◌≡◌, ℕ, zero, suc, List, [], ◌∷◌, get_or, slice_set, Some, refl, sym, ap, ◌∙◌, inl, inr, is_some}
+use Rattle.std.proofs.Common.{◌≡◌, Bool, ℕ, zero, suc, List, [], ◌∷◌, get_or, slice_set, Some, refl, sym, ap, ◌∙◌, inl, inr, is_some}
 use Rattle.std.specs.Prelude.{map}
 use Rattle.std.proofs.lemmas.Bool.{cases_eq}
 use Rattle.slab.specs.Slab.{Slab, get, with_value}
@@ -32,6 +32,17 @@ marks_same s node a cells there k =
     elim (cases_eq k node) [
       | inl p ↦ ap (leaves_in (with_value s node new)) p ∙ ap marked u.changed ∙ ap marked there ∙ ap (leaves_in s) (sym p)
       | inr q ↦ ap marked (u.others k q)
+    ]
+
+-- an entry that is marked shows what it did
+pub mark_written : (s : Slab Entry) (node : ℕ) (a : Entry) (leaves : Bool) → Some a ≡ get s node →
+    IsAsBefore (stored_of s) (stored_of (with_value s node (record { class = a.class; up = a.up; number = a.number; leaves = leaves; cells = a.cells })))
+mark_written s node a leaves there k =
+    let new : Entry = record { class = a.class; up = a.up; number = a.number; leaves = leaves; cells = a.cells } in
+    let u = Updates-with_value s node new (ap is_some (sym there)) in
+    elim (cases_eq k node) [
+      | inl p ↦ ap (stored_of (with_value s node new)) p ∙ ap info_of u.changed ∙ ap info_of there ∙ ap (stored_of s) (sym p)
+      | inr q ↦ ap info_of (u.others k q)
     ]
 
 -- a component that is written and shows the same
