@@ -159,8 +159,8 @@ fn remove_at(entries: &mut Table, plan: &[Links], slot: Slot)
     let _ = entries.remove(slot);
 }
 
-/// What doesn't stay goes. An error where there are more slots than the plan has.
-pub fn remove_folded(entries: &mut Table, plan: &[Links]) -> Result<(), AllocError>
+// What doesn't stay goes. An error where there are more slots than the plan has.
+fn remove_each(entries: &mut Table, plan: &[Links]) -> Result<(), AllocError>
     ensures { OnOk result (Remains (slots_at plan.now) (memory_of entries.old) (memory_of entries.new)) }
 {
     if entries.places.capacity() > plan.len() {
@@ -170,5 +170,14 @@ pub fn remove_folded(entries: &mut Table, plan: &[Links]) -> Result<(), AllocErr
         let slot = small(number)?;
         remove_at(entries, plan, slot);
     }
+    Ok(())
+}
+
+/// What doesn't stay goes, with the memory that it took. An error where there are more slots than the plan has.
+pub fn remove_folded(entries: &mut Table, plan: &[Links]) -> Result<(), AllocError>
+    ensures { OnOk result (Remains (slots_at plan.now) (memory_of entries.old) (memory_of entries.new)) }
+{
+    remove_each(entries, plan)?;
+    entries.shrink();
     Ok(())
 }

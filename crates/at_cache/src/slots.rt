@@ -134,6 +134,13 @@ impl Table {
         }
     }
 
+    /// Gives back memory that entries took which left.
+    pub fn shrink(&mut self)
+        ensures { (k : ℕ) → memory_of self.new k ≡ memory_of self.old k }
+    {
+        self.entries.shrink_to_fit();
+    }
+
     /// The entry in the slot is put anew, and has the edges to those that used it before.
     pub fn renew(&mut self, slot: Slot, value: Option<Value>, links: Links, stamp: u64)
         requires there { IsSome (memory_of self.old slot) }
