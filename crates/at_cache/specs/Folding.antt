@@ -130,6 +130,11 @@ pub record AreLinks (m : Memory) (into links : ℕ → List ℕ) : Type 0 where
   pub has : (r p : ℕ) → HasUsed m into p r → Contains (links r) p
   pub from : (r p : ℕ) → Contains (links r) p → HasUsed m into p r
 
+-- The lists have the same slots, in whatever order and however often.
+pub record HasSame (old new : List ℕ) : Type 0 where
+  pub kept : (p : ℕ) → Contains old p → Contains new p
+  pub from : (p : ℕ) → Contains new p → Contains old p
+
 -- an entry has these links and users
 abbrev pub relinked : (links : List ℕ) → (users : List Edge) → Info → Info
 relinked links users e = record e { links = links; users = users }

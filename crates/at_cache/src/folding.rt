@@ -3,7 +3,7 @@
 //! A plan has for each slot those of the entries that its entry is folded into: itself where it stays, none where it goes whole. Any plan that
 //! passes `is_sound` is right, so that which one is made is a matter of speed alone.
 
-ghost use Rattle.std.specs.Prelude.{◌≡◌, ℕ, List, OnOk, length, nat_eq};
+ghost use Rattle.std.specs.Prelude.{◌≡◌, ℕ, Contains, IsTrue, List, OnOk, length, nat_eq};
 ghost use Rattle.std.specs.List.{list_any};
 ghost use Rattle.at_cache.specs.Asking.{AreNoted};
 ghost use Rattle.at_cache.specs.Folding.{LeavesKept, slots_at};
@@ -19,6 +19,9 @@ use crate::relinking::{links_of, relink, remove_folded};
 use crate::rewriting::rewrite;
 use crate::table::Table;
 use std::alloc::{AllocError, Global};
+
+// How many slots at the end of a list are looked at.
+const NEAR: usize = 8;
 
 /// The list of the slot; an empty one where it has none.
 pub fn slots_at(lists: &[Links], slot: Slot) -> &[Slot]
@@ -40,6 +43,13 @@ pub fn has(slots: &[Slot], slot: Slot) -> bool
         }
     }
     false
+}
+
+/// Whether the slot is one of the last of these.
+pub fn is_near(slots: &[Slot], slot: Slot) -> bool
+    ensures { IsTrue result → Contains slots.now slot }
+{
+    has(slots.split_at(slots.len().saturating_sub(NEAR)).1, slot)
 }
 
 /// Whether what is in the slot stays by the plan.

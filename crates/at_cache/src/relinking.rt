@@ -1,25 +1,25 @@
 //! Entries that stay use what those used that are folded into them, and the others go.
 
 ghost use Rattle.std.specs.Prelude.{◌≡◌, ◌<◌, ◌∷◌, [], ℕ, IfOk, OnOk, length};
-ghost use Rattle.at_cache.specs.Folding.{AreLinks, HasLinked, Linked, LinkedTo, Relinks, RelinksAt, Remains, RemovesAt, slots_at};
+ghost use Rattle.at_cache.specs.Folding.{AreLinks, HasLinked, HasSame, Linked, LinkedTo, Relinks, RelinksAt, Remains, RemovesAt, slots_at};
 ghost use Rattle.at_cache.specs.Info.{memory_of};
 
 use crate::edge::{Edges, Slot};
 use crate::entry::Links;
 use crate::facet::small;
-use crate::folding::{does_stay, has, slots_at};
+use crate::folding::{does_stay, is_near, slots_at};
 use crate::rewriting::rewrite_list;
 use crate::table::Table;
 use std::alloc::{AllocError, Global};
 
-// One link more, if the entry in that slot stays.
+// One link more, if the entry in that slot stays. Of the list only the end is looked at, so that many links cost no more than their number.
 fn add_link(list: &mut Links, plan: &[Links], slot: Slot) -> Result<(), AllocError>
     ensures { OnOk result (Linked (slots_at plan.now) (slot ∷ []) list.old.items list.new.items) }
 {
     if !does_stay(plan, slot) {
         return Ok(());
     }
-    if has(list.as_slice(), slot) {
+    if is_near(list.as_slice(), slot) {
         return Ok(());
     }
     list.push(slot)?;
@@ -93,8 +93,8 @@ fn empty_lists(alloc: Global, count: usize) -> Result<Vec<Links>, AllocError>
     Ok(lists)
 }
 
-/// The links of each entry that stays.
-pub fn links_of(alloc: Global, entries: &Table, plan: &[Links]) -> Result<Vec<Links>, AllocError>
+// The links of each entry that stays.
+fn all_links_of(alloc: Global, entries: &Table, plan: &[Links]) -> Result<Vec<Links>, AllocError>
     ensures { IfOk result (λ links. AreLinks (memory_of entries.now) (slots_at plan.now) (slots_at links.items)) }
 {
     let mut lists = empty_lists(alloc, plan.len())?;
@@ -102,6 +102,33 @@ pub fn links_of(alloc: Global, entries: &Table, plan: &[Links]) -> Result<Vec<Li
         let slot = small(number)?;
         link_from(entries, plan, &mut lists, slot)?;
     }
+    Ok(lists)
+}
+
+// Each of these links is in the list once.
+fn make_distinct(list: &mut Links)
+    ensures { HasSame list.old.items list.new.items }
+{
+    list.as_mut_slice().sort_unstable();
+    list.dedup();
+}
+
+// So it is in all of these lists.
+fn make_each_distinct(lists: &mut Vec<Links>)
+    ensures { (r : ℕ) → HasSame (slots_at lists.old.items r) (slots_at lists.new.items r) }
+{
+    for number in 0..lists.len() {
+        let list = &mut lists[number];
+        make_distinct(list);
+    }
+}
+
+/// The links of each entry that stays, each once.
+pub fn links_of(alloc: Global, entries: &Table, plan: &[Links]) -> Result<Vec<Links>, AllocError>
+    ensures { IfOk result (λ links. AreLinks (memory_of entries.now) (slots_at plan.now) (slots_at links.items)) }
+{
+    let mut lists = all_links_of(alloc, entries, plan)?;
+    make_each_distinct(&mut lists);
     Ok(lists)
 }
 

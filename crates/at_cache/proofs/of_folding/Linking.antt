@@ -14,7 +14,7 @@ use Rattle.at_cache.proofs.Moving.{within}
 use Rattle.at_cache.proofs.Taking.{none_in}
 use Rattle.at_cache.proofs.of_folding.Gathering.{only_one}
 
-abbrev list_of : Option (SmallVec ℕ) → List ℕ
+abbrev pub list_of : Option (SmallVec ℕ) → List ℕ
 list_of o = elim o [ None ↦ [] | Some v ↦ v.items ]
 
 module _ {into : ℕ → List ℕ} where
