@@ -99,6 +99,7 @@ module _ {lists later : Location ℕ → List Edge} {puts : ℕ} {m mid n : Memo
   kept_then = kept_folded i plan folded_by
 
 -- so it is of instances
-pub leaves_folded : (lists later : Location ℕ → List Edge) (old new : Table) (puts : ℕ) → ((s : ℕ) (x : Standing) → kept_at later (memory_of new) puts s ≡ Some x → kept_at lists (memory_of old) puts s ≡ Some x)
+pub leaves_folded : (lists later : Location ℕ → List Edge) (old new : Table) (puts : ℕ)
+    → ((s : ℕ) (x : Standing) → kept_at later (memory_of new) puts s ≡ Some x → kept_at lists (memory_of old) puts s ≡ Some x)
     → LeavesKept (kept_in lists old puts) (kept_in later new puts)
 leaves_folded lists later old new puts h i k is = (leaves_of (shown_table lists old puts) (shown_table later new puts) (λ l b. Unit {0}) (λ s x there. (h s x there, λ l c. tt)) i k is).0

@@ -55,7 +55,8 @@ module _ (there : Edge → Bool) (into : ℕ → List ℕ) where
       (refolded_one (stands_for n r.facet l) (edges_in r.edges) (edges_in q.edges) front))
       (facets_refolded rs qs (λ p. h (suc p)) n l)
 
-  pub nodes_refolded : (old new : List (SmallVec Readers)) → ((k : ℕ) → IsNodeRefolded there into (slice_get old k) (slice_get new k)) → (l : Location ℕ) → Refolded there into (edges_at old l) (edges_at new l)
+  pub nodes_refolded : (old new : List (SmallVec Readers)) → ((k : ℕ) → IsNodeRefolded there into (slice_get old k) (slice_get new k)) → (l : Location ℕ)
+      → Refolded there into (edges_at old l) (edges_at new l)
   nodes_refolded old new h l = by (slice_get old (node_at l)) (slice_get new (node_at l)) (h (node_at l))
     where
       by : (o p : Option (SmallVec Readers)) → IsNodeRefolded there into o p → Refolded there into (edges_of l o) (edges_of l p)

@@ -27,7 +27,8 @@ module _ {T : Type 0} (P : Option T → Option T → Type 0) where
   pub below_start : (xs : List T) → Below P 0 xs xs
   below_start xs = record { done = λ k less. absurd (omega (arith, less)); todo = λ k over. refl; len = refl }
 
-  pub below_more : (n : ℕ) (old mid new : List T) → Below P n old mid → P (slice_get mid n) (slice_get new n) → ((k : ℕ) → (k ≡ n → ⊥) → slice_get new k ≡ slice_get mid k) → length new ≡ length mid → Below P (n + 1) old new
+  pub below_more : (n : ℕ) (old mid new : List T) → Below P n old mid → P (slice_get mid n) (slice_get new n)
+      → ((k : ℕ) → (k ≡ n → ⊥) → slice_get new k ≡ slice_get mid k) → length new ≡ length mid → Below P (n + 1) old new
   below_more n old mid new b here others len = record {
     done = λ k less. elim (cases_lt k n) [
       | inl is ↦ subst (P (slice_get old k)) (sym (others k (λ same. absurd (omega (arith, same, is))))) (b.done k is)
@@ -49,7 +50,8 @@ module _ {T : Type 0} (P : Option T → Option T → Type 0) where
 
 module _ (there : Edge → Bool) (into : ℕ → List ℕ) where
   -- the list at a place of those of a node is another
-  pub one_place : {E V : Type 0} (rs : List Readers) (p : ℕ) (r : Readers) (v : Edges) (result : Result V E) → p < length rs → r ≡ get_or rs p r → OnOk result (Refolded there into (edges_in r.edges) (edges_in v))
+  pub one_place : {E V : Type 0} (rs : List Readers) (p : ℕ) (r : Readers) (v : Edges) (result : Result V E) → p < length rs → r ≡ get_or rs p r
+      → OnOk result (Refolded there into (edges_in r.edges) (edges_in v))
       → OnOk result (IsRefolded there into (slice_get rs p) (slice_get (slice_set rs p (record { facet = r.facet; edges = v })) p))
   one_place rs p r v result less read h = on_ok_weaker result made h
     where
@@ -57,8 +59,10 @@ module _ (there : Edge → Bool) (into : ℕ → List ℕ) where
       was = got rs p r less ∙ ap Some (sym read)
 
       made : Refolded there into (edges_in r.edges) (edges_in v) → IsRefolded there into (slice_get rs p) (slice_get (slice_set rs p (record { facet = r.facet; edges = v })) p)
-      made lists = subst (λ o. IsRefolded there into o (slice_get (slice_set rs p (record { facet = r.facet; edges = v })) p)) (sym was) (record { facet = r.facet; edges = v }, get_same rs p (record { facet = r.facet; edges = v }) r was, refl, lists)
+      made lists = subst (λ o. IsRefolded there into o (slice_get (slice_set rs p (record { facet = r.facet; edges = v })) p)) (sym was)
+          (record { facet = r.facet; edges = v }, get_same rs p (record { facet = r.facet; edges = v }) r was, refl, lists)
 
   -- the lists of a node are others
-  pub one_node : (vs : List (SmallVec Readers)) (n : ℕ) (v w : SmallVec Readers) → slice_get vs n ≡ Some v → AreRefolded there into v.items w.items → IsNodeRefolded there into (slice_get vs n) (slice_get (slice_set vs n w) n)
+  pub one_node : (vs : List (SmallVec Readers)) (n : ℕ) (v w : SmallVec Readers) → slice_get vs n ≡ Some v → AreRefolded there into v.items w.items
+      → IsNodeRefolded there into (slice_get vs n) (slice_get (slice_set vs n w) n)
   one_node vs n v w was lists = subst (λ o. IsNodeRefolded there into o (slice_get (slice_set vs n w) n)) (sym was) (w, get_same vs n w v was, lists)

@@ -185,7 +185,8 @@ slot_within t k f h = elim (cases_lt k (length t.places.slots)) [
     past (x ∷ xs) zero over = absurd (omega (arith, over))
     past (x ∷ xs) (suc k) over = past xs k (omega (arith, over))
 
-pub remains_end : (t : Table) (plan : List (SmallVec ℕ)) (n count : ℕ) (new : Memory) → length t.places.slots ≤ count → count ≤ n → RemainsBelow (slots_at plan) n (memory_of t) new → Remains (slots_at plan) (memory_of t) new
+pub remains_end : (t : Table) (plan : List (SmallVec ℕ)) (n count : ℕ) (new : Memory) → length t.places.slots ≤ count → count ≤ n
+    → RemainsBelow (slots_at plan) n (memory_of t) new → Remains (slots_at plan) (memory_of t) new
 remains_end t plan n count new a b r = record {
   stays = r.stays;
   only = λ k f h. elim (cases_lt k n) [

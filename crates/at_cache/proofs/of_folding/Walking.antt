@@ -114,7 +114,8 @@ module _ {into : ℕ → List ℕ} where
   pub linked_more : (xs : List ℕ) (i d : ℕ) (old mid new : List ℕ) → i < length xs → Linked into (take i xs) old mid → Linked into (get_or xs i d ∷ []) mid new → Linked into (take (i + 1) xs) old new
   linked_more xs i d old mid new less a b = subst (λ ys. Linked into ys old new) (sym (take_more xs i d less)) (linked_then (take i xs) (get_or xs i d ∷ []) a b)
 
-  pub to_more : (xs : List ℕ) (i d : ℕ) {links : List ℕ} (f g h : ℕ → List ℕ) → i < length xs → LinkedTo into (take i xs) links f g → LinkedTo into (get_or xs i d ∷ []) links g h → LinkedTo into (take (i + 1) xs) links f h
+  pub to_more : (xs : List ℕ) (i d : ℕ) {links : List ℕ} (f g h : ℕ → List ℕ) → i < length xs → LinkedTo into (take i xs) links f g
+      → LinkedTo into (get_or xs i d ∷ []) links g h → LinkedTo into (take (i + 1) xs) links f h
   to_more xs i d {links} f g h less a b = subst (λ ys. LinkedTo into ys links f h) (sym (take_more xs i d less)) (to_then (take i xs) (get_or xs i d ∷ []) a b)
 
 -- edges to one slot more
