@@ -2,13 +2,13 @@
 """A realistic program: how fast all errors are told of a program as people write them, and after each keystroke, beside Java.
 
     python3 bench/realistic.py [PROGRAM] [--nodes N ..] [--rounds N] [--seed N] [--row NAME] [--cut-off]
-        [--instructions] [--hold]
+        [--keep N] [--instructions] [--hold]
 
 PROGRAM is ./attrd where none is given; the programs have 1,000, 10,000 and 60,000 nodes of the tutorial's language. The Java program has
 the form that JastAdd2 generates, forgets all at each edit, and is warm, in one process; where there is no `javac`, attrd is measured
 alone. All answers of the two are compared. Times are processor times, the least of several rounds by turns; values are those of lazy
 attributes that --work counts; instructions are counted where there is `valgrind`, of keystrokes only with --instructions, which takes
-minutes. --row measures the rows whose names have that in them; --cut-off gives the program that option. What is wanted is told
+minutes. --row measures the rows whose names have that in them; --cut-off and --keep give the program that option. What is wanted is told
 beside what was measured, for the programs of the first seed; with --hold the status is 1 where it isn't reached. It takes five
 minutes.
 """
@@ -110,8 +110,8 @@ class Bench:
 
     def __init__(self, program: str, folder: str, nodes: int, arguments: argparse.Namespace) -> None:
         self.program, self.folder, self.nodes = program, folder, nodes
-        self.is_known = arguments.seed == SEED
-        self.options = ["--cut-off"] if arguments.cut_off else []
+        self.is_known = arguments.seed == SEED and not arguments.keep
+        self.options = ["--cut-off"] if arguments.cut_off else ["--keep", str(arguments.keep)] if arguments.keep else []
         grammar = Grammar.load(GRAMMAR)
         tree = written(nodes, arguments.seed)
         self.size, self.file = tree.size, f"program{nodes}.txt"
@@ -253,6 +253,7 @@ def read_arguments() -> argparse.Namespace:
     parser.add_argument("--seed", type=int, default=SEED)
     parser.add_argument("--row", default="", help=f"a part of a name: {'; '.join(KINDS)}")
     parser.add_argument("--cut-off", action="store_true")
+    parser.add_argument("--keep", type=int, default=0, help="nothing is wanted of it")
     parser.add_argument("--instructions", action="store_true")
     parser.add_argument("--hold", action="store_true")
     return parser.parse_args()

@@ -1,16 +1,20 @@
 -- A keeper with a bound.
-use Rattle.std.proofs.Common.{◌<◌, ◌≤◌, ℕ, Bool, None, sym, ◌∙◌, arith}
+use Rattle.std.proofs.Common.{◌≡◌, ℕ, Bool, None, Some, sym, ◌∙◌, subst}
 use Rattle.std.proofs.lemmas.Option.{none-some}
 use Rattle.at_model.specs.Run.{Location}
+use Rattle.at_cache.specs.declared.keep_recorded.KeepRecorded.{KeepRecorded}
+use Rattle.at_cache.specs.Folding.{LeavesKept}
+use Rattle.at_cache.specs.Keeping.{recorded_by}
 use Rattle.at_cache.specs.Kept.{Entries, KeepsAll, LeavesUntouched, LosesTouched}
 
-module _ (says : Location ℕ → Bool → Type 0) (old new : Entries) where
-  -- nothing is left
-  pub leaves_none : KeepsAll (λ i. None) new → LeavesUntouched says old new
-  leaves_none none i k h = absurd (none-some k (sym (none i) ∙ h))
+-- what keeps nothing leaves what was kept
+pub leaves_nothing : (old new : Entries) → KeepsAll (λ i. None) new → LeavesKept old new
+leaves_nothing old new none i k h = absurd (none-some k (sym (none i) ∙ h))
 
-  pub forgets_over : (most count : ℕ) → most < count → KeepsAll (λ i. None) new → (count ≤ most → LosesTouched says old new) × (most < count → KeepsAll (λ i. None) new)
-  forgets_over most count more none = (λ less. absurd (omega (arith, less, more)), λ h. none)
+-- what a flush leaves of what is left was left of what was kept
+pub flush_leaves : (says : Location ℕ → Bool → Type 0) (old mid new : Entries) → LeavesKept old mid → LeavesUntouched says mid new → LeavesUntouched says old new
+flush_leaves says old mid new kept leaves i k h = let (was, untouched) = leaves i k h in (kept i k was, untouched)
 
-  pub forgets_within : (most count : ℕ) → count ≤ most → LosesTouched says old new → (count ≤ most → LosesTouched says old new) × (most < count → KeepsAll (λ i. None) new)
-  forgets_within most count less loses = (λ h. loses, λ more. absurd (omega (arith, less, more)))
+-- where nothing was folded just what is touched goes
+pub flush_loses : (says : Location ℕ → Bool → Type 0) (old mid : KeepRecorded) (new : Entries) → mid ≡ old → LosesTouched says (recorded_by mid) new → LosesTouched says (recorded_by old) new
+flush_loses says old mid new same = subst (λ (k : KeepRecorded). LosesTouched says (recorded_by k) new) same

@@ -28,3 +28,4 @@ pub mod RowLists
 pub mod NoRows
 pub mod Came
 mod of_cut
+mod of_folding

@@ -13,6 +13,7 @@ pub mod Asking
 pub mod Keeping
 pub mod Stored
 pub mod Bound
+pub mod Folding
 pub mod Blocking
 pub mod Attributes
 pub mod Traced

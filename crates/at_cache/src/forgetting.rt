@@ -168,6 +168,7 @@ fn forget(entries: &mut Table, slot: Slot) -> Option<Slot>
 /// All that go are taken out.
 pub fn forget_all(entries: &mut Table, first: Option<Slot>)
     ensures works { (old : Memory) (start : List Edge) → Work old start [] first (memory_of entries.old) → Work old start [] None (memory_of entries.new) }
+    ensures fewer { table_len entries.new ≤ table_len entries.old }
 {
     let mut first = first;
     while let Some(slot) = first {
@@ -185,6 +186,7 @@ pub fn take_out<F: Fn(Loc) -> bool>(entries: &mut Table, readers: &[Facets], tou
         → LeavesUntouched (Answers (F.post touched.now)) (kept_in (edges_at readers.now) entries.old puts) (kept_in (edges_at readers.now) entries.new puts) }
     ensures loses { (puts : ℕ) → IsIndexed (edges_at readers.now) puts (memory_of entries.old)
         → LosesTouched (Answers (F.post touched.now)) (kept_in (edges_at readers.now) entries.old puts) (kept_in (edges_at readers.now) entries.new puts) }
+    ensures fewer { table_len entries.new ≤ table_len entries.old }
 {
     let first = begin(entries, readers, touched);
     forget_all(entries, first);

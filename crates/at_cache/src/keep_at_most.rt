@@ -1,11 +1,12 @@
 //! The keeper that takes no more than a number of entries through an edit.
 
-ghost use Rattle.std.specs.Prelude.{◌≡◌, ◌-◌, ◌^◌, min, None, OnErr, IfOk, false, true, map, option_map};
+ghost use Rattle.std.specs.Prelude.{◌≡◌, ◌≤◌, ◌-◌, ◌^◌, min, None, OnErr, IfOk, false, true, map, option_map};
 ghost use Rattle.at_body.specs.Values.{value_view};
 ghost use Rattle.at_store.specs.Located.{loc_view};
 ghost use Rattle.at_cache.specs.Info.{memory_of, table_len};
 ghost use Rattle.at_cache.specs.Stored.{reads_held};
 ghost use Rattle.at_cache.specs.Bound.{ForgetsOver, kept_by};
+ghost use Rattle.at_cache.specs.Folding.{LeavesKept};
 ghost use Rattle.at_cache.specs.Kept.{Answers, AreKept, AreNamed, HasPut, KeepsAll, LeavesUntouched, value_at};
 
 use crate::keep_recorded::KeepRecorded;
@@ -13,13 +14,18 @@ use crate::keeper::{Keeper, Order, Put};
 use at_body::{Inst, Value};
 use at_store::{Loc, Places};
 use std::alloc::{AllocError, Global};
+use std::mem;
 
-/// Keeps what a `KeepRecorded` keeps, but forgets all at an edit that finds more entries than a number, with the memory that
-/// they took. One wants it where a session is long: values that are asked no more, and that no edit touches, else stay for ever.
+/// Keeps what a `KeepRecorded` keeps, but folds entries into those that used them at an edit that finds more than a number, so that about three
+/// quarters of it are left, or fewer; where that can't be all is forgotten. One wants it where a session is long: values that are asked no
+/// more, and that no edit touches, else stay for ever.
 pub struct KeepAtMost {
     alloc: Global,
     most: usize,
     keeper: KeepRecorded,
+    // How many numbers were given at the last edit, and the limit on what was folded into one.
+    since: u64,
+    limit: u32,
 }
 
 /// One call, where each exit that lets it go would else have a case for each field.
@@ -29,6 +35,8 @@ impl Drop for KeepAtMost {
             alloc: _,
             most: _,
             keeper: _,
+            since: _,
+            limit: _,
         } = self;
     }
 }
@@ -43,7 +51,30 @@ impl KeepAtMost {
             alloc,
             most,
             keeper: KeepRecorded::new(alloc),
+            since: 0,
+            limit: 0,
         }
+    }
+
+    // Where there are more entries than the bound, they are folded, or forgotten where that isn't enough.
+    fn shrink(&mut self)
+        ensures kept { LeavesKept (kept_by self.old) (kept_by self.new) }
+        ensures within { table_len self.old.keeper.entries ≤ self.old.most → self.new.keeper ≡ self.old.keeper }
+        ensures few { table_len self.new.keeper.entries ≤ self.old.most }
+        ensures bound { self.new.most ≡ self.old.most }
+    {
+        if self.keeper.len() <= self.most {
+            return;
+        }
+        let keeper = mem::replace(&mut self.keeper, KeepRecorded::empty(self.alloc));
+        let Ok((keeper, limit)) = keeper.folded(self.most / 4 * 3, self.since, self.limit) else {
+            return;
+        };
+        self.limit = limit;
+        if keeper.len() > self.most {
+            return;
+        }
+        self.keeper = keeper;
     }
 
     /// How many entries are kept.
@@ -112,13 +143,12 @@ impl Keeper for KeepAtMost {
         requires { F.IsAlwaysCallable touched.now }
         ensures leaves { LeavesUntouched (Answers (F.post touched.now)) (kept_by self.old) (kept_by self.new) }
         ensures over { ForgetsOver (Answers (F.post touched.now)) self.old self.new }
+        ensures few { table_len self.new.keeper.entries ≤ self.old.most }
         ensures bound { self.new.most ≡ self.old.most }
     {
-        if self.keeper.len() > self.most {
-            self.keeper = KeepRecorded::new(self.alloc);
-        } else {
-            self.keeper.flush(touched);
-        }
+        self.shrink();
+        self.since = self.keeper.puts();
+        self.keeper.forget(touched);
     }
 
     fn flush_at<F: Fn(Loc) -> bool>(&mut self, places: &Places<'_>, touched: &F)
@@ -126,12 +156,11 @@ impl Keeper for KeepAtMost {
         requires named { AreNamed places.now (F.post touched.now) }
         ensures leaves { LeavesUntouched (Answers (F.post touched.now)) (kept_by self.old) (kept_by self.new) }
         ensures over { ForgetsOver (Answers (F.post touched.now)) self.old self.new }
+        ensures few { table_len self.new.keeper.entries ≤ self.old.most }
         ensures bound { self.new.most ≡ self.old.most }
     {
-        if self.keeper.len() > self.most {
-            self.keeper = KeepRecorded::new(self.alloc);
-        } else {
-            self.keeper.flush_at(places, touched);
-        }
+        self.shrink();
+        self.since = self.keeper.puts();
+        self.keeper.forget_at(places, touched);
     }
 }

@@ -1,14 +1,18 @@
 //! The keeper that forgets at an edit what the edit touches.
 
-ghost use Rattle.std.specs.Prelude.{◌≡◌, ◌≤◌, ◌-◌, ◌^◌, length, min, None, true};
+ghost use Rattle.std.specs.Prelude.{◌≡◌, ◌≤◌, ◌-◌, ◌^◌, length, min, IfOk, None, true};
 ghost use Rattle.at_cache.specs.Asking.{AreNoted};
+ghost use Rattle.at_cache.specs.Folding.{LeavesKept};
 ghost use Rattle.at_cache.specs.Info.{memory_of, table_len};
-ghost use Rattle.at_cache.specs.Kept.{KeepsAll, value_at};
+ghost use Rattle.at_cache.specs.Kept.{Answers, AreNamed, KeepsAll, LeavesUntouched, LosesTouched, value_at};
 ghost use Rattle.at_cache.specs.Readers.{edges_at};
 ghost use Rattle.at_cache.specs.Recorded.{IsIndexed, kept_in};
 ghost use Rattle.at_cache.specs.Stored.{reads_held};
 
+use crate::choosing::choose;
+use crate::entry::Links;
 use crate::facet::Facets;
+use crate::folding::fold;
 use crate::forgetting::take_out;
 use crate::keeper::{Keeper, Order, Put};
 use crate::places::take_out_at;
@@ -55,6 +59,14 @@ impl KeepRecorded {
     pub fn new(alloc: Global) -> KeepRecorded
         ensures { KeepsAll (λ _. None) (kept_in (edges_at result.readers.items) result.entries result.puts) }
     {
+        KeepRecorded::empty(alloc)
+    }
+
+    /// A keeper with no entries.
+    pub fn empty(alloc: Global) -> KeepRecorded
+        ensures nothing { KeepsAll (λ _. None) (kept_in (edges_at result.readers.items) result.entries result.puts) }
+        ensures len { table_len result.entries ≡ 0 }
+    {
         KeepRecorded {
             alloc,
             entries: Table {
@@ -73,6 +85,87 @@ impl KeepRecorded {
         ensures { result ≡ table_len self.now.entries }
     {
         self.entries.entries.len()
+    }
+
+    /// How many numbers were given.
+    pub fn puts(&self) -> u64 {
+        self.puts
+    }
+
+    /// The same with entries folded into those that used them, so that about so many are left, or fewer; with the limit on what is folded into
+    /// one. That is to be the last one. What nothing uses goes whole, where it was put before that number. An error where memory is wanting.
+    pub fn folded(
+        self,
+        target: usize,
+        since: u64,
+        limit: u32,
+    ) -> Result<(KeepRecorded, u32), AllocError>
+        ensures { IfOk result (λ r. LeavesKept (kept_in (edges_at self.readers.items) self.entries self.puts)
+            (kept_in (edges_at r.0.readers.items) r.0.entries r.0.puts)) }
+    {
+        let choice = choose(
+            self.alloc,
+            &self.entries,
+            self.readers.as_slice(),
+            target,
+            since,
+            limit,
+        )?;
+        let keeper = self.folded_by(choice.plan.as_slice())?;
+        Ok((keeper, choice.limit))
+    }
+
+    // The same folded by that plan.
+    fn folded_by(self, plan: &[Links]) -> Result<KeepRecorded, AllocError>
+        ensures { IfOk result (λ k. LeavesKept (kept_in (edges_at self.readers.items) self.entries self.puts)
+            (kept_in (edges_at k.readers.items) k.entries k.puts)) }
+    {
+        let KeepRecorded {
+            alloc,
+            mut entries,
+            mut readers,
+            index_read,
+            puts,
+        } = self;
+        fold(alloc, &mut entries, &mut readers, plan)?;
+        Ok(KeepRecorded {
+            alloc,
+            entries,
+            readers,
+            index_read,
+            puts,
+        })
+    }
+
+    /// As `flush`: no more entries are left than there were.
+    pub fn forget<F: Fn(Loc) -> bool>(&mut self, touched: &F)
+        requires { F.IsAlwaysCallable touched.now }
+        ensures leaves { LeavesUntouched (Answers (F.post touched.now)) (kept_in (edges_at self.old.readers.items) self.old.entries self.old.puts)
+            (kept_in (edges_at self.new.readers.items) self.new.entries self.new.puts) }
+        ensures loses { LosesTouched (Answers (F.post touched.now)) (kept_in (edges_at self.old.readers.items) self.old.entries self.old.puts)
+            (kept_in (edges_at self.new.readers.items) self.new.entries self.new.puts) }
+        ensures fewer { table_len self.new.entries ≤ table_len self.old.entries }
+    {
+        take_out(&mut self.entries, self.readers.as_slice(), touched);
+    }
+
+    /// As `flush_at`: no more entries are left than there were.
+    pub fn forget_at<F: Fn(Loc) -> bool>(&mut self, places: &Places<'_>, touched: &F)
+        requires callable { F.IsAlwaysCallable touched.now }
+        requires named { AreNamed places.now (F.post touched.now) }
+        ensures leaves { LeavesUntouched (Answers (F.post touched.now)) (kept_in (edges_at self.old.readers.items) self.old.entries self.old.puts)
+            (kept_in (edges_at self.new.readers.items) self.new.entries self.new.puts) }
+        ensures loses { LosesTouched (Answers (F.post touched.now)) (kept_in (edges_at self.old.readers.items) self.old.entries self.old.puts)
+            (kept_in (edges_at self.new.readers.items) self.new.entries self.new.puts) }
+        ensures fewer { table_len self.new.entries ≤ table_len self.old.entries }
+    {
+        take_out_at(
+            &mut self.entries,
+            self.readers.as_slice(),
+            self.index_read.as_slice(),
+            places,
+            touched,
+        );
     }
 
     /// How many direct reads the entries have: of an entry a location once, however often it was put, and a node's class once for each
@@ -141,16 +234,10 @@ impl Keeper for KeepRecorded {
     }
 
     fn flush<F: Fn(Loc) -> bool>(&mut self, touched: &F) {
-        take_out(&mut self.entries, self.readers.as_slice(), touched);
+        self.forget(touched);
     }
 
     fn flush_at<F: Fn(Loc) -> bool>(&mut self, places: &Places<'_>, touched: &F) {
-        take_out_at(
-            &mut self.entries,
-            self.readers.as_slice(),
-            self.index_read.as_slice(),
-            places,
-            touched,
-        );
+        self.forget_at(places, touched);
     }
 }

@@ -5,14 +5,17 @@
 //! slots, `Edges` what a list of edges has, in `Rows`, `Readers` who read which location, `Recorded` what an entry stands for and how
 //! it is found (`IsIndexed`), `Keeping` what the keeper keeps, `Placed` where entries stand, `Putting` one more, `Flushing` a flush under way and
 //! `Asking` where one begins, `Slots` single writes, `Attributes` of which attributes entries came, `Stored` how many locations are
-//! read. `UntilEdit` is the keeper that forgets all at an edit. Of the one that keeps again what didn't change, `Traced` is what it remembers,
-//! `Standings` what is kept and traced of the entries in memory, `Marking` a pass over them at an edit, `Renewing` and `Theirs` a put over one,
+//! read. `Folding` is what becomes of entries that are folded into those that used them. `UntilEdit` is the keeper that forgets all at an
+//! edit. Of the one that keeps again what didn't change, `Traced` is what it remembers, `Standings` what is kept
+//! and traced of the entries in memory, `Marking` a pass over them at an edit, `Renewing` and `Theirs` a put over one,
 //! `Settling` what is kept again, and `Blocking` what stands in its way.
 //!
 //! **Where to begin:** the trait in `keeper.rt`, then `keep_recorded.rt`: `table.rt` holds the entries,
 //! `row.rt` and `linking.rt` the edges; `putting.rt` is `put`, `forgetting.rt` a flush, `places.rt` one by places.
-//! `keep_at_most.rt` is a keeper over it, with a bound. `keep_cut_off.rt` is one whose entries stay in memory: `cut.rt` and `standing.rt` have
-//! them, `cutting.rt` is its flush over what `forgetting.rt` marks (`marked.rt`), `renewing.rt` its `put`, `settling.rt`
+//! `keep_at_most.rt` is a keeper over it, with a bound: beyond it entries are folded (`folding.rt`) by a plan that is chosen (`choosing.rt`) and
+//! tested (`checking.rt`); `rewriting.rt` has their edges, `relinking.rt` the entries.
+//! `keep_cut_off.rt` is one whose entries stay in memory: `cut.rt` and `standing.rt` have them,
+//! `cutting.rt` is its flush over what `forgetting.rt` marks (`marked.rt`), `renewing.rt` its `put`, `settling.rt`
 //! and `blocking.rt` what a question keeps again.
 //!
 //! **What it keeps true:** what an entry read is said by the edges of locations alone; each entry is found from those
@@ -22,11 +25,14 @@
 
 mod attributes;
 mod blocking;
+mod checking;
+mod choosing;
 mod cut;
 mod cutting;
 mod edge;
 mod entry;
 mod facet;
+mod folding;
 mod forgetting;
 mod keep_at_most;
 mod keep_cut_off;
@@ -40,7 +46,9 @@ mod marked;
 mod noting;
 mod places;
 mod putting;
+mod relinking;
 mod renewing;
+mod rewriting;
 mod row;
 mod scope;
 mod settling;

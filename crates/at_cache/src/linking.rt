@@ -194,8 +194,13 @@ fn add_to_few(
     Ok(())
 }
 
-// One more edge of a list.
-fn add_edge(alloc: Global, entries: &Table, edges: &mut Edges, edge: Edge) -> Result<(), AllocError>
+/// One more edge of a list.
+pub fn add_edge(
+    alloc: Global,
+    entries: &Table,
+    edges: &mut Edges,
+    edge: Edge,
+) -> Result<(), AllocError>
     ensures lists { Lists (memory_of entries.now) edge (edges_in edges.old) (edges_in edges.new) }
     ensures has { OnOk result (Contains (edges_in edges.new) edge) }
 {

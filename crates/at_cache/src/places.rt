@@ -1,11 +1,11 @@
 //! What stands for a touched location is taken out, where places name all that is touched.
 
-ghost use Rattle.std.specs.Prelude.{◌≡◌, ℕ, None};
+ghost use Rattle.std.specs.Prelude.{◌≡◌, ◌≤◌, ℕ, None};
 ghost use Rattle.std.specs.List.{list_any};
 ghost use Rattle.at_model.specs.Touches.{node_of};
 ghost use Rattle.at_store.specs.Places.{is_index_among, is_node, named, names_around};
 ghost use Rattle.at_cache.specs.Asking.{AreNoted, GoesOn, sees};
-ghost use Rattle.at_cache.specs.Info.{memory_of};
+ghost use Rattle.at_cache.specs.Info.{memory_of, table_len};
 ghost use Rattle.at_cache.specs.Kept.{Answers, AreNamed, LeavesUntouched, LosesTouched};
 ghost use Rattle.at_cache.specs.Readers.{edges_at};
 ghost use Rattle.at_cache.specs.Recorded.{IsIndexed, kept_in};
@@ -164,6 +164,7 @@ pub fn take_out_at<F: Fn(Loc) -> bool>(
         → LeavesUntouched (Answers (F.post touched.now)) (kept_in (edges_at readers.now) entries.old puts) (kept_in (edges_at readers.now) entries.new puts) }
     ensures loses { (puts : ℕ) → IsIndexed (edges_at readers.now) puts (memory_of entries.old)
         → LosesTouched (Answers (F.post touched.now)) (kept_in (edges_at readers.now) entries.old puts) (kept_in (edges_at readers.now) entries.new puts) }
+    ensures fewer { table_len entries.new ≤ table_len entries.old }
 {
     let first = begin_named(entries, readers, index_read, places, touched);
     forget_all(entries, first);

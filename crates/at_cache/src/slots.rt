@@ -12,7 +12,8 @@ ghost use Rattle.at_cache.specs.Info.{Info, info, is_going, memory_of, table_len
 ghost use Rattle.at_cache.specs.Placed.{IsMoved, IsPlaced, at};
 ghost use Rattle.at_cache.specs.Marking.{HasMark, aside_table, unmarked};
 ghost use Rattle.at_cache.specs.Putting.{Enters, is_current, reused, users_at};
-ghost use Rattle.at_cache.specs.Slots.{HasWritten, renewed, with_entry, with_list, with_mark};
+ghost use Rattle.at_cache.specs.Slots.{HasWritten, renewed, with_entry, with_list, with_mark, with_rest};
+ghost use Rattle.at_cache.specs.Folding.{relinked};
 
 use crate::attributes::{has_come, note_attribute};
 use crate::edge::{Edge, Edges, Slot};
@@ -111,6 +112,33 @@ impl Table {
             Some(place) => write_users(&mut self.entries, *place, users),
             None => users,
         }
+    }
+
+    /// Whether an entry is in the slot.
+    pub fn is_taken(&self, slot: Slot) -> bool
+        ensures { result ≡ is_some (memory_of self.now slot) }
+    {
+        match self.pair(slot) {
+            Some(_) => true,
+            None => false,
+        }
+    }
+
+    /// The entry in the slot, if there is one, used what is in these slots, and was used by what these edges tell of.
+    pub fn relink(&mut self, slot: Slot, links: Links, users: Edges)
+        ensures { (k : ℕ) → memory_of self.new k
+            ≡ (if nat_eq k slot then option_map (relinked links.items (edges_in users)) (memory_of self.old k) else memory_of self.old k) }
+    {
+        if let Some(place) = self.places.get(slot as usize) {
+            write_rest(&mut self.entries, *place, links, users);
+        }
+    }
+
+    /// Gives back memory that entries took which left.
+    pub fn shrink(&mut self)
+        ensures { (k : ℕ) → memory_of self.new k ≡ memory_of self.old k }
+    {
+        self.entries.shrink_to_fit();
     }
 
     /// The entry in the slot is put anew, and has the edges to those that used it before.
@@ -215,6 +243,16 @@ fn write_entry(
     entry.value = value;
     entry.links = links;
     entry.stamp = stamp;
+}
+
+// The entry at that place has these then.
+fn write_rest(entries: &mut IndexMap<Inst, Entry>, place: usize, links: Links, users: Edges)
+    requires { place < index_map_len entries.old }
+    ensures { HasWritten (with_rest links users) place entries.old.entries entries.new.entries }
+{
+    let (_, entry) = entries.pair_mut(place);
+    entry.links = links;
+    entry.users = users;
 }
 
 // Whether the value is that one.

@@ -270,6 +270,69 @@ fn what_stands_for_everything_needs_no_entry_without_a_value(rt: HostRuntime) ->
     Ok(())
 }
 
+/// Puts an entry for each node in order, which reads its own location and uses the one before it.
+fn put_chain<K: Keeper>(alloc: Global, keeper: &mut K, count: usize) -> Result<(), AllocError> {
+    let mut uses = Vec::new(alloc);
+    for node in 0..count {
+        put_new(
+            keeper,
+            inst(node),
+            Some(Value::Bool(true)),
+            &[own(node)],
+            uses.as_slice(),
+        )?;
+        uses.clear();
+        uses.push(inst(node))?;
+    }
+    Ok(())
+}
+
+/// The nodes of a chain of eight of which a value is left, where four entries at most are kept and that node's location is touched.
+fn left_of_chain(alloc: Global, touched: usize) -> Result<Vec<usize>, AllocError> {
+    let mut keeper = KeepAtMost::new(alloc, 4);
+    put_chain(alloc, &mut keeper, 8)?;
+    flush(&mut keeper, touched);
+    let mut left = Vec::new(alloc);
+    for node in 0..8 {
+        if has(&keeper, node) {
+            left.push(node)?;
+        }
+    }
+    Ok(left)
+}
+
+/// What is touched of the chain, and which of it is left.
+struct Folded {
+    touched: usize,
+    left: &'static [usize],
+}
+
+const FOLDED: &[Folded] = &[
+    Folded {
+        touched: 8,
+        left: &[3, 7],
+    },
+    Folded {
+        touched: 5,
+        left: &[3],
+    },
+    Folded {
+        touched: 1,
+        left: &[],
+    },
+];
+
+#[test]
+fn what_entries_are_folded_into_goes_with_what_these_looked_at(
+    rt: HostRuntime,
+) -> Result<(), Fail> {
+    for row in FOLDED {
+        let left = left_of_chain(rt.alloc(), row.touched)?;
+        assert_eq!(rt; left.as_slice(), row.left);
+    }
+    Ok(())
+}
+
 const NODES: usize = 9;
 
 /// A location of one of the nodes.

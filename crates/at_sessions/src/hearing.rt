@@ -65,7 +65,7 @@ pub fn recorded(
 }
 
 /// More entries than a question for a sum leaves, and fewer than those of a session.
-const FEW: usize = 3;
+const FEW: usize = 4;
 
 /// The same, where the other keepers lead to the same replies, and the one that keeps again to the same work.
 pub fn played(

@@ -78,8 +78,8 @@ fn told_by_name(rt: &HostRuntime, name: &str, word: &str) -> Result<bool, Stop> 
     }
 }
 
-/// How many entries the keeper with a bound may have from one edit to the next: so few that nearly each edit forgets all.
-const FEW: usize = 1;
+/// How many entries the keeper with a bound may have from one edit to the next: so few that edits fold what is kept.
+const FEW: usize = 4;
 
 /// Whether this is a keeper's word; its verdict is printed then.
 fn told_of(rt: &HostRuntime, script: &Script, word: &str) -> Result<bool, Stop> {

@@ -106,7 +106,7 @@ const WORDS: &[Word] = &[
         most: 1,
         value: "N",
         parser: ValueParser::Signed(1, MAX_KEEP as i64),
-        help: "Forgets all kept values at an edit that finds more than N: 1 to 1000000000 [default: no bound]",
+        help: "Lets some kept values go at an edit that finds more than N: 1 to 1000000000 [default: no bound]",
     },
     Word {
         name: "nodes",

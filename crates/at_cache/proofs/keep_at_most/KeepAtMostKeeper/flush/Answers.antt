@@ -1,13 +1,13 @@
-use Rattle.std.proofs.Common.{arith, refl}
+use Rattle.std.proofs.Common.{arith}
 use Rattle.at_cache.specs.Kept.{Answers}
-use Rattle.at_cache.proofs.Forgotten.{forgets_over, forgets_within, leaves_none}
+use Rattle.at_cache.proofs.Forgotten.{flush_leaves, flush_loses}
 use Rattle.at_cache.proofs.keep_at_most.KeepAtMostKeeper.flush.Goals as goal
 
-pub returns-then-len-self-clause-leaves : goal.returns-then-len-self-clause-leaves
-returns-then-len-self-clause-leaves g c = leaves_none (Answers (goal.F-post g c.args.touched.now)) _ _ c.new.ensures
+pub returns-clause-leaves : goal.returns-clause-leaves
+returns-clause-leaves g c = flush_leaves (Answers (goal.F-post g c.args.touched.now)) _ _ _ c.shrink.ensures.kept c.forget.ensures.leaves
 
-pub returns-then-len-self-clause-over : goal.returns-then-len-self-clause-over
-returns-then-len-self-clause-over g c = forgets_over (Answers (goal.F-post g c.args.touched.now)) _ _ _ _ (omega (arith, c.if-len-self.true, c.len.ensures)) c.new.ensures
+pub returns-clause-over : goal.returns-clause-over
+returns-clause-over g c less = flush_loses (Answers (goal.F-post g c.args.touched.now)) _ _ _ (c.shrink.ensures.within less) c.forget.ensures.loses
 
-pub returns-else-len-self-clause-over : goal.returns-else-len-self-clause-over
-returns-else-len-self-clause-over g c = forgets_within (Answers (goal.F-post g c.args.touched.now)) _ _ _ _ (omega (arith, c.if-len-self.false, c.len.ensures)) (c.flush.ensures.loses refl)
+pub returns-clause-few : goal.returns-clause-few
+returns-clause-few g c = omega (arith, c.shrink.ensures.few, c.forget.ensures.fewer)

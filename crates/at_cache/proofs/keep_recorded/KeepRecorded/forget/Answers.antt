@@ -1,4 +1,4 @@
-use Rattle.at_cache.proofs.keep_recorded.KeepRecordedKeeper.flush.Goals as goal
+use Rattle.at_cache.proofs.keep_recorded.KeepRecorded.forget.Goals as goal
 
 pub take_out-requires-clause-short : goal.take_out-requires-clause-short
 take_out-requires-clause-short g c = rw c.as_slice.ensures.value c.args.self.now.short
@@ -10,4 +10,4 @@ pub returns-clause-leaves : goal.returns-clause-leaves
 returns-clause-leaves g c = rw c.as_slice.ensures.value at (c.take_out.ensures.leaves c.args.self.now.puts (rw c.as_slice.ensures.value c.args.self.now.indexed))
 
 pub returns-clause-loses : goal.returns-clause-loses
-returns-clause-loses g c t = rw c.as_slice.ensures.value at (c.take_out.ensures.loses c.args.self.now.puts (rw c.as_slice.ensures.value c.args.self.now.indexed))
+returns-clause-loses g c = rw c.as_slice.ensures.value at (c.take_out.ensures.loses c.args.self.now.puts (rw c.as_slice.ensures.value c.args.self.now.indexed))

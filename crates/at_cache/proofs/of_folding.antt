@@ -1,0 +1,10 @@
+-- Entries that are folded into others.
+pub mod Distinct
+pub mod Folded
+pub mod Gathering
+pub mod Linking
+pub mod Made
+pub mod Nodes
+pub mod Places
+pub mod Relinking
+pub mod Walking

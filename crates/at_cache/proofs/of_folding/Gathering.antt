@@ -1,0 +1,143 @@
+-- What is gathered for a list, and the list that is made of it.
+use Rattle.std.proofs.Common.{◌≡◌, ◌⊎◌, inl, inr, ℕ, List, [], ◌∷◌, ◌++◌, Bool, true, false, true≢false, nat_eq, Option, None, Some, Contains, IsPermutation, refl, sym, ap, ◌∙◌, subst, eqb-true}
+use Rattle.std.specs.List.{list_any}
+use Rattle.std.proofs.lemmas.Bool.{eq-eqb}
+use Rattle.std.proofs.lemmas.Option.{none-some, same_Some}
+use Rattle.std.proofs.lemmas.List.Elements.{Contains-append_cases, Contains-append_left, Contains-append_right, Contains-push, Contains-push_cases}
+use Rattle.std.proofs.lemmas.List.Sorted.{Contains-permutation, IsPermutation-sym}
+use Rattle.slab.proofs.SlabLemmas.{Contains-cons_cases}
+use Rattle.at_cache.specs.declared.edge.Edge.{Edge}
+use Rattle.at_cache.specs.Folding.{AreAlone, AreEdgesTo, Gathered, HasUser, Refolded, Stays, Tells}
+use Rattle.at_cache.specs.Info.{Info, Memory}
+use Rattle.at_cache.specs.Putting.{Lists, is_current}
+use Rattle.at_cache.proofs.Dooming.{head_of}
+use Rattle.at_cache.proofs.Ending.{any_of, some_of}
+use Rattle.at_cache.proofs.Listing.{current}
+use Rattle.at_cache.proofs.Taking.{none_in}
+
+-- a number is one of these, by a test and back
+pub is_one : (xs : List ℕ) (x : ℕ) → list_any (nat_eq x) xs ≡ true → Contains xs x
+is_one xs x h = let (y, c, is) = some_of (nat_eq x) xs h in subst (Contains xs) (sym (eqb-true x y is)) c
+
+pub one_is : (xs : List ℕ) (x : ℕ) → Contains xs x → list_any (nat_eq x) xs ≡ true
+one_is xs x c = any_of (nat_eq x) xs x c (eq-eqb x x refl)
+
+pub is_none : (xs : List ℕ) (x : ℕ) → list_any (nat_eq x) xs ≡ false → Contains xs x → ⊥
+is_none xs x h c = true≢false (sym (one_is xs x c) ∙ h)
+
+pub only_one : {X : Type 0} (x y : X) → Contains (x ∷ []) y → y ≡ x
+only_one x y c = elim (Contains-cons_cases x y [] c) [ inl same ↦ sym same | inr none ↦ absurd (none_in y none) ]
+
+-- what an edge tells of
+pub told : (m : Memory) (y : Edge) → is_current m y ≡ true → Tells m y
+told m y h = by (m y.slot) refl h
+  where
+    by : (o : Option Info) → m y.slot ≡ o → (elim o as (λ _. Bool) [ None ↦ false | Some e ↦ nat_eq e.stamp y.stamp ]) ≡ true → Tells m y
+    by None is k = absurd (true≢false (sym k))
+    by (Some e) is k = (e, is, eqb-true e.stamp y.stamp k)
+
+-- two that tell of an entry in the same slot are one
+pub told_same : (m : Memory) (x y : Edge) → is_current m x ≡ true → is_current m y ≡ true → x.slot ≡ y.slot → x ≡ y
+told_same m x y a b same =
+    let (e, there, of_x) = told m x a in
+    let (f, found, of_y) = told m y b in
+    let one : e ≡ f = same_Some e f (sym there ∙ ap m same ∙ found) in
+    let stamps : x.stamp ≡ y.stamp = sym of_x ∙ ap (λ (i : Info). i.stamp) one ∙ of_y in
+    λ i. record { slot = same i; stamp = stamps i }
+
+module _ (there : Edge → Bool) (into : ℕ → List ℕ) where
+  pub user_of : (xs ys : List Edge) (r : ℕ) → ((x : Edge) → Contains xs x → Contains ys x) → HasUser there into xs r → HasUser there into ys r
+  user_of xs ys r all (x, c, is, d) = (x, all x c, is, d)
+
+  pub gathered_none : (slots : List ℕ) → Gathered there into [] slots slots
+  gathered_none slots = record { kept = λ r c. c; has = λ x r c is d. absurd (none_in x c); from = λ r c. inl c }
+
+  pub gathered_then : (xs ys : List Edge) {old mid new : List ℕ} → Gathered there into xs old mid → Gathered there into ys mid new → Gathered there into (xs ++ ys) old new
+  gathered_then xs ys a b = record {
+    kept = λ r c. b.kept r (a.kept r c);
+    has = λ x r c is d. elim (Contains-append_cases xs ys x c) [ inl e ↦ b.kept r (a.has x r e is d) | inr e ↦ b.has x r e is d ];
+    from = λ r c. elim (b.from r c) [
+      | inl d ↦ elim (a.from r d) [ inl e ↦ inl e | inr u ↦ inr (user_of xs (xs ++ ys) r (λ x k. Contains-append_left xs ys x k) u) ]
+      | inr u ↦ inr (user_of ys (xs ++ ys) r (λ x k. Contains-append_right xs ys x k) u)
+    ];
+  }
+
+  pub gathered_stale : (x : Edge) (slots : List ℕ) → there x ≡ false → Gathered there into (x ∷ []) slots slots
+  gathered_stale x slots stale = record {
+    kept = λ r c. c;
+    has = λ y r c is d. absurd (true≢false (sym is ∙ ap there (only_one x y c) ∙ stale));
+    from = λ r c. inl c;
+  }
+
+  pub gathered_one : (x : Edge) (old new : List ℕ) → there x ≡ true → new ≡ old ++ into x.slot → Gathered there into (x ∷ []) old new
+  gathered_one x old new is so = record {
+    kept = λ r c. subst (λ rs. Contains rs r) (sym so) (Contains-append_left old (into x.slot) r c);
+    has = λ y r c k d. subst (λ rs. Contains rs r) (sym so)
+        (Contains-append_right old (into x.slot) r (subst (λ (z : Edge). Contains (into z.slot) r) (only_one x y c) d));
+    from = λ r c. elim (Contains-append_cases old (into x.slot) r (subst (λ rs. Contains rs r) so c)) [
+      | inl d ↦ inl d
+      | inr d ↦ inr (x, head_of x [], is, d)
+    ];
+  }
+
+  pub alone_none : AreAlone there into []
+  alone_none x c = absurd (none_in x c)
+
+  pub alone_one : (x : Edge) → there x ≡ true → into x.slot ≡ x.slot ∷ [] → AreAlone there into (x ∷ [])
+  alone_one x is only y c = subst (λ (z : Edge). (there z ≡ true) × (into z.slot ≡ z.slot ∷ [])) (sym (only_one x y c)) (is, only)
+
+  pub alone_then : (xs ys : List Edge) → AreAlone there into xs → AreAlone there into ys → AreAlone there into (xs ++ ys)
+  alone_then xs ys a b x c = elim (Contains-append_cases xs ys x c) [ inl d ↦ a x d | inr d ↦ b x d ]
+
+-- the edges to what is in slots
+pub edges_none : (m : Memory) → AreEdgesTo m [] []
+edges_none m = record { has = λ y c is. absurd (none_in y.slot c); from = λ y c. absurd (none_in y c) }
+
+pub edges_same : (m : Memory) (slots : List ℕ) (s : ℕ) (edges : List Edge) → m s ≡ None → AreEdgesTo m slots edges → AreEdgesTo m (slots ++ s ∷ []) edges
+edges_same m slots s edges none a = record {
+  has = λ y c is. elim (Contains-push_cases slots s y.slot c) [
+    | inl d ↦ a.has y d is
+    | inr same ↦ let (e, found, stamp) = told m y is in absurd (none-some e (sym none ∙ ap m same ∙ found))
+  ];
+  from = λ y c. let (is, d) = a.from y c in (is, Contains-append_left slots (s ∷ []) y.slot d);
+}
+
+pub edges_more : (m : Memory) (slots : List ℕ) (x : Edge) (old new : List Edge) → is_current m x ≡ true → Lists m x old new → Contains new x
+    → AreEdgesTo m slots old → AreEdgesTo m (slots ++ x.slot ∷ []) new
+edges_more m slots x old new is lists has a = record {
+  has = λ y c k. elim (Contains-push_cases slots x.slot y.slot c) [
+    | inl d ↦ let (e, found, stamp) = told m y k in lists.keeps y (a.has y d k) e found stamp
+    | inr same ↦ subst (Contains new) (told_same m x y is k same) has
+  ];
+  from = λ y c. elim (lists.only y c) [
+    | inl d ↦ let (k, e) = a.from y d in (k, Contains-append_left slots (x.slot ∷ []) y.slot e)
+    | inr same ↦ subst (λ (z : Edge). (is_current m z ≡ true) × Contains (slots ++ x.slot ∷ []) z.slot) (sym same) (is, Contains-push slots x.slot)
+  ];
+}
+
+-- a list whose edges all tell of such as stay is as it was
+pub refolded_alone : (m : Memory) (into : ℕ → List ℕ) (xs : List Edge) → AreAlone (is_current m) into xs → Refolded (is_current m) into xs xs
+refolded_alone m into xs alone = record {
+  has = λ y u k.
+      let (x, c, is, d) = u in
+      let same : y.slot ≡ x.slot = only_one x.slot y.slot (subst (λ rs. Contains rs y.slot) ((alone x c).1) d) in
+      subst (Contains xs) (told_same m x y is k (sym same)) c;
+  from = λ y c. let (is, only) = alone y c in (is, (y, c, is, subst (λ rs. Contains rs y.slot) (sym only) (head_of y.slot [])));
+}
+
+-- and else it is made anew
+pub refolded_by : (m : Memory) (into : ℕ → List ℕ) (xs new : List Edge) (none slots sorted read : List ℕ) → none ≡ [] → Gathered (is_current m) into xs none slots
+    → IsPermutation slots sorted → read ≡ sorted → AreEdgesTo m read new → Refolded (is_current m) into xs new
+refolded_by m into xs new none slots sorted read empty g shuffled same e = record {
+  has = λ y u k.
+      let (x, c, is, d) = u in
+      e.has y (subst (λ rs. Contains rs y.slot) (sym same) (Contains-permutation slots sorted y.slot shuffled (g.has x y.slot c is d))) k;
+  from = λ y c.
+      let (is, d) = e.from y c in (
+        is,
+        elim (g.from y.slot (Contains-permutation sorted slots y.slot (IsPermutation-sym slots sorted shuffled) (subst (λ rs. Contains rs y.slot) same d))) [
+          | inl f ↦ absurd (none_in y.slot (subst (λ rs. Contains rs y.slot) empty f))
+          | inr u ↦ u
+        ],
+      );
+}

@@ -1,0 +1,161 @@
+-- The links of entries into which others are folded, and the memory that has them.
+use Rattle.std.proofs.Common.{◌≡◌, ◌⊎◌, inl, inr, ℕ, zero, suc, ◌<◌, ◌≤◌, ◌+◌, List, [], ◌∷◌, ◌++◌, Bool, true, false, nat_eq, length, Option, None, Some, option_map, if◌then◌else◌, cond, Contains, slice_get, slice_set, refl, sym, ap, ◌∙◌, subst, arith, eqb-true}
+use Rattle.std.proofs.lemmas.Bool.{cases_eq, cases_lt, eq-eqb}
+use Rattle.std.proofs.lemmas.Option.{none-some, same_Some}
+use Rattle.std.proofs.lemmas.List.Elements.{Contains-append_cases, Contains-append_left, Contains-append_right, Contains-push, Contains-push_cases}
+use Rattle.smallvec.specs.SmallVec.{SmallVec}
+use Rattle.at_cache.specs.declared.edge.Edge.{Edge}
+use Rattle.at_cache.specs.Folding.{AreLinks, HasLinked, HasUsed, IsLeft, IsRelinked, Linked, LinkedTo, Refolded, Relinks, RelinksAt, Remains, RemovesAt, Stays, relinked, slots_at}
+use Rattle.at_cache.specs.Info.{Info, Memory}
+use Rattle.at_cache.specs.Putting.{is_current, reused, users_at}
+use Rattle.at_cache.proofs.Dooming.{head_of}
+use Rattle.at_cache.proofs.Gained.{get_other, get_same}
+use Rattle.at_cache.proofs.Moving.{within}
+use Rattle.at_cache.proofs.Taking.{none_in}
+use Rattle.at_cache.proofs.of_folding.Gathering.{only_one}
+
+abbrev pub list_of : Option (SmallVec ℕ) → List ℕ
+list_of o = elim o [ None ↦ [] | Some v ↦ v.items ]
+
+module _ {into : ℕ → List ℕ} where
+  pub linked_none : (xs : List ℕ) → Linked into [] xs xs
+  linked_none xs = record { kept = λ p c. c; has = λ p c s. absurd (none_in p c); from = λ p c. inl c }
+
+  pub linked_then : (xs ys : List ℕ) {old mid new : List ℕ} → Linked into xs old mid → Linked into ys mid new → Linked into (xs ++ ys) old new
+  linked_then xs ys a b = record {
+    kept = λ p c. b.kept p (a.kept p c);
+    has = λ p c s. elim (Contains-append_cases xs ys p c) [ inl d ↦ b.kept p (a.has p d s) | inr d ↦ b.has p d s ];
+    from = λ p c. elim (b.from p c) [
+      | inl d ↦ elim (a.from p d) [ inl e ↦ inl e | inr (s, e) ↦ inr (s, Contains-append_left xs ys p e) ]
+      | inr (s, e) ↦ inr (s, Contains-append_right xs ys p e)
+    ];
+  }
+
+  pub linked_goes : (p : ℕ) (xs : List ℕ) → (Stays into p → ⊥) → Linked into (p ∷ []) xs xs
+  linked_goes p xs goes = record {
+    kept = λ q c. c;
+    has = λ q c s. absurd (goes (subst (Stays into) (only_one p q c) s));
+    from = λ q c. inl c;
+  }
+
+  pub linked_there : (p : ℕ) (xs : List ℕ) → Contains xs p → Linked into (p ∷ []) xs xs
+  linked_there p xs there = record {
+    kept = λ q c. c;
+    has = λ q c s. subst (Contains xs) (sym (only_one p q c)) there;
+    from = λ q c. inl c;
+  }
+
+  pub linked_push : (p : ℕ) (old new : List ℕ) → Stays into p → new ≡ old ++ p ∷ [] → Linked into (p ∷ []) old new
+  linked_push p old new stays is = record {
+    kept = λ q c. subst (λ xs. Contains xs q) (sym is) (Contains-append_left old (p ∷ []) q c);
+    has = λ q c s. subst (λ xs. Contains xs q) (sym is) (Contains-append_right old (p ∷ []) q c);
+    from = λ q c. elim (Contains-push_cases old p q (subst (λ xs. Contains xs q) is c)) [
+      | inl d ↦ inl d
+      | inr same ↦ inr (subst (Stays into) same stays, subst (Contains (p ∷ [])) same (head_of p []))
+    ];
+  }
+
+  pub to_none : (links : List ℕ) (f : ℕ → List ℕ) → LinkedTo into [] links f f
+  to_none links f = record { kept = λ r p c. c; has = λ r p c d s. absurd (none_in r c); from = λ r p c. inl c }
+
+  pub to_then : (xs ys : List ℕ) {links : List ℕ} {f g h : ℕ → List ℕ} → LinkedTo into xs links f g → LinkedTo into ys links g h → LinkedTo into (xs ++ ys) links f h
+  to_then xs ys a b = record {
+    kept = λ r p c. b.kept r p (a.kept r p c);
+    has = λ r p c d s. elim (Contains-append_cases xs ys r c) [ inl e ↦ b.kept r p (a.has r p e d s) | inr e ↦ b.has r p e d s ];
+    from = λ r p c. elim (b.from r p c) [
+      | inl d ↦ elim (a.from r p d) [ inl e ↦ inl e | inr (e, s, k) ↦ inr (Contains-append_left xs ys r e, s, k) ]
+      | inr (e, s, k) ↦ inr (Contains-append_right xs ys r e, s, k)
+    ];
+  }
+
+  -- the list of one is another
+  pub to_one : (old new : List (SmallVec ℕ)) (r : ℕ) (links : List ℕ) (was now : SmallVec ℕ) → slice_get old r ≡ Some was → new ≡ slice_set old r now
+      → Linked into links was.items now.items → LinkedTo into (r ∷ []) links (slots_at old) (slots_at new)
+  to_one old new r links was now there is a = record {
+    kept = λ k p c. elim (cases_eq k r) [
+      | inl same ↦ subst (λ xs. Contains xs p) (sym (at_new k same)) (a.kept p (subst (λ xs. Contains xs p) (at_old k same) c))
+      | inr differs ↦ subst (λ xs. Contains xs p) (sym (off k differs)) c
+    ];
+    has = λ k p c d s. subst (λ xs. Contains xs p) (sym (at_new k (only_one r k c))) (a.has p d s);
+    from = λ k p c. elim (cases_eq k r) [
+      | inl same ↦ elim (a.from p (subst (λ xs. Contains xs p) (at_new k same) c)) [
+        | inl d ↦ inl (subst (λ xs. Contains xs p) (sym (at_old k same)) d)
+        | inr (s, d) ↦ inr (subst (Contains (r ∷ [])) (sym same) (head_of r []), s, d)
+      ]
+      | inr differs ↦ inl (subst (λ xs. Contains xs p) (off k differs) c)
+    ];
+  }
+    where
+      at_new : (k : ℕ) → k ≡ r → slots_at new k ≡ now.items
+      at_new k same = ap list_of (ap (slice_get new) same ∙ ap (λ xs. slice_get xs r) is ∙ get_same old r now was there)
+
+      at_old : (k : ℕ) → k ≡ r → slots_at old k ≡ was.items
+      at_old k same = ap list_of (ap (slice_get old) same ∙ there)
+
+      off : (k : ℕ) → (k ≡ r → ⊥) → slots_at new k ≡ slots_at old k
+      off k differs = ap list_of (ap (λ xs. slice_get xs k) is ∙ get_other old r k now differs)
+
+-- one empty list more
+pub none_pushed : (xs : List (SmallVec ℕ)) (new : List (SmallVec ℕ)) (v : SmallVec ℕ) → new ≡ xs ++ v ∷ [] → v.items ≡ [] → ((r : ℕ) → slots_at xs r ≡ []) → (r : ℕ) → slots_at new r ≡ []
+none_pushed xs new v is empty before r = ap (λ ys. slots_at ys r) is ∙ by xs before r
+  where
+    by : (ys : List (SmallVec ℕ)) → ((r : ℕ) → slots_at ys r ≡ []) → (r : ℕ) → slots_at (ys ++ v ∷ []) r ≡ []
+    by [] h zero = empty
+    by [] h (suc r) = refl
+    by (y ∷ ys) h zero = h zero
+    by (y ∷ ys) h (suc r) = by ys (λ k. h (suc k)) r
+
+-- a slot that has a list is one of those
+pub planned : (lists : List (SmallVec ℕ)) (s r : ℕ) → Contains (slots_at lists s) r → s < length lists
+planned lists s r c = by (slice_get lists s) refl c
+  where
+    by : (o : Option (SmallVec ℕ)) → slice_get lists s ≡ o → Contains (elim o [ None ↦ [] | Some v ↦ v.items ]) r → s < length lists
+    by None is d = absurd (none_in r d)
+    by (Some v) is d = within lists s v is
+
+-- The links of the entries in the first slots are there.
+pub record LinksBelow (m : Memory) (into : ℕ → List ℕ) (n : ℕ) (links : ℕ → List ℕ) : Type 0 where
+  pub has : (s : ℕ) (e : Info) → s < n → m s ≡ Some e → (r p : ℕ) → Contains (into s) r → Contains e.links p → Stays into p → Contains (links r) p
+  pub from : (r p : ℕ) → Contains (links r) p → HasUsed m into p r
+
+module _ {m : Memory} {into : ℕ → List ℕ} where
+  pub from_entry : (s : ℕ) (e : Info) {old new : ℕ → List ℕ} → m s ≡ Some e → LinkedTo into (into s) e.links old new → HasLinked m into s old new
+  from_entry s e there a = record {
+    kept = a.kept;
+    has = λ f found r p c d k. a.has r p c (subst (λ (i : Info). Contains i.links p) (same_Some f e (sym found ∙ there)) d) k;
+    from = λ r p c. elim (a.from r p c) [ inl d ↦ inl d | inr (d, k, u) ↦ inr (e, there, d, k, u) ];
+  }
+
+  pub from_nothing : (s : ℕ) (old : ℕ → List ℕ) → m s ≡ None → HasLinked m into s old old
+  from_nothing s old none = record {
+    kept = λ r p c. c;
+    has = λ e there r p c d k. absurd (none-some e (sym none ∙ there));
+    from = λ r p c. inl c;
+  }
+
+  pub links_start : (links : ℕ → List ℕ) → ((r : ℕ) → links r ≡ []) → LinksBelow m into 0 links
+  links_start links none = record {
+    has = λ s e less. absurd (omega (arith, less));
+    from = λ r p c. absurd (none_in p (subst (λ xs. Contains xs p) (none r) c));
+  }
+
+  pub links_more : (n : ℕ) {old new : ℕ → List ℕ} → LinksBelow m into n old → HasLinked m into n old new → LinksBelow m into (n + 1) new
+  links_more n {old} {new} a b = record {
+    has = λ s e less there r p c d k. elim (cases_eq s n) [
+      | inl same ↦ b.has e (ap m (sym same) ∙ there) r p (subst (λ j. Contains (into j) r) same c) d k
+      | inr differs ↦ b.kept r p (a.has s e (below s less differs) there r p c d k)
+    ];
+    from = λ r p c. elim (b.from r p c) [
+      | inl d ↦ a.from r p d
+      | inr (e, there, d, k, u) ↦ (k, (n, e, there, d, u))
+    ];
+  }
+    where
+      below : (s : ℕ) → s < n + 1 → (s ≡ n → ⊥) → s < n
+      below s less differs = elim (cases_lt s n) [ inl is ↦ is | inr over ↦ absurd (differs (omega (arith, less, over))) ]
+
+pub links_end : (m : Memory) (plan : List (SmallVec ℕ)) (n : ℕ) (links : ℕ → List ℕ) → length plan ≤ n → LinksBelow m (slots_at plan) n links → AreLinks m (slots_at plan) links
+links_end m plan n links all a = record {
+  has = λ r p u. let (k, (s, e, there, c, d)) = u in let less = planned plan s r c in a.has s e (omega (arith, less, all)) there r p c d k;
+  from = a.from;
+}

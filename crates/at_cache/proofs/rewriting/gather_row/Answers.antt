@@ -1,0 +1,13 @@
+use Rattle.at_cache.proofs.of_folding.Walking.{behind_all, behind_none, behind_one}
+use Rattle.at_cache.proofs.rewriting.gather_row.Goals as goal
+
+pub loop-edge-init : goal.loop-edge-init
+loop-edge-init c = behind_none _ _ _ _
+
+pub loop-edge-preserved : goal.loop-edge-preserved
+loop-edge-preserved c =
+    behind_one _ _ _ _ _ c.in-Some.edge _ _ _ _ _ _ c.loop-edge.invariant c.in-Some.ensures c.in_ok-here.ensures.gathers
+    c.in_ok-here.ensures.alone c.both-alone.ensures
+
+pub returns : goal.returns
+returns c = let (g, a) = behind_all _ _ _ _ _ _ _ c.loop-edge.invariant c.in_default.ensures in record { gathers = g; alone = a }

@@ -1,0 +1,84 @@
+//! Entries are folded into those that used them: fewer are kept, and each of these stands for what it stood for.
+//!
+//! A plan has for each slot those of the entries that its entry is folded into: itself where it stays, none where it goes whole. Any plan that
+//! passes `is_sound` is right, so that which one is made is a matter of speed alone.
+
+ghost use Rattle.std.specs.Prelude.{◌≡◌, ℕ, Contains, IsTrue, List, OnOk, length, nat_eq};
+ghost use Rattle.std.specs.List.{list_any};
+ghost use Rattle.at_cache.specs.Asking.{AreNoted};
+ghost use Rattle.at_cache.specs.Folding.{LeavesKept, slots_at};
+ghost use Rattle.at_cache.specs.Info.{memory_of};
+ghost use Rattle.at_cache.specs.Readers.{edges_at};
+ghost use Rattle.at_cache.specs.Recorded.{IsIndexed, kept_in};
+
+use crate::checking::is_sound;
+use crate::edge::Slot;
+use crate::entry::Links;
+use crate::facet::Facets;
+use crate::relinking::{links_of, relink, remove_folded};
+use crate::rewriting::rewrite;
+use crate::table::Table;
+use std::alloc::{AllocError, Global};
+
+// How many slots at the end of a list are looked at.
+const NEAR: usize = 8;
+
+/// The list of the slot; an empty one where it has none.
+pub fn slots_at(lists: &[Links], slot: Slot) -> &[Slot]
+    ensures { result.now ≡ slots_at lists.now slot }
+{
+    match lists.get(slot as usize) {
+        Some(list) => list.as_slice(),
+        None => &[],
+    }
+}
+
+/// Whether the slot is one of these.
+pub fn has(slots: &[Slot], slot: Slot) -> bool
+    ensures { result ≡ list_any (nat_eq slot) slots.now }
+{
+    for other in slots {
+        if slot == *other {
+            return true;
+        }
+    }
+    false
+}
+
+/// Whether the slot is one of the last of these.
+pub fn is_near(slots: &[Slot], slot: Slot) -> bool
+    ensures { IsTrue result → Contains slots.now slot }
+{
+    has(slots.split_at(slots.len().saturating_sub(NEAR)).1, slot)
+}
+
+/// Whether what is in the slot stays by the plan.
+pub fn does_stay(plan: &[Links], slot: Slot) -> bool
+    ensures { result ≡ list_any (nat_eq slot) (slots_at plan.now slot) }
+{
+    has(slots_at(plan, slot), slot)
+}
+
+/// Folds the entries by the plan: those that don't stay go, and those into which they are folded have what these looked at and used. An error
+/// where memory is wanting, or the plan isn't sound: what is left then means nothing.
+pub fn fold(
+    alloc: Global,
+    entries: &mut Table,
+    readers: &mut Vec<Facets>,
+    plan: &[Links],
+) -> Result<(), AllocError>
+    ensures indexed { (puts : ℕ) → IsIndexed (edges_at readers.old.items) puts (memory_of entries.old)
+        → OnOk result (IsIndexed (edges_at readers.new.items) puts (memory_of entries.new)) }
+    ensures kept { (puts : ℕ) → IsIndexed (edges_at readers.old.items) puts (memory_of entries.old)
+        → OnOk result (LeavesKept (kept_in (edges_at readers.old.items) entries.old puts) (kept_in (edges_at readers.new.items) entries.new puts)) }
+    ensures noted { (nodes : List ℕ) → AreNoted (edges_at readers.old.items) nodes → OnOk result (AreNoted (edges_at readers.new.items) nodes) }
+    ensures short { length readers.new.items ≡ length readers.old.items }
+{
+    if !is_sound(entries, plan) {
+        return Err(AllocError);
+    }
+    let links = links_of(alloc, entries, plan)?;
+    rewrite(alloc, entries, plan, readers)?;
+    relink(alloc, entries, plan, links.as_slice())?;
+    remove_folded(entries, plan)
+}
