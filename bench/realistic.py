@@ -46,7 +46,8 @@ COLD = "all errors, nothing kept"
 MOST_INSTRUCTIONS = {10_000: 0.36 * 456e6, 60_000: 0.36 * 2_489e6}
 MOST_MEMORY = {60_000: 55.0}
 # How much of what the first question evaluates is kept with --quarter, and how many times what it takes else a keystroke may take then.
-QUARTER, MOST_BOUNDED = 4, 3
+QUARTER = 4
+MOST_BOUNDED = {60_000: 3.0}
 # The times of version 0.23 as multiples of Java's, for these sizes and this seed, by a program that isn't proved; and how much of them
 # a keystroke may take.
 SHARE = 0.6
@@ -268,8 +269,9 @@ def tell_bounded(benches: List[Bench], bounds: Bounds) -> None:
         table(f"A keystroke and all errors with --keep {bench.quarter}, {bench.size:,} nodes", "attrd, us", "Without --keep, us", "Ratio")
         for it in bench.rows:
             bounded, free = bench.figures.bounded[it.name], bench.figures.attrd[it.name]
-            row(it.name, microseconds(bounded), microseconds(free),
-                bounds.at_most(f"{it.name}, {bench.size:,} nodes, with --keep", bounded / free, MOST_BOUNDED))
+            most = MOST_BOUNDED.get(bench.nodes) if bench.is_known else None
+            told = bounds.at_most(f"{it.name}, {bench.size:,} nodes, with --keep", bounded / free, most) if most else short(bounded / free)
+            row(it.name, microseconds(bounded), microseconds(free), told)
 
 
 def read_arguments() -> argparse.Namespace:
