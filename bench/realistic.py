@@ -2,14 +2,15 @@
 """A realistic program: how fast all errors are told of a program as people write them, and after each keystroke, beside Java.
 
     python3 bench/realistic.py [PROGRAM] [--nodes N ..] [--rounds N] [--seed N] [--row NAME] [--cut-off]
-        [--keep N] [--instructions] [--hold]
+        [--keep N] [--quarter] [--instructions] [--hold]
 
 PROGRAM is ./attrd where none is given; the programs have 1,000, 10,000 and 60,000 nodes of the tutorial's language. The Java program has
 the form that JastAdd2 generates, forgets all at each edit, and is warm, in one process; where there is no `javac`, attrd is measured
 alone. All answers of the two are compared. Times are processor times, the least of several rounds by turns; values are those of lazy
 attributes that --work counts; instructions are counted where there is `valgrind`, of keystrokes only with --instructions, which takes
-minutes. --row measures the rows whose names have that in them; --cut-off and --keep give the program that option. What is wanted is told
-beside what was measured, for the programs of the first seed; with --hold the status is 1 where it isn't reached. It takes five
+minutes. --row measures the rows whose names have that in them; --cut-off and --keep give the program that option. With --quarter the
+rows are measured with --keep, too, for a quarter of the values that the first question evaluates, foldings with them. What is wanted is
+told beside what was measured, for the programs of the first seed; with --hold the status is 1 where it isn't reached. It takes five
 minutes.
 """
 from __future__ import annotations
@@ -21,6 +22,7 @@ import subprocess
 import sys
 import tempfile
 from dataclasses import dataclass, field
+from functools import cached_property
 from pathlib import Path
 from typing import Dict, List, Optional, Tuple
 
@@ -43,6 +45,9 @@ COLD = "all errors, nothing kept"
 # What is wanted: instructions of the cold question by the size of the program, and the most memory behind it, in megabytes.
 MOST_INSTRUCTIONS = {10_000: 0.36 * 456e6, 60_000: 0.36 * 2_489e6}
 MOST_MEMORY = {60_000: 55.0}
+# How much of what the first question evaluates is kept with --quarter, and how many times what it takes else a keystroke may take then.
+QUARTER = 4
+MOST_BOUNDED = {60_000: 3.0}
 # The times of version 0.23 as multiples of Java's, for these sizes and this seed, by a program that isn't proved; and how much of them
 # a keystroke may take.
 SHARE = 0.6
@@ -94,6 +99,7 @@ class Figures:
     """The least times that were measured, by row, in seconds."""
 
     attrd: Dict[str, float] = field(default_factory=dict)
+    bounded: Dict[str, float] = field(default_factory=dict)
     java: Dict[str, float] = field(default_factory=dict)
 
     @staticmethod
@@ -141,6 +147,14 @@ class Bench:
             self.compare(COLD, replies, [errors])
         run.end()
 
+    def bounded_round(self, most: int) -> None:
+        """Measures each row once with a bound on what is kept, the foldings of all its edits with it."""
+        run = Served(self.program, self.folder, ["--keep", str(most), *self.words])
+        run.spent(ASK)
+        for it in self.rows:
+            self.figures.note(self.figures.bounded, it.name, run.spent(it.lines * REPEATED) / it.edits / REPEATED)
+        run.end()
+
     def typed(self, run: Served, it: Keystrokes) -> None:
         """Measures one row."""
         for _ in range(REPEATED):
@@ -163,6 +177,11 @@ class Bench:
         """The instructions of lines behind others, for one of so many."""
         counted = instructions_behind([self.program, *self.words], self.folder, before, lines)
         return None if counted is None else counted / count
+
+    @cached_property
+    def quarter(self) -> int:
+        """A quarter of the values that the first question evaluates."""
+        return self.evaluated(ASK) // QUARTER
 
     def evaluated(self, lines: str) -> int:
         """How many values of lazy attributes are evaluated for these lines, as the program counts them."""
@@ -244,6 +263,17 @@ def tell_rows(benches: List[Bench], bounds: Bounds, is_counted: bool) -> None:
                 f"{(bench.evaluated(ASK + it.lines) - cold) / it.edits:,.1f}", against(counted, known_of(COUNTED_BEFORE, bench, it.name)))
 
 
+def tell_bounded(benches: List[Bench], bounds: Bounds) -> None:
+    """Prints what each kind of keystroke takes with a bound on what is kept, against what it takes without one."""
+    for bench in benches:
+        table(f"A keystroke and all errors with --keep {bench.quarter}, {bench.size:,} nodes", "attrd, us", "Without --keep, us", "Ratio")
+        for it in bench.rows:
+            bounded, free = bench.figures.bounded[it.name], bench.figures.attrd[it.name]
+            most = MOST_BOUNDED.get(bench.nodes) if bench.is_known else None
+            told = bounds.at_most(f"{it.name}, {bench.size:,} nodes, with --keep", bounded / free, most) if most else short(bounded / free)
+            row(it.name, microseconds(bounded), microseconds(free), told)
+
+
 def read_arguments() -> argparse.Namespace:
     """The words of the command line."""
     parser = argparse.ArgumentParser(description=(__doc__ or "").splitlines()[0])
@@ -254,9 +284,13 @@ def read_arguments() -> argparse.Namespace:
     parser.add_argument("--row", default="", help=f"a part of a name: {'; '.join(KINDS)}")
     parser.add_argument("--cut-off", action="store_true")
     parser.add_argument("--keep", type=int, default=0, help="nothing is wanted of it")
+    parser.add_argument("--quarter", action="store_true", help="not with --cut-off or --keep")
     parser.add_argument("--instructions", action="store_true")
     parser.add_argument("--hold", action="store_true")
-    return parser.parse_args()
+    arguments = parser.parse_args()
+    if arguments.quarter and (arguments.cut_off or arguments.keep):
+        parser.error("--quarter is measured beside runs without --cut-off and --keep")
+    return arguments
 
 
 def main() -> None:
@@ -271,10 +305,14 @@ def main() -> None:
         for bench in benches:
             for _ in range(arguments.rounds):
                 bench.round()
+                if arguments.quarter:
+                    bench.bounded_round(bench.quarter)
             bench.end()
         print(f"processors {os.cpu_count()}, load {os.getloadavg()[0]:.1f}")
         tell_cold(benches, bounds)
         tell_rows(benches, bounds, arguments.instructions)
+        if arguments.quarter:
+            tell_bounded(benches, bounds)
     print(f"\n{bounds.looked_at - len(bounds.broken)} of {bounds.looked_at} bounds hold")
     if arguments.hold and bounds.broken:
         sys.exit(bounds.told())

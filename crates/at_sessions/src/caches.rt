@@ -310,11 +310,11 @@ struct Folded {
 const FOLDED: &[Folded] = &[
     Folded {
         touched: 8,
-        left: &[3, 7],
+        left: &[2, 5, 7],
     },
     Folded {
         touched: 5,
-        left: &[3],
+        left: &[2],
     },
     Folded {
         touched: 1,
