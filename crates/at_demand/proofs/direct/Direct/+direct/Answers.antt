@@ -6,7 +6,7 @@ use Rattle.at_body.specs.Values.{value_view}
 use Rattle.at_body.specs.declared.value.Value.{Value as ValueCode}
 use Rattle.at_demand.specs.declared.direct.Level.{Level}
 use Rattle.at_demand.specs.Inner.{Gains, HasRecalled, HasTold, IsEvaluated, known_by}
-use Rattle.at_demand.specs.InParts.{HasCome, held_by, values_in}
+use Rattle.at_demand.specs.InParts.{EvaluatesTo, HasCome, MayHaveCome, held_by, values_in}
 use Rattle.at_demand.specs.Known.{meaning}
 use Rattle.at_demand.proofs.of_nesting.Asked.{evaluated_behind, evaluated_in, inner_told, reads_before, reads_longer, told_alike, uses_before, uses_longer}
 use Rattle.at_demand.proofs.of_nesting.Grown.{grown_aside, grown_evaluated, grown_from, grown_none, grown_then, held_after}
@@ -19,6 +19,7 @@ use Rattle.at_apply.specs.Place.{place_at}
 use Rattle.at_demand.specs.Traces.{StayJustified}
 use Rattle.at_demand.proofs.of_parts.Directly.{come_begun, come_gives, come_looked, gains_begun, nothing_gained}
 use Rattle.at_demand.proofs.of_parts.ByForm.{call_come, call_gains, call_gains_first, call_gains_second, either_come, either_gains, either_gains_test, fold_come, fold_gains, fold_gains_first, one_come, one_gains, two_come, two_gains, two_gains_first}
+use Rattle.at_demand.proofs.of_parts.AtOnce.{asks_inside}
 use Rattle.at_demand.proofs.of_parts.Looping.{bound_at, each_all, each_ends, each_gains, each_on, gains_so_far, passed_all, passed_gains, passed_on, starts, unbound_at}
 use Rattle.at_demand.proofs.direct.Direct.+direct.Goals as goal
 use Rattle.at_body.specs.declared.value.Value.TheVariants as value
@@ -592,6 +593,17 @@ passed-returns g n c = record {
       c.loop-argument.self.few c.loop-argument.invariant;
 }
 
+pub each-element-requires : goal.each-element-requires
+each-element-requires g n c = record {
+  asked =
+      asks_inside c.args.basis.now.rules.now (place_at c.args.here.now) (place_at (record c.loop-node.inside {
+        bound = c.push.new.self;
+      })) c.args.body.now c.in-Some.node.now c.inner_of_each-asked.result (bound_at (place_at c.loop-node.inside) (place_at
+      c.args.here.now) c.in-Some.node.now c.push.new.self c.loop-node.invariant.place c.in_ok-push.ensures)
+      c.inner_of_each-asked.ensures;
+  held = c.loop-node.invariant.goes.right;
+}
+
 pub each-returns-in_err-inside : goal.each-returns-in_err-inside
 each-returns-in_err-inside g n c = record {
   come = search rules;
@@ -625,11 +637,11 @@ each-returns-in_err-value g n c = record {
   gains =
       each_gains c.args.basis.now.rules.now c.args.basis.now.store.now g.K.Keeper.exact (place_at c.args.here.now) (over
       c.args.basis.now.rules.now.classes c.args.fold (body_view c.args.body.now) (place_at c.args.here.now)
-      c.args.nodes.now) _ _ _ _ _ c.value.new.level c.loop-node.going c.args.body.now c.in-Some.node.now
+      c.args.nodes.now) _ _ _ _ _ c.element.new.level c.loop-node.going c.args.body.now c.in-Some.node.now
       c.in-Some.others.now c.loop-node.rest.now c.in-Some.ensures.cases.0 (place_at
       (record c.loop-node.inside { bound = c.push.new.self })) (bound_at (place_at c.loop-node.inside) (place_at
       c.args.here.now) c.in-Some.node.now c.push.new.self c.loop-node.invariant.place c.in_ok-push.ensures)
-      c.loop-node.invariant.goes c.value.ensures.gains;
+      c.loop-node.invariant.goes c.element.ensures.gains;
 }
 
 pub each-returns-in_err-next : goal.each-returns-in_err-next
@@ -638,11 +650,11 @@ each-returns-in_err-next g n c = record {
   gains =
       each_gains c.args.basis.now.rules.now c.args.basis.now.store.now g.K.Keeper.exact (place_at c.args.here.now) (over
       c.args.basis.now.rules.now.classes c.args.fold (body_view c.args.body.now) (place_at c.args.here.now)
-      c.args.nodes.now) _ _ _ _ _ c.value.new.level c.loop-node.going c.args.body.now c.in-Some.node.now
+      c.args.nodes.now) _ _ _ _ _ c.element.new.level c.loop-node.going c.args.body.now c.in-Some.node.now
       c.in-Some.others.now c.loop-node.rest.now c.in-Some.ensures.cases.0 (place_at
       (record c.loop-node.inside { bound = c.push.new.self })) (bound_at (place_at c.loop-node.inside) (place_at
       c.args.here.now) c.in-Some.node.now c.push.new.self c.loop-node.invariant.place c.in_ok-push.ensures)
-      c.loop-node.invariant.goes c.value.ensures.gains;
+      c.loop-node.invariant.goes c.element.ensures.gains;
 }
 
 pub each-returns-in-End : goal.each-returns-in-End
@@ -650,22 +662,22 @@ each-returns-in-End g n c = record {
   come =
       each_ends c.args.basis.now.rules.now c.args.basis.now.store.now g.K.Keeper.exact (place_at c.args.here.now) (over
       c.args.basis.now.rules.now.classes c.args.fold (body_view c.args.body.now) (place_at c.args.here.now)
-      c.args.nodes.now) _ _ _ _ _ c.value.new.level c.loop-node.going c.args.body.now c.in-Some.node.now
+      c.args.nodes.now) _ _ _ _ _ c.element.new.level c.loop-node.going c.args.body.now c.in-Some.node.now
       c.in-Some.others.now c.loop-node.rest.now c.in-Some.ensures.cases.0 (place_at
       (record c.loop-node.inside { bound = c.push.new.self })) (bound_at (place_at c.loop-node.inside) (place_at
       c.args.here.now) c.in-Some.node.now c.push.new.self c.loop-node.invariant.place c.in_ok-push.ensures)
-      c.loop-node.invariant.goes c.value.ensures.gains (value_view c.in_ok-value.value) c.in_ok-value.ensures.come
+      c.loop-node.invariant.goes c.element.ensures.gains (value_view c.in_ok-value.value) c.in_ok-value.ensures.come
       (value_view c.in-End.value) (c.in_ok-next.ensures c.args.basis.now.rules.now.classes (body_view c.args.body.now)
       (place_at c.args.here.now) c.in-Some.others.now ∙ ap (next_of c.args.basis.now.rules.now.classes (body_view
       c.args.body.now) (place_at c.args.here.now) c.in-Some.others.now) c.in-End.is);
   gains =
       each_gains c.args.basis.now.rules.now c.args.basis.now.store.now g.K.Keeper.exact (place_at c.args.here.now) (over
       c.args.basis.now.rules.now.classes c.args.fold (body_view c.args.body.now) (place_at c.args.here.now)
-      c.args.nodes.now) _ _ _ _ _ c.value.new.level c.loop-node.going c.args.body.now c.in-Some.node.now
+      c.args.nodes.now) _ _ _ _ _ c.element.new.level c.loop-node.going c.args.body.now c.in-Some.node.now
       c.in-Some.others.now c.loop-node.rest.now c.in-Some.ensures.cases.0 (place_at
       (record c.loop-node.inside { bound = c.push.new.self })) (bound_at (place_at c.loop-node.inside) (place_at
       c.args.here.now) c.in-Some.node.now c.push.new.self c.loop-node.invariant.place c.in_ok-push.ensures)
-      c.loop-node.invariant.goes c.value.ensures.gains;
+      c.loop-node.invariant.goes c.element.ensures.gains;
 }
 
 pub each-loop-node-preserved : goal.each-loop-node-preserved
@@ -676,11 +688,11 @@ each-loop-node-preserved g n c =
       goes = each_on
           c.args.basis.now.rules.now c.args.basis.now.store.now g.K.Keeper.exact (place_at c.args.here.now) (over
           c.args.basis.now.rules.now.classes c.args.fold (body_view c.args.body.now) (place_at c.args.here.now)
-          c.args.nodes.now) _ _ _ _ _ c.value.new.level c.loop-node.going c.args.body.now c.in-Some.node.now
+          c.args.nodes.now) _ _ _ _ _ c.element.new.level c.loop-node.going c.args.body.now c.in-Some.node.now
           c.in-Some.others.now c.loop-node.rest.now c.in-Some.ensures.cases.0 (place_at
           (record c.loop-node.inside { bound = c.push.new.self })) (bound_at (place_at c.loop-node.inside) (place_at
           c.args.here.now) c.in-Some.node.now c.push.new.self c.loop-node.invariant.place c.in_ok-push.ensures)
-          c.loop-node.invariant.goes c.value.ensures.gains (value_view c.in_ok-value.value) c.in_ok-value.ensures.come
+          c.loop-node.invariant.goes c.element.ensures.gains (value_view c.in_ok-value.value) c.in_ok-value.ensures.come
           c.in-On.further (c.in_ok-next.ensures c.args.basis.now.rules.now.classes (body_view c.args.body.now) (place_at
           c.args.here.now) c.in-Some.others.now ∙ ap (next_of c.args.basis.now.rules.now.classes (body_view
           c.args.body.now) (place_at c.args.here.now) c.in-Some.others.now) c.in-On.is);
@@ -694,11 +706,11 @@ each-loop-node-preserved-in-On g n c =
       goes = each_on
           c.args.basis.now.rules.now c.args.basis.now.store.now g.K.Keeper.exact (place_at c.args.here.now) (over
           c.args.basis.now.rules.now.classes c.args.fold (body_view c.args.body.now) (place_at c.args.here.now)
-          c.args.nodes.now) _ _ _ _ _ c.value.new.level c.loop-node.going c.args.body.now c.in-Some.node.now
+          c.args.nodes.now) _ _ _ _ _ c.element.new.level c.loop-node.going c.args.body.now c.in-Some.node.now
           c.in-Some.others.now c.loop-node.rest.now c.in-Some.ensures.cases.0 (place_at
           (record c.loop-node.inside { bound = c.push.new.self })) (bound_at (place_at c.loop-node.inside) (place_at
           c.args.here.now) c.in-Some.node.now c.push.new.self c.loop-node.invariant.place c.in_ok-push.ensures)
-          c.loop-node.invariant.goes c.value.ensures.gains (value_view c.in_ok-value.value) c.in_ok-value.ensures.come
+          c.loop-node.invariant.goes c.element.ensures.gains (value_view c.in_ok-value.value) c.in_ok-value.ensures.come
           c.in-On.further (c.in_ok-next.ensures c.args.basis.now.rules.now.classes (body_view c.args.body.now) (place_at
           c.args.here.now) c.in-Some.others.now ∙ ap (next_of c.args.basis.now.rules.now.classes (body_view
           c.args.body.now) (place_at c.args.here.now) c.in-Some.others.now) c.in-On.is);
@@ -718,6 +730,41 @@ each-returns g n c = record {
       c.args.basis.now.rules.now.classes c.args.fold (body_view c.args.body.now) (place_at c.args.here.now)
       c.args.nodes.now) _ _ _ _ _ _ c.loop-node.self.few c.loop-node.invariant.goes;
 }
+
+-- element
+pub element-returns-in_err-at_once : goal.element-returns-in_err-at_once
+element-returns-in_err-at_once g n c = record {
+  come = search rules;
+  gains =
+      nothing_gained c.args.basis.now.rules.now c.args.basis.now.store.now g.K.Keeper.exact (ev
+      c.args.basis.now.rules.now.classes (body_view c.args.body.now) (place_at c.args.inside.now)) _
+      c.args.self.now.few c.requires.held;
+}
+
+pub element-returns-in-Some : goal.element-returns-in-Some
+element-returns-in-Some g n c = record {
+  come =
+      subst (λ o. MayHaveCome c.args.basis.now.rules.now (contents c.args.basis.now.store.now) c.args.level.now
+      c.plain_element.new.level (ev c.args.basis.now.rules.now.classes (body_view c.args.body.now) (place_at
+      c.args.inside.now)) o) c.in-Some.is c.in_ok-at_once.ensures (held_by g.K.Keeper.contents g.K.Keeper.memories
+      c.args.keeper.now c.args.self.now);
+  gains =
+      nothing_gained c.args.basis.now.rules.now c.args.basis.now.store.now g.K.Keeper.exact (ev
+      c.args.basis.now.rules.now.classes (body_view c.args.body.now) (place_at c.args.inside.now)) _
+      c.args.self.now.few c.requires.held;
+}
+
+pub element-returns-in-None : goal.element-returns-in-None
+element-returns-in-None g n c =
+    let rules = c.args.basis.now.rules.now in
+    let s = c.args.basis.now.store.now in
+    let run = ev rules.classes (body_view c.args.body.now) (place_at c.args.inside.now) in
+    let old = held_by g.K.Keeper.contents g.K.Keeper.memories c.args.keeper.now c.args.self.now in
+    let new = held_by g.K.Keeper.contents g.K.Keeper.memories c.value.new.keeper c.value.new.self in
+    let same : c.plain_element.new.level ≡ c.args.level.now = subst (λ o. MayHaveCome rules (contents s) c.args.level.now
+    c.plain_element.new.level run o) c.in-None.is c.in_ok-at_once.ensures in
+    subst (λ (l : Level). EvaluatesTo rules s g.K.Keeper.exact run value_view old new l c.value.new.level c.value.result)
+    same c.value.ensures
 
 pub value-returns-then-above-eq0 : goal.value-returns-then-above-eq0
 value-returns-then-above-eq0 g n c = record {

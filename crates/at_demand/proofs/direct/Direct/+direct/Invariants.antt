@@ -22,11 +22,14 @@ decreases-either g l = 16 * l.above + 1
 abbrev pub decreases-passed : goal.decreases-passed
 decreases-passed g l = 16 * l.above + 1
 
+abbrev pub decreases-element : goal.decreases-element
+decreases-element g l = 16 * l.above + 1
+
 abbrev pub decreases-each : goal.decreases-each
-decreases-each g l = 16 * l.above + 1
+decreases-each g l = 16 * l.above + 2
 
 abbrev pub decreases-over : goal.decreases-over
-decreases-over g l = 16 * l.above + 2
+decreases-over g l = 16 * l.above + 3
 
 abbrev pub decreases-compared : goal.decreases-compared
 decreases-compared g l = 16 * l.above + 2
