@@ -101,7 +101,7 @@ fn near_token(here: &Here, body: &Body) -> Option<(Node, usize)>
 }
 
 // The node that is `this` or an element.
-fn near(here: &Here, body: &Body) -> Option<Node>
+pub(crate) fn near(here: &Here, body: &Body) -> Option<Node>
     ensures { IfSome result (λ node. (classes : Classes) → ev classes (body_view body.now) (place_at here.now) ≡ Gives (Ref (Some node))) }
 {
     match body {

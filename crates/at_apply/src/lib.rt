@@ -5,8 +5,8 @@
 //! `Forms` which an expression has, `Near` what a fold asks each element for.
 //!
 //! **Where to begin:** `form.rt` has an expression's parts, `here.rt` the beginning of an instance's evaluation and the expressions that have no parts, `applying.rt` what is done
-//! with one value and with two, `comparing.rt` texts that are compared where they stand, `folding.rt` one element of a fold, `near.rt` elements whose
-//! value needs no evaluation of its own.
+//! with one value and with two, `comparing.rt` texts that are compared where they stand, `folding.rt` one element of a fold, `near.rt` values at hand, and
+//! elements whose value needs no evaluation of its own.
 #![tactic(auto)]
 
 mod applying;
@@ -22,5 +22,5 @@ pub use comparing::compare;
 pub use folding::{Next, chosen, settle};
 pub use form::{Form, form_of};
 pub use here::{Here, begin};
-pub use near::{asked_of_each, plain_value};
+pub use near::{asked_of_each, at_hand, plain_value};
 pub use stop::Stop;

@@ -1,4 +1,4 @@
-//! Elements of a fold whose value needs no evaluation of its own.
+//! Expressions whose value is at hand, and elements of a fold whose value needs no evaluation of its own.
 
 ghost use Rattle.std.specs.Prelude.{◌≡◌, ℕ, IfOk, IfSome, IsTrue, OnOk, false, nat_eq};
 ghost use Rattle.at_model.specs.Bodies.{Name, This, TokenOf};
@@ -16,7 +16,7 @@ ghost use Rattle.at_apply.specs.Near.{AsksEach, MayHaveEntered, asked, entered, 
 ghost use Rattle.at_apply.specs.Parts.{two_of};
 ghost use Rattle.at_apply.specs.Place.{place_at};
 
-use crate::comparing::{argument_text, is_same};
+use crate::comparing::{argument_text, is_same, near};
 use crate::form::{Form, form_of};
 use crate::here::{Here, are_names};
 use crate::stop::Stop;
@@ -99,7 +99,18 @@ fn at_once(
     }
 }
 
-// The value of an int or of a truth value that is written there.
+/// The value of `this`, of an element of a fold, and of a literal that is no text. None of other expressions.
+#[inline(always)]
+pub fn at_hand(here: &Here, body: &Body) -> Option<Value>
+    ensures { IfSome result (λ v. (classes : Classes) → ev classes (body_view body.now) (place_at here.now) ≡ Gives (value_view v)) }
+{
+    match near(here, body) {
+        Some(node) => Some(Value::Ref(Some(node))),
+        None => literal(body),
+    }
+}
+
+// The value of an int, a truth value or null that is written there.
 #[inline(always)]
 fn literal(body: &Body) -> Option<Value>
     ensures { IfSome result (λ v. (classes : Classes) (p : Place) → ev classes (body_view body.now) p ≡ Gives (value_view v)) }
@@ -107,6 +118,7 @@ fn literal(body: &Body) -> Option<Value>
     match body {
         Body::Int(n) => Some(Value::Int(*n)),
         Body::Truth(truth) => Some(Value::Bool(*truth)),
+        Body::Null => Some(Value::Ref(None)),
         _ => None,
     }
 }

@@ -17,8 +17,8 @@ use super::keeping::{few_of, is_small};
 use super::{Direct, Level};
 use crate::basis::Basis;
 use at_apply::{
-    Form, Here, Next, Stop, asked_of_each, begin, chosen, compare, form_of, node_of, plain_value,
-    settle, truth_in, with_one, with_two,
+    Form, Here, Next, Stop, asked_of_each, at_hand, begin, chosen, compare, form_of, node_of,
+    plain_value, settle, truth_in, with_one, with_two,
 };
 use at_body::{Arguments, Binary, Fold, Inst, Reads, Unary, Value, come_to};
 use at_cache::Keeper;
@@ -267,6 +267,29 @@ impl Direct {
         }
     }
 
+    // The value of an expression within another one, which may be at hand.
+    #[inline(always)]
+    #[cycle(direct)]
+    fn operand<K: Keeper>(
+        &mut self,
+        keeper: &mut K,
+        basis: &Basis<'_>,
+        level: &mut Level,
+        here: &Here,
+        body: &Body,
+        above: usize,
+    ) -> Result<Value, Stop>
+        requires { IsHeld basis.now.rules.now (contents basis.now.store.now) (held_by K.contents K.memories keeper.old self.old) }
+        ensures { EvaluatesTo basis.now.rules.now basis.now.store.now K.exact
+            (ev basis.now.rules.now.classes (body_view body.now) (place_at here.now)) value_view
+            (held_by K.contents K.memories keeper.old self.old) (held_by K.contents K.memories keeper.new self.new) level.old level.new result }
+    {
+        match at_hand(here, body) {
+            Some(value) => Ok(value),
+            None => self.value(keeper, basis, level, here, body, above),
+        }
+    }
+
     // What is done with the value of an operand.
     #[inline(always)]
     #[cycle(direct)]
@@ -285,7 +308,7 @@ impl Direct {
             (one_of basis.now.rules.now.classes (place_at here.now) unary operand.now) value_view
             (held_by K.contents K.memories keeper.old self.old) (held_by K.contents K.memories keeper.new self.new) level.old level.new result }
     {
-        let value = self.value(keeper, basis, level, here, operand, above)?;
+        let value = self.operand(keeper, basis, level, here, operand, above)?;
         with_one(basis.rules, basis.store, &mut level.reads, unary, &value)
     }
 
@@ -308,8 +331,8 @@ impl Direct {
             (two_of basis.now.rules.now.classes (place_at here.now) binary left.now right.now) value_view
             (held_by K.contents K.memories keeper.old self.old) (held_by K.contents K.memories keeper.new self.new) level.old level.new result }
     {
-        let first = self.value(keeper, basis, level, here, left, above)?;
-        let second = self.value(keeper, basis, level, here, right, above)?;
+        let first = self.operand(keeper, basis, level, here, left, above)?;
+        let second = self.operand(keeper, basis, level, here, right, above)?;
         with_two(basis.store, &mut level.reads, binary, first, &second)
     }
 
@@ -367,7 +390,7 @@ impl Direct {
         let value = self.value(keeper, basis, level, here, test, above)?;
         let holds = truth_in(&value)?;
         match chosen(holds, yes, no) {
-            Some(body) => self.value(keeper, basis, level, here, body, above),
+            Some(body) => self.operand(keeper, basis, level, here, body, above),
             None => Ok(Value::Bool(holds)),
         }
     }
@@ -391,7 +414,7 @@ impl Direct {
             (call_of basis.now.rules.now.classes (place_at here.now) receiver.now attribute passed.now) value_view
             (held_by K.contents K.memories keeper.old self.old) (held_by K.contents K.memories keeper.new self.new) level.old level.new result }
     {
-        let value = self.value(keeper, basis, level, here, receiver, above)?;
+        let value = self.operand(keeper, basis, level, here, receiver, above)?;
         let arguments = self.passed(keeper, basis, level, here, passed, above)?;
         let node = node_of(&value)?;
         self.told(
@@ -453,7 +476,7 @@ impl Direct {
             (fold_of basis.now.rules.now.classes (place_at here.now) fold of.now part body.now) value_view
             (held_by K.contents K.memories keeper.old self.old) (held_by K.contents K.memories keeper.new self.new) level.old level.new result }
     {
-        let value = self.value(keeper, basis, level, here, of, above)?;
+        let value = self.operand(keeper, basis, level, here, of, above)?;
         let node = node_of(&value)?;
         level.reads.push(Loc::Slot(node, part))?;
         self.each(
@@ -492,7 +515,7 @@ impl Direct {
         let mut rest = nodes;
         while let Some((node, others)) = rest.split_first() {
             inside.bound.push(*node)?;
-            let value = self.element(keeper, basis, level, &inside, body, *node, asked, above)?;
+            let value = self.element(keeper, basis, level, &inside, body, *node, &asked, above)?;
             let _ = inside.bound.pop();
             let next = settle(going, *node, &value)?;
             match next {
@@ -514,11 +537,11 @@ impl Direct {
         inside: &Here,
         body: &Body,
         node: Node,
-        asked: Option<AttrId>,
+        asked: &Option<AttrId>,
         above: usize,
     ) -> Result<Value, Stop>
-        requires asked { IfSome asked (AsksInner basis.now.rules.now (place_at inside.now) body.now node) }
-        requires held { IsHeld basis.now.rules.now (contents basis.now.store.now) (held_by K.contents K.memories keeper.old self.old) }
+        requires { IfSome asked.now (AsksInner basis.now.rules.now (place_at inside.now) body.now node)
+            × IsHeld basis.now.rules.now (contents basis.now.store.now) (held_by K.contents K.memories keeper.old self.old) }
         ensures { EvaluatesTo basis.now.rules.now basis.now.store.now K.exact
             (ev basis.now.rules.now.classes (body_view body.now) (place_at inside.now)) value_view
             (held_by K.contents K.memories keeper.old self.old) (held_by K.contents K.memories keeper.new self.new) level.old level.new result }
@@ -553,9 +576,9 @@ fn plain_element(
     inside: &Here,
     body: &Body,
     node: Node,
-    asked: Option<AttrId>,
+    asked: &Option<AttrId>,
 ) -> Result<Option<Value>, Stop>
-    requires { IfSome asked (AsksInner basis.now.rules.now (place_at inside.now) body.now node) }
+    requires { IfSome asked.now (AsksInner basis.now.rules.now (place_at inside.now) body.now node) }
     ensures { IfOk result (MayHaveCome basis.now.rules.now (contents basis.now.store.now) level.old level.new
         (ev basis.now.rules.now.classes (body_view body.now) (place_at inside.now))) }
 {
@@ -568,7 +591,7 @@ fn plain_element(
         &mut level.reads,
         &inside.arguments,
         node,
-        attribute,
+        *attribute,
     )
 }
 

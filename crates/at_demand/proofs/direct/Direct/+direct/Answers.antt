@@ -1,4 +1,4 @@
-use Rattle.std.proofs.Common.{◌≡◌, ℕ, List, true, drop, take, length, Option, refl, sym, ap, ◌+◌, ◌∙◌, subst, arith, ◌++◌, Ok, IfOk, map}
+use Rattle.std.proofs.Common.{◌≡◌, ℕ, List, true, drop, take, length, Option, refl, rules, sym, ap, ◌+◌, ◌∙◌, subst, arith, ◌++◌, Ok, IfOk, map}
 use Rattle.std.proofs.lemmas.Result.{IfOk-weaker}
 use Rattle.at_model.specs.Run.{Instance, Location, Gives, Truth}
 use Rattle.at_store.specs.Shown.{contents}
@@ -266,23 +266,35 @@ evaluate-returns g n c = record {
       c.in_ok-begun.begun.0)) c.in_ok-begun.ensures c.value.ensures.gains);
 }
 
+pub operand-returns-in-Some : goal.operand-returns-in-Some
+operand-returns-in-Some g n c = record {
+  come =
+      come_gives c.args.basis.now.rules.now c.args.basis.now.store.now _ c.args.level.now (ev
+      c.args.basis.now.rules.now.classes (body_view c.args.body.now) (place_at c.args.here.now)) (value_view
+      c.in-Some.value) (c.in-Some.ensures c.args.basis.now.rules.now.classes);
+  gains =
+      nothing_gained c.args.basis.now.rules.now c.args.basis.now.store.now g.K.Keeper.exact (ev
+      c.args.basis.now.rules.now.classes (body_view c.args.body.now) (place_at c.args.here.now)) _ c.args.self.now.few
+      c.requires;
+}
+
 pub one-returns-in_err-value : goal.one-returns-in_err-value
 one-returns-in_err-value g n c = record {
   come = search rules;
   gains =
       one_gains c.args.basis.now.rules.now c.args.basis.now.store.now g.K.Keeper.exact (place_at c.args.here.now)
-      c.args.unary c.args.operand.now _ _ c.value.ensures.gains;
+      c.args.unary c.args.operand.now _ _ c.operand.ensures.gains;
 }
 
 pub one-returns : goal.one-returns
 one-returns g n c = record {
   come =
       one_come c.args.basis.now.rules.now c.args.basis.now.store.now g.K.Keeper.exact (place_at c.args.here.now)
-      c.args.unary c.args.operand.now c.in_ok-value.value c.with_one.result _ _ _ _ _ refl c.value.ensures.gains
+      c.args.unary c.args.operand.now c.in_ok-value.value c.with_one.result _ _ _ _ _ refl c.operand.ensures.gains
       c.in_ok-value.ensures.come c.with_one.ensures;
   gains =
       one_gains c.args.basis.now.rules.now c.args.basis.now.store.now g.K.Keeper.exact (place_at c.args.here.now)
-      c.args.unary c.args.operand.now _ _ c.value.ensures.gains;
+      c.args.unary c.args.operand.now _ _ c.operand.ensures.gains;
 }
 
 pub two-returns-in_err-first : goal.two-returns-in_err-first
@@ -290,7 +302,7 @@ two-returns-in_err-first g n c = record {
   come = search rules;
   gains =
       two_gains_first c.args.basis.now.rules.now c.args.basis.now.store.now g.K.Keeper.exact (place_at c.args.here.now)
-      c.args.binary c.args.left.now c.args.right.now _ _ c.value.ensures.gains;
+      c.args.binary c.args.left.now c.args.right.now _ _ c.operand.ensures.gains;
 }
 
 pub two-returns-in_err-second : goal.two-returns-in_err-second
@@ -298,8 +310,8 @@ two-returns-in_err-second g n c = record {
   come = search rules;
   gains =
       two_gains c.args.basis.now.rules.now c.args.basis.now.store.now g.K.Keeper.exact (place_at c.args.here.now)
-      c.args.binary c.args.left.now c.args.right.now c.in_ok-first.first _ _ _ _ _ c.value.ensures.gains
-      c.in_ok-first.ensures.come c.value-2.ensures.gains;
+      c.args.binary c.args.left.now c.args.right.now c.in_ok-first.first _ _ _ _ _ c.operand.ensures.gains
+      c.in_ok-first.ensures.come c.operand-2.ensures.gains;
 }
 
 pub two-returns : goal.two-returns
@@ -307,12 +319,12 @@ two-returns g n c = record {
   come =
       two_come c.args.basis.now.rules.now c.args.basis.now.store.now g.K.Keeper.exact (place_at c.args.here.now)
       c.args.binary c.args.left.now c.args.right.now c.in_ok-first.first c.in_ok-second.second c.with_two.result _ _ _ _
-      _ _ _ refl c.value.ensures.gains c.in_ok-first.ensures.come c.value-2.ensures.gains c.in_ok-second.ensures.come
+      _ _ _ refl c.operand.ensures.gains c.in_ok-first.ensures.come c.operand-2.ensures.gains c.in_ok-second.ensures.come
       c.with_two.ensures;
   gains =
       two_gains c.args.basis.now.rules.now c.args.basis.now.store.now g.K.Keeper.exact (place_at c.args.here.now)
-      c.args.binary c.args.left.now c.args.right.now c.in_ok-first.first _ _ _ _ _ c.value.ensures.gains
-      c.in_ok-first.ensures.come c.value-2.ensures.gains;
+      c.args.binary c.args.left.now c.args.right.now c.in_ok-first.first _ _ _ _ _ c.operand.ensures.gains
+      c.in_ok-first.ensures.come c.operand-2.ensures.gains;
 }
 
 pub compared-returns-in_err-at_once : goal.compared-returns-in_err-at_once
@@ -379,15 +391,15 @@ either-returns-in-Some g n c = record {
       c.args.basis.now.rules.now.classes (body_view c.in-Some.body.now) (place_at c.args.here.now)) _ _ _ _ _
       c.in_ok-holds.ensures (ap (λ o. or_truth c.args.basis.now.rules.now.classes (place_at c.args.here.now) o
       c.in_ok-holds.holds) (sym c.in-Some.is) ∙ c.chosen.ensures c.args.basis.now.rules.now.classes (place_at
-      c.args.here.now)) c.value.ensures.gains c.in_ok-value.ensures.come c.value-in-Some.ensures.gains
-      c.value-in-Some.result c.value-in-Some.new.level c.value-in-Some.ensures.come;
+      c.args.here.now)) c.value.ensures.gains c.in_ok-value.ensures.come c.operand.ensures.gains
+      c.operand.result c.operand.new.level c.operand.ensures.come;
   gains =
       either_gains c.args.basis.now.rules.now c.args.basis.now.store.now g.K.Keeper.exact (place_at c.args.here.now)
       c.args.test.now c.args.yes c.args.no c.in_ok-value.value c.in_ok-holds.holds (ev
       c.args.basis.now.rules.now.classes (body_view c.in-Some.body.now) (place_at c.args.here.now)) _ _ _ _ _
       c.in_ok-holds.ensures (ap (λ o. or_truth c.args.basis.now.rules.now.classes (place_at c.args.here.now) o
       c.in_ok-holds.holds) (sym c.in-Some.is) ∙ c.chosen.ensures c.args.basis.now.rules.now.classes (place_at
-      c.args.here.now)) c.value.ensures.gains c.in_ok-value.ensures.come c.value-in-Some.ensures.gains;
+      c.args.here.now)) c.value.ensures.gains c.in_ok-value.ensures.come c.operand.ensures.gains;
 }
 
 pub either-returns : goal.either-returns
@@ -417,7 +429,7 @@ call-returns-in_err-value g n c = record {
   come = search rules;
   gains =
       call_gains_first c.args.basis.now.rules.now c.args.basis.now.store.now g.K.Keeper.exact (place_at c.args.here.now)
-      c.args.receiver.now c.args.attribute c.args.passed.now _ _ c.value.ensures.gains;
+      c.args.receiver.now c.args.attribute c.args.passed.now _ _ c.operand.ensures.gains;
 }
 
 pub call-returns-in_err-arguments : goal.call-returns-in_err-arguments
@@ -426,7 +438,7 @@ call-returns-in_err-arguments g n c = record {
   gains =
       call_gains_second c.args.basis.now.rules.now c.args.basis.now.store.now g.K.Keeper.exact (place_at
       c.args.here.now) c.args.receiver.now c.args.attribute c.args.passed.now c.in_ok-value.value _ _ (held_by
-      g.K.Keeper.contents g.K.Keeper.memories c.passed.new.keeper c.passed.new.self) _ _ c.value.ensures.gains
+      g.K.Keeper.contents g.K.Keeper.memories c.passed.new.keeper c.passed.new.self) _ _ c.operand.ensures.gains
       c.in_ok-value.ensures.come c.passed.ensures.gains;
 }
 
@@ -436,7 +448,7 @@ call-returns-in_err-node g n c = record {
   gains =
       call_gains_second c.args.basis.now.rules.now c.args.basis.now.store.now g.K.Keeper.exact (place_at
       c.args.here.now) c.args.receiver.now c.args.attribute c.args.passed.now c.in_ok-value.value _ _ (held_by
-      g.K.Keeper.contents g.K.Keeper.memories c.passed.new.keeper c.passed.new.self) _ _ c.value.ensures.gains
+      g.K.Keeper.contents g.K.Keeper.memories c.passed.new.keeper c.passed.new.self) _ _ c.operand.ensures.gains
       c.in_ok-value.ensures.come c.passed.ensures.gains;
 }
 
@@ -445,7 +457,7 @@ call-returns g n c = record {
   come =
       call_come c.args.basis.now.rules.now c.args.basis.now.store.now g.K.Keeper.exact (place_at c.args.here.now)
       c.args.receiver.now c.args.attribute c.args.passed.now c.in_ok-value.value _ _ (held_by g.K.Keeper.contents
-      g.K.Keeper.memories c.passed.new.keeper c.passed.new.self) _ _ c.value.ensures.gains c.in_ok-value.ensures.come
+      g.K.Keeper.memories c.passed.new.keeper c.passed.new.self) _ _ c.operand.ensures.gains c.in_ok-value.ensures.come
       c.passed.ensures.gains c.in_ok-node.node c.in_ok-arguments.arguments (held_by g.K.Keeper.contents
       g.K.Keeper.memories c.told.new.keeper c.told.new.self) c.passed.new.level c.in_ok-node.ensures
       c.in_ok-arguments.ensures.come (subst (λ i. Gains c.args.basis.now.rules.now c.args.basis.now.store.now
@@ -460,7 +472,7 @@ call-returns g n c = record {
   gains =
       call_gains c.args.basis.now.rules.now c.args.basis.now.store.now g.K.Keeper.exact (place_at c.args.here.now)
       c.args.receiver.now c.args.attribute c.args.passed.now c.in_ok-value.value _ _ (held_by g.K.Keeper.contents
-      g.K.Keeper.memories c.passed.new.keeper c.passed.new.self) _ _ c.value.ensures.gains c.in_ok-value.ensures.come
+      g.K.Keeper.memories c.passed.new.keeper c.passed.new.self) _ _ c.operand.ensures.gains c.in_ok-value.ensures.come
       c.passed.ensures.gains c.in_ok-node.node c.in_ok-arguments.arguments (held_by g.K.Keeper.contents
       g.K.Keeper.memories c.told.new.keeper c.told.new.self) c.passed.new.level c.in_ok-node.ensures
       c.in_ok-arguments.ensures.come (subst (λ i. Gains c.args.basis.now.rules.now c.args.basis.now.store.now
@@ -476,7 +488,7 @@ over-returns-in_err-value g n c = record {
   come = search rules;
   gains =
       fold_gains_first c.args.basis.now.rules.now c.args.basis.now.store.now g.K.Keeper.exact (place_at c.args.here.now)
-      c.args.fold c.args.of.now c.args.part c.args.body.now _ _ c.value.ensures.gains;
+      c.args.fold c.args.of.now c.args.part c.args.body.now _ _ c.operand.ensures.gains;
 }
 
 pub over-returns-in_err-node : goal.over-returns-in_err-node
@@ -484,7 +496,7 @@ over-returns-in_err-node g n c = record {
   come = search rules;
   gains =
       fold_gains_first c.args.basis.now.rules.now c.args.basis.now.store.now g.K.Keeper.exact (place_at c.args.here.now)
-      c.args.fold c.args.of.now c.args.part c.args.body.now _ _ c.value.ensures.gains;
+      c.args.fold c.args.of.now c.args.part c.args.body.now _ _ c.operand.ensures.gains;
 }
 
 pub over-returns-in_err-push : goal.over-returns-in_err-push
@@ -492,7 +504,7 @@ over-returns-in_err-push g n c = record {
   come = search rules;
   gains =
       fold_gains_first c.args.basis.now.rules.now c.args.basis.now.store.now g.K.Keeper.exact (place_at c.args.here.now)
-      c.args.fold c.args.of.now c.args.part c.args.body.now _ _ c.value.ensures.gains;
+      c.args.fold c.args.of.now c.args.part c.args.body.now _ _ c.operand.ensures.gains;
 }
 
 pub over-returns : goal.over-returns
@@ -503,9 +515,9 @@ over-returns g n c = record {
       _ _ _ _ _ (record {
         reads =
             c.push.new.self;
-        uses = c.value.new.level.uses;
+        uses = c.operand.new.level.uses;
       }) c.in_ok-node.ensures c.children.ensures.shown
-      c.in_ok-push.ensures.gained c.value.ensures.gains c.in_ok-value.ensures.come c.each.ensures.gains c.each.result
+      c.in_ok-push.ensures.gained c.operand.ensures.gains c.in_ok-value.ensures.come c.each.ensures.gains c.each.result
       c.each.new.level refl c.each.ensures.come;
   gains =
       fold_gains c.args.basis.now.rules.now c.args.basis.now.store.now g.K.Keeper.exact (place_at c.args.here.now)
@@ -513,9 +525,9 @@ over-returns g n c = record {
       _ _ _ _ _ (record {
         reads =
             c.push.new.self;
-        uses = c.value.new.level.uses;
+        uses = c.operand.new.level.uses;
       }) c.in_ok-node.ensures c.children.ensures.shown
-      c.in_ok-push.ensures.gained c.value.ensures.gains c.in_ok-value.ensures.come c.each.ensures.gains;
+      c.in_ok-push.ensures.gained c.operand.ensures.gains c.in_ok-value.ensures.come c.each.ensures.gains;
 }
 
 pub passed-returns-then-hands_on : goal.passed-returns-then-hands_on
@@ -594,15 +606,13 @@ passed-returns g n c = record {
 }
 
 pub each-element-requires : goal.each-element-requires
-each-element-requires g n c = record {
-  asked =
-      asks_inside c.args.basis.now.rules.now (place_at c.args.here.now) (place_at (record c.loop-node.inside {
-        bound = c.push.new.self;
-      })) c.args.body.now c.in-Some.node.now c.inner_of_each-asked.result (bound_at (place_at c.loop-node.inside) (place_at
-      c.args.here.now) c.in-Some.node.now c.push.new.self c.loop-node.invariant.place c.in_ok-push.ensures)
-      c.inner_of_each-asked.ensures;
-  held = c.loop-node.invariant.goes.right;
-}
+each-element-requires g n c = (
+  asks_inside c.args.basis.now.rules.now (place_at c.args.here.now) (place_at
+      (record c.loop-node.inside { bound = c.push.new.self })) c.args.body.now c.in-Some.node.now
+      c.inner_of_each-asked.result (bound_at (place_at c.loop-node.inside) (place_at c.args.here.now) c.in-Some.node.now
+      c.push.new.self c.loop-node.invariant.place c.in_ok-push.ensures) c.inner_of_each-asked.ensures,
+  c.loop-node.invariant.goes.right,
+)
 
 pub each-returns-in_err-inside : goal.each-returns-in_err-inside
 each-returns-in_err-inside g n c = record {
@@ -732,13 +742,16 @@ each-returns g n c = record {
 }
 
 -- element
+pub element-plain_element-requires : goal.element-plain_element-requires
+element-plain_element-requires g n c = c.requires.0
+
 pub element-returns-in_err-at_once : goal.element-returns-in_err-at_once
 element-returns-in_err-at_once g n c = record {
   come = search rules;
   gains =
       nothing_gained c.args.basis.now.rules.now c.args.basis.now.store.now g.K.Keeper.exact (ev
       c.args.basis.now.rules.now.classes (body_view c.args.body.now) (place_at c.args.inside.now)) _
-      c.args.self.now.few c.requires.held;
+      c.args.self.now.few c.requires.1;
 }
 
 pub element-returns-in-Some : goal.element-returns-in-Some
@@ -751,7 +764,7 @@ element-returns-in-Some g n c = record {
   gains =
       nothing_gained c.args.basis.now.rules.now c.args.basis.now.store.now g.K.Keeper.exact (ev
       c.args.basis.now.rules.now.classes (body_view c.args.body.now) (place_at c.args.inside.now)) _
-      c.args.self.now.few c.requires.held;
+      c.args.self.now.few c.requires.1;
 }
 
 pub element-returns-in-None : goal.element-returns-in-None
