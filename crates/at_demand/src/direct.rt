@@ -52,8 +52,7 @@ impl Direct {
     // None yet, behind so much work.
     pub fn new(alloc: Global, work: u64) -> Direct
         requires few { work < 2 ^ 64 }
-        ensures work { result.work ≡ work }
-        ensures nothing { result.found.entries ≡ [] }
+        ensures { (result.work ≡ work) × (result.found.entries ≡ []) }
     {
         Direct {
             alloc,

@@ -1,5 +1,5 @@
 -- What grows while an evaluation in one go goes on: how it begins, goes on, and counts for who asks, and what is kept or remembered.
-use Rattle.std.proofs.Common.{◌≡◌, ℕ, ◌<◌, ◌^◌, Bool, true, false, List, Option, Some, None, inl, inr, refl, sym, subst}
+use Rattle.std.proofs.Common.{◌≡◌, ℕ, ◌<◌, ◌+◌, ◌-◌, ◌^◌, min, Bool, true, false, List, Option, Some, None, inl, inr, refl, sym, subst}
 use Rattle.std.specs.Option.{IfSome}
 use Rattle.std.specs.Prelude.{IsSome, IsTrue}
 use Rattle.indexmap.specs.IndexMap.{insert_entry}
@@ -11,7 +11,7 @@ use Rattle.at_body.specs.Same.{same_instance}
 use Rattle.at_body.specs.Values.{value_view}
 use Rattle.at_body.specs.declared.value.Value.{Value as ValueCode}
 use Rattle.at_cache.specs.Kept.{Entries, HasPut, KeepsAll}
-use Rattle.at_cache.specs.Traced.{Memories, PutsTrace, StayTraced}
+use Rattle.at_cache.specs.Traced.{Memories, PutsTrace, Settled, StayTraced}
 use Rattle.at_cache.specs.declared.keeper.Order.{Order}
 use Rattle.at_cache.specs.declared.keeper.Order.TheVariants as order
 use Rattle.at_cache.specs.declared.keeper.Put.{Put}
@@ -23,7 +23,7 @@ use Rattle.at_demand.specs.Sparing.{Counts}
 use Rattle.at_demand.proofs.of_nesting.Asked.{gains_evaluated, traced_evaluated}
 use Rattle.at_demand.proofs.of_nesting.InnerGains.{Found, counts_shared_so, gains_as, gains_more, gains_none, gains_put_so, gains_same, gains_then, gains_up, more_known, valued}
 use Rattle.at_demand.proofs.of_traces.Putting.{put_traced, stays_put, traced_on, traced_same, traced_then, traced_up}
-use Rattle.at_demand.proofs.of_traces.Settled.{LastKept}
+use Rattle.at_demand.proofs.of_traces.Settled.{LastKept, settled_gains}
 
 -- nothing comes
 pub grown_none : (rules : Rules) (s : Shown) (exact : Bool) (i : Instance ℕ) (h : Held) → h.work < 2 ^ 64 →
@@ -69,6 +69,17 @@ grown_aside {rules} {s} {exact} {i} {j} {old} {new} {entries} {m} {f} {g} {w} {x
     let leads : Leads (contents s) (meaning rules) i j =
     subst (λ (p : Option (Instance ℕ)). IfSome p (Leads (contents s) (meaning rules) i)) is led in
     grown_then a (grown_up idle leads (grown_from e d b))
+
+-- what can be kept again is kept, and counted
+pub grown_settled : (rules : Rules) (s : Shown) → IsIdle s → (exact : Bool) (i : Instance ℕ) (old : Held) (entries : Entries)
+    (m : Memories) (n w : ℕ) → IsHeld rules (contents s) old → old.work < 2 ^ 64 → LastKept old.memories old.entries →
+    Settled exact old.memories i n old.entries entries → w ≡ min (old.work + n) (2 ^ 64 - 1) → StayTraced old.memories m →
+    HasGrown rules s exact i old (held entries m old.found w)
+grown_settled rules s idle exact i old entries m n w is few last steps counted stay = record {
+  gains = settled_gains rules s idle exact old.memories is.justified i n old.entries entries old.found old.work w
+      steps few counted is.known last;
+  traces = traced_on rules s i old.memories m stay is.justified;
+}
 
 -- then all is right still
 pub held_after : {rules : Rules} {s : Shown} {exact : Bool} {i : Instance ℕ} {old new : Held} →

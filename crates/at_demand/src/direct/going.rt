@@ -1,6 +1,6 @@
 //! The recursion of an evaluation in one go: over the parts of expressions, and through the instances that they demand.
 
-ghost use Rattle.std.specs.Prelude.{◌≡◌, ◌<◌, ◌≤◌, ◌^◌, [], IfOk, IfSome, OnOk, IsTrue, drop, false, length, map, take, true};
+ghost use Rattle.std.specs.Prelude.{◌≡◌, ◌≤◌, IfOk, IfSome, OnOk, IsTrue, drop, false, length, map, take, true};
 ghost use Rattle.at_model.specs.Meaning.{HasValue};
 ghost use Rattle.at_store.specs.Shown.{contents};
 ghost use Rattle.at_rules.specs.Bodies.{bodies_view, body_view};
@@ -106,10 +106,14 @@ impl Direct {
         if let Some(value) = recalled {
             return Ok(value);
         }
-        if basis.rules.is_lazy(needed.attribute()) {
-            return self.lazily(keeper, basis, level, needed, above);
+        if !basis.rules.is_lazy(needed.attribute()) {
+            return self.inner(keeper, basis, level, needed, above);
         }
-        self.inner(keeper, basis, level, needed, above)
+        let verified = self.verify(keeper, basis, level, &needed, above)?;
+        match verified {
+            Some(value) => Ok(value),
+            None => self.afresh(keeper, basis, level, needed, above),
+        }
     }
 
     // The value of an instance that isn't known and isn't lazy, in the evaluation that asks. Where that looks at many locations it is remembered.
@@ -135,27 +139,6 @@ impl Direct {
         let below = level.split_off(reads, uses)?;
         self.remember(keeper, basis, level, &below, needed, &value)?;
         Ok(value)
-    }
-
-    // The value of a lazy instance that isn't known: it can be kept again, or it is evaluated.
-    #[cycle(direct)]
-    fn lazily<K: Keeper>(
-        &mut self,
-        keeper: &mut K,
-        basis: &Basis<'_>,
-        level: &mut Level,
-        needed: Inst,
-        above: usize,
-    ) -> Result<Value, Stop>
-        requires { IsHeldFor basis.now.rules.now (contents basis.now.store.now) (held_by K.contents K.memories keeper.old self.old) true needed }
-        ensures { EndsTold basis.now.rules.now basis.now.store.now K.exact needed (held_by K.contents K.memories keeper.old self.old)
-            (held_by K.contents K.memories keeper.new self.new) level.old level.new result }
-    {
-        let verified = self.verify(keeper, basis, level, &needed, above)?;
-        match verified {
-            Some(value) => Ok(value),
-            None => self.afresh(keeper, basis, level, needed, above),
-        }
     }
 
     // The value of a lazy instance that isn't known, where it can be kept again; it is taken then. What stands in the way is

@@ -13,7 +13,7 @@ ghost use Rattle.at_cache.specs.Traced.{PutsTrace};
 ghost use Rattle.at_cache.specs.declared.keeper.Order.TheVariants as order_code;
 ghost use Rattle.at_demand.specs.Known.{kept_values, meaning};
 ghost use Rattle.at_demand.specs.Inner.{AreKnown, AreLazy, HasRecalled, IsOneOf, known_by, remembered};
-ghost use Rattle.at_demand.specs.InParts.{EndsRecalled, EndsTaken, HasEntered, HasGrown, IsEvaluatedFor, IsHeld, LeavesFinds, held_by};
+ghost use Rattle.at_demand.specs.InParts.{EndsRecalled, EndsTaken, HasEntered, IsEvaluatedFor, IsHeld, LeavesFinds, held_by};
 ghost use Rattle.at_demand.specs.Sparing.{Counts};
 
 use super::{Direct, Level};
@@ -54,7 +54,7 @@ impl Direct {
         Ok(Some(other.copy(self.alloc)?))
     }
 
-    // The value of an instance that isn't known, where it can be kept again with no evaluation; it is taken then.
+    // The value of an instance that isn't known, where it can be kept again with no evaluation; it is taken then. What is kept again is counted.
     pub(super) fn keep_again<K: Keeper>(
         &mut self,
         keeper: &mut K,
@@ -66,22 +66,13 @@ impl Direct {
         ensures { EndsRecalled basis.now.rules.now basis.now.store.now K.exact needed.now (held_by K.contents K.memories keeper.old self.old)
             (held_by K.contents K.memories keeper.new self.new) level.old level.new result }
     {
-        if !self.have_settled(keeper, basis, needed) {
-            return Ok(None);
-        }
-        self.recall(keeper, basis, level, needed)
-    }
-
-    // Whether anything was kept again for the instance, which is counted.
-    fn have_settled<K: Keeper>(&mut self, keeper: &mut K, basis: &Basis<'_>, needed: &Inst) -> bool
-        requires { IsHeld basis.now.rules.now (contents basis.now.store.now) (held_by K.contents K.memories keeper.old self.old) }
-        ensures grown { HasGrown basis.now.rules.now basis.now.store.now K.exact needed.now
-            (held_by K.contents K.memories keeper.old self.old) (held_by K.contents K.memories keeper.new self.new) }
-    {
         let before = self.work;
         let later = keeper.settle(needed, before);
         self.work = later;
-        before < later
+        if later <= before {
+            return Ok(None);
+        }
+        self.recall(keeper, basis, level, needed)
     }
 
     // The known value of an instance, which is taken then.

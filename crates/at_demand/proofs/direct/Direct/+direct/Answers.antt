@@ -1,4 +1,4 @@
-use Rattle.std.proofs.Common.{◌≡◌, ℕ, List, true, drop, take, length, Option, refl, rules, sym, ap, ◌+◌, ◌∙◌, subst, arith, ◌++◌, Ok, IfOk, map}
+use Rattle.std.proofs.Common.{◌≡◌, ℕ, List, true, drop, take, length, Option, refl, sym, ap, ◌+◌, ◌∙◌, subst, arith, ◌++◌, Ok, IfOk, map, rules}
 use Rattle.std.proofs.lemmas.Result.{IfOk-weaker}
 use Rattle.at_model.specs.Run.{Instance, Location, Gives, Truth}
 use Rattle.at_store.specs.Shown.{contents}
@@ -132,22 +132,26 @@ verify-loop-preserved g n c = record {
       c.loop.invariant.level;
 }
 
--- lazily, where it can't be verified
-pub lazily-returns-in-None : goal.lazily-returns-in-None
-lazily-returns-in-None g n c =
+-- told, where it isn't known and can't be kept again
+pub told-returns-in-None : goal.told-returns-in-None
+told-returns-in-None g n c =
     let rules = c.args.basis.now.rules.now in
     let s = c.args.basis.now.store.now in
     let i = c.args.needed in
+    let e0 = g.K.Keeper.contents c.args.keeper.now in
     let e1 = g.K.Keeper.contents c.verify.new.keeper in
     let e2 = g.K.Keeper.contents c.afresh.new.keeper in
+    let d0 = c.args.self.now in
     let d1 = c.verify.new.self in
     let d2 = c.afresh.new.self in
-    let same : c.verify.new.level ≡ c.args.level.now = subst (λ (o : Option ValueCode). HasRecalled rules (contents s)
-    (known_by e1 d1.found.entries) c.args.level.now c.verify.new.level i o) c.in-None.is
+    let before : c.recall.new.level ≡ c.args.level.now = subst (λ (o : Option ValueCode). HasRecalled rules (contents s)
+    (known_by e0 d0.found.entries) c.args.level.now c.recall.new.level i o) c.in_default.is c.in_ok-recalled.ensures in
+    let same : c.verify.new.level ≡ c.recall.new.level = subst (λ (o : Option ValueCode). HasRecalled rules (contents s)
+    (known_by e1 d1.found.entries) c.recall.new.level c.verify.new.level i o) c.in-None.is
     c.in_ok-verified.ensures.recalled in
     record {
       told = IfOk-weaker c.afresh.result _ _ (λ v h. subst (λ (l : Level). HasTold rules (contents s) (known_by e2
-          d2.found.entries) l c.afresh.new.level i (value_view v)) same h) c.afresh.ensures.told;
+          d2.found.entries) l c.afresh.new.level i (value_view v)) (same ∙ before) h) c.afresh.ensures.told;
       grown = grown_then c.verify.ensures.grown c.afresh.ensures.grown;
     }
 

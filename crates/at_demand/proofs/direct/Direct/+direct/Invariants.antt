@@ -46,9 +46,6 @@ decreases-afresh g l = 16 * l.above + 5
 abbrev pub decreases-verify : goal.decreases-verify
 decreases-verify g l = 16 * l.above + 6
 
-abbrev pub decreases-lazily : goal.decreases-lazily
-decreases-lazily g l = 16 * l.above + 7
-
 abbrev pub decreases-inner : goal.decreases-inner
 decreases-inner g l = 16 * l.above + 7
 

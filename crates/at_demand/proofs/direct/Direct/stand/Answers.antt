@@ -1,4 +1,4 @@
-use Rattle.std.proofs.Common.{ℕ, List, None, refl, subst}
+use Rattle.std.proofs.Common.{ℕ, List, None, refl, subst, rules}
 use Rattle.std.specs.Prelude.{Contains}
 use Rattle.at_model.specs.Run.{Instance}
 use Rattle.at_body.specs.Values.{value_view}
