@@ -1,12 +1,10 @@
 -- Equations that come to their value at once.
-use Rattle.std.proofs.Common.{◌≡◌, ◌+◌, ℕ, zero, suc, Bool, false, List, [], ◌∷◌, ◌++◌, Option, Some, None, Result, Ok, Err, IfOk, length, map, refl, sym, ap, ◌∙◌, subst, append_assoc, append-nil, nat_eq, arith}
-use Rattle.at_model.specs.Bodies.{Expr, Exprs, demand_of, This, TokenOf, token_of}
-use Rattle.at_model.specs.Bodies as model
+use Rattle.std.proofs.Common.{◌≡◌, ℕ, false, List, [], ◌∷◌, ◌++◌, Option, Some, None, Result, Ok, Err, IfOk, IfSome, map, refl, sym, ap, ◌∙◌, append_assoc, append-nil, nat_eq}
+use Rattle.at_model.specs.Bodies.{Name, This, TokenOf, demand_of, token_of}
 use Rattle.at_model.specs.Classes.{Classes}
 use Rattle.at_model.specs.Follow.{Ends, Reached, follow}
 use Rattle.at_model.specs.Rules.{Rules, evaluation, is_inherited, own_equation}
 use Rattle.at_model.specs.Run.{Contents, Demands, Fails, Gives, Instance, Is, Location, Looks, LooksTo, Ref, Run, Value, ◌>>=◌}
-use Rattle.at_model.specs.Support.{argument_classes}
 use Rattle.at_rules.specs.Bodies.{body_view, bodies_view}
 use Rattle.at_rules.specs.declared.body.Body.{Body}
 use Rattle.at_body.specs.Rest.{ev, ev_all}
@@ -32,8 +30,10 @@ begun_looked : {A : Type 0} (look : Contents ℕ) (old mid new : List (Location 
 begun_looked look old mid new r q a b h = looked_past look old r b.looks q b.goes ∙ ap (λ ls. follow look ls q) (sym b.reads) ∙ h
 
 -- what the body of its own equation comes to at once the instance comes to
-pub by_own_at_once : {E : Type 0} (rules : Rules) (look : Contents ℕ) (old new : List (Location ℕ)) (n a c : ℕ) (vs : List ValueCode) (b : Body) (res : Result (Option ValueCode) E) → is_inherited rules a ≡ false → c ≡ look (Is n) →
-    Some (body_view b) ≡ own_equation rules c a → IfOk res (MayHaveEntered look old new n vs (ev rules.classes (body_view b) (own_place n vs))) → IfOk res (MayHaveLooked look old new (evaluation rules nat_eq (asked n a vs)))
+pub by_own_at_once : {E : Type 0} (rules : Rules) (look : Contents ℕ) (old new : List (Location ℕ)) (n a c : ℕ) (vs : List ValueCode) (b : Body) (res : Result (Option ValueCode) E) →
+    is_inherited rules a ≡ false → c ≡ look (Is n) →
+    Some (body_view b) ≡ own_equation rules c a → IfOk res (MayHaveEntered look old new n vs (ev rules.classes (body_view b) (own_place n vs))) → IfOk res (MayHaveLooked look old new
+    (evaluation rules nat_eq (asked n a vs)))
 by_own_at_once rules look old new n a c vs b (Err e) own class is h = tt
 by_own_at_once rules look old new n a c vs b (Ok None) own class is h = h
 by_own_at_once rules look old new n a c vs b (Ok (Some v)) own class is h =
@@ -48,7 +48,8 @@ by_own_at_once rules look old new n a c vs b (Ok (Some v)) own class is h =
     q = ev rules.classes (body_view b) (own_place n vs)
 
 -- a value that is at hand behind the classes
-pub entered_gives : (look : Contents ℕ) (old new : List (Location ℕ)) (n : ℕ) (vs : List ValueCode) (r : Run ℕ (Value ℕ)) (v : Value ℕ) → r ≡ Gives v → new ≡ entered old n vs → HasLooked look (entered old n vs) new r v
+pub entered_gives : (look : Contents ℕ) (old new : List (Location ℕ)) (n : ℕ) (vs : List ValueCode) (r : Run ℕ (Value ℕ)) (v : Value ℕ) → r ≡ Gives v → new ≡ entered old n vs → HasLooked
+    look (entered old n vs) new r v
 entered_gives look old new n vs r v gives reads =
     ap (follow look (entered old n vs)) gives ∙ ap (λ (ls : List (Location ℕ)). let end : Reached ℕ (Value ℕ) × List (Location ℕ) = (Ends v, ls) in end) (sym reads)
 
@@ -58,8 +59,14 @@ own_token_at classes n part vs b is = ap (λ e. ev classes e (own_place n vs)) i
 
 -- the element of the fold is asked for the attribute, with what was passed
 pub asks_each : (p : Place) (b a : Body) (attribute : ℕ) (passed : List Body) → ((classes : Classes) (q : Place) → ev classes (body_view b) q ≡ call_of classes q a attribute passed) →
-    body_view a ≡ model.Name 0 → ((classes : Classes) (n : ℕ) → ev_all classes (bodies_view passed) (inside p n) ≡ Gives (map value_view p.passed)) → AsksEach p b attribute
+    body_view a ≡ Name 0 → ((classes : Classes) (n : ℕ) → ev_all classes (bodies_view passed) (inside p n) ≡ Gives (map value_view p.passed)) → AsksEach p b attribute
 asks_each p b a attribute passed means element names = λ classes n.
     means classes (inside p n)
     ∙ ap (λ e. ev classes e (inside p n) >>= λ v. ev_all classes (bodies_view passed) (inside p n) >>= demand_of attribute v) element
     ∙ ap (λ (r : Run ℕ (List (Value ℕ))). r >>= demand_of attribute (Ref (Some n))) (names classes n)
+
+-- what a literal comes to anywhere it comes to at a place
+pub literal_at : (p : Place) (b : Body) (o : Option ValueCode) → IfSome o (λ v. (classes : Classes) (q : Place) → ev classes (body_view b) q ≡ Gives (value_view v)) → IfSome o (λ v. (classes
+    : Classes) → ev classes (body_view b) p ≡ Gives (value_view v))
+literal_at p b None h = tt
+literal_at p b (Some v) h = λ classes. h classes p

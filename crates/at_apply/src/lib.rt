@@ -4,9 +4,9 @@
 //! **Its specs:** `Place` is where an expression stands, `Looking` what looks alone come to, `Parts` says expressions by their parts,
 //! `Forms` which an expression has, `Near` what a fold asks each element for.
 //!
-//! **Where to begin:** `form.rt` has an expression's parts, `here.rt` the beginning of an instance's evaluation and the expressions that have no parts, `applying.rt` what is done
-//! with one value and with two, `comparing.rt` texts that are compared where they stand, `folding.rt` one element of a fold, `near.rt` values at hand, and
-//! elements whose value needs no evaluation of its own.
+//! **Where to begin:** `form.rt` has an expression's parts, `here.rt` the beginning of an instance's evaluation and the expressions that have no
+//! parts, `applying.rt` what is done with one value and with two, `comparing.rt` texts that are compared where they stand, `folding.rt` one
+//! element of a fold, `near.rt` values at hand, and elements whose value needs no evaluation of its own.
 #![tactic(auto)]
 
 mod applying;

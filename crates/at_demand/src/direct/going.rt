@@ -10,7 +10,8 @@ ghost use Rattle.at_body.specs.Values.{value_view};
 ghost use Rattle.at_apply.specs.Parts.{call_of, either_of, fold_of, one_of, two_of};
 ghost use Rattle.at_apply.specs.Place.{place_at};
 ghost use Rattle.at_demand.specs.Known.{meaning};
-ghost use Rattle.at_demand.specs.InParts.{AsksEachInner, AsksInner, EndsEvaluated, EndsRecalled, EndsTold, EvaluatesTo, GivesLevel, HasGrown, IsEmptied, IsHeld, IsHeldFor, MayHaveCome, held_by};
+ghost use Rattle.at_demand.specs.InParts.{EndsEvaluated, EndsRecalled, EndsTold, EvaluatesTo, GivesLevel, HasGrown, IsEmptied, IsHeld, IsHeldFor, held_by};
+ghost use Rattle.at_demand.specs.InParts.{AsksEachInner, AsksInner, MayHaveCome};
 ghost use Rattle.at_demand.specs.Sparing.{AreSpare, HasWorthy};
 
 use super::keeping::{few_of, is_small};

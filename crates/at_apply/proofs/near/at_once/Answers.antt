@@ -10,7 +10,8 @@ use Rattle.at_apply.proofs.near.at_once.Goals as goal
 pub returns-in-Some : goal.returns-in-Some
 returns-in-Some c = λ classes.
     let p = own_place c.args.node c.args.arguments.now in
-    entered_gives (contents c.args.store.now) c.args.reads.now c.enter.new.reads c.args.node c.args.arguments.now (ev classes (body_view c.args.body.now) p) (value_view c.in-Some.value) (c.in-Some.ensures classes p) c.in_ok-enter.ensures
+    entered_gives (contents c.args.store.now) c.args.reads.now c.enter.new.reads c.args.node c.args.arguments.now (ev classes (body_view c.args.body.now) p) (value_view c.in-Some.value)
+    (c.in-Some.ensures classes p) c.in_ok-enter.ensures
 
 pub returns-in-Compared : goal.returns-in-Compared
 returns-in-Compared c = λ classes. rw (c.form_of.ensures.means classes (own_place c.args.node c.args.arguments.now), c.in-Compared.is) (c.compared.ensures classes)

@@ -10,5 +10,6 @@ pub returns : goal.returns
 returns c = λ classes.
     let n = c.args.node in let vs = c.args.arguments.now in
     texts_compared (contents c.args.store.now) classes (own_place n vs) c.args.comparison.now c.args.left.now c.args.right.now (entered c.args.reads.now n vs) c.push.new.self n c.in-Some.part
-    c.in-Some-token_text.own.now c.in-Some-lent.text.now c.tells.result (own_token_at classes n c.in-Some.part vs c.args.left.now c.in-Some.ensures) c.in-Some-token_text.ensures (c.in-Some-lent.ensures classes n)
+    c.in-Some-token_text.own.now c.in-Some-lent.text.now c.tells.result (own_token_at classes n c.in-Some.part vs c.args.left.now c.in-Some.ensures) c.in-Some-token_text.ensures
+    (c.in-Some-lent.ensures classes n)
     (c.tells.ensures c.in-Some-token_text.own.now c.in-Some-lent.text.now c.is_same.ensures) (c.in_ok-push.ensures.gained ∙ ap (λ ls. ls ++ Tok n c.in-Some.part ∷ []) c.in_ok-enter.ensures)

@@ -10,5 +10,7 @@ use Rattle.at_apply.proofs.near.plain_value.Goals as goal
 pub returns : goal.returns
 returns c =
     let rules = c.args.rules.now in let look = contents c.args.store.now in let n = c.args.node in
-    by_own_at_once rules look c.args.reads.now c.at_once.new.reads n c.args.attribute c.class.result c.args.arguments.now c.in-Some.body.now c.at_once.result c.requires.own c.class.ensures c.in-Some.ensures
-    (subst (λ (vs : List Value). IfOk c.at_once.result (MayHaveEntered look c.args.reads.now c.at_once.new.reads n vs (ev rules.classes (body_view c.in-Some.body.now) (own_place n vs)))) c.as_slice.ensures (c.at_once.ensures rules.classes))
+    by_own_at_once rules look c.args.reads.now c.at_once.new.reads n c.args.attribute c.class.result c.args.arguments.now c.in-Some.body.now c.at_once.result c.requires.own c.class.ensures
+    c.in-Some.ensures
+    (subst (λ (vs : List Value). IfOk c.at_once.result (MayHaveEntered look c.args.reads.now c.at_once.new.reads n vs (ev rules.classes (body_view c.in-Some.body.now) (own_place n vs))))
+    c.as_slice.ensures (c.at_once.ensures rules.classes))
