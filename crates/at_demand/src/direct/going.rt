@@ -6,6 +6,7 @@ ghost use Rattle.at_store.specs.Shown.{contents};
 ghost use Rattle.at_rules.specs.Bodies.{bodies_view, body_view};
 ghost use Rattle.at_body.specs.Comparing.{IsComparison};
 ghost use Rattle.at_body.specs.Rest.{ev, ev_all, over};
+ghost use Rattle.at_body.specs.Standing.{inside};
 ghost use Rattle.at_body.specs.Values.{value_view};
 ghost use Rattle.at_apply.specs.Parts.{call_of, either_of, fold_of, one_of, two_of};
 ghost use Rattle.at_apply.specs.Place.{place_at};
@@ -499,7 +500,17 @@ impl Direct {
         let mut rest = nodes;
         while let Some((node, others)) = rest.split_first() {
             inside.bound.push(*node)?;
-            let value = self.element(keeper, basis, level, &inside, body, *node, &asked, above)?;
+            let asked_here = asked_inside(basis, here, &inside, body, *node, &asked);
+            let value = self.element(
+                keeper,
+                basis,
+                level,
+                &inside,
+                body,
+                *node,
+                &asked_here,
+                above,
+            )?;
             let _ = inside.bound.pop();
             let next = settle(going, *node, &value)?;
             match next {
@@ -550,6 +561,23 @@ fn inner_of_each(basis: &Basis<'_>, here: &Here, body: &Body) -> Option<AttrId>
         return None;
     }
     Some(attribute)
+}
+
+// The same attribute, at an element within the fold.
+#[inline(always)]
+fn asked_inside(
+    basis: &Basis<'_>,
+    here: &Here,
+    within: &Here,
+    body: &Body,
+    node: Node,
+    asked: &Option<AttrId>,
+) -> Option<AttrId>
+    requires { (place_at within.now ≡ inside (place_at here.now) node)
+        × IfSome asked.now (AsksEachInner basis.now.rules.now (place_at here.now) body.now) }
+    ensures { IfSome result (AsksInner basis.now.rules.now (place_at within.now) body.now node) }
+{
+    *asked
 }
 
 // What that attribute of the element comes to by looks alone, where its equation is a plain one. None of others; then nothing is noted.

@@ -19,7 +19,6 @@ use Rattle.at_apply.specs.Place.{place_at}
 use Rattle.at_demand.specs.Traces.{StayJustified}
 use Rattle.at_demand.proofs.of_parts.Directly.{come_begun, come_gives, come_looked, gains_begun, nothing_gained}
 use Rattle.at_demand.proofs.of_parts.ByForm.{call_come, call_gains, call_gains_first, call_gains_second, either_come, either_gains, either_gains_test, fold_come, fold_gains, fold_gains_first, one_come, one_gains, two_come, two_gains, two_gains_first}
-use Rattle.at_demand.proofs.of_parts.AtOnce.{asks_inside}
 use Rattle.at_demand.proofs.of_parts.Looping.{bound_at, each_all, each_ends, each_gains, each_on, gains_so_far, passed_all, passed_gains, passed_on, starts, unbound_at}
 use Rattle.at_demand.proofs.direct.Direct.+direct.Goals as goal
 use Rattle.at_body.specs.declared.value.Value.TheVariants as value
@@ -609,13 +608,11 @@ passed-returns g n c = record {
       c.loop-argument.self.few c.loop-argument.invariant;
 }
 
-pub each-element-requires : goal.each-element-requires
-each-element-requires g n c = (
-  asks_inside c.args.basis.now.rules.now (place_at c.args.here.now) (place_at
-      (record c.loop-node.inside { bound = c.push.new.self })) c.args.body.now c.in-Some.node.now
-      c.inner_of_each-asked.result (bound_at (place_at c.loop-node.inside) (place_at c.args.here.now) c.in-Some.node.now
-      c.push.new.self c.loop-node.invariant.place c.in_ok-push.ensures) c.inner_of_each-asked.ensures,
-  c.loop-node.invariant.goes.right,
+pub each-asked_inside-requires : goal.each-asked_inside-requires
+each-asked_inside-requires g n c = (
+  bound_at (place_at c.loop-node.inside) (place_at c.args.here.now) c.in-Some.node.now
+      c.push.new.self c.loop-node.invariant.place c.in_ok-push.ensures,
+  c.inner_of_each-asked.ensures,
 )
 
 pub each-returns-in_err-inside : goal.each-returns-in_err-inside
