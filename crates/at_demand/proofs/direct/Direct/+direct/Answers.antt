@@ -608,8 +608,8 @@ passed-returns g n c = record {
       c.loop-argument.self.few c.loop-argument.invariant;
 }
 
-pub each-asked_inside-requires : goal.each-asked_inside-requires
-each-asked_inside-requires g n c = (
+pub each-asked_inside-asked_here-requires : goal.each-asked_inside-asked_here-requires
+each-asked_inside-asked_here-requires g n c = (
   bound_at (place_at c.loop-node.inside) (place_at c.args.here.now) c.in-Some.node.now
       c.push.new.self c.loop-node.invariant.place c.in_ok-push.ensures,
   c.inner_of_each-asked.ensures,
