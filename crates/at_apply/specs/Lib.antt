@@ -2,3 +2,4 @@ pub mod Looking
 pub mod Place
 pub mod Parts
 pub mod Forms
+pub mod Near

@@ -1,6 +1,6 @@
 //! Texts that are compared where they stand, in an evaluation in one go.
 
-ghost use Rattle.std.specs.Prelude.{◌≡◌, IfOk, IfSome, Some, bytes_eq};
+ghost use Rattle.std.specs.Prelude.{◌≡◌, IfOk, IfSome, Some, bytes_eq, map};
 ghost use Rattle.at_model.specs.Bodies.{named, token_of};
 ghost use Rattle.at_model.specs.Classes.{Classes};
 ghost use Rattle.at_model.specs.Run.{Gives, Ref, Text};
@@ -9,6 +9,7 @@ ghost use Rattle.at_rules.specs.Bodies.{body_view};
 ghost use Rattle.at_body.specs.Comparing.{IsComparison};
 ghost use Rattle.at_body.specs.Rest.{ev};
 ghost use Rattle.at_body.specs.Standing.{scope};
+ghost use Rattle.at_body.specs.Values.{value_view};
 ghost use Rattle.at_apply.specs.Parts.{two_of};
 ghost use Rattle.at_apply.specs.Looking.{MayHaveLooked};
 ghost use Rattle.at_apply.specs.Place.{place_at};
@@ -48,7 +49,7 @@ pub fn compare(
 }
 
 // Whether the texts are the same.
-fn is_same(left: &str, right: &str) -> bool
+pub(crate) fn is_same(left: &str, right: &str) -> bool
     ensures { result ≡ bytes_eq left.now right.now }
 {
     left == right
@@ -73,7 +74,14 @@ fn lent_argument(here: &Here, position: usize) -> Option<&str>
         return None;
     }
     let passed = position.saturating_sub(here.bound.len());
-    let Some(value) = at(here.arguments.as_slice(), passed) else {
+    argument_text(here.arguments.as_slice(), passed)
+}
+
+// The text of the argument at a position; none of another value.
+pub(crate) fn argument_text(arguments: &[Value], position: usize) -> Option<&str>
+    ensures { IfSome result (λ text. named (map value_view arguments.now) position ≡ Text text.now) }
+{
+    let Some(value) = at(arguments, position) else {
         return None;
     };
     text_in(value)
@@ -93,7 +101,7 @@ fn near_token(here: &Here, body: &Body) -> Option<(Node, usize)>
 }
 
 // The node that is `this` or an element.
-fn near(here: &Here, body: &Body) -> Option<Node>
+pub(crate) fn near(here: &Here, body: &Body) -> Option<Node>
     ensures { IfSome result (λ node. (classes : Classes) → ev classes (body_view body.now) (place_at here.now) ≡ Gives (Ref (Some node))) }
 {
     match body {

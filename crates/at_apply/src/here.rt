@@ -9,7 +9,7 @@ ghost use Rattle.at_model.specs.Terms.{max_depth};
 ghost use Rattle.at_store.specs.Shown.{IsIdle, contents};
 ghost use Rattle.at_rules.specs.Bodies.{bodies_view, body_view};
 ghost use Rattle.at_body.specs.Rest.{ev, ev_all};
-ghost use Rattle.at_body.specs.Standing.{scope};
+ghost use Rattle.at_body.specs.Standing.{Place, scope};
 ghost use Rattle.at_body.specs.Values.{value_view};
 ghost use Rattle.at_model.specs.Rules.{evaluation};
 ghost use Rattle.at_apply.specs.Looking.{HasBegun, HasLooked};
@@ -76,16 +76,7 @@ impl Here {
         ensures { IsTrue result → (classes : Classes)
             → ev_all classes (bodies_view passed.now) (place_at self.now) ≡ Gives (map value_view self.now.arguments) }
     {
-        if passed.len() != self.arguments.as_slice().len() {
-            return false;
-        }
-        let bound = self.bound.len();
-        for (index, argument) in passed.iter().enumerate() {
-            if !is_passed(argument, bound, index) {
-                return false;
-            }
-        }
-        true
+        are_names(passed, self.bound.len(), self.arguments.as_slice())
     }
 
     /// All that was passed, which is shared. An error where its count is at its end.
@@ -218,4 +209,20 @@ pub(crate) fn at(arguments: &[Value], position: usize) -> Option<&Value>
     ensures { option_copied result ≡ slice_get arguments.now position }
 {
     arguments.iter().nth(position)
+}
+
+// Whether the expressions are just the names of these arguments, in order, behind those of so many elements of folds.
+pub(crate) fn are_names(passed: &[Body], bound: usize, arguments: &[Value]) -> bool
+    ensures { IsTrue result → (classes : Classes) (p : Place) → length p.bound ≡ bound → p.passed ≡ arguments.now
+        → ev_all classes (bodies_view passed.now) p ≡ Gives (map value_view arguments.now) }
+{
+    if passed.len() != arguments.len() {
+        return false;
+    }
+    for (index, argument) in passed.iter().enumerate() {
+        if !is_passed(argument, bound, index) {
+            return false;
+        }
+    }
+    true
 }

@@ -2,10 +2,11 @@
 //! a fault and at a value of another kind. So nothing here asks of which kinds the values are.
 //!
 //! **Its specs:** `Place` is where an expression stands, `Looking` what looks alone come to, `Parts` says expressions by their parts,
-//! `Forms` which an expression has.
+//! `Forms` which an expression has, `Near` what a fold asks each element for.
 //!
-//! **Where to begin:** `form.rt` has an expression's parts, `here.rt` the beginning of an instance's evaluation and the expressions that have no parts, `applying.rt` what is done
-//! with one value and with two, `comparing.rt` texts that are compared where they stand, `folding.rt` one element of a fold.
+//! **Where to begin:** `form.rt` has an expression's parts, `here.rt` the beginning of an instance's evaluation and the expressions that have no
+//! parts, `applying.rt` what is done with one value and with two, `comparing.rt` texts that are compared where they stand, `folding.rt` one
+//! element of a fold, `near.rt` values at hand, and elements whose value needs no evaluation of its own.
 #![tactic(auto)]
 
 mod applying;
@@ -13,6 +14,7 @@ mod comparing;
 mod folding;
 mod form;
 mod here;
+mod near;
 mod stop;
 
 pub use applying::{node_of, truth_in, with_one, with_two};
@@ -20,4 +22,5 @@ pub use comparing::compare;
 pub use folding::{Next, chosen, settle};
 pub use form::{Form, form_of};
 pub use here::{Here, begin};
+pub use near::{asked_of_each, at_hand, plain_value};
 pub use stop::Stop;

@@ -3,3 +3,4 @@ pub mod Looked
 pub mod Directly
 pub mod ByForm
 pub mod Looping
+pub mod AtOnce

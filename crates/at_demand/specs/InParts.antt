@@ -1,12 +1,18 @@
 -- Evaluations in one go, part by part: what an expression comes to, and what comes to what is kept meanwhile.
-use Rattle.std.specs.Prelude.{◌≡◌, ℕ, Bool, List, ◌++◌, [], Option, None, IsSome, IsTrue, IfOk, OnOk, Result}
+use Rattle.std.specs.Prelude.{◌≡◌, ℕ, Bool, List, ◌++◌, [], Option, None, Some, false, IsSome, IsTrue, IfOk, OnOk, Result}
 use Rattle.at_model.specs.Run.{Value, Instance, Location, Contents, Known, Run, Gives, Demands}
-use Rattle.at_model.specs.Rules.{Rules, is_lazy}
+use Rattle.at_model.specs.Classes.{Classes}
+use Rattle.at_model.specs.Rules.{Rules, is_inherited, is_lazy}
 use Rattle.at_model.specs.Meaning.{HasValue, Reaches}
 use Rattle.at_model.specs.Nested.{Evaluates}
 use Rattle.at_store.specs.Shown.{Shown, contents}
+use Rattle.at_rules.specs.Bodies.{body_view}
+use Rattle.at_rules.specs.declared.body.Body.{Body}
+use Rattle.at_body.specs.Rest.{ev}
+use Rattle.at_body.specs.Standing.{Place}
 use Rattle.at_body.specs.Values.{value_view}
 use Rattle.at_body.specs.declared.value.Value.{Value as ValueCode}
+use Rattle.at_apply.specs.Near.{AsksEach, asked}
 use Rattle.at_cache.specs.Kept.{Entries}
 use Rattle.at_cache.specs.Traced.{Memories}
 use Rattle.at_demand.specs.declared.direct.Direct.{Direct}
@@ -53,6 +59,24 @@ pub record HasCome {A : Type 0} (rules : Rules) (look : Contents ℕ) (h : Held)
   pub evaluates : Evaluates look (meaning rules) (values_in h) (is_inner rules) depth r a looks takes
   pub reads : new.reads ≡ old.reads ++ looks
   pub uses : new.uses.items ≡ old.uses.items ++ takes
+
+-- whatever is known, the evaluation has come to the value, or nothing has changed
+abbrev pub MayHaveCome : Rules → Contents ℕ → (old new : Level) → Run ℕ (Value ℕ) → Option ValueCode → Type 0
+MayHaveCome rules look old new r None = new ≡ old
+MayHaveCome rules look old new r (Some v) = (h : Held) → HasCome rules look h old new r (value_view v)
+
+-- Within a fold at that place the expression asks each element for the attribute, which is evaluated by the element's own equation in the
+-- one that asks.
+pub record AsksEachInner (rules : Rules) (p : Place) (b : Body) (attribute : ℕ) : Type 0 where
+  pub asks : AsksEach p b attribute
+  pub inner : is_lazy rules attribute ≡ false
+  pub own : is_inherited rules attribute ≡ false
+
+-- so it does at that place, which is within the fold, at the element n
+pub record AsksInner (rules : Rules) (p : Place) (b : Body) (n attribute : ℕ) : Type 0 where
+  pub asks : (classes : Classes) → ev classes (body_view b) p ≡ demand (asked n attribute p.passed)
+  pub inner : is_lazy rules attribute ≡ false
+  pub own : is_inherited rules attribute ≡ false
 
 -- the evaluation demands m, behind demands that have values
 abbrev pub Demanded : {A : Type 0} → Rules → Contents ℕ → Run ℕ A → Instance ℕ → Type 0

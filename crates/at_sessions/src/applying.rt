@@ -3,9 +3,9 @@
 ghost use Rattle.at_store.specs.Shown.{IsIdle};
 
 use crate::stores::{classes, loaded};
-use at_apply::{Here, Next, Stop, compare, settle, with_two};
+use at_apply::{Here, Next, Stop, asked_of_each, compare, settle, with_two};
 use at_body::{Arguments, Binary, Fold, Reads, Stack, Value};
-use at_rules::{Body, Operator};
+use at_rules::{AttrId, Body, Operator};
 use at_store::{Loc, Node, Store};
 use std::alloc::{AllocError, Global};
 use std::test::Fail;
@@ -35,6 +35,9 @@ const TOKENS: &[(u32, &str, Option<bool>)] = &[
     (6, "", Some(false)),
     (7, "2", None),
 ];
+
+/// The names that a call within a fold has for its receiver and for its argument, and whether it asks each element, passed what was passed.
+const CALLS: &[(usize, usize, bool)] = &[(0, 1, true), (1, 1, false), (0, 0, false), (0, 2, false)];
 
 /// The block of the calculator's tree.
 const BLOCK: u32 = 1;
@@ -141,6 +144,41 @@ fn first_other_token(alloc: Global) -> Result<Option<usize>, Fail> {
     Ok(None)
 }
 
+/// A call of an attribute within a fold, by the names of its receiver and of its argument.
+fn call(alloc: Global, receiver: usize, argument: usize) -> Result<Body, AllocError> {
+    let mut passed = Vec::new(alloc);
+    passed.push(Body::Name(argument))?;
+    Ok(Body::Call(
+        Box::new(alloc, Body::Name(receiver))?,
+        AttrId::new(0),
+        passed,
+    ))
+}
+
+/// A place outside of all folds, where one value was passed.
+fn passed_one(alloc: Global) -> Result<Here, AllocError> {
+    let mut values = Vec::new(alloc);
+    values.push(Value::Bool(true))?;
+    Ok(Here {
+        this: Node::new(BLOCK),
+        child: None,
+        bound: Stack::new(alloc),
+        arguments: Arguments::of(values)?,
+    })
+}
+
+/// The first row of calls that asks each element, or doesn't, other than it says.
+fn first_other_call(alloc: Global) -> Result<Option<usize>, Fail> {
+    let here = passed_one(alloc)?;
+    for (at, (receiver, argument, wanted)) in CALLS.iter().enumerate() {
+        let body = call(alloc, *receiver, *argument)?;
+        if asked_of_each(&here, &body).is_some() != *wanted {
+            return Ok(Some(at));
+        }
+    }
+    Ok(None)
+}
+
 #[test]
 fn ints_wrap_and_are_cut_toward_zero(rt: HostRuntime) -> Result<(), Fail> {
     assert_eq!(rt; first_other_int(rt.alloc())?, None);
@@ -156,6 +194,12 @@ fn an_element_is_the_node_at_its_index(rt: HostRuntime) -> Result<(), Fail> {
 #[test]
 fn tokens_are_compared_where_they_stand(rt: HostRuntime) -> Result<(), Fail> {
     assert_eq!(rt; first_other_token(rt.alloc())?, None);
+    Ok(())
+}
+
+#[test]
+fn a_fold_asks_each_element_with_what_was_passed(rt: HostRuntime) -> Result<(), Fail> {
+    assert_eq!(rt; first_other_call(rt.alloc())?, None);
     Ok(())
 }
 

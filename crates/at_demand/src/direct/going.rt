@@ -1,24 +1,26 @@
 //! The recursion of an evaluation in one go: over the parts of expressions, and through the instances that they demand.
 
-ghost use Rattle.std.specs.Prelude.{◌≡◌, ◌≤◌, IfOk, OnOk, IsTrue, drop, false, length, map, take, true};
+ghost use Rattle.std.specs.Prelude.{◌≡◌, ◌≤◌, IfOk, IfSome, OnOk, IsTrue, drop, false, length, map, take, true};
 ghost use Rattle.at_model.specs.Meaning.{HasValue};
 ghost use Rattle.at_store.specs.Shown.{contents};
 ghost use Rattle.at_rules.specs.Bodies.{bodies_view, body_view};
 ghost use Rattle.at_body.specs.Comparing.{IsComparison};
 ghost use Rattle.at_body.specs.Rest.{ev, ev_all, over};
+ghost use Rattle.at_body.specs.Standing.{inside};
 ghost use Rattle.at_body.specs.Values.{value_view};
 ghost use Rattle.at_apply.specs.Parts.{call_of, either_of, fold_of, one_of, two_of};
 ghost use Rattle.at_apply.specs.Place.{place_at};
 ghost use Rattle.at_demand.specs.Known.{meaning};
 ghost use Rattle.at_demand.specs.InParts.{EndsEvaluated, EndsRecalled, EndsTold, EvaluatesTo, GivesLevel, HasGrown, IsEmptied, IsHeld, IsHeldFor, held_by};
+ghost use Rattle.at_demand.specs.InParts.{AsksEachInner, AsksInner, MayHaveCome};
 ghost use Rattle.at_demand.specs.Sparing.{AreSpare, HasWorthy};
 
 use super::keeping::{few_of, is_small};
 use super::{Direct, Level};
 use crate::basis::Basis;
 use at_apply::{
-    Form, Here, Next, Stop, begin, chosen, compare, form_of, node_of, settle, truth_in, with_one,
-    with_two,
+    Form, Here, Next, Stop, asked_of_each, at_hand, begin, chosen, compare, form_of, node_of,
+    plain_value, settle, truth_in, with_one, with_two,
 };
 use at_body::{Arguments, Binary, Fold, Inst, Reads, Unary, Value, come_to};
 use at_cache::Keeper;
@@ -250,6 +252,29 @@ impl Direct {
         }
     }
 
+    // The value of an expression within another one, which may be at hand.
+    #[inline(always)]
+    #[cycle(direct)]
+    fn operand<K: Keeper>(
+        &mut self,
+        keeper: &mut K,
+        basis: &Basis<'_>,
+        level: &mut Level,
+        here: &Here,
+        body: &Body,
+        above: usize,
+    ) -> Result<Value, Stop>
+        requires { IsHeld basis.now.rules.now (contents basis.now.store.now) (held_by K.contents K.memories keeper.old self.old) }
+        ensures { EvaluatesTo basis.now.rules.now basis.now.store.now K.exact
+            (ev basis.now.rules.now.classes (body_view body.now) (place_at here.now)) value_view
+            (held_by K.contents K.memories keeper.old self.old) (held_by K.contents K.memories keeper.new self.new) level.old level.new result }
+    {
+        match at_hand(here, body) {
+            Some(value) => Ok(value),
+            None => self.value(keeper, basis, level, here, body, above),
+        }
+    }
+
     // What is done with the value of an operand.
     #[inline(always)]
     #[cycle(direct)]
@@ -268,7 +293,7 @@ impl Direct {
             (one_of basis.now.rules.now.classes (place_at here.now) unary operand.now) value_view
             (held_by K.contents K.memories keeper.old self.old) (held_by K.contents K.memories keeper.new self.new) level.old level.new result }
     {
-        let value = self.value(keeper, basis, level, here, operand, above)?;
+        let value = self.operand(keeper, basis, level, here, operand, above)?;
         with_one(basis.rules, basis.store, &mut level.reads, unary, &value)
     }
 
@@ -291,8 +316,8 @@ impl Direct {
             (two_of basis.now.rules.now.classes (place_at here.now) binary left.now right.now) value_view
             (held_by K.contents K.memories keeper.old self.old) (held_by K.contents K.memories keeper.new self.new) level.old level.new result }
     {
-        let first = self.value(keeper, basis, level, here, left, above)?;
-        let second = self.value(keeper, basis, level, here, right, above)?;
+        let first = self.operand(keeper, basis, level, here, left, above)?;
+        let second = self.operand(keeper, basis, level, here, right, above)?;
         with_two(basis.store, &mut level.reads, binary, first, &second)
     }
 
@@ -350,7 +375,7 @@ impl Direct {
         let value = self.value(keeper, basis, level, here, test, above)?;
         let holds = truth_in(&value)?;
         match chosen(holds, yes, no) {
-            Some(body) => self.value(keeper, basis, level, here, body, above),
+            Some(body) => self.operand(keeper, basis, level, here, body, above),
             None => Ok(Value::Bool(holds)),
         }
     }
@@ -374,7 +399,7 @@ impl Direct {
             (call_of basis.now.rules.now.classes (place_at here.now) receiver.now attribute passed.now) value_view
             (held_by K.contents K.memories keeper.old self.old) (held_by K.contents K.memories keeper.new self.new) level.old level.new result }
     {
-        let value = self.value(keeper, basis, level, here, receiver, above)?;
+        let value = self.operand(keeper, basis, level, here, receiver, above)?;
         let arguments = self.passed(keeper, basis, level, here, passed, above)?;
         let node = node_of(&value)?;
         self.told(
@@ -436,7 +461,7 @@ impl Direct {
             (fold_of basis.now.rules.now.classes (place_at here.now) fold of.now part body.now) value_view
             (held_by K.contents K.memories keeper.old self.old) (held_by K.contents K.memories keeper.new self.new) level.old level.new result }
     {
-        let value = self.value(keeper, basis, level, here, of, above)?;
+        let value = self.operand(keeper, basis, level, here, of, above)?;
         let node = node_of(&value)?;
         level.reads.push(Loc::Slot(node, part))?;
         self.each(
@@ -469,12 +494,23 @@ impl Direct {
             (over basis.now.rules.now.classes fold (body_view body.now) (place_at here.now) nodes.now) value_view
             (held_by K.contents K.memories keeper.old self.old) (held_by K.contents K.memories keeper.new self.new) level.old level.new result }
     {
+        let asked = inner_of_each(basis, here, body);
         let mut inside = here.copy()?;
         let mut going = fold;
         let mut rest = nodes;
         while let Some((node, others)) = rest.split_first() {
             inside.bound.push(*node)?;
-            let value = self.value(keeper, basis, level, &inside, body, above)?;
+            let asked_here = asked_inside(basis, here, &inside, body, *node, &asked);
+            let value = self.element(
+                keeper,
+                basis,
+                level,
+                &inside,
+                body,
+                *node,
+                &asked_here,
+                above,
+            )?;
             let _ = inside.bound.pop();
             let next = settle(going, *node, &value)?;
             match next {
@@ -485,6 +521,90 @@ impl Direct {
         }
         Ok(come_to(&going))
     }
+
+    // The value of the expression of a fold at an element. Where it asks that for an attribute, it may come at once.
+    #[cycle(direct)]
+    fn element<K: Keeper>(
+        &mut self,
+        keeper: &mut K,
+        basis: &Basis<'_>,
+        level: &mut Level,
+        inside: &Here,
+        body: &Body,
+        node: Node,
+        asked: &Option<AttrId>,
+        above: usize,
+    ) -> Result<Value, Stop>
+        requires { IfSome asked.now (AsksInner basis.now.rules.now (place_at inside.now) body.now node)
+            × IsHeld basis.now.rules.now (contents basis.now.store.now) (held_by K.contents K.memories keeper.old self.old) }
+        ensures { EvaluatesTo basis.now.rules.now basis.now.store.now K.exact
+            (ev basis.now.rules.now.classes (body_view body.now) (place_at inside.now)) value_view
+            (held_by K.contents K.memories keeper.old self.old) (held_by K.contents K.memories keeper.new self.new) level.old level.new result }
+    {
+        let at_once = plain_element(basis, level, inside, body, node, asked)?;
+        match at_once {
+            Some(value) => Ok(value),
+            None => self.value(keeper, basis, level, inside, body, above),
+        }
+    }
+}
+
+// The attribute for which the expression of a fold asks each element, where that is evaluated in the one that asks, by its own equation.
+fn inner_of_each(basis: &Basis<'_>, here: &Here, body: &Body) -> Option<AttrId>
+    ensures { IfSome result (AsksEachInner basis.now.rules.now (place_at here.now) body.now) }
+{
+    let attribute = asked_of_each(here, body)?;
+    if basis.rules.is_lazy(attribute) {
+        return None;
+    }
+    if basis.rules.is_inherited(attribute) {
+        return None;
+    }
+    Some(attribute)
+}
+
+// The same attribute, at an element within the fold.
+#[inline(always)]
+fn asked_inside(
+    basis: &Basis<'_>,
+    here: &Here,
+    within: &Here,
+    body: &Body,
+    node: Node,
+    asked: &Option<AttrId>,
+) -> Option<AttrId>
+    requires { (place_at within.now ≡ inside (place_at here.now) node)
+        × IfSome asked.now (AsksEachInner basis.now.rules.now (place_at here.now) body.now) }
+    ensures { IfSome result (AsksInner basis.now.rules.now (place_at within.now) body.now node) }
+{
+    *asked
+}
+
+// What that attribute of the element comes to by looks alone, where its equation is a plain one. None of others; then nothing is noted.
+#[inline(always)]
+fn plain_element(
+    basis: &Basis<'_>,
+    level: &mut Level,
+    inside: &Here,
+    body: &Body,
+    node: Node,
+    asked: &Option<AttrId>,
+) -> Result<Option<Value>, Stop>
+    requires { IfSome asked.now (AsksInner basis.now.rules.now (place_at inside.now) body.now node) }
+    ensures { IfOk result (MayHaveCome basis.now.rules.now (contents basis.now.store.now) level.old level.new
+        (ev basis.now.rules.now.classes (body_view body.now) (place_at inside.now))) }
+{
+    let Some(attribute) = asked else {
+        return Ok(None);
+    };
+    plain_value(
+        basis.rules,
+        basis.store,
+        &mut level.reads,
+        &inside.arguments,
+        node,
+        *attribute,
+    )
 }
 
 // A level with nothing in it.

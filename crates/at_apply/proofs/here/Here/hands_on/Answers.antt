@@ -1,20 +1,10 @@
-use Rattle.std.proofs.Common.{◌≡◌, ◌+◌, List, length, ap, ◌∙◌, arith, refl}
-use Rattle.at_model.specs.Bodies.{Name}
+use Rattle.std.proofs.Common.{◌≡◌, ◌∙◌, ℕ, List, ap, map, sym}
+use Rattle.at_model.specs.Run.{Gives, Run, Value as ModelValue}
+use Rattle.at_body.specs.Values.{value_view}
 use Rattle.at_body.specs.declared.value.Value.{Value}
-use Rattle.at_body.proofs.HandedOn.{none_more, one_more}
 use Rattle.at_apply.specs.Place.{place_at}
 use Rattle.at_apply.proofs.here.Here.hands_on.Goals as goal
 
-pub loop-index-init : goal.loop-index-init
-loop-index-init c = λ classes h. h
-
-pub loop-index-preserved : goal.loop-index-preserved
-loop-index-preserved c = λ classes h.
-    let same : length c.as_slice.result.now ≡ length c.args.self.now.arguments = ap (λ (vs : List Value). length vs) c.as_slice.ensures in
-    c.loop-index.invariant classes (one_more classes (place_at c.args.self.now) c.args.passed.now c.loop-index.index _ c.index-passed-index.result refl (omega arith) (omega (arith, same)) c.index-passed-index.is
-    (c.if-not-is_passed.ensures refl ∙ ap (λ n. Name (n + c.loop-index.index)) c.len-bound.ensures) h)
-
 pub returns : goal.returns
-returns c = λ yes classes.
-    let same : length c.as_slice.result.now ≡ length c.args.self.now.arguments = ap (λ (vs : List Value). length vs) c.as_slice.ensures in
-    c.loop-index.invariant classes (none_more classes (place_at c.args.self.now) c.args.passed.now c.loop-index.index (omega arith) (omega (arith, same)))
+returns c = λ yes classes. c.are_names.ensures yes classes (place_at c.args.self.now) (sym c.len.ensures) (sym c.as_slice.ensures)
+    ∙ ap (λ (vs : List Value). let r : Run ℕ (List (ModelValue ℕ)) = Gives (map value_view vs) in r) c.as_slice.ensures

@@ -6,7 +6,7 @@ use Rattle.at_body.specs.Values.{value_view}
 use Rattle.at_body.specs.declared.value.Value.{Value as ValueCode}
 use Rattle.at_demand.specs.declared.direct.Level.{Level}
 use Rattle.at_demand.specs.Inner.{Gains, HasRecalled, HasTold, IsEvaluated, known_by}
-use Rattle.at_demand.specs.InParts.{HasCome, held_by, values_in}
+use Rattle.at_demand.specs.InParts.{EvaluatesTo, HasCome, MayHaveCome, held_by, values_in}
 use Rattle.at_demand.specs.Known.{meaning}
 use Rattle.at_demand.proofs.of_nesting.Asked.{evaluated_behind, evaluated_in, inner_told, reads_before, reads_longer, told_alike, uses_before, uses_longer}
 use Rattle.at_demand.proofs.of_nesting.Grown.{grown_aside, grown_evaluated, grown_from, grown_none, grown_then, held_after}
@@ -269,23 +269,35 @@ evaluate-returns g n c = record {
       c.in_ok-begun.begun.0)) c.in_ok-begun.ensures c.value.ensures.gains);
 }
 
+pub operand-returns-in-Some : goal.operand-returns-in-Some
+operand-returns-in-Some g n c = record {
+  come =
+      come_gives c.args.basis.now.rules.now c.args.basis.now.store.now _ c.args.level.now (ev
+      c.args.basis.now.rules.now.classes (body_view c.args.body.now) (place_at c.args.here.now)) (value_view
+      c.in-Some.value) (c.in-Some.ensures c.args.basis.now.rules.now.classes);
+  gains =
+      nothing_gained c.args.basis.now.rules.now c.args.basis.now.store.now g.K.Keeper.exact (ev
+      c.args.basis.now.rules.now.classes (body_view c.args.body.now) (place_at c.args.here.now)) _ c.args.self.now.few
+      c.requires;
+}
+
 pub one-returns-in_err-value : goal.one-returns-in_err-value
 one-returns-in_err-value g n c = record {
   come = search rules;
   gains =
       one_gains c.args.basis.now.rules.now c.args.basis.now.store.now g.K.Keeper.exact (place_at c.args.here.now)
-      c.args.unary c.args.operand.now _ _ c.value.ensures.gains;
+      c.args.unary c.args.operand.now _ _ c.operand.ensures.gains;
 }
 
 pub one-returns : goal.one-returns
 one-returns g n c = record {
   come =
       one_come c.args.basis.now.rules.now c.args.basis.now.store.now g.K.Keeper.exact (place_at c.args.here.now)
-      c.args.unary c.args.operand.now c.in_ok-value.value c.with_one.result _ _ _ _ _ refl c.value.ensures.gains
+      c.args.unary c.args.operand.now c.in_ok-value.value c.with_one.result _ _ _ _ _ refl c.operand.ensures.gains
       c.in_ok-value.ensures.come c.with_one.ensures;
   gains =
       one_gains c.args.basis.now.rules.now c.args.basis.now.store.now g.K.Keeper.exact (place_at c.args.here.now)
-      c.args.unary c.args.operand.now _ _ c.value.ensures.gains;
+      c.args.unary c.args.operand.now _ _ c.operand.ensures.gains;
 }
 
 pub two-returns-in_err-first : goal.two-returns-in_err-first
@@ -293,7 +305,7 @@ two-returns-in_err-first g n c = record {
   come = search rules;
   gains =
       two_gains_first c.args.basis.now.rules.now c.args.basis.now.store.now g.K.Keeper.exact (place_at c.args.here.now)
-      c.args.binary c.args.left.now c.args.right.now _ _ c.value.ensures.gains;
+      c.args.binary c.args.left.now c.args.right.now _ _ c.operand.ensures.gains;
 }
 
 pub two-returns-in_err-second : goal.two-returns-in_err-second
@@ -301,8 +313,8 @@ two-returns-in_err-second g n c = record {
   come = search rules;
   gains =
       two_gains c.args.basis.now.rules.now c.args.basis.now.store.now g.K.Keeper.exact (place_at c.args.here.now)
-      c.args.binary c.args.left.now c.args.right.now c.in_ok-first.first _ _ _ _ _ c.value.ensures.gains
-      c.in_ok-first.ensures.come c.value-2.ensures.gains;
+      c.args.binary c.args.left.now c.args.right.now c.in_ok-first.first _ _ _ _ _ c.operand.ensures.gains
+      c.in_ok-first.ensures.come c.operand-2.ensures.gains;
 }
 
 pub two-returns : goal.two-returns
@@ -310,12 +322,12 @@ two-returns g n c = record {
   come =
       two_come c.args.basis.now.rules.now c.args.basis.now.store.now g.K.Keeper.exact (place_at c.args.here.now)
       c.args.binary c.args.left.now c.args.right.now c.in_ok-first.first c.in_ok-second.second c.with_two.result _ _ _ _
-      _ _ _ refl c.value.ensures.gains c.in_ok-first.ensures.come c.value-2.ensures.gains c.in_ok-second.ensures.come
+      _ _ _ refl c.operand.ensures.gains c.in_ok-first.ensures.come c.operand-2.ensures.gains c.in_ok-second.ensures.come
       c.with_two.ensures;
   gains =
       two_gains c.args.basis.now.rules.now c.args.basis.now.store.now g.K.Keeper.exact (place_at c.args.here.now)
-      c.args.binary c.args.left.now c.args.right.now c.in_ok-first.first _ _ _ _ _ c.value.ensures.gains
-      c.in_ok-first.ensures.come c.value-2.ensures.gains;
+      c.args.binary c.args.left.now c.args.right.now c.in_ok-first.first _ _ _ _ _ c.operand.ensures.gains
+      c.in_ok-first.ensures.come c.operand-2.ensures.gains;
 }
 
 pub compared-returns-in_err-at_once : goal.compared-returns-in_err-at_once
@@ -382,15 +394,15 @@ either-returns-in-Some g n c = record {
       c.args.basis.now.rules.now.classes (body_view c.in-Some.body.now) (place_at c.args.here.now)) _ _ _ _ _
       c.in_ok-holds.ensures (ap (λ o. or_truth c.args.basis.now.rules.now.classes (place_at c.args.here.now) o
       c.in_ok-holds.holds) (sym c.in-Some.is) ∙ c.chosen.ensures c.args.basis.now.rules.now.classes (place_at
-      c.args.here.now)) c.value.ensures.gains c.in_ok-value.ensures.come c.value-in-Some.ensures.gains
-      c.value-in-Some.result c.value-in-Some.new.level c.value-in-Some.ensures.come;
+      c.args.here.now)) c.value.ensures.gains c.in_ok-value.ensures.come c.operand.ensures.gains
+      c.operand.result c.operand.new.level c.operand.ensures.come;
   gains =
       either_gains c.args.basis.now.rules.now c.args.basis.now.store.now g.K.Keeper.exact (place_at c.args.here.now)
       c.args.test.now c.args.yes c.args.no c.in_ok-value.value c.in_ok-holds.holds (ev
       c.args.basis.now.rules.now.classes (body_view c.in-Some.body.now) (place_at c.args.here.now)) _ _ _ _ _
       c.in_ok-holds.ensures (ap (λ o. or_truth c.args.basis.now.rules.now.classes (place_at c.args.here.now) o
       c.in_ok-holds.holds) (sym c.in-Some.is) ∙ c.chosen.ensures c.args.basis.now.rules.now.classes (place_at
-      c.args.here.now)) c.value.ensures.gains c.in_ok-value.ensures.come c.value-in-Some.ensures.gains;
+      c.args.here.now)) c.value.ensures.gains c.in_ok-value.ensures.come c.operand.ensures.gains;
 }
 
 pub either-returns : goal.either-returns
@@ -420,7 +432,7 @@ call-returns-in_err-value g n c = record {
   come = search rules;
   gains =
       call_gains_first c.args.basis.now.rules.now c.args.basis.now.store.now g.K.Keeper.exact (place_at c.args.here.now)
-      c.args.receiver.now c.args.attribute c.args.passed.now _ _ c.value.ensures.gains;
+      c.args.receiver.now c.args.attribute c.args.passed.now _ _ c.operand.ensures.gains;
 }
 
 pub call-returns-in_err-arguments : goal.call-returns-in_err-arguments
@@ -429,7 +441,7 @@ call-returns-in_err-arguments g n c = record {
   gains =
       call_gains_second c.args.basis.now.rules.now c.args.basis.now.store.now g.K.Keeper.exact (place_at
       c.args.here.now) c.args.receiver.now c.args.attribute c.args.passed.now c.in_ok-value.value _ _ (held_by
-      g.K.Keeper.contents g.K.Keeper.memories c.passed.new.keeper c.passed.new.self) _ _ c.value.ensures.gains
+      g.K.Keeper.contents g.K.Keeper.memories c.passed.new.keeper c.passed.new.self) _ _ c.operand.ensures.gains
       c.in_ok-value.ensures.come c.passed.ensures.gains;
 }
 
@@ -439,7 +451,7 @@ call-returns-in_err-node g n c = record {
   gains =
       call_gains_second c.args.basis.now.rules.now c.args.basis.now.store.now g.K.Keeper.exact (place_at
       c.args.here.now) c.args.receiver.now c.args.attribute c.args.passed.now c.in_ok-value.value _ _ (held_by
-      g.K.Keeper.contents g.K.Keeper.memories c.passed.new.keeper c.passed.new.self) _ _ c.value.ensures.gains
+      g.K.Keeper.contents g.K.Keeper.memories c.passed.new.keeper c.passed.new.self) _ _ c.operand.ensures.gains
       c.in_ok-value.ensures.come c.passed.ensures.gains;
 }
 
@@ -448,7 +460,7 @@ call-returns g n c = record {
   come =
       call_come c.args.basis.now.rules.now c.args.basis.now.store.now g.K.Keeper.exact (place_at c.args.here.now)
       c.args.receiver.now c.args.attribute c.args.passed.now c.in_ok-value.value _ _ (held_by g.K.Keeper.contents
-      g.K.Keeper.memories c.passed.new.keeper c.passed.new.self) _ _ c.value.ensures.gains c.in_ok-value.ensures.come
+      g.K.Keeper.memories c.passed.new.keeper c.passed.new.self) _ _ c.operand.ensures.gains c.in_ok-value.ensures.come
       c.passed.ensures.gains c.in_ok-node.node c.in_ok-arguments.arguments (held_by g.K.Keeper.contents
       g.K.Keeper.memories c.told.new.keeper c.told.new.self) c.passed.new.level c.in_ok-node.ensures
       c.in_ok-arguments.ensures.come (subst (λ i. Gains c.args.basis.now.rules.now c.args.basis.now.store.now
@@ -463,7 +475,7 @@ call-returns g n c = record {
   gains =
       call_gains c.args.basis.now.rules.now c.args.basis.now.store.now g.K.Keeper.exact (place_at c.args.here.now)
       c.args.receiver.now c.args.attribute c.args.passed.now c.in_ok-value.value _ _ (held_by g.K.Keeper.contents
-      g.K.Keeper.memories c.passed.new.keeper c.passed.new.self) _ _ c.value.ensures.gains c.in_ok-value.ensures.come
+      g.K.Keeper.memories c.passed.new.keeper c.passed.new.self) _ _ c.operand.ensures.gains c.in_ok-value.ensures.come
       c.passed.ensures.gains c.in_ok-node.node c.in_ok-arguments.arguments (held_by g.K.Keeper.contents
       g.K.Keeper.memories c.told.new.keeper c.told.new.self) c.passed.new.level c.in_ok-node.ensures
       c.in_ok-arguments.ensures.come (subst (λ i. Gains c.args.basis.now.rules.now c.args.basis.now.store.now
@@ -479,7 +491,7 @@ over-returns-in_err-value g n c = record {
   come = search rules;
   gains =
       fold_gains_first c.args.basis.now.rules.now c.args.basis.now.store.now g.K.Keeper.exact (place_at c.args.here.now)
-      c.args.fold c.args.of.now c.args.part c.args.body.now _ _ c.value.ensures.gains;
+      c.args.fold c.args.of.now c.args.part c.args.body.now _ _ c.operand.ensures.gains;
 }
 
 pub over-returns-in_err-node : goal.over-returns-in_err-node
@@ -487,7 +499,7 @@ over-returns-in_err-node g n c = record {
   come = search rules;
   gains =
       fold_gains_first c.args.basis.now.rules.now c.args.basis.now.store.now g.K.Keeper.exact (place_at c.args.here.now)
-      c.args.fold c.args.of.now c.args.part c.args.body.now _ _ c.value.ensures.gains;
+      c.args.fold c.args.of.now c.args.part c.args.body.now _ _ c.operand.ensures.gains;
 }
 
 pub over-returns-in_err-push : goal.over-returns-in_err-push
@@ -495,7 +507,7 @@ over-returns-in_err-push g n c = record {
   come = search rules;
   gains =
       fold_gains_first c.args.basis.now.rules.now c.args.basis.now.store.now g.K.Keeper.exact (place_at c.args.here.now)
-      c.args.fold c.args.of.now c.args.part c.args.body.now _ _ c.value.ensures.gains;
+      c.args.fold c.args.of.now c.args.part c.args.body.now _ _ c.operand.ensures.gains;
 }
 
 pub over-returns : goal.over-returns
@@ -506,9 +518,9 @@ over-returns g n c = record {
       _ _ _ _ _ (record {
         reads =
             c.push.new.self;
-        uses = c.value.new.level.uses;
+        uses = c.operand.new.level.uses;
       }) c.in_ok-node.ensures c.children.ensures.shown
-      c.in_ok-push.ensures.gained c.value.ensures.gains c.in_ok-value.ensures.come c.each.ensures.gains c.each.result
+      c.in_ok-push.ensures.gained c.operand.ensures.gains c.in_ok-value.ensures.come c.each.ensures.gains c.each.result
       c.each.new.level refl c.each.ensures.come;
   gains =
       fold_gains c.args.basis.now.rules.now c.args.basis.now.store.now g.K.Keeper.exact (place_at c.args.here.now)
@@ -516,9 +528,9 @@ over-returns g n c = record {
       _ _ _ _ _ (record {
         reads =
             c.push.new.self;
-        uses = c.value.new.level.uses;
+        uses = c.operand.new.level.uses;
       }) c.in_ok-node.ensures c.children.ensures.shown
-      c.in_ok-push.ensures.gained c.value.ensures.gains c.in_ok-value.ensures.come c.each.ensures.gains;
+      c.in_ok-push.ensures.gained c.operand.ensures.gains c.in_ok-value.ensures.come c.each.ensures.gains;
 }
 
 pub passed-returns-then-hands_on : goal.passed-returns-then-hands_on
@@ -596,6 +608,13 @@ passed-returns g n c = record {
       c.loop-argument.self.few c.loop-argument.invariant;
 }
 
+pub each-asked_inside-asked_here-requires : goal.each-asked_inside-asked_here-requires
+each-asked_inside-asked_here-requires g n c = (
+  bound_at (place_at c.loop-node.inside) (place_at c.args.here.now) c.in-Some.node.now
+      c.push.new.self c.loop-node.invariant.place c.in_ok-push.ensures,
+  c.inner_of_each-asked.ensures,
+)
+
 pub each-returns-in_err-inside : goal.each-returns-in_err-inside
 each-returns-in_err-inside g n c = record {
   come = search rules;
@@ -629,11 +648,11 @@ each-returns-in_err-value g n c = record {
   gains =
       each_gains c.args.basis.now.rules.now c.args.basis.now.store.now g.K.Keeper.exact (place_at c.args.here.now) (over
       c.args.basis.now.rules.now.classes c.args.fold (body_view c.args.body.now) (place_at c.args.here.now)
-      c.args.nodes.now) _ _ _ _ _ c.value.new.level c.loop-node.going c.args.body.now c.in-Some.node.now
+      c.args.nodes.now) _ _ _ _ _ c.element.new.level c.loop-node.going c.args.body.now c.in-Some.node.now
       c.in-Some.others.now c.loop-node.rest.now c.in-Some.ensures.cases.0 (place_at
       (record c.loop-node.inside { bound = c.push.new.self })) (bound_at (place_at c.loop-node.inside) (place_at
       c.args.here.now) c.in-Some.node.now c.push.new.self c.loop-node.invariant.place c.in_ok-push.ensures)
-      c.loop-node.invariant.goes c.value.ensures.gains;
+      c.loop-node.invariant.goes c.element.ensures.gains;
 }
 
 pub each-returns-in_err-next : goal.each-returns-in_err-next
@@ -642,11 +661,11 @@ each-returns-in_err-next g n c = record {
   gains =
       each_gains c.args.basis.now.rules.now c.args.basis.now.store.now g.K.Keeper.exact (place_at c.args.here.now) (over
       c.args.basis.now.rules.now.classes c.args.fold (body_view c.args.body.now) (place_at c.args.here.now)
-      c.args.nodes.now) _ _ _ _ _ c.value.new.level c.loop-node.going c.args.body.now c.in-Some.node.now
+      c.args.nodes.now) _ _ _ _ _ c.element.new.level c.loop-node.going c.args.body.now c.in-Some.node.now
       c.in-Some.others.now c.loop-node.rest.now c.in-Some.ensures.cases.0 (place_at
       (record c.loop-node.inside { bound = c.push.new.self })) (bound_at (place_at c.loop-node.inside) (place_at
       c.args.here.now) c.in-Some.node.now c.push.new.self c.loop-node.invariant.place c.in_ok-push.ensures)
-      c.loop-node.invariant.goes c.value.ensures.gains;
+      c.loop-node.invariant.goes c.element.ensures.gains;
 }
 
 pub each-returns-in-End : goal.each-returns-in-End
@@ -654,22 +673,22 @@ each-returns-in-End g n c = record {
   come =
       each_ends c.args.basis.now.rules.now c.args.basis.now.store.now g.K.Keeper.exact (place_at c.args.here.now) (over
       c.args.basis.now.rules.now.classes c.args.fold (body_view c.args.body.now) (place_at c.args.here.now)
-      c.args.nodes.now) _ _ _ _ _ c.value.new.level c.loop-node.going c.args.body.now c.in-Some.node.now
+      c.args.nodes.now) _ _ _ _ _ c.element.new.level c.loop-node.going c.args.body.now c.in-Some.node.now
       c.in-Some.others.now c.loop-node.rest.now c.in-Some.ensures.cases.0 (place_at
       (record c.loop-node.inside { bound = c.push.new.self })) (bound_at (place_at c.loop-node.inside) (place_at
       c.args.here.now) c.in-Some.node.now c.push.new.self c.loop-node.invariant.place c.in_ok-push.ensures)
-      c.loop-node.invariant.goes c.value.ensures.gains (value_view c.in_ok-value.value) c.in_ok-value.ensures.come
+      c.loop-node.invariant.goes c.element.ensures.gains (value_view c.in_ok-value.value) c.in_ok-value.ensures.come
       (value_view c.in-End.value) (c.in_ok-next.ensures c.args.basis.now.rules.now.classes (body_view c.args.body.now)
       (place_at c.args.here.now) c.in-Some.others.now ∙ ap (next_of c.args.basis.now.rules.now.classes (body_view
       c.args.body.now) (place_at c.args.here.now) c.in-Some.others.now) c.in-End.is);
   gains =
       each_gains c.args.basis.now.rules.now c.args.basis.now.store.now g.K.Keeper.exact (place_at c.args.here.now) (over
       c.args.basis.now.rules.now.classes c.args.fold (body_view c.args.body.now) (place_at c.args.here.now)
-      c.args.nodes.now) _ _ _ _ _ c.value.new.level c.loop-node.going c.args.body.now c.in-Some.node.now
+      c.args.nodes.now) _ _ _ _ _ c.element.new.level c.loop-node.going c.args.body.now c.in-Some.node.now
       c.in-Some.others.now c.loop-node.rest.now c.in-Some.ensures.cases.0 (place_at
       (record c.loop-node.inside { bound = c.push.new.self })) (bound_at (place_at c.loop-node.inside) (place_at
       c.args.here.now) c.in-Some.node.now c.push.new.self c.loop-node.invariant.place c.in_ok-push.ensures)
-      c.loop-node.invariant.goes c.value.ensures.gains;
+      c.loop-node.invariant.goes c.element.ensures.gains;
 }
 
 pub each-loop-node-preserved : goal.each-loop-node-preserved
@@ -680,11 +699,11 @@ each-loop-node-preserved g n c =
       goes = each_on
           c.args.basis.now.rules.now c.args.basis.now.store.now g.K.Keeper.exact (place_at c.args.here.now) (over
           c.args.basis.now.rules.now.classes c.args.fold (body_view c.args.body.now) (place_at c.args.here.now)
-          c.args.nodes.now) _ _ _ _ _ c.value.new.level c.loop-node.going c.args.body.now c.in-Some.node.now
+          c.args.nodes.now) _ _ _ _ _ c.element.new.level c.loop-node.going c.args.body.now c.in-Some.node.now
           c.in-Some.others.now c.loop-node.rest.now c.in-Some.ensures.cases.0 (place_at
           (record c.loop-node.inside { bound = c.push.new.self })) (bound_at (place_at c.loop-node.inside) (place_at
           c.args.here.now) c.in-Some.node.now c.push.new.self c.loop-node.invariant.place c.in_ok-push.ensures)
-          c.loop-node.invariant.goes c.value.ensures.gains (value_view c.in_ok-value.value) c.in_ok-value.ensures.come
+          c.loop-node.invariant.goes c.element.ensures.gains (value_view c.in_ok-value.value) c.in_ok-value.ensures.come
           c.in-On.further (c.in_ok-next.ensures c.args.basis.now.rules.now.classes (body_view c.args.body.now) (place_at
           c.args.here.now) c.in-Some.others.now ∙ ap (next_of c.args.basis.now.rules.now.classes (body_view
           c.args.body.now) (place_at c.args.here.now) c.in-Some.others.now) c.in-On.is);
@@ -698,11 +717,11 @@ each-loop-node-preserved-in-On g n c =
       goes = each_on
           c.args.basis.now.rules.now c.args.basis.now.store.now g.K.Keeper.exact (place_at c.args.here.now) (over
           c.args.basis.now.rules.now.classes c.args.fold (body_view c.args.body.now) (place_at c.args.here.now)
-          c.args.nodes.now) _ _ _ _ _ c.value.new.level c.loop-node.going c.args.body.now c.in-Some.node.now
+          c.args.nodes.now) _ _ _ _ _ c.element.new.level c.loop-node.going c.args.body.now c.in-Some.node.now
           c.in-Some.others.now c.loop-node.rest.now c.in-Some.ensures.cases.0 (place_at
           (record c.loop-node.inside { bound = c.push.new.self })) (bound_at (place_at c.loop-node.inside) (place_at
           c.args.here.now) c.in-Some.node.now c.push.new.self c.loop-node.invariant.place c.in_ok-push.ensures)
-          c.loop-node.invariant.goes c.value.ensures.gains (value_view c.in_ok-value.value) c.in_ok-value.ensures.come
+          c.loop-node.invariant.goes c.element.ensures.gains (value_view c.in_ok-value.value) c.in_ok-value.ensures.come
           c.in-On.further (c.in_ok-next.ensures c.args.basis.now.rules.now.classes (body_view c.args.body.now) (place_at
           c.args.here.now) c.in-Some.others.now ∙ ap (next_of c.args.basis.now.rules.now.classes (body_view
           c.args.body.now) (place_at c.args.here.now) c.in-Some.others.now) c.in-On.is);
@@ -722,6 +741,44 @@ each-returns g n c = record {
       c.args.basis.now.rules.now.classes c.args.fold (body_view c.args.body.now) (place_at c.args.here.now)
       c.args.nodes.now) _ _ _ _ _ _ c.loop-node.self.few c.loop-node.invariant.goes;
 }
+
+-- element
+pub element-plain_element-requires : goal.element-plain_element-requires
+element-plain_element-requires g n c = c.requires.0
+
+pub element-returns-in_err-at_once : goal.element-returns-in_err-at_once
+element-returns-in_err-at_once g n c = record {
+  come = search rules;
+  gains =
+      nothing_gained c.args.basis.now.rules.now c.args.basis.now.store.now g.K.Keeper.exact (ev
+      c.args.basis.now.rules.now.classes (body_view c.args.body.now) (place_at c.args.inside.now)) _
+      c.args.self.now.few c.requires.1;
+}
+
+pub element-returns-in-Some : goal.element-returns-in-Some
+element-returns-in-Some g n c = record {
+  come =
+      subst (λ o. MayHaveCome c.args.basis.now.rules.now (contents c.args.basis.now.store.now) c.args.level.now
+      c.plain_element.new.level (ev c.args.basis.now.rules.now.classes (body_view c.args.body.now) (place_at
+      c.args.inside.now)) o) c.in-Some.is c.in_ok-at_once.ensures (held_by g.K.Keeper.contents g.K.Keeper.memories
+      c.args.keeper.now c.args.self.now);
+  gains =
+      nothing_gained c.args.basis.now.rules.now c.args.basis.now.store.now g.K.Keeper.exact (ev
+      c.args.basis.now.rules.now.classes (body_view c.args.body.now) (place_at c.args.inside.now)) _
+      c.args.self.now.few c.requires.1;
+}
+
+pub element-returns-in-None : goal.element-returns-in-None
+element-returns-in-None g n c =
+    let rules = c.args.basis.now.rules.now in
+    let s = c.args.basis.now.store.now in
+    let run = ev rules.classes (body_view c.args.body.now) (place_at c.args.inside.now) in
+    let old = held_by g.K.Keeper.contents g.K.Keeper.memories c.args.keeper.now c.args.self.now in
+    let new = held_by g.K.Keeper.contents g.K.Keeper.memories c.value.new.keeper c.value.new.self in
+    let same : c.plain_element.new.level ≡ c.args.level.now = subst (λ o. MayHaveCome rules (contents s) c.args.level.now
+    c.plain_element.new.level run o) c.in-None.is c.in_ok-at_once.ensures in
+    subst (λ (l : Level). EvaluatesTo rules s g.K.Keeper.exact run value_view old new l c.value.new.level c.value.result)
+    same c.value.ensures
 
 pub value-returns-then-above-eq0 : goal.value-returns-then-above-eq0
 value-returns-then-above-eq0 g n c = record {

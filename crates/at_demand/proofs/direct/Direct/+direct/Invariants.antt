@@ -10,26 +10,32 @@ use Rattle.at_demand.proofs.direct.Direct.+direct.Given as goal
 abbrev pub decreases-value : goal.decreases-value
 decreases-value g l = 16 * l.above
 
+abbrev pub decreases-operand : goal.decreases-operand
+decreases-operand g l = 16 * l.above + 1
+
 abbrev pub decreases-one : goal.decreases-one
-decreases-one g l = 16 * l.above + 1
+decreases-one g l = 16 * l.above + 2
 
 abbrev pub decreases-two : goal.decreases-two
-decreases-two g l = 16 * l.above + 1
+decreases-two g l = 16 * l.above + 2
 
 abbrev pub decreases-either : goal.decreases-either
-decreases-either g l = 16 * l.above + 1
+decreases-either g l = 16 * l.above + 2
 
 abbrev pub decreases-passed : goal.decreases-passed
-decreases-passed g l = 16 * l.above + 1
+decreases-passed g l = 16 * l.above + 2
+
+abbrev pub decreases-element : goal.decreases-element
+decreases-element g l = 16 * l.above + 2
 
 abbrev pub decreases-each : goal.decreases-each
-decreases-each g l = 16 * l.above + 1
+decreases-each g l = 16 * l.above + 3
 
 abbrev pub decreases-over : goal.decreases-over
-decreases-over g l = 16 * l.above + 2
+decreases-over g l = 16 * l.above + 4
 
 abbrev pub decreases-compared : goal.decreases-compared
-decreases-compared g l = 16 * l.above + 2
+decreases-compared g l = 16 * l.above + 3
 
 abbrev pub decreases-evaluate : goal.decreases-evaluate
 decreases-evaluate g l = 16 * l.above + 4
