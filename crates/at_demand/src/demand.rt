@@ -143,7 +143,16 @@ impl<K: Keeper> Demand<K> {
         given.1.ok_or(AllocError)
     }
 
-    /// Forgets what an edit touches, all of which the places name: called once the edit is decided, and before it is made.
+    /// Forgets what an edit touches: called once the edit is decided, and before it is made.
+    pub fn after_edit<F: Fn(Loc) -> bool>(&mut self, touched: &F)
+        requires { F.IsAlwaysCallable touched.now }
+        ensures { Forgets (Says (F.post touched.now)) K.exact (K.contents self.old.keeper) (K.contents self.new.keeper)
+            (K.memories self.old.keeper) (K.memories self.new.keeper) self.old.work self.new.work }
+    {
+        self.keeper.flush(touched);
+    }
+
+    /// The same, where the places name all that the edit touches.
     pub fn after_edit_at<F: Fn(Loc) -> bool>(&mut self, places: &Places<'_>, touched: &F)
         requires callable { F.IsAlwaysCallable touched.now }
         requires named { AreNamed places.now (F.post touched.now) }
