@@ -1,0 +1,10 @@
+pub mod Sameness
+pub mod KeyLemmas
+pub mod Asking
+pub mod Working
+pub mod Gathering
+pub mod Meeting
+pub mod Piecewise
+pub mod Derived
+pub mod Fixed
+pub mod Solving
