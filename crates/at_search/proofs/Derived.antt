@@ -15,7 +15,7 @@ use Rattle.at_search.specs.Systems.{told, two, Stands, IsPlaced}
 use Rattle.at_search.specs.Systems as stands
 
 no_value : (o : Option (Value ℕ)) → o ≡ None → IsSome o → ⊥
-no_value None e s = s
+no_value None e s = true≢false (sym s)
 no_value (Some v) e s = cc
 
 there_among : {A : Type 0} (xs : List A) (n : ℕ) (a : A) → slice_get xs n ≡ Some a → Among a xs

@@ -1,7 +1,7 @@
 -- A search for what formulas lead to, step by step.
-use Rattle.std.proofs.Common.{◌≡◌, ◌⊎◌, ℕ, List, [], ◌∷◌, ◌++◌, Option, Some, None, inl, inr, refl, sym, subst}
+use Rattle.std.proofs.Common.{◌≡◌, ◌⊎◌, ℕ, List, [], ◌∷◌, ◌++◌, Bool, true, false, Option, Some, None, IsSome, inl, inr, refl, sym, subst, ◌∙◌, ap, true≢false}
 use Rattle.std.specs.Map.{lookup}
-use Rattle.at_model.specs.Run.{Instance, Known, FaultKind}
+use Rattle.at_model.specs.Run.{Value, Instance, Known, FaultKind}
 use Rattle.at_model.specs.Meaning.{Among}
 use Rattle.at_model.specs.of_fixpoints.Formulas.{Formula, atoms}
 use Rattle.at_model.specs.of_fixpoints.Fixpoints.{End, Made, Spoilt, LeadsOver, stays}
@@ -11,7 +11,7 @@ use Rattle.at_model.proofs.Reached.{front_among, back_among, either_among}
 use Rattle.at_model.proofs.of_formulas.UniqueOutcomes.{one_further}
 use Rattle.at_body.specs.Same.{same_instance}
 use Rattle.at_search.specs.declared.ended.Ended.{Ended}
-use Rattle.at_search.specs.Recorded.{Recorded, IsSettled}
+use Rattle.at_search.specs.Recorded.{Recorded, IsSettled, end_of}
 use Rattle.at_search.specs.LedTo.{IsClosure, LeadsOut, IsMet, IsGathering}
 
 module _ (known : Known ℕ) (ended : List (Instance ℕ × Ended)) (i : Instance ℕ) where
@@ -104,3 +104,27 @@ module _ (known : Known ℕ) (ended : List (Instance ℕ × Ended)) (i : Instanc
       lookup (same_instance k) ended ≡ None → LeadsOut known ended i
   leads_out seen todo k g unknown unrecorded =
       record { to = k; led = g.led k (inr (inl refl)); unknown = unknown; unrecorded = unrecorded }
+
+  -- it was neither known nor marked whole
+  not_settled : (k : Instance ℕ) (x : Ended) → None ≡ known k → Some x ≡ lookup (same_instance k) ended → x.is_whole ≡ false →
+      IsSettled known ended k → ⊥
+  not_settled k x none found off (inl s) = no_value (known k) none s
+    where
+      no_value : (o : Option (Value ℕ)) → None ≡ o → IsSome o → ⊥
+      no_value None e s = true≢false (sym s)
+      no_value (Some v) e s = cc
+  not_settled k x none found off (inr (y, at, whole)) =
+      let q : Some y ≡ Some x = sym at ∙ sym found in
+      let same : y ≡ x = cc in true≢false (sym whole ∙ ap (λ z. z.is_whole) same ∙ off)
+
+  -- the next one is seen, and the lists are what they come to
+  pub sees_to : (seen todo seen' todo' : List (Instance ℕ)) (k : Instance ℕ) (x : Ended) → Gathering seen (k ∷ todo) → None ≡ known k →
+      Some x ≡ lookup (same_instance k) ended → x.is_whole ≡ false → seen' ≡ k ∷ seen → todo' ≡ asked_in (end_of x.ending) ++ todo →
+      Gathering seen' todo'
+  sees_to seen todo seen' todo' k x g none found off es et =
+      subst (λ z. Gathering z todo') (sym es) (subst (λ z. Gathering (k ∷ seen) z) (sym et)
+      (sees seen todo k (end_of x.ending) g (not_settled k x none found off) (x, sym found, refl)))
+
+  -- as it begins, where the lists are so
+  pub begins_at : (seen todo : List (Instance ℕ)) → seen ≡ [] → todo ≡ i ∷ [] → Gathering seen todo
+  begins_at seen todo es et = subst (λ z. Gathering z todo) (sym es) (subst (λ z. Gathering [] z) (sym et) begins)

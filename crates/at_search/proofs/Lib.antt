@@ -1,10 +1,13 @@
 pub mod Sameness
 pub mod KeyLemmas
 pub mod Asking
+pub mod Seeing
 pub mod Working
 pub mod Gathering
 pub mod Meeting
 pub mod Piecewise
+pub mod Adding
+pub mod Placing
 pub mod Derived
 pub mod Fixed
-pub mod Solving
+pub mod ToldValues

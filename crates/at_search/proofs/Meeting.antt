@@ -76,3 +76,18 @@ module _ (look : Contents ℕ) (forms : Forms ℕ) where
       IfSome o (λ f. Meets (EndsSo look forms) [] (root ∷ []) (fault_view f.kind) f.at)
   ends root seen todo None m = tt
   ends root seen todo (Some f) m = m
+
+  -- the next one is seen, and the lists are what they come to
+  pub sees_to : (root : Instance ℕ) (seen todo seen' todo' : List (Instance ℕ)) (k : Instance ℕ) (e : Ending) (old new : Option Fault) →
+      MetFrom look forms root seen (k ∷ todo) old → (¬ (Among k seen)) → EndsSo look forms k (end_of e) → HasMetIn e old new →
+      seen' ≡ k ∷ seen → todo' ≡ asked_in (end_of e) ++ todo → MetFrom look forms root seen' todo' new
+  sees_to root seen todo seen' todo' k e old new m n x h es et =
+      subst (λ z. MetFrom look forms root z todo' new) (sym es) (subst (λ z. MetFrom look forms root (k ∷ seen) z new) (sym et)
+      (sees root seen todo k e old new m n x h))
+
+  -- as it begins, where the lists are so
+  pub begins_at : (root : Instance ℕ) (seen todo : List (Instance ℕ)) (o : Option Fault) → seen ≡ [] → todo ≡ root ∷ [] → o ≡ None →
+      MetFrom look forms root seen todo o
+  begins_at root seen todo o es et eo =
+      subst (λ z. MetFrom look forms root z todo o) (sym es) (subst (λ z. MetFrom look forms root [] z o) (sym et)
+      (subst (λ z. MetFrom look forms root [] (root ∷ []) z) (sym eo) (begins root)))

@@ -71,3 +71,11 @@ less_work ended seen todo k x found out =
     let left = fewer_left k seen ended x found (is_out seen k out) in
     let long = length-append (asked_in (end_of x.ending)) todo in
     omega (arith, left, long)
+
+-- so it is where the lists are what they come to
+pub less_to : (ended : List (Instance ℕ × Ended)) (seen todo seen' todo' : List (Instance ℕ)) (k : Instance ℕ) (x : Ended) →
+    Some x ≡ lookup (same_instance k) ended → (Among k seen → ⊥) → seen' ≡ k ∷ seen → todo' ≡ asked_in (end_of x.ending) ++ todo →
+    work_left ended seen' todo' ≤ work_left ended seen todo
+less_to ended seen todo seen' todo' k x found out es et =
+    subst (λ z. work_left ended z todo' ≤ work_left ended seen todo) (sym es)
+    (subst (λ z. work_left ended (k ∷ seen) z ≤ work_left ended seen todo) (sym et) (less_work ended seen todo k x (sym found) out))

@@ -68,9 +68,10 @@ MetFrom look forms root seen todo None =
     (k : FaultKind) (at : Instance ℕ) → Meets (EndsSo look forms) seen todo k at → Meets (EndsSo look forms) [] (root ∷ []) k at
 MetFrom look forms root seen todo (Some f) = Meets (EndsSo look forms) [] (root ∷ []) (fault_view f.kind) f.at
 
--- so it is still, where the equation had ended
+-- so it is still; or there is an equation that hasn't ended
 abbrev pub HasLooked : Contents ℕ → Forms ℕ → Instance ℕ → Search → Bool → Type 0
-HasLooked look forms root s has_ended = MetFrom look forms root (seen_by s) (todo_of s) s.fault
+HasLooked look forms root s true = MetFrom look forms root (seen_by s) (todo_of s) s.fault
+HasLooked look forms root s false = Unit {0}
 
 -- it is among these
 abbrev pub is_in : List (Instance ℕ) → Instance ℕ → Bool

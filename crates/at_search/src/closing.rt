@@ -80,7 +80,10 @@ pub fn first_fault<K: Known>(
     let mut search = Search::from(alloc, inst)?;
     while let Some(next) = search.next() {
         let has_ended = look_at(alloc, &mut search, ended, known, next)?;
-        if !has_ended || search.has_fault() {
+        if !has_ended {
+            return Ok(None);
+        }
+        if search.has_fault() {
             return Ok(search.take_fault());
         }
     }

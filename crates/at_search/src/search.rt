@@ -90,13 +90,21 @@ impl Search {
         ensures todo { OnOk result (todo_of self.new ≡ asked_in (end_of ending.now) ++ todo_of self.old) }
         ensures fault { OnOk result (HasMetIn ending.now self.old.fault self.new.fault) }
     {
-        match ending {
-            Ending::Formed(formed) => {
-                add_atoms(alloc, formed.formula.pieces(), &mut self.todo)?;
-            }
-            Ending::Spoilt(fault) => self.meet(alloc, fault)?,
-        }
+        self.lead(alloc, ending)?;
         put(&mut self.seen, inst, ())
+    }
+
+    // The instances of the formula are to be looked at next, in front of those to do; or the fault is met.
+    fn lead(&mut self, alloc: Global, ending: &Ending) -> Result<(), AllocError>
+        ensures root { self.new.root ≡ self.old.root }
+        ensures seen { self.new.seen ≡ self.old.seen }
+        ensures todo { OnOk result (todo_of self.new ≡ asked_in (end_of ending.now) ++ todo_of self.old) }
+        ensures fault { OnOk result (HasMetIn ending.now self.old.fault self.new.fault) }
+    {
+        match ending {
+            Ending::Formed(formed) => add_atoms(alloc, formed.formula.pieces(), &mut self.todo),
+            Ending::Spoilt(fault) => self.meet(alloc, fault),
+        }
     }
 
     // The fault was met, perhaps as the first one.
