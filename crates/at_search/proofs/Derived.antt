@@ -14,11 +14,11 @@ use Rattle.at_solve.specs.Derivations.{Derives, always, follows, by_both, by_one
 use Rattle.at_search.specs.Systems.{told, two, Stands, IsPlaced}
 use Rattle.at_search.specs.Systems as stands
 
-no_value : (o : Option (Value ℕ)) → o ≡ None → IsSome o → ⊥
+pub no_value : (o : Option (Value ℕ)) → o ≡ None → IsSome o → ⊥
 no_value None e s = true≢false (sym s)
 no_value (Some v) e s = cc
 
-there_among : {A : Type 0} (xs : List A) (n : ℕ) (a : A) → slice_get xs n ≡ Some a → Among a xs
+pub there_among : {A : Type 0} (xs : List A) (n : ℕ) (a : A) → slice_get xs n ≡ Some a → Among a xs
 there_among [] n a e = absurd cc
 there_among (x ∷ xs) zero a e = let q : x ≡ a = cc in inl (sym q)
 there_among (x ∷ xs) (suc n) a e = inr (there_among xs n a e)
@@ -184,14 +184,14 @@ module _ (start : Bool) (count : ℕ) (kept : Known ℕ) (insts : List (Instance
       ],
     )
 
-    both_stands : (p l r : ℕ) (f : Formula ℕ) → At p f → AllFit Fits f → ((d : Condition) → slice_get parts p ≡ Some d → condition.Both l r ≡ d) →
-        Sound l → Sound r → Left f
-
     in_front : (f g : Formula ℕ) → ((k : Instance ℕ) → Among k (atoms f ++ atoms g) → Fits k) → AllFit Fits f
     in_front f g w k h = w k (front_among k (atoms f) (atoms g) h)
 
     behind : (f g : Formula ℕ) → ((k : Instance ℕ) → Among k (atoms f ++ atoms g) → Fits k) → AllFit Fits g
     behind f g w k h = w k (back_among k (atoms f) (atoms g) h)
+
+    both_stands : (p l r : ℕ) (f : Formula ℕ) → At p f → AllFit Fits f → ((d : Condition) → slice_get parts p ≡ Some d → condition.Both l r ≡ d) →
+        Sound l → Sound r → Left f
     both_stands _ l r _ (stands.by_value p b at) w is x y = absurd (told_not_both start b l r (is (told start b) at))
     both_stands _ l r _ (stands.by_known p i v k at) w is x y = absurd (told_not_both start (truth_of v) l r (is (told start (truth_of v)) at))
     both_stands _ l r _ (stands.by_place p m i k there at) w is x y =

@@ -1,5 +1,5 @@
 -- A search for what formulas lead to, step by step.
-use Rattle.std.proofs.Common.{◌≡◌, ◌⊎◌, ℕ, List, [], ◌∷◌, ◌++◌, Bool, true, false, Option, Some, None, IsSome, inl, inr, refl, sym, subst, ◌∙◌, ap, true≢false}
+use Rattle.std.proofs.Common.{◌≡◌, ◌⊎◌, ℕ, List, [], ◌∷◌, ◌++◌, reverse, Bool, true, false, Option, Some, None, IsSome, inl, inr, refl, sym, subst, ◌∙◌, ap, true≢false}
 use Rattle.std.specs.Map.{lookup}
 use Rattle.at_model.specs.Run.{Value, Instance, Known, FaultKind}
 use Rattle.at_model.specs.Meaning.{Among}
@@ -7,12 +7,14 @@ use Rattle.at_model.specs.of_fixpoints.Formulas.{Formula, atoms}
 use Rattle.at_model.specs.of_fixpoints.Fixpoints.{End, Made, Spoilt, LeadsOver, stays}
 use Rattle.at_model.specs.of_fixpoints.Searching.{asked_in}
 use Rattle.at_model.specs.of_fixpoints.Searched.{EndsWell}
+use Rattle.at_search.proofs.Seeing.{reverse_among, among_reverse}
 use Rattle.at_model.proofs.Reached.{front_among, back_among, either_among}
 use Rattle.at_model.proofs.of_formulas.UniqueOutcomes.{one_further}
 use Rattle.at_body.specs.Same.{same_instance}
 use Rattle.at_search.specs.declared.ended.Ended.{Ended}
-use Rattle.at_search.specs.Recorded.{Recorded, IsSettled, end_of}
-use Rattle.at_search.specs.LedTo.{IsClosure, LeadsOut, IsMet, IsGathering}
+use Rattle.at_search.specs.declared.search.Search.{Search}
+use Rattle.at_search.specs.Recorded.{Recorded, IsSettled, end_of, seen_by, todo_of}
+use Rattle.at_search.specs.LedTo.{HasGathered, IsClosure, LeadsOut, IsMet, IsGathering}
 
 module _ (known : Known ℕ) (ended : List (Instance ℕ × Ended)) (i : Instance ℕ) where
   abbrev Gathering : (seen todo : List (Instance ℕ)) → Type 0
@@ -128,3 +130,35 @@ module _ (known : Known ℕ) (ended : List (Instance ℕ × Ended)) (i : Instanc
   -- as it begins, where the lists are so
   pub begins_at : (seen todo : List (Instance ℕ)) → seen ≡ [] → todo ≡ i ∷ [] → Gathering seen todo
   begins_at seen todo es et = subst (λ z. Gathering z todo) (sym es) (subst (λ z. Gathering [] z) (sym et) begins)
+
+  -- the next one is taken off
+  pub steps_to : (seen seen' todo rest : List (Instance ℕ)) (k : Instance ℕ) → seen' ≡ seen → todo ≡ k ∷ rest → Gathering seen todo →
+      Gathering seen' (k ∷ rest)
+  steps_to seen seen' todo rest k es et g = subst (λ z. Gathering z (k ∷ rest)) (sym es) (subst (λ z. Gathering seen z) et g)
+
+  -- the search has come further
+  pub gone_on : (s : Search) (b : Bool) → b ≡ true → HasGathered known ended i s b → Gathering (seen_by s) (todo_of s)
+  gone_on s true e h = h
+  gone_on s false e h = absurd (true≢false (sym e))
+
+  -- or to what isn't recorded
+  pub led_out : (s : Search) (b : Bool) → b ≡ false → HasGathered known ended i s b → LeadsOut known ended i
+  led_out s true e h = absurd (true≢false e)
+  led_out s false e h = h
+
+  -- those that were seen, in the order in which they were
+  pub ended_at : (seen todo ks : List (Instance ℕ)) → Gathering seen todo → todo ≡ [] → seen ≡ reverse ks → IsClosure known ended i ks
+  ended_at seen todo ks g et es = forward (subst (λ z. IsClosure known ended i z) es (ends seen (subst (λ z. Gathering seen z) et g)))
+    where
+      turn : (m : Instance ℕ) → Among m (reverse ks) ⊎ IsSettled known ended m → Among m ks ⊎ IsSettled known ended m
+      turn m (inl a) = inl (reverse_among ks m a)
+      turn m (inr s) = inr s
+
+      forward : IsClosure known ended i (reverse ks) → IsClosure known ended i ks
+      forward c = record {
+        first = turn i c.first;
+        closed = λ j h. let x = c.closed j (among_reverse ks j h) in
+            record { end = x.end; ends = x.ends; good = tt; next = λ m a. turn m (x.next m a) };
+        led = λ j h. c.led j (among_reverse ks j h);
+        unsettled = λ j h. c.unsettled j (among_reverse ks j h);
+      }

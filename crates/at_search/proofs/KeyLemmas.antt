@@ -1,5 +1,5 @@
 -- Look-ups among entries.
-use Rattle.std.proofs.Common.{◌≡◌, ◌+◌, ◌<◌, ℕ, zero, suc, arith, get_or, take, length, Bool, true, false, List, [], ◌∷◌, ◌++◌, Option, Some, None, ◌⊎◌, inl, inr, refl, sym, ap, ◌∙◌, subst, if◌then◌else◌, cond, true≢false, is_some}
+use Rattle.std.proofs.Common.{◌≡◌, ◌+◌, ◌<◌, ℕ, zero, suc, arith, get_or, take, length, Bool, true, false, List, [], ◌∷◌, ◌++◌, Option, Some, None, slice_get, ◌⊎◌, inl, inr, refl, sym, ap, ◌∙◌, subst, if◌then◌else◌, cond, true≢false, is_some}
 use Rattle.std.proofs.lemmas.List.{take_more}
 use Rattle.std.specs.Bool.{MatchBool}
 use Rattle.std.specs.Map.{keys_of, lookup, lookup_key}
@@ -107,3 +107,15 @@ is_last ks i j e = subst (λ x. Among x (ks ++ i ∷ [])) (same_true i j e) (amo
 pub is_before : (b : Bool) (ks : List (Instance ℕ)) (i j : Instance ℕ) → MatchBool b (Among j ks) (Among j ks → ⊥) → same_instance i j ≡ false → MatchBool b (Among j (ks ++ i ∷ [])) (Among j (ks ++ i ∷ []) → ⊥)
 is_before true ks i j there s = among_left j ks (i ∷ []) there
 is_before false ks i j gone s = not_last ks i j s gone
+
+-- the key that is found for an instance is that one, and stands there
+pub key_at : (es : List (Instance ℕ × Unit {0})) (p : ℕ) (k : Instance ℕ) (u : Unit {0}) (i : Instance ℕ) → slice_get es p ≡ Some (k, u) →
+    Some k ≡ lookup_key (same_instance i) es → slice_get (keys_of es) p ≡ Some i
+key_at es p k u i at key =
+    let same : i ≡ k = same_true i k (key_passes (same_instance i) es k (sym key)) in
+    subst (λ z. slice_get (keys_of es) p ≡ Some z) (sym same) (get_key es p at)
+  where
+    get_key : (fs : List (Instance ℕ × Unit {0})) (n : ℕ) → slice_get fs n ≡ Some (k, u) → slice_get (keys_of fs) n ≡ Some k
+    get_key [] n e = absurd cc
+    get_key (f ∷ fs) zero e = let q : f ≡ (k, u) = cc in ap (λ (x : Instance ℕ × Unit {0}). Some x.0) q
+    get_key (f ∷ fs) (suc n) e = get_key fs n e

@@ -1,6 +1,7 @@
 -- A search for the first fault, step by step.
-use Rattle.std.proofs.Common.{◌≡◌, ◌⊎◌, ℕ, Bool, true, false, List, [], ◌∷◌, ◌++◌, Option, Some, None, inl, inr, refl, sym, subst, ◌∙◌, ap, true≢false}
+use Rattle.std.proofs.Common.{◌≡◌, ◌⊎◌, ℕ, Bool, true, false, ◌||◌, List, [], ◌∷◌, ◌++◌, Option, Some, None, inl, inr, refl, sym, subst, ◌∙◌, ap, true≢false}
 use Rattle.std.specs.Prelude.{IfSome}
+use Rattle.at_search.specs.declared.search.Search.{Search}
 use Rattle.at_model.specs.Run.{Instance, Contents, FaultKind}
 use Rattle.at_model.specs.Meaning.{Among}
 use Rattle.at_model.specs.of_fixpoints.Formulas.{Formula, atoms, Forms}
@@ -10,18 +11,24 @@ use Rattle.at_model.specs.of_fixpoints.Searched.{IsMade, AreClosed, IsWhole}
 use Rattle.at_model.proofs.of_searching.Thinning.{IsTold}
 use Rattle.at_model.proofs.of_searching.PassedFaults.{IsFormed, meets_past}
 use Rattle.at_model.proofs.of_searching.PassedCircles.{ends_one}
+use Rattle.at_body.specs.Same.{same_instance}
 use Rattle.at_body.specs.Values.{fault_view}
 use Rattle.at_search.specs.declared.ended.Ending.{Ending}
 use Rattle.at_search.specs.declared.ended.Ending.TheVariants as ending
 use Rattle.at_search.specs.declared.ended.Fault.{Fault}
-use Rattle.at_search.specs.Recorded.{HasMetFirst, HasMetIn, MetFrom, copied_from, end_of, is_in}
+use Rattle.at_search.specs.Recorded.{HasLooked, HasMetFirst, HasMetIn, MetFrom, copied_from, end_of, is_in, seen_by, todo_of}
 use Rattle.at_search.proofs.Working.{is_there, is_out}
 use Rattle.at_search.proofs.Sameness.{same_refl}
 
+or_true : (b : Bool) → (b || true) ≡ true
+or_true true = refl
+or_true false = refl
+
 is_among : (js : List (Instance ℕ)) (i : Instance ℕ) → Among i js → is_in js i ≡ true
 is_among [] i h = absurd h
-is_among (j ∷ js) i (inl e) = rw (ap (λ z. is_in (z ∷ js) i) (sym e)) (rw (same_refl i) refl)
-is_among (j ∷ js) i (inr h) = rw (is_among js i h) refl
+is_among (j ∷ js) i (inl e) =
+    ap (λ z. same_instance i z || is_in js i) (sym e) ∙ ap (λ b. b || is_in js i) (same_refl i)
+is_among (j ∷ js) i (inr h) = ap (λ b. same_instance i j || b) (is_among js i h) ∙ or_true (same_instance i j)
 
 -- whether an instance is one of a list can be told
 pub told : IsTold (Instance ℕ)
@@ -91,3 +98,21 @@ module _ (look : Contents ℕ) (forms : Forms ℕ) where
   begins_at root seen todo o es et eo =
       subst (λ z. MetFrom look forms root z todo o) (sym es) (subst (λ z. MetFrom look forms root [] z o) (sym et)
       (subst (λ z. MetFrom look forms root [] (root ∷ []) z) (sym eo) (begins root)))
+
+  -- the next one is taken off
+  pub steps_to : (root : Instance ℕ) (seen seen' todo rest : List (Instance ℕ)) (k : Instance ℕ) (o p : Option Fault) → seen' ≡ seen →
+      todo ≡ k ∷ rest → p ≡ o → MetFrom look forms root seen todo o → MetFrom look forms root seen' (k ∷ rest) p
+  steps_to root seen seen' todo rest k o p es et eo m =
+      subst (λ z. MetFrom look forms root z (k ∷ rest) p) (sym es) (subst (λ z. MetFrom look forms root seen z p) et
+      (subst (λ z. MetFrom look forms root seen todo z) (sym eo) m))
+
+  -- the equation had ended
+  pub looked : (root : Instance ℕ) (s : Search) (b : Bool) → b ≡ true → HasLooked look forms root s b →
+      MetFrom look forms root (seen_by s) (todo_of s) s.fault
+  looked root s true e h = h
+  looked root s false e h = absurd (true≢false (sym e))
+
+  -- what is taken out is the fault
+  pub taken : (root : Instance ℕ) (seen todo : List (Instance ℕ)) (o p : Option Fault) → p ≡ o → MetFrom look forms root seen todo o →
+      IfSome p (λ f. Meets (EndsSo look forms) [] (root ∷ []) (fault_view f.kind) f.at)
+  taken root seen todo o p e m = ends root seen todo p (subst (λ z. MetFrom look forms root seen todo z) (sym e) m)

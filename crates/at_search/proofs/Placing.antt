@@ -138,20 +138,23 @@ formula_added (Err e) known ended insts old new n i ps f s at none x made h = tt
 formula_added (Ok u) known ended insts old new n i ps f s at none x made h =
     let e : top_of (stacked [] ps) ≡ f = ap top_of made in
     one_further known ended insts old new n s h.stays (condition.When (old.conditions.count + h.place)) h.targets h.is_open h.heads h.edges
-    h.opens i at (inr (f, record {
-      place = h.place;
-      unknown = sym none;
-      recorded = x;
-      head = ap (λ z. slice_get z n) h.heads ∙ ap (slice_get (old.heads.items ++ condition.When (old.conditions.count + h.place) ∷ [])) (sym s.heads)
-          ∙ at_last old.heads.items (condition.When (old.conditions.count + h.place))
-          ∙ ap (λ z. Some (condition.When (z + h.place))) (sym h.stays.count);
-      stands = carried_one known insts old.conditions.start new.conditions.start old.conditions.count new.conditions.count
-          new.conditions.parts.items new.conditions.parts.items h.place f h.stays.start h.stays.count refl
-          (subst (λ z. Stands old.conditions.start old.conditions.count known insts new.conditions.parts.items h.place z) e h.stands);
-      is_open = h.is_open;
-      at = ap (λ z. slice_get z n) h.opens ∙ ap (slice_get (old.open.items ++ h.is_open ∷ [])) (sym s.opens) ∙ at_last old.open.items h.is_open;
-      targets = subst (λ z. Targets known insts z h.is_open (atoms f))
-          (sym (ap (λ z. listed_at z n) h.edges ∙ ap (listed_at (old.edges.items ++ h.targets ∷ [])) (sym s.edges)
-          ∙ listed_last old.edges.items h.targets))
-          (subst (λ z. Targets known insts h.targets.items h.is_open z) (sym (in_order ps f made)) h.asks);
-    }))
+    h.opens i at (inr (
+      f,
+      record {
+        place = h.place;
+        unknown = sym none;
+        recorded = x;
+        head = ap (λ z. slice_get z n) h.heads ∙ ap (slice_get (old.heads.items ++ condition.When (old.conditions.count + h.place) ∷ [])) (sym s.heads)
+            ∙ at_last old.heads.items (condition.When (old.conditions.count + h.place))
+            ∙ ap (λ z. Some (condition.When (z + h.place))) (sym h.stays.count);
+        stands = carried_one known insts old.conditions.start new.conditions.start old.conditions.count new.conditions.count
+            new.conditions.parts.items new.conditions.parts.items h.place f h.stays.start h.stays.count refl
+            (subst (λ z. Stands old.conditions.start old.conditions.count known insts new.conditions.parts.items h.place z) e h.stands);
+        is_open = h.is_open;
+        at = ap (λ z. slice_get z n) h.opens ∙ ap (slice_get (old.open.items ++ h.is_open ∷ [])) (sym s.opens) ∙ at_last old.open.items h.is_open;
+        targets = subst (λ z. Targets known insts z h.is_open (atoms f))
+            (sym (ap (λ z. listed_at z n) h.edges ∙ ap (listed_at (old.edges.items ++ h.targets ∷ [])) (sym s.edges)
+            ∙ listed_last old.edges.items h.targets))
+            (subst (λ z. Targets known insts h.targets.items h.is_open z) (sym (in_order ps f made)) h.asks);
+      },
+    ))

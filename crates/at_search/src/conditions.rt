@@ -1,16 +1,13 @@
 //! Conditions for formulas, piece by piece.
 
-ghost use Rattle.std.specs.Prelude.{◌≡◌, ◌++◌, ◌∷◌, [], ℕ, List, IfOk, OnOk, reverse};
+ghost use Rattle.std.specs.Prelude.{◌≡◌, ◌+◌, ◌++◌, ◌∷◌, [], ℕ, List, IfOk, OnOk};
 ghost use Rattle.std.specs.Map.{keys_of};
 ghost use Rattle.at_model.specs.Bodies.{truth_of as truth_meant};
 ghost use Rattle.at_model.specs.Run.{Instance, Known as KnownValues};
-ghost use Rattle.at_model.specs.of_fixpoints.Formulas.{Formula};
-ghost use Rattle.at_body.specs.Pieces.{top_of};
-ghost use Rattle.at_body.specs.Stacked.{below};
 ghost use Rattle.at_body.specs.Values.{value_view};
 ghost use Rattle.at_body.specs.declared.formula.Piece.{Piece as PieceCode};
-ghost use Rattle.at_body.specs.declared.formula.Piece.TheVariants.{Asks, Both, Either};
-ghost use Rattle.at_search.specs.Systems.{AreStanding, HasBegun, HasOperand, HasPushed, IsUnderWay, StaysUnder, operator, told, two};
+ghost use Rattle.at_body.specs.declared.formula.Piece.TheVariants.{Asks};
+ghost use Rattle.at_search.specs.Systems.{HasBegun, HasOperand, HasPushed, IsUnderWay, StaysUnder, operator, told, two};
 
 use at_body::{Inst, Known, Piece, Value};
 use at_solve::Condition;
@@ -133,8 +130,8 @@ impl Conditions {
     {
         let right = self.operand()?;
         let left = self.operand()?;
-        let first = self.count.checked_add(left).ok_or(AllocError)?;
-        let second = self.count.checked_add(right).ok_or(AllocError)?;
+        let first = sum(self.count, left)?;
+        let second = sum(self.count, right)?;
         self.push(pair(self.start, conjunction, first, second))
     }
 
@@ -163,6 +160,13 @@ impl Conditions {
         self.operands.push(place)?;
         Ok(())
     }
+}
+
+// Both numbers together. An error where that is no number of a position: memory would be wanting long before.
+pub fn sum(one: usize, other: usize) -> Result<usize, AllocError>
+    ensures { IfOk result (λ both. both ≡ one + other) }
+{
+    one.checked_add(other).ok_or(AllocError)
 }
 
 // That the value isn't the start value.

@@ -5,7 +5,7 @@ ghost use Rattle.std.specs.Map.{keys_of};
 ghost use Rattle.at_search.specs.Solved.{AreShut, HasOpenedAt, HasShut, IsShutAt, is_open_at, value_at};
 ghost use Rattle.at_search.specs.Systems.{HasFormed, HasOpened, IsSystem, IsSystemTo};
 
-use crate::conditions::Conditions;
+use crate::conditions::{Conditions, sum};
 use crate::ended::{Ended, formed_of};
 use at_body::{Inst, Known, Piece};
 use at_solve::Condition;
@@ -115,7 +115,7 @@ impl System {
             self.conditions.add(known, seen, piece)?;
         }
         let head = self.conditions.operand()?;
-        let first = self.conditions.count.checked_add(head).ok_or(AllocError)?;
+        let first = sum(self.conditions.count, head)?;
         self.heads.push(Condition::When(first))?;
         self.open.push(self.conditions.is_open)?;
         let targets = self.conditions.take_targets(alloc);
