@@ -27,7 +27,7 @@ module _ (known : Known ℕ) (insts : List (Instance ℕ)) where
       subst (λ z. AreStanding z n known insts ys ps fs) (sym ea) (subst (λ z. AreStanding a z known insts ys ps fs) (sym em)
       (subst (λ z. AreStanding a m known insts z ps fs) (sym ex) (subst (λ z. AreStanding a m known insts xs z fs) (sym eo) x)))
 
-  same_targets : (ts us : List ℕ) (o p : Bool) (is : List (Instance ℕ)) → us ≡ ts → p ≡ o → Targets known insts ts o is → Targets known insts us p is
+  pub same_targets : (ts us : List ℕ) (o p : Bool) (is : List (Instance ℕ)) → us ≡ ts → p ≡ o → Targets known insts ts o is → Targets known insts us p is
   same_targets ts us o p is et eo x =
       subst (λ z. Targets known insts z p is) (sym et) (subst (λ z. Targets known insts ts z is) (sym eo) x)
 

@@ -7,7 +7,9 @@ pub mod Gathering
 pub mod Meeting
 pub mod Piecewise
 pub mod Adding
+pub mod Forming
 pub mod Placing
 pub mod Derived
 pub mod Fixed
 pub mod ToldValues
+pub mod Shutting

@@ -17,9 +17,13 @@ use Rattle.at_search.specs.Recorded.{Recorded, AreFacts, AreWhole}
 abbrev pub is_open_at : List Bool → ℕ → Bool
 is_open_at open' q = get_or open' q true
 
+-- none of these is open
+abbrev pub AreClosed : List Bool → List ℕ → Type 0
+AreClosed open' targets = (m : ℕ) → Among m targets → is_open_at open' m ≡ false
+
 -- it isn't open, and leads to nothing that is
 abbrev pub IsShutAt : System → ℕ → Type 0
-IsShutAt s q = (is_open_at s.open.items q ≡ false) × ((m : ℕ) → Among m (listed_at s.edges.items q) → is_open_at s.open.items m ≡ false)
+IsShutAt s q = (is_open_at s.open.items q ≡ false) × AreClosed s.open.items (listed_at s.edges.items q)
 
 -- so it is of each of these
 abbrev pub AreShut : System → List ℕ → Type 0

@@ -136,7 +136,7 @@ impl Conditions {
     }
 
     // The newest operand, taken off; where there is none, one that stands for `false`.
-    fn operand(&mut self) -> Result<usize, AllocError>
+    pub fn operand(&mut self) -> Result<usize, AllocError>
         ensures stays { StaysUnder self.old self.new }
         ensures operand { IfOk result (HasOperand self.old self.new) }
     {

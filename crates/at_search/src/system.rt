@@ -2,7 +2,8 @@
 
 ghost use Rattle.std.specs.Prelude.{◌≡◌, ◌++◌, [], ◌+◌, ℕ, Some, IfOk, OnOk, MatchBool, slice_get};
 ghost use Rattle.std.specs.Map.{keys_of};
-ghost use Rattle.at_search.specs.Solved.{AreShut, HasOpenedAt, HasShut, IsShutAt, is_open_at, value_at};
+ghost use Rattle.at_solve.specs.Components.{listed_at};
+ghost use Rattle.at_search.specs.Solved.{AreClosed, AreShut, HasOpenedAt, HasShut, IsShutAt, is_open_at, value_at};
 ghost use Rattle.at_search.specs.Systems.{HasFormed, HasOpened, IsSystem, IsSystemTo};
 
 use crate::conditions::{Conditions, sum};
@@ -185,10 +186,13 @@ impl System {
         if self.is_open(position) {
             return false;
         }
-        let targets = match self.edges.get(position) {
-            Some(targets) => targets.as_slice(),
-            None => &[],
-        };
+        self.are_closed(targets_of(self.edges.as_slice(), position))
+    }
+
+    // Whether none of these is open.
+    fn are_closed(&self, targets: &[usize]) -> bool
+        ensures { MatchBool result (AreClosed self.now.open.items targets.now) (AreClosed self.now.open.items targets.now → ⊥) }
+    {
         for target in targets {
             if self.is_open(*target) {
                 return false;
@@ -216,5 +220,15 @@ impl System {
             None => false,
         };
         leaves != self.conditions.start
+    }
+}
+
+// What the one at the position leads to, nothing behind the last.
+fn targets_of(edges: &[Vec<usize>], position: usize) -> &[usize]
+    ensures { result.now ≡ listed_at edges.now position }
+{
+    match edges.get(position) {
+        Some(list) => list,
+        None => &[],
     }
 }
