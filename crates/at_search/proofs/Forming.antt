@@ -1,5 +1,6 @@
 -- The formula of an instance in a system, once all its pieces have conditions.
 use Rattle.std.proofs.Common.{◌≡◌, ℕ, ◌+◌, false, reverse, List, [], ◌∷◌, ◌++◌, Some, Vec, refl, sym, ap, ◌∙◌, subst, append_assoc}
+use Rattle.std.proofs.lemmas.List.{append-nil}
 use Rattle.std.specs.Global.{Global}
 use Rattle.at_model.specs.Run.{Instance, Known}
 use Rattle.at_body.specs.Pieces.{asked, formula_of, stacked}
@@ -19,6 +20,11 @@ stays_then old mid new s t = record {
   more = s.more ++ t.more;
   parts = t.parts ∙ ap (λ z. z ++ t.more) s.parts ∙ append_assoc old.parts.items s.more t.more;
 }
+
+-- with the same conditions nothing comes
+pub same_conditions : (old new : Conditions) → new.start ≡ old.start → new.count ≡ old.count → new.parts.items ≡ old.parts.items →
+    StaysUnder old new
+same_conditions old new es ec ep = record { start = es; count = ec; more = []; parts = ep ∙ sym (append-nil old.parts.items) }
 
 module _ (known : Known ℕ) (insts : List (Instance ℕ)) where
   pub formed : (old new : System) (mid one : Conditions) (ps : List Piece) (head first : ℕ) (targets : Vec ℕ Global) →

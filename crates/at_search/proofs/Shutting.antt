@@ -7,19 +7,24 @@ use Rattle.at_solve.specs.Components.{listed_at}
 use Rattle.at_search.specs.declared.system.System.{System}
 use Rattle.at_search.specs.Solved.{AreClosed, IsShutAt, is_open_at}
 
-pub among_item : (xs : List ℕ) (n x : ℕ) → n < length xs → x ≡ get_or xs n x → Among x xs
-among_item [] n x less is = absurd (omega (arith, less))
-among_item (y ∷ xs) zero x less is = inl is
-among_item (y ∷ xs) (suc n) x less is = inr (among_item xs n x (omega (arith, less)) is)
+pub among_item : (xs : List ℕ) (n d : ℕ) → n < length xs → Among (get_or xs n d) xs
+among_item [] n d less = absurd (omega (arith, less))
+among_item (y ∷ xs) zero d less = inl refl
+among_item (y ∷ xs) (suc n) d less = inr (among_item xs n d (omega (arith, less)))
 
--- so it is of one more of them
-pub one_more : (P : ℕ → Type 0) (xs : List ℕ) (n x : ℕ) → n < length xs → x ≡ get_or xs n x → P x →
-    ((m : ℕ) → Among m (take n xs) → P m) → (m : ℕ) → Among m (take (n + 1) xs) → P m
-one_more P xs n x less is here all m h =
-    elim (either_among m (take n xs) (get_or xs n x ∷ []) (subst (λ z. Among m z) (take_more xs n x less) h)) [
+-- none of them is open, up to one more
+pub one_closed : (open' : List Bool) (xs : List ℕ) (n d : ℕ) → n < length xs → false ≡ is_open_at open' (get_or xs n d) →
+    AreClosed open' (take n xs) → AreClosed open' (take (n + 1) xs)
+one_closed open' xs n d less here all m h =
+    elim (either_among m (take n xs) (get_or xs n d ∷ []) (subst (λ z. Among m z) (take_more xs n d less) h)) [
       | inl a ↦ all m a
-      | inr b ↦ elim b [ inl e ↦ subst P (is ∙ sym e) here | inr u ↦ absurd u ]
+      | inr b ↦ elim b [ inl e ↦ ap (is_open_at open') e ∙ sym here | inr u ↦ absurd u ]
     ]
+
+-- one that is open is enough
+pub not_closed : (open' : List Bool) (xs : List ℕ) (n d : ℕ) → n < length xs → true ≡ is_open_at open' (get_or xs n d) →
+    AreClosed open' xs → ⊥
+not_closed open' xs n d less here all = true≢false (here ∙ all (get_or xs n d) (among_item xs n d less))
 
 -- what is shut isn't open, and leads to nothing that is
 pub shut_by : (b : Bool) (s : System) (q : ℕ) (targets : List ℕ) → is_open_at s.open.items q ≡ false → targets ≡ listed_at s.edges.items q →
