@@ -12,7 +12,7 @@
 //! which instances are solved, with what they rest on.
 //!
 //! **Where to begin:** `Search` in `search.rt`; `closure` and `first_fault` in `closing.rt`; `System` in `system.rt`, and `solve` in
-//! `solving.rt`. How equations ended is in `ended.rt`.
+//! `solving.rt`. How equations ended is in `ended.rt`, the conditions of a formula in `conditions.rt`, laws in `laws.rt`.
 //!
 //! **What it keeps true:** an instance is told a value only where all to which its formula leads is known or solved with it, and that
 //! is the value that the fixpoint gives it.
