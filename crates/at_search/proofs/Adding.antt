@@ -68,7 +68,7 @@ module _ (known : Known ℕ) (insts : List (Instance ℕ)) where
       (carried old.start mid.start old.count mid.count old.parts.items mid.parts.items (reverse old.operands.items) (reverse mid.operands.items)
       (stacked [] ps) es ec ep (ap reverse eo) u.operands)
       (same_targets (old.targets.items ++ q ∷ []) new.targets.items old.is_open new.is_open (asked ps ++ i ∷ []) (h.targets ∙ et) (h.stays ∙ ei)
-      (targets_at known insts old.targets.items old.is_open (asked ps) q i u.targets at)) s h refl
+      (targets_at known insts old.targets.items old.is_open (asked ps) q i u.targets (sym k) at)) s h refl
       (stands.by_place (length mid.parts.items) q i (sym k) at (at_last mid.parts.items (condition.When q)))
   placed_added (Err e) old mid new ps i q u k at es ec ep eo ei et s h = tt
 

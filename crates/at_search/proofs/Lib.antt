@@ -8,6 +8,7 @@ pub mod Meeting
 pub mod Piecewise
 pub mod Adding
 pub mod Forming
+pub mod Places
 pub mod Placing
 pub mod Derived
 pub mod Fixed

@@ -1,21 +1,24 @@
 -- What formulas lead to, as far as it is recorded.
-use Rattle.std.specs.Prelude.{◌≡◌, ◌⊎◌, ℕ, Bool, true, false, List, None, IsSome}
+use Rattle.std.specs.Prelude.{◌≡◌, ◌⊎◌, ℕ, Bool, true, false, List, None}
 use Rattle.std.specs.Map.{lookup}
 use Rattle.at_model.specs.Run.{Instance, Known}
 use Rattle.at_model.specs.Meaning.{Among}
-use Rattle.at_model.specs.of_fixpoints.Formulas.{Formula, atoms}
-use Rattle.at_model.specs.of_fixpoints.Fixpoints.{Made, LeadsOver}
+use Rattle.at_model.specs.of_fixpoints.Fixpoints.{LeadsOver}
 use Rattle.at_model.specs.of_fixpoints.Searched.{EndsWell}
 use Rattle.at_body.specs.Same.{same_instance}
 use Rattle.at_search.specs.declared.ended.Ended.{Ended}
 use Rattle.at_search.specs.declared.search.Search.{Search}
 use Rattle.at_search.specs.Recorded.{Recorded, IsSettled, seen_by, todo_of}
 
--- The equation of each of these is recorded, and formulas lead from these to none but these and what is settled. The instance is one
--- of them, or settled, and leads to each; and none of them is settled.
+-- the equation of each of these is recorded, and formulas lead from these to none but these and what is settled
+abbrev pub AreClosedIn : Known ℕ → List (Instance ℕ × Ended) → List (Instance ℕ) → Type 0
+AreClosedIn known ended set = (i : Instance ℕ) → Among i set →
+    EndsWell (Recorded ended) (λ e. Unit {0}) (λ k. Among k set ⊎ IsSettled known ended k) i
+
+-- These are closed so. The instance is one of them, or settled, and leads to each; and none of them is settled.
 pub record IsClosure (known : Known ℕ) (ended : List (Instance ℕ × Ended)) (i : Instance ℕ) (set : List (Instance ℕ)) : Type 0 where
   pub first : Among i set ⊎ IsSettled known ended i
-  pub closed : (j : Instance ℕ) → Among j set → EndsWell (Recorded ended) (λ e. Unit {0}) (λ k. Among k set ⊎ IsSettled known ended k) j
+  pub closed : AreClosedIn known ended set
   pub led : (j : Instance ℕ) → Among j set → LeadsOver (Recorded ended) i j
   pub unsettled : (j : Instance ℕ) → Among j set → ¬ (IsSettled known ended j)
 
@@ -41,8 +44,3 @@ pub record IsGathering (known : Known ℕ) (ended : List (Instance ℕ × Ended)
 abbrev pub HasGathered : Known ℕ → List (Instance ℕ × Ended) → Instance ℕ → Search → Bool → Type 0
 HasGathered known ended i s true = IsGathering known ended i (seen_by s) (todo_of s)
 HasGathered known ended i s false = LeadsOut known ended i
-
--- formulas lead from these to none but these and what is known
-abbrev pub AreClosedIn : Known ℕ → List (Instance ℕ × Ended) → List (Instance ℕ) → Type 0
-AreClosedIn known ended set = (i j : Instance ℕ) (f : Formula ℕ) → Among i set → Recorded ended i (Made f) → Among j (atoms f) →
-    Among j set ⊎ IsSome (known j)

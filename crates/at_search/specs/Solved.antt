@@ -4,7 +4,7 @@ use Rattle.at_model.specs.Run.{Value, Truth, Instance, Contents, Known}
 use Rattle.at_model.specs.Bodies.{bool_eq}
 use Rattle.at_model.specs.Meaning.{Among}
 use Rattle.at_model.specs.of_fixpoints.Formulas.{Formula, Forms, atoms}
-use Rattle.at_model.specs.of_fixpoints.Fixpoints.{Made, HasValue}
+use Rattle.at_model.specs.of_fixpoints.Fixpoints.{Made, AreFormed, EndsSo, HasValue}
 use Rattle.at_model.specs.of_fixpoints.Sets.{AreOfOneStart}
 use Rattle.at_solve.specs.Components.{listed_at}
 use Rattle.at_solve.specs.Derivations.{Derives}
@@ -83,6 +83,11 @@ AreInOrder known ended insts groups = (k : ℕ) (i j : Instance ℕ) (b : Bool) 
 abbrev pub IsToldSome : {Z : Type 0} → List (Instance ℕ) → List (Vec Solved Z) → Instance ℕ → Type 0
 IsToldSome insts groups i = (b : Bool) × IsSolved insts groups i b
 
+-- each that isn't known, and from which formulas lead to formulas alone, is told some value
+abbrev pub AreAllTold : {Z : Type 0} → Contents ℕ → Forms ℕ → Known ℕ → List (Instance ℕ) → List (Vec Solved Z) → Type 0
+AreAllTold look forms known insts groups = (i : Instance ℕ) → Among i insts → known i ≡ None → AreFormed (EndsSo look forms) i →
+    IsToldSome insts groups i
+
 -- what is told at a position
 abbrev pub solved_at : (start : Bool) (derived : List Bool) → ℕ → Solved
 solved_at start derived q = record { position = q; value = value_at start derived q }
@@ -91,10 +96,6 @@ solved_at start derived q = record { position = q; value = value_at start derive
 abbrev pub AreShutIn : System → List ℕ → Type 0
 AreShutIn s positions = (m : ℕ) → Among m positions →
     (is_open_at s.open.items m ≡ false) × ((k : ℕ) → Among k (listed_at s.edges.items m) → Among k positions)
-
--- an instance stands once
-abbrev pub AreApart : List (Instance ℕ) → Type 0
-AreApart insts = (p q : ℕ) (i : Instance ℕ) → slice_get insts p ≡ Some i → slice_get insts q ≡ Some i → p ≡ q
 
 -- these are derived of all conditions of the system
 abbrev pub AreDerived : System → List Bool → Type 0

@@ -1,13 +1,12 @@
 //! The values of instances whose formulas lead to each other.
 
-ghost use Rattle.std.specs.Prelude.{◌≡◌, ℕ, None, IfOk, map};
+ghost use Rattle.std.specs.Prelude.{◌≡◌, ℕ, IfOk, map};
 ghost use Rattle.std.specs.Map.{keys_of};
-ghost use Rattle.at_model.specs.Meaning.{Among};
-ghost use Rattle.at_model.specs.Run.{Contents, Instance};
-ghost use Rattle.at_model.specs.of_fixpoints.Fixpoints.{AreFormed, EndsSo};
+ghost use Rattle.at_model.specs.Run.{Contents};
 ghost use Rattle.at_model.specs.of_fixpoints.Formulas.{Forms};
 ghost use Rattle.at_search.specs.LedTo.{AreClosedIn};
-ghost use Rattle.at_search.specs.Solved.{AreInOrder, AreRight, AreTold, IsToldSome, solved_at};
+ghost use Rattle.at_search.specs.Recorded.{AreMarksRight};
+ghost use Rattle.at_search.specs.Solved.{AreAllTold, AreInOrder, AreRight, AreTold, solved_at};
 
 use crate::ended::Ended;
 use crate::system::System;
@@ -38,9 +37,9 @@ pub fn solve<K: Known>(
         → IfOk result (λ groups. AreTold look forms (keys_of seen.now.entries) groups.items) }
     ensures all { (look : Contents ℕ) (forms : Forms ℕ)
         → AreRight look forms start (K.value_of known.now) ended.now.entries (keys_of seen.now.entries)
+        → AreMarksRight look forms (K.value_of known.now) ended.now.entries
         → AreClosedIn (K.value_of known.now) ended.now.entries (keys_of seen.now.entries)
-        → IfOk result (λ groups. (i : Instance ℕ) → Among i (keys_of seen.now.entries) → K.value_of known.now i ≡ None
-        → AreFormed (EndsSo look forms) i → IsToldSome (keys_of seen.now.entries) groups.items i) }
+        → IfOk result (λ groups. AreAllTold look forms (K.value_of known.now) (keys_of seen.now.entries) groups.items) }
     ensures order { IfOk result (λ groups. AreInOrder (K.value_of known.now) ended.now.entries (keys_of seen.now.entries) groups.items) }
 {
     let mut system = System::of(alloc, start, ended, known, seen)?;
