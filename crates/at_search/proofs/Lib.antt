@@ -14,3 +14,5 @@ pub mod Derived
 pub mod Fixed
 pub mod ToldValues
 pub mod Shutting
+pub mod Grouping
+pub mod Groups

@@ -1,5 +1,5 @@
 -- Which instances of a system are solved, and what that tells.
-use Rattle.std.specs.Prelude.{◌≡◌, ◌⊎◌, ◌↔◌, ◌++◌, ℕ, ◌≤◌, Bool, true, false, List, Option, None, Some, IsSome, get_or, length, not, slice_get, unwrap_or, Vec}
+use Rattle.std.specs.Prelude.{◌≡◌, ◌⊎◌, ◌↔◌, ◌++◌, ℕ, ◌≤◌, Bool, true, false, List, [], ◌∷◌, Option, None, Some, IsSome, get_or, length, map, not, slice_get, unwrap_or, Vec}
 use Rattle.at_model.specs.Run.{Value, Truth, Instance, Contents, Known}
 use Rattle.at_model.specs.Bodies.{bool_eq}
 use Rattle.at_model.specs.Meaning.{Among}
@@ -91,6 +91,13 @@ AreAllTold look forms known insts groups = (i : Instance ℕ) → Among i insts 
 -- what is told at a position
 abbrev pub solved_at : (start : Bool) (derived : List Bool) → ℕ → Solved
 solved_at start derived q = record { position = q; value = value_at start derived q }
+
+-- A group is shut, and is told with the values that are derived; or it isn't, and its members are open.
+abbrev pub HasSolved : {Z : Type 0} → (group : List ℕ) → (derived : List Bool) → (old new : System) → (before after : List (Vec Solved Z)) → Type 0
+HasSolved {Z} group derived old new before after =
+    (AreShut old group × (new ≡ old) × ((v : Vec Solved Z) × (v.items ≡ map (solved_at old.conditions.start derived) group)
+    × (after ≡ before ++ v ∷ [])))
+    ⊎ ((AreShut old group → ⊥) × HasOpenedAll group old new × (after ≡ before))
 
 -- None of these positions is open, and they lead to none but these.
 abbrev pub AreShutIn : System → List ℕ → Type 0

@@ -1,12 +1,12 @@
 //! The values of instances whose formulas lead to each other.
 
-ghost use Rattle.std.specs.Prelude.{◌≡◌, ℕ, IfOk, map};
+ghost use Rattle.std.specs.Prelude.{◌≡◌, ℕ, IfOk, OnOk, map};
 ghost use Rattle.std.specs.Map.{keys_of};
 ghost use Rattle.at_model.specs.Run.{Contents};
 ghost use Rattle.at_model.specs.of_fixpoints.Formulas.{Forms};
 ghost use Rattle.at_search.specs.LedTo.{AreClosedIn};
 ghost use Rattle.at_search.specs.Recorded.{AreMarksRight};
-ghost use Rattle.at_search.specs.Solved.{AreAllTold, AreInOrder, AreRight, AreTold, solved_at};
+ghost use Rattle.at_search.specs.Solved.{AreAllTold, AreInOrder, AreRight, AreTold, HasSolved, solved_at};
 
 use crate::ended::Ended;
 use crate::system::System;
@@ -48,11 +48,33 @@ pub fn solve<K: Known>(
     let groups = components_of(alloc, system.edges())?;
     let mut solved = Vec::new(alloc);
     for group in &groups {
-        if system.shut(group.as_slice()) {
-            solved.push(values(alloc, &system, leave.as_slice(), group.as_slice())?)?;
-        }
+        add_group(
+            alloc,
+            &mut system,
+            leave.as_slice(),
+            group.as_slice(),
+            &mut solved,
+        )?;
     }
     Ok(solved)
+}
+
+// The values of a group come behind, if no member is open or leads to what is.
+fn add_group(
+    alloc: Global,
+    system: &mut System,
+    leave: &[bool],
+    group: &[usize],
+    solved: &mut Vec<Vec<Solved>>,
+) -> Result<(), AllocError>
+    ensures { OnOk result (HasSolved group.now leave.now system.old system.new solved.old.items solved.new.items) }
+{
+    if !system.shut(group) {
+        return Ok(());
+    }
+    let told = values(alloc, system, leave, group)?;
+    solved.push(told)?;
+    Ok(())
 }
 
 // The values of the members of a group.
