@@ -1,0 +1,15 @@
+pub mod Sameness
+pub mod KeyLemmas
+pub mod Asking
+pub mod Seeing
+pub mod Working
+pub mod Gathering
+pub mod Meeting
+pub mod Piecewise
+pub mod Adding
+pub mod Forming
+pub mod Placing
+pub mod Derived
+pub mod Fixed
+pub mod ToldValues
+pub mod Shutting
