@@ -3,7 +3,7 @@ use Rattle.std.specs.Prelude.{◌≡◌, ℕ, None, false, true, List}
 use Rattle.at_model.specs.Run.{Instance}
 use Rattle.at_model.specs.Rules.{Rules, is_lazy}
 use Rattle.at_model.specs.Instances.{AnyText}
-use Rattle.at_model.specs.Meaning.{Right}
+use Rattle.at_demand.specs.Meant.{AreRightValues}
 use Rattle.at_model.specs.TypedRuns.{IsWellTyped}
 use Rattle.at_model.specs.WellFormed.{AreWellFormed, IsTreeSound}
 use Rattle.at_store.specs.Shown.{IsIdle, Shown, contents, tree}
@@ -36,7 +36,7 @@ pub record CanBegin (rules : Rules) (s : Shown) (i : Instance ℕ) : Type 0 wher
 -- questions are answered over them, where what is kept is right, and just what isn't lazy may stand without a value
 pub record IsAnswerable (rules : Rules) (s : Shown) (entries : Entries) : Type 0 where
   pub basis : IsBasis rules s
-  pub right : Right (contents s) (meaning rules) (kept_values entries)
+  pub right : AreRightValues (contents s) (meaning rules) (kept_values entries)
   pub plain : ArePlain rules entries
 
 -- so is one for the instance, which is well typed
@@ -62,7 +62,7 @@ pub record CanTurnWith (rules : Rules) (s : Shown) (entries : Entries) (q : Ques
 
 -- what was found is right and whole, and what it took of what is kept is kept
 pub record AreFinds (rules : Rules) (s : Shown) (entries : Entries) (found : List (Instance ℕ × Find)) : Type 0 where
-  pub right : Right (contents s) (meaning rules) (known_in entries found)
+  pub right : AreRightValues (contents s) (meaning rules) (known_in entries found)
   pub kept : FoundKept entries found
   pub whole : AreWhole rules (contents s) found
 

@@ -3,7 +3,8 @@ use Rattle.std.specs.Prelude.{◌≡◌, ℕ, Bool, Option, IsTrue, IfOk, IfSome
 use Rattle.std.specs.Option.{option_map}
 use Rattle.at_model.specs.Run.{Instance, Location}
 use Rattle.at_model.specs.Rules.{Rules}
-use Rattle.at_model.specs.Meaning.{Answers, Right}
+use Rattle.at_model.specs.of_fixpoints.Circles.{Answers}
+use Rattle.at_demand.specs.Meant.{AreRightValues}
 use Rattle.at_model.specs.Turning.{Turned, asked}
 use Rattle.at_store.specs.Shown.{Shown, contents}
 use Rattle.at_cache.specs.Kept.{Entries, LeavesUntouched, LosesTouched}
@@ -34,7 +35,7 @@ pub record HasAnswered {E : Type 0} (rules : Rules) (s : Shown) (exact : Bool) (
 -- A turn of the question lets at most its last instance come to what is kept, and entries without a value of what it had found. That
 -- stays right and, with an exact keeper, spare; the work counts the value.
 pub record GainsAtMost (rules : Rules) (s : Shown) (exact : Bool) (before after : Entries) (earlier later : ℕ) (q : Question) : Type 0 where
-  pub right : Right (contents s) (meaning rules) (kept_values after)
+  pub right : AreRightValues (contents s) (meaning rules) (kept_values after)
   pub stays : IsThere s (asked (under_way q)) → AreRight rules s before → AreRight rules s after
   pub plain : ArePlain rules after
   pub last : GainsInTurn rules before after (under_way q)
@@ -61,7 +62,7 @@ pub record HasTurned {E : Type 0} (rules : Rules) (s : Shown) (exact : Bool) (be
   pub turned : IfOk r (λ o. Turned (contents s) (meaning rules) (kept_values before) (under_way old) (under_way new) (option_map answer_view o))
   pub answers : IfOk r (λ o. IfSome o (λ a. Answers (contents s) (meaning rules) (asked (under_way old)) (answer_view a)))
   pub standing : IfOk r (λ o. IsStanding rules s after new)
-  pub right : Right (contents s) (meaning rules) (kept_values after)
+  pub right : AreRightValues (contents s) (meaning rules) (kept_values after)
   pub stays : IsThere s (asked (under_way old)) → AreRight rules s before → AreRight rules s after
   pub plain : ArePlain rules after
   pub last : GainsInTurn rules before after (under_way old)
@@ -83,7 +84,7 @@ pub record HasTurnedOften {E : Type 0} (rules : Rules) (s : Shown) (exact : Bool
       → IfOk r (λ g. IfSome g.1 (λ a. HasWorthy rules (contents s) (asked (under_way old)) after))
   pub answers : IfOk r (λ g. IfSome g.1 (λ a. Answers (contents s) (meaning rules) (asked (under_way old)) (answer_view a)))
   pub standing : IfOk r (λ g. IsStanding rules s after new)
-  pub right : Right (contents s) (meaning rules) (kept_values after)
+  pub right : AreRightValues (contents s) (meaning rules) (kept_values after)
   pub worthy : AddsWorthy rules (contents s) (asked (under_way old)) before after
   pub stays : IsThere s (asked (under_way old)) → AreRight rules s before → AreRight rules s after
   pub plain : ArePlain rules after

@@ -4,7 +4,10 @@ use Rattle.std.specs.Map.{lookup}
 use Rattle.at_model.specs.Run.{Instance, Contents}
 use Rattle.at_model.specs.Rules.{Rules}
 use Rattle.at_model.specs.Instances.{AnyText}
-use Rattle.at_model.specs.Meaning.{HasValue, Holds, Faults, Comes, Right}
+use Rattle.at_model.specs.Meaning.{Faults}
+use Rattle.at_model.specs.of_fixpoints.Fixpoints.{HasValue, Holds}
+use Rattle.at_model.specs.of_fixpoints.Resting.{Comes}
+use Rattle.at_demand.specs.Meant.{AreRightValues}
 use Rattle.at_model.specs.TypedRuns.{ClassAt, IsWellTyped}
 use Rattle.at_body.specs.Same.{same_instance}
 use Rattle.at_store.specs.Shown.{Shown, contents}
@@ -82,7 +85,7 @@ IsKeptAs entries i (attempt.Needs j) = Unit {0}
 pub record HasAttempted {E : Type 0} (rules : Rules) (s : Shown) (exact : Bool) (before after : Entries) (earlier later : ℕ)
     (found : List (Instance ℕ × Find)) (i : Instance ℕ) (f : Frame) (r : Result Attempt E) : Type 0 where
   pub tried : IfOk r (HasTried rules (class_shown s) (contents s) before found i)
-  pub right : Right (contents s) (meaning rules) (kept_values after)
+  pub right : AreRightValues (contents s) (meaning rules) (kept_values after)
   pub stays : IsThere s i → AreThere rules s found → AreRight rules s before → AreRight rules s after
   pub plain : ArePlain rules after
   pub gains : MayGain rules found before after i

@@ -3,7 +3,8 @@ use Rattle.std.specs.Prelude.{◌≡◌, ℕ, Bool, List, ◌++◌, [], Option, 
 use Rattle.at_model.specs.Run.{Value, Instance, Location, Contents, Known, Run, Gives, Demands}
 use Rattle.at_model.specs.Classes.{Classes}
 use Rattle.at_model.specs.Rules.{Rules, is_inherited, is_lazy}
-use Rattle.at_model.specs.Meaning.{HasValue, Reaches}
+use Rattle.at_model.specs.Meaning.{Reaches}
+use Rattle.at_model.specs.of_fixpoints.Fixpoints.{HasValue}
 use Rattle.at_model.specs.Nested.{Evaluates}
 use Rattle.at_store.specs.Shown.{Shown, contents}
 use Rattle.at_rules.specs.Bodies.{body_view}
@@ -17,7 +18,7 @@ use Rattle.at_cache.specs.Kept.{Entries}
 use Rattle.at_cache.specs.Traced.{Memories}
 use Rattle.at_demand.specs.declared.direct.Direct.{Direct}
 use Rattle.at_demand.specs.declared.direct.Level.{Level}
-use Rattle.at_demand.specs.Known.{meaning, kept_values, IsKept, KeepsEntries}
+use Rattle.at_demand.specs.Known.{equations, meaning, kept_values, IsKept, KeepsEntries}
 use Rattle.at_demand.specs.Inner.{AreKnown, Gains, HasRecalled, HasTold, IsEvaluated, StayRemembered, is_inner, known_by}
 use Rattle.at_demand.specs.Right.{AreRight, IsThere}
 use Rattle.at_demand.specs.Sparing.{AreSpare, Counts, IsWorthKeeping}
@@ -56,7 +57,7 @@ pub record HasCome {A : Type 0} (rules : Rules) (look : Contents ℕ) (h : Held)
   pub depth : ℕ
   pub looks : List (Location ℕ)
   pub takes : List (Instance ℕ)
-  pub evaluates : Evaluates look (meaning rules) (values_in h) (is_inner rules) depth r a looks takes
+  pub evaluates : Evaluates look (equations rules) (values_in h) (is_inner rules) depth r a looks takes
   pub reads : new.reads ≡ old.reads ++ looks
   pub uses : new.uses.items ≡ old.uses.items ++ takes
 
@@ -137,7 +138,7 @@ pub record EndsRecalled {E : Type 0} (rules : Rules) (s : Shown) (exact : Bool) 
 -- the evaluation of the instance comes to what comes out, and what was held has grown for it
 pub record EndsEvaluated {E : Type 0} (rules : Rules) (s : Shown) (exact : Bool) (i : Instance ℕ) (old new : Held) (before after : Level)
     (r : Result ValueCode E) : Type 0 where
-  pub come : IfOk r (λ v. HasCome rules (contents s) new before after (meaning rules i) (value_view v))
+  pub come : IfOk r (λ v. HasCome rules (contents s) new before after (equations rules i) (value_view v))
   pub grown : HasGrown rules s exact i old new
 
 -- the evaluation r of an expression comes to the view of what comes out, and what was held has gained what r demands

@@ -1,4 +1,5 @@
 pub mod Known
+pub mod Meant
 pub mod UnderWay
 pub mod Right
 pub mod Touched
@@ -8,6 +9,11 @@ pub mod Sparing
 pub mod Advancing
 pub mod Spared
 pub mod Called
+pub mod Levels
+pub mod Forming
+pub mod Tries
+pub mod Groups
+pub mod Searches
 pub mod Turns
 pub mod ChainSteps
 pub mod Attempts

@@ -8,7 +8,7 @@ use Rattle.at_model.specs.Nested.{Evaluates}
 use Rattle.at_model.specs.Touches.{node_of}
 use Rattle.at_store.specs.Shown.{Shown, contents, path}
 use Rattle.at_cache.specs.Traced.{Memories, StayTraced, Trace}
-use Rattle.at_demand.specs.Known.{meaning}
+use Rattle.at_demand.specs.Known.{equations}
 use Rattle.at_demand.specs.Inner.{is_inner}
 use Rattle.at_demand.specs.Right.{IsThere}
 
@@ -26,7 +26,7 @@ pub record IsJustified (look : Contents ℕ) (equation : Equations ℕ) (last : 
 pub record AreJustified (rules : Rules) (look : Contents ℕ) (m : Memories) : Type 0 where
   pub lazily : (i : Instance ℕ) (t : Trace) → m.traced i ≡ Some t → is_lazy rules i.attribute ≡ true
   pub value : (i : Instance ℕ) (t : Trace) → m.traced i ≡ Some t → m.last i ≡ Some t.value
-  pub justified : (i : Instance ℕ) (t : Trace) → m.traced i ≡ Some t → IsJustified look (meaning rules) m.last (is_inner rules) i t
+  pub justified : (i : Instance ℕ) (t : Trace) → m.traced i ≡ Some t → IsJustified look (equations rules) m.last (is_inner rules) i t
 
 -- each location that was looked at for a trace is one of a node of the tree
 abbrev pub AreOfTree : Shown → Memories → Type 0

@@ -6,7 +6,8 @@ use Rattle.at_model.specs.Run.{Value, Instance, Location, Contents, Known, Run, 
 use Rattle.at_model.specs.Follow.{Past}
 use Rattle.at_model.specs.Rules.{Rules}
 use Rattle.at_model.specs.Instances.{AnyText}
-use Rattle.at_model.specs.Meaning.{Answer, Equations, Among, HasValue}
+use Rattle.at_model.specs.Meaning.{Answer, Equations, Among}
+use Rattle.at_model.specs.of_fixpoints.Fixpoints.{HasValue}
 use Rattle.at_model.specs.TypedRuns.{IsWellTyped}
 use Rattle.at_model.specs.Turning.{UnderWay, chain, asked, keys, IsOn, Silent, Turned}
 use Rattle.at_store.specs.Shown.{Shown, contents}
@@ -49,7 +50,7 @@ IsMet entries found j = IsSome (entries j) ⊎ IsFound found j
 -- the evaluation of i has come to the demand of n, past values of what is met
 abbrev pub HasMet : Rules → Contents ℕ → Entries → List (Instance ℕ × Find) → (i n : Instance ℕ) → Type 0
 HasMet rules look entries found i n = (js : List (Instance ℕ)) × (ls : List (Location ℕ)) × (rest : Value ℕ → Run ℕ (Value ℕ))
-    × Past look (λ j v. HasValue look (meaning rules) j v × IsMet entries found j) (meaning rules i) js ls (Demands n rest)
+    × Past look (λ j v. HasValue look (meaning rules) j v × IsMet entries found j) (equations rules i) js ls (Demands n rest)
 
 -- so each of these has come to the demand of the next, and the last one to that of n
 abbrev pub HaveMet : Rules → Contents ℕ → Entries → List (Instance ℕ × Find) → List (Instance ℕ) → Instance ℕ → Type 0

@@ -1,7 +1,7 @@
 //! Questions for the values of instances.
 
 ghost use Rattle.std.specs.Prelude.{◌≡◌, ◌<◌, ◌^◌, [], is_some, map, IfOk, IfSome, IsTrue, None};
-ghost use Rattle.at_model.specs.Meaning.{HasValue};
+ghost use Rattle.at_model.specs.of_fixpoints.Fixpoints.{HasValue};
 ghost use Rattle.at_store.specs.Located.{loc_view};
 ghost use Rattle.at_store.specs.Shown.{IsIdle, contents};
 ghost use Rattle.at_body.specs.Values.{value_view};
@@ -16,7 +16,10 @@ ghost use Rattle.at_demand.specs.InParts.{IsHeld, held};
 ghost use Rattle.at_demand.specs.Traces.{StayJustified};
 ghost use Rattle.at_cache.specs.Traced.{StayTraced};
 
+mod recalling;
+mod searching;
 mod shared;
+mod solving;
 mod turning;
 
 use crate::answer::Answer;

@@ -22,12 +22,15 @@ mod basis;
 mod demand;
 mod direct;
 mod evaluation;
+mod formation;
 mod gathering;
+mod knowing;
 mod laws;
 mod locations;
 mod question;
 mod sharing;
 mod trials;
+mod trying;
 mod turning_laws;
 
 pub use answer::Answer;

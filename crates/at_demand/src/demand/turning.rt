@@ -12,18 +12,23 @@ ghost use Rattle.at_cache.specs.Kept.{Entries};
 ghost use Rattle.at_demand.specs.Answerable.{CanBeTried, CanGoOn, CanTurn, CanTurnWith};
 ghost use Rattle.at_demand.specs.Turns.{IsStanding, IsSparingTurns, under_way};
 ghost use Rattle.at_demand.specs.Answered.{HasTurned, HasTurnedOften, HasTurnedWith, TracesNothing};
-ghost use Rattle.at_demand.specs.Attempts.{HasAttempted, HasComeTo};
+ghost use Rattle.at_demand.specs.Attempts.{HasAttempted};
+ghost use Rattle.at_demand.specs.Searches.{CanSpoil, CanTryLast, HasSpoilt, HasTurnedOn};
+ghost use Rattle.at_demand.specs.Tries.{CanCarryOn, HasCarriedOn, IsGoing};
 ghost use Rattle.at_demand.specs.KeptTrials.{Fit};
 ghost use Rattle.at_demand.specs.Traces.{StaysTraced};
 
 use super::Demand;
+use super::searching::Resolved;
 use crate::answer::Answer;
 use crate::evaluation::{Find, Frame};
 use crate::question::Question;
 use crate::trials::{Attempt, Trials};
+use crate::trying::{Going, Tried, came_to_formula, came_to_value};
 use at_body::{Inst, Step};
 use at_cache::{Keeper, Put};
 use at_rules::Rules;
+use at_search::{Ending, Fault};
 use at_store::Store;
 use indexmap::IndexMap;
 use std::alloc::AllocError;
@@ -39,9 +44,9 @@ impl<K: Keeper> Demand<K> {
         Ok(Question::new(self.alloc, inst))
     }
 
-    /// One turn of a question that was posted on the tree as it is: its answer, or none, where its chain has one instance more
-    /// or its last instance was found. At most one equation is tried, once, and at most the value of the last instance comes to
-    /// what is kept. An error where memory is wanting; then the question is of no use any more.
+    /// One turn of a question that was posted on the tree as it is: its answer, or none, where its chain has one level more, or
+    /// the equation of its last instance has ended. At most one equation is tried, once, and at most the values of the last instance
+    /// and of those that searches under way have seen come to what is kept. An error where memory is wanting; then the question is of no use any more.
     pub fn turn(
         &mut self,
         rules: &Rules,
@@ -88,7 +93,8 @@ impl<K: Keeper> Demand<K> {
         Ok((given, None))
     }
 
-    // A turn, which goes on with the trial of the last instance where it is there, and leaves those of the others.
+    // A turn, which goes on with the trial of the last instance where it is there, and leaves those of the others; it is counted where it
+    // doesn't answer the question.
     fn turn_with<'a>(
         &mut self,
         rules: &'a Rules,
@@ -104,37 +110,106 @@ impl<K: Keeper> Demand<K> {
         if let Some(value) = self.keeper.get(question.asked()) {
             return Ok(Some(Answer::Value(value.copy()?)));
         }
+        let told = self.turn_on(rules, store, question, trials)?;
+        if told.is_none() {
+            question.count_turn();
+        }
+        Ok(told)
+    }
+
+    // The same, where what was asked isn't kept; it isn't counted yet. Where the last instance is kept by now, no equation is tried.
+    fn turn_on<'a>(
+        &mut self,
+        rules: &'a Rules,
+        store: &'a Store,
+        question: &mut Question,
+        trials: &mut Trials<'a>,
+    ) -> Result<Option<Answer>, AllocError>
+        requires { CanTurnWith rules.now store.now (K.contents self.old.keeper) question.old trials.old }
+        ensures { TracesNothing (HasTurnedOn rules.now store.now K.exact (K.contents self.old.keeper) (K.contents self.new.keeper)
+            self.old.work self.new.work question.old question.new trials.new result)
+            (K.memories self.old.keeper) (K.memories self.new.keeper) }
+    {
         if let Some(value) = self.keeper.get(&question.inst) {
+            let value = value.copy()?;
             trials.forget();
-            return question.pass(value.copy()?);
+            if question.level.is_none() {
+                return question.pass(value);
+            }
+            return self.go_along(rules, store, question, trials);
         }
-        let begun = self.trial_of(rules, store, question, trials)?;
-        let (mut frame, step) = begun;
-        match self.go_on(
-            rules,
-            store,
-            &question.found,
-            &question.inst,
-            &mut frame,
-            step,
-        )? {
-            Attempt::Kept(value) => {
-                trials.awaited = Some(question.inst.copy(self.alloc)?);
-                question.pass(value)
-            }
-            Attempt::Found(find) => {
-                trials.awaited = Some(question.inst.copy(self.alloc)?);
-                question.settle(find)
-            }
-            Attempt::Fails(kind) => {
-                let at = question.inst.copy(self.alloc)?;
-                Ok(Some(Answer::Fault { kind, at }))
-            }
-            Attempt::Needs(needed) => {
-                trials.push(frame)?;
-                question.deepen(needed)
+        self.try_last(rules, store, question, trials)
+    }
+
+    // Tries the equation of the last instance, which isn't kept, up to its end or to the demand of an instance that isn't known and has no
+    // fault yet.
+    fn try_last<'a>(
+        &mut self,
+        rules: &'a Rules,
+        store: &'a Store,
+        question: &mut Question,
+        trials: &mut Trials<'a>,
+    ) -> Result<Option<Answer>, AllocError>
+        requires { CanTryLast rules.now store.now (K.contents self.old.keeper) question.old trials.old }
+        ensures { TracesNothing (HasTurnedOn rules.now store.now K.exact (K.contents self.old.keeper) (K.contents self.new.keeper)
+            self.old.work self.new.work question.old question.new trials.new result)
+            (K.memories self.old.keeper) (K.memories self.new.keeper) }
+    {
+        let mut going = self.trial_of(rules, store, question, trials)?;
+        loop {
+            match self.carry_on(rules, store, &question.found, &question.inst, going)? {
+                Tried::Kept(value) => {
+                    trials.awaited = Some(question.inst.copy(self.alloc)?);
+                    return question.pass(value);
+                }
+                Tried::Found(find) => {
+                    trials.awaited = Some(question.inst.copy(self.alloc)?);
+                    return question.settle(find);
+                }
+                Tried::Forms(formed) => {
+                    question.end(self.alloc, Ending::Formed(formed))?;
+                    return self.go_along(rules, store, question, trials);
+                }
+                Tried::Fails(kind) => {
+                    let at = question.inst.copy(self.alloc)?;
+                    return self.spoil(rules, store, question, trials, Fault { kind, at });
+                }
+                Tried::Waits(trying, needed) => {
+                    match self.resolve(rules, store, question, &needed)? {
+                        Resolved::Known => going = trying.going(needed),
+                        Resolved::Spoilt(fault) => {
+                            return self.spoil(rules, store, question, trials, fault);
+                        }
+                        Resolved::Back => return self.close(rules, store, question, needed),
+                        Resolved::Open => {
+                            trials.push(trying)?;
+                            question.deepen(needed)?;
+                            return Ok(None);
+                        }
+                    }
+                }
             }
         }
+    }
+
+    // The equation of the last instance has that fault: where no search is under way that is the answer, else the search goes on.
+    fn spoil<'a>(
+        &mut self,
+        rules: &Rules,
+        store: &Store,
+        question: &mut Question,
+        trials: &mut Trials<'a>,
+        fault: Fault,
+    ) -> Result<Option<Answer>, AllocError>
+        requires { CanSpoil rules.now store.now (K.contents self.old.keeper) question.old trials.old fault }
+        ensures { HasSpoilt rules.now store.now K.exact (K.contents self.old.keeper) (K.contents self.new.keeper) (K.memories self.old.keeper)
+            (K.memories self.new.keeper) self.old.work self.new.work question.old question.new trials.new fault result }
+    {
+        if question.is_plain() {
+            return Ok(Some(Answer::of_fault(fault)));
+        }
+        question.end(self.alloc, Ending::Spoilt(fault))?;
+        self.go_along(rules, store, question, trials)
     }
 
     // The trial of the last instance, begun anew where it isn't there.
@@ -144,18 +219,50 @@ impl<K: Keeper> Demand<K> {
         store: &'a Store,
         question: &Question,
         trials: &mut Trials<'a>,
-    ) -> Result<(Frame<'a>, Step), AllocError>
+    ) -> Result<Going<'a>, AllocError>
         requires { CanBeTried rules.now store.now (K.contents self.now.keeper) question.now trials.old }
-        ensures standing { IfOk result (λ r. HasComeTo rules.now (class_shown store.now) (contents store.now) (K.contents self.now.keeper)
-            question.now.found.entries question.now.inst r.0 r.1) }
+        ensures standing { IfOk result (IsGoing rules.now (class_shown store.now) (contents store.now) (K.contents self.now.keeper)
+            question.now.found.entries question.now.inst) }
         ensures none { trials.new.awaited ≡ None }
         ensures fit { Fit rules.now store.now (K.contents self.now.keeper) question.now trials.new }
     {
         match trials.last() {
-            Some((frame, needed)) => Ok((frame, Step::Need(needed))),
-            None => {
-                let begun = Frame::start(self.alloc, rules, store, &question.inst)?;
-                Ok(begun)
+            Some((trying, needed)) => Ok(trying.going(needed)),
+            None => Going::start(self.alloc, rules, store, &question.inst),
+        }
+    }
+
+    // Goes on with the trial of an instance that isn't kept, up to its end or to an instance that isn't known.
+    fn carry_on<'a>(
+        &mut self,
+        rules: &'a Rules,
+        store: &'a Store,
+        found: &IndexMap<Inst, Find>,
+        inst: &Inst,
+        going: Going<'a>,
+    ) -> Result<Tried<'a>, AllocError>
+        requires { CanCarryOn rules.now store.now (K.contents self.old.keeper) found.now.entries inst.now going.entry }
+        ensures tried { HasCarriedOn rules.now store.now K.exact (K.contents self.old.keeper) (K.contents self.new.keeper) self.old.work self.new.work
+            found.now.entries inst.now result }
+        ensures traces { StaysTraced K.memories self.old.keeper self.new.keeper }
+    {
+        match going {
+            Going::Value(frame, step) => {
+                let mut frame = frame;
+                let attempt = self.go_on(rules, store, found, inst, &mut frame, step)?;
+                Ok(came_to_value(attempt, frame))
+            }
+            Going::Formula(formation, progress) => {
+                let mut formation = formation;
+                let progress = formation.go_on(
+                    self.alloc,
+                    &self.keeper,
+                    found,
+                    rules,
+                    store,
+                    progress,
+                )?;
+                Ok(came_to_formula(self.alloc, progress, formation))
             }
         }
     }

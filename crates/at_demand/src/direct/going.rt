@@ -1,7 +1,7 @@
 //! The recursion of an evaluation in one go: over the parts of expressions, and through the instances that they demand.
 
 ghost use Rattle.std.specs.Prelude.{◌≡◌, ◌≤◌, IfOk, IfSome, OnOk, IsTrue, drop, false, length, map, take, true};
-ghost use Rattle.at_model.specs.Meaning.{HasValue};
+ghost use Rattle.at_model.specs.of_fixpoints.Fixpoints.{HasValue};
 ghost use Rattle.at_store.specs.Shown.{contents};
 ghost use Rattle.at_rules.specs.Bodies.{bodies_view, body_view};
 ghost use Rattle.at_body.specs.Comparing.{IsComparison};
@@ -110,6 +110,9 @@ impl Direct {
         }
         if !basis.rules.is_lazy(needed.attribute()) {
             return self.inner(keeper, basis, level, needed, above);
+        }
+        if basis.rules.start_of(needed.attribute()).is_some() {
+            return Err(Stop::GivesUp);
         }
         let verified = self.verify(keeper, basis, level, &needed, above)?;
         match verified {

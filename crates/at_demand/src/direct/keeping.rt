@@ -2,7 +2,7 @@
 
 ghost use Rattle.std.specs.Prelude.{◌≡◌, IfOk, IfSome, OnErr, OnOk, IsTrue, None, Some, false, true};
 ghost use Rattle.std.specs.Option.{option_map};
-ghost use Rattle.at_model.specs.Meaning.{Leads};
+ghost use Rattle.at_model.specs.of_fixpoints.Resting.{Leads};
 ghost use Rattle.at_model.specs.Rules.{is_lazy};
 ghost use Rattle.at_store.specs.Shown.{contents};
 ghost use Rattle.at_body.specs.Values.{value_view};
@@ -48,7 +48,8 @@ impl Direct {
         let Some(other) = keeper.blocker(needed) else {
             return Ok(None);
         };
-        if !basis.rules.is_lazy(other.attribute()) {
+        let attribute = other.attribute();
+        if !basis.rules.is_lazy(attribute) || basis.rules.start_of(attribute).is_some() {
             return Ok(None);
         }
         Ok(Some(other.copy(self.alloc)?))

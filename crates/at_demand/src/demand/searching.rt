@@ -1,0 +1,209 @@
+//! The search of a level: which equation is tried next, what comes back, and what has an outcome.
+
+ghost use Rattle.at_demand.specs.Searches.{CanClose, CanGoAlong, CanResolve, CanSearch, HasClosed, HasGoneAlong, HasLookedAt, HasResolved};
+ghost use Rattle.at_demand.specs.Searches.{HasRisenTo, HasSearched, HasSolvedLevel};
+
+use super::Demand;
+use crate::answer::Answer;
+use crate::question::Question;
+use crate::trials::Trials;
+use at_body::Inst;
+use at_cache::Keeper;
+use at_rules::Rules;
+use at_search::{Ending, Fault};
+use at_store::Store;
+use std::alloc::AllocError;
+
+// What is to be done with an instance that a search looks at: nothing, since it is known or was seen; its equation has ended, and what it
+// leads to is looked at; its equation is to be tried; or it is under way at a lower level.
+#[derive(Drop)]
+pub enum Look {
+    Passed,
+    Ended,
+    Untried,
+    Back,
+}
+
+// Where a search comes to: one whose equation is to be tried; one that is under way at a lower level; or its end.
+#[derive(Drop)]
+pub enum Searched {
+    Next,
+    Back(Inst),
+    Over,
+}
+
+// What is known of an instance that isn't kept or found: a value, since now; a fault; it is under way; or nothing.
+#[derive(Drop)]
+pub enum Resolved {
+    Known,
+    Spoilt(Fault),
+    Back,
+    Open,
+}
+
+impl<K: Keeper> Demand<K> {
+    // Goes on once the equation of the last instance has ended: to the next one of its level, or to the level's end. There all that was
+    // seen and has a value is known. A fault is then that of the equation that waits, and so on.
+    pub(super) fn go_along<'a>(
+        &mut self,
+        rules: &Rules,
+        store: &Store,
+        question: &mut Question,
+        trials: &mut Trials<'a>,
+    ) -> Result<Option<Answer>, AllocError>
+        requires { CanGoAlong rules.now store.now (K.contents self.old.keeper) question.old trials.old }
+        ensures { HasGoneAlong rules.now store.now K.exact (K.contents self.old.keeper) (K.contents self.new.keeper) (K.memories self.old.keeper)
+            (K.memories self.new.keeper) self.old.work self.new.work question.old question.new trials.new result }
+    {
+        loop {
+            match self.search(rules, store, question)? {
+                Searched::Next => return Ok(None),
+                Searched::Back(at) => return self.close(rules, store, question, at),
+                Searched::Over => {}
+            }
+            self.solve_level(rules, store, question)?;
+            let Some(fault) = question.take_fault() else {
+                return self.rise(question, trials);
+            };
+            if question.rise().is_none() {
+                return Ok(Some(Answer::of_fault(fault)));
+            }
+            trials.drop_last();
+            question.end(self.alloc, Ending::Spoilt(fault))?;
+        }
+    }
+
+    // The root of the last level is known: the one that waits for it is the last, and goes on; where none waits, that was the question.
+    fn rise<'a>(
+        &mut self,
+        question: &mut Question,
+        trials: &mut Trials<'a>,
+    ) -> Result<Option<Answer>, AllocError>
+        ensures { HasRisenTo (K.contents self.old.keeper) (K.contents self.new.keeper) (K.memories self.old.keeper) (K.memories self.new.keeper)
+            self.old.work self.new.work question.old question.new trials.old trials.new result }
+    {
+        let root = question.root().copy(self.alloc)?;
+        if question.rise().is_some() {
+            trials.awaited = Some(root);
+            return Ok(None);
+        }
+        let value = self.known_value(question, &root)?;
+        Ok(Some(Answer::Value(value.ok_or(AllocError)?)))
+    }
+
+    // The question is answered by a circle: what was seen and has a value is known from now on.
+    pub(super) fn close(
+        &mut self,
+        rules: &Rules,
+        store: &Store,
+        question: &mut Question,
+        at: Inst,
+    ) -> Result<Option<Answer>, AllocError>
+        requires { CanClose rules.now store.now (K.contents self.old.keeper) question.old at }
+        ensures { HasClosed rules.now store.now K.exact (K.contents self.old.keeper) (K.contents self.new.keeper) (K.memories self.old.keeper)
+            (K.memories self.new.keeper) self.old.work self.new.work question.old question.new at result }
+    {
+        loop {
+            self.solve_level(rules, store, question)?;
+            if question.rise().is_none() {
+                return Ok(Some(Answer::Circular { at }));
+            }
+        }
+    }
+
+    // Looks at those to do, up to one whose equation is to be tried: that is the last one.
+    fn search(
+        &mut self,
+        rules: &Rules,
+        store: &Store,
+        question: &mut Question,
+    ) -> Result<Searched, AllocError>
+        requires { CanSearch rules.now store.now (K.contents self.old.keeper) question.old }
+        ensures { HasSearched rules.now store.now K.exact (K.contents self.old.keeper) (K.contents self.new.keeper) (K.memories self.old.keeper)
+            (K.memories self.new.keeper) self.old.work self.new.work question.old question.new result }
+    {
+        while let Some(inst) = question.next() {
+            match self.look_at(rules, store, question, &inst)? {
+                Look::Passed => {}
+                Look::Ended => question.go_over(self.alloc, inst)?,
+                Look::Back => return Ok(Searched::Back(inst)),
+                Look::Untried => {
+                    question.inst = inst;
+                    return Ok(Searched::Next);
+                }
+            }
+        }
+        Ok(Searched::Over)
+    }
+
+    // What is to be done with an instance that the search of the last level looks at.
+    fn look_at(
+        &mut self,
+        rules: &Rules,
+        store: &Store,
+        question: &mut Question,
+        inst: &Inst,
+    ) -> Result<Look, AllocError>
+        requires { CanResolve rules.now store.now (K.contents self.old.keeper) question.old }
+        ensures { HasLookedAt rules.now store.now K.exact (K.contents self.old.keeper) (K.contents self.new.keeper) (K.memories self.old.keeper)
+            (K.memories self.new.keeper) self.old.work self.new.work question.old question.new inst.now result }
+    {
+        if question.has_seen(inst) || self.is_known(question, inst) {
+            return Ok(Look::Passed);
+        }
+        match self.resolve(rules, store, question, inst)? {
+            Resolved::Known => Ok(Look::Passed),
+            Resolved::Spoilt(_) => Ok(Look::Ended),
+            Resolved::Back => Ok(Look::Back),
+            Resolved::Open => Ok(Look::Untried),
+        }
+    }
+
+    // What is known of an instance that isn't kept or found, and wasn't seen by the search that asks. Where all to which formulas lead from
+    // it has ended it has an outcome, and else it is under way: it leads to the last one of its level.
+    pub(super) fn resolve(
+        &mut self,
+        rules: &Rules,
+        store: &Store,
+        question: &mut Question,
+        inst: &Inst,
+    ) -> Result<Resolved, AllocError>
+        requires { CanResolve rules.now store.now (K.contents self.old.keeper) question.old }
+        ensures { HasResolved rules.now store.now K.exact (K.contents self.old.keeper) (K.contents self.new.keeper) (K.memories self.old.keeper)
+            (K.memories self.new.keeper) self.old.work self.new.work question.old question.new inst.now result }
+    {
+        if question.is_tried(inst) {
+            return Ok(Resolved::Back);
+        }
+        let is_whole = match question.ended.get(inst) {
+            Some(ended) => ended.is_whole,
+            None => return Ok(Resolved::Open),
+        };
+        if !is_whole {
+            let Some(seen) = self.closure_of(question, inst)? else {
+                return Ok(Resolved::Back);
+            };
+            self.solve_and_mark(rules, store, question, &seen)?;
+            if self.is_known(question, inst) {
+                return Ok(Resolved::Known);
+            }
+        }
+        let fault = self.first_fault_of(question, inst)?;
+        Ok(Resolved::Spoilt(fault.ok_or(AllocError)?))
+    }
+
+    // What the last level has seen has an outcome: what has a value is known from now on.
+    fn solve_level(
+        &mut self,
+        rules: &Rules,
+        store: &Store,
+        question: &mut Question,
+    ) -> Result<(), AllocError>
+        requires { CanResolve rules.now store.now (K.contents self.old.keeper) question.old }
+        ensures { HasSolvedLevel rules.now store.now K.exact (K.contents self.old.keeper) (K.contents self.new.keeper) (K.memories self.old.keeper)
+            (K.memories self.new.keeper) self.old.work self.new.work question.old question.new result }
+    {
+        let seen = question.take_seen(self.alloc);
+        self.solve_and_mark(rules, store, question, &seen)
+    }
+}

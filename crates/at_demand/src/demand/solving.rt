@@ -1,0 +1,251 @@
+//! What is kept and found of instances that are solved together.
+
+ghost use Rattle.std.specs.Prelude.{◌≡◌, OnOk};
+ghost use Rattle.std.specs.Map.{keys_of};
+ghost use Rattle.at_demand.specs.Groups.{AddsAtoms, AddsUse, AddsUses, CanBeFirst, CanBeOther, CanKeepGroup, CanSolve, IsFindOf, IsFormedAt, IsOtherFind};
+ghost use Rattle.at_demand.specs.Groups.{HasKeptFirst, HasKeptGroup, HasKeptOther, HasMarkedSolved, HasSolved, start_in};
+
+use super::Demand;
+use crate::evaluation::{Demanded, Find};
+use crate::locations::Locations;
+use crate::question::Question;
+use at_body::{Inst, Piece, Value};
+use at_cache::{Keeper, Put};
+use at_rules::Rules;
+use at_search::{Formed, Solved, formed_of, put, solve};
+use at_store::Store;
+use indexmap::IndexMap;
+use std::alloc::AllocError;
+
+impl<K: Keeper> Demand<K> {
+    // Each of these from which formulas lead to formulas alone is known from now on; all are whole.
+    pub(super) fn solve_and_mark(
+        &mut self,
+        rules: &Rules,
+        store: &Store,
+        question: &mut Question,
+        seen: &IndexMap<Inst, ()>,
+    ) -> Result<(), AllocError>
+        requires { CanSolve rules.now store.now (K.contents self.old.keeper) question.old (keys_of seen.now.entries) }
+        ensures { HasMarkedSolved rules.now store.now K.exact (K.contents self.old.keeper) (K.contents self.new.keeper) (K.memories self.old.keeper)
+            (K.memories self.new.keeper) self.old.work self.new.work question.old question.new (keys_of seen.now.entries) result }
+    {
+        self.solve(rules, store, question, seen)?;
+        question.mark_whole(seen);
+        Ok(())
+    }
+
+    // Each of these from which formulas lead to formulas alone is known from now on.
+    fn solve(
+        &mut self,
+        rules: &Rules,
+        store: &Store,
+        question: &mut Question,
+        seen: &IndexMap<Inst, ()>,
+    ) -> Result<(), AllocError>
+        requires { CanSolve rules.now store.now (K.contents self.old.keeper) question.old (keys_of seen.now.entries) }
+        ensures { HasSolved rules.now store.now K.exact (K.contents self.old.keeper) (K.contents self.new.keeper) (K.memories self.old.keeper)
+            (K.memories self.new.keeper) self.old.work self.new.work question.old question.new (keys_of seen.now.entries) result }
+    {
+        let insts = seen.keys().as_slice();
+        let Some(start) = start_of(rules, insts) else {
+            return Ok(());
+        };
+        let groups = solve(
+            self.alloc,
+            start,
+            &question.ended,
+            &self.knowing(question),
+            seen,
+        )?;
+        for group in &groups {
+            self.keep_group(rules, store, question, insts, group.as_slice())?;
+        }
+        Ok(())
+    }
+
+    // The members of a group have these values: the first one stands for all of them, and the others rest on it.
+    fn keep_group(
+        &mut self,
+        rules: &Rules,
+        store: &Store,
+        question: &mut Question,
+        insts: &[Inst],
+        group: &[Solved],
+    ) -> Result<(), AllocError>
+        requires { CanKeepGroup rules.now store.now (K.contents self.old.keeper) question.old insts.now group.now }
+        ensures { HasKeptGroup rules.now store.now K.exact (K.contents self.old.keeper) (K.contents self.new.keeper) (K.memories self.old.keeper)
+            (K.memories self.new.keeper) self.old.work self.new.work question.old question.new insts.now group.now result }
+    {
+        let Some(first) = group.first() else {
+            return Ok(());
+        };
+        let Some(inst) = insts.get(first.position) else {
+            return Ok(());
+        };
+        let find = self.find_of(question, insts, group, first.value)?;
+        let place = self.keep_first(rules, question, inst, find)?;
+        for member in group.split_at(1).1 {
+            self.keep_other(rules, question, insts, inst, place, *member)?;
+        }
+        Ok(())
+    }
+
+    // What the first member of a group is found to be: its value, with all that the equations of the members read and used outside.
+    fn find_of(
+        &self,
+        question: &Question,
+        insts: &[Inst],
+        group: &[Solved],
+        value: bool,
+    ) -> Result<Find, AllocError>
+        ensures { OnOk result (IsFindOf (K.contents self.now.keeper) question.now insts.now group.now value) }
+    {
+        let mut find = Find {
+            value: Value::Bool(value),
+            reads: Locations::new(self.alloc),
+            demanded: Demanded::new(self.alloc),
+        };
+        for member in group {
+            if let Some(formed) = formed_at(question, insts, member.position) {
+                self.add(question, formed, &mut find)?;
+            }
+        }
+        Ok(find)
+    }
+
+    // Adds what the equation read, and what it used: those in its formula that are known, too.
+    fn add(
+        &self,
+        question: &Question,
+        formed: &Formed,
+        find: &mut Find,
+    ) -> Result<(), AllocError>
+        ensures { OnOk result (AddsUses (K.contents self.now.keeper) question.now formed.now find.old find.new) }
+    {
+        for loc in &formed.reads {
+            find.reads.push(*loc)?;
+        }
+        find.demanded.add(self.alloc, &formed.kept, &formed.finds)?;
+        self.add_atoms(question, formed.formula.pieces(), &mut find.demanded)
+    }
+
+    // Adds the instances of the formula that are known.
+    fn add_atoms(
+        &self,
+        question: &Question,
+        pieces: &[Piece],
+        demanded: &mut Demanded,
+    ) -> Result<(), AllocError>
+        ensures { OnOk result (AddsAtoms (K.contents self.now.keeper) question.now pieces.now demanded.old demanded.new) }
+    {
+        for piece in pieces {
+            if let Piece::Asks(inst) = piece {
+                self.add_use(question, inst, demanded)?;
+            }
+        }
+        Ok(())
+    }
+
+    // Adds the use of an instance, where it is known.
+    fn add_use(
+        &self,
+        question: &Question,
+        inst: &Inst,
+        demanded: &mut Demanded,
+    ) -> Result<(), AllocError>
+        ensures { OnOk result (AddsUse (K.contents self.now.keeper) question.now inst.now demanded.old demanded.new) }
+    {
+        if self.keeper.get(inst).is_some() {
+            demanded.kept.push(inst.copy(self.alloc)?)?;
+            return Ok(());
+        }
+        if let Some((position, _inst, _find)) = question.found.get_full(inst) {
+            demanded.finds.push(position)?;
+        }
+        Ok(())
+    }
+
+    // The first member of a group is kept, or found: its position among the finds.
+    fn keep_first(
+        &mut self,
+        rules: &Rules,
+        question: &mut Question,
+        inst: &Inst,
+        find: Find,
+    ) -> Result<Option<usize>, AllocError>
+        requires { CanBeFirst rules.now (K.contents self.old.keeper) question.old inst.now find }
+        ensures { HasKeptFirst rules.now K.exact (K.contents self.old.keeper) (K.contents self.new.keeper) (K.memories self.old.keeper)
+            (K.memories self.new.keeper) self.old.work self.new.work question.old question.new inst.now find result }
+    {
+        match self.keep(rules, &question.found, inst, &find)? {
+            Put::Kept => Ok(None),
+            Put::Left => {
+                let place = question.found.len();
+                put(&mut question.found, inst.copy(self.alloc)?, find)?;
+                Ok(Some(place))
+            }
+        }
+    }
+
+    // Another member is kept, or found: it rests on what the first one does.
+    fn keep_other(
+        &mut self,
+        rules: &Rules,
+        question: &mut Question,
+        insts: &[Inst],
+        first: &Inst,
+        place: Option<usize>,
+        member: Solved,
+    ) -> Result<(), AllocError>
+        requires { CanBeOther rules.now (K.contents self.old.keeper) question.old insts.now first.now place member }
+        ensures { HasKeptOther rules.now K.exact (K.contents self.old.keeper) (K.contents self.new.keeper) (K.memories self.old.keeper)
+            (K.memories self.new.keeper) self.old.work self.new.work question.old question.new insts.now first.now place member result }
+    {
+        let Some(inst) = insts.get(member.position) else {
+            return Ok(());
+        };
+        let find = self.other_find(first, place, member.value)?;
+        if self.keep(rules, &question.found, inst, &find)? == Put::Kept {
+            return Ok(());
+        }
+        put(&mut question.found, inst.copy(self.alloc)?, find)
+    }
+
+    // What another member is found to be: its value, with the use of the first one.
+    fn other_find(
+        &self,
+        first: &Inst,
+        place: Option<usize>,
+        value: bool,
+    ) -> Result<Find, AllocError>
+        ensures { OnOk result (IsOtherFind first.now place value) }
+    {
+        let mut demanded = Demanded::new(self.alloc);
+        match place {
+            None => demanded.kept.push(first.copy(self.alloc)?)?,
+            Some(position) => demanded.finds.push(position)?,
+        }
+        Ok(Find {
+            value: Value::Bool(value),
+            reads: Locations::new(self.alloc),
+            demanded,
+        })
+    }
+}
+
+// The value from which all of these start, where they are circular.
+fn start_of(rules: &Rules, insts: &[Inst]) -> Option<bool>
+    ensures { result ≡ start_in rules.now insts.now }
+{
+    let inst = insts.first()?;
+    rules.start_of(inst.attribute())
+}
+
+// What the equation of the instance at the position came to, where that is a formula.
+fn formed_at<'q>(question: &'q Question, insts: &[Inst], position: usize) -> Option<&'q Formed>
+    ensures { IsFormedAt question.now.ended.entries insts.now position result }
+{
+    let inst = insts.get(position)?;
+    formed_of(&question.ended, inst)
+}
