@@ -1,9 +1,9 @@
 -- When questions are answered: what their evaluations stand on is sound, and what is kept is right.
-use Rattle.std.specs.Prelude.{◌≡◌, ℕ, None, false, true, List}
+use Rattle.std.specs.Prelude.{◌≡◌, ℕ, None, false, true, List, IsSome}
 use Rattle.at_model.specs.Run.{Instance}
-use Rattle.at_model.specs.Rules.{Rules, is_lazy}
+use Rattle.at_model.specs.Rules.{Rules, is_lazy, start_of}
 use Rattle.at_model.specs.Instances.{AnyText}
-use Rattle.at_demand.specs.Meant.{AreRightValues}
+use Rattle.at_demand.specs.Meant.{AreCircularWell, AreRightValues}
 use Rattle.at_model.specs.TypedRuns.{IsWellTyped}
 use Rattle.at_model.specs.WellFormed.{AreWellFormed, IsTreeSound}
 use Rattle.at_store.specs.Shown.{IsIdle, Shown, contents, tree}
@@ -22,16 +22,22 @@ use Rattle.at_demand.specs.KeptTrials.{Fit}
 use Rattle.at_demand.specs.Traces.{AreJustified}
 use Rattle.at_demand.specs.Turns.{IsStanding}
 
--- evaluations stand on these: no edit waits, the rules are well formed, and the tree is sound
+-- evaluations stand on these: no edit waits, the rules are well formed, circular attributes are lazy and boolean, and the tree is sound
 pub record IsBasis (rules : Rules) (s : Shown) : Type 0 where
   pub idle : IsIdle s
   pub formed : AreWellFormed rules
   pub sound : IsTreeSound rules.classes (tree s)
+  pub circular : AreCircularWell rules
 
 -- and so does that of an instance, which is well typed
 pub record CanBegin (rules : Rules) (s : Shown) (i : Instance ℕ) : Type 0 where
   pub basis : IsBasis rules s
   pub typed : IsWellTyped rules (class_shown s) AnyText i
+
+-- and its attribute is circular
+pub record CanBeFormed (rules : Rules) (s : Shown) (i : Instance ℕ) : Type 0 where
+  pub can : CanBegin rules s i
+  pub circular : IsSome (start_of rules i.attribute)
 
 -- questions are answered over them, where what is kept is right, and just what isn't lazy may stand without a value
 pub record IsAnswerable (rules : Rules) (s : Shown) (entries : Entries) : Type 0 where
@@ -77,6 +83,7 @@ pub record CanGoOn (rules : Rules) (s : Shown) (entries : Entries) (found : List
     : Type 0 where
   pub answerable : IsAnswerable rules s entries
   pub standing : HasComeTo rules (class_shown s) (contents s) entries found i f t
+  pub own : start_of rules i.attribute ≡ None
   pub finds : AreFinds rules s entries found
   pub unkept : kept_values entries i ≡ None
 

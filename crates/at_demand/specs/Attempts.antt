@@ -2,7 +2,7 @@
 use Rattle.std.specs.Prelude.{◌≡◌, ℕ, Bool, List, [], ◌∷◌, ◌++◌, Some, None, IsTrue, IfOk, Result}
 use Rattle.std.specs.Map.{lookup}
 use Rattle.at_model.specs.Run.{Instance, Contents}
-use Rattle.at_model.specs.Rules.{Rules}
+use Rattle.at_model.specs.Rules.{Rules, start_of}
 use Rattle.at_model.specs.Instances.{AnyText}
 use Rattle.at_model.specs.Meaning.{Faults}
 use Rattle.at_model.specs.of_fixpoints.Fixpoints.{HasValue, Holds}
@@ -13,15 +13,21 @@ use Rattle.at_body.specs.Same.{same_instance}
 use Rattle.at_store.specs.Shown.{Shown, contents}
 use Rattle.at_body.specs.Typed.{IsTypedStep, class_shown}
 use Rattle.at_body.specs.Values.{value_view, fault_view}
+use Rattle.at_body.specs.TypedForms.{IsTypedProgress}
+use Rattle.at_body.specs.declared.forming.Progress.{Progress}
 use Rattle.at_body.specs.declared.trial.Step.{Step}
 use Rattle.at_body.specs.declared.trial.Step.TheVariants as step
 use Rattle.at_cache.specs.Kept.{Entries}
 use Rattle.at_demand.specs.declared.evaluation.Find.{Find}
 use Rattle.at_demand.specs.declared.evaluation.Frame.{Frame}
+use Rattle.at_demand.specs.declared.formation.Formation.{Formation}
+use Rattle.at_demand.specs.declared.trying.Going.{Going}
+use Rattle.at_demand.specs.declared.trying.Going.TheVariants as going
 use Rattle.at_demand.specs.declared.trials.Attempt.{Attempt}
 use Rattle.at_demand.specs.declared.trials.Attempt.TheVariants as attempt
 use Rattle.at_demand.specs.Known.{kept_values, meaning, ArePlain, AreValued}
 use Rattle.at_demand.specs.UnderWay.{HasStepped}
+use Rattle.at_demand.specs.Forming.{HasPassedToForm}
 use Rattle.at_demand.specs.Covering.{HasPassedTo, IsWhole}
 use Rattle.at_demand.specs.Only.{AreLean, IsLean, TakesOnly}
 use Rattle.at_demand.specs.Right.{AreRight, AreThere, IsThere}
@@ -36,6 +42,20 @@ pub record HasComeTo (rules : Rules) (at : ClassAt ℕ) (look : Contents ℕ) (e
   pub takes : TakesOnly rules look found i f.demanded
   pub typed : IsTypedStep rules at s f.trial
   pub kept : AreValued entries f.demanded.kept.items
+
+-- The evaluation of a circular attribute has come so far, past values that hold; what it looked at and took is what it sees and comes to,
+-- all is of its kinds, and what it took of what is kept is kept.
+pub record HasFormedTo (rules : Rules) (at : ClassAt ℕ) (look : Contents ℕ) (entries : Entries) (found : List (Instance ℕ × Find)) (i : Instance ℕ)
+    (f : Formation) (p : Progress) : Type 0 where
+  pub passed : HasPassedToForm rules look found i f p
+  pub takes : TakesOnly rules look found i f.demanded
+  pub typed : IsTypedProgress rules at look p f.forming
+  pub kept : AreValued entries f.demanded.kept.items
+
+-- so has a try, for a value where the attribute isn't circular
+abbrev pub IsGoing : Rules → ClassAt ℕ → Contents ℕ → Entries → List (Instance ℕ × Find) → Instance ℕ → Going → Type 0
+IsGoing rules at look entries found i (going.Value f s) = (start_of rules i.attribute ≡ None) × HasComeTo rules at look entries found i f s
+IsGoing rules at look entries found i (going.Formula b p) = HasFormedTo rules at look entries found i b.value p
 
 -- where it needs another instance, its trial waits for that, and where it fails it has come to that
 abbrev pub Awaits : Rules → ClassAt ℕ → Contents ℕ → Entries → List (Instance ℕ × Find) → Instance ℕ → Frame → Attempt → Type 0

@@ -2,7 +2,7 @@
 use Rattle.std.specs.Prelude.{◌≡◌, ℕ, Bool, List, ◌++◌, [], Option, None, Some, false, IsSome, IsTrue, IfOk, OnOk, Result}
 use Rattle.at_model.specs.Run.{Value, Instance, Location, Contents, Known, Run, Gives, Demands}
 use Rattle.at_model.specs.Classes.{Classes}
-use Rattle.at_model.specs.Rules.{Rules, is_inherited, is_lazy}
+use Rattle.at_model.specs.Rules.{Rules, is_inherited, is_lazy, start_of}
 use Rattle.at_model.specs.Meaning.{Reaches}
 use Rattle.at_model.specs.of_fixpoints.Fixpoints.{HasValue}
 use Rattle.at_model.specs.Nested.{Evaluates}
@@ -20,6 +20,7 @@ use Rattle.at_demand.specs.declared.direct.Direct.{Direct}
 use Rattle.at_demand.specs.declared.direct.Level.{Level}
 use Rattle.at_demand.specs.Known.{equations, meaning, kept_values, IsKept, KeepsEntries}
 use Rattle.at_demand.specs.Inner.{AreKnown, Gains, HasRecalled, HasTold, IsEvaluated, StayRemembered, is_inner, known_by}
+use Rattle.at_demand.specs.Meant.{AreCircularWell}
 use Rattle.at_demand.specs.Right.{AreRight, IsThere}
 use Rattle.at_demand.specs.Sparing.{AreSpare, Counts, IsWorthKeeping}
 use Rattle.at_demand.specs.Traces.{AreJustified, AreOfTree, StayJustified}
@@ -44,6 +45,7 @@ values_in h = known_by h.entries h.found
 
 -- All of that is right.
 pub record IsHeld (rules : Rules) (look : Contents ℕ) (h : Held) : Type 0 where
+  pub circular : AreCircularWell rules
   pub known : AreKnown rules look h.entries h.found
   pub justified : AreJustified rules look h.memories
 
@@ -106,9 +108,10 @@ pub record HasGrown (rules : Rules) (s : Shown) (exact : Bool) (i : Instance ℕ
   pub gains : Gains rules s exact i old.entries new.entries old.found new.found old.work new.work
   pub traces : StayJustified rules s i old.memories new.memories
 
--- all is right, for an instance whose attribute is lazy, or isn't
+-- all is right, for an instance whose attribute is lazy, or isn't, and isn't circular
 pub record IsHeldFor (rules : Rules) (look : Contents ℕ) (h : Held) (lazily : Bool) (i : Instance ℕ) : Type 0 where
   pub lazy : is_lazy rules i.attribute ≡ lazily
+  pub own : start_of rules i.attribute ≡ None
   pub held : IsHeld rules look h
 
 -- and its evaluation has come to v, with what stands with the level

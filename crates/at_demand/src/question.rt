@@ -1,8 +1,10 @@
 //! Questions that are given turns. Between turns a question holds nothing of rules or tree.
 
 ghost use Rattle.std.specs.Prelude.{◌≡◌, ◌+◌, ◌-◌, ◌^◌, ◌++◌, ◌∷◌, [], min, reverse, IfNone, IfOk, IfSome, MatchBool, None};
-ghost use Rattle.std.specs.Map.{keys_of};
+ghost use Rattle.std.specs.Map.{keys_of, lookup};
+ghost use Rattle.std.specs.Option.{option_map};
 ghost use Rattle.at_model.specs.Meaning.{Among};
+ghost use Rattle.at_body.specs.Same.{same_instance};
 ghost use Rattle.at_demand.specs.Levels.{IsDoneIn, asked_by, fault_in, root_in, seen_in};
 ghost use Rattle.at_demand.specs.ChainSteps.{HasEnded, HasGoneOver, HasLostFault, HasLostSeen, HasMarked, HasMarkedAll, HasNext, HasSeen};
 ghost use Rattle.at_demand.specs.ChainSteps.{HasPassedOn, HasRisen, HasSettled, IsDeeper, IsSearched};
@@ -164,6 +166,20 @@ impl Question {
         ensures { MatchBool result (self.now.ended.entries ≡ []) (self.now.ended.entries ≡ [] → ⊥) }
     {
         self.ended.is_empty()
+    }
+
+    // Whether the instance is marked whole, where its equation has ended by no value.
+    pub(crate) fn is_whole(&self, inst: &Inst) -> Option<bool>
+        ensures { result ≡ option_map (λ x. x.is_whole) (lookup (same_instance inst.now) self.now.ended.entries) }
+    {
+        // The map makes the hash of what is looked up in it, empty as it may be.
+        if self.is_plain() {
+            return None;
+        }
+        match self.ended.get(inst) {
+            Some(ended) => Some(ended.is_whole),
+            None => None,
+        }
     }
 
     // The equation of the last instance ended so: that is recorded, the instance is seen, and those of its formula are to be looked at next.

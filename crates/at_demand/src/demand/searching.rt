@@ -91,7 +91,7 @@ impl<K: Keeper> Demand<K> {
         Ok(Some(Answer::Value(value.ok_or(AllocError)?)))
     }
 
-    // The question is answered by a circle: what was seen and has a value is known from now on.
+    // The question is answered by a circle: what was seen and has a value is known from now on. Where no search is under way nothing was.
     pub(super) fn close(
         &mut self,
         rules: &Rules,
@@ -103,6 +103,9 @@ impl<K: Keeper> Demand<K> {
         ensures { HasClosed rules.now store.now K.exact (K.contents self.old.keeper) (K.contents self.new.keeper) (K.memories self.old.keeper)
             (K.memories self.new.keeper) self.old.work self.new.work question.old question.new at result }
     {
+        if question.is_plain() {
+            return Ok(Some(Answer::Circular { at }));
+        }
         loop {
             self.solve_level(rules, store, question)?;
             if question.rise().is_none() {
@@ -175,9 +178,8 @@ impl<K: Keeper> Demand<K> {
         if question.is_tried(inst) {
             return Ok(Resolved::Back);
         }
-        let is_whole = match question.ended.get(inst) {
-            Some(ended) => ended.is_whole,
-            None => return Ok(Resolved::Open),
+        let Some(is_whole) = question.is_whole(inst) else {
+            return Ok(Resolved::Open);
         };
         if !is_whole {
             let Some(seen) = self.closure_of(question, inst)? else {

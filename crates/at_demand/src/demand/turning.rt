@@ -5,16 +5,18 @@ ghost use Rattle.at_model.specs.Run.{Contents};
 ghost use Rattle.at_model.specs.Instances.{AnyText};
 ghost use Rattle.at_model.specs.Rules.{Rules};
 ghost use Rattle.at_model.specs.TypedRuns.{IsWellTyped};
-ghost use Rattle.at_model.specs.Turning.{asked, posted};
+ghost use Rattle.at_model.specs.Turning.{posted};
+ghost use Rattle.at_model.specs.of_fixpoints.Searching.{posted as search_posted};
 ghost use Rattle.at_store.specs.Shown.{Shown, contents};
 ghost use Rattle.at_body.specs.Typed.{class_shown};
 ghost use Rattle.at_cache.specs.Kept.{Entries};
 ghost use Rattle.at_demand.specs.Answerable.{CanBeTried, CanGoOn, CanTurn, CanTurnWith};
+ghost use Rattle.at_demand.specs.Levels.{IsSearch};
 ghost use Rattle.at_demand.specs.Turns.{IsStanding, IsSparingTurns, under_way};
-ghost use Rattle.at_demand.specs.Answered.{HasTurned, HasTurnedOften, HasTurnedWith, TracesNothing};
-ghost use Rattle.at_demand.specs.Attempts.{HasAttempted};
-ghost use Rattle.at_demand.specs.Searches.{CanSpoil, CanTryLast, HasSpoilt, HasTurnedOn};
-ghost use Rattle.at_demand.specs.Tries.{CanCarryOn, HasCarriedOn, IsGoing};
+ghost use Rattle.at_demand.specs.Answered.{HasTurned, HasTurnedOften, HasTurnedOn, HasTurnedWith, TracesNothing};
+ghost use Rattle.at_demand.specs.Attempts.{HasAttempted, IsGoing};
+ghost use Rattle.at_demand.specs.Searches.{CanSpoil, CanTryLast, HasSpoilt};
+ghost use Rattle.at_demand.specs.Tries.{CanCarryOn, HasCarriedOn};
 ghost use Rattle.at_demand.specs.KeptTrials.{Fit};
 ghost use Rattle.at_demand.specs.Traces.{StaysTraced};
 
@@ -37,6 +39,7 @@ impl<K: Keeper> Demand<K> {
     /// The question for an instance, as it is before its first turn. It takes no memory as yet, so there is no error.
     pub fn post(&self, inst: Inst) -> Result<Question, AllocError>
         ensures posted { IfOk result (λ q. under_way q ≡ posted inst) }
+        ensures search { (entries : Entries) → IfOk result (λ q. IsSearch entries q (search_posted inst)) }
         ensures standing { (entries : Entries) (rules : Rules) (s : Shown) → IsWellTyped rules (class_shown s) AnyText inst
             → IfOk result (IsStanding rules s entries) }
         ensures sparing { (entries : Entries) (rules : Rules) (look : Contents ℕ) → IfOk result (IsSparingTurns rules look entries) }

@@ -157,7 +157,7 @@ impl Direct {
         needed: &Inst,
         above: usize,
     ) -> Result<Option<Value>, Stop>
-        requires { IsHeld basis.now.rules.now (contents basis.now.store.now) (held_by K.contents K.memories keeper.old self.old) }
+        requires { IsHeldFor basis.now.rules.now (contents basis.now.store.now) (held_by K.contents K.memories keeper.old self.old) true needed.now }
         ensures { EndsRecalled basis.now.rules.now basis.now.store.now K.exact needed.now (held_by K.contents K.memories keeper.old self.old)
             (held_by K.contents K.memories keeper.new self.new) level.old level.new result }
     {

@@ -3,7 +3,7 @@
 ghost use Rattle.std.specs.Prelude.{◌≡◌, IfOk, IfSome, OnErr, OnOk, IsTrue, None, Some, false, true};
 ghost use Rattle.std.specs.Option.{option_map};
 ghost use Rattle.at_model.specs.of_fixpoints.Resting.{Leads};
-ghost use Rattle.at_model.specs.Rules.{is_lazy};
+ghost use Rattle.at_model.specs.Rules.{is_lazy, start_of};
 ghost use Rattle.at_store.specs.Shown.{contents};
 ghost use Rattle.at_body.specs.Values.{value_view};
 ghost use Rattle.at_body.specs.Same.{same_instance};
@@ -43,6 +43,7 @@ impl Direct {
     ) -> Result<Option<Inst>, AllocError>
         requires { IsHeld basis.now.rules.now (contents basis.now.store.now) (held_by K.contents K.memories keeper.now self.now) }
         ensures lazy { IfOk result (λ o. IfSome o (λ i. is_lazy basis.now.rules.now i.attribute ≡ true)) }
+        ensures own { IfOk result (λ o. IfSome o (λ i. start_of basis.now.rules.now i.attribute ≡ None)) }
         ensures led { IfOk result (λ o. IfSome o (Leads (contents basis.now.store.now) (meaning basis.now.rules.now) needed.now)) }
     {
         let Some(other) = keeper.blocker(needed) else {
