@@ -23,8 +23,20 @@ use Rattle.at_demand.specs.Sparing.{AddsWorthy, AreSpare, Counts, HasWorthy, IsW
 use Rattle.at_demand.specs.KeptTrials.{FitAfter}
 use Rattle.at_demand.specs.Traces.{StayJustified}
 use Rattle.at_demand.specs.Levels.{StandsFor, asked_by}
-use Rattle.at_demand.specs.Turns.{AreTurns, AreTurnsOfChain, BreaksOff, BreaksOffChain, GainsInChain, GainsInTurn, HasGiven, HasGivenBy, HasTurnedBy, IsSparingTurns,
-    IsStanding, under_way}
+use Rattle.at_demand.specs.Turns.{
+  AreTurns,
+  AreTurnsOfChain,
+  BreaksOff,
+  BreaksOffChain,
+  GainsInChain,
+  GainsInTurn,
+  HasGiven,
+  HasGivenBy,
+  HasTurnedBy,
+  IsSparingTurns,
+  IsStanding,
+  under_way,
+}
 
 -- what a search looks at that closes a circle
 abbrev pub met : {look : Contents ℕ} {forms : Forms ℕ} {under seen todo : List (Instance ℕ)} {j : Instance ℕ} → Closes look forms under seen todo j

@@ -11,7 +11,7 @@ ghost use Rattle.at_demand.specs.Known.{AreValued, known_in, meaning};
 ghost use Rattle.at_demand.specs.Meant.{AreRightValues};
 
 use crate::evaluation::{Demanded, Find, Recalled};
-use at_body::{Formula, Forming, Inst, Progress};
+use at_body::{Forming, Formula, Inst, Progress};
 use at_cache::Keeper;
 use at_rules::Rules;
 use at_search::Formed;

@@ -40,9 +40,9 @@ pub use answer::Answer;
 pub use demand::Demand;
 pub use laws::{
     a_question_adds_what_is_worth_keeping, an_edit_leaves_what_it_does_not_touch,
-    by_equations_where_none_is_circular,
-    what_can_be_kept_again_stays_right, what_is_kept_spare_is_well_kept, what_is_kept_stays_right,
-    what_is_kept_stays_spare, what_stays_traced_is_right,
+    by_equations_where_none_is_circular, what_can_be_kept_again_stays_right,
+    what_is_kept_spare_is_well_kept, what_is_kept_stays_right, what_is_kept_stays_spare,
+    what_stays_traced_is_right,
 };
 pub use question::Question;
 pub use turning_laws::{a_question_has_few_turns, a_question_stands_while_more_is_kept};

@@ -115,12 +115,7 @@ impl<K: Keeper> Demand<K> {
     }
 
     // Adds what the equation read, and what it used: those in its formula that are known, too.
-    fn add(
-        &self,
-        question: &Question,
-        formed: &Formed,
-        find: &mut Find,
-    ) -> Result<(), AllocError>
+    fn add(&self, question: &Question, formed: &Formed, find: &mut Find) -> Result<(), AllocError>
         ensures { OnOk result (AddsUses (K.contents self.now.keeper) question.now formed.now find.old find.new) }
     {
         for loc in &formed.reads {
