@@ -1,6 +1,6 @@
 //! Tests of whole sessions: over the calculator, with each keeper, with readers and writers that fail, with
-//! questions in turns, of files that are refused, and of what no session shows; of keepers by themselves, beside plain
-//! models, and of what is derived and of components, found by hand.
+//! questions in turns, of files that are refused, of aspects as they are read, and of what no session shows; of
+//! keepers by themselves, beside plain models, and of what is derived and of components, found by hand.
 //!
 //! **Where to begin:** `sessions.rt` has lines, replies and work as rows of a table. A test that a page can show
 //! stands on a page (docs/TESTING.md).
@@ -10,6 +10,8 @@
 mod applying;
 #[cfg(test)]
 mod caches;
+#[cfg(test)]
+mod circular_texts;
 #[cfg(test)]
 mod cutting;
 #[cfg(test)]

@@ -1,6 +1,6 @@
 //! Circular attributes, with their form read and without: what their start is, and where a text is refused.
 
-use crate::{Aspect, DeclForm, Forms, JragCode, parse_jrag};
+use at_jrag::{Aspect, DeclForm, Forms, JragCode, parse_jrag};
 use at_text::fault::Fault;
 use std::alloc::Global;
 use std::test::Fail;
