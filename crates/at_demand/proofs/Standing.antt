@@ -154,7 +154,7 @@ module _ (rules : Rules) (s : Shown) (entries more : Entries) (grown : (i : Inst
   pub all_right : Right (contents s) (meaning rules) (kept_values entries) → Right (contents s) (meaning rules) (known_in entries old.found.entries)
   all_right right = right_known rules (contents s) entries old.found.entries right found_right
 
-  last_led : Leads (contents s) (meaning rules) (asked (under_way old)) old.inst
+  pub last_led : Leads (contents s) (meaning rules) (asked (under_way old)) old.inst
   last_led = leads_last (contents s) (meaning rules) (keys_of old.waiting.entries) old.inst st.on.chains
 
   pub last_there : IsIdle s → IsThere s (asked (under_way old)) → IsThere s old.inst

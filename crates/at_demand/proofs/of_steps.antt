@@ -1,5 +1,5 @@
 -- Steps of a question.
 pub mod Met
-pub mod AllTurns
+pub mod Ahead
 pub mod Ended
 pub mod Turning

@@ -39,12 +39,7 @@ pub record IsAnswerable (rules : Rules) (s : Shown) (entries : Entries) : Type 0
   pub right : Right (contents s) (meaning rules) (kept_values entries)
   pub plain : ArePlain rules entries
 
--- so is one for the instance, which is well typed
-pub record CanBeAnswered (rules : Rules) (s : Shown) (entries : Entries) (i : Instance ℕ) : Type 0 where
-  pub answerable : IsAnswerable rules s entries
-  pub typed : IsWellTyped rules (class_shown s) AnyText i
-
--- and where what can be kept again is right, too
+-- so is one for the instance, which is well typed, where what can be kept again is right, too
 pub record CanBeAsked (rules : Rules) (s : Shown) (entries : Entries) (m : Memories) (i : Instance ℕ) : Type 0 where
   pub answerable : IsAnswerable rules s entries
   pub typed : IsWellTyped rules (class_shown s) AnyText i

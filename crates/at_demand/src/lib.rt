@@ -10,7 +10,8 @@
 //! each other. `Answerable` says once on which conditions all of that is asked for.
 //!
 //! **Where to begin:** `Demand::answer` in `demand.rt`: a question is answered in one go by `direct.rt`, a recursion to which rules and tree are
-//! lent as one (`basis.rt`), or where that gives up by all turns of a question, which is `question.rt` and `demand/turning.rt`, with evaluations of `evaluation.rt`. It holds nothing of
+//! lent as one (`basis.rt`), or where that gives up by all turns of a question, which is `question.rt` and `demand/turning.rt`, with evaluations of `evaluation.rt`;
+//! the last instance of a long chain is evaluated in one go before its turn. It holds nothing of
 //! rules or tree between turns. What many kept values rest on is gathered in `gathering.rt` and stands once by `demand/shared.rt`.
 //!
 //! **What it keeps true:** what is kept is right, and, with an exact keeper, spare; `laws.rt` and `turning_laws.rt`

@@ -89,7 +89,7 @@ impl<K: Keeper> Demand<K> {
     }
 
     // A turn, which goes on with the trial of the last instance where it is there, and leaves those of the others.
-    fn turn_with<'a>(
+    pub(super) fn turn_with<'a>(
         &mut self,
         rules: &'a Rules,
         store: &'a Store,
