@@ -27,5 +27,8 @@ pub mod RowEdges
 pub mod RowLists
 pub mod NoRows
 pub mod Came
+pub mod Following
+pub mod Reaching
+pub mod Over
 mod of_cut
 mod of_folding

@@ -15,12 +15,17 @@ ghost use Rattle.at_cache.specs.Info.{memory_of};
 ghost use Rattle.at_cache.specs.Kept.{node_at};
 ghost use Rattle.at_cache.specs.Putting.{AreListed, AreTaken, Keeps, Lists, Reads, Uses, reused, users_at};
 ghost use Rattle.at_cache.specs.Readers.{IsFirst, edges_among, edges_at, stands_for};
+ghost use Rattle.at_cache.specs.Finding.{edges_to};
+ghost use Rattle.at_cache.specs.Runs.{ListsBut};
 ghost use Rattle.at_cache.specs.Slots.{HasAdded, HasChanged, ListsAt, with_edges};
 
 use crate::edge::{Edge, Edges, Many, Slot};
 use crate::facet::{Facet, Facets, Readers};
+use crate::facets::first_facet;
 use crate::noting::note;
 use crate::row::Row;
+use crate::run::AllReaders;
+use crate::stretch::add_stretch;
 use crate::table::Table;
 use at_store::{Loc, Node};
 use std::alloc::{AllocError, Global};
@@ -325,77 +330,67 @@ fn add_user(alloc: Global, entries: &mut Table, slot: Slot, edge: Edge) -> Resul
     result
 }
 
-// Whether the location is the class of the node.
-fn is_class(location: Loc, node: Node) -> bool
-    ensures { IsTrue result → loc_view location ≡ Is node }
+// One more edge of the first of these locations, if there is one, and of what its facet stands for beside it; what is left of them.
+fn add_one<'a>(
+    alloc: Global,
+    entries: &Table,
+    readers: &mut AllReaders,
+    index_read: &mut Vec<Node>,
+    locations: &'a [Loc],
+    edge: Edge,
+) -> Result<&'a [Loc], AllocError>
+    ensures reads { Reads (memory_of entries.now) edge (map loc_view locations.now) (edges_to readers.old) (edges_to readers.new) }
+    ensures stay { OnOk result ((l : Location ℕ) → Contains (edges_to readers.old l) edge → Contains (edges_to readers.new l) edge) }
+    ensures listed { IfOk result (λ left. ListsBut edge (map loc_view locations.now) (map loc_view left.now) (edges_to readers.new)) }
+    ensures noted { AreNoted (edges_to readers.old) index_read.old.items → AreNoted (edges_to readers.new) index_read.new.items }
 {
-    match location {
-        Loc::Is(other) => other == node,
-        _ => false,
-    }
-}
-
-// What is left of these locations behind those at the front that are the class of the node.
-fn behind_class(node: Node, locations: &[Loc]) -> &[Loc]
-    ensures all { (l : Location ℕ) → Contains (map loc_view locations.now) l → (l ≡ Is node) ⊎ Contains (map loc_view result.now) l }
-    ensures rest { (l : Location ℕ) → Contains (map loc_view result.now) l → Contains (map loc_view locations.now) l }
-    ensures fewer { length result.now ≤ length locations.now }
-{
-    let mut rest = locations;
-    while let Some((next, left)) = rest.split_first() {
-        if !is_class(*next, node) {
-            return rest;
-        }
-        rest = left;
-    }
-    rest
-}
-
-// The facet of the node's class or, where they have one, of it and the first of these locations that isn't the class once more; with what
-// is left of them.
-fn facet_of_class(node: Node, rest: &[Loc]) -> Result<(Facet, &[Loc]), AllocError>
-    ensures { IfOk result (λ r. IsFirst (Is node ∷ map loc_view rest.now) node r.0 (map loc_view r.1.now)) }
-{
-    let rest = behind_class(node, rest);
-    let Some((next, left)) = rest.split_first() else {
-        return Ok((Facet::Is, rest));
+    let Some((location, others)) = locations.split_first() else {
+        return Ok(locations);
     };
-    match Facet::of_both(node, *next)? {
-        Some(facet) => Ok((facet, left)),
-        None => Ok((Facet::Is, rest)),
-    }
+    note(readers.own.as_slice(), index_read, *location)?;
+    let (facet, left) = first_facet(*location, others)?;
+    add_reader(alloc, entries, &mut readers.own, location.node(), facet, edge)?;
+    Ok(left)
 }
 
-// The facet of the location or, where they have one, of it and the first of the others; with what is left of these.
-fn first_facet(location: Loc, others: &[Loc]) -> Result<(Facet, &[Loc]), AllocError>
-    ensures { IfOk result (λ r. IsFirst (loc_view location ∷ map loc_view others.now) (node_at (loc_view location)) r.0 (map loc_view r.1.now)) }
+// One more edge for some at the front of these locations; what is left of them.
+fn add_next<'a>(
+    alloc: Global,
+    entries: &Table,
+    readers: &mut AllReaders,
+    index_read: &mut Vec<Node>,
+    locations: &'a [Loc],
+    edge: Edge,
+) -> Result<&'a [Loc], AllocError>
+    ensures reads { Reads (memory_of entries.now) edge (map loc_view locations.now) (edges_to readers.old) (edges_to readers.new) }
+    ensures stay { OnOk result ((l : Location ℕ) → Contains (edges_to readers.old l) edge → Contains (edges_to readers.new l) edge) }
+    ensures listed { IfOk result (λ left. ListsBut edge (map loc_view locations.now) (map loc_view left.now) (edges_to readers.new)) }
+    ensures fewer { IfOk result (λ left. 0 < length locations.now → length left.now < length locations.now) }
+    ensures noted { AreNoted (edges_to readers.old) index_read.old.items → AreNoted (edges_to readers.new) index_read.new.items }
 {
-    match location {
-        Loc::Is(node) => facet_of_class(node, others),
-        _ => Ok((Facet::of(location)?, others)),
+    let left = add_stretch(alloc, entries, readers, locations, edge)?;
+    if left.len() < locations.len() {
+        return Ok(left);
     }
+    add_one(alloc, entries, readers, index_read, locations, edge)
 }
 
-/// One more edge of each of these locations. The nodes whose index is among them are noted.
+/// One more edge of each of these locations, or one for several. The nodes whose index is among them are noted.
 pub fn add_readers(
     alloc: Global,
     entries: &Table,
-    readers: &mut Vec<Facets>,
+    readers: &mut AllReaders,
     index_read: &mut Vec<Node>,
     locations: &[Loc],
     edge: Edge,
 ) -> Result<(), AllocError>
-    ensures reads { Reads (memory_of entries.now) edge (map loc_view locations.now) (edges_at readers.old.items) (edges_at readers.new.items) }
-    ensures listed { OnOk result (AreListed edge (map loc_view locations.now) (edges_at readers.new.items)) }
-    ensures noted { AreNoted (edges_at readers.old.items) index_read.old.items → AreNoted (edges_at readers.new.items) index_read.new.items }
-    ensures short { length readers.old.items ≤ 2 ^ 32 → length readers.new.items ≤ 2 ^ 32 }
+    ensures reads { Reads (memory_of entries.now) edge (map loc_view locations.now) (edges_to readers.old) (edges_to readers.new) }
+    ensures listed { OnOk result (AreListed edge (map loc_view locations.now) (edges_to readers.new)) }
+    ensures noted { AreNoted (edges_to readers.old) index_read.old.items → AreNoted (edges_to readers.new) index_read.new.items }
 {
     let mut rest = locations;
-    while let Some((location, others)) = rest.split_first() {
-        note(readers.as_slice(), index_read, *location)?;
-        let (facet, left) = first_facet(*location, others)?;
-        add_reader(alloc, entries, readers, location.node(), facet, edge)?;
-        rest = left;
+    while !rest.is_empty() {
+        rest = add_next(alloc, entries, readers, index_read, rest, edge)?;
     }
     Ok(())
 }

@@ -1,5 +1,5 @@
 use Rattle.at_cache.proofs.Naming.{goes_at, goes_past, node_past, node_there}
-use Rattle.at_cache.proofs.places.begin_node.Goals as goal
+use Rattle.at_cache.proofs.forgetting.begin_own.Goals as goal
 
 pub returns-in-Some-clause-goes_on : goal.returns-in-Some-clause-goes_on
 returns-in-Some-clause-goes_on g c =

@@ -1,7 +1,7 @@
 use Rattle.std.proofs.Common.{map, refl}
 use Rattle.at_store.specs.Located.{loc_view}
 use Rattle.at_cache.proofs.Locations.{first_alone}
-use Rattle.at_cache.proofs.linking.first_facet.Goals as goal
+use Rattle.at_cache.proofs.facets.first_facet.Goals as goal
 
 pub returns-in_ok-of-in_default : goal.returns-in_ok-of-in_default
 returns-in_ok-of-in_default c =

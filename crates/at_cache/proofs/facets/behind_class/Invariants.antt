@@ -1,7 +1,7 @@
 use Rattle.std.proofs.Common.{◌≡◌, ◌≤◌, ◌⊎◌, ℕ, Contains, length, map}
 use Rattle.at_model.specs.Run.{Location, Is}
 use Rattle.at_store.specs.Located.{loc_view}
-use Rattle.at_cache.proofs.linking.behind_class.Given as goal
+use Rattle.at_cache.proofs.facets.behind_class.Given as goal
 
 abbrev pub invariant-loop-next : goal.invariant-loop-next
 invariant-loop-next l = record {

@@ -5,7 +5,7 @@ use Rattle.at_store.specs.Located.{loc_view}
 use Rattle.at_cache.specs.declared.facet.Facet.TheVariants as facet
 use Rattle.at_cache.specs.Readers.{IsFirst}
 use Rattle.at_cache.proofs.Locations.{first_again, first_alone, first_both}
-use Rattle.at_cache.proofs.linking.facet_of_class.Goals as goal
+use Rattle.at_cache.proofs.facets.facet_of_class.Goals as goal
 
 pub returns-in_default : goal.returns-in_default
 returns-in_default c =

@@ -1,7 +1,7 @@
 use Rattle.std.proofs.Common.{arith, inr, map, refl}
 use Rattle.at_store.specs.Located.{loc_view}
 use Rattle.at_cache.proofs.Locations.{class_goes, class_gone, fewer_left}
-use Rattle.at_cache.proofs.linking.behind_class.Goals as goal
+use Rattle.at_cache.proofs.facets.behind_class.Goals as goal
 
 pub loop-next-init : goal.loop-next-init
 loop-next-init c = record { all = λ k d. inr d; rest = λ k d. d; fewer = omega arith }
