@@ -30,5 +30,6 @@ pub mod Came
 pub mod Following
 pub mod Reaching
 pub mod Over
+pub mod Stretches
 mod of_cut
 mod of_folding

@@ -64,10 +64,13 @@ abbrev pub AreApart : List Seat → Type 0
 AreApart seats = (m n : ℕ) (s t : Seat) → slice_get seats m ≡ Some s → slice_get seats n ≡ Some t → nat_eq s.place 0 ≡ false
     → s.run ≡ t.run → s.place ≡ t.place → m ≡ n
 
+-- how many places of the run were given
+abbrev pub count_of : List Run → ℕ → ℕ
+count_of runs k = elim (slice_get runs k) [ None ↦ 0 | Some r ↦ r.count ]
+
 -- each place in which a node sits was given
 abbrev pub AreGiven : List Seat → List Run → Type 0
-AreGiven seats runs = (n : ℕ) (s : Seat) → slice_get seats n ≡ Some s → nat_eq s.place 0 ≡ false
-    → (r : Run) × (slice_get runs s.run ≡ Some r) × (s.place ≤ r.count)
+AreGiven seats runs = (n : ℕ) (s : Seat) → slice_get seats n ≡ Some s → s.place ≤ count_of runs s.run
 
 -- no edge is over a place that wasn't given
 abbrev pub ArePast : List Run → Type 0
@@ -78,12 +81,12 @@ pub record AreSeated (seats : List Seat) (runs : List Run) : Type 0 where
   pub given : AreGiven seats runs
   pub past : ArePast runs
 
--- the node sits in the next place of the run, and this is looked at there, which isn't its index
-pub record SitsNext (seats : List Seat) (run last node : ℕ) (f : Facet) : Type 0 where
+-- the node sits in the place of the run, and this is looked at there, which isn't its index
+pub record SitsAt (seats : List Seat) (run place node : ℕ) (f : Facet) : Type 0 where
   pub seat : Seat
   pub there : slice_get seats node ≡ Some seat
-  pub run : seat.run ≡ run
-  pub place : seat.place ≡ last + 1
+  pub inside : seat.run ≡ run
+  pub at : seat.place ≡ place
   pub facet : seat.facet ≡ f
   pub own : (n : ℕ) → is_index (facet_at n f) ≡ false
 
@@ -104,7 +107,7 @@ pub record Adds {S : Type 0} (m : Memory) (x : Edge) (here : S → Bool) (old ne
 -- Runs lose edges that aren't live, and may give more places.
 pub record KeepsRuns (m : Memory) (x : Edge) (old new : List Run) : Type 0 where
   pub lists : (s : Seat) → Holds (is_live m x) (edges_on old s) (edges_on new s)
-  pub given : (k : ℕ) (r : Run) → slice_get old k ≡ Some r → (t : Run) × (slice_get new k ≡ Some t) × (r.count ≤ t.count)
+  pub given : (k : ℕ) → count_of old k ≤ count_of new k
   pub past : ArePast old → ArePast new
 
 -- no edge is over where the node sits

@@ -16,8 +16,8 @@ use crate::edge::{Edge, Edges, Slot};
 use crate::forgetting::{begin, doom_listed};
 use crate::mark::Mark;
 use crate::marked::Marked;
-use crate::run::AllReaders;
 use crate::places::begin_named;
+use crate::run::AllReaders;
 use crate::standing::{Standing, set_standing, standing_at};
 use at_store::{Loc, Node, Places};
 

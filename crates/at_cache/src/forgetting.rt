@@ -152,7 +152,12 @@ fn doom_past<W: Marked>(
 }
 
 // What the edges tell of goes that are over the seat.
-fn doom_on<W: Marked>(entries: &mut W, first: Option<Slot>, runs: &[Run], seat: Seat) -> Option<Slot>
+fn doom_on<W: Marked>(
+    entries: &mut W,
+    first: Option<Slot>,
+    runs: &[Run],
+    seat: Seat,
+) -> Option<Slot>
     ensures works { (old : Memory) (start : List Edge) → Work old start (edges_on runs.now seat) first (W.memory entries.old)
         → Work old start [] result (W.memory entries.new) }
     ensures aside { W.aside entries.new ≡ W.aside entries.old }

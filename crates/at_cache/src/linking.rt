@@ -349,7 +349,14 @@ fn add_one<'a>(
     };
     note(readers.own.as_slice(), index_read, *location)?;
     let (facet, left) = first_facet(*location, others)?;
-    add_reader(alloc, entries, &mut readers.own, location.node(), facet, edge)?;
+    add_reader(
+        alloc,
+        entries,
+        &mut readers.own,
+        location.node(),
+        facet,
+        edge,
+    )?;
     Ok(left)
 }
 

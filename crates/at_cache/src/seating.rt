@@ -7,7 +7,7 @@ ghost use Rattle.at_cache.specs.declared.run.Run.{Run};
 ghost use Rattle.at_cache.specs.declared.run.Seat.{Seat};
 ghost use Rattle.at_cache.specs.Finding.{edges_to};
 ghost use Rattle.at_cache.specs.Info.{Memory, memory_of};
-ghost use Rattle.at_cache.specs.Runs.{AreApart, AreGiven, Holds, HoldsReach, IsFree, KeepsRuns, edges_on, edges_over, is_live};
+ghost use Rattle.at_cache.specs.Runs.{AreApart, AreGiven, Holds, HoldsReach, IsFree, KeepsRuns, count_of, edges_on, edges_over, is_live};
 
 use crate::edge::Edge;
 use crate::facet::{Facet, small};
@@ -120,8 +120,7 @@ fn is_free(entries: &Table, edge: Edge, runs: &mut Vec<Run>, seat: Seat) -> bool
 fn give(runs: &mut Vec<Run>, run: u32) -> Option<u32>
     ensures keeps { (m : Memory) (x : Edge) → KeepsRuns m x runs.old.items runs.new.items }
     ensures none { IfNone result (runs.new.items ≡ runs.old.items) }
-    ensures past { IfSome result (λ place. (r : Run) × (slice_get runs.new.items run ≡ Some r) × (r.count ≡ place)
-        × ((t : Run) → slice_get runs.old.items run ≡ Some t → place ≡ t.count + 1)) }
+    ensures next { IfSome result (λ place. (place ≡ count_of runs.old.items run + 1) × (place ≡ count_of runs.new.items run)) }
 {
     let run = runs.get_mut(run as usize)?;
     run.count = run.count.checked_add(1)?;

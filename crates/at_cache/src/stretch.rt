@@ -1,13 +1,12 @@
 //! One edge for locations that are looked at as they were before.
 
-ghost use Rattle.std.specs.Prelude.{◌≡◌, ◌≤◌, ◌<◌, ℕ, false, true, Some, Contains, IfOk, IsTrue, OnOk, length, map, nat_eq, option_map, slice_get};
+ghost use Rattle.std.specs.Prelude.{◌≡◌, ◌≤◌, ◌<◌, ℕ, false, true, Some, Contains, IfOk, IsTrue, OnOk, length, map, nat_eq, slice_get};
 ghost use Rattle.at_store.specs.Located.{loc_view};
 ghost use Rattle.at_model.specs.Run.{Location};
 ghost use Rattle.at_cache.specs.Finding.{edges_to};
 ghost use Rattle.at_cache.specs.Info.{memory_of};
-ghost use Rattle.at_cache.specs.declared.run.Run.{Run};
 ghost use Rattle.at_cache.specs.declared.run.Seat.{Seat};
-ghost use Rattle.at_cache.specs.Runs.{Adds, AddsReads, AreApart, ArePast, Follows, Gains, Holds, HoldsReach, ListsBut, SitsNext, edges_on, is_live, is_within};
+ghost use Rattle.at_cache.specs.Runs.{Adds, AddsReads, AreApart, ArePast, Follows, Gains, Holds, HoldsReach, ListsBut, SitsAt, count_of, edges_on, is_live, is_within};
 
 use crate::edge::Edge;
 use crate::facet::Facet;
@@ -24,15 +23,15 @@ const FEW: u32 = 4;
 // Fewer locations make no run.
 const MANY: usize = 8;
 
-// Whether the node sits in the next place of the run, and that is looked at there.
-fn is_next(seats: &[Seat], run: u32, last: u32, node: Node, facet: Facet) -> bool
-    ensures { IsTrue result → SitsNext seats.now run last node facet }
+// Whether the node sits in that place of the run, and that is looked at there.
+fn is_at(seats: &[Seat], run: u32, place: u32, node: Node, facet: Facet) -> bool
+    ensures { IsTrue result → SitsAt seats.now run place node facet }
 {
-    let seat = seat_of(seats, node);
-    if seat.run != run || seat.place <= last || seat.place - last != 1 {
+    if place == 0 || facet.is_index() {
         return false;
     }
-    seat.facet == facet && !facet.is_index()
+    let seat = seat_of(seats, node);
+    seat.run == run && seat.place == place && seat.facet == facet
 }
 
 // Up to which place of the run the locations go on behind that one, and what is left of them.
@@ -49,10 +48,13 @@ fn follow<'a>(
     let mut rest = locations;
     while let Some((location, others)) = rest.split_first() {
         let (facet, left) = first_facet(*location, others)?;
-        if !is_next(seats, run, last, location.node(), facet) {
+        let Some(place) = last.checked_add(1) else {
+            return Ok((last, rest));
+        };
+        if !is_at(seats, run, place, location.node(), facet) {
             return Ok((last, rest));
         }
-        last += 1;
+        last = place;
         rest = left;
     }
     Ok((last, rest))
@@ -99,17 +101,12 @@ fn add_to(entries: &Table, edges: &mut Vec<Reach>, reach: Reach) -> Result<(), A
 }
 
 // One more edge of a run.
-fn add_reach(
-    entries: &Table,
-    runs: &mut Vec<Run>,
-    run: u32,
-    reach: Reach,
-) -> Result<(), AllocError>
+fn add_reach(entries: &Table, runs: &mut Vec<Run>, run: u32, reach: Reach) -> Result<(), AllocError>
     requires { run < length runs.old.items }
     ensures adds { Adds (memory_of entries.now) reach.edge (is_within run reach.behind reach.last) (edges_on runs.old.items) (edges_on runs.new.items) }
     ensures has { OnOk result ((s : Seat) → is_within run reach.behind reach.last s ≡ true → Contains (edges_on runs.new.items s) reach.edge) }
-    ensures given { (k : ℕ) → option_map (λ r. r.count) (slice_get runs.new.items k) ≡ option_map (λ r. r.count) (slice_get runs.old.items k) }
-    ensures past { (r : Run) → slice_get runs.old.items run ≡ Some r → reach.last ≤ r.count → ArePast runs.old.items → ArePast runs.new.items }
+    ensures given { (k : ℕ) → count_of runs.new.items k ≡ count_of runs.old.items k }
+    ensures past { reach.last ≤ count_of runs.old.items run → ArePast runs.old.items → ArePast runs.new.items }
 {
     let found = &mut runs[run as usize];
     add_to(entries, &mut found.edges, reach)
@@ -161,7 +158,12 @@ fn add_along<'a>(
     if last - behind < FEW {
         return Ok(locations);
     }
-    add_reach(entries, &mut readers.runs, run, Reach { edge, behind, last })?;
+    add_reach(
+        entries,
+        &mut readers.runs,
+        run,
+        Reach { edge, behind, last },
+    )?;
     lengthen(entries, edge, readers, run, last, left)?;
     Ok(left)
 }
