@@ -1,5 +1,5 @@
 -- Entries that are folded into those that used them.
-use Rattle.std.specs.Prelude.{◌≡◌, ◌⊎◌, ℕ, List, [], ◌∷◌, Bool, true, Option, None, Some, Contains, slice_get}
+use Rattle.std.specs.Prelude.{◌≡◌, ◌⊎◌, ℕ, List, [], ◌∷◌, Bool, true, false, Option, None, Some, Contains, slice_get}
 use Rattle.smallvec.specs.SmallVec.{SmallVec}
 use Rattle.at_model.specs.Run.{Instance, Location}
 use Rattle.at_cache.specs.declared.edge.Edge.{Edge}
@@ -51,11 +51,12 @@ HasUsed m into p r = Stays into p × ((s : ℕ) × (e : Info) × (m s ≡ Some e
 abbrev pub Tells : Memory → Edge → Type 0
 Tells n x = (f : Info) × (n x.slot ≡ Some f) × (f.stamp ≡ x.stamp)
 
--- The new list has an edge to each entry into which one is folded of which the old one told, and no others.
+-- The new list has an edge to each entry into which one is folded of which the old one told, and to no others. An edge of it that tells of
+-- none stood in the old one.
 pub record Rewritten (m : Memory) (into : ℕ → List ℕ) (n : Memory) (old new : List Edge) : Type 0 where
   pub has : (r : ℕ) (f : Info) → n r ≡ Some f → HasFolded m into old r → Contains new (edge_to r f)
-  pub from : (x : Edge) → Contains new x → HasFolded m into old x.slot
-  pub tells : (x : Edge) → Contains new x → Tells n x
+  pub from : (r : ℕ) (f : Info) → n r ≡ Some f → Contains new (edge_to r f) → HasFolded m into old r
+  pub tells : (x : Edge) → Contains new x → Contains old x ⊎ Tells n x
 
 -- but for its links and users an entry is what it was
 pub record IsLeft (old new : Info) : Type 0 where
@@ -73,9 +74,9 @@ pub record Folded (lists : Location ℕ → List Edge) (m : Memory) (into : ℕ 
   pub links : (r : ℕ) (f : Info) → n r ≡ Some f → (p : ℕ) → HasUsed m into p r → Contains f.links p
   pub link : (r : ℕ) (f : Info) → n r ≡ Some f → (p : ℕ) → Contains f.links p → HasUsed m into p r
 
--- each of these is current and folded into itself alone
-abbrev pub AreAlone : (there : Edge → Bool) → (into : ℕ → List ℕ) → List Edge → Type 0
-AreAlone there into edges = (x : Edge) → Contains edges x → (there x ≡ true) × (into x.slot ≡ x.slot ∷ [])
+-- each of these tells of a slot that is folded into itself alone
+abbrev pub AreAlone : (into : ℕ → List ℕ) → List Edge → Type 0
+AreAlone into edges = (x : Edge) → Contains edges x → into x.slot ≡ x.slot ∷ []
 
 -- The slots are gathered of all into which those are folded that the edges tell of.
 pub record Gathered (there : Edge → Bool) (into : ℕ → List ℕ) (edges : List Edge) (old new : List ℕ) : Type 0 where
@@ -88,10 +89,12 @@ pub record AreEdgesTo (m : Memory) (slots : List ℕ) (edges : List Edge) : Type
   pub has : (y : Edge) → Contains slots y.slot → is_current m y ≡ true → Contains edges y
   pub from : (y : Edge) → Contains edges y → (is_current m y ≡ true) × Contains slots y.slot
 
--- The new list has a current edge to each entry into which one is folded of which the old one told, and no others.
+-- The new list has a current edge to each entry into which one is folded of which the old one told, and no others. An edge of it that
+-- isn't current stood in the old one.
 pub record Refolded (there : Edge → Bool) (into : ℕ → List ℕ) (old new : List Edge) : Type 0 where
   pub has : (y : Edge) → HasUser there into old y.slot → there y ≡ true → Contains new y
-  pub from : (y : Edge) → Contains new y → (there y ≡ true) × HasUser there into old y.slot
+  pub from : (y : Edge) → Contains new y → there y ≡ true → HasUser there into old y.slot
+  pub stale : (y : Edge) → Contains new y → there y ≡ false → Contains old y
 
 -- the same of what stands at a place of those of a node
 abbrev pub IsRefolded : (there : Edge → Bool) → (into : ℕ → List ℕ) → Option Readers → Option Readers → Type 0

@@ -9,6 +9,7 @@ ghost use Rattle.at_cache.specs.Bound.{ForgetsOver, kept_by};
 ghost use Rattle.at_cache.specs.Folding.{LeavesKept};
 ghost use Rattle.at_cache.specs.Kept.{Answers, AreKept, AreNamed, HasPut, KeepsAll, LeavesUntouched, value_at};
 
+use crate::choosing::Left;
 use crate::keep_recorded::KeepRecorded;
 use crate::keeper::{Keeper, Order, Put};
 use at_body::{Inst, Value};
@@ -23,9 +24,9 @@ pub struct KeepAtMost {
     alloc: Global,
     most: usize,
     keeper: KeepRecorded,
-    // How many numbers were given at the last edit, and the limit on what was folded into one.
+    // How many numbers were given at the last edit.
     since: u64,
-    limit: u32,
+    left: Left,
 }
 
 /// One call, where each exit that lets it go would else have a case for each field.
@@ -36,7 +37,7 @@ impl Drop for KeepAtMost {
             most: _,
             keeper: _,
             since: _,
-            limit: _,
+            left: _,
         } = self;
     }
 }
@@ -52,7 +53,7 @@ impl KeepAtMost {
             most,
             keeper: KeepRecorded::new(alloc),
             since: 0,
-            limit: 0,
+            left: Left::new(alloc),
         }
     }
 
@@ -67,10 +68,10 @@ impl KeepAtMost {
             return;
         }
         let keeper = mem::replace(&mut self.keeper, KeepRecorded::empty(self.alloc));
-        let Ok((keeper, limit)) = keeper.folded(self.most / 4 * 3, self.since, self.limit) else {
+        let Ok((keeper, left)) = keeper.folded(self.most / 4 * 3, self.since, &self.left) else {
             return;
         };
-        self.limit = limit;
+        self.left = left;
         if keeper.len() > self.most {
             return;
         }

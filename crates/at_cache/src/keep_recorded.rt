@@ -9,7 +9,7 @@ ghost use Rattle.at_cache.specs.Readers.{edges_at};
 ghost use Rattle.at_cache.specs.Recorded.{IsIndexed, kept_in};
 ghost use Rattle.at_cache.specs.Stored.{reads_held};
 
-use crate::choosing::choose;
+use crate::choosing::{Left, choose};
 use crate::entry::Links;
 use crate::facet::Facets;
 use crate::folding::fold;
@@ -92,14 +92,14 @@ impl KeepRecorded {
         self.puts
     }
 
-    /// The same with entries folded into those that used them, so that about so many are left, or fewer; with the limit on what is folded into
-    /// one. That is to be the last one. What nothing uses goes whole, where it was put before that number. An error where memory is wanting.
+    /// The same with entries folded into those that used them, so that about so many are left, or fewer; with what that leaves to the next
+    /// folding. What nothing uses goes whole, where it was put before that number. An error where memory is wanting.
     pub fn folded(
         self,
         target: usize,
         since: u64,
-        limit: u32,
-    ) -> Result<(KeepRecorded, u32), AllocError>
+        left: &Left,
+    ) -> Result<(KeepRecorded, Left), AllocError>
         ensures { IfOk result (λ r. LeavesKept (kept_in (edges_at self.readers.items) self.entries self.puts)
             (kept_in (edges_at r.0.readers.items) r.0.entries r.0.puts)) }
     {
@@ -109,10 +109,11 @@ impl KeepRecorded {
             self.readers.as_slice(),
             target,
             since,
-            limit,
+            left,
         )?;
+        let puts = self.puts;
         let keeper = self.folded_by(choice.plan.as_slice())?;
-        Ok((keeper, choice.limit))
+        Ok((keeper, choice.left(puts)))
     }
 
     // The same folded by that plan.

@@ -1,6 +1,6 @@
 //! Edges that tell of entries which are folded tell of those into which they are.
 
-ghost use Rattle.std.specs.Prelude.{◌≡◌, ◌<◌, ◌∷◌, ◌++◌, [], ℕ, List, IfOk, IsTrue, OnOk, length, slice_get, true};
+ghost use Rattle.std.specs.Prelude.{◌≡◌, ◌<◌, ◌∷◌, ◌++◌, [], ℕ, List, IfOk, IsTrue, OnOk, length, slice_get};
 ghost use Rattle.at_model.specs.Run.{Location};
 ghost use Rattle.at_cache.specs.declared.edge.Edge.{Edge};
 ghost use Rattle.at_cache.specs.Edges.{edges_in};
@@ -29,32 +29,59 @@ fn is_only(slots: &[Slot], slot: Slot) -> bool
     }
 }
 
-// Whether both are so.
-fn both(one: bool, other: bool) -> bool
-    ensures { IsTrue result → (one ≡ true) × (other ≡ true) }
+// Whether each edge of the row tells of a slot that stays by itself.
+fn is_alone_along(plan: &[Links], row: &Row) -> bool
+    ensures { IsTrue result → AreAlone (slots_at plan.now) (edges_of row.now) }
 {
-    if !one {
-        return false;
+    let mut rest = *row;
+    while let Some((edge, others)) = rest.split_first() {
+        if !is_only(slots_at(plan, edge.slot), edge.slot) {
+            return false;
+        }
+        rest = others;
     }
-    other
+    true
 }
 
-// Gathers the targets of the entry that the edge tells of; whether that is it alone.
+// The same of all these rows.
+fn are_alone_along(plan: &[Links], rows: &[Row]) -> bool
+    ensures { IsTrue result → AreAlone (slots_at plan.now) (edges_along rows.now) }
+{
+    for row in rows {
+        if !is_alone_along(plan, row) {
+            return false;
+        }
+    }
+    true
+}
+
+// The same of the list.
+fn are_alone(plan: &[Links], edges: &Edges) -> bool
+    ensures { IsTrue result → AreAlone (slots_at plan.now) (edges_in edges.now) }
+{
+    match edges {
+        Edges::Empty => true,
+        Edges::Few(count, step, slot, stamp) => {
+            is_alone_along(plan, &Row::few(*count, *step, *slot, *stamp))
+        }
+        Edges::More(rows) => are_alone_along(plan, rows.as_slice()),
+    }
+}
+
+// Gathers the targets of the entry that the edge tells of.
 fn gather_edge(
     entries: &Table,
     plan: &[Links],
     slots: &mut Vec<Slot>,
     edge: Edge,
-) -> Result<bool, AllocError>
-    ensures gathers { OnOk result (Gathered (is_current (memory_of entries.now)) (slots_at plan.now) (edge ∷ []) slots.old.items slots.new.items) }
-    ensures alone { IfOk result (λ alone. IsTrue alone → AreAlone (is_current (memory_of entries.now)) (slots_at plan.now) (edge ∷ [])) }
+) -> Result<(), AllocError>
+    ensures { OnOk result (Gathered (is_current (memory_of entries.now)) (slots_at plan.now) (edge ∷ []) slots.old.items slots.new.items) }
 {
     if !entries.is_current(&edge) {
-        return Ok(false);
+        return Ok(());
     }
-    let targets = slots_at(plan, edge.slot);
-    slots.extend_from_slice(targets)?;
-    Ok(is_only(targets, edge.slot))
+    slots.extend_from_slice(slots_at(plan, edge.slot))?;
+    Ok(())
 }
 
 // The same of all edges of the row.
@@ -63,18 +90,15 @@ fn gather_row(
     plan: &[Links],
     slots: &mut Vec<Slot>,
     row: &Row,
-) -> Result<bool, AllocError>
-    ensures gathers { OnOk result (Gathered (is_current (memory_of entries.now)) (slots_at plan.now) (edges_of row.now) slots.old.items slots.new.items) }
-    ensures alone { IfOk result (λ alone. IsTrue alone → AreAlone (is_current (memory_of entries.now)) (slots_at plan.now) (edges_of row.now)) }
+) -> Result<(), AllocError>
+    ensures { OnOk result (Gathered (is_current (memory_of entries.now)) (slots_at plan.now) (edges_of row.now) slots.old.items slots.new.items) }
 {
-    let mut alone = true;
     let mut rest = *row;
     while let Some((edge, others)) = rest.split_first() {
-        let here = gather_edge(entries, plan, slots, edge)?;
-        alone = both(here, alone);
+        gather_edge(entries, plan, slots, edge)?;
         rest = others;
     }
-    Ok(alone)
+    Ok(())
 }
 
 // The same of all these rows.
@@ -83,16 +107,13 @@ fn gather_rows(
     plan: &[Links],
     slots: &mut Vec<Slot>,
     rows: &[Row],
-) -> Result<bool, AllocError>
-    ensures gathers { OnOk result (Gathered (is_current (memory_of entries.now)) (slots_at plan.now) (edges_along rows.now) slots.old.items slots.new.items) }
-    ensures alone { IfOk result (λ alone. IsTrue alone → AreAlone (is_current (memory_of entries.now)) (slots_at plan.now) (edges_along rows.now)) }
+) -> Result<(), AllocError>
+    ensures { OnOk result (Gathered (is_current (memory_of entries.now)) (slots_at plan.now) (edges_along rows.now) slots.old.items slots.new.items) }
 {
-    let mut alone = true;
     for row in rows {
-        let here = gather_row(entries, plan, slots, row)?;
-        alone = both(here, alone);
+        gather_row(entries, plan, slots, row)?;
     }
-    Ok(alone)
+    Ok(())
 }
 
 // The same of the list.
@@ -101,12 +122,11 @@ fn gather(
     plan: &[Links],
     slots: &mut Vec<Slot>,
     edges: &Edges,
-) -> Result<bool, AllocError>
-    ensures gathers { OnOk result (Gathered (is_current (memory_of entries.now)) (slots_at plan.now) (edges_in edges.now) slots.old.items slots.new.items) }
-    ensures alone { IfOk result (λ alone. IsTrue alone → AreAlone (is_current (memory_of entries.now)) (slots_at plan.now) (edges_in edges.now)) }
+) -> Result<(), AllocError>
+    ensures { OnOk result (Gathered (is_current (memory_of entries.now)) (slots_at plan.now) (edges_in edges.now) slots.old.items slots.new.items) }
 {
     match edges {
-        Edges::Empty => Ok(true),
+        Edges::Empty => Ok(()),
         Edges::Few(count, step, slot, stamp) => {
             gather_row(
                 entries,
@@ -162,10 +182,11 @@ pub fn rewrite_list(
 ) -> Result<(), AllocError>
     ensures { OnOk result (Refolded (is_current (memory_of entries.now)) (slots_at plan.now) (edges_in edges.old) (edges_in edges.new)) }
 {
-    slots.clear();
-    if gather(entries, plan, slots, edges)? {
+    if are_alone(plan, edges) {
         return Ok(());
     }
+    slots.clear();
+    gather(entries, plan, slots, edges)?;
     slots.sort_unstable();
     *edges = edges_to(alloc, entries, slots.as_slice())?;
     Ok(())

@@ -64,7 +64,7 @@ module _ {lists later : Location ℕ → List Edge} {puts : ℕ} {m n : Memory} 
   goes_up : (far r : ℕ) (f : Info) → n r ≡ Some f → covers later n far r l ≡ true → covers lists m puts r l ≡ true
   goes_up zero r f here h = absurd (true≢false (sym h))
   goes_up (suc far) r f here h = elim (either _ _ (sym (opened later n far r f here l) ∙ h)) [
-    | inl read ↦ let (s, e, there, c, edge) = (d.readers l).from (edge_to r f) (is_in (later l) (edge_to r f) read) in climbs puts s r e there (omega arith) c (old_read s e there edge)
+    | inl read ↦ let (s, e, there, c, edge) = (d.readers l).from r f here (is_in (later l) (edge_to r f) read) in climbs puts s r e there (omega arith) c (old_read s e there edge)
     | inr linked ↦
         let (p, link, is) = some_of (λ p. covers later n far p l) f.links linked in
         let (stays, (s, e, there, c, used)) = d.link r f here p link in
@@ -118,7 +118,7 @@ module _ {lists later : Location ℕ → List Edge} {puts : ℕ} {m n : Memory} 
   uses_still : (p : ℕ) (f : Info) → n p ≡ Some f → (x : Edge) → Contains f.users x → (e : Info) → n x.slot ≡ Some e → e.stamp ≡ x.stamp → Contains e.links p
   uses_still p f here x c e there same =
       let (stays, (g, had, left, users)) = d.from p f here in
-      let (s, o, origin, into_x, edge) = users.from x c in
+      let (s, o, origin, into_x, edge) = users.from x.slot e there (subst (Contains f.users) (λ j. record { slot = x.slot; stamp = sym same j }) c) in
       d.links x.slot e there p (stays, (s, o, origin, into_x, i.uses p g had (edge_to s o) edge o origin refl))
 
   pub folded_indexed : Index later puts n
@@ -128,8 +128,10 @@ module _ {lists later : Location ℕ → List Edge} {puts : ℕ} {m n : Memory} 
     ordered = λ s f here. let (stays, (e, there, left, users)) = d.from s f here in let ordered = i.ordered s e there in let a = left.since in omega arith;
     used = used_still;
     uses = uses_still;
-    past_readers = λ l x c. is_past x ((d.readers l).tells x c);
-    past_users = λ p f here x c. let (stays, (g, had, left, users)) = d.from p f here in is_past x (users.tells x c);
+    past_readers = λ l x c. elim ((d.readers l).tells x c) [ inl was ↦ i.past_readers l x was | inr tells ↦ is_past x tells ];
+    past_users = λ p f here x c.
+        let (stays, (g, had, left, users)) = d.from p f here in
+        elim (users.tells x c) [ inl was ↦ i.past_users p g had x was | inr tells ↦ is_past x tells ];
   }
 
 -- what is kept was kept just so

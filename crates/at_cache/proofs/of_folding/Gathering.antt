@@ -25,6 +25,10 @@ one_is xs x c = any_of (nat_eq x) xs x c (eq-eqb x x refl)
 pub is_none : (xs : List ℕ) (x : ℕ) → list_any (nat_eq x) xs ≡ false → Contains xs x → ⊥
 is_none xs x h c = true≢false (sym (one_is xs x c) ∙ h)
 
+pub decided : (b : Bool) → (b ≡ true) ⊎ (b ≡ false)
+decided true = inl refl
+decided false = inr refl
+
 pub only_one : {X : Type 0} (x y : X) → Contains (x ∷ []) y → y ≡ x
 only_one x y c = elim (Contains-cons_cases x y [] c) [ inl same ↦ sym same | inr none ↦ absurd (none_in y none) ]
 
@@ -80,13 +84,27 @@ module _ (there : Edge → Bool) (into : ℕ → List ℕ) where
     ];
   }
 
-  pub alone_none : AreAlone there into []
+-- each of these but those that are left is alone
+abbrev pub AreAloneBut : (into : ℕ → List ℕ) → (all left : List Edge) → Type 0
+AreAloneBut into all left = (x : Edge) → Contains all x → (into x.slot ≡ x.slot ∷ []) ⊎ Contains left x
+
+module _ (into : ℕ → List ℕ) where
+  pub alone_none : AreAlone into []
   alone_none x c = absurd (none_in x c)
 
-  pub alone_one : (x : Edge) → there x ≡ true → into x.slot ≡ x.slot ∷ [] → AreAlone there into (x ∷ [])
-  alone_one x is only y c = subst (λ (z : Edge). (there z ≡ true) × (into z.slot ≡ z.slot ∷ [])) (sym (only_one x y c)) (is, only)
+  pub alone_more : (all left rest : List Edge) (x : Edge) → left ≡ x ∷ rest → into x.slot ≡ x.slot ∷ [] → AreAloneBut into all left → AreAloneBut into all rest
+  alone_more all left rest x is only before y c = elim (before y c) [
+    | inl done ↦ inl done
+    | inr more ↦ elim (Contains-cons_cases x y rest (subst (λ es. Contains es y) is more)) [
+      | inl same ↦ inl (subst (λ (z : Edge). into z.slot ≡ z.slot ∷ []) same only)
+      | inr later ↦ inr later
+    ]
+  ]
 
-  pub alone_then : (xs ys : List Edge) → AreAlone there into xs → AreAlone there into ys → AreAlone there into (xs ++ ys)
+  pub alone_end : (all left : List Edge) → left ≡ [] → AreAloneBut into all left → AreAlone into all
+  alone_end all left none before x c = elim (before x c) [ inl done ↦ done | inr more ↦ absurd (none_in x (subst (λ es. Contains es x) none more)) ]
+
+  pub alone_then : (xs ys : List Edge) → AreAlone into xs → AreAlone into ys → AreAlone into (xs ++ ys)
   alone_then xs ys a b x c = elim (Contains-append_cases xs ys x c) [ inl d ↦ a x d | inr d ↦ b x d ]
 
 -- the edges to what is in slots
@@ -116,13 +134,14 @@ edges_more m slots x old new is lists has a = record {
 }
 
 -- a list whose edges all tell of such as stay is as it was
-pub refolded_alone : (m : Memory) (into : ℕ → List ℕ) (xs : List Edge) → AreAlone (is_current m) into xs → Refolded (is_current m) into xs xs
+pub refolded_alone : (m : Memory) (into : ℕ → List ℕ) (xs : List Edge) → AreAlone into xs → Refolded (is_current m) into xs xs
 refolded_alone m into xs alone = record {
   has = λ y u k.
       let (x, c, is, d) = u in
-      let same : y.slot ≡ x.slot = only_one x.slot y.slot (subst (λ rs. Contains rs y.slot) ((alone x c).1) d) in
+      let same : y.slot ≡ x.slot = only_one x.slot y.slot (subst (λ rs. Contains rs y.slot) (alone x c) d) in
       subst (Contains xs) (told_same m x y is k (sym same)) c;
-  from = λ y c. let (is, only) = alone y c in (is, (y, c, is, subst (λ rs. Contains rs y.slot) (sym only) (head_of y.slot [])));
+  from = λ y c is. (y, c, is, subst (λ rs. Contains rs y.slot) (sym (alone y c)) (head_of y.slot []));
+  stale = λ y c is. c;
 }
 
 -- and else it is made anew
@@ -132,12 +151,11 @@ refolded_by m into xs new none slots sorted read empty g shuffled same e = recor
   has = λ y u k.
       let (x, c, is, d) = u in
       e.has y (subst (λ rs. Contains rs y.slot) (sym same) (Contains-permutation slots sorted y.slot shuffled (g.has x y.slot c is d))) k;
-  from = λ y c.
-      let (is, d) = e.from y c in (
-        is,
-        elim (g.from y.slot (Contains-permutation sorted slots y.slot (IsPermutation-sym slots sorted shuffled) (subst (λ rs. Contains rs y.slot) same d))) [
-          | inl f ↦ absurd (none_in y.slot (subst (λ rs. Contains rs y.slot) empty f))
-          | inr u ↦ u
-        ],
-      );
+  from = λ y c k.
+      let (is, d) = e.from y c in
+      elim (g.from y.slot (Contains-permutation sorted slots y.slot (IsPermutation-sym slots sorted shuffled) (subst (λ rs. Contains rs y.slot) same d))) [
+        | inl f ↦ absurd (none_in y.slot (subst (λ rs. Contains rs y.slot) empty f))
+        | inr u ↦ u
+      ];
+  stale = λ y c k. let (is, d) = e.from y c in absurd (true≢false (sym is ∙ k));
 }

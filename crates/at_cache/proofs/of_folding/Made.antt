@@ -4,7 +4,7 @@ use Rattle.std.proofs.lemmas.Option.{none-some, same_Some}
 use Rattle.at_model.specs.Run.{Instance, Location}
 use Rattle.at_cache.specs.declared.edge.Edge.{Edge}
 use Rattle.at_cache.specs.declared.table.Table.{Table}
-use Rattle.at_cache.specs.Folding.{AreLinks, Folded, Folds, HasUsed, IsLeft, IsRelinked, LeavesKept, Refolded, Relinks, Remains, Rewritten, Stays}
+use Rattle.at_cache.specs.Folding.{AreLinks, Folded, Folds, HasUsed, HasUser, IsLeft, IsRelinked, LeavesKept, Refolded, Relinks, Remains, Rewritten, Stays, Tells}
 use Rattle.at_cache.specs.Info.{Info, Memory, memory_of}
 use Rattle.at_cache.specs.Kept.{Kept}
 use Rattle.at_cache.specs.Putting.{is_current}
@@ -14,7 +14,7 @@ use Rattle.at_cache.proofs.Listing.{current}
 use Rattle.at_cache.proofs.Showing.{leaves_of}
 use Rattle.at_cache.proofs.Shown.{shown_table}
 use Rattle.at_cache.proofs.of_folding.Folded.{folded_indexed, kept_folded}
-use Rattle.at_cache.proofs.of_folding.Gathering.{told}
+use Rattle.at_cache.proofs.of_folding.Gathering.{decided, told}
 
 module _ {lists later : Location ℕ → List Edge} {puts : ℕ} {m mid n : Memory} {into links : ℕ → List ℕ} (i : Index lists puts m) (plan : Folds m into) (readers : (l : Location ℕ) → Refolded (is_current m) into (lists l) (later l)) (linked : AreLinks m into links) (relinked : Relinks into links m mid) (left : Remains into mid n) where
   -- an entry into which one is folded is there, and stays
@@ -62,25 +62,32 @@ module _ {lists later : Location ℕ → List Edge} {puts : ℕ} {m mid n : Memo
       let (g, is, same, its, users) = subst (λ o. IsRelinked (is_current m) into (links r) o (mid r)) there (relinked r stays) in
       (g, left.stays r stays ∙ is)
 
+  -- an edge to one into which some entry is folded tells of what is left
+  still : (old : List Edge) (x : Edge) → is_current m x ≡ true → HasUser (is_current m) into old x.slot → Tells n x
+  still old x is (z, d, k, t) =
+      let (e, there, stamp) = told m z k in
+      let (g, found, of_x) = told m x is in
+      let (stays, more) = ends puts z.slot x.slot e there (omega arith) t in
+      let (f, here) = left_there x.slot g found stays in
+      let l = left_of x.slot f here in
+      let one : l.e ≡ g = same_Some l.e g (sym l.there ∙ found) in
+      (f, here, l.same.stamp ∙ ap (λ (y : Info). y.stamp) one ∙ of_x)
+
   rewritten : (old new : List Edge) → Refolded (is_current m) into old new → Rewritten m into n old new
   rewritten old new h = record {
     has = λ r f here u.
         let (s, e, there, c, d) = u in
         let l = left_of r f here in
         h.has (edge_to r f) (edge_to s e, d, current m (edge_to s e) e there refl, c) (current m (edge_to r f) l.e l.there (sym l.same.stamp));
-    from = λ x c.
-        let (is, (z, d, k, t)) = h.from x c in
+    from = λ r f here c.
+        let l = left_of r f here in
+        let (z, d, k, t) = h.from (edge_to r f) c (current m (edge_to r f) l.e l.there (sym l.same.stamp)) in
         let (e, there, stamp) = told m z k in
         (z.slot, e, there, t, subst (Contains old) (λ j. record { slot = z.slot; stamp = sym stamp j }) d);
-    tells = λ x c.
-        let (is, (z, d, k, t)) = h.from x c in
-        let (e, there, stamp) = told m z k in
-        let (g, found, of_x) = told m x is in
-        let (stays, more) = ends puts z.slot x.slot e there (omega arith) t in
-        let (f, here) = left_there x.slot g found stays in
-        let l = left_of x.slot f here in
-        let one : l.e ≡ g = same_Some l.e g (sym l.there ∙ found) in
-        (f, here, l.same.stamp ∙ ap (λ (y : Info). y.stamp) one ∙ of_x);
+    tells = λ x c. elim (decided (is_current m x)) [
+      | inl is ↦ inr (still old x is (h.from x c is))
+      | inr stale ↦ inl (h.stale x c stale)
+    ];
   }
 
   pub folded_by : Folded lists m into later n

@@ -13,14 +13,14 @@ use Rattle.at_cache.specs.Kept.{node_at}
 use Rattle.at_cache.specs.Readers.{edges_among, edges_at, stands_for}
 use Rattle.at_cache.proofs.Ending.{has, is_in}
 use Rattle.at_cache.proofs.Taking.{none_in}
-use Rattle.at_cache.proofs.of_folding.Gathering.{user_of}
+use Rattle.at_cache.proofs.of_folding.Gathering.{decided, user_of}
 
 abbrev edges_of : Location ℕ → Option (SmallVec Readers) → List Edge
 edges_of l o = elim o [ None ↦ [] | Some v ↦ edges_among (node_at l) v.items l ]
 
 module _ (there : Edge → Bool) (into : ℕ → List ℕ) where
   pub refolded_none : Refolded there into [] []
-  refolded_none = record { has = λ y u is. let (x, c, k, d) = u in absurd (none_in x c); from = λ y c. absurd (none_in y c) }
+  refolded_none = record { has = λ y u is. let (x, c, k, d) = u in absurd (none_in x c); from = λ y c. absurd (none_in y c); stale = λ y c. absurd (none_in y c) }
 
   pub refolded_append : (a b c d : List Edge) → Refolded there into a b → Refolded there into c d → Refolded there into (a ++ c) (b ++ d)
   refolded_append a b c d left right = record {
@@ -30,9 +30,13 @@ module _ (there : Edge → Bool) (into : ℕ → List ℕ) where
           | inl e ↦ Contains-append_left b d y (left.has y (x, e, it, f) is)
           | inr e ↦ Contains-append_right b d y (right.has y (x, e, it, f) is)
         ];
-    from = λ y k. elim (Contains-append_cases b d y k) [
-      | inl e ↦ let (is, u) = left.from y e in (is, user_of there into a (a ++ c) y.slot (λ x f. Contains-append_left a c x f) u)
-      | inr e ↦ let (is, u) = right.from y e in (is, user_of there into c (a ++ c) y.slot (λ x f. Contains-append_right a c x f) u)
+    from = λ y k is. elim (Contains-append_cases b d y k) [
+      | inl e ↦ user_of there into a (a ++ c) y.slot (λ x f. Contains-append_left a c x f) (left.from y e is)
+      | inr e ↦ user_of there into c (a ++ c) y.slot (λ x f. Contains-append_right a c x f) (right.from y e is)
+    ];
+    stale = λ y k is. elim (Contains-append_cases b d y k) [
+      | inl e ↦ Contains-append_left a c y (left.stale y e is)
+      | inr e ↦ Contains-append_right a c y (right.stale y e is)
     ];
   }
 
@@ -65,6 +69,7 @@ module _ (there : Edge → Bool) (into : ℕ → List ℕ) where
 
   -- where an edge of a location is, one was
   pub noted_still : (old new : Location ℕ → List Edge) (nodes : List ℕ) → ((l : Location ℕ) → Refolded there into (old l) (new l)) → AreNoted old nodes → AreNoted new nodes
-  noted_still old new nodes h noted n x is =
-      let (k, (z, c, it, d)) = (h (Idx n)).from x (is_in (new (Idx n)) x is) in
-      noted n z (has (old (Idx n)) z c)
+  noted_still old new nodes h noted n x is = elim (decided (there x)) [
+    | inl current ↦ let (z, c, it, d) = (h (Idx n)).from x (is_in (new (Idx n)) x is) current in noted n z (has (old (Idx n)) z c)
+    | inr stale ↦ noted n x (has (old (Idx n)) x ((h (Idx n)).stale x (is_in (new (Idx n)) x is) stale))
+  ]
