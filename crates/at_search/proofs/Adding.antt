@@ -1,5 +1,6 @@
 -- One piece more of a formula under way.
-use Rattle.std.proofs.Common.{◌≡◌, ◌⊎◌, ℕ, ◌+◌, Bool, true, false, List, [], ◌∷◌, ◌++◌, length, reverse, slice_get, Option, Some, None, IsSome, Result, Ok, Err, OnOk, inl, inr, refl, sym, ap, ◌∙◌, subst}
+use Rattle.std.proofs.Common.{◌≡◌, ◌⊎◌, ℕ, ◌+◌, Bool, true, false, List, [], ◌∷◌, ◌++◌, length, reverse, slice_get, Option, Some, None, IsSome, Result, Ok, Err}
+use Rattle.std.proofs.Common.{OnOk, inl, inr, refl, sym, ap, ◌∙◌, subst}
 use Rattle.at_model.specs.Run.{Value, Truth, Instance, Known}
 use Rattle.at_model.specs.Bodies.{truth_of}
 use Rattle.at_model.specs.Meaning.{Among}

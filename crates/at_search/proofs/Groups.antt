@@ -1,5 +1,6 @@
 -- Groups of a system, one after the other: which are told their values, and which are open.
-use Rattle.std.proofs.Common.{◌≡◌, ◌⊎◌, ◌↔◌, inl, inr, ℕ, zero, suc, ◌+◌, ◌<◌, ◌≤◌, Bool, true, false, true≢false, List, [], ◌∷◌, ◌++◌, get_or, length, map, slice_get, Option, Some, None, IsSome, Vec, refl, sym, ap, ◌∙◌, subst, arith}
+use Rattle.std.proofs.Common.{◌≡◌, ◌⊎◌, ◌↔◌, inl, inr, ℕ, zero, suc, ◌+◌, ◌<◌, ◌≤◌, Bool, true, false, true≢false, List, [], ◌∷◌, ◌++◌, get_or, length, map}
+use Rattle.std.proofs.Common.{slice_get, Option, Some, None, IsSome, Vec, refl, sym, ap, ◌∙◌, subst, arith}
 use Rattle.std.specs.Global.{Global}
 use Rattle.at_model.specs.Run.{Value, Truth, Instance, Contents, Known}
 use Rattle.at_model.specs.Meaning.{Among}
@@ -17,17 +18,28 @@ use Rattle.at_search.specs.declared.ended.Ended.{Ended}
 use Rattle.at_search.specs.declared.solving.Solved.{Solved}
 use Rattle.at_search.specs.declared.system.System.{System}
 use Rattle.at_search.specs.LedTo.{AreClosedIn}
-use Rattle.at_search.specs.Recorded.{AreMarksRight, IsSettled, Recorded, end_of}
+use Rattle.at_search.specs.Recorded.{AreFacts, AreMarksRight, Recorded, end_of}
 use Rattle.at_search.specs.Systems.{IsFormed, IsSystem}
-use Rattle.at_search.specs.Solved.{AreAllTold, AreDerived, AreInOrder, AreRight, AreShut, AreTold, HasOpenedAll, HasSolved, IsSolvedIn, is_open_at, solved_at, value_at}
+use Rattle.at_search.specs.Solved.{AreAllTold, AreDerived, AreInOrder, AreRight, AreShut, AreTold, AreToldOrSpoilt, HasOpenedAll, HasSolved, IsSolvedIn}
+use Rattle.at_search.specs.Solved.{IsSpoilt, IsToldSome, is_open_at, solved_at, value_at}
 use Rattle.at_search.proofs.Derived.{no_value, there_among}
 use Rattle.at_search.proofs.Piecewise.{at_last}
 use Rattle.at_search.proofs.Places.{item_at, read_at, same_or_not, within}
+use Rattle.at_search.proofs.Shutting.{shut_or_open}
 use Rattle.at_search.proofs.ToldValues.{told}
 
 -- it is told in the group at this place
 abbrev pub StandsIn : List (Vec Solved Global) → ℕ → ℕ → Type 0
 StandsIn solved k q = (g : Vec Solved Global) × (t : Solved) × (slice_get solved k ≡ Some g) × Among t g.items × (t.position ≡ q)
+
+-- Formulas lead from it to one of these that has no formula, or whose formula asks for what isn't known and isn't among these.
+pub record IsStopped (known : Known ℕ) (ended : List (Instance ℕ × Ended)) (insts : List (Instance ℕ)) (i : Instance ℕ) : Type 0 where
+  pub by : Instance ℕ
+  pub among : Among by insts
+  pub unknown : known by ≡ None
+  pub led : LeadsOver (Recorded ended) i by
+  pub why : ((f : Formula ℕ) → Recorded ended by (Made f) → ⊥)
+      ⊎ ((f : Formula ℕ) × (j : Instance ℕ) × Recorded ended by (Made f) × Among j (atoms f) × (known j ≡ None) × (¬ (Among j insts)))
 
 -- So many groups of the first system were gone through: positions that are told aren't open, and lead to none but such, told with
 -- them or before; the others of these groups are open, and what is open is known, or leads to an equation that gives no formula.
@@ -43,9 +55,8 @@ pub record IsSolving (known : Known ℕ) (ended : List (Instance ℕ × Ended)) 
       t.value ≡ value_at first.conditions.start leave t.position
   pub from : (k q : ℕ) → StandsIn solved k q → (l : ℕ) × (l < n) × Among q (listed_at lists l)
   pub rest : (l q : ℕ) → l < n → Among q (listed_at lists l) → (is_open_at s.open.items q ≡ true) ⊎ ((k : ℕ) × StandsIn solved k q)
-  pub opened : (look : Contents ℕ) (forms : Forms ℕ) → AreRight look forms first.conditions.start known ended insts →
-      AreMarksRight look forms known ended → AreClosedIn known ended insts → (m : ℕ) (i : Instance ℕ) →
-      is_open_at s.open.items m ≡ true → slice_get insts m ≡ Some i → IsSome (known i) ⊎ (AreFormed (EndsSo look forms) i → ⊥)
+  pub opened : (m : ℕ) (i : Instance ℕ) → is_open_at s.open.items m ≡ true → slice_get insts m ≡ Some i →
+      IsSome (known i) ⊎ IsStopped known ended insts i
 
 at_front : {A : Type 0} (xs ys : List A) (n : ℕ) (x : A) → slice_get xs n ≡ Some x → slice_get (xs ++ ys) n ≡ Some x
 at_front [] ys n x e = absurd cc
@@ -172,6 +183,10 @@ stood_or_last gs v start leave group k q e (g, t, at, h, is) = elim (at_push gs 
 stood_before : (gs : List (Vec Solved Global)) (k q : ℕ) → StandsIn gs k q → k < length gs
 stood_before gs k q (g, t, at, h, e) = within gs k g at
 
+known_or : (o : Option (Value ℕ)) → IsSome o ⊎ (o ≡ None)
+known_or None = inr refl
+known_or (Some v) = inl refl
+
 leads_then : (has : Instance ℕ → End ℕ (Formula ℕ) → Type 0) (i j k : Instance ℕ) → LeadsOver has i j → LeadsOver has j k → LeadsOver has i k
 leads_then has _ _ k (fixpoints.stays i) y = y
 leads_then has _ j k (fixpoints.goes i m _ f h a x) y = fixpoints.goes i m k f h a (leads_then has m j k x y)
@@ -241,92 +256,119 @@ module _ (known : Known ℕ) (ended : List (Instance ℕ × Ended)) (insts : Lis
             let (l, st) = among_stands solved m h in
             (x.wider m (x.closed l m st), λ p a. let (o, less, y) = x.led l m st p a in stand_among solved o p y)
 
-    -- and each is told that has one, once all groups were gone through
-    pub all_solved : (look : Contents ℕ) (forms : Forms ℕ) (leave : List Bool) (lists : List (Vec ℕ Global)) (n : ℕ) (s : System)
-        (solved : List (Vec Solved Global)) → AreRight look forms first.conditions.start known ended insts →
-        AreMarksRight look forms known ended → AreClosedIn known ended insts → AreComponents first.edges.items (length first.edges.items) lists →
-        length lists ≤ n → Solving leave lists n s solved → AreAllTold look forms known insts solved
-    all_solved look forms leave lists n s solved right marks shut comps past x i a none formed =
+    -- edges lead where formulas do
+    led_to : (m q : ℕ) (i : Instance ℕ) → Leads first.edges.items m q → slice_get insts m ≡ Some i → known i ≡ None →
+        (j : Instance ℕ) × (slice_get insts q ≡ Some j) × (known j ≡ None) × LeadsOver (Recorded ended) i j
+    led_to _ _ i (components.stays n) at none = (i, at, none, fixpoints.stays i)
+    led_to _ q i (components.goes n m _ e d) at none =
+        let (f, j, r, a, none_j, at_m) = edge_at n m i at e in
+        let (k, at_k, none_k, led) = led_to m q j d at_m none_j in (k, at_k, none_k, fixpoints.goes i j k f r a led)
+
+    -- what stops one stops those that lead to it
+    stops_before : (i j : Instance ℕ) → known j ≡ None → LeadsOver (Recorded ended) i j → IsSome (known j) ⊎ IsStopped known ended insts j →
+        IsStopped known ended insts i
+    stops_before i j none led (inl k) = absurd (no_value (known j) none k)
+    stops_before i j none led (inr x) = record {
+      by = x.by;
+      among = x.among;
+      unknown = x.unknown;
+      led = leads_then (Recorded ended) i j x.by led x.led;
+      why = x.why;
+    }
+
+    -- what is open from the beginning
+    open_first : (m : ℕ) (i : Instance ℕ) → is_open_at first.open.items m ≡ true → slice_get insts m ≡ Some i →
+        IsSome (known i) ⊎ IsStopped known ended insts i
+    open_first m i o at = elim (system.all.placed m i (within insts m i at) at) [
+      | inl u ↦ elim u.why [
+        | inl k ↦ inl k
+        | inr none ↦ elim (known_or (known i)) [
+          | inl k ↦ inl k
+          | inr unknown ↦ inr (record {
+            by = i;
+            among = there_among insts m i at;
+            unknown = unknown;
+            led = fixpoints.stays i;
+            why = inl none;
+          })
+        ]
+      ]
+      | inr (f, x) ↦
+          let (j, a, none, out) = x.targets.outside (sym (read_at first.open.items m x.is_open true x.at) ∙ o) in inr (record {
+            by = i;
+            among = there_among insts m i at;
+            unknown = x.unknown;
+            led = fixpoints.stays i;
+            why = inr (f, j, x.recorded, a, none, out);
+          })
+    ]
+
+    -- each is told some value, or is known, or stopped, once all groups were gone through
+    all_gone : (leave : List Bool) (lists : List (Vec ℕ Global)) (n : ℕ) (s : System) (solved : List (Vec Solved Global)) →
+        AreComponents first.edges.items (length first.edges.items) lists → length lists ≤ n → Solving leave lists n s solved →
+        (i : Instance ℕ) → Among i insts → IsToldSome insts solved i ⊎ (IsSome (known i) ⊎ IsStopped known ended insts i)
+    all_gone leave lists n s solved comps past x i a =
         let (q, at) = place_of insts i a in
         let less : q < length first.edges.items = subst (λ z. q < z) (sym system.all.edges) (within insts q i at) in
         let (l, in_l) = comps.whole q less in
         let low : l < n = omega (arith, listed_within lists l q in_l, past) in
         elim (x.rest l q low in_l) [
-          | inl o ↦ absurd (elim (x.opened look forms right marks shut q i o at) [ inl k ↦ no_value (known i) none k | inr off ↦ off formed ])
+          | inl o ↦ inr (x.opened q i o at)
           | inr (k, (g, t, at_g, in_g, e)) ↦
-              (t.value, (k, (g, t, at_g, in_g, subst (λ z. slice_get insts z ≡ Some i) (sym e) at, refl)))
+              inl (t.value, (k, (g, t, at_g, in_g, subst (λ z. slice_get insts z ≡ Some i) (sym e) at, refl)))
         ]
 
-    module _ (look : Contents ℕ) (forms : Forms ℕ) (right : AreRight look forms first.conditions.start known ended insts) where
-      -- edges lead where formulas do
-      led_to : (m q : ℕ) (i : Instance ℕ) → Leads first.edges.items m q → slice_get insts m ≡ Some i → known i ≡ None →
-          (j : Instance ℕ) × (slice_get insts q ≡ Some j) × (known j ≡ None) × LeadsOver (EndsSo look forms) i j
-      led_to _ _ i (components.stays n) at none = (i, at, none, fixpoints.stays i)
-      led_to _ q i (components.goes n m _ e d) at none =
-          let (f, j, r, a, none_j, at_m) = edge_at n m i at e in
-          let (k, at_k, none_k, led) = led_to m q j d at_m none_j in
-          (k, at_k, none_k, fixpoints.goes i j k f (right.facts i (Made f) r) a led)
-
-      module _ (marks : AreMarksRight look forms known ended) (shut : AreClosedIn known ended insts) where
-        abbrev IsBad : Instance ℕ → Type 0
-        IsBad i = IsSome (known i) ⊎ (AreFormed (EndsSo look forms) i → ⊥)
-
-        not_made : (i : Instance ℕ) (e : End ℕ (Formula ℕ)) → ((f : Formula ℕ) → Recorded ended i (Made f) → ⊥) → Recorded ended i e →
-            AreFormed (EndsSo look forms) i → ⊥
-        not_made i (Made f) none r formed = none f r
-        not_made i (Spoilt k at) none r formed =
-            let (f, x) = formed i (fixpoints.stays i) in
-            let same : Made f ≡ Spoilt k at = ends_one look forms i (Made f) (Spoilt k at) x (right.facts i (Spoilt k at) r) in absurd cc
-
-        -- what is open from the beginning
-        open_first : (m : ℕ) (i : Instance ℕ) → is_open_at first.open.items m ≡ true → slice_get insts m ≡ Some i → IsBad i
-        open_first m i o at = elim (system.all.placed m i (within insts m i at) at) [
-          | inl u ↦ elim u.why [
-            | inl k ↦ inl k
-            | inr none ↦ let w = shut i (there_among insts m i at) in inr (not_made i w.end none w.ends)
+    -- and what is stopped is spoilt, where formulas lead to none but these and what is settled
+    spoilt_by : AreClosedIn known ended insts → (i : Instance ℕ) → IsStopped known ended insts i → IsSpoilt known ended i
+    spoilt_by shut i x = elim x.why [
+      | inl none ↦ by_fault (shut x.by x.among).end none (shut x.by x.among).ends
+      | inr (f, j, r, a, none, out) ↦
+          let w = shut x.by x.among in
+          let same : w.end ≡ Made f = one_end x.by w.end (Made f) w.ends r in
+          elim (w.next j (subst (λ z. Among j (asked_in z)) (sym same) a)) [
+            | inl there ↦ absurd (out there)
+            | inr settled ↦ elim settled [
+              | inl k ↦ absurd (no_value (known j) none k)
+              | inr marked ↦ record {
+                to = j;
+                led = leads_then (Recorded ended) i x.by j x.led (fixpoints.goes x.by j j f r a (fixpoints.stays j));
+                unknown = none;
+                why = inr marked;
+              }
+            ]
           ]
-          | inr (f, x) ↦ outside f x
-        ]
-          where
-            outside : (f : Formula ℕ) → IsFormed known ended insts first m i f → IsBad i
-            outside f x =
-                let (j, a, none, out) = x.targets.outside (sym (read_at first.open.items m x.is_open true x.at) ∙ o) in
-                let w = shut i (there_among insts m i at) in
-                let same : w.end ≡ Made f = one_end i w.end (Made f) w.ends x.recorded in
-                elim (w.next j (subst (λ z. Among j (asked_in z)) (sym same) a)) [
-                  | inl there ↦ absurd (out there)
-                  | inr settled ↦ elim settled [
-                    | inl k ↦ absurd (no_value (known j) none k)
-                    | inr marked ↦ inr (λ formed. marks j marked none (λ k l. formed k
-                        (fixpoints.goes i j k f (right.facts i (Made f) x.recorded) a l)))
-                  ]
-                ]
+    ]
+      where
+        by_fault : (e : End ℕ (Formula ℕ)) → ((f : Formula ℕ) → Recorded ended x.by (Made f) → ⊥) → Recorded ended x.by e →
+            IsSpoilt known ended i
+        by_fault (Made f) none r = absurd (none f r)
+        by_fault (Spoilt k at) none r = record { to = x.by; led = x.led; unknown = x.unknown; why = inl (k, at, r) }
 
-        module _ (leave : List Bool) (lists : List (Vec ℕ Global)) (n : ℕ) (s : System) (solved : List (Vec Solved Global))
-            (x : Solving leave lists n s solved) where
-          not_open : (q : ℕ) (j : Instance ℕ) → slice_get insts q ≡ Some j → known j ≡ None → AreFormed (EndsSo look forms) j →
-              is_open_at s.open.items q ≡ false
-          not_open q j at none formed = by (is_open_at s.open.items q) refl
-            where
-              by : (b : Bool) → is_open_at s.open.items q ≡ b → b ≡ false
-              by true e = absurd (elim (x.opened look forms right marks shut q j e at) [
-                | inl k ↦ no_value (known j) none k
-                | inr off ↦ off formed
-              ])
-              by false e = refl
+    pub told_or_spoilt : (leave : List Bool) (lists : List (Vec ℕ Global)) (n : ℕ) (s : System) (solved : List (Vec Solved Global)) →
+        AreComponents first.edges.items (length first.edges.items) lists → length lists ≤ n → Solving leave lists n s solved →
+        AreClosedIn known ended insts → AreToldOrSpoilt known ended insts solved
+    told_or_spoilt leave lists n s solved comps past x shut i a = elim (all_gone leave lists n s solved comps past x i a) [
+      | inl told ↦ inl told
+      | inr u ↦ elim u [ inl k ↦ inr (inl k) | inr stopped ↦ inr (inr (spoilt_by shut i stopped)) ]
+    ]
 
-          -- a group is shut where one member has formulas alone
-          all_shut : (m : ℕ) (i : Instance ℕ) (group : List ℕ) → ((q : ℕ) → Among q group → Leads first.edges.items m q) →
-              slice_get insts m ≡ Some i → known i ≡ None → AreFormed (EndsSo look forms) i → AreShut s group
-          all_shut m i group joined at none formed q a =
-              let (j, at_j, none_j, led) = led_to m q i (joined q a) at none in (
-                not_open q j at_j none_j (λ k l. formed k (leads_then (EndsSo look forms) i j k led l)),
-                λ p h.
-                    let (f, o, r, b, none_o, at_o) =
-                    edge_at q p j at_j (subst (λ z. Among p (listed_at z q)) (ap (λ (v : Vec (Vec ℕ Global) Global). v.items) x.edges) h) in
-                    not_open p o at_o none_o (λ k l. formed k (leads_then (EndsSo look forms) i j k led
-                    (fixpoints.goes j o k f (right.facts j (Made f) r) b l))),
-              )
+    -- a group that isn't shut stops each member that isn't known
+    module _ (leave : List Bool) (lists : List (Vec ℕ Global)) (n : ℕ) (s : System) (solved : List (Vec Solved Global))
+        (x : Solving leave lists n s solved) where
+      stopped_in : (m : ℕ) (i : Instance ℕ) (group : List ℕ) → ((q : ℕ) → Among q group → Leads first.edges.items m q) →
+          slice_get insts m ≡ Some i → known i ≡ None → (AreShut s group → ⊥) → IsStopped known ended insts i
+      stopped_in m i group joined at none off = elim (shut_or_open s group) [
+        | inl all ↦ absurd (off all)
+        | inr (q, a, w) ↦
+            let (j, at_j, none_j, led) = led_to m q i (joined q a) at none in
+            stops_before i j none_j led (elim w [
+              | inl o ↦ x.opened q j o at_j
+              | inr (p, h, o) ↦
+                  let (f, k, r, b, none_k, at_k) =
+                  edge_at q p j at_j (subst (λ z. Among p (listed_at z q)) (ap (λ (v : Vec (Vec ℕ Global) Global). v.items) x.edges) h) in
+                  inr (stops_before j k none_k (fixpoints.goes j k k f r b (fixpoints.stays k)) (x.opened p k o at_k))
+            ])
+      ]
 
     -- no group was gone through yet
     pub none_solved : (leave : List Bool) (lists : List (Vec ℕ Global)) → Solving leave lists 0 first []
@@ -339,7 +381,7 @@ module _ (known : Known ℕ) (ended : List (Instance ℕ × Ended)) (insts : Lis
       values = λ k g t at a. absurd cc;
       from = λ k q st. absurd (none_in k q st);
       rest = λ l q less a. absurd (omega (arith, less));
-      opened = λ look forms right marks shut m i o at. open_first look forms right marks shut m i o at;
+      opened = open_first;
     }
       where
         none_in : (k q : ℕ) → StandsIn [] k q → ⊥
@@ -422,9 +464,9 @@ module _ (known : Known ℕ) (ended : List (Instance ℕ × Ended)) (insts : Lis
           | inl before ↦ elim (x.rest l q before a) [ inl y ↦ inl (still_open q y) | inr st ↦ inr st ]
           | inr e ↦ inl (o.opened q (in_group l q e a))
         ];
-        opened = λ look forms right marks shut m i y at. elim (in_or_not m group) [
-          | inl a ↦ bad look forms right marks shut m i a at (known i) refl
-          | inr out ↦ x.opened look forms right marks shut m i (sym (o.others m out) ∙ y) at
+        opened = λ m i y at. elim (in_or_not m group) [
+          | inl a ↦ bad m i a at
+          | inr out ↦ x.opened m i (sym (o.others m out) ∙ y) at
         ];
       }
         where
@@ -436,16 +478,12 @@ module _ (known : Known ℕ) (ended : List (Instance ℕ × Ended)) (insts : Lis
           still_open : (q : ℕ) → is_open_at s.open.items q ≡ true → is_open_at new.open.items q ≡ true
           still_open q y = elim (in_or_not q group) [ inl a ↦ o.opened q a | inr out ↦ o.others q out ∙ y ]
 
-          some_is : (v : Option (Value ℕ)) (w : Value ℕ) → v ≡ Some w → IsSome v
-          some_is None w e = absurd cc
-          some_is (Some u) w e = refl
-
-          bad : (look : Contents ℕ) (forms : Forms ℕ) → AreRight look forms first.conditions.start known ended insts →
-              AreMarksRight look forms known ended → AreClosedIn known ended insts → (m : ℕ) (i : Instance ℕ) → Among m group →
-              slice_get insts m ≡ Some i → (v : Option (Value ℕ)) → known i ≡ v → IsSome (known i) ⊎ (AreFormed (EndsSo look forms) i → ⊥)
-          bad look forms right marks shut m i a at None none = inr (λ formed. off (all_shut look forms right marks shut leave lists n s solved x m i
-              group (λ q b. comps.joined m q n (in_lists m a) (in_lists q b)) at none formed))
-          bad look forms right marks shut m i a at (Some w) e = inl (some_is (known i) w e)
+          bad : (m : ℕ) (i : Instance ℕ) → Among m group → slice_get insts m ≡ Some i → IsSome (known i) ⊎ IsStopped known ended insts i
+          bad m i a at = elim (known_or (known i)) [
+            | inl k ↦ inl k
+            | inr none ↦ inr (stopped_in leave lists n s solved x m i group
+                (λ q b. comps.joined m q n (in_lists m a) (in_lists q b)) at none off)
+          ]
 
       -- what was done of the next group
       pub one_solved : (new : System) (after : List (Vec Solved Global)) → HasSolved group leave s new solved after →
@@ -485,15 +523,41 @@ module _ (known : Known ℕ) (ended : List (Instance ℕ × Ended)) (insts : Lis
       (subst (λ z. AreRight look forms z known ended insts) (sym system.all.start') right)
       (subst (λ z. (p : ℕ) → (get_or leave p false ≡ true) ↔ Derives z p) e derived) x
 
-  pub all_at_end : (look : Contents ℕ) (forms : Forms ℕ) (start : Bool) (first : System) (leave : List Bool)
-      (lists lists' edges : List (Vec ℕ Global)) (n : ℕ) (s : System) (solved : List (Vec Solved Global)) →
-      IsSystem start known ended insts first → edges ≡ first.edges.items → AreComponents edges (length edges) lists → lists' ≡ lists →
-      length lists' ≤ n → IsSolving known ended insts first leave lists' n s solved → AreRight look forms start known ended insts →
-      AreMarksRight look forms known ended → AreClosedIn known ended insts → AreAllTold look forms known insts solved
-  all_at_end look forms start first leave lists lists' edges n s solved system ee comps el past x right marks shut =
-      all_solved first (own start first system) look forms leave lists' n s solved
-      (subst (λ z. AreRight look forms z known ended insts) (sym system.all.start') right) marks shut
-      (subst (λ z. AreComponents z (length z) lists') ee (subst (λ z. AreComponents edges (length edges) z) (sym el) comps)) past x
+  pub rest_at_end : (start : Bool) (first : System) (leave : List Bool) (lists lists' edges : List (Vec ℕ Global)) (n : ℕ) (s : System)
+      (solved : List (Vec Solved Global)) → IsSystem start known ended insts first → edges ≡ first.edges.items →
+      AreComponents edges (length edges) lists → lists' ≡ lists → length lists' ≤ n →
+      IsSolving known ended insts first leave lists' n s solved → AreClosedIn known ended insts → AreToldOrSpoilt known ended insts solved
+  rest_at_end start first leave lists lists' edges n s solved system ee comps el past x shut =
+      told_or_spoilt first (own start first system) leave lists' n s solved
+      (subst (λ z. AreComponents z (length z) lists') ee (subst (λ z. AreComponents edges (length edges) z) (sym el) comps)) past x shut
+
+  -- what is recorded leads where formulas do
+  led_so : (look : Contents ℕ) (forms : Forms ℕ) → AreFacts look forms ended → (i j : Instance ℕ) → LeadsOver (Recorded ended) i j →
+      LeadsOver (EndsSo look forms) i j
+  led_so look forms facts _ _ (fixpoints.stays i) = fixpoints.stays i
+  led_so look forms facts _ j (fixpoints.goes i m _ f h a y) =
+      fixpoints.goes i m j f (facts i (Made f) h) a (led_so look forms facts m j y)
+
+  -- what is spoilt doesn't lead to formulas alone
+  not_formed : (look : Contents ℕ) (forms : Forms ℕ) → AreFacts look forms ended → AreMarksRight look forms known ended → (i : Instance ℕ) →
+      IsSpoilt known ended i → AreFormed (EndsSo look forms) i → ⊥
+  not_formed look forms facts marks i x formed = elim x.why [
+    | inl (k, at, r) ↦
+        let (f, y) = formed x.to (led_so look forms facts i x.to x.led) in
+        let same : Made f ≡ Spoilt k at = ends_one look forms x.to (Made f) (Spoilt k at) y (facts x.to (Spoilt k at) r) in absurd cc
+    | inr marked ↦ marks x.to marked x.unknown (λ k l. formed k
+        (leads_then (EndsSo look forms) i x.to k (led_so look forms facts i x.to x.led) l))
+  ]
+
+  pub all_told_of : (look : Contents ℕ) (forms : Forms ℕ) (solved : List (Vec Solved Global)) → AreToldOrSpoilt known ended insts solved →
+      AreFacts look forms ended → AreMarksRight look forms known ended → AreAllTold look forms known insts solved
+  all_told_of look forms solved rest facts marks i a none formed = elim (rest i a) [
+    | inl told ↦ told
+    | inr u ↦ elim u [
+      | inl k ↦ absurd (no_value (known i) none k)
+      | inr x ↦ absurd (not_formed look forms facts marks i x formed)
+    ]
+  ]
 
   pub order_at_end : (start : Bool) (first : System) (leave : List Bool) (lists : List (Vec ℕ Global)) (n : ℕ) (s : System)
       (solved : List (Vec Solved Global)) → IsSystem start known ended insts first → IsSolving known ended insts first leave lists n s solved →

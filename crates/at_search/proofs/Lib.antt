@@ -3,7 +3,9 @@ pub mod KeyLemmas
 pub mod Asking
 pub mod Seeing
 pub mod Working
+pub mod Coming
 pub mod Gathering
+pub mod Faultless
 pub mod Meeting
 pub mod Piecewise
 pub mod Adding

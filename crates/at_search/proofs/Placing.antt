@@ -1,5 +1,6 @@
 -- One instance more in a system.
-use Rattle.std.proofs.Common.{◌≡◌, ◌⊎◌, ℕ, zero, suc, ◌+◌, ◌<◌, Bool, true, false, List, [], ◌∷◌, ◌++◌, get_or, length, slice_get, take, Option, Some, None, IsSome, Result, Ok, Err, OnOk, Vec, inl, inr, refl, sym, ap, ◌∙◌, subst, arith}
+use Rattle.std.proofs.Common.{◌≡◌, ◌⊎◌, ℕ, zero, suc, ◌+◌, ◌<◌, Bool, true, false, List, [], ◌∷◌, ◌++◌, get_or, length, slice_get, take, Option, Some, None}
+use Rattle.std.proofs.Common.{IsSome, Result, Ok, Err, OnOk, Vec, inl, inr, refl, sym, ap, ◌∙◌, subst, arith}
 use Rattle.std.proofs.lemmas.List.{append-nil, length-append, length-take-le}
 use Rattle.std.specs.Global.{Global}
 use Rattle.at_model.specs.Run.{Instance, Known}

@@ -74,3 +74,39 @@ opened_more xs n d old mid new less eh ee ec one all = record {
       | inl e ↦ ap (is_open_at new.open.items) e ∙ one.here
       | inr off ↦ one.others m off ∙ o
     ]
+
+-- one of these is open, if not all are closed
+closed_or_open : (open' : List Bool) (xs : List ℕ) → AreClosed open' xs ⊎ ((p : ℕ) × Among p xs × (is_open_at open' p ≡ true))
+closed_or_open open' [] = inl (λ m h. absurd h)
+closed_or_open open' (x ∷ xs) = by (is_open_at open' x) refl (closed_or_open open' xs)
+  where
+    by : (b : Bool) → is_open_at open' x ≡ b → AreClosed open' xs ⊎ ((p : ℕ) × Among p xs × (is_open_at open' p ≡ true)) →
+        AreClosed open' (x ∷ xs) ⊎ ((p : ℕ) × Among p (x ∷ xs) × (is_open_at open' p ≡ true))
+    by true e r = inr (x, inl refl, e)
+    by false e (inl all) = inl (λ m h. elim h [ inl q ↦ ap (is_open_at open') q ∙ e | inr a ↦ all m a ])
+    by false e (inr (p, a, o)) = inr (p, inr a, o)
+
+-- it is open, or leads to what is
+abbrev pub IsNotShut : System → ℕ → Type 0
+IsNotShut s q = (is_open_at s.open.items q ≡ true)
+    ⊎ ((p : ℕ) × Among p (listed_at s.edges.items q) × (is_open_at s.open.items p ≡ true))
+
+shut_at_or : (s : System) (q : ℕ) → IsShutAt s q ⊎ IsNotShut s q
+shut_at_or s q = by (is_open_at s.open.items q) refl (closed_or_open s.open.items (listed_at s.edges.items q))
+  where
+    by : (b : Bool) → is_open_at s.open.items q ≡ b → AreClosed s.open.items (listed_at s.edges.items q)
+        ⊎ ((p : ℕ) × Among p (listed_at s.edges.items q) × (is_open_at s.open.items p ≡ true)) → IsShutAt s q ⊎ IsNotShut s q
+    by true e r = inr (inl e)
+    by false e (inl all) = inl (e, all)
+    by false e (inr w) = inr (inr w)
+
+-- so is one of the group, if not all are shut
+pub shut_or_open : (s : System) (group : List ℕ) → AreShut s group ⊎ ((q : ℕ) × Among q group × IsNotShut s q)
+shut_or_open s [] = inl (λ q h. absurd h)
+shut_or_open s (x ∷ xs) = by (shut_at_or s x) (shut_or_open s xs)
+  where
+    by : IsShutAt s x ⊎ IsNotShut s x → AreShut s xs ⊎ ((q : ℕ) × Among q xs × IsNotShut s q) →
+        AreShut s (x ∷ xs) ⊎ ((q : ℕ) × Among q (x ∷ xs) × IsNotShut s q)
+    by (inr w) r = inr (x, inl refl, w)
+    by (inl h) (inl all) = inl (λ q a. elim a [ inl e ↦ subst (λ z. IsShutAt s z) (sym e) h | inr b ↦ all q b ])
+    by (inl h) (inr (q, a, w)) = inr (q, inr a, w)

@@ -1,5 +1,6 @@
 -- What is solved has its value.
-use Rattle.std.proofs.Common.{◌≡◌, ◌⊎◌, ◌↔◌, ℕ, zero, suc, ◌+◌, ◌<◌, Bool, true, false, not, List, [], ◌∷◌, ◌++◌, get_or, length, slice_get, Option, Some, None, IsSome, inl, inr, refl, sym, ap, ◌∙◌, subst, arith, true≢false, Vec}
+use Rattle.std.proofs.Common.{◌≡◌, ◌⊎◌, ◌↔◌, ℕ, zero, suc, ◌+◌, ◌<◌, Bool, true, false, not, List, [], ◌∷◌, ◌++◌, get_or, length, slice_get, Option, Some, None}
+use Rattle.std.proofs.Common.{IsSome, inl, inr, refl, sym, ap, ◌∙◌, subst, arith, true≢false, Vec}
 use Rattle.std.specs.Global.{Global}
 use Rattle.at_model.specs.Run.{Value, Truth, Instance, Contents, Known}
 use Rattle.at_model.specs.Bodies.{bool_eq, truth_of}
