@@ -1,9 +1,9 @@
 //! Tests of whole sessions: over the calculator, with each keeper, with readers and writers that fail, with
-//! questions in turns, of files that are refused, of aspects as they are read, and of what no session shows; of
-//! keepers by themselves, beside plain models, and of what is derived and of components, found by hand.
+//! questions in turns, of aspects as they are read, and of what no session shows; of keepers by themselves, beside
+//! plain models, and of what is derived and of components, found by hand.
 //!
 //! **Where to begin:** `sessions.rt` has lines, replies and work as rows of a table. A test that a page can show
-//! stands on a page (docs/TESTING.md).
+//! stands on a page, and one that the program shows in tools/of_the_program (docs/TESTING.md).
 #![tactic(auto)]
 
 #[cfg(test)]
@@ -23,8 +23,6 @@ mod keepers;
 #[cfg(test)]
 mod kept_again;
 #[cfg(test)]
-mod refusals;
-#[cfg(test)]
 mod samples;
 #[cfg(test)]
 mod sessions;
@@ -34,7 +32,5 @@ mod settled;
 mod solving;
 #[cfg(test)]
 mod stores;
-#[cfg(test)]
-mod trees;
 #[cfg(test)]
 mod turns;
