@@ -29,3 +29,7 @@ mod Putting
 mod of_nesting
 mod of_parts
 pub mod of_traces
+pub mod Extending
+mod Questioned
+mod Marking
+mod of_levels
