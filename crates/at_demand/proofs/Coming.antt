@@ -88,4 +88,4 @@ module _ {N : Type 0} (look : Contents N) (forms : Forms N) where
 
   -- and so is the fault of any one
   pub fault_by_end : (i : Instance N) (k : FaultKind) (at : Instance N) → EndsSo look forms i (Spoilt k at) → Holds look forms i (Faults k at)
-  fault_by_end i k at (n, h) = (suc n, (λ j l. ended_alone n i j k at h l), spoilt i (λ a. a) h)
+  fault_by_end i k at (n, h) = (suc n, ((λ j l. ended_alone n i j k at h l), spoilt i (λ a. a) h))

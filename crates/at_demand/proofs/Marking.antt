@@ -45,8 +45,8 @@ one_marked old new i x at set keys same = record {
         let f : Some x ≡ Some y = at ∙ ap (λ k. lookup (same_instance k) old.ended.entries) (sym s) ∙ e in
         let g : x ≡ y = same_Some x y f in
         ap (λ k. lookup (same_instance k) new.ended.entries) s ∙ ap (lookup (same_instance i)) set
-            ∙ lookup_set old.ended.entries i x (record { ending = x.ending; is_whole = true }) (sym at)
-            ∙ ap (λ (z : Ended). let m : Ended = record { ending = z.ending; is_whole = true } in Some m) g
+        ∙ lookup_set old.ended.entries i x (record { ending = x.ending; is_whole = true }) (sym at)
+        ∙ ap (λ (z : Ended). let m : Ended = record { ending = z.ending; is_whole = true } in Some m) g
     | inr z ↦ absurd z
   ];
   others = λ j off. ap (lookup (same_instance j)) set ∙ lookup_apart old.ended.entries i j (record { ending = x.ending; is_whole = true }) (λ s. off (inl s));

@@ -1,6 +1,7 @@
 -- The evaluation of an instance of a circular attribute goes on, past what it demands.
-use Rattle.std.proofs.Common.{◌≡◌, ℕ, nat_eq, List, [], map, inl, inr, refl, sym, subst}
+use Rattle.std.proofs.Common.{◌≡◌, ℕ, nat_eq, List, [], map, inl, inr, refl, sym, ap, subst}
 use Rattle.std.specs.Global.{Box}
+use Rattle.std.specs.Prelude.{Vec}
 use Rattle.at_model.specs.Follow.{follow}
 use Rattle.at_model.specs.Meaning.{Among, Reaches}
 use Rattle.at_model.specs.Rules.{Rules}
@@ -36,6 +37,9 @@ use Rattle.at_demand.proofs.Extending.{among_at}
 use Rattle.at_demand.proofs.Passing.{past_has, past_more}
 use Rattle.at_demand.proofs.Seeing.{comes_told, read_seen, sees_read}
 
+same_items : {A Z : Type 0} (v w : Vec A Z) → v ≡ w → v.items ≡ w.items
+same_items {A} {Z} v w e = ap (λ (x : Vec A Z). x.items) e
+
 -- an evaluation at its end needs nothing
 pub form_at_end : (entries : Entries) (found : List (Instance ℕ × Find)) (p : Progress) → ((j : Instance ℕ) → p ≡ progress.Need j → ⊥) → IsOpenAt entries found p
 form_at_end entries found (progress.Formula f) h = tt
@@ -63,8 +67,8 @@ module _ (rules : Rules) (look : Contents ℕ) where
   -- its formula, with all that it looked at and took
   module _ (at : ClassAt ℕ) (entries : Entries) (found : List (Instance ℕ × Find)) (i : Instance ℕ) where
     used : (d : Demanded) (f : Formed) (j : Instance ℕ) → f.kept ≡ d.kept → f.finds ≡ d.finds → IsDemanded found d j → IsUsed found f j
-    used d f j kept finds (inl a) = inl (subst (λ ks. Among j ks.items) (sym kept) a)
-    used d f j kept finds (inr (p, g, a, is)) = inr (p, g, subst (λ ps. Among p ps.items) (sym finds) a, is)
+    used d f j kept finds (inl a) = inl (subst (Among j) (sym (same_items f.kept d.kept kept)) a)
+    used d f j kept finds (inr (p, g, a, is)) = inr (p, g, subst (Among p) (sym (same_items f.finds d.finds finds)) a, is)
 
     is_kept : (us : List (Instance ℕ)) (u : Instance ℕ) → AreValued entries us → Among u us → IsKept entries u
     is_kept us u all h = let (n, less, is) = among_at u us h in all u (get_contains us n u is)
@@ -83,9 +87,9 @@ module _ (rules : Rules) (look : Contents ℕ) where
               used b.demanded d j from.kept from.finds t.1;
           sees = λ l a. read_seen look (meaning rules) run end js b.forming.trial.reads l holds (subst (Among l) from.reads a);
           kept = λ j a.
-              let u = subst (λ ks. Among j ks.items) from.kept a in
+              let u = subst (Among j) (same_items d.kept b.demanded.kept from.kept) a in
               (is_kept b.demanded.kept.items j h.kept u, h.takes.kept j u);
-          finds = λ p a. h.takes.finds p (subst (λ ps. Among p ps.items) from.finds a);
+          finds = λ p a. h.takes.finds p (subst (Among p) (same_items d.finds b.demanded.finds from.finds) a);
         }
 
     pub formed_tried : (b : Box Formation) (p : Progress) (r : Tried) → HasFormedTo rules at look entries found i b.value p → IsOpenAt entries found p → IsFormedBy p b r → HasTriedTo rules at look entries entries found i r
@@ -107,7 +111,7 @@ module _ (rules : Rules) (look : Contents ℕ) where
         let needs : NeedsOther rules at look entries found i j (going.Formula b (progress.Need j)) = record {
           demands = form_comes found i j b.value h.passed;
           unknown = free;
-          typed = h.typed.1.1.waits.instance;
+          typed = h.typed.2.waits.instance;
           waits = h;
         } in
         subst (HasTriedTo rules at look entries entries found i) (sym is) needs

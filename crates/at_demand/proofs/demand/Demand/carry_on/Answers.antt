@@ -44,7 +44,7 @@ returns-in_ok-progress-in-Formula-clause-tried g c =
     let was = subst (λ (x : Going). IsGoing rules at look entries found inst x) c.in-Formula.is c.requires.going in
     let old = subst (λ (f : Formation). HasFormedTo rules at look entries found inst f c.in-Formula.progress) (sym c.deref_mut.ensures.value) was in
     let new : HasFormedTo rules at look entries found inst c.go_on-in-Formula.new.self c.in_ok-progress-in-Formula.progress =
-        record { passed = e.passed inst old.passed; takes = e.only inst old.passed old.takes; typed = e.typed; kept = e.kept } in
+    record { passed = e.passed inst old.passed; takes = e.only inst old.passed old.takes; typed = e.typed; kept = e.kept } in
     record {
       tried = formed_tried rules look at entries found inst (with_value c.in-Formula.formation c.go_on-in-Formula.new.self) c.in_ok-progress-in-Formula.progress c.came_to_formula.result new e.unknown c.came_to_formula.ensures;
       right = c.requires.answerable.right;
