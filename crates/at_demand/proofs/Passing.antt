@@ -20,7 +20,7 @@ use Rattle.at_demand.specs.declared.evaluation.Demanded.{Demanded}
 use Rattle.at_demand.specs.declared.evaluation.Find.{Find}
 use Rattle.at_demand.specs.declared.evaluation.Frame.{Frame}
 use Rattle.at_demand.specs.Known.{equations, meaning}
-use Rattle.at_demand.specs.Covering.{AreWhole, AreWholeIn, Extends, HasPassed, HasPassedTo, IsDemanded, IsTold, IsWhole, by_first, in_group}
+use Rattle.at_demand.specs.Covering.{AreWhole, AreWholeIn, Extends, HasPassed, HasPassedTo, IsDemanded, IsTold, IsWhole, alone, by_first, in_group}
 use Rattle.at_demand.proofs.Coming.{begins, goes_on}
 use Rattle.at_demand.proofs.Seeing.{sees_read, comes_told}
 use Rattle.at_demand.proofs.Extending.{get_more}
@@ -83,7 +83,7 @@ module _ (rules : Rules) (look : Contents ℕ) where
       let end : Run ℕ (Formula ℕ) = Gives (Known (value_view v)) in
       let formed = past_formula rules look i none has (Gives (value_view v)) js f.trial.reads past in
       let holds = past_more look has (HasValue look (meaning rules)) (λ k w t. t.0) run end js f.trial.reads formed in
-      in_group (i ∷ []) (inl refl) (record {
+      alone (record {
         reads = λ k l a h. elim a [
           | inl e ↦ subst (Among l) (sym reads) (sees_read look (meaning rules) run end (Known (value_view v)) js f.trial.reads l refl holds (subst (λ z. Sees look (HasValue look (meaning rules)) ((meaning rules).formula z) l) e h))
           | inr z ↦ absurd z
@@ -97,12 +97,16 @@ module _ (rules : Rules) (look : Contents ℕ) where
         ];
       })
 
-  whole_more : (found more : List (Instance ℕ × Find)) (i : Instance ℕ) (d : Find) → Extends found more → IsWhole rules look found i d → IsWhole rules look more i d
-  whole_more found more i d grows (in_group these a w) = in_group these a (record {
+  whole_in_more : (found more : List (Instance ℕ × Find)) (these : List (Instance ℕ)) (d : Find) → Extends found more → AreWholeIn rules look found these d → AreWholeIn rules look more these d
+  whole_in_more found more these d grows w = record {
     reads = w.reads;
     demands = λ k j b c. elim (w.demands k j b c) [ inl m ↦ inl m | inr x ↦ inr (demanded_more found more d.demanded j grows x) ];
-  })
-  whole_more found more i d grows (by_first j x l) = by_first j (demanded_more found more d.demanded j grows x) l
+  }
+
+  whole_more : (found more : List (Instance ℕ × Find)) (i : Instance ℕ) (d : Find) → Extends found more → IsWhole rules look found i d → IsWhole rules look more i d
+  whole_more found more i d grows (alone w) = alone (whole_in_more found more (i ∷ []) d grows w)
+  whole_more found more i d grows (in_group these c a w) = in_group these c a (whole_in_more found more these d grows w)
+  whole_more found more i d grows (by_first j c x l) = by_first j c (demanded_more found more d.demanded j grows x) l
 
   pub whole_push : (found : List (Instance ℕ × Find)) (i : Instance ℕ) (d : Find) → AreWhole rules look found → IsWhole rules look found i d → AreWhole rules look (found ++ (i, d) ∷ [])
   whole_push found i d all one p j g is = elim (get_push found (i, d) p (j, g) is) [
