@@ -15,20 +15,23 @@ module _ {X : Type 0} where
   -- the value that is written is found
   pub lookup_set : (es : List (Instance ℕ × X)) (i : Instance ℕ) (x w : X) → lookup (same_instance i) es ≡ Some x → lookup (same_instance i) (set_value (same_instance i) es w) ≡ Some w
   lookup_set [] i x w e = absurd cc
-  lookup_set (f ∷ es) i x w e = by (same_instance i f.0) refl e
+  lookup_set (f ∷ es) i x w e = by (same_instance i f.0) refl e (lookup_set es i x w)
     where
-      by : (b : Bool) → same_instance i f.0 ≡ b → (if b then Some f.1 else lookup (same_instance i) es) ≡ Some x → lookup (same_instance i) (cond b ((f.0, w) ∷ es) (f ∷ set_value (same_instance i) es w)) ≡ Some w
-      by true s h = rw s refl
-      by false s h = rw s (lookup_set es i x w h)
+      by : (b : Bool) → same_instance i f.0 ≡ b → (if b then Some f.1 else lookup (same_instance i) es) ≡ Some x →
+          (lookup (same_instance i) es ≡ Some x → lookup (same_instance i) (set_value (same_instance i) es w) ≡ Some w) →
+          lookup (same_instance i) (cond b ((f.0, w) ∷ es) (f ∷ set_value (same_instance i) es w)) ≡ Some w
+      by true s h more = rw s refl
+      by false s h more = rw s (more h)
 
   -- and of no other one
   pub lookup_apart : (es : List (Instance ℕ × X)) (i j : Instance ℕ) (w : X) → (j ≡ i → ⊥) → lookup (same_instance j) (set_value (same_instance i) es w) ≡ lookup (same_instance j) es
   lookup_apart [] i j w off = refl
-  lookup_apart (f ∷ es) i j w off = by (same_instance i f.0) refl
+  lookup_apart (f ∷ es) i j w off = by (same_instance i f.0) refl (lookup_apart es i j w off)
     where
-      by : (b : Bool) → same_instance i f.0 ≡ b → lookup (same_instance j) (cond b ((f.0, w) ∷ es) (f ∷ set_value (same_instance i) es w)) ≡ lookup (same_instance j) (f ∷ es)
-      by true s = rw (apart j f.0 (λ h. off (h ∙ sym (same_true i f.0 s)))) refl
-      by false s = ap (λ z. if same_instance j f.0 then Some f.1 else z) (lookup_apart es i j w off)
+      by : (b : Bool) → same_instance i f.0 ≡ b → lookup (same_instance j) (set_value (same_instance i) es w) ≡ lookup (same_instance j) es →
+          lookup (same_instance j) (cond b ((f.0, w) ∷ es) (f ∷ set_value (same_instance i) es w)) ≡ lookup (same_instance j) (f ∷ es)
+      by true s more = rw (apart j f.0 (λ h. off (h ∙ sym (same_true i f.0 s)))) refl
+      by false s more = ap (λ z. if same_instance j f.0 then Some f.1 else z) more
 
 -- one is marked
 pub one_marked : (old new : Question) (i : Instance ℕ) (x : Ended) → Some x ≡ lookup (same_instance i) old.ended.entries → new.ended.entries ≡ set_value (same_instance i) old.ended.entries (record { ending = x.ending; is_whole = true }) →
