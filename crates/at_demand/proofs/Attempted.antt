@@ -1,5 +1,5 @@
 -- What one try of an instance has come to, and what it leaves kept.
-use Rattle.std.proofs.Common.{◌≡◌, ℕ, true, List, [], ◌∷◌, ◌++◌, map, None, Some, inl, inr, refl, sym, ◌∙◌, subst}
+use Rattle.std.proofs.Common.{◌≡◌, ℕ, true, true≢false, List, [], ◌∷◌, ◌++◌, map, None, Some, inl, inr, refl, sym, ◌∙◌, subst}
 use Rattle.at_model.specs.Run.{Value, Instance, Contents}
 use Rattle.at_model.specs.Rules.{Rules, is_lazy, start_of}
 use Rattle.at_model.specs.Meaning.{Among, Faults}
@@ -20,7 +20,8 @@ use Rattle.at_demand.specs.Known.{meaning, kept_values, known_in, ArePlain, AreV
 use Rattle.at_demand.specs.Meant.{AreRightValues}
 use Rattle.at_demand.specs.Right.{AreRight, AreThere, IsThere, IsValued}
 use Rattle.at_demand.specs.UnderWay.{HasStepped, IsOpen}
-use Rattle.at_demand.specs.Covering.{HasPassedTo, AreWhole, AreCovered}
+use Rattle.at_rules.specs.Circular.{AreCircularLazy}
+use Rattle.at_demand.specs.Covering.{AreCovered, AreWhole, AreWholeIn, HasPassedTo, IsWhole, alone, by_first, in_group}
 use Rattle.at_demand.specs.Only.{TakesOnly}
 use Rattle.std.specs.Prelude.{IsSome}
 use Rattle.at_demand.specs.Sparing.{AddsWorthy, AreOnly, AreSettled, AreSpare, MayGain}
@@ -80,14 +81,20 @@ module _ (rules : Rules) (old new : Entries) (i : Instance ℕ) (v : Value ℕ) 
 pub worthy_added : (rules : Rules) (look : Contents ℕ) (old new : Entries) (i : Instance ℕ) (v : Value ℕ) (found : List (Instance ℕ × Find)) → MayGain rules found old new i → HasValue look (meaning rules) i v → AddsWorthy rules look i old new
 worthy_added rules look old new i v found grows holds = worthy_more rules look old new i found grows i old (λ lazy. record { reached = inl refl; lazy = lazy; value = v; has = holds }) (worthy_none rules look i old)
 
+-- the find of one that isn't circular is that of itself alone
+whole_alone : (rules : Rules) (look : Contents ℕ) (found : List (Instance ℕ × Find)) (i : Instance ℕ) (f : Find) → start_of rules i.attribute ≡ None → IsWhole rules look found i f → AreWholeIn rules look found (i ∷ []) f
+whole_alone rules look found i f none (alone w) = w
+whole_alone rules look found i f none (in_group these c a w) = let c' = rw none at c in absurd (true≢false (sym c'))
+whole_alone rules look found i f none (by_first j c x l) = let c' = rw none at c in absurd (true≢false (sym c'))
+
 -- what an exact keeper has stays spare, and what was found settled
-module _ (rules : Rules) (look : Contents ℕ) (old new : Entries) (found : List (Instance ℕ × Find)) (i : Instance ℕ) (d : Find) (grows : MayGain rules found old new i) (whole : AreWhole rules look found) (has : HasFound rules look old found i d)
+module _ (rules : Rules) (look : Contents ℕ) (old new : Entries) (found : List (Instance ℕ × Find)) (i : Instance ℕ) (d : Find) (well : AreCircularLazy rules) (none : start_of rules i.attribute ≡ None) (grows : MayGain rules found old new i) (whole : AreWhole rules look found) (has : HasFound rules look old found i d)
     (settled : AreSettled rules old found) (spare : AreSpare rules look old) where
   took : (u : Instance ℕ) → Among u d.demanded.kept.items → IsSome (old u)
   took u a = entered old u (is_kept old d.demanded.kept.items u has.kept a)
 
   pub spare_added : AreOnly rules look new → AreSpare rules look new
-  spare_added only = record { only = only; lazy = lazy_more rules look old new i found grows spare.lazy; deep = deep_more rules look old new i found grows d whole has.whole settled took spare.deep }
+  spare_added only = record { only = only; lazy = lazy_more rules look old new i found grows spare.lazy; deep = deep_more rules look old new i found grows d well whole (whole_alone rules look found i d none has.whole) settled took spare.deep }
 
   pub settled_added : (is_lazy rules i.attribute ≡ true → IsKept new i) → AreSettled rules new (found ++ (i, d) ∷ [])
-  settled_added kept = settled_push rules look old new i found grows d whole has.whole settled took spare.deep kept
+  settled_added kept = settled_push rules look old new i found grows d well whole (whole_alone rules look found i d none has.whole) settled took spare.deep kept
