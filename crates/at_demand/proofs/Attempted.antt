@@ -4,6 +4,7 @@ use Rattle.at_model.specs.Run.{Value, Instance, Contents}
 use Rattle.at_model.specs.Rules.{Rules, is_lazy, start_of}
 use Rattle.at_model.specs.Meaning.{Among, Faults}
 use Rattle.at_model.specs.of_fixpoints.Fixpoints.{HasValue, Holds}
+use Rattle.at_model.specs.of_fixpoints.Resting as led
 use Rattle.at_model.specs.TypedRuns.{ClassAt}
 use Rattle.at_store.specs.Shown.{Shown, contents}
 use Rattle.at_store.specs.Located.{loc_view}
@@ -79,7 +80,7 @@ module _ (rules : Rules) (old new : Entries) (i : Instance ℕ) (v : Value ℕ) 
   }
 
 pub worthy_added : (rules : Rules) (look : Contents ℕ) (old new : Entries) (i : Instance ℕ) (v : Value ℕ) (found : List (Instance ℕ × Find)) → MayGain rules found old new i → HasValue look (meaning rules) i v → AddsWorthy rules look i old new
-worthy_added rules look old new i v found grows holds = worthy_more rules look old new i found grows i old (λ lazy. record { reached = inl refl; lazy = lazy; value = v; has = holds }) (worthy_none rules look i old)
+worthy_added rules look old new i v found grows holds = worthy_more rules look old new i found grows i old (λ lazy. record { reached = led.stays i; lazy = lazy; value = v; has = holds }) (worthy_none rules look i old)
 
 -- the find of one that isn't circular is that of itself alone
 whole_alone : (rules : Rules) (look : Contents ℕ) (found : List (Instance ℕ × Find)) (i : Instance ℕ) (f : Find) → start_of rules i.attribute ≡ None → IsWhole rules look found i f → AreWholeIn rules look found (i ∷ []) f
