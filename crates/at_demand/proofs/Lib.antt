@@ -32,4 +32,5 @@ pub mod of_traces
 pub mod Extending
 mod Questioned
 mod Marking
+mod Grouped
 mod of_levels
