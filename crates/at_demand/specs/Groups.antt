@@ -18,7 +18,9 @@ use Rattle.at_body.specs.declared.value.Value.TheVariants as value
 use Rattle.indexmap.specs.IndexMap.{insert_entry}
 use Rattle.at_cache.specs.Kept.{Entries}
 use Rattle.at_cache.specs.Traced.{Memories, StayTraced}
+use Rattle.at_search.specs.LedTo.{AreClosedIn}
 use Rattle.at_search.specs.Recorded.{IsRecordedForm, Recorded}
+use Rattle.at_search.specs.Solved.{IsSpoilt}
 use Rattle.at_search.specs.declared.ended.Ended.{Ended}
 use Rattle.at_search.specs.declared.ended.Formed.{Formed}
 use Rattle.at_search.specs.declared.solving.Solved.{Solved}
@@ -81,18 +83,26 @@ pub record CanSolve (rules : Rules) (s : Shown) (entries : Entries) (q : Questio
   pub alike : (i : Instance ℕ) → Among i insts → start_of rules i.attribute ≡ start_in rules insts
   pub recorded : (i : Instance ℕ) → Among i insts → Among i (keys_of q.ended.entries)
 
+-- it is known now; or formulas led from it to a fault, or to one that is marked whole and wasn't known
+abbrev pub IsKnownOrSpoilt : (before after : Entries) → (old new : Question) → Instance ℕ → Type 0
+IsKnownOrSpoilt before after old new i = IsSome (known_to after new i) ⊎ IsSpoilt (known_to before old) old.ended.entries i
+
 -- Each of these is told its value from which formulas lead to formulas alone, as far as they are recorded: in all else nothing changes.
 pub record HasSolved {E : Type 0} (rules : Rules) (s : Shown) (exact : Bool) (before after : Entries) (former latter : Memories) (earlier later : ℕ)
     (old new : Question) (insts : List (Instance ℕ)) (r : Result Unit E) : Type 0 where
   pub tells : Tells rules s exact before after former latter earlier later old new insts
   pub same : new.ended.entries ≡ old.ended.entries
   pub all : OnOk r ((i : Instance ℕ) → Among i insts → AreFormed (Recorded old.ended.entries) i → IsSome (known_to after new i))
+  pub rest : AreClosedIn (known_to before old) old.ended.entries insts
+      → OnOk r ((i : Instance ℕ) → Among i insts → IsKnownOrSpoilt before after old new i)
 
 -- so it is, and all of them are marked whole
 pub record HasMarkedSolved {E : Type 0} (rules : Rules) (s : Shown) (exact : Bool) (before after : Entries) (former latter : Memories)
     (earlier later : ℕ) (old new : Question) (insts : List (Instance ℕ)) (r : Result Unit E) : Type 0 where
   pub tells : Tells rules s exact before after former latter earlier later old new insts
   pub all : OnOk r ((i : Instance ℕ) → Among i insts → AreFormed (Recorded old.ended.entries) i → IsSome (known_to after new i))
+  pub rest : AreClosedIn (known_to before old) old.ended.entries insts
+      → OnOk r ((i : Instance ℕ) → Among i insts → IsKnownOrSpoilt before after old new i)
   pub marked : OnOk r ((mid : Question) × (mid.ended.entries ≡ old.ended.entries) × HasMarkedAll insts mid new)
 
 -- A group can be kept: each member isn't known and has its value; formulas lead from each to each, and what the formula of one asks for is

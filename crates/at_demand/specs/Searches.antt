@@ -1,24 +1,26 @@
 -- How a question's search goes on between two tries: what is known of an instance that is looked at or demanded, and where the search comes to.
-use Rattle.std.specs.Prelude.{◌≡◌, ◌⊎◌, ℕ, Bool, true, List, [], ◌∷◌, ◌++◌, Option, Some, None, IsSome, IsTrue, IfOk, OnOk, Result}
+use Rattle.std.specs.Prelude.{◌≡◌, ◌⊎◌, ℕ, ◌+◌, ◌*◌, ◌≤◌, length, Bool, true, List, [], ◌∷◌, ◌++◌, Option, Some, None, IsSome, IsTrue, IfOk, OnOk, Result}
 use Rattle.std.specs.Map.{keys_of, lookup}
 use Rattle.std.specs.Option.{option_map}
 use Rattle.at_model.specs.Instances.{AnyText}
-use Rattle.at_model.specs.Meaning.{Among, Answer as ModelAnswer, Circle, Faults, Finds, Outcomes}
-use Rattle.at_model.specs.Rules.{Rules, is_lazy}
+use Rattle.at_model.specs.Meaning.{Among, Answer as ModelAnswer, Circle, Faults, Finds, Outcome, Outcomes}
+use Rattle.at_model.specs.Rules.{Rules, is_lazy, start_of}
 use Rattle.at_model.specs.Run.{Instance, Contents, Value}
 use Rattle.at_model.specs.TypedRuns.{IsWellTyped}
 use Rattle.at_model.specs.of_fixpoints.Circles.{IsOpen}
-use Rattle.at_model.specs.of_fixpoints.Fixpoints.{EndsSo, HasValue, Holds, Spoilt}
+use Rattle.at_model.specs.of_fixpoints.Fixpoints.{EndsSo, HasValue, Holds, Meets, Spoilt}
+use Rattle.at_model.specs.of_fixpoints.Formulas.{Forms}
 use Rattle.at_model.specs.of_fixpoints.Searched.{AreStacked, HasCome, IsFresh, tried_at}
 use Rattle.at_model.specs.of_fixpoints.Searching.{Follows, Looked, Search, under}
 use Rattle.at_store.specs.Shown.{Shown, contents}
 use Rattle.at_body.specs.Same.{same_instance}
 use Rattle.at_body.specs.Typed.{class_shown}
-use Rattle.at_body.specs.Values.{fault_view, value_view}
+use Rattle.at_body.specs.Values.{fault_view}
 use Rattle.at_cache.specs.Kept.{Entries}
 use Rattle.at_cache.specs.Traced.{Memories, StayTraced}
 use Rattle.at_search.specs.LedTo.{LeadsOut}
-use Rattle.at_search.specs.Recorded.{MetFrom}
+use Rattle.at_search.specs.Recorded.{IsMarked, IsSettled, MetFrom}
+use Rattle.at_search.specs.declared.ended.Ended.{Ended}
 use Rattle.at_search.specs.declared.ended.Fault.{Fault}
 use Rattle.at_demand.specs.declared.answer.Answer.{Answer}
 use Rattle.at_demand.specs.declared.answer.Answer.TheVariants as answer
@@ -36,8 +38,8 @@ use Rattle.at_demand.specs.ChainSteps.{HasLostSeen, HasRisen, IsUnchanged}
 use Rattle.at_demand.specs.Covering.{AreWhole}
 use Rattle.at_demand.specs.Groups.{Tells}
 use Rattle.at_demand.specs.KeptTrials.{Fit, FitAfter}
-use Rattle.at_demand.specs.Known.{ArePlain, FoundAs, FoundKept, IsFound, IsKept, KeepsEntries, answer_view, kept_values, meaning}
-use Rattle.at_demand.specs.Levels.{AreFactsOf, AreWholeOrSeen, IsAbout, IsDoneIn, IsLevel, LevelCode, StandsFor}
+use Rattle.at_demand.specs.Known.{ArePlain, FoundKept, IsFound, IsKept, KeepsEntries, answer_view, kept_values, meaning}
+use Rattle.at_demand.specs.Levels.{AreFactsOf, AreWholeOrSeen, IsAbout, IsCovered, IsDoneIn, IsLevel, LevelCode, StandsFor}
 use Rattle.at_demand.specs.Levels.{all_levels, asked_by, fault_in, known_to, levels_of, root_in, seen_in, todo_in}
 use Rattle.at_demand.specs.Meant.{AreRightValues}
 use Rattle.at_demand.specs.Only.{AreLean}
@@ -55,11 +57,16 @@ pub record CanResolve (rules : Rules) (s : Shown) (entries : Entries) (q : Quest
   pub answerable : IsAnswerable rules s entries
   pub facts : AreFactsOf rules (contents s) entries q
   pub finds : AreSoundFinds rules s entries q
-  pub whole : AreWholeOrSeen entries q
+  pub whole : AreWholeOrSeen rules (contents s) entries q
 
 -- its equation is tried
 abbrev pub IsTried : Question → Instance ℕ → Type 0
 IsTried q i = Among i (keys_of q.waiting.entries ++ q.inst ∷ [])
+
+-- its equation has ended, but it isn't settled, and formulas lead from it to one whose equation hasn't ended
+abbrev pub IsUnderWay : Entries → Question → Instance ℕ → Type 0
+IsUnderWay entries q i = Among i (keys_of q.ended.entries) × (¬ (IsMarked q.ended.entries i))
+    × LeadsOut (IsSettled (known_to entries q) q.ended.entries) q.ended.entries i
 
 -- What is known of it: a value; a fault, which is its outcome; it is tried, or formulas lead from it to one whose equation hasn't ended; or
 -- nothing, and its equation wasn't tried yet.
@@ -67,30 +74,46 @@ abbrev pub IsResolved : Rules → Contents ℕ → (before after : Entries) → 
 IsResolved rules look before after old new i resolved.Known = IsSome (known_to after new i)
 IsResolved rules look before after old new i (resolved.Spoilt f) = Holds look (meaning rules) i (Faults (fault_view f.kind) f.at)
     × Among i (keys_of new.ended.entries)
-IsResolved rules look before after old new i resolved.Back = IsTried old i ⊎ LeadsOut (known_to before old) old.ended.entries i
+IsResolved rules look before after old new i resolved.Back = (IsTried old i ⊎ IsUnderWay before old i)
+    × (known_to after new i ≡ known_to before old i)
 IsResolved rules look before after old new i resolved.Open = (IsTried old i → ⊥) × (lookup (same_instance i) old.ended.entries ≡ None)
+    × (known_to after new i ≡ known_to before old i)
+
+-- a search, depth first, from the instance meets that fault
+abbrev pub IsMetFault : Contents ℕ → Forms ℕ → Instance ℕ → Resolved → Type 0
+IsMetFault look forms i resolved.Known = ⊥
+IsMetFault look forms i (resolved.Spoilt f) = Meets (EndsSo look forms) [] (i ∷ []) (fault_view f.kind) f.at
+IsMetFault look forms i resolved.Back = ⊥
+IsMetFault look forms i resolved.Open = ⊥
 
 -- It is told so; meanwhile what was seen and has a value may be known from now on, and no more than that.
 pub record HasResolved {E : Type 0} (rules : Rules) (s : Shown) (exact : Bool) (before after : Entries) (former latter : Memories) (earlier later : ℕ)
     (old new : Question) (i : Instance ℕ) (r : Result Resolved E) : Type 0 where
   pub tells : Tells rules s exact before after former latter earlier later old new (under (all_levels old))
-  pub can : CanResolve rules s after new
+  pub can : OnOk r (CanResolve rules s after new)
   pub is : IfOk r (IsResolved rules (contents s) before after old new i)
 
 -- what is to be done with one that a search looks at
 abbrev pub IsLookedAt : Rules → Contents ℕ → (before after : Entries) → (old new : Question) → Instance ℕ → Look → Type 0
 IsLookedAt rules look before after old new i look_is.Passed = Among i (seen_in old.level) ⊎ IsSome (known_to after new i)
 IsLookedAt rules look before after old new i look_is.Ended = (Among i (seen_in old.level) → ⊥) × Among i (keys_of new.ended.entries)
-    × (known_to after new i ≡ None)
+    × (known_to after new i ≡ None) × ((f : Fault) × Holds look (meaning rules) i (Faults (fault_view f.kind) f.at))
 IsLookedAt rules look before after old new i look_is.Untried = (Among i (seen_in old.level) → ⊥) × (IsTried old i → ⊥)
     × (lookup (same_instance i) old.ended.entries ≡ None) × (known_to after new i ≡ None)
 IsLookedAt rules look before after old new i look_is.Back = (Among i (seen_in old.level) → ⊥) × (known_to after new i ≡ None)
-    × (IsTried old i ⊎ LeadsOut (known_to before old) old.ended.entries i)
+    × (IsTried old i ⊎ IsUnderWay before old i)
+
+-- by what is known of it
+abbrev pub look_of : Resolved → Look
+look_of resolved.Known = look_is.Passed
+look_of (resolved.Spoilt f) = look_is.Ended
+look_of resolved.Back = look_is.Back
+look_of resolved.Open = look_is.Untried
 
 pub record HasLookedAt {E : Type 0} (rules : Rules) (s : Shown) (exact : Bool) (before after : Entries) (former latter : Memories) (earlier later : ℕ)
     (old new : Question) (i : Instance ℕ) (r : Result Look E) : Type 0 where
   pub tells : Tells rules s exact before after former latter earlier later old new (under (all_levels old))
-  pub can : CanResolve rules s after new
+  pub can : OnOk r (CanResolve rules s after new)
   pub is : IfOk r (IsLookedAt rules (contents s) before after old new i)
 
 -- The question, between two tries, stands for this one of the model: its last level has no instance whose equation is tried.
@@ -102,18 +125,22 @@ pub record IsLooked (entries : Entries) (q : Question) (l : Looked ℕ) : Type 0
   pub ended : (i : Instance ℕ) → Among i l.ended → Among i (keys_of q.ended.entries) ⊎ IsSome (known_to entries q i)
   pub recorded : (i : Instance ℕ) → Among i (keys_of q.ended.entries) → Among i l.ended
   pub told : (i : Instance ℕ) (v : Value ℕ) → Among (i, Finds v) l.told → known_to entries q i ≡ Some v
-  pub found : (i : Instance ℕ) (f : Find) → FoundAs q.found.entries i f → Among (i, Finds (value_view f.value)) l.told
+  pub known : (i : Instance ℕ) (v : Value ℕ) → known_to entries q i ≡ Some v → (kept_values entries i ≡ Some v) ⊎ Among (i, Finds v) l.told
 
 -- What is true between two tries: the last level's search has come so far, and the levels below stand as they stood. It is `StandsFor` without
--- the instance whose equation is tried.
+-- the instance whose equation is tried: the one that was tried was seen, or is known. This turn isn't counted yet.
 pub record StandsBetween (rules : Rules) (s : Shown) (entries : Entries) (q : Question) (l : Looked ℕ) : Type 0 where
   pub is : IsLooked entries q l
   pub come : HasCome (contents s) (meaning rules) (under l.below) l.root l.seen l.todo
   pub stacked : AreStacked (contents s) (meaning rules) l.root l.below
-  pub told : (i : Instance ℕ) (v : Value ℕ) → Among (i, Finds v) l.told → HasValue (contents s) (meaning rules) i v
+  pub tried : Among q.inst l.seen ⊎ IsSome (known_to entries q q.inst)
+  pub told : (i : Instance ℕ) (o : Outcome ℕ) → Among (i, o) l.told → Holds (contents s) (meaning rules) i o
+  pub few : q.turns + 2 ≤ 2 * length l.ended + length l.below
   pub fresh : IsFresh (contents s) (meaning rules) (asked_by q) (tried_at l.below) l.ended
+  pub covered : IsCovered (known_to entries q) q.ended.entries l.root l.seen l.todo (fault_in q.level)
   pub met : MetFrom (contents s) (meaning rules) l.root l.seen l.todo (fault_in q.level)
-  pub below : (i : Instance ℕ) (d : LevelCode) → Among (i, d) q.waiting.entries → IsLevel rules (contents s) i d
+  pub below : (i : Instance ℕ) (d : LevelCode) → Among (i, d) q.waiting.entries
+      → IsLevel rules (contents s) (known_to entries q) q.ended.entries i d
   pub can : CanResolve rules s entries q
   pub typed : (i : Instance ℕ) → IsAbout q i → IsWellTyped rules (class_shown s) AnyText i
 
@@ -163,13 +190,18 @@ pub record GainsBetween (rules : Rules) (s : Shown) (exact : Bool) (before after
 abbrev pub FollowsSo : Rules → Contents ℕ → Entries → Looked ℕ → Search ℕ → Option (ModelAnswer ℕ) → Type 0
 FollowsSo rules look kept l u o = Follows look (meaning rules) (kept_values kept) l u o
 
+-- each value that is known now was kept then, or is told
+abbrev pub AreKeptOrTold : (before after : Entries) → Question → Looked ℕ → Type 0
+AreKeptOrTold before after q l = (i : Instance ℕ) (v : Value ℕ) → known_to after q i ≡ Some v
+    → (kept_values before i ≡ Some v) ⊎ Among (i, Finds v) l.told
+
 -- for the model: the level goes on so from there, over what is passed and what has ended before, and what follows from where it has come to
 -- follows from there
 abbrev pub GoesSo : Rules → Shown → (before after : Entries) → Looked ℕ → Question → Searched → Type 0
 GoesSo rules s before after l new searched.Next = (u : Search ℕ) × StandsFor rules s after new u
     × FollowsSo rules (contents s) before l u None
 GoesSo rules s before after l new (searched.Back i) = (u : Search ℕ) × FollowsSo rules (contents s) before l u (Some (Circle i))
-GoesSo rules s before after l new searched.Over = (m : Looked ℕ) × StandsBetween rules s after new m
+GoesSo rules s before after l new searched.Over = (m : Looked ℕ) × StandsBetween rules s after new m × AreKeptOrTold before after new m
     × ((u : Search ℕ) (o : Option (ModelAnswer ℕ)) → FollowsSo rules (contents s) before m u o → FollowsSo rules (contents s) before l u o)
 
 -- it follows so, and stands, where it isn't answered
@@ -186,15 +218,33 @@ pub record HasSearched {E : Type 0} (rules : Rules) (s : Shown) (exact : Bool) (
   pub to : IfOk r (HasSearchedTo rules s after old new)
   pub follows : IfOk r (λ e. (l : Looked ℕ) → StandsBetween rules s before old l → GoesSo rules s before after l new e)
 
--- the last level has seen nothing any more: what it had seen has an outcome, and is known where that is a value
+-- what a level has seen can be solved: all start as the first one, and their equations have ended
+pub record IsSolvable (rules : Rules) (ended : List (Instance ℕ × Ended)) (l : LevelCode) : Type 0 where
+  pub alike : (i j : Instance ℕ) → Among i (seen_in l) → Among j (seen_in l) → start_of rules i.attribute ≡ start_of rules j.attribute
+  pub recorded : (i : Instance ℕ) → Among i (seen_in l) → Among i (keys_of ended)
+
+-- so it can be for the last level, where what is recorded and known holds
+pub record CanSolveLevel (rules : Rules) (s : Shown) (entries : Entries) (q : Question) : Type 0 where
+  pub answerable : IsAnswerable rules s entries
+  pub facts : AreFactsOf rules (contents s) entries q
+  pub finds : AreSoundFinds rules s entries q
+  pub last : IsSolvable rules q.ended.entries q.level
+
+-- the search of the last level has nothing to do any more
+pub record IsLevelOver (rules : Rules) (look : Contents ℕ) (entries : Entries) (q : Question) : Type 0 where
+  pub done : IsDoneIn q.level
+  pub covered : IsCovered (known_to entries q) q.ended.entries (root_in q.level q.inst) (seen_in q.level) (todo_in q.level) (fault_in q.level)
+  pub whole : AreWholeOrSeen rules look entries q
+
+-- The last level has seen nothing any more: what it had seen is marked whole, and known where it has a value. Where its search was over that is
+-- as it has to be.
 pub record HasSolvedLevel {E : Type 0} (rules : Rules) (s : Shown) (exact : Bool) (before after : Entries) (former latter : Memories)
     (earlier later : ℕ) (old new : Question) (r : Result Unit E) : Type 0 where
   pub mid : Question
   pub lost : HasLostSeen old mid
   pub tells : Tells rules s exact before after former latter earlier later mid new (seen_in old.level)
-  pub can : OnOk r (CanResolve rules s after new)
-  pub outcomes : OnOk r ((i : Instance ℕ) → Among i (seen_in old.level) → IsSome (known_to after new i)
-      ⊎ ((f : Fault) × Holds (contents s) (meaning rules) i (Faults (fault_view f.kind) f.at)))
+  pub marked : OnOk r ((i : Instance ℕ) → Among i (seen_in old.level) → IsMarked new.ended.entries i)
+  pub can : OnOk r (IsLevelOver rules (contents s) before old → CanResolve rules s after new)
 
 -- the last level is off, and its root is known: the one that waited for it is told that; or that is the answer
 pub record HasRisenTo {E : Type 0} (before after : Entries) (former latter : Memories) (earlier later : ℕ) (old new : Question) (t u : Trials)
@@ -209,7 +259,10 @@ pub record HasRisenTo {E : Type 0} (before after : Entries) (former latter : Mem
 
 -- the question can be answered by a circle at that instance
 pub record CanClose (rules : Rules) (s : Shown) (entries : Entries) (q : Question) (at : Instance ℕ) : Type 0 where
-  pub can : CanResolve rules s entries q
+  pub answerable : IsAnswerable rules s entries
+  pub facts : AreFactsOf rules (contents s) entries q
+  pub finds : AreSoundFinds rules s entries q
+  pub levels : (i : Instance ℕ) (l : LevelCode) → Among (i, l) ((q.inst, q.level) ∷ q.waiting.entries) → IsSolvable rules q.ended.entries l
   pub typed : (i : Instance ℕ) → IsAbout q i → IsWellTyped rules (class_shown s) AnyText i
 
 -- so it is, and all that any level had seen has an outcome, or is known

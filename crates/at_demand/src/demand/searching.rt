@@ -1,7 +1,14 @@
 //! The search of a level: which equation is tried next, what comes back, and what has an outcome.
 
-ghost use Rattle.at_demand.specs.Searches.{CanClose, CanGoAlong, CanResolve, CanSearch, HasClosed, HasGoneAlong, HasLookedAt, HasResolved};
-ghost use Rattle.at_demand.specs.Searches.{HasRisenTo, HasSearched, HasSolvedLevel};
+ghost use Rattle.std.specs.Prelude.{◌≡◌, ℕ, IfOk};
+ghost use Rattle.std.specs.Map.{keys_of};
+ghost use Rattle.at_model.specs.Meaning.{Among};
+ghost use Rattle.at_model.specs.Run.{Contents};
+ghost use Rattle.at_model.specs.of_fixpoints.Formulas.{Forms};
+ghost use Rattle.at_search.specs.Recorded.{AreFacts, AreWhole, IsMarked};
+ghost use Rattle.at_demand.specs.Levels.{known_to};
+ghost use Rattle.at_demand.specs.Searches.{CanClose, CanGoAlong, CanResolve, CanSearch, CanSolveLevel, HasClosed, HasGoneAlong, HasLookedAt};
+ghost use Rattle.at_demand.specs.Searches.{HasResolved, HasRisenTo, HasSearched, HasSolvedLevel, IsMetFault, look_of};
 
 use super::Demand;
 use crate::answer::Answer;
@@ -154,12 +161,7 @@ impl<K: Keeper> Demand<K> {
         if question.has_seen(inst) || self.is_known(question, inst) {
             return Ok(Look::Passed);
         }
-        match self.resolve(rules, store, question, inst)? {
-            Resolved::Known => Ok(Look::Passed),
-            Resolved::Spoilt(_) => Ok(Look::Ended),
-            Resolved::Back => Ok(Look::Back),
-            Resolved::Open => Ok(Look::Untried),
-        }
+        Ok(looked(self.resolve(rules, store, question, inst)?))
     }
 
     // What is known of an instance that isn't kept or found, and wasn't seen by the search that asks. Where all to which formulas lead from
@@ -181,15 +183,41 @@ impl<K: Keeper> Demand<K> {
         let Some(is_whole) = question.is_whole(inst) else {
             return Ok(Resolved::Open);
         };
-        if !is_whole {
-            let Some(seen) = self.closure_of(question, inst)? else {
-                return Ok(Resolved::Back);
-            };
-            self.solve_and_mark(rules, store, question, &seen)?;
-            if self.is_known(question, inst) {
-                return Ok(Resolved::Known);
-            }
+        if is_whole {
+            return self.spoilt_by(question, inst);
         }
+        self.resolve_ended(rules, store, question, inst)
+    }
+
+    // What is known of an instance that isn't tried, and whose equation has ended, but isn't marked whole.
+    fn resolve_ended(
+        &mut self,
+        rules: &Rules,
+        store: &Store,
+        question: &mut Question,
+        inst: &Inst,
+    ) -> Result<Resolved, AllocError>
+        requires can { CanResolve rules.now store.now (K.contents self.old.keeper) question.old }
+        requires ended { Among inst.now (keys_of question.old.ended.entries) }
+        requires unmarked { IsMarked question.old.ended.entries inst.now → ⊥ }
+        ensures { HasResolved rules.now store.now K.exact (K.contents self.old.keeper) (K.contents self.new.keeper) (K.memories self.old.keeper)
+            (K.memories self.new.keeper) self.old.work self.new.work question.old question.new inst.now result }
+    {
+        let Some(seen) = self.closure_of(question, inst)? else {
+            return Ok(Resolved::Back);
+        };
+        self.solve_and_mark(rules, store, question, &seen)?;
+        if self.is_known(question, inst) {
+            return Ok(Resolved::Known);
+        }
+        self.spoilt_by(question, inst)
+    }
+
+    // The fault of an instance that is marked whole and isn't known.
+    fn spoilt_by(&self, question: &Question, inst: &Inst) -> Result<Resolved, AllocError>
+        ensures { (look : Contents ℕ) (forms : Forms ℕ) → AreFacts look forms question.now.ended.entries
+            → AreWhole look forms (known_to (K.contents self.now.keeper) question.now) → IfOk result (IsMetFault look forms inst.now) }
+    {
         let fault = self.first_fault_of(question, inst)?;
         Ok(Resolved::Spoilt(fault.ok_or(AllocError)?))
     }
@@ -201,11 +229,23 @@ impl<K: Keeper> Demand<K> {
         store: &Store,
         question: &mut Question,
     ) -> Result<(), AllocError>
-        requires { CanResolve rules.now store.now (K.contents self.old.keeper) question.old }
+        requires { CanSolveLevel rules.now store.now (K.contents self.old.keeper) question.old }
         ensures { HasSolvedLevel rules.now store.now K.exact (K.contents self.old.keeper) (K.contents self.new.keeper) (K.memories self.old.keeper)
             (K.memories self.new.keeper) self.old.work self.new.work question.old question.new result }
     {
         let seen = question.take_seen(self.alloc);
         self.solve_and_mark(rules, store, question, &seen)
+    }
+}
+
+// What is to be done with an instance of which that is known.
+fn looked(resolved: Resolved) -> Look
+    ensures { result ≡ look_of resolved }
+{
+    match resolved {
+        Resolved::Known => Look::Passed,
+        Resolved::Spoilt(_) => Look::Ended,
+        Resolved::Back => Look::Back,
+        Resolved::Open => Look::Untried,
     }
 }
