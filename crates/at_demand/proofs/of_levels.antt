@@ -5,3 +5,6 @@ pub mod Carried
 pub mod Resolving
 pub mod Circling
 pub mod Following
+pub mod OnceTold
+pub mod Returning
+pub mod Stepping

@@ -34,7 +34,7 @@ use Rattle.at_demand.specs.Known.{ArePlain, FoundKept, IsFound, IsKept, KeepsEnt
 use Rattle.at_demand.specs.Levels.{AreFactsOf, IsUsed, known_to}
 use Rattle.at_demand.specs.Meant.{AreRightValues}
 use Rattle.at_demand.specs.Only.{AreLean, IsLean}
-use Rattle.at_demand.specs.Right.{AreRight, IsThere}
+use Rattle.at_demand.specs.Right.{AreRight, AreThere, IsThere}
 use Rattle.at_demand.specs.Sparing.{AreOnly, AreSettled, AreSpare, Counts, MayGain}
 
 -- the value from which the first of these starts, where it is circular
@@ -66,7 +66,7 @@ pub record Tells (rules : Rules) (s : Shown) (exact : Bool) (before after : Entr
   pub facts : AreFactsOf rules (contents s) before old → AreFactsOf rules (contents s) after new
   pub whole : AreWhole rules (contents s) old.found.entries → AreWhole rules (contents s) new.found.entries
   pub took : FoundKept after new.found.entries
-  pub right : ((i : Instance ℕ) → Among i these → IsThere s i) → AreRight rules s before → AreRight rules s after
+  pub right : AreThere rules s old.found.entries → ((i : Instance ℕ) → Among i these → IsThere s i) → AreRight rules s before → AreRight rules s after
   pub plain : ArePlain rules after
   pub lean : IsTrue exact → AreLean rules (contents s) old.found.entries → AreLean rules (contents s) new.found.entries
   pub settled : IsTrue exact → AreSettled rules before old.found.entries → AreSettled rules after new.found.entries

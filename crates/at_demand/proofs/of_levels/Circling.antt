@@ -23,8 +23,8 @@ use Rattle.at_demand.proofs.Marking.{told_among}
 
 -- one end is recorded of an equation
 pub one_recorded : (ended : List (Instance ℕ × Ended)) → OneEnd (Recorded ended) (Recorded ended)
-one_recorded ended j d e (x, at, is) (y, here, same) =
-    let q : x ≡ y = same_Some x y (sym at ∙ here) in sym is ∙ ap (λ (z : Ended). end_of z.ending) q ∙ same
+one_recorded ended j d e (x, at, is) (y, found, same) =
+    let q : x ≡ y = same_Some x y (sym at ∙ found) in sym is ∙ ap (λ (z : Ended). end_of z.ending) q ∙ same
 
 same_or : (i j : Instance ℕ) → (i ≡ j) ⊎ (¬ (i ≡ j))
 same_or i j = elim (told_among i (j ∷ [])) [
@@ -74,7 +74,7 @@ module _ (known : Known ℕ) (ended : List (Instance ℕ × Ended)) where
   leads_next seen next todo o i to l n none h =
       let (y, w, b, c, k) = leads_out_of seen (next ∷ todo) o i to l n none h in
       led_beyond (Recorded ended) seen i next
-          (leads_to_next (Recorded ended) (one_recorded ended) (λ j. IsSome (known j)) seen next todo o.0 i y (same_or next y) w h b c k)
+      (leads_to_next (Recorded ended) (one_recorded ended) (λ j. IsSome (known j)) seen next todo o.0 i y (same_or next y) w h b c k)
 
   module _ (look : Contents ℕ) (forms : Forms ℕ) (facts : AreFacts look forms ended) where
     pub led_so : (i j : Instance ℕ) → LeadsOver (Recorded ended) i j → LeadsOver (EndsSo look forms) i j

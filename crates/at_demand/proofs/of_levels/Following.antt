@@ -72,5 +72,5 @@ module _ (look : Contents ℕ) (forms : Forms ℕ) (kept fewer : Known ℕ) (mor
       follows.finds l ls v told (λ a h. passed_less s t a (all a h)) is has (λ i j a c. passed_less s t j (ready i j a c)) adds there
   follows_less {s} t (follows.faults l ls k at all is has y) =
       follows.faults l ls k at (λ a h. passed_less s t a (all a h)) is has
-          (follows_less (told_more s.told ((s.root, Faults k at) ∷ s.told) (λ i o a. inr a) t) y)
+      (follows_less (told_more s.told ((s.root, Faults k at) ∷ s.told) (λ i o a. inr a) t) y)
   follows_less {s} t (follows.tells told adds y) = follows.tells told adds (follows_less (told_more s.told told adds.stays t) y)

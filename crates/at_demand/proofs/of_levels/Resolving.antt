@@ -276,7 +276,7 @@ module _ (rules : Rules) (s : Shown) (exact : Bool) (before after : Entries) (fo
     facts = t.facts;
     whole = t.whole;
     took = t.took;
-    right = λ there r. t.right (λ i a. there i (on i a)) r;
+    right = λ finds there r. t.right finds (λ i a. there i (on i a)) r;
     plain = t.plain;
     lean = t.lean;
     settled = t.settled;
@@ -296,10 +296,10 @@ module _ (rules : Rules) (s : Shown) (exact : Bool) (before after : Entries) (fo
         let (m, same, marks) = h.marked in
         let (more, grown) = h.tells.finds in
         placed_on rules (contents s) before after old new set facts
-            (still_known before after old new h.tells.stays more (grown ∙ ap (λ fs. fs ++ more) found))
-            (subst (λ es. AllMarked set es new.ended.entries) (same ∙ ended) (all_marked set m new marks))
-            (h.tells.ended ∙ ap (λ es. keys_of es) ended) closed seen
-            (λ i a. known_same before after mid old new i ended found (h.rest (closed_same before mid old set ended found closed) i a)) w
+        (still_known before after old new h.tells.stays more (grown ∙ ap (λ fs. fs ++ more) found))
+        (subst (λ es. AllMarked set es new.ended.entries) (same ∙ ended) (all_marked set m new marks))
+        (h.tells.ended ∙ ap (λ es. keys_of es) ended) closed seen
+        (λ i a. known_same before after mid old new i ended found (h.rest (closed_same before mid old set ended found closed) i a)) w
 
     -- and each of these is marked
     pub solved_marked : (r : Result Unit AllocError) → HasMarkedSolved {E = AllocError} rules s exact before after former latter earlier later mid new set r →
@@ -401,7 +401,7 @@ module _ (rules : Rules) (s : Shown) (exact : Bool) (entries : Entries) (m : Mem
     facts = λ f. f;
     whole = λ f. f;
     took = can.finds.took;
-    right = λ there r. r;
+    right = λ finds there r. r;
     plain = can.answerable.plain;
     lean = λ on l. l;
     settled = λ on l. l;
@@ -518,7 +518,7 @@ module _ (rules : Rules) (s : Shown) (exact : Bool) (before after : Entries) (fo
   looked : (a : Resolved) → AreRightValues (contents s) (meaning rules) (known_to after new) → IsResolved rules (contents s) before after old new i a →
       IsLookedAt rules (contents s) before after old new i (look_of a)
   looked resolved.Known right k = inr k
-  looked (resolved.Spoilt f) right (h, k) = (unseen, k, by (known_to after new i) refl, f, h)
+  looked (resolved.Spoilt f) right (h, k) = (unseen, k, by (known_to after new i) refl, (f, h))
     where
       by : (o : Option (Value ℕ)) → known_to after new i ≡ o → o ≡ None
       by None e = refl
