@@ -8,3 +8,4 @@ pub mod Following
 pub mod OnceTold
 pub mod Returning
 pub mod Stepping
+pub mod Overgoing

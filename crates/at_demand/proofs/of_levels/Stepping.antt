@@ -254,6 +254,7 @@ module _ (rules : Rules) (s : Shown) (exact : Bool) (before after : Entries) (fo
   -- which is taken off
   pub next_pending : HasNext pending new c
   next_pending = record {
+    is = let (b, e) = n.is in (b, t.level ∙ e);
     chain = record { waiting = refl; inst = refl };
     finds = record { found = refl; passed = refl; ended = refl; turns = refl };
     root = ap (λ d. root_in d new.inst) t.level ∙ ap (λ i. root_in mid.level i) t.chain.inst ∙ n.root ∙ ap (λ i. root_in old.level i) (sym (t.chain.inst ∙ n.chain.inst));
