@@ -4,6 +4,7 @@ pub mod Fixpoints
 pub mod Resting
 pub mod Sets
 pub mod Circles
+pub mod Met
 pub mod Likeness
 pub mod FixpointSamples
 pub mod FormKinds
