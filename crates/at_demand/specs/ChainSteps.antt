@@ -97,12 +97,17 @@ pub record SeesNext (old new : LevelCode) (i : Instance ℕ) (e : Ending) : Type
   pub todo : todo_in new ≡ asked_in (end_of e) ++ todo_in old
   pub met : HasMetIn e (fault_in old) (fault_in new)
 
+-- so it has, if the level is a search
+abbrev pub SeesIn : (old new : LevelCode) → Instance ℕ → Ending → Type 0
+SeesIn None new i e = new ≡ None
+SeesIn (Some b) new i e = SeesNext (Some b) new i e
+
 -- that of the last level has, if it is a search
 pub record HasSeen (old : Question) (i : Instance ℕ) (e : Ending) (new : Question) : Type 0 where
   pub chain : KeepsChain old new
   pub finds : KeepsFinds old new
   pub root : root_in new.level new.inst ≡ root_in old.level old.inst
-  pub sees : elim old.level [ None ↦ new.level ≡ None | Some b ↦ SeesNext old.level new.level i e ]
+  pub sees : SeesIn old.level new.level i e
 
 -- an equation is whole as it ends by a fault
 abbrev pub ended_by : Ending → Ended

@@ -176,14 +176,16 @@ pub record IsFindOf (entries : Entries) (q : Question) (insts : List (Instance �
   pub rests : RestsOn entries q insts group f
   pub only : IsOnlyOf entries q insts group f
 
+-- just the use of that one was taken, of what is kept or at the place
+abbrev pub UsesFirst : Instance ℕ → Option ℕ → Demanded → Type 0
+UsesFirst i None d = (d.kept.items ≡ i ∷ []) × (d.finds.items ≡ [])
+UsesFirst i (Some p) d = (d.kept.items ≡ []) × (d.finds.items ≡ p ∷ [])
+
 -- another member's find has its value, and the use of the first one
 pub record IsOtherFind (first : Instance ℕ) (place : Option ℕ) (b : Bool) (f : Find) : Type 0 where
   pub value : f.value ≡ value.Bool b
   pub reads : map loc_view f.reads.items ≡ []
-  pub uses : elim place [
-    | None ↦ (f.demanded.kept.items ≡ first ∷ []) × (f.demanded.finds.items ≡ [])
-    | Some p ↦ (f.demanded.kept.items ≡ []) × (f.demanded.finds.items ≡ p ∷ [])
-  ]
+  pub uses : UsesFirst first place f.demanded
 
 -- The find's value is kept for the instance where it is lazy, or the find comes behind those that were found.
 pub record IsKeptOrFound (rules : Rules) (exact : Bool) (before after : Entries) (former latter : Memories) (earlier later : ℕ)
@@ -215,11 +217,16 @@ pub record HasKeptFirst {E : Type 0} (rules : Rules) (exact : Bool) (before afte
     | Some p ↦ (p ≡ length old.found.entries) × (new.found.entries ≡ insert_entry same_instance old.found.entries i f)
   ])
 
+-- the first one is kept, or was found at the place
+abbrev pub IsFirstAt : Entries → Question → Instance ℕ → Option ℕ → Type 0
+IsFirstAt entries q i None = IsKept entries i
+IsFirstAt entries q i (Some p) = (f : Find) × (slice_get q.found.entries p ≡ Some (i, f))
+
 -- another member can be, where the first one is known: it is kept, or stands at that place
 pub record CanBeOther (rules : Rules) (entries : Entries) (q : Question) (insts : List (Instance ℕ)) (first : Instance ℕ) (place : Option ℕ)
     (m : Solved) : Type 0 where
   pub finds : FoundKept entries q.found.entries
-  pub first : elim place [ None ↦ IsKept entries first | Some p ↦ (f : Find) × (slice_get q.found.entries p ≡ Some (first, f)) ]
+  pub known : IsFirstAt entries q first place
   pub unknown : (i : Instance ℕ) → slice_get insts m.position ≡ Some i → known_to entries q i ≡ None
   pub plain : ArePlain rules entries
 

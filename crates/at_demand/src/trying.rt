@@ -72,7 +72,7 @@ impl<'a> Going<'a> {
 
 // What the try for a value comes to; where it needs another instance, its trial waits.
 pub fn came_to_value<'a>(attempt: Attempt, frame: Frame<'a>) -> Tried<'a>
-    ensures { IsTriedBy attempt.entry frame.entry result }
+    ensures { IsTriedBy attempt frame.entry result }
 {
     match attempt {
         Attempt::Kept(value) => Tried::Kept(value),
@@ -88,7 +88,7 @@ pub fn came_to_formula<'a>(
     progress: Progress,
     formation: Box<Formation<'a>>,
 ) -> Tried<'a>
-    ensures { IsFormedBy progress.entry formation.entry result }
+    ensures { IsFormedBy progress formation.entry result }
 {
     let mut formation = formation;
     match progress {

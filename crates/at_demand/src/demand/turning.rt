@@ -244,7 +244,7 @@ impl<K: Keeper> Demand<K> {
         inst: &Inst,
         going: Going<'a>,
     ) -> Result<Tried<'a>, AllocError>
-        requires { CanCarryOn rules.now store.now (K.contents self.old.keeper) found.now.entries inst.now going.entry }
+        requires { CanCarryOn rules.now store.now (K.contents self.old.keeper) found.now.entries inst.now going }
         ensures tried { HasCarriedOn rules.now store.now K.exact (K.contents self.old.keeper) (K.contents self.new.keeper) self.old.work self.new.work
             found.now.entries inst.now result }
         ensures traces { StaysTraced K.memories self.old.keeper self.new.keeper }
