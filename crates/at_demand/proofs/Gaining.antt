@@ -3,7 +3,9 @@ use Rattle.std.proofs.Common.{◌≡◌, ◌⊎◌, ℕ, Bool, true, List, [], �
 use Rattle.std.specs.Prelude.{IsSome}
 use Rattle.at_model.specs.Run.{Instance, Contents, Fails}
 use Rattle.at_model.specs.Rules.{Rules, is_lazy}
-use Rattle.at_model.specs.Meaning.{HasValue, Among, Comes, Leads}
+use Rattle.at_model.specs.Meaning.{Among}
+use Rattle.at_model.specs.of_fixpoints.Fixpoints.{HasValue}
+use Rattle.at_model.specs.of_fixpoints.Resting.{Comes, Leads}
 use Rattle.at_body.specs.Values.{FaultCode, fault_view}
 use Rattle.at_body.specs.declared.trial.Step.TheVariants as step
 use Rattle.at_cache.specs.Kept.{Kept, Entries}

@@ -20,7 +20,6 @@ use Rattle.at_demand.specs.declared.direct.Direct.{Direct}
 use Rattle.at_demand.specs.declared.direct.Level.{Level}
 use Rattle.at_demand.specs.Known.{equations, meaning, kept_values, IsKept, KeepsEntries}
 use Rattle.at_demand.specs.Inner.{AreKnown, Gains, HasRecalled, HasTold, IsEvaluated, StayRemembered, is_inner, known_by}
-use Rattle.at_demand.specs.Meant.{AreCircularWell}
 use Rattle.at_demand.specs.Right.{AreRight, IsThere}
 use Rattle.at_demand.specs.Sparing.{AreSpare, Counts, IsWorthKeeping}
 use Rattle.at_demand.specs.Traces.{AreJustified, AreOfTree, StayJustified}
@@ -45,7 +44,6 @@ values_in h = known_by h.entries h.found
 
 -- All of that is right.
 pub record IsHeld (rules : Rules) (look : Contents ℕ) (h : Held) : Type 0 where
-  pub circular : AreCircularWell rules
   pub known : AreKnown rules look h.entries h.found
   pub justified : AreJustified rules look h.memories
 
@@ -114,9 +112,15 @@ pub record IsHeldFor (rules : Rules) (look : Contents ℕ) (h : Held) (lazily : 
   pub own : start_of rules i.attribute ≡ None
   pub held : IsHeld rules look h
 
+-- so it is for one whose attribute isn't circular
+pub record IsHeldFrom (rules : Rules) (look : Contents ℕ) (h : Held) (i : Instance ℕ) : Type 0 where
+  pub own : start_of rules i.attribute ≡ None
+  pub held : IsHeld rules look h
+
 -- and its evaluation has come to v, with what stands with the level
 pub record IsEvaluatedFor (rules : Rules) (look : Contents ℕ) (h : Held) (lazily : Bool) (i : Instance ℕ) (v : Value ℕ) (below : Level) : Type 0 where
   pub lazy : is_lazy rules i.attribute ≡ lazily
+  pub own : start_of rules i.attribute ≡ None
   pub held : IsHeld rules look h
   pub come : IsEvaluated rules look (values_in h) i v below.reads below.uses.items
 

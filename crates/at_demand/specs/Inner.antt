@@ -4,7 +4,7 @@ use Rattle.std.specs.Map.{lookup}
 use Rattle.std.specs.Option.{option_map}
 use Rattle.at_model.specs.Run.{Value, Instance, Location, Contents, Known}
 use Rattle.at_model.specs.Rules.{Rules, is_lazy}
-use Rattle.at_demand.specs.Meant.{AreRightValues}
+use Rattle.at_demand.specs.Meant.{AreCircularWell, AreRightValues}
 use Rattle.at_model.specs.Nested.{Evaluates, Tells}
 use Rattle.at_store.specs.Shown.{Shown, contents}
 use Rattle.at_body.specs.Same.{same_instance}
@@ -29,8 +29,9 @@ abbrev pub known_by : Entries → List (Instance ℕ × ValueCode) → Known ℕ
 known_by entries found i = elim (kept_values entries i) [ Some v ↦ Some v | None ↦ remembered found i ]
 
 -- What is kept and what is remembered holds, and all of it has entries; one without a value is of an attribute that isn't lazy, and so
--- is what is remembered.
+-- is what is remembered. Circular attributes are lazy.
 pub record AreKnown (rules : Rules) (look : Contents ℕ) (entries : Entries) (found : List (Instance ℕ × ValueCode)) : Type 0 where
+  pub circular : AreCircularWell rules
   pub right : AreRightValues look (meaning rules) (kept_values entries)
   pub plain : ArePlain rules entries
   pub finds : AreRightValues look (meaning rules) (remembered found)

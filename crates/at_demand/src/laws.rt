@@ -20,6 +20,7 @@ ghost use Rattle.at_model.specs.Edits.{Edit, edited};
 ghost use Rattle.at_store.specs.Preparing.{IsCommitted};
 ghost use Rattle.at_store.specs.Shown.{IsIdle, Shown, contents, path, tree};
 ghost use Rattle.at_cache.specs.Kept.{Entries, LeavesUntouched, LosesTouched};
+ghost use Rattle.at_demand.specs.Answered.{EndsByOutcome};
 ghost use Rattle.at_demand.specs.Right.{AreRight};
 ghost use Rattle.at_demand.specs.Spared.{LeavesJust};
 ghost use Rattle.at_demand.specs.Sparing.{AddsWorthy, AreSpare, Counts, HasWorthy};
@@ -52,9 +53,10 @@ pub fn what_is_kept_spare_is_well_kept()
 {}
 
 /// A question that adds just what is worth keeping, and counts it, adds by the paths of nodes what the model says, and has that
-/// much work.
+/// much work: where it isn't answered by a circle of circular attributes.
 pub fn a_question_adds_what_is_worth_keeping()
     ensures { (rules : Rules) (s : Shown) → IsIdle s → (q : Instance ℕ) (p : Instance Node) → InstanceLike (Names (path s)) q p
+        → (a : Answer ℕ) → Answers (contents s) (meaning rules) q a → EndsByOutcome rules a
         → (old new : Entries) (work later : ℕ) → AddsWorthy rules (contents s) q old new → HasWorthy rules (contents s) q new
         → Counts old new work later
         → (state : State) → state.tree ≡ tree s → Keeps rules state (Asks p) (KeptBy s old) (KeptBy s new) work later }

@@ -2,17 +2,29 @@
 use Rattle.std.proofs.Common.{◌≡◌, ◌⊎◌, ◌↔◌, ℕ, nat_eq, List, length, Option, inl, inr, refl, sym, ap, ◌∙◌, subst}
 use Rattle.at_model.specs.Trees.{Tree}
 use Rattle.at_model.specs.Paths.{Node, node_eq}
-use Rattle.at_model.specs.Run.{Instance, Location, Contents}
+use Rattle.at_model.specs.Run.{Value, Instance, Location, Contents}
 use Rattle.at_model.specs.Rules.{Rules, is_lazy}
-use Rattle.at_model.specs.Meaning.{Equations, Among, Distinct, content, equations}
-use Rattle.at_model.specs.Alike.{InstanceLike, Names, IsInjective, EquationsLike, AlikeAt}
+use Rattle.at_model.specs.Meaning.{Among, Answer, Circle, Distinct, Finds, Outcomes, content, equations}
+use Rattle.at_model.specs.Alike.{InstanceLike, Names, IsInjective, AlikeAt}
+use Rattle.at_model.specs.of_fixpoints.Circles.{Answers, Circular}
+use Rattle.at_model.specs.of_fixpoints.Evaluations.{forms}
+use Rattle.at_model.specs.of_fixpoints.Fixpoints.{HasValue, Holds}
+use Rattle.at_model.specs.of_fixpoints.Formulas.{Forms}
+use Rattle.at_model.specs.of_fixpoints.Likeness.{FormsLike}
+use Rattle.at_model.specs.of_fixpoints.Met.{IsMet, met}
+use Rattle.at_model.specs.of_fixpoints.Resting.{Leads}
 use Rattle.at_model.specs.Sparing.{IsWorthKeeping, AreAdded}
 use Rattle.at_demand.specs.Known.{meaning}
+use Rattle.at_demand.specs.Answered.{EndsByOutcome}
 use Rattle.at_demand.specs.Sparing.{IsWorthKeeping as IsWorth}
 use Rattle.at_model.proofs.of_likeness.CarryingCircles.{instance-agrees, names_agree}
-use Rattle.at_model.proofs.of_likeness.EquationsAlike.{evaluation-like}
+use Rattle.at_model.proofs.of_formulas.CarriedByFormulas.{outcome_back, outcome_there, leads_back, leads_there}
+use Rattle.at_model.proofs.of_formulas.ClosedOnce.{not_both}
+use Rattle.at_model.proofs.of_formulas.EndsAlike.{found_back, found_like}
+use Rattle.at_model.proofs.of_formulas.FormulasAlike.{evaluation-like}
+use Rattle.at_model.proofs.of_formulas.PlainRules.{rules_plain}
+use Rattle.at_model.proofs.of_formulas.WorthKeeping.{plainly_met}
 use Rattle.at_model.proofs.Nodes.{same_like, nat_eq-is, node_eq-is}
-use Rattle.at_model.proofs.of_likeness.AlikeBack.{value_on, value_back, leads_on, leads_back}
 use Rattle.at_demand.proofs.Naming.{AreNamed, name_all}
 
 -- what instances by numbers are called
@@ -20,13 +32,13 @@ abbrev pub Called : (ℕ → Option Node) → (Instance ℕ → Type 0) → Inst
 Called path Kept j = (i : Instance ℕ) × Kept i × InstanceLike (Names path) i j
 
 module _ (rules : Rules) (look : Contents ℕ) (t : Tree) (path : ℕ → Option Node) (named_once : IsInjective path) (alike : (l : Location ℕ) → AlikeAt (Names path) look (content t) l) where
-  abbrev means : Equations ℕ
+  abbrev means : Forms ℕ
   means = meaning rules
 
   abbrev Like : Instance ℕ → Instance Node → Type 0
   Like = InstanceLike (Names path)
 
-  like : EquationsLike (Names path) means (equations rules)
+  like : FormsLike (Names path) means (forms rules)
   like = evaluation-like rules nat_eq node_eq (same_like nat_eq node_eq nat_eq-is node_eq-is path named_once)
 
   pub one_path : (i : Instance ℕ) (j k : Instance Node) → Like i j → Like i k → j ≡ k
@@ -35,19 +47,57 @@ module _ (rules : Rules) (look : Contents ℕ) (t : Tree) (path : ℕ → Option
   pub one_number : (i j : Instance ℕ) (k : Instance Node) → Like i k → Like j k → i ≡ j
   one_number i j k s u = (instance-agrees (names_agree path named_once) i j k k s u).1 refl
 
-  -- one question, by number and by path
-  module _ (q : Instance ℕ) (p : Instance Node) (asked : Like q p) where
+  -- one question, by number and by path, which has an outcome, or is asked where no attribute is circular
+  module _ (q : Instance ℕ) (p : Instance Node) (asked : Like q p) (a : Answer ℕ) (answers : Answers look means q a)
+      (ends : EndsByOutcome rules a) where
+    -- no circle of circular attributes answers it
+    none_before : (b : Answer ℕ) → Answers look means q b → EndsByOutcome rules b → (j : Instance Node) (v : Value Node) →
+        Leads (content t) (forms rules) p j → HasValue (content t) (forms rules) j v → (k : Instance Node)
+        (c : Circular (content t) (forms rules) p k) → IsMet (content t) (forms rules) (met c) j
+    none_before (Outcomes o) h e j v l has k c =
+        let (o', g, same) = outcome_there (names_agree path named_once) look (content t) means (forms rules) like q p o
+        (asked, λ l h. alike l) h in
+        absurd (not_both (content t) (forms rules) p k o' g c)
+    none_before (Circle m) h none j v =
+        subst (λ (z : Forms Node). Leads (content t) z p j → HasValue (content t) z j v → (k : Instance Node)
+        (c : Circular (content t) z p k) → IsMet (content t) z (met c) j) (sym (rules_plain rules node_eq none))
+        (λ l has k c. plainly_met (content t) (equations rules) p j k v l has c)
+
     pub worth_on : (i : Instance ℕ) → IsWorth rules look q i → (j : Instance Node) × Like i j × IsWorthKeeping rules t p j
     worth_on i w =
-        let (j, s, leads) = leads_on look (content t) means (equations rules) like alike q p i asked w.reached in
-        let (v, has, same) = value_on look (content t) means (equations rules) like alike i j w.value s w.has in
-        (j, s, record { reached = leads; lazy = ap (is_lazy rules) (sym s.attribute) ∙ w.lazy; value = v; has = has })
+        let (j, (s, more), leads) = leads_there (names_agree path named_once) look (content t) means (forms rules) like q i p
+        (asked, λ l h. alike l) w.reached in
+        let (o, g, same) = outcome_there (names_agree path named_once) look (content t) means (forms rules) like i j
+        (Finds w.value) (s, λ l h. alike l) w.has in
+        let (v, is, u) = found_like w.value same refl in
+        let has = subst (Holds (content t) (forms rules) j) is g in (
+          j,
+          s,
+          record {
+            reached = leads;
+            lazy = ap (is_lazy rules) (sym s.attribute) ∙ w.lazy;
+            value = v;
+            has = has;
+            before = none_before a answers ends j v leads has;
+          },
+        )
 
     pub worth_back : (j : Instance Node) → IsWorthKeeping rules t p j → (i : Instance ℕ) × Like i j × IsWorth rules look q i
     worth_back j w =
-        let (i, s, leads) = leads_back look (content t) means (equations rules) like alike q p j asked w.reached in
-        let (v, has, same) = value_back look (content t) means (equations rules) like alike i j w.value s w.has in
-        (i, s, record { reached = leads; lazy = ap (is_lazy rules) s.attribute ∙ w.lazy; value = v; has = has })
+        let (i, (s, more), leads) = leads_back (names_agree path named_once) look (content t) means (forms rules) like q p j
+        (asked, λ l h. alike l) w.reached in
+        let (o, g, same) = outcome_back (names_agree path named_once) look (content t) means (forms rules) like i j
+        (Finds w.value) (s, λ l h. alike l) w.has in
+        let (v, is, u) = found_back w.value same refl in (
+          i,
+          s,
+          record {
+            reached = leads;
+            lazy = ap (is_lazy rules) s.attribute ∙ w.lazy;
+            value = v;
+            has = subst (Holds look means i) is g;
+          },
+        )
 
     module _ (Old New : Instance ℕ → Type 0) where
       -- where just what is worth it comes, so it does by paths

@@ -3,10 +3,10 @@ use Rattle.std.proofs.Common.{◌≡◌, ℕ, Bool, false, List, [], ◌++◌, d
 use Rattle.std.proofs.Math.Seq.{take-append_seam, drop-append_seam}
 use Rattle.std.proofs.lemmas.List.{length-append}
 use Rattle.at_model.specs.Run.{Value, Instance, Location}
-use Rattle.at_model.specs.Rules.{Rules, is_lazy}
+use Rattle.at_model.specs.Rules.{Rules, is_lazy, start_of}
 use Rattle.at_store.specs.Shown.{Shown, IsIdle, contents}
 use Rattle.at_demand.specs.declared.direct.Level.{Level}
-use Rattle.at_demand.specs.Known.{meaning}
+use Rattle.at_demand.specs.Known.{equations, meaning}
 use Rattle.at_demand.specs.Inner.{Gains, HasTold, IsEvaluated}
 use Rattle.at_demand.specs.InParts.{HasCome, HasGained, Held, values_in}
 use Rattle.at_demand.specs.Traces.{StayJustified}
@@ -16,14 +16,14 @@ use Rattle.at_demand.proofs.of_nesting.InnerGains.{leads_next, told_inner}
 
 module _ (rules : Rules) (s : Shown) (exact : Bool) where
   -- what came for the evaluation of an instance came for the instance
-  pub gains_evaluated : IsIdle s → (i : Instance ℕ) (old new : Held) →
-      HasGained rules s exact (meaning rules i) old new →
+  pub gains_evaluated : IsIdle s → (i : Instance ℕ) (old new : Held) → start_of rules i.attribute ≡ None →
+      HasGained rules s exact (equations rules i) old new →
       Gains rules s exact i old.entries new.entries old.found new.found old.work new.work
-  gains_evaluated idle i old new h = record {
+  gains_evaluated idle i old new own h = record {
     worthy = record {
       stays = h.keeps;
       worthy = λ j none some. let (m, d, w) = h.worthy j none some in record {
-        reached = leads_on (contents s) (meaning rules) i m j (leads_next rules (contents s) i m d) w.reached;
+        reached = leads_on (contents s) (meaning rules) i m j (leads_next rules (contents s) i m own d) w.reached;
         lazy = w.lazy;
         value = w.value;
         has = w.has;
@@ -31,21 +31,21 @@ module _ (rules : Rules) (s : Shown) (exact : Bool) where
     };
     known = h.right.known;
     still = h.still;
-    stays = λ there all. h.stays (λ m d. led_there rules s idle i m there (leads_next rules (contents s) i m d)) all;
+    stays = λ there all. h.stays (λ m d. led_there rules s idle i m there (leads_next rules (contents s) i m own d)) all;
     spare = h.spare;
     counts = h.counts;
   }
 
   -- and so did what can be kept again
-  pub traced_evaluated : IsIdle s → (i : Instance ℕ) (old new : Held) →
-      HasGained rules s exact (meaning rules i) old new → StayJustified rules s i old.memories new.memories
-  traced_evaluated idle i old new h = record {
+  pub traced_evaluated : IsIdle s → (i : Instance ℕ) (old new : Held) → start_of rules i.attribute ≡ None →
+      HasGained rules s exact (equations rules i) old new → StayJustified rules s i old.memories new.memories
+  traced_evaluated idle i old new own h = record {
     justified = h.right.justified;
-    there = λ there all. h.there (λ m d. led_there rules s idle i m there (leads_next rules (contents s) i m d)) all;
+    there = λ there all. h.there (λ m d. led_there rules s idle i m there (leads_next rules (contents s) i m own d)) all;
   }
 
   module _ (h : Held) (old new : Level) (i : Instance ℕ) (v : Value ℕ)
-      (come : HasCome rules (contents s) h old new (meaning rules i) v) where
+      (come : HasCome rules (contents s) h old new (equations rules i) v) where
     -- where it is an inner one, the one that asks is told its value
     pub inner_told : is_lazy rules i.attribute ≡ false → HasTold rules (contents s) (values_in h) old new i v
     inner_told lazy = told_inner rules (contents s) (values_in h) old new i v come.looks come.takes lazy

@@ -4,8 +4,9 @@ use Rattle.std.specs.Option.{IfSome}
 use Rattle.std.specs.Prelude.{IsSome, IsTrue}
 use Rattle.indexmap.specs.IndexMap.{insert_entry}
 use Rattle.at_model.specs.Run.{Instance, Location, Value}
-use Rattle.at_model.specs.Rules.{Rules, is_lazy}
-use Rattle.at_model.specs.Meaning.{HasValue, Leads}
+use Rattle.at_model.specs.Rules.{Rules, is_lazy, start_of}
+use Rattle.at_model.specs.of_fixpoints.Fixpoints.{HasValue}
+use Rattle.at_model.specs.of_fixpoints.Resting.{Leads}
 use Rattle.at_store.specs.Shown.{Shown, IsIdle, contents}
 use Rattle.at_body.specs.Same.{same_instance}
 use Rattle.at_body.specs.Values.{value_view}
@@ -16,7 +17,7 @@ use Rattle.at_cache.specs.declared.keeper.Order.{Order}
 use Rattle.at_cache.specs.declared.keeper.Order.TheVariants as order
 use Rattle.at_cache.specs.declared.keeper.Put.{Put}
 use Rattle.at_demand.specs.declared.direct.Level.{Level}
-use Rattle.at_demand.specs.Known.{meaning}
+use Rattle.at_demand.specs.Known.{equations, meaning}
 use Rattle.at_demand.specs.Inner.{AreLazy, Gains, known_by}
 use Rattle.at_demand.specs.InParts.{HasGained, HasGrown, Held, IsEvaluatedFor, IsHeld, held}
 use Rattle.at_demand.specs.Sparing.{Counts}
@@ -88,10 +89,10 @@ held_after a = record { known = a.gains.known; justified = a.traces.justified }
 
 -- what came for the evaluation of an instance came for the instance
 pub grown_evaluated : (rules : Rules) (s : Shown) (exact : Bool) → IsIdle s → (i : Instance ℕ) (old new : Held) →
-    HasGained rules s exact (meaning rules i) old new → HasGrown rules s exact i old new
-grown_evaluated rules s exact idle i old new h = record {
-  gains = gains_evaluated rules s exact idle i old new h;
-  traces = traced_evaluated rules s exact idle i old new h;
+    start_of rules i.attribute ≡ None → HasGained rules s exact (equations rules i) old new → HasGrown rules s exact i old new
+grown_evaluated rules s exact idle i old new own h = record {
+  gains = gains_evaluated rules s exact idle i old new own h;
+  traces = traced_evaluated rules s exact idle i old new own h;
 }
 
 -- a lazy one was evaluated, and is kept or left: what comes so
@@ -106,9 +107,9 @@ module _ {rules : Rules} {s : Shown} {exact : Bool} {i : Instance ℕ} {old new 
   grown_kept absent p put = record {
     gains = subst (λ (f : Found). Gains rules s exact i old.entries new.entries old.found f old.work new.work) (sym found)
         (gains_put_so rules s exact i old.entries new.entries old.found v below.reads below.uses.items is.held.known
-        is.come (Some v) (inl (refl, is.lazy)) absent old.work new.work counts p put);
+        is.own is.come (Some v) (inl (refl, is.lazy)) absent old.work new.work counts p put);
     traces = put_traced rules s idle i old.entries new.entries old.found v below.reads below.uses.items o old.memories
-        new.memories is.held.known is.come is.lazy
+        new.memories is.held.known is.own is.come is.lazy
         (λ e. subst (λ (xs : List (Instance ℕ)). AreLazy rules xs) same (ordered e))
         (stays_put exact old.entries new.entries i (Some v) below.reads below.uses.items p absent put) last puts
         is.held.justified;
@@ -120,7 +121,7 @@ module _ {rules : Rules} {s : Shown} {exact : Bool} {i : Instance ℕ} {old new 
     gains = subst (λ (f : Found). Gains rules s exact i old.entries new.entries old.found f old.work new.work) (sym found)
         (gains_same rules s exact i old.entries new.entries old.found old.work new.work all is.held.known counts);
     traces = put_traced rules s idle i old.entries new.entries old.found v below.reads below.uses.items o old.memories
-        new.memories is.held.known is.come is.lazy
+        new.memories is.held.known is.own is.come is.lazy
         (λ e. subst (λ (xs : List (Instance ℕ)). AreLazy rules xs) same (ordered e)) (λ j some. all j) last puts
         is.held.justified;
   }
@@ -132,7 +133,7 @@ pub grown_entered : (rules : Rules) (s : Shown) {exact : Bool} {i : Instance ℕ
     HasPut exact before i None below.reads below.uses.items after p →
     HasGrown rules s exact i (held before m f w) (held after n f w)
 grown_entered rules s {exact} {i} {v} {below} {before} {after} {m} {n} {f} {w} few is absent stay p put = record {
-  gains = gains_put_so rules s exact i before after f v below.reads below.uses.items is.held.known is.come None
+  gains = gains_put_so rules s exact i before after f v below.reads below.uses.items is.held.known is.own is.come None
       (inr (refl, is.lazy)) absent w w
       (λ k. counts_shared_so rules s exact before after i below.reads below.uses.items w few absent p put) p put;
   traces = traced_on rules s i m n stay is.held.justified;
@@ -151,7 +152,7 @@ grown_as {rules} {s} {exact} {i} {old} {entries} {m} {f} {g} {w} {x} e d a = rec
 pub evaluated_has : (rules : Rules) (s : Shown) (exact : Bool) {h : Held} {lazily : Bool} {i : Instance ℕ} {v : Value ℕ}
     {below : Level} → IsEvaluatedFor rules (contents s) h lazily i v below → HasValue (contents s) (meaning rules) i v
 evaluated_has rules s exact {h} {lazily} {i} {v} {below} is =
-    valued rules s exact i h.entries h.entries h.found v below.reads below.uses.items is.held.known is.come
+    valued rules s exact i h.entries h.entries h.found v below.reads below.uses.items is.held.known is.own is.come
 
 -- its value is remembered, and known then
 module _ {rules : Rules} {s : Shown} {exact : Bool} {i : Instance ℕ} {old : Held} {entries : Entries} {m : Memories}

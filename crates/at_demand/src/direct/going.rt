@@ -11,11 +11,11 @@ ghost use Rattle.at_body.specs.Values.{value_view};
 ghost use Rattle.at_apply.specs.Parts.{call_of, either_of, fold_of, one_of, two_of};
 ghost use Rattle.at_apply.specs.Place.{place_at};
 ghost use Rattle.at_demand.specs.Known.{meaning};
-ghost use Rattle.at_demand.specs.InParts.{EndsEvaluated, EndsRecalled, EndsTold, EvaluatesTo, GivesLevel, HasGrown, IsEmptied, IsHeld, IsHeldFor, held_by};
+ghost use Rattle.at_demand.specs.InParts.{EndsEvaluated, EndsRecalled, EndsTold, EvaluatesTo, GivesLevel, HasGrown, IsEmptied, IsHeld, IsHeldFor, IsHeldFrom, held_by};
 ghost use Rattle.at_demand.specs.InParts.{AsksEachInner, AsksInner, MayHaveCome};
 ghost use Rattle.at_demand.specs.Sparing.{AreSpare, HasWorthy};
 
-use super::keeping::{few_of, is_small};
+use super::keeping::{few_of, is_circular, is_small};
 use super::{Direct, Level};
 use crate::basis::Basis;
 use at_apply::{
@@ -111,7 +111,7 @@ impl Direct {
         if !basis.rules.is_lazy(needed.attribute()) {
             return self.inner(keeper, basis, level, needed, above);
         }
-        if basis.rules.start_of(needed.attribute()).is_some() {
+        if is_circular(basis.rules, needed.attribute()) {
             return Err(Stop::GivesUp);
         }
         let verified = self.verify(keeper, basis, level, &needed, above)?;
@@ -208,7 +208,7 @@ impl Direct {
         inst: &Inst,
         above: usize,
     ) -> Result<Value, Stop>
-        requires { IsHeld basis.now.rules.now (contents basis.now.store.now) (held_by K.contents K.memories keeper.old self.old) }
+        requires { IsHeldFrom basis.now.rules.now (contents basis.now.store.now) (held_by K.contents K.memories keeper.old self.old) inst.now }
         ensures { EndsEvaluated basis.now.rules.now basis.now.store.now K.exact inst.now (held_by K.contents K.memories keeper.old self.old)
             (held_by K.contents K.memories keeper.new self.new) level.old level.new result }
     {

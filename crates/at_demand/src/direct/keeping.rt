@@ -49,8 +49,10 @@ impl Direct {
         let Some(other) = keeper.blocker(needed) else {
             return Ok(None);
         };
-        let attribute = other.attribute();
-        if !basis.rules.is_lazy(attribute) || basis.rules.start_of(attribute).is_some() {
+        if !basis.rules.is_lazy(other.attribute()) {
+            return Ok(None);
+        }
+        if is_circular(basis.rules, other.attribute()) {
             return Ok(None);
         }
         Ok(Some(other.copy(self.alloc)?))
@@ -243,6 +245,16 @@ impl Direct {
             *seen = true;
         }
         Ok(())
+    }
+}
+
+// Whether the attribute is circular.
+pub(super) fn is_circular(rules: &Rules, attribute: AttrId) -> bool
+    ensures { result ≡ false → start_of rules.now attribute ≡ None }
+{
+    match rules.start_of(attribute) {
+        Some(_) => true,
+        None => false,
     }
 }
 

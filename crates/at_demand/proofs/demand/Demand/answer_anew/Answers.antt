@@ -1,6 +1,6 @@
 use Rattle.std.proofs.Common.{Option, subst}
 use Rattle.std.specs.Prelude.{IfSome}
-use Rattle.at_model.specs.Meaning.{HasValue}
+use Rattle.at_model.specs.of_fixpoints.Fixpoints.{HasValue}
 use Rattle.at_store.specs.Shown.{contents}
 use Rattle.at_body.specs.Values.{value_view}
 use Rattle.at_body.specs.declared.value.Value.{Value as ValueCode}
@@ -45,7 +45,8 @@ answer_at_once-requires-clause-idle g c = c.requires.answerable.basis.idle
 
 pub answer_at_once-requires-clause-held : goal.answer_at_once-requires-clause-held
 answer_at_once-requires-clause-held g c = record {
-  known = known_none c.args.rules.now (contents c.args.store.now) (g.K.Keeper.contents c.args.self.now.keeper) c.requires.answerable.right
+  known = known_none c.args.rules.now (contents c.args.store.now) (g.K.Keeper.contents c.args.self.now.keeper)
+      c.requires.answerable.basis.circular c.requires.answerable.right
       c.requires.answerable.plain;
   justified = c.requires.justified;
 }

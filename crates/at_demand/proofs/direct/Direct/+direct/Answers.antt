@@ -1,14 +1,16 @@
-use Rattle.std.proofs.Common.{◌≡◌, ℕ, List, true, drop, take, length, Option, refl, sym, ap, ◌+◌, ◌∙◌, subst, arith, ◌++◌, Ok, IfOk, map, rules}
+use Rattle.std.proofs.Common.{◌≡◌, ℕ, List, true, false, drop, take, length, Option, refl, sym, ap, ◌+◌, ◌∙◌, subst, arith, ◌++◌, Ok, IfOk, map, rules}
 use Rattle.std.proofs.lemmas.Result.{IfOk-weaker}
 use Rattle.at_model.specs.Run.{Instance, Location, Gives, Truth}
+use Rattle.at_model.specs.Rules.{is_lazy}
 use Rattle.at_store.specs.Shown.{contents}
 use Rattle.at_body.specs.Values.{value_view}
 use Rattle.at_body.specs.declared.value.Value.{Value as ValueCode}
 use Rattle.at_demand.specs.declared.direct.Level.{Level}
 use Rattle.at_demand.specs.Inner.{Gains, HasRecalled, HasTold, IsEvaluated, known_by}
 use Rattle.at_demand.specs.InParts.{EvaluatesTo, HasCome, MayHaveCome, held_by, values_in}
-use Rattle.at_demand.specs.Known.{meaning}
+use Rattle.at_demand.specs.Known.{equations}
 use Rattle.at_demand.proofs.of_nesting.Asked.{evaluated_behind, evaluated_in, inner_told, reads_before, reads_longer, told_alike, uses_before, uses_longer}
+use Rattle.at_demand.proofs.of_nesting.Ground.{own_of}
 use Rattle.at_demand.proofs.of_nesting.Grown.{grown_aside, grown_evaluated, grown_from, grown_none, grown_then, held_after}
 use Rattle.std.proofs.lemmas.List.{nil_from_length}
 use Rattle.at_rules.specs.Bodies.{bodies_view, body_view}
@@ -26,9 +28,19 @@ use Rattle.at_body.specs.declared.value.Value.TheVariants as value
 pub told-recall-requires : goal.told-recall-requires
 told-recall-requires g n c = c.requires.known
 
+pub told-inner-requires : goal.told-inner-requires
+told-inner-requires g n c =
+    let lazy : is_lazy c.args.basis.now.rules.now c.args.needed.attribute ≡ false = search rules in
+    record {
+      lazy = lazy;
+      own = own_of c.args.basis.now.rules.now c.requires.known.circular c.args.needed.attribute lazy;
+      held = c.requires;
+    }
+
 pub afresh-keep-requires : goal.afresh-keep-requires
 afresh-keep-requires g n c = record {
   lazy = c.requires.lazy;
+  own = c.requires.own;
   held = held_after c.evaluate.ensures.grown;
   come =
       let h = held_by g.K.Keeper.contents g.K.Keeper.memories c.evaluate.new.keeper c.evaluate.new.self in
@@ -40,6 +52,7 @@ afresh-keep-requires g n c = record {
 pub inner-remember-requires : goal.inner-remember-requires
 inner-remember-requires g n c = record {
   lazy = c.requires.lazy;
+  own = c.requires.own;
   held = held_after c.evaluate.ensures.grown;
   come =
       let rules = c.args.basis.now.rules.now in
@@ -68,12 +81,15 @@ inner-remember-requires g n c = record {
       uses rest);
 }
 
+pub evaluate-value-requires : goal.evaluate-value-requires
+evaluate-value-requires g n c = c.requires.held
+
 pub verify-in_the_way-requires : goal.verify-in_the_way-requires
 verify-in_the_way-requires g n c = held_after c.keep_again.ensures.grown
 
 pub verify-loop-init : goal.verify-loop-init
 verify-loop-init g n c = record {
-  grown = grown_none c.args.basis.now.rules.now c.args.basis.now.store.now g.K.Keeper.exact c.args.needed.now _ c.args.self.now.few c.requires;
+  grown = grown_none c.args.basis.now.rules.now c.args.basis.now.store.now g.K.Keeper.exact c.args.needed.now _ c.args.self.now.few c.requires.held;
   level = refl;
 }
 
@@ -243,10 +259,10 @@ evaluate-returns-in_err-begun g n c = record {
   grown =
       grown_evaluated c.args.basis.now.rules.now c.args.basis.now.store.now g.K.Keeper.exact c.args.basis.now.idle
       c.args.inst.now (held_by g.K.Keeper.contents g.K.Keeper.memories c.args.keeper.now c.args.self.now) (held_by
-      g.K.Keeper.contents g.K.Keeper.memories c.args.keeper.now c.args.self.now) (nothing_gained
-      c.args.basis.now.rules.now c.args.basis.now.store.now g.K.Keeper.exact (meaning c.args.basis.now.rules.now
+      g.K.Keeper.contents g.K.Keeper.memories c.args.keeper.now c.args.self.now) c.requires.own (nothing_gained
+      c.args.basis.now.rules.now c.args.basis.now.store.now g.K.Keeper.exact (equations c.args.basis.now.rules.now
       c.args.inst.now) (held_by g.K.Keeper.contents g.K.Keeper.memories c.args.keeper.now c.args.self.now)
-      c.args.self.now.few c.requires);
+      c.args.self.now.few c.requires.held);
 }
 
 pub evaluate-returns : goal.evaluate-returns
@@ -254,17 +270,17 @@ evaluate-returns g n c = record {
   come =
       IfOk-weaker c.value.result _ _ (λ v h. come_begun c.args.basis.now.rules.now c.args.basis.now.store.now (held_by
       g.K.Keeper.contents g.K.Keeper.memories c.value.new.keeper c.value.new.self) c.args.level.now
-      (record { reads = c.begin.new.reads; uses = c.args.level.now.uses }) c.value.new.level (meaning
+      (record { reads = c.begin.new.reads; uses = c.args.level.now.uses }) c.value.new.level (equations
       c.args.basis.now.rules.now c.args.inst.now) (ev c.args.basis.now.rules.now.classes (body_view
       c.in_ok-begun.begun.1.now) (place_at c.in_ok-begun.begun.0)) (value_view v) refl c.in_ok-begun.ensures h)
       c.value.ensures.come;
   grown =
       grown_evaluated c.args.basis.now.rules.now c.args.basis.now.store.now g.K.Keeper.exact c.args.basis.now.idle
       c.args.inst.now (held_by g.K.Keeper.contents g.K.Keeper.memories c.args.keeper.now c.args.self.now) (held_by
-      g.K.Keeper.contents g.K.Keeper.memories c.value.new.keeper c.value.new.self) (gains_begun
+      g.K.Keeper.contents g.K.Keeper.memories c.value.new.keeper c.value.new.self) c.requires.own (gains_begun
       c.args.basis.now.rules.now c.args.basis.now.store.now g.K.Keeper.exact (held_by g.K.Keeper.contents
       g.K.Keeper.memories c.args.keeper.now c.args.self.now) (held_by g.K.Keeper.contents g.K.Keeper.memories
-      c.value.new.keeper c.value.new.self) c.args.level.now.reads c.begin.new.reads (meaning c.args.basis.now.rules.now
+      c.value.new.keeper c.value.new.self) c.args.level.now.reads c.begin.new.reads (equations c.args.basis.now.rules.now
       c.args.inst.now) (ev c.args.basis.now.rules.now.classes (body_view c.in_ok-begun.begun.1.now) (place_at
       c.in_ok-begun.begun.0)) c.in_ok-begun.ensures c.value.ensures.gains);
 }

@@ -15,7 +15,7 @@ put-requires-clause-present g c =
     let entries = g.K.Keeper.contents c.args.keeper.now in
     taken c.args.basis.now.rules.now c.args.basis.now.store.now g.K.Keeper.exact c.args.needed entries entries
     c.args.self.now.found.entries (value_view c.args.value.now) c.args.below.now.reads
-    c.args.below.now.uses.items c.requires.held.known c.requires.come
+    c.args.below.now.uses.items c.requires.held.known c.requires.own c.requires.come
 
 pub returns-then-stands : goal.returns-then-stands
 returns-then-stands g c = record {
