@@ -1,5 +1,5 @@
 -- What an instance is told where its evaluation in one go has come to its value, and what came to what is kept for it.
-use Rattle.std.proofs.Common.{◌≡◌, ℕ, Bool, false, List, [], ◌++◌, drop, length, take, ◌+◌, ap, sym, ◌∙◌, subst}
+use Rattle.std.proofs.Common.{◌≡◌, ℕ, Bool, false, None, List, [], ◌++◌, drop, length, take, ◌+◌, ap, sym, ◌∙◌, subst}
 use Rattle.std.proofs.Math.Seq.{take-append_seam, drop-append_seam}
 use Rattle.std.proofs.lemmas.List.{length-append}
 use Rattle.at_model.specs.Run.{Value, Instance, Location}

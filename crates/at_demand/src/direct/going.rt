@@ -15,7 +15,7 @@ ghost use Rattle.at_demand.specs.InParts.{EndsEvaluated, EndsRecalled, EndsTold,
 ghost use Rattle.at_demand.specs.InParts.{AsksEachInner, AsksInner, MayHaveCome};
 ghost use Rattle.at_demand.specs.Sparing.{AreSpare, HasWorthy};
 
-use super::keeping::{few_of, is_circular, is_small};
+use super::keeping::{few_of, is_circular, is_inner, is_small};
 use super::{Direct, Level};
 use crate::basis::Basis;
 use at_apply::{
@@ -108,7 +108,7 @@ impl Direct {
         if let Some(value) = recalled {
             return Ok(value);
         }
-        if !basis.rules.is_lazy(needed.attribute()) {
+        if is_inner(basis.rules, needed.attribute()) {
             return self.inner(keeper, basis, level, needed, above);
         }
         if is_circular(basis.rules, needed.attribute()) {

@@ -14,6 +14,7 @@ ghost use Rattle.at_cache.specs.declared.keeper.Order.TheVariants as order_code;
 ghost use Rattle.at_demand.specs.Known.{kept_values, meaning};
 ghost use Rattle.at_demand.specs.Inner.{AreKnown, AreLazy, HasRecalled, IsOneOf, known_by, remembered};
 ghost use Rattle.at_demand.specs.InParts.{EndsRecalled, EndsTaken, HasEntered, IsEvaluatedFor, IsHeld, LeavesFinds, held_by};
+ghost use Rattle.at_demand.specs.Meant.{AreCircularWell};
 ghost use Rattle.at_demand.specs.Sparing.{Counts};
 
 use super::{Direct, Level};
@@ -246,6 +247,16 @@ impl Direct {
         }
         Ok(())
     }
+}
+
+// Whether the attribute isn't lazy: then it isn't circular.
+pub(super) fn is_inner(rules: &Rules, attribute: AttrId) -> bool
+    requires { AreCircularWell rules.now }
+    ensures eager { result ≡ true → is_lazy rules.now attribute ≡ false }
+    ensures own { result ≡ true → start_of rules.now attribute ≡ None }
+    ensures lazy { result ≡ false → is_lazy rules.now attribute ≡ true }
+{
+    !rules.is_lazy(attribute)
 }
 
 // Whether the attribute is circular.

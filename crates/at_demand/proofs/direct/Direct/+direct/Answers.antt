@@ -1,7 +1,6 @@
-use Rattle.std.proofs.Common.{◌≡◌, ℕ, List, true, false, drop, take, length, Option, refl, sym, ap, ◌+◌, ◌∙◌, subst, arith, ◌++◌, Ok, IfOk, map, rules}
+use Rattle.std.proofs.Common.{◌≡◌, ℕ, List, true, drop, take, length, Option, refl, sym, ap, ◌+◌, ◌∙◌, subst, arith, ◌++◌, Ok, IfOk, map, rules}
 use Rattle.std.proofs.lemmas.Result.{IfOk-weaker}
 use Rattle.at_model.specs.Run.{Instance, Location, Gives, Truth}
-use Rattle.at_model.specs.Rules.{is_lazy}
 use Rattle.at_store.specs.Shown.{contents}
 use Rattle.at_body.specs.Values.{value_view}
 use Rattle.at_body.specs.declared.value.Value.{Value as ValueCode}
@@ -10,7 +9,6 @@ use Rattle.at_demand.specs.Inner.{Gains, HasRecalled, HasTold, IsEvaluated, know
 use Rattle.at_demand.specs.InParts.{EvaluatesTo, HasCome, MayHaveCome, held_by, values_in}
 use Rattle.at_demand.specs.Known.{equations}
 use Rattle.at_demand.proofs.of_nesting.Asked.{evaluated_behind, evaluated_in, inner_told, reads_before, reads_longer, told_alike, uses_before, uses_longer}
-use Rattle.at_demand.proofs.of_nesting.Ground.{own_of}
 use Rattle.at_demand.proofs.of_nesting.Grown.{grown_aside, grown_evaluated, grown_from, grown_none, grown_then, held_after}
 use Rattle.std.proofs.lemmas.List.{nil_from_length}
 use Rattle.at_rules.specs.Bodies.{bodies_view, body_view}
@@ -28,14 +26,8 @@ use Rattle.at_body.specs.declared.value.Value.TheVariants as value
 pub told-recall-requires : goal.told-recall-requires
 told-recall-requires g n c = c.requires.known
 
-pub told-inner-requires : goal.told-inner-requires
-told-inner-requires g n c =
-    let lazy : is_lazy c.args.basis.now.rules.now c.args.needed.attribute ≡ false = search rules in
-    record {
-      lazy = lazy;
-      own = own_of c.args.basis.now.rules.now c.requires.known.circular c.args.needed.attribute lazy;
-      held = c.requires;
-    }
+pub told-is_inner-requires : goal.told-is_inner-requires
+told-is_inner-requires g n c = c.requires.known.circular
 
 pub afresh-keep-requires : goal.afresh-keep-requires
 afresh-keep-requires g n c = record {
@@ -80,9 +72,6 @@ inner-remember-requires g n c = record {
       (xs : List (Instance ℕ)). IsEvaluated rules (contents s) known i v (drop (length c.args.level.now.reads) long) xs)
       uses rest);
 }
-
-pub evaluate-value-requires : goal.evaluate-value-requires
-evaluate-value-requires g n c = c.requires.held
 
 pub verify-in_the_way-requires : goal.verify-in_the_way-requires
 verify-in_the_way-requires g n c = held_after c.keep_again.ensures.grown
