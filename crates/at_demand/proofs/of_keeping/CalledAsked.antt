@@ -58,10 +58,10 @@ module _ (rules : Rules) (look : Contents ℕ) (t : Tree) (path : ℕ → Option
         let (o', g, same) = outcome_there (names_agree path named_once) look (content t) means (forms rules) like q p o
         (asked, λ l h. alike l) h in
         absurd (not_both (content t) (forms rules) p k o' g c)
-    none_before (Circle m) h none j v =
-        subst (λ (z : Forms Node). Leads (content t) z p j → HasValue (content t) z j v → (k : Instance Node)
+    none_before (Circle m) h none j v l has k c =
+        (subst (λ (z : Forms Node). Leads (content t) z p j → HasValue (content t) z j v → (k : Instance Node)
         (c : Circular (content t) z p k) → IsMet (content t) z (met c) j) (sym (rules_plain rules node_eq none))
-        (λ l has k c. plainly_met (content t) (equations rules) p j k v l has c)
+        (λ l has k c. plainly_met (content t) (equations rules) p j k v l has c)) l has k c
 
     pub worth_on : (i : Instance ℕ) → IsWorth rules look q i → (j : Instance Node) × Like i j × IsWorthKeeping rules t p j
     worth_on i w =

@@ -192,7 +192,7 @@ module _ (rules : Rules) {e : Edit} {t u : Tree} {path later : ℕ → Option No
 
     pub led_before : (v : Value ℕ) → HasValue old means i v → (k : Instance ℕ) → Leads new means i k → Leads old means i k
     led_before v h k led =
-        let (m, (s, more), before) = leads_back stays_agree old new means means formulas_stay i i k (instance_stays, below_alike) led in
+        let (m, (s, rest), before) = leads_back stays_agree old new means means formulas_stay i i k (instance_stays, below_alike) led in
         subst (Leads old means i) (same_instance (λ a b r. r.same) m k s) before
 
   -- what supports an instance of the tree is a location of the tree
