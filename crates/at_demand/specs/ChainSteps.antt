@@ -31,6 +31,12 @@ pub record KeepsChain (old new : Question) : Type 0 where
   pub waiting : new.waiting.entries ≡ old.waiting.entries
   pub inst : new.inst ≡ old.inst
 
+-- nothing has changed of it
+pub record IsUnchanged (old new : Question) : Type 0 where
+  pub chain : KeepsChain old new
+  pub level : new.level ≡ old.level
+  pub finds : KeepsFinds old new
+
 -- the last level is off the chain, and the one that waited for its root is the last
 pub record IsRisen (old new : Question) (i : Instance ℕ) : Type 0 where
   pub taken : i ≡ root_in old.level old.inst
@@ -39,7 +45,7 @@ pub record IsRisen (old new : Question) (i : Instance ℕ) : Type 0 where
 
 -- so it is, or none waited for it
 abbrev pub HasRisen : (old new : Question) → Option (Instance ℕ) → Type 0
-HasRisen old new None = (old.waiting.entries ≡ []) × (new ≡ old)
+HasRisen old new None = (old.waiting.entries ≡ []) × IsUnchanged old new
 HasRisen old new (Some i) = IsRisen old new i
 
 -- the last level is off the chain, and its root is one more of those that were found
@@ -53,7 +59,7 @@ pub record IsSettledTo (old new : Question) (f : Find) : Type 0 where
 -- none waited for it, and its value is the answer
 pub record IsEnded (old new : Question) (v : ValueCode) (a : AnswerCode) : Type 0 where
   pub alone : old.waiting.entries ≡ []
-  pub same : new ≡ old
+  pub same : IsUnchanged old new
   pub is : a ≡ answer.Value v
 
 -- the one or the other
@@ -81,15 +87,19 @@ pub record IsDeeper (old new : Question) (j : Instance ℕ) : Type 0 where
   pub level : new.level ≡ None
   pub finds : KeepsFinds old new
 
--- the last level is a search, and nothing else has changed of it
-pub record IsSearched (old new : Question) : Type 0 where
+-- nothing has changed of it, however its last level is held
+pub record IsAlike (old new : Question) : Type 0 where
   pub chain : KeepsChain old new
   pub finds : KeepsFinds old new
-  pub is : (b : Box SearchCode) × (new.level ≡ Some b)
   pub root : root_in new.level new.inst ≡ root_in old.level old.inst
   pub seen : seen_in new.level ≡ seen_in old.level
   pub todo : todo_in new.level ≡ todo_in old.level
   pub fault : fault_in new.level ≡ fault_in old.level
+
+-- and the last level is a search
+pub record IsSearched (old new : Question) : Type 0 where
+  pub alike : IsAlike old new
+  pub is : (b : Box SearchCode) × (new.level ≡ Some b)
 
 -- the search of a level has seen the instance, whose equation ended so
 pub record SeesNext (old new : LevelCode) (i : Instance ℕ) (e : Ending) : Type 0 where

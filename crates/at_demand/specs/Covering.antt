@@ -1,8 +1,8 @@
 -- That what a question finds rests on the locations and the instances that stand with it, and nothing else.
-use Rattle.std.specs.Prelude.{◌≡◌, ◌⊎◌, ℕ, true, List, ◌++◌, map, slice_get, Some}
+use Rattle.std.specs.Prelude.{◌≡◌, ◌⊎◌, ℕ, true, List, [], ◌∷◌, ◌++◌, map, slice_get, Some, IsSome}
 use Rattle.at_model.specs.Run.{Value, Instance, Location, Contents, Run}
 use Rattle.at_model.specs.Follow.{Past}
-use Rattle.at_model.specs.Rules.{Rules}
+use Rattle.at_model.specs.Rules.{Rules, start_of}
 use Rattle.at_model.specs.Meaning.{Among}
 use Rattle.at_model.specs.of_fixpoints.Fixpoints.{HasValue}
 use Rattle.at_model.specs.of_fixpoints.Resting.{Comes, Leads}
@@ -49,11 +49,14 @@ pub record AreWholeIn (rules : Rules) (look : Contents ℕ) (found : List (Insta
       → Among l (map loc_view f.reads.items)
   pub demands : (i j : Instance ℕ) → Among i these → Comes look (meaning rules) i j → Among j these ⊎ IsDemanded found f.demanded j
 
--- All that i rests on stands with the find: it is the find of a group that i is in, i alone where its attribute isn't circular; or it demanded
--- one that leads to i.
+-- All that i rests on stands with the find: it is that of i alone; or, where its attribute is circular, that of a group that i is in, or one that
+-- demanded another one that leads to i.
 pub data IsWhole (rules : Rules) (look : Contents ℕ) (found : List (Instance ℕ × Find)) (i : Instance ℕ) (f : Find) : Type 0 where
-  in_group : (these : List (Instance ℕ)) → Among i these → AreWholeIn rules look found these f → IsWhole rules look found i f
-  by_first : (j : Instance ℕ) → IsDemanded found f.demanded j → Leads look (meaning rules) j i → IsWhole rules look found i f
+  alone : AreWholeIn rules look found (i ∷ []) f → IsWhole rules look found i f
+  in_group : (these : List (Instance ℕ)) → IsSome (start_of rules i.attribute) → Among i these → AreWholeIn rules look found these f
+      → IsWhole rules look found i f
+  by_first : (j : Instance ℕ) → IsSome (start_of rules i.attribute) → IsDemanded found f.demanded j → Leads look (meaning rules) j i
+      → IsWhole rules look found i f
 
 -- so it is of all that was found
 abbrev pub AreWhole : Rules → Contents ℕ → List (Instance ℕ × Find) → Type 0

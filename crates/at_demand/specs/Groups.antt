@@ -1,5 +1,6 @@
 -- What becomes of instances that are solved together: a group, in which formulas lead from each to each, is kept or found by its first member.
 use Rattle.std.specs.Prelude.{◌≡◌, ◌⊎◌, ℕ, Bool, true, List, [], ◌∷◌, ◌++◌, map, length, slice_get, Option, Some, None, IsSome, IsTrue, IfOk, OnOk, Result}
+use Rattle.std.specs.Borrow.{Bor}
 use Rattle.std.specs.Map.{keys_of, lookup}
 use Rattle.at_model.specs.Meaning.{Among}
 use Rattle.at_model.specs.Rules.{Rules, is_lazy, start_of}
@@ -17,9 +18,8 @@ use Rattle.at_body.specs.declared.value.Value.TheVariants as value
 use Rattle.indexmap.specs.IndexMap.{insert_entry}
 use Rattle.at_cache.specs.Kept.{Entries}
 use Rattle.at_cache.specs.Traced.{Memories, StayTraced}
-use Rattle.at_search.specs.Recorded.{Recorded}
+use Rattle.at_search.specs.Recorded.{IsRecordedForm, Recorded}
 use Rattle.at_search.specs.declared.ended.Ended.{Ended}
-use Rattle.at_search.specs.declared.ended.Ending.TheVariants as ending
 use Rattle.at_search.specs.declared.ended.Formed.{Formed}
 use Rattle.at_search.specs.declared.solving.Solved.{Solved}
 use Rattle.at_demand.specs.declared.evaluation.Demanded.{Demanded}
@@ -43,10 +43,6 @@ start_in rules (i ∷ is) = start_of rules i.attribute
 -- the instances at the positions of the members of a group
 abbrev pub IsMember : List (Instance ℕ) → List Solved → Instance ℕ → Bool → Type 0
 IsMember insts group i b = (m : Solved) × Among m group × (slice_get insts m.position ≡ Some i) × (m.value ≡ b)
-
--- the formula that is recorded of the instance, with what its equation looked at and took
-abbrev pub IsRecordedForm : List (Instance ℕ × Ended) → Instance ℕ → Formed → Type 0
-IsRecordedForm ended i f = (x : Ended) × (lookup (same_instance i) ended ≡ Some x) × (x.ending ≡ ending.Formed f)
 
 -- What became of what is kept and found since: all that is new there are values of these instances. What is kept stays right and, with an
 -- exact keeper, spare; the work counts it, and nothing is traced. The chain stays, and how equations ended.
@@ -142,12 +138,10 @@ pub record AddsUses (entries : Entries) (q : Question) (f : Formed) (old new : F
   pub finds : mid.finds.items ≡ old.demanded.finds.items ++ f.finds.items
   pub atoms : AddsAll entries q (atoms f.formula) mid new.demanded
 
--- that of the instance at the position, or there is none
-abbrev pub IsFormedAt : {R : Type 0} → List (Instance ℕ × Ended) → List (Instance ℕ) → ℕ → Option R → Type 0
-IsFormedAt ended insts p r = elim (slice_get insts p) [
-  | None ↦ r ≡ None
-  | Some i ↦ (IsSome r → (f : Formed) × IsRecordedForm ended i f) × (r ≡ None → (f : Formed) → IsRecordedForm ended i f → ⊥)
-]
+-- it is that of the instance at the position, or there is none
+abbrev pub IsFormedAt : List (Instance ℕ × Ended) → List (Instance ℕ) → ℕ → Option (Bor Formed) → Type 0
+IsFormedAt ended insts p None = (i : Instance ℕ) (f : Formed) → slice_get insts p ≡ Some i → IsRecordedForm ended i f → ⊥
+IsFormedAt ended insts p (Some f) = (i : Instance ℕ) × (slice_get insts p ≡ Some i) × IsRecordedForm ended i f.now
 
 -- the equation of a member used it, or its formula asks for it
 abbrev pub IsUsedBy : Question → List (Instance ℕ) → List Solved → Instance ℕ → Type 0

@@ -9,6 +9,7 @@ use Rattle.at_model.specs.Run.{Value, Instance, Location, Contents, FaultKind, K
 use Rattle.at_model.specs.Support.{Sees}
 use Rattle.at_model.specs.TypedRuns.{IsWellTyped}
 use Rattle.at_model.specs.of_fixpoints.Fixpoints.{AreEnded, HasValue, LeadsOver, Spoilt}
+use Rattle.at_model.specs.of_fixpoints.Resting.{Leads}
 use Rattle.at_model.specs.of_fixpoints.Searched.{IsFresh, IsOn, tried_at}
 use Rattle.at_model.specs.of_fixpoints.Searching.{Level, Search, most_turns, under}
 use Rattle.at_store.specs.Located.{loc_view}
@@ -87,15 +88,14 @@ pub record IsSearch (entries : Entries) (q : Question) (s : Search ℕ) : Type 0
 abbrev pub IsUsed : List (Instance ℕ × Find) → Formed → Instance ℕ → Type 0
 IsUsed found f j = Among j f.kept.items ⊎ ((p : ℕ) × (g : Find) × Among p f.finds.items × (slice_get found p ≡ Some (j, g)))
 
--- The equation of i looks at just the locations that stand with its formula, and demands just the instances that do; these are known.
+-- The equation of i looks at just the locations that stand with its formula, and demands no other instances than stand there; to these it leads.
 pub record IsFormOf (rules : Rules) (look : Contents ℕ) (entries : Entries) (found : List (Instance ℕ × Find)) (i : Instance ℕ) (f : Formed)
     : Type 0 where
   pub reads : (l : Location ℕ) → Sees look (HasValue look (meaning rules)) ((meaning rules).formula i) l → Among l (map loc_view f.reads.items)
   pub demands : (j : Instance ℕ) → Reaches look (HasValue look (meaning rules)) ((meaning rules).formula i) j → IsUsed found f j
   pub sees : (l : Location ℕ) → Among l (map loc_view f.reads.items) → Sees look (HasValue look (meaning rules)) ((meaning rules).formula i) l
-  pub kept : (j : Instance ℕ) → Among j f.kept.items → IsKept entries j × Reaches look (HasValue look (meaning rules)) ((meaning rules).formula i) j
-  pub finds : (p : ℕ) → Among p f.finds.items → (j : Instance ℕ) × (g : Find) × (slice_get found p ≡ Some (j, g))
-      × Reaches look (HasValue look (meaning rules)) ((meaning rules).formula i) j
+  pub kept : (j : Instance ℕ) → Among j f.kept.items → IsKept entries j × Leads look (meaning rules) i j
+  pub finds : (p : ℕ) → Among p f.finds.items → (j : Instance ℕ) × (g : Find) × (slice_get found p ≡ Some (j, g)) × Leads look (meaning rules) i j
 
 -- What is recorded of equations is so on the tree, with what each looked at and took; and what is known holds.
 pub record AreFactsOf (rules : Rules) (look : Contents ℕ) (entries : Entries) (q : Question) : Type 0 where

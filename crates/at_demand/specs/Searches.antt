@@ -3,14 +3,14 @@ use Rattle.std.specs.Prelude.{◌≡◌, ◌⊎◌, ℕ, Bool, true, List, [], �
 use Rattle.std.specs.Map.{keys_of, lookup}
 use Rattle.std.specs.Option.{option_map}
 use Rattle.at_model.specs.Instances.{AnyText}
-use Rattle.at_model.specs.Meaning.{Among, Answer as ModelAnswer, Circle, Faults, Finds, Outcome, Outcomes}
+use Rattle.at_model.specs.Meaning.{Among, Answer as ModelAnswer, Circle, Faults, Finds, Outcomes}
 use Rattle.at_model.specs.Rules.{Rules, is_lazy}
 use Rattle.at_model.specs.Run.{Instance, Contents, Value}
 use Rattle.at_model.specs.TypedRuns.{IsWellTyped}
 use Rattle.at_model.specs.of_fixpoints.Circles.{IsOpen}
 use Rattle.at_model.specs.of_fixpoints.Fixpoints.{EndsSo, HasValue, Holds, Spoilt}
 use Rattle.at_model.specs.of_fixpoints.Searched.{AreStacked, HasCome, IsFresh, tried_at}
-use Rattle.at_model.specs.of_fixpoints.Searching.{Adds, Follows, Looked, Search, under}
+use Rattle.at_model.specs.of_fixpoints.Searching.{Follows, Looked, Search, under}
 use Rattle.at_store.specs.Shown.{Shown, contents}
 use Rattle.at_body.specs.Same.{same_instance}
 use Rattle.at_body.specs.Typed.{class_shown}
@@ -32,7 +32,7 @@ use Rattle.at_demand.specs.declared.evaluation.Find.{Find}
 use Rattle.at_demand.specs.declared.question.Question.{Question}
 use Rattle.at_demand.specs.declared.trials.Trials.{Trials}
 use Rattle.at_demand.specs.Answerable.{CanTurnWith, IsAnswerable}
-use Rattle.at_demand.specs.ChainSteps.{HasLostSeen, HasRisen}
+use Rattle.at_demand.specs.ChainSteps.{HasLostSeen, HasRisen, IsUnchanged}
 use Rattle.at_demand.specs.Covering.{AreWhole}
 use Rattle.at_demand.specs.Groups.{Tells}
 use Rattle.at_demand.specs.KeptTrials.{Fit, FitAfter}
@@ -159,25 +159,24 @@ pub record GainsBetween (rules : Rules) (s : Shown) (exact : Bool) (before after
   pub counts : IsTrue exact → Counts before after earlier later
   pub traces : StayTraced former latter
 
--- From there it follows so for the model, once outcomes of what levels under way have seen are told.
-abbrev pub FollowsOnce : Rules → Contents ℕ → Entries → Looked ℕ → Search ℕ → Option (ModelAnswer ℕ) → Type 0
-FollowsOnce rules look kept l u o = (told : List (Instance ℕ × Outcome ℕ)) × Adds look (meaning rules) (l.seen ++ under l.below) l.told told
-    × Follows look (meaning rules) (kept_values kept) (record l { told = told }) u o
+-- from there it follows so for the model, where these values are kept
+abbrev pub FollowsSo : Rules → Contents ℕ → Entries → Looked ℕ → Search ℕ → Option (ModelAnswer ℕ) → Type 0
+FollowsSo rules look kept l u o = Follows look (meaning rules) (kept_values kept) l u o
 
 -- for the model: the level goes on so from there, over what is passed and what has ended before, and what follows from where it has come to
 -- follows from there
 abbrev pub GoesSo : Rules → Shown → (before after : Entries) → Looked ℕ → Question → Searched → Type 0
 GoesSo rules s before after l new searched.Next = (u : Search ℕ) × StandsFor rules s after new u
-    × FollowsOnce rules (contents s) before l u None
-GoesSo rules s before after l new (searched.Back i) = (u : Search ℕ) × FollowsOnce rules (contents s) before l u (Some (Circle i))
+    × FollowsSo rules (contents s) before l u None
+GoesSo rules s before after l new (searched.Back i) = (u : Search ℕ) × FollowsSo rules (contents s) before l u (Some (Circle i))
 GoesSo rules s before after l new searched.Over = (m : Looked ℕ) × StandsBetween rules s after new m
-    × ((u : Search ℕ) (o : Option (ModelAnswer ℕ)) → FollowsOnce rules (contents s) before m u o → FollowsOnce rules (contents s) before l u o)
+    × ((u : Search ℕ) (o : Option (ModelAnswer ℕ)) → FollowsSo rules (contents s) before m u o → FollowsSo rules (contents s) before l u o)
 
 -- it follows so, and stands, where it isn't answered
 abbrev pub FollowsTo : Rules → Shown → (before after : Entries) → Looked ℕ → Question → Option (ModelAnswer ℕ) → Type 0
 FollowsTo rules s before after l new None = (u : Search ℕ) × StandsFor rules s after new u
-    × FollowsOnce rules (contents s) before l u None
-FollowsTo rules s before after l new (Some a) = (u : Search ℕ) × FollowsOnce rules (contents s) before l u (Some a)
+    × FollowsSo rules (contents s) before l u None
+FollowsTo rules s before after l new (Some a) = (u : Search ℕ) × FollowsSo rules (contents s) before l u (Some a)
 
 pub record HasSearched {E : Type 0} (rules : Rules) (s : Shown) (exact : Bool) (before after : Entries) (former latter : Memories) (earlier later : ℕ)
     (old new : Question) (r : Result Searched E) : Type 0 where
@@ -205,7 +204,7 @@ pub record HasRisenTo {E : Type 0} (before after : Entries) (former latter : Mem
   pub work : later ≡ earlier
   pub risen : IfOk r (elim [
     | None ↦ HasRisen old new (Some (root_in old.level old.inst)) × (u ≡ record t { awaited = Some (root_in old.level old.inst) })
-    | Some a ↦ (new ≡ old) × (v : Value ℕ) × (known_to before old (root_in old.level old.inst) ≡ Some v) × (answer_view a ≡ Outcomes (Finds v))
+    | Some a ↦ IsUnchanged old new × (v : Value ℕ) × (known_to before old (root_in old.level old.inst) ≡ Some v) × (answer_view a ≡ Outcomes (Finds v))
   ])
 
 -- the question can be answered by a circle at that instance

@@ -7,7 +7,7 @@ ghost use Rattle.at_model.specs.Meaning.{Among};
 ghost use Rattle.at_body.specs.Same.{same_instance};
 ghost use Rattle.at_demand.specs.Levels.{IsDoneIn, asked_by, fault_in, root_in, seen_in};
 ghost use Rattle.at_demand.specs.ChainSteps.{HasEnded, HasGoneOver, HasLostFault, HasLostSeen, HasMarked, HasMarkedAll, HasNext, HasSeen};
-ghost use Rattle.at_demand.specs.ChainSteps.{HasPassedOn, HasRisen, HasSettled, IsDeeper, IsSearched};
+ghost use Rattle.at_demand.specs.ChainSteps.{HasPassedOn, HasRisen, HasSettled, IsAlike, IsDeeper, IsSearched};
 
 use crate::answer::Answer;
 use crate::evaluation::Find;
@@ -235,7 +235,7 @@ impl Question {
     pub(crate) fn next(&mut self) -> Option<Inst>
         ensures some { IfSome result (HasNext self.old self.new) }
         ensures none { IfNone result (IsDoneIn self.old.level) }
-        ensures same { IfNone result (self.new ≡ self.old) }
+        ensures same { IfNone result (IsAlike self.old self.new) }
     {
         match &mut self.level {
             Some(search) => search.next(),

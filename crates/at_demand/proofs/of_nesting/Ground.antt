@@ -8,7 +8,7 @@ use Rattle.at_model.specs.of_fixpoints.Fixpoints.{HasValue}
 use Rattle.at_model.specs.of_fixpoints.Formulas.{Formula}
 use Rattle.at_model.specs.of_fixpoints.Resting.{Comes}
 use Rattle.at_model.proofs.of_formulas.PlainAnswers.{reaches_on}
-use Rattle.at_model.proofs.of_formulas.PlainRules.{one_plain}
+use Rattle.at_model.proofs.of_formulas.PlainRules.{by_plain_equation}
 use Rattle.at_demand.specs.Inner.{is_inner}
 use Rattle.at_demand.specs.Known.{equations, meaning}
 use Rattle.at_demand.specs.Meant.{AreCircularWell, AreRightValues}
@@ -29,7 +29,7 @@ not_lazy false e = cc
 pub ground_of : (rules : Rules) (look : Contents ℕ) (known : Known ℕ) → AreCircularWell rules →
     AreRightValues look (meaning rules) known → IsGround look (equations rules) (meaning rules) known (is_inner rules)
 ground_of rules look known circular right = record {
-  formula = λ i own. one_plain rules nat_eq i own;
+  formula = λ i own. by_plain_equation rules nat_eq i own;
   own = λ i inner. own_of rules circular i.attribute (not_lazy (is_lazy rules i.attribute) inner);
   right = right;
 }
@@ -38,5 +38,5 @@ ground_of rules look known circular right = record {
 pub comes_own : (rules : Rules) (look : Contents ℕ) (i j : Instance ℕ) → start_of rules i.attribute ≡ None →
     Reaches look (HasValue look (meaning rules)) (equations rules i) j → Comes look (meaning rules) i j
 comes_own rules look i j own h = inl (subst (λ (r : Run ℕ (Formula ℕ)). Reaches look (HasValue look (meaning rules)) r j)
-    (sym (one_plain rules nat_eq i own))
+    (sym (by_plain_equation rules nat_eq i own))
     (reaches_on look (HasValue look (meaning rules)) (HasValue look (meaning rules)) (λ k w x. x) (equations rules i) j h))

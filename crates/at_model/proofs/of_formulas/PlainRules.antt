@@ -88,11 +88,11 @@ module _ {N : Type 0} (rules : Rules) (same : N → N → Bool) (i : Instance N)
         (λ x c. past_plain i.arguments _ _
         (which (is_inherited rules i.attribute) _ _ _ _ (inherited_plain height) (own_plain c)) x)
 
-    -- the formula of an instance that isn't circular is the value that its equation gives
-    pub one_plain : (evaluation rules same).formula i ≡ (plain_forms (λ j. equation.evaluation rules same j)).formula i
-    one_plain = within_plain max_depth
+    -- one that isn't circular is evaluated as it is without any formula
+    pub by_plain_equation : (evaluation rules same).formula i ≡ plain (equation.evaluation rules same i)
+    by_plain_equation = within_plain max_depth
 
 pub rules_plain : {N : Type 0} (rules : Rules) (same : N → N → Bool) → ((attribute : ℕ) → start_of rules attribute ≡ None) →
     evaluation rules same ≡ plain_forms (λ i. equation.evaluation rules same i)
 rules_plain rules same none =
-    λ x. record { starts = λ a. none a x; formula = λ i. one_plain rules same i (none i.attribute) x }
+    λ x. record { starts = λ a. none a x; formula = λ i. by_plain_equation rules same i (none i.attribute) x }

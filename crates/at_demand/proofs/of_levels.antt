@@ -1,0 +1,4 @@
+-- Questions over circular attributes.
+pub mod Plain
+pub mod FormingOn
+pub mod Carried

@@ -1,0 +1,47 @@
+-- What one try comes to, for a value.
+use Rattle.std.proofs.Common.{◌≡◌, ℕ, List, None, inl, refl, sym, subst}
+use Rattle.at_model.specs.Rules.{Rules, start_of}
+use Rattle.at_model.specs.Run.{Instance, Contents}
+use Rattle.at_model.specs.TypedRuns.{ClassAt}
+use Rattle.at_body.specs.Values.{fault_view}
+use Rattle.at_cache.specs.Kept.{Entries}
+use Rattle.at_demand.specs.declared.evaluation.Find.{Find}
+use Rattle.at_demand.specs.declared.evaluation.Frame.{Frame}
+use Rattle.at_demand.specs.declared.trials.Attempt.{Attempt}
+use Rattle.at_demand.specs.declared.trials.Attempt.TheVariants as attempt
+use Rattle.at_demand.specs.declared.trying.Tried.{Tried}
+use Rattle.at_demand.specs.Attempts.{Awaits, HasTried, IsKeptAs}
+use Rattle.at_demand.specs.Forming.{IsTriedBy}
+use Rattle.at_demand.specs.Known.{kept_values}
+use Rattle.at_demand.specs.Sparing.{AddsWorthy, MayGain}
+use Rattle.at_demand.specs.Tries.{HasTriedTo, NeedsOther}
+use Rattle.at_demand.specs.Forming.{waits_for}
+use Rattle.at_demand.specs.declared.trying.Trying.TheVariants as trying
+use Rattle.at_demand.proofs.Entered.{not_none}
+use Rattle.at_demand.proofs.Recalling.{unknown}
+use Rattle.at_demand.proofs.of_levels.Plain.{comes_by_demand, ends_spoilt}
+
+pub value_tried : (rules : Rules) (at : ClassAt ℕ) (look : Contents ℕ) (before after : Entries) (found : List (Instance ℕ × Find)) (i : Instance ℕ) (a : Attempt) (f : Frame) (r : Tried) → start_of rules i.attribute ≡ None → HasTried rules at look before found i a → IsKeptAs after i a →
+    Awaits rules at look before found i f a → IsTriedBy a f r → HasTriedTo rules at look before after found i r
+value_tried rules at look before after found i (attempt.Kept v) f r none (d, is, has) kept waits e =
+    subst (HasTriedTo rules at look before after found i) (sym e) (d, is, has, none, kept)
+value_tried rules at look before after found i (attempt.Found d) f r none has kept waits e =
+    subst (HasTriedTo rules at look before after found i) (sym e) (has, none)
+value_tried rules at look before after found i (attempt.Fails k) f r none has kept waits e =
+    let (js, past) = waits.stepped in
+    subst (HasTriedTo rules at look before after found i) (sym e) (ends_spoilt rules look i none (fault_view k) js f.trial.reads past)
+value_tried rules at look before after found i (attempt.Needs j) f r none has kept waits e =
+    let needs : NeedsOther rules at look before found i j (waits_for (trying.Value f) j) = record {
+      demands = comes_by_demand rules look i none j has.comes;
+      unknown = unknown before found j (sym has.unkept) (sym has.unfound);
+      typed = has.typed;
+      waits = (none, waits);
+    } in
+    subst (HasTriedTo rules at look before after found i) (sym e) needs
+
+-- nothing comes
+pub none_gained : (rules : Rules) (found : List (Instance ℕ × Find)) (entries : Entries) (i : Instance ℕ) → MayGain rules found entries entries i
+none_gained rules found entries i = record { stays = λ j some. refl; lazy = λ j. inl refl; comes = λ j some. inl some }
+
+pub none_worthy : (rules : Rules) (look : Contents ℕ) (asked : Instance ℕ) (entries : Entries) → AddsWorthy rules look asked entries entries
+none_worthy rules look asked entries = record { stays = λ i some. refl; worthy = λ i none some. absurd (not_none (kept_values entries i) some none) }
