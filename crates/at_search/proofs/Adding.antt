@@ -1,5 +1,6 @@
 -- One piece more of a formula under way.
-use Rattle.std.proofs.Common.{◌≡◌, ◌⊎◌, ℕ, ◌+◌, Bool, true, false, List, [], ◌∷◌, ◌++◌, length, reverse, slice_get, Option, Some, None, IsSome, Result, Ok, Err, OnOk, inl, inr, refl, sym, ap, ◌∙◌, subst}
+use Rattle.std.proofs.Common.{◌≡◌, ◌⊎◌, ℕ, ◌+◌, Bool, true, false, List, [], ◌∷◌, ◌++◌, length, reverse, slice_get, Option, Some, None, IsSome, Result, Ok, Err}
+use Rattle.std.proofs.Common.{OnOk, inl, inr, refl, sym, ap, ◌∙◌, subst}
 use Rattle.at_model.specs.Run.{Value, Truth, Instance, Known}
 use Rattle.at_model.specs.Bodies.{truth_of}
 use Rattle.at_model.specs.Meaning.{Among}
@@ -68,7 +69,7 @@ module _ (known : Known ℕ) (insts : List (Instance ℕ)) where
       (carried old.start mid.start old.count mid.count old.parts.items mid.parts.items (reverse old.operands.items) (reverse mid.operands.items)
       (stacked [] ps) es ec ep (ap reverse eo) u.operands)
       (same_targets (old.targets.items ++ q ∷ []) new.targets.items old.is_open new.is_open (asked ps ++ i ∷ []) (h.targets ∙ et) (h.stays ∙ ei)
-      (targets_at known insts old.targets.items old.is_open (asked ps) q i u.targets at)) s h refl
+      (targets_at known insts old.targets.items old.is_open (asked ps) q i u.targets (sym k) at)) s h refl
       (stands.by_place (length mid.parts.items) q i (sym k) at (at_last mid.parts.items (condition.When q)))
   placed_added (Err e) old mid new ps i q u k at es ec ep eo ei et s h = tt
 

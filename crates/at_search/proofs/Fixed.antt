@@ -4,7 +4,8 @@ use Rattle.at_model.specs.Run.{Value, Truth, Instance, Contents}
 use Rattle.at_model.specs.Bodies.{bool_eq}
 use Rattle.at_model.specs.Meaning.{Among}
 use Rattle.at_model.specs.of_fixpoints.Formulas.{Formula, Asks, atoms, Forms}
-use Rattle.at_model.specs.of_fixpoints.Fixpoints.{End, Made, Leaves, known, asks, true_both, true_left, true_right, false_left, false_right, false_both, Valued, AreFormed, LeadsOver, EndsAt, EndsSo, HasForm, HasValue}
+use Rattle.at_model.specs.of_fixpoints.Fixpoints.{End, Made, Leaves, known, asks, true_both, true_left, true_right, false_left, false_right, false_both, Valued}
+use Rattle.at_model.specs.of_fixpoints.Fixpoints.{AreFormed, LeadsOver, EndsAt, EndsSo, HasForm, HasValue}
 use Rattle.at_model.specs.of_fixpoints.Searched.{IsWhole}
 use Rattle.at_model.proofs.of_formulas.UniqueOutcomes.{closed, ends_at, itself, leaves_over}
 use Rattle.at_model.proofs.of_formulas.Solved.{component_valued}

@@ -1,5 +1,6 @@
 -- Look-ups among entries.
-use Rattle.std.proofs.Common.{◌≡◌, ◌+◌, ◌<◌, ℕ, zero, suc, arith, get_or, take, length, Bool, true, false, List, [], ◌∷◌, ◌++◌, Option, Some, None, slice_get, ◌⊎◌, inl, inr, refl, sym, ap, ◌∙◌, subst, if◌then◌else◌, cond, true≢false, is_some}
+use Rattle.std.proofs.Common.{◌≡◌, ◌+◌, ◌<◌, ℕ, zero, suc, arith, get_or, take, length, Bool, true, false, List, [], ◌∷◌, ◌++◌, Option, Some, None, slice_get}
+use Rattle.std.proofs.Common.{◌⊎◌, inl, inr, refl, sym, ap, ◌∙◌, subst, if◌then◌else◌, cond, true≢false, is_some}
 use Rattle.std.proofs.lemmas.List.{take_more}
 use Rattle.std.specs.Bool.{MatchBool}
 use Rattle.std.specs.Map.{keys_of, lookup, lookup_key}
@@ -26,7 +27,8 @@ module _ {X : Type 0} where
   no_key [] i none h = h
   no_key (e ∷ es) i none h = by (same_instance i e.0) refl none h (no_key es i)
     where
-      by : (b : Bool) → same_instance i e.0 ≡ b → (if b then Some e.1 else lookup (same_instance i) es) ≡ None → Among i (e.0 ∷ keys_of es) → (lookup (same_instance i) es ≡ None → Among i (keys_of es) → ⊥) → ⊥
+      by : (b : Bool) → same_instance i e.0 ≡ b → (if b then Some e.1 else lookup (same_instance i) es) ≡ None →
+          Among i (e.0 ∷ keys_of es) → (lookup (same_instance i) es ≡ None → Among i (keys_of es) → ⊥) → ⊥
       by true s f h more = absurd cc
       by false s f (inl h) more = true≢false (sym (ap (same_instance i) (sym h) ∙ same_refl i) ∙ s)
       by false s f (inr h) more = more f h
@@ -37,7 +39,8 @@ module _ {X : Type 0} where
   goes_last (e ∷ es) i x gone = rw (apart i e.0 (λ h. gone (inl h))) (ap (λ fs. e ∷ fs) (goes_last es i x (λ h. gone (inr h))))
 
   -- what is found once an entry goes last
-  pub lookup_push : (es : List (Instance ℕ × X)) (i j : Instance ℕ) (x y : X) → lookup (same_instance j) (es ++ (i, x) ∷ []) ≡ Some y → (lookup (same_instance j) es ≡ Some y) ⊎ ((j ≡ i) × (x ≡ y))
+  pub lookup_push : (es : List (Instance ℕ × X)) (i j : Instance ℕ) (x y : X) → lookup (same_instance j) (es ++ (i, x) ∷ []) ≡ Some y →
+      (lookup (same_instance j) es ≡ Some y) ⊎ ((j ≡ i) × (x ≡ y))
   lookup_push [] i j x y f = by (same_instance j i) refl f
     where
       by : (b : Bool) → same_instance j i ≡ b → (if b then Some x else None) ≡ Some y → (◌≡◌ {A = Option X} None (Some y)) ⊎ ((j ≡ i) × (x ≡ y))
@@ -45,7 +48,9 @@ module _ {X : Type 0} where
       by false s f = absurd cc
   lookup_push (e ∷ es) i j x y f = by (same_instance j e.0) f (lookup_push es i j x y)
     where
-      by : (b : Bool) → (if b then Some e.1 else lookup (same_instance j) (es ++ (i, x) ∷ [])) ≡ Some y → (lookup (same_instance j) (es ++ (i, x) ∷ []) ≡ Some y → (lookup (same_instance j) es ≡ Some y) ⊎ ((j ≡ i) × (x ≡ y))) → ((if b then Some e.1 else lookup (same_instance j) es) ≡ Some y) ⊎ ((j ≡ i) × (x ≡ y))
+      by : (b : Bool) → (if b then Some e.1 else lookup (same_instance j) (es ++ (i, x) ∷ [])) ≡ Some y →
+          (lookup (same_instance j) (es ++ (i, x) ∷ []) ≡ Some y → (lookup (same_instance j) es ≡ Some y) ⊎ ((j ≡ i) × (x ≡ y))) →
+          ((if b then Some e.1 else lookup (same_instance j) es) ≡ Some y) ⊎ ((j ≡ i) × (x ≡ y))
       by true f more = inl f
       by false f more = more f
 
@@ -61,7 +66,8 @@ module _ {X : Type 0} where
   key_there [] j h = absurd (true≢false (sym h))
   key_there (e ∷ es) j h = by (same_instance j e.0) refl h (key_there es j)
     where
-      by : (b : Bool) → same_instance j e.0 ≡ b → is_some (if b then Some e.1 else lookup (same_instance j) es) ≡ true → (is_some (lookup (same_instance j) es) ≡ true → Among j (keys_of es)) → Among j (e.0 ∷ keys_of es)
+      by : (b : Bool) → same_instance j e.0 ≡ b → is_some (if b then Some e.1 else lookup (same_instance j) es) ≡ true →
+          (is_some (lookup (same_instance j) es) ≡ true → Among j (keys_of es)) → Among j (e.0 ∷ keys_of es)
       by true s f more = inl (same_true j e.0 s)
       by false s f more = inr (more f)
 
@@ -86,7 +92,8 @@ not_last ks i j s gone h = elim (among_push ks j i h) [
 ]
 
 -- whether an instance is a key
-pub is_key : {X : Type 0} (b : Bool) (es : List (Instance ℕ × X)) (i : Instance ℕ) → b ≡ is_some (lookup (same_instance i) es) → MatchBool b (Among i (keys_of es)) (Among i (keys_of es) → ⊥)
+pub is_key : {X : Type 0} (b : Bool) (es : List (Instance ℕ × X)) (i : Instance ℕ) → b ≡ is_some (lookup (same_instance i) es) →
+    MatchBool b (Among i (keys_of es)) (Among i (keys_of es) → ⊥)
 is_key true es i e = key_there es i (sym e)
 is_key false es i e = no_key es i (none_of (lookup (same_instance i) es) e)
 
@@ -97,14 +104,16 @@ same_key (x ∷ xs) zero k i less is s = inl (sym (same_true k i s) ∙ is)
 same_key (x ∷ xs) (suc n) k i less is s = inr (same_key xs n k i (omega (arith, less)) is s)
 
 -- and isn't one of the first ones, where it is the same as none of these
-pub other_key : (ks : List (Instance ℕ)) (n : ℕ) (k i : Instance ℕ) → n < length ks → k ≡ get_or ks n k → same_instance k i ≡ false → (Among i (take n ks) → ⊥) → Among i (take (n + 1) ks) → ⊥
+pub other_key : (ks : List (Instance ℕ)) (n : ℕ) (k i : Instance ℕ) → n < length ks → k ≡ get_or ks n k → same_instance k i ≡ false →
+    (Among i (take n ks) → ⊥) → Among i (take (n + 1) ks) → ⊥
 other_key ks n k i less is s gone h = not_last (take n ks) k i s gone (subst (Among i) (take_more ks n k less ∙ ap (λ x. take n ks ++ x ∷ []) (sym is)) h)
 
 -- whether it is the last one, or one before it
 pub is_last : (ks : List (Instance ℕ)) (i j : Instance ℕ) → same_instance i j ≡ true → Among j (ks ++ i ∷ [])
 is_last ks i j e = subst (λ x. Among x (ks ++ i ∷ [])) (same_true i j e) (among_last ks i)
 
-pub is_before : (b : Bool) (ks : List (Instance ℕ)) (i j : Instance ℕ) → MatchBool b (Among j ks) (Among j ks → ⊥) → same_instance i j ≡ false → MatchBool b (Among j (ks ++ i ∷ [])) (Among j (ks ++ i ∷ []) → ⊥)
+pub is_before : (b : Bool) (ks : List (Instance ℕ)) (i j : Instance ℕ) → MatchBool b (Among j ks) (Among j ks → ⊥) →
+    same_instance i j ≡ false → MatchBool b (Among j (ks ++ i ∷ [])) (Among j (ks ++ i ∷ []) → ⊥)
 is_before true ks i j there s = among_left j ks (i ∷ []) there
 is_before false ks i j gone s = not_last ks i j s gone
 

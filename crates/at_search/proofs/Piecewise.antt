@@ -1,5 +1,6 @@
 -- Conditions for a formula, piece by piece.
-use Rattle.std.proofs.Common.{◌≡◌, ◌⊎◌, ℕ, zero, suc, ◌+◌, Bool, true, false, List, [], ◌∷◌, ◌++◌, length, reverse, slice_get, Option, Some, None, IsSome, inl, inr, refl, sym, ap, ◌∙◌, subst, true≢false}
+use Rattle.std.proofs.Common.{◌≡◌, ◌⊎◌, ℕ, zero, suc, ◌+◌, Bool, true, false, List, [], ◌∷◌, ◌++◌, length, reverse, slice_get, Option, Some, None, IsSome, inl}
+use Rattle.std.proofs.Common.{inr, refl, sym, ap, ◌∙◌, subst, true≢false}
 use Rattle.at_model.specs.Run.{Value, Truth, Instance, Known}
 use Rattle.at_model.specs.Meaning.{Among}
 use Rattle.at_model.specs.of_fixpoints.Formulas.{Formula, Asks, Both, Either}
@@ -92,14 +93,14 @@ module _ (known : Known ℕ) (insts : List (Instance ℕ)) where
       ((i : Instance ℕ) → Among i js → IsSome (known i)) → Targets known insts ts o (is ++ js)
   targets_known ts o is js t all = record {
     covered = λ i h. elim (either_among i is js h) [ inl a ↦ t.covered i a | inr b ↦ inl (all i b) ];
-    from = λ q h. let (i, a, at) = t.from q h in (i, front_among i is js a, at);
+    from = λ q h. let (i, a, k, at) = t.from q h in (i, front_among i is js a, k, at);
     outside = λ e. let (i, a, k, out) = t.outside e in (i, front_among i is js a, k, out);
   }
 
   -- or has a position
   pub targets_at : (ts : List ℕ) (o : Bool) (is : List (Instance ℕ)) (q : ℕ) (i : Instance ℕ) → Targets known insts ts o is →
-      slice_get insts q ≡ Some i → Targets known insts (ts ++ q ∷ []) o (is ++ i ∷ [])
-  targets_at ts o is q i t at = record {
+      known i ≡ None → slice_get insts q ≡ Some i → Targets known insts (ts ++ q ∷ []) o (is ++ i ∷ [])
+  targets_at ts o is q i t none at = record {
     covered = λ j h. elim (either_among j is (i ∷ []) h) [
       | inl a ↦ elim (t.covered j a) [
         | inl k ↦ inl k
@@ -111,9 +112,9 @@ module _ (known : Known ℕ) (insts : List (Instance ℕ)) where
       ]
     ];
     from = λ m h. elim (either_among m ts (q ∷ []) h) [
-      | inl a ↦ let (j, x, y) = t.from m a in (j, front_among j is (i ∷ []) x, y)
+      | inl a ↦ let (j, x, k, y) = t.from m a in (j, front_among j is (i ∷ []) x, k, y)
       | inr b ↦ elim b [
-        | inl e ↦ (i, back_among i is (i ∷ []) (inl refl), subst (λ z. slice_get insts z ≡ Some i) (sym e) at)
+        | inl e ↦ (i, back_among i is (i ∷ []) (inl refl), none, subst (λ z. slice_get insts z ≡ Some i) (sym e) at)
         | inr u ↦ absurd u
       ]
     ];
@@ -125,7 +126,7 @@ module _ (known : Known ℕ) (insts : List (Instance ℕ)) where
       known i ≡ None → (¬ (Among i insts)) → Targets known insts ts true (is ++ i ∷ [])
   targets_out ts o is i t k out = record {
     covered = λ j h. inr (inr refl);
-    from = λ m h. let (j, x, y) = t.from m h in (j, front_among j is (i ∷ []) x, y);
+    from = λ m h. let (j, x, n, y) = t.from m h in (j, front_among j is (i ∷ []) x, n, y);
     outside = λ e. (i, back_among i is (i ∷ []) (inl refl), k, out);
   }
 

@@ -1,6 +1,7 @@
 -- One instance more in a system.
-use Rattle.std.proofs.Common.{◌≡◌, ◌⊎◌, ℕ, zero, suc, ◌+◌, ◌<◌, Bool, true, false, List, [], ◌∷◌, ◌++◌, length, slice_get, Option, Some, None, IsSome, Result, Ok, Err, OnOk, Vec, inl, inr, refl, sym, ap, ◌∙◌, subst, arith}
-use Rattle.std.proofs.lemmas.List.{append-nil, length-append}
+use Rattle.std.proofs.Common.{◌≡◌, ◌⊎◌, ℕ, zero, suc, ◌+◌, ◌<◌, Bool, true, false, List, [], ◌∷◌, ◌++◌, get_or, length, slice_get, take, Option, Some, None}
+use Rattle.std.proofs.Common.{IsSome, Result, Ok, Err, OnOk, Vec, inl, inr, refl, sym, ap, ◌∙◌, subst, arith}
+use Rattle.std.proofs.lemmas.List.{append-nil, length-append, length-take-le}
 use Rattle.std.specs.Global.{Global}
 use Rattle.at_model.specs.Run.{Instance, Known}
 use Rattle.at_model.specs.Meaning.{Among}
@@ -19,6 +20,7 @@ use Rattle.at_search.specs.Recorded.{Recorded}
 use Rattle.at_search.specs.Systems.{Stands, StaysUnder, Targets, IsUnformed, IsFormed, IsSystemTo, HasOpened, HasFormed}
 use Rattle.at_search.proofs.Piecewise.{at_last, stands_more}
 use Rattle.at_search.proofs.Adding.{carried_one}
+use Rattle.at_search.proofs.Places.{item_at}
 
 front_same : {A : Type 0} (xs ys : List A) (q : ℕ) → q < length xs → slice_get (xs ++ ys) q ≡ slice_get xs q
 front_same [] ys q less = absurd (omega (arith, less))
@@ -40,8 +42,8 @@ stays_same old new e = record {
   parts = ap (λ c. c.parts.items) e ∙ sym (append-nil old.parts.items);
 }
 
-module _ (known : Known ℕ) (ended : List (Instance ℕ × Ended)) (insts : List (Instance ℕ)) (old new : System) (n : ℕ)
-    (s : IsSystemTo n known ended insts old) (stays : StaysUnder old.conditions new.conditions) (head : Condition) (targets : Vec ℕ Global)
+module _ (known : Known ℕ) (ended : List (Instance ℕ × Ended)) (insts : List (Instance ℕ)) (old new : System) (n : ℕ) (start : Bool)
+    (s : IsSystemTo n start known ended insts old) (stays : StaysUnder old.conditions new.conditions) (head : Condition) (targets : Vec ℕ Global)
     (open' : Bool) (heads : new.heads.items ≡ old.heads.items ++ head ∷ []) (edges : new.edges.items ≡ old.edges.items ++ targets ∷ [])
     (opens : new.open.items ≡ old.open.items ++ open' ∷ []) where
   head_front : (q : ℕ) → q < n → slice_get new.heads.items q ≡ slice_get old.heads.items q
@@ -83,8 +85,10 @@ module _ (known : Known ℕ) (ended : List (Instance ℕ × Ended)) (insts : Lis
   abbrev IsLast : Instance ℕ → Type 0
   IsLast i = IsUnformed known ended new n i ⊎ ((f : Formula ℕ) × IsFormed known ended insts new n i f)
 
-  pub one_further : (i : Instance ℕ) → slice_get insts n ≡ Some i → IsLast i → IsSystemTo (n + 1) known ended insts new
+  pub one_further : (i : Instance ℕ) → slice_get insts n ≡ Some i → IsLast i → IsSystemTo (n + 1) start known ended insts new
   one_further i at last = record {
+    start' = stays.start ∙ s.start';
+    count = stays.count ∙ s.count;
     heads = ap length heads ∙ length-append old.heads.items (head ∷ []) ∙ ap (λ z. z + 1) s.heads;
     edges = ap length edges ∙ length-append old.edges.items (targets ∷ []) ∙ ap (λ z. z + 1) s.edges;
     opens = ap length opens ∙ length-append old.open.items (open' ∷ []) ∙ ap (λ z. z + 1) s.opens;
@@ -114,12 +118,12 @@ module _ (known : Known ℕ) (ended : List (Instance ℕ × Ended)) (insts : Lis
 
 -- one that is open
 pub open_added : {E : Type 0} (r : Result (Unit {0}) E) (known : Known ℕ) (ended : List (Instance ℕ × Ended)) (insts : List (Instance ℕ))
-    (old new : System) (n : ℕ) (i : Instance ℕ) → IsSystemTo n known ended insts old → slice_get insts n ≡ Some i →
+    (old new : System) (n : ℕ) (start : Bool) (i : Instance ℕ) → IsSystemTo n start known ended insts old → slice_get insts n ≡ Some i →
     IsSome (known i) ⊎ ((f : Formula ℕ) → Recorded ended i (Made f) → ⊥) → OnOk r (HasOpened old new) →
-    OnOk r (IsSystemTo (n + 1) known ended insts new)
-open_added (Err e) known ended insts old new n i s at why h = tt
-open_added (Ok u) known ended insts old new n i s at why h =
-    one_further known ended insts old new n s (stays_same old.conditions new.conditions h.conditions) condition.Never h.targets true h.heads
+    OnOk r (IsSystemTo (n + 1) start known ended insts new)
+open_added (Err e) known ended insts old new n start i s at why h = tt
+open_added (Ok u) known ended insts old new n start i s at why h =
+    one_further known ended insts old new n start s (stays_same old.conditions new.conditions h.conditions) condition.Never h.targets true h.heads
     h.edges h.open' i at (inl (record {
       head = ap (λ z. slice_get z n) h.heads ∙ ap (slice_get (old.heads.items ++ condition.Never ∷ [])) (sym s.heads)
           ∙ at_last old.heads.items condition.Never;
@@ -131,13 +135,14 @@ open_added (Ok u) known ended insts old new n i s at why h =
 
 -- one that has a formula
 pub formula_added : {E : Type 0} (r : Result (Unit {0}) E) (known : Known ℕ) (ended : List (Instance ℕ × Ended)) (insts : List (Instance ℕ))
-    (old new : System) (n : ℕ) (i : Instance ℕ) (ps : List Piece) (f : Formula ℕ) → IsSystemTo n known ended insts old →
+    (old new : System) (n : ℕ) (start : Bool) (i : Instance ℕ) (ps : List Piece) (f : Formula ℕ) →
+    IsSystemTo n start known ended insts old →
     slice_get insts n ≡ Some i → None ≡ known i → Recorded ended i (Made f) → stacked [] ps ≡ f ∷ [] →
-    OnOk r (HasFormed known insts ps old new) → OnOk r (IsSystemTo (n + 1) known ended insts new)
-formula_added (Err e) known ended insts old new n i ps f s at none x made h = tt
-formula_added (Ok u) known ended insts old new n i ps f s at none x made h =
+    OnOk r (HasFormed known insts ps old new) → OnOk r (IsSystemTo (n + 1) start known ended insts new)
+formula_added (Err e) known ended insts old new n start i ps f s at none x made h = tt
+formula_added (Ok u) known ended insts old new n start i ps f s at none x made h =
     let e : top_of (stacked [] ps) ≡ f = ap top_of made in
-    one_further known ended insts old new n s h.stays (condition.When (old.conditions.count + h.place)) h.targets h.is_open h.heads h.edges
+    one_further known ended insts old new n start s h.stays (condition.When (old.conditions.count + h.place)) h.targets h.is_open h.heads h.edges
     h.opens i at (inr (
       f,
       record {
@@ -158,3 +163,14 @@ formula_added (Ok u) known ended insts old new n i ps f s at none x made h =
             (subst (λ z. Targets known insts h.targets.items h.is_open z) (sym (in_order ps f made)) h.asks);
       },
     ))
+
+-- the next of these instances
+pub filled_more : (known : Known ℕ) (ended : List (Instance ℕ × Ended)) (insts : List (Instance ℕ)) (old new : System) (n : ℕ)
+    (start : Bool) (xs : List (Instance ℕ)) (i : Instance ℕ) → xs ≡ insts → n < length xs → i ≡ get_or xs n i →
+    ((m : ℕ) (b : Bool) → IsSystemTo m b known ended insts old → slice_get insts m ≡ Some i → IsSystemTo (m + 1) b known ended insts new) →
+    IsSystemTo (length (take n insts)) start known ended insts old → IsSystemTo (length (take (n + 1) insts)) start known ended insts new
+filled_more known ended insts old new n start xs i e less is more s =
+    let here : n < length insts = subst (λ z. n < length z) e less in
+    subst (λ m. IsSystemTo m start known ended insts new) (sym (length-take-le (n + 1) insts (omega (arith, here))))
+    (more n start (subst (λ m. IsSystemTo m start known ended insts old) (length-take-le n insts (omega (arith, here))) s)
+    (subst (λ z. slice_get z n ≡ Some i) e (item_at xs n i i less is)))

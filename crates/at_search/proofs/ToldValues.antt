@@ -1,5 +1,6 @@
 -- What is solved has its value.
-use Rattle.std.proofs.Common.{◌≡◌, ◌⊎◌, ◌↔◌, ℕ, zero, suc, ◌+◌, ◌<◌, Bool, true, false, not, List, [], ◌∷◌, ◌++◌, get_or, length, slice_get, Option, Some, None, IsSome, inl, inr, refl, sym, ap, ◌∙◌, subst, arith, true≢false, Vec}
+use Rattle.std.proofs.Common.{◌≡◌, ◌⊎◌, ◌↔◌, ℕ, zero, suc, ◌+◌, ◌<◌, Bool, true, false, not, List, [], ◌∷◌, ◌++◌, get_or, length, slice_get, Option, Some, None}
+use Rattle.std.proofs.Common.{IsSome, inl, inr, refl, sym, ap, ◌∙◌, subst, arith, true≢false, Vec}
 use Rattle.std.specs.Global.{Global}
 use Rattle.at_model.specs.Run.{Value, Truth, Instance, Contents, Known}
 use Rattle.at_model.specs.Bodies.{bool_eq, truth_of}
@@ -21,6 +22,7 @@ use Rattle.at_search.specs.Systems.{Stands, IsPlaced, IsSystem, IsUnformed, IsFo
 use Rattle.at_search.specs.Solved.{AreRight, is_open_at, value_at}
 use Rattle.at_search.proofs.Derived.{sound, complete, instance_derived, there_among, no_value}
 use Rattle.at_search.proofs.Fixed.{decided, has_value}
+use Rattle.at_search.proofs.Places.{read_at, within}
 
 get_behind : {A : Type 0} (xs ys : List A) (n : ℕ) → slice_get (xs ++ ys) (length xs + n) ≡ slice_get ys n
 get_behind [] ys n = let z : 0 + n ≡ n = omega arith in ap (slice_get ys) z
@@ -32,17 +34,6 @@ at_front : {A : Type 0} (xs ys : List A) (n : ℕ) (x : A) → slice_get xs n �
 at_front [] ys n x e = absurd cc
 at_front (y ∷ xs) ys zero x e = e
 at_front (y ∷ xs) ys (suc n) x e = at_front xs ys n x e
-
-within : {A : Type 0} (xs : List A) (n : ℕ) (x : A) → slice_get xs n ≡ Some x → n < length xs
-within [] n x e = absurd cc
-within (y ∷ ys) zero x e = omega arith
-within (y ∷ ys) (suc n) x e = omega (arith, within ys n x e)
-
--- what is read where it stands
-read_at : {A : Type 0} (xs : List A) (n : ℕ) (x d : A) → slice_get xs n ≡ Some x → get_or xs n d ≡ x
-read_at [] n x d e = absurd cc
-read_at (y ∷ ys) zero x d e = cc
-read_at (y ∷ ys) (suc n) x d e = read_at ys n x d e
 
 -- one more, if it is there
 abbrev one_more : Option (Instance ℕ) → List (Instance ℕ) → List (Instance ℕ)
@@ -89,7 +80,7 @@ module _ (look : Contents ℕ) (forms : Forms ℕ) (known : Known ℕ) (ended : 
 
   at_parts : (p : ℕ) → slice_get all (s.conditions.count + p) ≡ slice_get s.conditions.parts.items p
   at_parts p =
-      let e : s.conditions.count ≡ length s.heads.items = system.count ∙ sym system.all.heads in
+      let e : s.conditions.count ≡ length s.heads.items = system.all.count ∙ sym system.all.heads in
       ap (λ n. slice_get all (n + p)) e ∙ get_behind s.heads.items s.conditions.parts.items p
 
   at_heads : (q : ℕ) (c : Condition) → slice_get s.heads.items q ≡ Some c → slice_get all q ≡ Some c
@@ -134,7 +125,7 @@ module _ (look : Contents ℕ) (forms : Forms ℕ) (known : Known ℕ) (ended : 
   one_form : (i : Instance ℕ) (f g : Formula ℕ) → HasForm look forms i f → HasForm look forms i g → f ≡ g
   one_form i f g x y = let q : Made f ≡ Made g = ends_one look forms i (Made f) (Made g) x y in cc
 
-  module _ (apart : (p q : ℕ) (i : Instance ℕ) → slice_get insts p ≡ Some i → slice_get insts q ≡ Some i → p ≡ q) (T : List ℕ)
+  module _ (T : List ℕ)
       (shut : (m : ℕ) → Among m T → (is_open_at s.open.items m ≡ false) × ((k : ℕ) → Among k (listed_at s.edges.items m) → Among k T)) where
     abbrev Good : ℕ → Type 0
     Good m = Among m T
@@ -203,4 +194,4 @@ module _ (look : Contents ℕ) (forms : Forms ℕ) (known : Known ℕ) (ended : 
         (λ e. (sound start s.conditions.count known insts s.conditions.parts.items all at_parts (HasForm look forms) Fits leaves_by fits placed m
         ((is m).0 e)).1 i at)
         (λ l. (is m).1 (instance_derived start s.conditions.count known insts s.conditions.parts.items all at_parts (HasForm look forms) one_form
-        Fits left_by apart Good closed m i good at l))
+        Fits left_by system.apart Good closed m i good at l))

@@ -4,7 +4,7 @@ use Rattle.std.specs.Map.{keys_of, lookup}
 use Rattle.at_model.specs.Run.{Instance, Contents, FaultKind, Known}
 use Rattle.at_model.specs.Meaning.{Among}
 use Rattle.at_model.specs.of_fixpoints.Formulas.{Formula, Forms}
-use Rattle.at_model.specs.of_fixpoints.Fixpoints.{End, Made, Spoilt, Meets, EndsSo}
+use Rattle.at_model.specs.of_fixpoints.Fixpoints.{End, Made, Spoilt, AreFormed, Meets, EndsSo}
 use Rattle.at_model.specs.of_fixpoints.Searching.{asked_in}
 use Rattle.at_model.specs.of_fixpoints.Searched.{IsWhole}
 use Rattle.at_body.specs.Same.{same_instance}
@@ -48,6 +48,10 @@ AreFacts look forms ended = (i : Instance ℕ) (e : End ℕ (Formula ℕ)) → R
 -- what is known is whole: formulas lead from it to finitely many formulas
 abbrev pub AreWhole : Contents ℕ → Forms ℕ → Known ℕ → Type 0
 AreWhole look forms known = (i : Instance ℕ) → IsSome (known i) → IsWhole look forms i
+
+-- what is marked whole and isn't known leads to an equation that gives no formula
+abbrev pub AreMarksRight : Contents ℕ → Forms ℕ → Known ℕ → List (Instance ℕ × Ended) → Type 0
+AreMarksRight look forms known ended = (i : Instance ℕ) → IsMarked ended i → known i ≡ None → AreFormed (EndsSo look forms) i → ⊥
 
 -- those that a search has seen, the last one first
 abbrev pub seen_by : Search → List (Instance ℕ)

@@ -1,17 +1,17 @@
 -- Which instances of a system are solved, and what that tells.
-use Rattle.std.specs.Prelude.{◌≡◌, ◌⊎◌, ◌↔◌, ◌++◌, ℕ, ◌≤◌, Bool, true, false, List, Option, None, Some, IsSome, get_or, length, not, slice_get, unwrap_or, Vec}
-use Rattle.at_model.specs.Run.{Value, Truth, Instance, Contents, Known}
+use Rattle.std.specs.Prelude.{◌≡◌, ◌⊎◌, ◌↔◌, ◌++◌, ℕ, ◌≤◌, Bool, true, false, List, [], ◌∷◌, Option, None, Some, IsSome, get_or, length, map, not, slice_get, unwrap_or, Vec}
+use Rattle.at_model.specs.Run.{Value, Truth, Instance, Contents, FaultKind, Known}
 use Rattle.at_model.specs.Bodies.{bool_eq}
 use Rattle.at_model.specs.Meaning.{Among}
 use Rattle.at_model.specs.of_fixpoints.Formulas.{Formula, Forms, atoms}
-use Rattle.at_model.specs.of_fixpoints.Fixpoints.{Made, HasValue}
+use Rattle.at_model.specs.of_fixpoints.Fixpoints.{Made, Spoilt, LeadsOver, AreFormed, EndsSo, HasValue}
 use Rattle.at_model.specs.of_fixpoints.Sets.{AreOfOneStart}
 use Rattle.at_solve.specs.Components.{listed_at}
 use Rattle.at_solve.specs.Derivations.{Derives}
 use Rattle.at_search.specs.declared.ended.Ended.{Ended}
 use Rattle.at_search.specs.declared.system.System.{System}
 use Rattle.at_search.specs.declared.solving.Solved.{Solved}
-use Rattle.at_search.specs.Recorded.{Recorded, AreFacts, AreWhole}
+use Rattle.at_search.specs.Recorded.{Recorded, IsMarked, AreFacts, AreWhole}
 
 -- it is open, or has no position
 abbrev pub is_open_at : List Bool → ℕ → Bool
@@ -83,18 +83,42 @@ AreInOrder known ended insts groups = (k : ℕ) (i j : Instance ℕ) (b : Bool) 
 abbrev pub IsToldSome : {Z : Type 0} → List (Instance ℕ) → List (Vec Solved Z) → Instance ℕ → Type 0
 IsToldSome insts groups i = (b : Bool) × IsSolved insts groups i b
 
+-- each that isn't known, and from which formulas lead to formulas alone, is told some value
+abbrev pub AreAllTold : {Z : Type 0} → Contents ℕ → Forms ℕ → Known ℕ → List (Instance ℕ) → List (Vec Solved Z) → Type 0
+AreAllTold look forms known insts groups = (i : Instance ℕ) → Among i insts → known i ≡ None → AreFormed (EndsSo look forms) i →
+    IsToldSome insts groups i
+
+-- its equation is recorded to have come to a fault
+abbrev pub HasFault : List (Instance ℕ × Ended) → Instance ℕ → Type 0
+HasFault ended i = (k : FaultKind) × (at : Instance ℕ) × Recorded ended i (Spoilt k at)
+
+-- formulas lead from it to an instance that isn't known, and whose equation came to a fault, or that is marked whole
+pub record IsSpoilt (known : Known ℕ) (ended : List (Instance ℕ × Ended)) (i : Instance ℕ) : Type 0 where
+  pub to : Instance ℕ
+  pub led : LeadsOver (Recorded ended) i to
+  pub unknown : known to ≡ None
+  pub why : HasFault ended to ⊎ IsMarked ended to
+
+-- each is told some value, or is known, or spoilt
+abbrev pub AreToldOrSpoilt : {Z : Type 0} → Known ℕ → List (Instance ℕ × Ended) → List (Instance ℕ) → List (Vec Solved Z) → Type 0
+AreToldOrSpoilt known ended insts groups = (i : Instance ℕ) → Among i insts →
+    IsToldSome insts groups i ⊎ (IsSome (known i) ⊎ IsSpoilt known ended i)
+
 -- what is told at a position
 abbrev pub solved_at : (start : Bool) (derived : List Bool) → ℕ → Solved
 solved_at start derived q = record { position = q; value = value_at start derived q }
+
+-- A group is shut, and is told with the values that are derived; or it isn't, and its members are open.
+abbrev pub HasSolved : {Z : Type 0} → (group : List ℕ) → (derived : List Bool) → (old new : System) → (before after : List (Vec Solved Z)) → Type 0
+HasSolved {Z} group derived old new before after =
+    (AreShut old group × (new ≡ old) × ((v : Vec Solved Z) × (v.items ≡ map (solved_at old.conditions.start derived) group)
+    × (after ≡ before ++ v ∷ [])))
+    ⊎ ((AreShut old group → ⊥) × HasOpenedAll group old new × (after ≡ before))
 
 -- None of these positions is open, and they lead to none but these.
 abbrev pub AreShutIn : System → List ℕ → Type 0
 AreShutIn s positions = (m : ℕ) → Among m positions →
     (is_open_at s.open.items m ≡ false) × ((k : ℕ) → Among k (listed_at s.edges.items m) → Among k positions)
-
--- an instance stands once
-abbrev pub AreApart : List (Instance ℕ) → Type 0
-AreApart insts = (p q : ℕ) (i : Instance ℕ) → slice_get insts p ≡ Some i → slice_get insts q ≡ Some i → p ≡ q
 
 -- these are derived of all conditions of the system
 abbrev pub AreDerived : System → List Bool → Type 0

@@ -57,10 +57,10 @@ AreStanding start count known insts parts ps fs = ⊥
 abbrev pub HasTarget : List (Instance ℕ) → List ℕ → Instance ℕ → Type 0
 HasTarget insts targets i = (q : ℕ) × Among q targets × (slice_get insts q ≡ Some i)
 
--- Formulas of these instances ask for these positions and, where it is open, for an instance that isn't known and has no position.
+-- Formulas of these instances ask for these positions, of instances that aren't known, and, where it is open, for one that isn't known and has none.
 pub record Targets (known : Known ℕ) (insts : List (Instance ℕ)) (targets : List ℕ) (open' : Bool) (asked' : List (Instance ℕ)) : Type 0 where
   pub covered : (i : Instance ℕ) → Among i asked' → IsSome (known i) ⊎ (HasTarget insts targets i ⊎ (open' ≡ true))
-  pub from : (q : ℕ) → Among q targets → (i : Instance ℕ) × Among i asked' × (slice_get insts q ≡ Some i)
+  pub from : (q : ℕ) → Among q targets → (i : Instance ℕ) × Among i asked' × (known i ≡ None) × (slice_get insts q ≡ Some i)
   pub outside : open' ≡ true → (i : Instance ℕ) × Among i asked' × (known i ≡ None) × (¬ (Among i insts))
 
 -- The pieces of the formula under way have these operands, and ask for these positions.
@@ -124,19 +124,25 @@ pub record IsFormed (known : Known ℕ) (ended : List (Instance ℕ × Ended)) (
   pub at : slice_get s.open.items q ≡ Some is_open
   pub targets : Targets known insts (listed_at s.edges.items q) is_open (atoms f)
 
--- The first n of these instances stand in the system, each at its position.
-pub record IsSystemTo (n : ℕ) (known : Known ℕ) (ended : List (Instance ℕ × Ended)) (insts : List (Instance ℕ)) (s : System) : Type 0 where
+-- an instance stands once
+abbrev pub AreApart : List (Instance ℕ) → Type 0
+AreApart insts = (p q : ℕ) (i : Instance ℕ) → slice_get insts p ≡ Some i → slice_get insts q ≡ Some i → p ≡ q
+
+-- The first n of these instances, which start so, stand in the system, each at its position.
+pub record IsSystemTo (n : ℕ) (start : Bool) (known : Known ℕ) (ended : List (Instance ℕ × Ended)) (insts : List (Instance ℕ))
+    (s : System) : Type 0 where
+  pub start' : s.conditions.start ≡ start
+  pub count : s.conditions.count ≡ length insts
   pub heads : length s.heads.items ≡ n
   pub edges : length s.edges.items ≡ n
   pub opens : length s.open.items ≡ n
   pub placed : (q : ℕ) (i : Instance ℕ) → q < n → slice_get insts q ≡ Some i →
       IsUnformed known ended s q i ⊎ ((f : Formula ℕ) × IsFormed known ended insts s q i f)
 
--- all of them do, and start so
+-- all of them do, and each stands once
 pub record IsSystem (start : Bool) (known : Known ℕ) (ended : List (Instance ℕ × Ended)) (insts : List (Instance ℕ)) (s : System) : Type 0 where
-  pub start' : s.conditions.start ≡ start
-  pub count : s.conditions.count ≡ length insts
-  pub all : IsSystemTo (length insts) known ended insts s
+  pub all : IsSystemTo (length insts) start known ended insts s
+  pub apart : AreApart insts
 
 -- one more instance is open
 pub record HasOpened (old new : System) : Type 0 where

@@ -1,12 +1,12 @@
 //! What formulas lead to, over what has ended.
 
-ghost use Rattle.std.specs.Prelude.{◌≡◌, ◌∷◌, [], ◌+◌, ◌≤◌, ℕ, IfNone, IfOk, IfSome, OnOk};
+ghost use Rattle.std.specs.Prelude.{◌≡◌, ◌⊎◌, ◌∷◌, [], ◌+◌, ◌≤◌, ℕ, IfNone, IfOk, IfSome, OnOk};
 ghost use Rattle.std.specs.Map.{keys_of};
 ghost use Rattle.at_model.specs.Run.{Contents, Instance};
-ghost use Rattle.at_model.specs.of_fixpoints.Fixpoints.{EndsSo, Meets};
+ghost use Rattle.at_model.specs.of_fixpoints.Fixpoints.{AreFormed, EndsSo, Meets};
 ghost use Rattle.at_model.specs.of_fixpoints.Formulas.{Forms};
 ghost use Rattle.at_body.specs.Values.{fault_view};
-ghost use Rattle.at_search.specs.LedTo.{HasGathered, IsClosure, IsGathering, LeadsOut};
+ghost use Rattle.at_search.specs.LedTo.{HasGathered, HasLookedOn, IsClosure, IsFaultless, IsGathering, LeadsOut};
 ghost use Rattle.at_search.specs.Recorded.{AreFacts, AreWhole, HasLooked, MetFrom, seen_by, todo_of, work_left};
 
 use crate::ended::{Ended, Fault};
@@ -66,16 +66,18 @@ fn gather<K: Known>(
     Ok(true)
 }
 
-/// The fault that a search from this instance meets first, depth first, where each equation that it comes to has ended. An error
-/// where memory is wanting.
+/// The fault that a search from this instance meets first, depth first. None where there is none to find: formulas lead from it to
+/// formulas alone; or where it comes to an equation that hasn't ended. An error where memory is wanting.
 pub fn first_fault<K: Known>(
     alloc: Global,
     ended: &IndexMap<Inst, Ended>,
     known: &K,
     inst: &Inst,
 ) -> Result<Option<Fault>, AllocError>
-    ensures { (look : Contents ℕ) (forms : Forms ℕ) → AreFacts look forms ended.now.entries → AreWhole look forms (K.value_of known.now)
+    ensures some { (look : Contents ℕ) (forms : Forms ℕ) → AreFacts look forms ended.now.entries → AreWhole look forms (K.value_of known.now)
         → IfOk result (λ o. IfSome o (λ f. Meets (EndsSo look forms) [] (inst.now ∷ []) (fault_view f.kind) f.at)) }
+    ensures none { (look : Contents ℕ) (forms : Forms ℕ) → AreFacts look forms ended.now.entries → AreWhole look forms (K.value_of known.now)
+        → IfOk result (λ o. IfNone o (LeadsOut (K.value_of known.now) ended.now.entries inst.now ⊎ AreFormed (EndsSo look forms) inst.now)) }
 {
     let mut search = Search::from(alloc, inst)?;
     while let Some(next) = search.next() {
@@ -102,6 +104,8 @@ fn look_at<K: Known>(
     ensures met { (look : Contents ℕ) (forms : Forms ℕ) → AreFacts look forms ended.now.entries → AreWhole look forms (K.value_of known.now)
         → (i : Instance ℕ) → MetFrom look forms i (seen_by search.old) (next ∷ todo_of search.old) search.old.fault
         → IfOk result (HasLooked look forms i search.new) }
+    ensures on { (i : Instance ℕ) → IsFaultless (K.value_of known.now) ended.now.entries i (seen_by search.old) (next ∷ todo_of search.old)
+        → IfOk result (HasLookedOn (K.value_of known.now) ended.now.entries i search.new) }
     ensures less { OnOk result (work_left ended.now.entries (seen_by search.new) (todo_of search.new)
         ≤ work_left ended.now.entries (seen_by search.old) (todo_of search.old)) }
 {

@@ -9,13 +9,13 @@
 //!
 //! **Its specs**, in order: `Recorded` says what is recorded of equations and how far a search has come, in the words of `at_model`'s
 //! `Searching`; `LedTo` what formulas lead to; `Systems` what a condition stands for, and when a system is that of instances; `Solved`
-//! which instances are solved, with what they rest on.
+//! which instances are solved, with what they rest on, and what spoils the others.
 //!
 //! **Where to begin:** `Search` in `search.rt`; `closure` and `first_fault` in `closing.rt`; `System` in `system.rt`, and `solve` in
 //! `solving.rt`. How equations ended is in `ended.rt`, the conditions of a formula in `conditions.rt`, laws in `laws.rt`.
 //!
 //! **What it keeps true:** an instance is told a value only where all to which its formula leads is known or solved with it, and that
-//! is the value that the fixpoint gives it.
+//! is the value that the fixpoint gives it. Of what was seen each other one is known, or leads to a fault.
 #![tactic(auto)]
 
 mod closing;

@@ -1,6 +1,6 @@
 //! The system of conditions for instances that are solved together.
 
-ghost use Rattle.std.specs.Prelude.{◌≡◌, ◌++◌, [], ◌+◌, ℕ, Some, IfOk, OnOk, MatchBool, slice_get};
+ghost use Rattle.std.specs.Prelude.{◌≡◌, ◌++◌, [], ◌+◌, ℕ, Bool, Some, IfOk, OnOk, MatchBool, slice_get};
 ghost use Rattle.std.specs.Map.{keys_of};
 ghost use Rattle.at_solve.specs.Components.{listed_at};
 ghost use Rattle.at_search.specs.Solved.{AreClosed, AreShut, HasOpenedAt, HasShut, IsShutAt, is_open_at, value_at};
@@ -78,9 +78,9 @@ impl System {
         seen: &IndexMap<Inst, ()>,
         inst: &Inst,
     ) -> Result<(), AllocError>
-        ensures { (n : ℕ) → IsSystemTo n (K.value_of known.now) ended.now.entries (keys_of seen.now.entries) self.old
+        ensures { (n : ℕ) (start : Bool) → IsSystemTo n start (K.value_of known.now) ended.now.entries (keys_of seen.now.entries) self.old
             → slice_get (keys_of seen.now.entries) n ≡ Some inst.now
-            → OnOk result (IsSystemTo (n + 1) (K.value_of known.now) ended.now.entries (keys_of seen.now.entries) self.new) }
+            → OnOk result (IsSystemTo (n + 1) start (K.value_of known.now) ended.now.entries (keys_of seen.now.entries) self.new) }
     {
         if let Some(_) = known.known(inst) {
             return self.add_open(alloc);

@@ -1,24 +1,25 @@
 use Rattle.std.proofs.Common.{inl, inr, sym, refl}
-use Rattle.at_search.specs.Recorded.{seen_by, todo_of}
+use Rattle.at_search.specs.Recorded.{IsSettled, seen_by, todo_of}
 use Rattle.at_search.proofs.Seeing.{some_is}
-use Rattle.at_search.proofs.Gathering.{passes, sees_to}
+use Rattle.at_search.proofs.Coming.{passes}
+use Rattle.at_search.proofs.Gathering.{sees_to}
 use Rattle.at_search.proofs.Working.{less_to}
 use Rattle.at_search.proofs.closing.gather.Goals as goal
 
 pub returns-then-has_seen-clause-gathered : goal.returns-then-has_seen-clause-gathered
 returns-then-has_seen-clause-gathered g c = λ i x.
-    passes (g.K.Known.value_of c.args.known.now) c.args.ended.now.entries i (seen_by c.args.search.now) (todo_of c.args.search.now) c.args.next x
-    (inl c.if-has_seen.ensures)
+    passes (IsSettled (g.K.Known.value_of c.args.known.now) c.args.ended.now.entries) (λ e. Unit {0}) c.args.ended.now.entries i (seen_by c.args.search.now)
+    (todo_of c.args.search.now) c.args.next x (inl c.if-has_seen.ensures)
 
 pub returns-in-Some-clause-gathered : goal.returns-in-Some-clause-gathered
 returns-in-Some-clause-gathered g c = λ i x.
-    passes (g.K.Known.value_of c.args.known.now) c.args.ended.now.entries i (seen_by c.args.search.now) (todo_of c.args.search.now) c.args.next x
-    (inr (inl (some_is (g.K.Known.value_of c.args.known.now c.args.next) _ c.in-Some.ensures)))
+    passes (IsSettled (g.K.Known.value_of c.args.known.now) c.args.ended.now.entries) (λ e. Unit {0}) c.args.ended.now.entries i (seen_by c.args.search.now)
+    (todo_of c.args.search.now) c.args.next x (inr (inl (some_is (g.K.Known.value_of c.args.known.now c.args.next) _ c.in-Some.ensures)))
 
 pub returns-then-found-clause-gathered : goal.returns-then-found-clause-gathered
 returns-then-found-clause-gathered g c = λ i x.
-    passes (g.K.Known.value_of c.args.known.now) c.args.ended.now.entries i (seen_by c.args.search.now) (todo_of c.args.search.now) c.args.next x
-    (inr (inr (c.in-Some-get.found.now, sym c.in-Some-get.ensures.value, c.if-found.true)))
+    passes (IsSettled (g.K.Known.value_of c.args.known.now) c.args.ended.now.entries) (λ e. Unit {0}) c.args.ended.now.entries i (seen_by c.args.search.now)
+    (todo_of c.args.search.now) c.args.next x (inr (inr (c.in-Some-get.found.now, sym c.in-Some-get.ensures.value, c.if-found.true)))
 
 pub returns-clause-gathered : goal.returns-clause-gathered
 returns-clause-gathered g c = λ i x.
