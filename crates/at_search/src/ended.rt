@@ -34,6 +34,15 @@ impl Fault {
             at: self.at.copy(alloc)?,
         })
     }
+
+    /// Its kind, and the instance whose own equation has it.
+    pub fn into_parts(self) -> (FaultKind, Inst)
+        ensures kind { result.0 ≡ self.kind }
+        ensures at { result.1 ≡ self.at }
+    {
+        let Fault { kind, at } = self;
+        (kind, at)
+    }
 }
 
 /// What the equation of a circular attribute came to, the locations that were looked at for it, and the instances whose values that
