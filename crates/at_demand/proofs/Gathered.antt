@@ -7,8 +7,10 @@ use Rattle.std.proofs.lemmas.Option.{none-some, same_Some}
 use Rattle.indexmap.specs.IndexSet.{insert_key}
 use Rattle.at_model.specs.Run.{Value, Instance, Location, Contents}
 use Rattle.at_model.specs.Rules.{Rules}
-use Rattle.at_model.specs.Meaning.{HasValue, Among, Comes}
-use Rattle.at_model.specs.Support.{Sees, Supports}
+use Rattle.at_model.specs.Meaning.{Among}
+use Rattle.at_model.specs.Support.{Sees}
+use Rattle.at_model.specs.of_fixpoints.Fixpoints.{HasValue}
+use Rattle.at_model.specs.of_fixpoints.Resting.{Comes, Leads, Supports}
 use Rattle.at_model.proofs.Listed.{among_left, among_map, among_right}
 use Rattle.at_model.proofs.Options.{or_right}
 use Rattle.at_store.specs.Located.{loc_view}
@@ -19,7 +21,8 @@ use Rattle.at_cache.proofs.Locations.{same_location-itself}
 use Rattle.at_demand.specs.declared.evaluation.Find.{Find}
 use Rattle.at_demand.specs.declared.gathering.Sources.{Sources}
 use Rattle.at_demand.specs.Known.{meaning}
-use Rattle.at_demand.specs.Covering.{IsWhole, AreWhole, AreCovered, Extends, IsAdded, IsGathered, Visits, Adds, AddsAt, AreGathered}
+use Rattle.at_demand.specs.Covering.{IsWhole, alone, by_first, in_group, AreWhole, AreWholeIn, AreCovered, Extends, IsAdded, IsGathered, Visits, Adds, AddsAt, AreGathered}
+use Rattle.at_demand.proofs.Leading.{leads_next}
 use Rattle.at_demand.proofs.Sameness.{same_true}
 use Rattle.at_demand.proofs.Supported.{supported}
 pub use Rattle.at_demand.proofs.Extending.{among_more, extends_self, extends_on, get_more, get_back, among_at, any_among, map_among}
@@ -165,20 +168,34 @@ module _ (rules : Rules) (look : Contents ℕ) (entries : Entries) (found : List
   abbrev pub reads : List (Location ℕ)
   reads = map loc_view s.reads.items
 
-  abbrev Within : Instance ℕ → Type 0
-  Within i = (g : Find) × IsWhole rules look found i g × IsAdded s gathered.positions g
+  -- all that it rests on stands with a find that was gathered, or an instance that the sources use leads to it
+  abbrev InFind : Instance ℕ → Type 0
+  InFind i = (g : Find) × (these : List (Instance ℕ)) × Among i these × AreWholeIn rules look found these g × IsAdded s gathered.positions g
 
-  next : (i j : Instance ℕ) → Within i → Comes look (meaning rules) i j → Among j s.kept.items ⊎ Within j
-  next i j (g, w, a) c = elim (w.demands j c) [
-    | inl k ↦ inl (a.kept j k)
-    | inr (p, h, at, is) ↦ elim (gathered.others p j h (a.finds p at) is) [ inl added ↦ inr (h, whole p j h is, added) | inr used ↦ inl used ]
+  abbrev BelowUsed : Instance ℕ → Type 0
+  BelowUsed i = (j : Instance ℕ) × Among j s.kept.items × Leads look (meaning rules) j i
+
+  abbrev Within : Instance ℕ → Type 0
+  Within i = InFind i ⊎ BelowUsed i
+
+  within : (i : Instance ℕ) (g : Find) → IsWhole rules look found i g → IsAdded s gathered.positions g → Within i
+  within i g (alone w) added = inl (g, i ∷ [], inl refl, w, added)
+  within i g (in_group these c a w) added = inl (g, these, a, w, added)
+  within i g (by_first j c (inl k) l) added = inr (j, added.kept j k, l)
+  within i g (by_first j c (inr (p, h, at, is, these, a, w)) l) added = elim (gathered.others p j h (added.finds p at) is) [
+    | inl more ↦ inl (h, these, a, w, more)
+    | inr used ↦ inr (j, used, l)
   ]
 
-  seen : (i : Instance ℕ) (l : Location ℕ) → Within i → Sees look (HasValue look (meaning rules)) (meaning rules i) l → covered entries reads s.kept.items l ≡ true
-  seen i l (g, w, a) h =
-      let (x, among, is) = map_among loc_view l g.reads.items (w.reads l h) in
-      let there : Among l reads = subst (λ m. Among m reads) is (among_map loc_view x s.reads.items (a.reads x among)) in
-      or_left _ _ (any_among (same_location l) l reads there (same_location-itself l))
+  next : (i j : Instance ℕ) → Within i → Comes look (meaning rules) i j → Among j s.kept.items ⊎ Within j
+  next i j (inl (g, these, a, w, added)) c = elim (w.demands i j a c) [
+    | inl b ↦ inr (inl (g, these, b, w, added))
+    | inr d ↦ elim d [
+      | inl k ↦ inl (added.kept j k)
+      | inr (p, h, at, is) ↦ elim (gathered.others p j h (added.finds p at) is) [ inl more ↦ inr (within j h (whole p j h is) more) | inr used ↦ inl used ]
+    ]
+  ]
+  next i j (inr (m, used, l)) c = inr (inr (m, used, leads_next look (meaning rules) m i j l c))
 
   below : (i : Instance ℕ) (l : Location ℕ) → Among i s.kept.items → Supports look (meaning rules) l i → covered entries reads s.kept.items l ≡ true
   below i l among h =
@@ -189,9 +206,16 @@ module _ (rules : Rules) (look : Contents ℕ) (entries : Entries) (found : List
       by None e some = absurd (true≢false (sym some))
       by (Some k) e some = covers i k e l h
 
+  seen : (i : Instance ℕ) (l : Location ℕ) → Within i → Sees look (HasValue look (meaning rules)) ((meaning rules).formula i) l → covered entries reads s.kept.items l ≡ true
+  seen i l (inl (g, these, a, w, added)) h =
+      let (x, among, is) = map_among loc_view l g.reads.items (w.reads i l a h) in
+      let there : Among l reads = subst (λ m. Among m reads) is (among_map loc_view x s.reads.items (added.reads x among)) in
+      or_left _ _ (any_among (same_location l) l reads there (same_location-itself l))
+  seen i l (inr (j, used, led)) h = below j l used (i, led, h)
+
   -- the sources cover all that supports the instance
   pub all_covered : (i : Instance ℕ) (l : Location ℕ) → IsWhole rules look found i f → Supports look (meaning rules) l i → covered entries reads s.kept.items l ≡ true
-  all_covered i l w h = supported look (meaning rules) Within (λ u. Among u s.kept.items) (λ m. covered entries reads s.kept.items m ≡ true) next seen below i l (f, w, gathered.first) h
+  all_covered i l w h = supported look (meaning rules) Within (λ u. Among u s.kept.items) (λ m. covered entries reads s.kept.items m ≡ true) next seen below i l (within i f w gathered.first) h
 
   -- and so what is put
   pub put_covers : (exact : Bool) (new : Entries) (i : Instance ℕ) (v : Option (Value ℕ)) → IsWhole rules look found i f → Puts exact entries i v reads s.kept.items new → AreCovered rules look new

@@ -20,7 +20,7 @@ use Rattle.at_demand.specs.declared.evaluation.Demanded.{Demanded}
 use Rattle.at_demand.specs.declared.evaluation.Find.{Find}
 use Rattle.at_demand.specs.declared.evaluation.Frame.{Frame}
 use Rattle.at_demand.specs.Known.{equations, meaning}
-use Rattle.at_demand.specs.Covering.{AreWhole, AreWholeIn, Extends, HasPassed, HasPassedTo, IsDemanded, IsTold, IsWhole, alone, by_first, in_group}
+use Rattle.at_demand.specs.Covering.{AreWhole, AreWholeIn, Extends, HasPassed, HasPassedTo, IsDemanded, IsFirst, IsTold, IsWhole, alone, by_first, in_group}
 use Rattle.at_demand.proofs.Coming.{begins, goes_on}
 use Rattle.at_demand.proofs.Seeing.{sees_read, comes_told}
 use Rattle.at_demand.proofs.Extending.{get_more}
@@ -103,10 +103,14 @@ module _ (rules : Rules) (look : Contents ℕ) where
     demands = λ k j b c. elim (w.demands k j b c) [ inl m ↦ inl m | inr x ↦ inr (demanded_more found more d.demanded j grows x) ];
   }
 
+  first_more : (found more : List (Instance ℕ × Find)) (d : Demanded) (i j : Instance ℕ) → Extends found more → IsFirst rules look found d i j → IsFirst rules look more d i j
+  first_more found more d i j grows (inl k) = inl k
+  first_more found more d i j grows (inr (p, g, at, is, these, a, w)) = inr (p, g, at, get_more found more p (j, g) grows is, these, a, whole_in_more found more these g grows w)
+
   whole_more : (found more : List (Instance ℕ × Find)) (i : Instance ℕ) (d : Find) → Extends found more → IsWhole rules look found i d → IsWhole rules look more i d
   whole_more found more i d grows (alone w) = alone (whole_in_more found more (i ∷ []) d grows w)
   whole_more found more i d grows (in_group these c a w) = in_group these c a (whole_in_more found more these d grows w)
-  whole_more found more i d grows (by_first j c x l) = by_first j c (demanded_more found more d.demanded j grows x) l
+  whole_more found more i d grows (by_first j c x l) = by_first j c (first_more found more d.demanded i j grows x) l
 
   pub whole_push : (found : List (Instance ℕ × Find)) (i : Instance ℕ) (d : Find) → AreWhole rules look found → IsWhole rules look found i d → AreWhole rules look (found ++ (i, d) ∷ [])
   whole_push found i d all one p j g is = elim (get_push found (i, d) p (j, g) is) [

@@ -49,13 +49,22 @@ pub record AreWholeIn (rules : Rules) (look : Contents ℕ) (found : List (Insta
       → Among l (map loc_view f.reads.items)
   pub demands : (i j : Instance ℕ) → Among i these → Comes look (meaning rules) i j → Among j these ⊎ IsDemanded found f.demanded j
 
+-- all that i rests on stands with the find, as of one of these
+abbrev pub IsWholeIn : Rules → Contents ℕ → List (Instance ℕ × Find) → Instance ℕ → Find → Type 0
+IsWholeIn rules look found i f = (these : List (Instance ℕ)) × Among i these × AreWholeIn rules look found these f
+
+-- j was taken of what is kept; or of what was found, and with its find all that i rests on stands, too
+abbrev pub IsFirst : Rules → Contents ℕ → List (Instance ℕ × Find) → Demanded → (i j : Instance ℕ) → Type 0
+IsFirst rules look found d i j = Among j d.kept.items
+    ⊎ ((p : ℕ) × (g : Find) × Among p d.finds.items × (slice_get found p ≡ Some (j, g)) × IsWholeIn rules look found i g)
+
 -- All that i rests on stands with the find: it is that of i alone; or, where its attribute is circular, that of a group that i is in, or one that
--- demanded another one that leads to i.
+-- took the first of that group, which leads to i.
 pub data IsWhole (rules : Rules) (look : Contents ℕ) (found : List (Instance ℕ × Find)) (i : Instance ℕ) (f : Find) : Type 0 where
   alone : AreWholeIn rules look found (i ∷ []) f → IsWhole rules look found i f
   in_group : (these : List (Instance ℕ)) → IsSome (start_of rules i.attribute) → Among i these → AreWholeIn rules look found these f
       → IsWhole rules look found i f
-  by_first : (j : Instance ℕ) → IsSome (start_of rules i.attribute) → IsDemanded found f.demanded j → Leads look (meaning rules) j i
+  by_first : (j : Instance ℕ) → IsSome (start_of rules i.attribute) → IsFirst rules look found f.demanded i j → Leads look (meaning rules) j i
       → IsWhole rules look found i f
 
 -- so it is of all that was found

@@ -32,7 +32,7 @@ use Rattle.at_demand.specs.Known.{ArePlain, FoundKept, IsFound, IsKept, KeepsEnt
 use Rattle.at_demand.specs.Levels.{AreFactsOf, IsUsed, known_to}
 use Rattle.at_demand.specs.Meant.{AreRightValues}
 use Rattle.at_demand.specs.Only.{AreLean, IsLean}
-use Rattle.at_demand.specs.Right.{AreRight, IsThere}
+use Rattle.at_demand.specs.Right.{AreRight, AreThere, IsThere}
 use Rattle.at_demand.specs.Sparing.{AreOnly, AreSettled, AreSpare, Counts, MayGain}
 
 -- the value from which the first of these starts, where it is circular
@@ -64,7 +64,7 @@ pub record Tells (rules : Rules) (s : Shown) (exact : Bool) (before after : Entr
   pub facts : AreFactsOf rules (contents s) before old → AreFactsOf rules (contents s) after new
   pub whole : AreWhole rules (contents s) old.found.entries → AreWhole rules (contents s) new.found.entries
   pub took : FoundKept after new.found.entries
-  pub right : ((i : Instance ℕ) → Among i these → IsThere s i) → AreRight rules s before → AreRight rules s after
+  pub right : AreThere rules s old.found.entries → ((i : Instance ℕ) → Among i these → IsThere s i) → AreRight rules s before → AreRight rules s after
   pub plain : ArePlain rules after
   pub lean : IsTrue exact → AreLean rules (contents s) old.found.entries → AreLean rules (contents s) new.found.entries
   pub settled : IsTrue exact → AreSettled rules before old.found.entries → AreSettled rules after new.found.entries
@@ -106,12 +106,12 @@ pub record CanKeepGroup (rules : Rules) (s : Shown) (entries : Entries) (q : Que
       → IsSome (known_to entries q j) ⊎ ((c : Bool) × IsMember insts group j c)
   pub together : (i j : Instance ℕ) (b c : Bool) → IsMember insts group i b → IsMember insts group j c → LeadsOver (Recorded q.ended.entries) i j
 
--- so it is, and each member is known with its value
+-- so it is, and each member is known
 pub record HasKeptGroup {E : Type 0} (rules : Rules) (s : Shown) (exact : Bool) (before after : Entries) (former latter : Memories) (earlier later : ℕ)
     (old new : Question) (insts : List (Instance ℕ)) (group : List Solved) (r : Result Unit E) : Type 0 where
   pub tells : Tells rules s exact before after former latter earlier later old new insts
   pub same : new.ended.entries ≡ old.ended.entries
-  pub told : OnOk r ((i : Instance ℕ) (b : Bool) → IsMember insts group i b → known_to after new i ≡ Some (Truth b))
+  pub told : OnOk r ((i : Instance ℕ) (b : Bool) → IsMember insts group i b → IsSome (known_to after new i))
   pub only : (i : Instance ℕ) → IsSome (known_to after new i) → IsSome (known_to before old i) ⊎ ((b : Bool) × IsMember insts group i b)
 
 -- the demanded ones may have the instance beside what they had, where it is known
@@ -132,7 +132,7 @@ AddsAtoms entries q ps old new = AddsAll entries q (asked ps) old new
 -- The find has what the equation read and took beside what it had, and those of the formula's instances that are known.
 pub record AddsUses (entries : Entries) (q : Question) (f : Formed) (old new : Find) : Type 0 where
   pub value : new.value ≡ old.value
-  pub reads : map loc_view new.reads.items ≡ map loc_view old.reads.items ++ map loc_view f.reads.items
+  pub reads : new.reads.items ≡ old.reads.items ++ f.reads.items
   pub mid : Demanded
   pub kept : mid.kept.items ≡ old.demanded.kept.items ++ f.kept.items
   pub finds : mid.finds.items ≡ old.demanded.finds.items ++ f.finds.items
@@ -143,10 +143,15 @@ abbrev pub IsFormedAt : List (Instance ℕ × Ended) → List (Instance ℕ) →
 IsFormedAt ended insts p None = (i : Instance ℕ) (f : Formed) → slice_get insts p ≡ Some i → IsRecordedForm ended i f → ⊥
 IsFormedAt ended insts p (Some f) = (i : Instance ℕ) × (slice_get insts p ≡ Some i) × IsRecordedForm ended i f.now
 
--- the equation of a member used it, or its formula asks for it
-abbrev pub IsUsedBy : Question → List (Instance ℕ) → List Solved → Instance ℕ → Type 0
-IsUsedBy q insts group j = (i : Instance ℕ) × (b : Bool) × (d : Formed) × IsMember insts group i b × IsRecordedForm q.ended.entries i d
-    × (IsUsed q.found.entries d j ⊎ Among j (atoms d.formula))
+-- what the equation of the member read and used came to the find, where it gave a formula
+abbrev pub AddsMember : Entries → Question → List (Instance ℕ) → Solved → (old new : Find) → Type 0
+AddsMember entries q insts m old new =
+    ((i : Instance ℕ) × (f : Formed) × (slice_get insts m.position ≡ Some i) × IsRecordedForm q.ended.entries i f × AddsUses entries q f old new)
+    ⊎ (((i : Instance ℕ) (f : Formed) → slice_get insts m.position ≡ Some i → IsRecordedForm q.ended.entries i f → ⊥) × (new ≡ old))
+
+-- so the equation of a member is recorded to have ended
+abbrev pub HasMember : Question → List (Instance ℕ) → List Solved → (Formed → Type 0) → Type 0
+HasMember q insts group Is = (i : Instance ℕ) × (b : Bool) × (d : Formed) × IsMember insts group i b × IsRecordedForm q.ended.entries i d × Is d
 
 -- all that the equations of the members read and took stands with the find, and those known ones for which their formulas ask
 pub record RestsOn (entries : Entries) (q : Question) (insts : List (Instance ℕ)) (group : List Solved) (f : Find) : Type 0 where
@@ -157,11 +162,11 @@ pub record RestsOn (entries : Entries) (q : Question) (insts : List (Instance �
 
 -- and nothing else
 pub record IsOnlyOf (entries : Entries) (q : Question) (insts : List (Instance ℕ)) (group : List Solved) (f : Find) : Type 0 where
-  pub reads : (l : Loc) → Among l f.reads.items → (i : Instance ℕ) × (b : Bool) × (d : Formed) × IsMember insts group i b
-      × IsRecordedForm q.ended.entries i d × Among l d.reads.items
-  pub kept : (j : Instance ℕ) → Among j f.demanded.kept.items → IsKept entries j × IsUsedBy q insts group j
-  pub finds : (p : ℕ) → Among p f.demanded.finds.items → (j : Instance ℕ) × (g : Find) × (slice_get q.found.entries p ≡ Some (j, g))
-      × IsUsedBy q insts group j
+  pub reads : (l : Loc) → Among l f.reads.items → HasMember q insts group (λ d. Among l d.reads.items)
+  pub kept : (j : Instance ℕ) → Among j f.demanded.kept.items
+      → HasMember q insts group (λ d. Among j d.kept.items ⊎ (IsKept entries j × Among j (atoms d.formula)))
+  pub finds : (p : ℕ) → Among p f.demanded.finds.items → HasMember q insts group (λ d. Among p d.finds.items
+      ⊎ ((j : Instance ℕ) × (g : Find) × (slice_get q.found.entries p ≡ Some (j, g)) × Among j (atoms d.formula)))
 
 -- The find of a group: its first member's value, with all that the equations of the members read and took, and those known ones for which
 -- their formulas ask; and nothing else.
@@ -217,16 +222,31 @@ IsFirstAt entries q i None = IsKept entries i
 IsFirstAt entries q i (Some p) = (f : Find) × (slice_get q.found.entries p ≡ Some (i, f))
 
 -- another member can be, where the first one is known: it is kept, or stands at that place
-pub record CanBeOther (rules : Rules) (entries : Entries) (q : Question) (insts : List (Instance ℕ)) (first : Instance ℕ) (place : Option ℕ)
-    (m : Solved) : Type 0 where
+pub record CanBeOther (rules : Rules) (entries : Entries) (q : Question) (first : Instance ℕ) (place : Option ℕ) : Type 0 where
   pub finds : FoundKept entries q.found.entries
   pub known : IsFirstAt entries q first place
-  pub unknown : (i : Instance ℕ) → slice_get insts m.position ≡ Some i → known_to entries q i ≡ None
   pub plain : ArePlain rules entries
 
--- so it is, by the use of the first one
+-- nothing has changed
+pub record StaysAsIs (before after : Entries) (former latter : Memories) (earlier later : ℕ) (old new : Question) : Type 0 where
+  pub entries : after ≡ before
+  pub memories : latter ≡ former
+  pub work : later ≡ earlier
+  pub question : new ≡ old
+
+-- a member is kept, or found, by the use of the first one
+pub record KeepsOther (rules : Rules) (exact : Bool) (before after : Entries) (former latter : Memories) (earlier later : ℕ) (old new : Question)
+    (insts : List (Instance ℕ)) (first : Instance ℕ) (place : Option ℕ) (m : Solved) : Type 0 where
+  pub inst : Instance ℕ
+  pub find : Find
+  pub at : slice_get insts m.position ≡ Some inst
+  pub unknown : known_to before old inst ≡ None
+  pub is : IsOtherFind first place m.value find
+  pub kept : IsKeptOrFound rules exact before after former latter earlier later old new inst find
+
+-- so it is, or nothing has changed; it is known then
 pub record HasKeptOther {E : Type 0} (rules : Rules) (exact : Bool) (before after : Entries) (former latter : Memories) (earlier later : ℕ)
     (old new : Question) (insts : List (Instance ℕ)) (first : Instance ℕ) (place : Option ℕ) (m : Solved) (r : Result Unit E) : Type 0 where
-  pub kept : (i : Instance ℕ) → slice_get insts m.position ≡ Some i → (f : Find) × IsOtherFind first place m.value f
-      × IsKeptOrFound rules exact before after former latter earlier later old new i f
-  pub told : OnOk r ((i : Instance ℕ) → slice_get insts m.position ≡ Some i → known_to after new i ≡ Some (Truth m.value))
+  pub kept : StaysAsIs before after former latter earlier later old new
+      ⊎ KeepsOther rules exact before after former latter earlier later old new insts first place m
+  pub told : OnOk r ((i : Instance ℕ) → slice_get insts m.position ≡ Some i → IsSome (known_to after new i))

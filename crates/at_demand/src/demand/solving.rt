@@ -1,8 +1,10 @@
 //! What is kept and found of instances that are solved together.
 
-ghost use Rattle.std.specs.Prelude.{◌≡◌, OnOk};
+ghost use Rattle.std.specs.Prelude.{◌≡◌, ◌∷◌, [], IfOk, OnErr, OnOk};
+ghost use Rattle.indexmap.specs.IndexMap.{insert_entry};
+ghost use Rattle.at_body.specs.Same.{same_instance};
 ghost use Rattle.std.specs.Map.{keys_of};
-ghost use Rattle.at_demand.specs.Groups.{AddsAtoms, AddsUse, AddsUses, CanBeFirst, CanBeOther, CanKeepGroup, CanSolve, IsFindOf, IsFormedAt, IsOtherFind};
+ghost use Rattle.at_demand.specs.Groups.{AddsAtoms, AddsMember, AddsUse, AddsUses, CanBeFirst, CanBeOther, CanKeepGroup, CanSolve, IsFindOf, IsFormedAt, IsOtherFind, UsesFirst};
 ghost use Rattle.at_demand.specs.Groups.{HasKeptFirst, HasKeptGroup, HasKeptOther, HasMarkedSolved, HasSolved, start_in};
 
 use super::Demand;
@@ -12,7 +14,7 @@ use crate::question::Question;
 use at_body::{Inst, Piece, Value};
 use at_cache::{Keeper, Put};
 use at_rules::Rules;
-use at_search::{Formed, Solved, formed_of, put, solve};
+use at_search::{Formed, Solved, formed_of, solve};
 use at_store::Store;
 use indexmap::IndexMap;
 use std::alloc::AllocError;
@@ -99,7 +101,7 @@ impl<K: Keeper> Demand<K> {
         group: &[Solved],
         value: bool,
     ) -> Result<Find, AllocError>
-        ensures { OnOk result (IsFindOf (K.contents self.now.keeper) question.now insts.now group.now value) }
+        ensures { IfOk result (IsFindOf (K.contents self.now.keeper) question.now insts.now group.now value) }
     {
         let mut find = Find {
             value: Value::Bool(value),
@@ -107,21 +109,35 @@ impl<K: Keeper> Demand<K> {
             demanded: Demanded::new(self.alloc),
         };
         for member in group {
-            if let Some(formed) = formed_at(question, insts, member.position) {
-                self.add(question, formed, &mut find)?;
-            }
+            self.add_member(question, insts, *member, &mut find)?;
         }
         Ok(find)
+    }
+
+    // Adds what the equation of the member read and used, where it gave a formula.
+    fn add_member(
+        &self,
+        question: &Question,
+        insts: &[Inst],
+        member: Solved,
+        find: &mut Find,
+    ) -> Result<(), AllocError>
+        ensures { OnOk result (AddsMember (K.contents self.now.keeper) question.now insts.now member find.old find.new) }
+    {
+        match formed_at(question, insts, member.position) {
+            Some(formed) => self.add(question, formed, find),
+            None => Ok(()),
+        }
     }
 
     // Adds what the equation read, and what it used: those in its formula that are known, too.
     fn add(&self, question: &Question, formed: &Formed, find: &mut Find) -> Result<(), AllocError>
         ensures { OnOk result (AddsUses (K.contents self.now.keeper) question.now formed.now find.old find.new) }
     {
-        for loc in &formed.reads {
-            find.reads.push(*loc)?;
-        }
-        find.demanded.add(self.alloc, &formed.kept, &formed.finds)?;
+        find.reads.extend_from_slice(formed.reads.as_slice())?;
+        let kept = formed.kept.as_slice();
+        let finds = formed.finds.as_slice();
+        find.demanded.add(self.alloc, kept, finds)?;
         self.add_atoms(question, formed.formula.pieces(), &mut find.demanded)
     }
 
@@ -135,11 +151,26 @@ impl<K: Keeper> Demand<K> {
         ensures { OnOk result (AddsAtoms (K.contents self.now.keeper) question.now pieces.now demanded.old demanded.new) }
     {
         for piece in pieces {
-            if let Piece::Asks(inst) = piece {
-                self.add_use(question, inst, demanded)?;
-            }
+            self.add_piece(question, piece, demanded)?;
         }
         Ok(())
+    }
+
+    // Adds the instance for which the piece asks, where that is known.
+    fn add_piece(
+        &self,
+        question: &Question,
+        piece: &Piece,
+        demanded: &mut Demanded,
+    ) -> Result<(), AllocError>
+        ensures { OnOk result (AddsAtoms (K.contents self.now.keeper) question.now (piece.now ∷ []) demanded.old demanded.new) }
+    {
+        match piece {
+            Piece::Known(_) => Ok(()),
+            Piece::Asks(inst) => self.add_use(question, inst, demanded),
+            Piece::Both => Ok(()),
+            Piece::Either => Ok(()),
+        }
     }
 
     // Adds the use of an instance, where it is known.
@@ -151,17 +182,21 @@ impl<K: Keeper> Demand<K> {
     ) -> Result<(), AllocError>
         ensures { OnOk result (AddsUse (K.contents self.now.keeper) question.now inst.now demanded.old demanded.new) }
     {
-        if self.keeper.get(inst).is_some() {
-            demanded.kept.push(inst.copy(self.alloc)?)?;
+        if let Some(_value) = self.keeper.get(inst) {
+            let used = inst.copy(self.alloc)?;
+            demanded.kept.push(used)?;
             return Ok(());
         }
-        if let Some((position, _inst, _find)) = question.found.get_full(inst) {
-            demanded.finds.push(position)?;
+        match question.found.get_full(inst) {
+            Some((position, _inst, _find)) => {
+                demanded.finds.push(position)?;
+                Ok(())
+            }
+            None => Ok(()),
         }
-        Ok(())
     }
 
-    // The first member of a group is kept, or found: its position among the finds.
+    // The value of the find is kept, or the find comes to those that were found: its position there.
     fn keep_first(
         &mut self,
         rules: &Rules,
@@ -173,11 +208,12 @@ impl<K: Keeper> Demand<K> {
         ensures { HasKeptFirst rules.now K.exact (K.contents self.old.keeper) (K.contents self.new.keeper) (K.memories self.old.keeper)
             (K.memories self.new.keeper) self.old.work self.new.work question.old question.new inst.now find result }
     {
-        match self.keep(rules, &question.found, inst, &find)? {
+        let put = self.keep(rules, &question.found, inst, &find)?;
+        match put {
             Put::Kept => Ok(None),
             Put::Left => {
                 let place = question.found.len();
-                put(&mut question.found, inst.copy(self.alloc)?, find)?;
+                put_find(&mut question.found, inst.copy(self.alloc)?, find)?;
                 Ok(Some(place))
             }
         }
@@ -193,18 +229,19 @@ impl<K: Keeper> Demand<K> {
         place: Option<usize>,
         member: Solved,
     ) -> Result<(), AllocError>
-        requires { CanBeOther rules.now (K.contents self.old.keeper) question.old insts.now first.now place member }
+        requires { CanBeOther rules.now (K.contents self.old.keeper) question.old first.now place }
         ensures { HasKeptOther rules.now K.exact (K.contents self.old.keeper) (K.contents self.new.keeper) (K.memories self.old.keeper)
             (K.memories self.new.keeper) self.old.work self.new.work question.old question.new insts.now first.now place member result }
     {
         let Some(inst) = insts.get(member.position) else {
             return Ok(());
         };
-        let find = self.other_find(first, place, member.value)?;
-        if self.keep(rules, &question.found, inst, &find)? == Put::Kept {
+        if self.is_known(question, inst) {
             return Ok(());
         }
-        put(&mut question.found, inst.copy(self.alloc)?, find)
+        let find = self.other_find(first, place, member.value)?;
+        let _place = self.keep_first(rules, question, inst, find)?;
+        Ok(())
     }
 
     // What another member is found to be: its value, with the use of the first one.
@@ -214,18 +251,32 @@ impl<K: Keeper> Demand<K> {
         place: Option<usize>,
         value: bool,
     ) -> Result<Find, AllocError>
-        ensures { OnOk result (IsOtherFind first.now place value) }
+        ensures { IfOk result (IsOtherFind first.now place value) }
     {
-        let mut demanded = Demanded::new(self.alloc);
-        match place {
-            None => demanded.kept.push(first.copy(self.alloc)?)?,
-            Some(position) => demanded.finds.push(position)?,
-        }
+        let demanded = self.use_of(first, place)?;
         Ok(Find {
             value: Value::Bool(value),
             reads: Locations::new(self.alloc),
             demanded,
         })
+    }
+
+    // The use of the first one alone.
+    fn use_of(&self, first: &Inst, place: Option<usize>) -> Result<Demanded, AllocError>
+        ensures { IfOk result (UsesFirst first.now place) }
+    {
+        let mut demanded = Demanded::new(self.alloc);
+        match place {
+            None => {
+                let used = first.copy(self.alloc)?;
+                demanded.kept.push(used)?;
+                Ok(demanded)
+            }
+            Some(position) => {
+                demanded.finds.push(position)?;
+                Ok(demanded)
+            }
+        }
     }
 }
 
@@ -243,4 +294,13 @@ fn formed_at<'q>(question: &'q Question, insts: &[Inst], position: usize) -> Opt
 {
     let inst = insts.get(position)?;
     formed_of(&question.ended, inst)
+}
+
+// The find comes to what was found, or memory is wanting.
+fn put_find(found: &mut IndexMap<Inst, Find>, inst: Inst, find: Find) -> Result<(), AllocError>
+    ensures ok { OnOk result (found.new.entries ≡ insert_entry same_instance found.old.entries inst find) }
+    ensures err { OnErr result (found.new.entries ≡ found.old.entries) }
+{
+    found.insert(inst, find)?;
+    Ok(())
 }

@@ -1,4 +1,5 @@
-use Rattle.std.proofs.Common.{◌≡◌, ℕ, List, true, drop, take, length, Option, refl, sym, ap, ◌+◌, ◌∙◌, subst, arith, ◌++◌, Ok, IfOk, map, rules}
+use Rattle.std.proofs.Common.{◌≡◌, ℕ, List, true, drop, take, length, Option, Result, refl, sym, ap, ◌+◌, ◌∙◌, subst, arith, ◌++◌, Ok, Err, IfOk, map, rules}
+use Rattle.std.specs.Prelude.{IsErrAnd}
 use Rattle.std.proofs.lemmas.Result.{IfOk-weaker}
 use Rattle.at_model.specs.Run.{Instance, Location, Gives, Truth}
 use Rattle.at_store.specs.Shown.{contents}
@@ -22,6 +23,11 @@ use Rattle.at_demand.proofs.of_parts.ByForm.{call_come, call_gains, call_gains_f
 use Rattle.at_demand.proofs.of_parts.Looping.{bound_at, each_all, each_ends, each_gains, each_on, gains_so_far, passed_all, passed_gains, passed_on, starts, unbound_at}
 use Rattle.at_demand.proofs.direct.Direct.+direct.Goals as goal
 use Rattle.at_body.specs.declared.value.Value.TheVariants as value
+
+-- an exit with an error has no value
+no_ok : {T E : Type 0} {Q : E → Type 0} (r : Result T E) (P : T → Type 0) → IsErrAnd r Q → IfOk r P
+no_ok (Ok x) P h = absurd h
+no_ok (Err e) P h = tt
 
 pub told-recall-requires : goal.told-recall-requires
 told-recall-requires g n c = c.requires.known
@@ -561,7 +567,7 @@ passed-loop-argument-init g n c =
 
 pub passed-returns-in_err-value : goal.passed-returns-in_err-value
 passed-returns-in_err-value g n c = record {
-  come = search rules;
+  come = no_ok c.from_residual.result _ c.from_residual.ensures.1;
   gains =
       passed_gains c.args.basis.now.rules.now c.args.basis.now.store.now g.K.Keeper.exact (place_at c.args.here.now)
       (ev_all c.args.basis.now.rules.now.classes (bodies_view c.args.passed.now) (place_at c.args.here.now)) _ _ _ _ _
