@@ -21,7 +21,7 @@ use Rattle.at_cache.proofs.Locations.{same_location-itself}
 use Rattle.at_demand.specs.declared.evaluation.Find.{Find}
 use Rattle.at_demand.specs.declared.gathering.Sources.{Sources}
 use Rattle.at_demand.specs.Known.{meaning}
-use Rattle.at_demand.specs.Covering.{IsWhole, alone, by_first, in_group, AreWhole, AreWholeIn, AreCovered, Extends, IsAdded, IsGathered, Visits, Adds, AddsAt, AreGathered}
+use Rattle.at_demand.specs.Covering.{IsWhole, alone, by_first, in_group, AreWhole, AreWholeIn, IsWholeIn, AreCovered, Extends, IsAdded, IsGathered, Visits, Adds, AddsAt, AreGathered}
 use Rattle.at_demand.proofs.Leading.{leads_next}
 use Rattle.at_demand.proofs.Sameness.{same_true}
 use Rattle.at_demand.proofs.Supported.{supported}
@@ -182,10 +182,11 @@ module _ (rules : Rules) (look : Contents ℕ) (entries : Entries) (found : List
   within i g (alone w) added = inl (g, i ∷ [], inl refl, w, added)
   within i g (in_group these c a w) added = inl (g, these, a, w, added)
   within i g (by_first j c (inl k) l) added = inr (j, added.kept j k, l)
-  within i g (by_first j c (inr (p, h, at, is, these, a, w)) l) added = elim (gathered.others p j h (added.finds p at) is) [
-    | inl more ↦ inl (h, these, a, w, more)
-    | inr used ↦ inr (j, used, l)
-  ]
+  within i g (by_first j c (inr (p, h, at, is, so)) l) added = by_find so (gathered.others p j h (added.finds p at) is)
+    where
+      by_find : IsWholeIn rules look found i h → IsGathered s gathered.positions j h → Within i
+      by_find (these, a, w) (inl more) = inl (h, these, a, w, more)
+      by_find (these, a, w) (inr used) = inr (j, used, l)
 
   next : (i j : Instance ℕ) → Within i → Comes look (meaning rules) i j → Among j s.kept.items ⊎ Within j
   next i j (inl (g, these, a, w, added)) c = elim (w.demands i j a c) [
@@ -230,8 +231,8 @@ module _ (rules : Rules) (look : Contents ℕ) (entries : Entries) (found : List
 
 -- a find below which no other one stands is gathered by itself
 pub gathered_alone : (found : List (Instance ℕ × Find)) (f : Find) → f.demanded.finds.items ≡ [] → AreGathered found f (record { reads = f.reads; kept = f.demanded.kept })
-gathered_alone found f alone = record {
+gathered_alone found f none = record {
   positions = [];
-  first = record { reads = λ x h. h; kept = λ u h. h; finds = λ p h. subst (Among p) alone h };
+  first = record { reads = λ x h. h; kept = λ u h. h; finds = λ p h. subst (Among p) none h };
   others = λ p i g among is. absurd among;
 }

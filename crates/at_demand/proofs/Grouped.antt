@@ -156,6 +156,15 @@ module _ (entries : Entries) (q : Question) where
     | inl n ↦ elim (use_finds j a mid use' p n) [ inl old ↦ inl old | inr (g, at) ↦ inr (j, g, at, inl refl) ]
   ]
 
+  abbrev OfReads : Loc → Formed → Type 0
+  OfReads l d = Among l d.reads.items
+
+  abbrev OfKept : Instance ℕ → Formed → Type 0
+  OfKept j d = Among j d.kept.items ⊎ (IsKept entries j × Among j (atoms d.formula))
+
+  abbrev OfFinds : ℕ → Formed → Type 0
+  OfFinds p d = Among p d.finds.items ⊎ IsFoundIn (atoms d.formula) p
+
   module _ (insts : List (Instance ℕ)) where
     -- a member of a longer group
     member_left : (ms : List Solved) (m : Solved) (i : Instance ℕ) (b : Bool) → IsMember insts ms i b → IsMember insts (ms ++ m ∷ []) i b
@@ -225,7 +234,7 @@ module _ (entries : Entries) (q : Question) where
           IsOnlyOf entries q insts ms old → IsOnlyOf entries q insts (ms ++ m ∷ []) new
       only_used i f at rec' u o = record {
         reads = λ l h. elim (among_either old.reads.items f.reads.items l (subst (Among l) u.reads h)) [
-          | inl before ↦ wider ms m (λ d. Among l d.reads.items) (λ d. Among l d.reads.items) (λ d x. x) (o.reads l before)
+          | inl before ↦ wider ms m (OfReads l) (OfReads l) (λ d x. x) (o.reads l before)
           | inr x ↦ (i, m.value, f, member_last ms m i at, rec', x)
         ];
         kept = λ j h. elim (all_kept (atoms f.formula) u.mid new.demanded u.atoms j h) [
@@ -243,12 +252,6 @@ module _ (entries : Entries) (q : Question) where
           ]
         ];
       }
-        where
-          abbrev OfKept : Instance ℕ → Formed → Type 0
-          OfKept j d = Among j d.kept.items ⊎ (IsKept entries j × Among j (atoms d.formula))
-
-          abbrev OfFinds : ℕ → Formed → Type 0
-          OfFinds p d = Among p d.finds.items ⊎ IsFoundIn (atoms d.formula) p
 
       rests_same : ((i : Instance ℕ) (f : Formed) → slice_get insts m.position ≡ Some i → IsRecordedForm q.ended.entries i f → ⊥) → new ≡ old →
           RestsOn entries q insts ms old → RestsOn entries q insts (ms ++ m ∷ []) new
@@ -259,9 +262,9 @@ module _ (entries : Entries) (q : Question) where
 
       only_same : new ≡ old → IsOnlyOf entries q insts ms old → IsOnlyOf entries q insts (ms ++ m ∷ []) new
       only_same same o = subst (λ (z : Find). IsOnlyOf entries q insts (ms ++ m ∷ []) z) (sym same) (record {
-        reads = λ l h. wider ms m _ _ (λ d x. x) (o.reads l h);
-        kept = λ j h. wider ms m _ _ (λ d x. x) (o.kept j h);
-        finds = λ p h. wider ms m _ _ (λ d x. x) (o.finds p h);
+        reads = λ l h. wider ms m (OfReads l) (OfReads l) (λ d x. x) (o.reads l h);
+        kept = λ j h. wider ms m (OfKept j) (OfKept j) (λ d x. x) (o.kept j h);
+        finds = λ p h. wider ms m (OfFinds p) (OfFinds p) (λ d x. x) (o.finds p h);
       })
 
       rests_member : AddsMember entries q insts m old new → RestsOn entries q insts ms old → RestsOn entries q insts (ms ++ m ∷ []) new

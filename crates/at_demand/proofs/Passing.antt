@@ -20,7 +20,7 @@ use Rattle.at_demand.specs.declared.evaluation.Demanded.{Demanded}
 use Rattle.at_demand.specs.declared.evaluation.Find.{Find}
 use Rattle.at_demand.specs.declared.evaluation.Frame.{Frame}
 use Rattle.at_demand.specs.Known.{equations, meaning}
-use Rattle.at_demand.specs.Covering.{AreWhole, AreWholeIn, Extends, HasPassed, HasPassedTo, IsDemanded, IsFirst, IsTold, IsWhole, alone, by_first, in_group}
+use Rattle.at_demand.specs.Covering.{AreWhole, AreWholeIn, Extends, HasPassed, HasPassedTo, IsDemanded, IsFirst, IsTold, IsWhole, IsWholeIn, alone, by_first, in_group}
 use Rattle.at_demand.proofs.Coming.{begins, goes_on}
 use Rattle.at_demand.proofs.Seeing.{sees_read, comes_told}
 use Rattle.at_demand.proofs.Extending.{get_more}
@@ -103,9 +103,12 @@ module _ (rules : Rules) (look : Contents ℕ) where
     demands = λ k j b c. elim (w.demands k j b c) [ inl m ↦ inl m | inr x ↦ inr (demanded_more found more d.demanded j grows x) ];
   }
 
+  so_more : (found more : List (Instance ℕ × Find)) (i : Instance ℕ) (d : Find) → Extends found more → IsWholeIn rules look found i d → IsWholeIn rules look more i d
+  so_more found more i d grows (these, a, w) = (these, a, whole_in_more found more these d grows w)
+
   first_more : (found more : List (Instance ℕ × Find)) (d : Demanded) (i j : Instance ℕ) → Extends found more → IsFirst rules look found d i j → IsFirst rules look more d i j
   first_more found more d i j grows (inl k) = inl k
-  first_more found more d i j grows (inr (p, g, at, is, these, a, w)) = inr (p, g, at, get_more found more p (j, g) grows is, these, a, whole_in_more found more these g grows w)
+  first_more found more d i j grows (inr (p, g, at, is, w)) = inr (p, g, at, get_more found more p (j, g) grows is, so_more found more i g grows w)
 
   whole_more : (found more : List (Instance ℕ × Find)) (i : Instance ℕ) (d : Find) → Extends found more → IsWhole rules look found i d → IsWhole rules look more i d
   whole_more found more i d grows (alone w) = alone (whole_in_more found more (i ∷ []) d grows w)

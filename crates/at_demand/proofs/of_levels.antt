@@ -2,3 +2,4 @@
 pub mod Plain
 pub mod FormingOn
 pub mod Carried
+pub mod KeptOrFound

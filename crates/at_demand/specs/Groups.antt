@@ -198,8 +198,15 @@ pub record IsKeptOrFound (rules : Rules) (exact : Bool) (before after : Entries)
   pub plain : ArePlain rules after
   pub counts : IsTrue exact → Counts before after earlier later
   pub traces : StayTraced former latter
+  pub finds : (new.found.entries ≡ old.found.entries) ⊎ ((new.found.entries ≡ insert_entry same_instance old.found.entries i f)
+      × (IsTrue exact → is_lazy rules i.attribute ≡ true → IsKept after i))
+  pub same : new ≡ record old { found = new.found }
+
+-- the find comes to those that were found, at the place behind them; or those stay
+pub record HasPutLast {E : Type 0} (old new : Question) (i : Instance ℕ) (f : Find) (r : Result ℕ E) : Type 0 where
   pub finds : (new.found.entries ≡ old.found.entries) ⊎ (new.found.entries ≡ insert_entry same_instance old.found.entries i f)
   pub same : new ≡ record old { found = new.found }
+  pub place : IfOk r (λ p. (p ≡ length old.found.entries) × (new.found.entries ≡ insert_entry same_instance old.found.entries i f))
 
 -- the find of a group's first member can be kept, or found
 pub record CanBeFirst (rules : Rules) (entries : Entries) (q : Question) (i : Instance ℕ) (f : Find) : Type 0 where

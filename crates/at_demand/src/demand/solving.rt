@@ -3,9 +3,10 @@
 ghost use Rattle.std.specs.Prelude.{◌≡◌, ◌∷◌, [], IfOk, OnErr, OnOk};
 ghost use Rattle.indexmap.specs.IndexMap.{insert_entry};
 ghost use Rattle.at_body.specs.Same.{same_instance};
+ghost use Rattle.at_body.specs.declared.value.Value.TheVariants as value_code;
 ghost use Rattle.std.specs.Map.{keys_of};
 ghost use Rattle.at_demand.specs.Groups.{AddsAtoms, AddsMember, AddsUse, AddsUses, CanBeFirst, CanBeOther, CanKeepGroup, CanSolve, IsFindOf, IsFormedAt, IsOtherFind, UsesFirst};
-ghost use Rattle.at_demand.specs.Groups.{HasKeptFirst, HasKeptGroup, HasKeptOther, HasMarkedSolved, HasSolved, start_in};
+ghost use Rattle.at_demand.specs.Groups.{HasKeptFirst, HasKeptGroup, HasKeptOther, HasMarkedSolved, HasPutLast, HasSolved, start_in};
 
 use super::Demand;
 use crate::evaluation::{Demanded, Find};
@@ -17,7 +18,7 @@ use at_rules::Rules;
 use at_search::{Formed, Solved, formed_of, solve};
 use at_store::Store;
 use indexmap::IndexMap;
-use std::alloc::AllocError;
+use std::alloc::{AllocError, Global};
 
 impl<K: Keeper> Demand<K> {
     // Each of these from which formulas lead to formulas alone is known from now on; all are whole.
@@ -103,11 +104,8 @@ impl<K: Keeper> Demand<K> {
     ) -> Result<Find, AllocError>
         ensures { IfOk result (IsFindOf (K.contents self.now.keeper) question.now insts.now group.now value) }
     {
-        let mut find = Find {
-            value: Value::Bool(value),
-            reads: Locations::new(self.alloc),
-            demanded: Demanded::new(self.alloc),
-        };
+        let none = Demanded::new(self.alloc);
+        let mut find = find_with(self.alloc, value, none);
         for member in group {
             self.add_member(question, insts, *member, &mut find)?;
         }
@@ -212,8 +210,7 @@ impl<K: Keeper> Demand<K> {
         match put {
             Put::Kept => Ok(None),
             Put::Left => {
-                let place = question.found.len();
-                put_find(&mut question.found, inst.copy(self.alloc)?, find)?;
+                let place = put_last(self.alloc, question, inst, find)?;
                 Ok(Some(place))
             }
         }
@@ -254,28 +251,17 @@ impl<K: Keeper> Demand<K> {
         ensures { IfOk result (IsOtherFind first.now place value) }
     {
         let demanded = self.use_of(first, place)?;
-        Ok(Find {
-            value: Value::Bool(value),
-            reads: Locations::new(self.alloc),
-            demanded,
-        })
+        let find = find_with(self.alloc, value, demanded);
+        Ok(find)
     }
 
     // The use of the first one alone.
     fn use_of(&self, first: &Inst, place: Option<usize>) -> Result<Demanded, AllocError>
         ensures { IfOk result (UsesFirst first.now place) }
     {
-        let mut demanded = Demanded::new(self.alloc);
         match place {
-            None => {
-                let used = first.copy(self.alloc)?;
-                demanded.kept.push(used)?;
-                Ok(demanded)
-            }
-            Some(position) => {
-                demanded.finds.push(position)?;
-                Ok(demanded)
-            }
+            None => used_kept(self.alloc, first),
+            Some(position) => used_find(self.alloc, position),
         }
     }
 }
@@ -294,6 +280,55 @@ fn formed_at<'q>(question: &'q Question, insts: &[Inst], position: usize) -> Opt
 {
     let inst = insts.get(position)?;
     formed_of(&question.ended, inst)
+}
+
+// A value with what was demanded for it, where nothing was read.
+fn find_with(alloc: Global, value: bool, demanded: Demanded) -> Find
+    ensures is { result.value ≡ value_code.Bool value }
+    ensures reads { result.reads.items ≡ [] }
+    ensures demanded { result.demanded ≡ demanded }
+{
+    Find {
+        value: Value::Bool(value),
+        reads: Locations::new(alloc),
+        demanded,
+    }
+}
+
+// The use of a kept instance alone.
+fn used_kept(alloc: Global, inst: &Inst) -> Result<Demanded, AllocError>
+    ensures kept { IfOk result (λ d. d.kept.items ≡ inst.now ∷ []) }
+    ensures finds { IfOk result (λ d. d.finds.items ≡ []) }
+{
+    let mut demanded = Demanded::new(alloc);
+    let used = inst.copy(alloc)?;
+    demanded.kept.push(used)?;
+    Ok(demanded)
+}
+
+// The use of the find at the position alone.
+fn used_find(alloc: Global, position: usize) -> Result<Demanded, AllocError>
+    ensures kept { IfOk result (λ d. d.kept.items ≡ []) }
+    ensures finds { IfOk result (λ d. d.finds.items ≡ position ∷ []) }
+{
+    let mut demanded = Demanded::new(alloc);
+    demanded.finds.push(position)?;
+    Ok(demanded)
+}
+
+// The find comes behind those that were found: its position; or memory is wanting.
+fn put_last(
+    alloc: Global,
+    question: &mut Question,
+    inst: &Inst,
+    find: Find,
+) -> Result<usize, AllocError>
+    ensures { HasPutLast question.old question.new inst.now find result }
+{
+    let place = question.found.len();
+    let key = inst.copy(alloc)?;
+    put_find(&mut question.found, key, find)?;
+    Ok(place)
 }
 
 // The find comes to what was found, or memory is wanting.

@@ -25,9 +25,9 @@ use Rattle.at_demand.proofs.direct.Direct.+direct.Goals as goal
 use Rattle.at_body.specs.declared.value.Value.TheVariants as value
 
 -- an exit with an error has no value
-no_ok : {T E : Type 0} {Q : E → Type 0} (r : Result T E) (P : T → Type 0) → IsErrAnd r Q → IfOk r P
-no_ok (Ok x) P h = absurd h
-no_ok (Err e) P h = tt
+no_ok : {T E : Type 0} (r : Result T E) (Q : E → Type 0) (P : T → Type 0) → IsErrAnd r Q → IfOk r P
+no_ok (Ok x) Q P h = absurd h
+no_ok (Err e) Q P h = tt
 
 pub told-recall-requires : goal.told-recall-requires
 told-recall-requires g n c = c.requires.known
@@ -567,7 +567,7 @@ passed-loop-argument-init g n c =
 
 pub passed-returns-in_err-value : goal.passed-returns-in_err-value
 passed-returns-in_err-value g n c = record {
-  come = no_ok c.from_residual.result _ c.from_residual.ensures.1;
+  come = no_ok c.from_residual.result _ _ c.from_residual.ensures.1;
   gains =
       passed_gains c.args.basis.now.rules.now c.args.basis.now.store.now g.K.Keeper.exact (place_at c.args.here.now)
       (ev_all c.args.basis.now.rules.now.classes (bodies_view c.args.passed.now) (place_at c.args.here.now)) _ _ _ _ _
