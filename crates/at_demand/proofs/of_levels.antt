@@ -3,3 +3,4 @@ pub mod Plain
 pub mod FormingOn
 pub mod Carried
 pub mod KeptOrFound
+pub mod Telling

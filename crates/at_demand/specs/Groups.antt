@@ -72,12 +72,13 @@ pub record Tells (rules : Rules) (s : Shown) (exact : Bool) (before after : Entr
   pub counts : IsTrue exact → Counts before after earlier later
   pub traces : StayTraced former latter
 
--- Instances can be solved: they are apart, all start so, and what is known and recorded holds.
+-- Instances can be solved: they are circular, and all start so; and what is known and recorded holds.
 pub record CanSolve (rules : Rules) (s : Shown) (entries : Entries) (q : Question) (insts : List (Instance ℕ)) : Type 0 where
   pub answerable : IsAnswerable rules s entries
   pub facts : AreFactsOf rules (contents s) entries q
   pub finds : AreWhole rules (contents s) q.found.entries
   pub took : FoundKept entries q.found.entries
+  pub circular : (i : Instance ℕ) → Among i insts → IsSome (start_of rules i.attribute)
   pub alike : (i : Instance ℕ) → Among i insts → start_of rules i.attribute ≡ start_in rules insts
   pub recorded : (i : Instance ℕ) → Among i insts → Among i (keys_of q.ended.entries)
 
