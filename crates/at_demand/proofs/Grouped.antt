@@ -182,12 +182,12 @@ module _ (entries : Entries) (q : Question) where
     wider : (ms : List Solved) (m : Solved) (Is Also : Formed → Type 0) → ((d : Formed) → Is d → Also d) → HasMember q insts ms Is → HasMember q insts (ms ++ m ∷ []) Also
     wider ms m Is Also so (i, b, d, a, rec', is) = (i, b, d, member_left ms m i b a, rec', so d is)
 
+    no_member : (i : Instance ℕ) (b : Bool) → IsMember insts [] i b → ⊥
+    no_member i b (m, a, at, is) = a
+
     -- nothing was added yet
     pub rests_none : (f : Find) → RestsOn entries q insts [] f
-    rests_none f = record {
-      reads = λ i b d l (m, a, more) r h. absurd a;
-      uses = λ i j b d (m, a, more) r h. absurd a;
-    }
+    rests_none f = record { reads = λ i b d l a r h. absurd (no_member i b a); uses = λ i j b d a r h. absurd (no_member i b a) }
 
     pub only_none : (f : Find) → f.reads.items ≡ [] → f.demanded.kept.items ≡ [] → f.demanded.finds.items ≡ [] → IsOnlyOf entries q insts [] f
     only_none f reads kept finds = record {
