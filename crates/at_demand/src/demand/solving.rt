@@ -107,7 +107,7 @@ impl<K: Keeper> Demand<K> {
         let none = Demanded::new(self.alloc);
         let mut find = find_with(self.alloc, value, none);
         for member in group {
-            self.add_member(question, insts, *member, &mut find)?;
+            self.add_member(question, insts, member, &mut find)?;
         }
         Ok(find)
     }
@@ -117,10 +117,10 @@ impl<K: Keeper> Demand<K> {
         &self,
         question: &Question,
         insts: &[Inst],
-        member: Solved,
+        member: &Solved,
         find: &mut Find,
     ) -> Result<(), AllocError>
-        ensures { OnOk result (AddsMember (K.contents self.now.keeper) question.now insts.now member find.old find.new) }
+        ensures { OnOk result (AddsMember (K.contents self.now.keeper) question.now insts.now member.now find.old find.new) }
     {
         match formed_at(question, insts, member.position) {
             Some(formed) => self.add(question, formed, find),
