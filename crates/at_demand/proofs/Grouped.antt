@@ -288,10 +288,11 @@ module _ (entries : Entries) (q : Question) where
     pub find_none : (f : Find) → f.reads.items ≡ [] → f.demanded.kept.items ≡ [] → f.demanded.finds.items ≡ [] → IsFindSoFar [] f f
     find_none f reads kept finds = record { value = refl; rests = rests_none f; only = only_none f reads kept finds }
 
-    pub find_more : (ms : List Solved) (n : ℕ) (m : Solved) (first old new : Find) → n < length ms → m ≡ get_or ms n m → AddsMember entries q insts m old new →
+    pub find_more : (ms : List Solved) (n : ℕ) (d : Solved) (first old new : Find) → n < length ms → AddsMember entries q insts (get_or ms n d) old new →
         IsFindSoFar (take n ms) first old → IsFindSoFar (take (n + 1) ms) first new
-    find_more ms n m first old new less is adds x =
-        let grows : take (n + 1) ms ≡ take n ms ++ m ∷ [] = take_more ms n m less ∙ ap (λ (z : Solved). take n ms ++ z ∷ []) (sym is) in
+    find_more ms n d first old new less adds x =
+        let m : Solved = get_or ms n d in
+        let grows : take (n + 1) ms ≡ take n ms ++ m ∷ [] = take_more ms n d less in
         subst (λ (z : List Solved). IsFindSoFar z first new) (sym grows) (record {
           value = value_member (take n ms) m old new adds ∙ x.value;
           rests = rests_member (take n ms) m old new adds x.rests;

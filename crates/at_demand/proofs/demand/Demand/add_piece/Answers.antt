@@ -7,7 +7,7 @@ returns-in-Known g c = rw c.in-Known.is refl
 
 pub returns-in-Asks : goal.returns-in-Asks
 returns-in-Asks g c =
-    rw c.in-Asks.is (one_used (g.K.Keeper.contents c.args.self.now.keeper) c.args.question.now c.in-Asks.inst.now c.args.demanded.now
+    rw c.in-Asks.is (one_used (g.K.Keeper.contents c.args.self.now.keeper) c.args.question.now c.in-Asks.inst c.args.demanded.now
     c.add_use.new.demanded c.add_use.result c.add_use.ensures)
 
 pub returns-in-Both : goal.returns-in-Both

@@ -13,9 +13,8 @@ loop-member-init g c =
 
 pub loop-member-preserved : goal.loop-member-preserved
 loop-member-preserved g c =
-    find_more (g.K.Keeper.contents c.args.self.now.keeper) c.args.question.now c.args.insts.now c.args.group.now c.loop-member.member-index
-    c.member-item.result c.find_with-find.result c.loop-member.find c.add_member.new.find c.loop-member-test.true c.member-item.is
-    c.in_ok-add_member.ensures c.loop-member.invariant
+    find_more (g.K.Keeper.contents c.args.self.now.keeper) c.args.question.now c.args.insts.now c.args.group.now c.loop-member.member-index _
+    c.find_with-find.result c.loop-member.find c.add_member.new.find c.loop-member-test.true c.in_ok-add_member.ensures c.loop-member.invariant
 
 pub returns : goal.returns
 returns g c =
