@@ -18,7 +18,7 @@ use Rattle.at_demand.specs.declared.evaluation.Demanded.{Demanded}
 use Rattle.at_demand.specs.declared.evaluation.Find.{Find}
 use Rattle.at_demand.specs.declared.question.Question.{Question}
 use Rattle.at_demand.specs.Answerable.{CanBeKept, RestsOnKept}
-use Rattle.at_demand.specs.Groups.{CanBeFirst, CanBeOther, HasPutLast, IsFirstAt, IsKeptOrFound, IsOtherFind, UsesFirst}
+use Rattle.at_demand.specs.Groups.{CanBeFirst, CanBeOther, HasKeptFirst, HasPutLast, IsFirstAt, IsKeptOrFound, IsOtherFind, UsesFirst}
 use Rattle.at_demand.specs.Keeping.{IsKeptWhereLazy, SaysKept}
 use Rattle.at_demand.specs.Known.{AreValued, IsKept, found_values, kept_values, known_in}
 use Rattle.at_demand.specs.Levels.{known_to}
@@ -144,3 +144,16 @@ pub put_behind : {E : Type 0} (rules : Rules) (exact : Bool) (after : Entries) (
     (IsTrue exact → is_lazy rules i.attribute ≡ true → IsKept after i) →
     (new.found.entries ≡ old.found.entries) ⊎ ((new.found.entries ≡ insert_entry same_instance old.found.entries i f) × (IsTrue exact → is_lazy rules i.attribute ≡ true → IsKept after i))
 put_behind rules exact after old new i f r h keeps = elim h.finds [ inl e ↦ inl e | inr e ↦ inr (e, keeps) ]
+
+-- the instance is known then
+pub known_after : {E : Type 0} (rules : Rules) (exact : Bool) (before after : Entries) (former latter : Memories) (earlier later : ℕ) (old new : Question)
+    (i : Instance ℕ) (f : Find) (r : Result (Option ℕ) E) (p : Option ℕ) → r ≡ Ok p → known_to before old i ≡ None →
+    HasKeptFirst rules exact before after former latter earlier later old new i f r → IsSome (known_to after new i)
+known_after rules exact before after former latter earlier later old new i f (Ok None) p is none h =
+    let (v, same) = h.place in
+    kept_known after new.found.entries i (is_there (kept_values after i) (value_view f.value) v)
+known_after rules exact before after former latter earlier later old new i f (Ok (Some n)) p is none h =
+    let (e, last) = h.place in
+    found_known after new.found.entries i f
+    (ap (λ (fs : List (Instance ℕ × Find)). lookup (same_instance i) fs) last ∙ lookup_put old.found.entries i f (none_there before old.found.entries i none))
+known_after rules exact before after former latter earlier later old new i f (Err e) p is none h = absurd cc
