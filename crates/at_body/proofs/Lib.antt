@@ -11,6 +11,7 @@ pub mod Joining
 pub mod TextsCompared
 pub mod Steps
 pub mod Piled
+pub mod Counted
 pub mod FormRuns
 pub mod FormPlain
 pub mod Formed

@@ -7,6 +7,7 @@ pub mod Size
 pub mod Stacked
 pub mod FormulaCodes
 pub mod Pieces
+pub mod Operators
 pub mod Standing
 pub mod Rest
 pub mod Forms

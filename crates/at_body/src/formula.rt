@@ -1,8 +1,9 @@
 //! Formulas of instances.
 
-ghost use Rattle.std.specs.Prelude.{◌≡◌, ◌++◌, [], ◌∷◌, ℕ, List, OnErr, OnOk, true};
+ghost use Rattle.std.specs.Prelude.{◌≡◌, ◌++◌, [], ◌∷◌, ℕ, IfSome, List, OnErr, OnOk, length, true};
 ghost use Rattle.at_model.specs.Run.{Instance, Truth};
 ghost use Rattle.at_model.specs.of_fixpoints.Formulas.{Formula as Meant, Asks, Known, is_known_as, is_surely};
+ghost use Rattle.at_body.specs.Operators.{is_operator};
 ghost use Rattle.at_body.specs.Pieces.{AreTwo, HasTop, IsMade, IsTop, combined, is_value, piled, put_together, stacked, top_of};
 ghost use Rattle.at_body.specs.Stacked.{below};
 ghost use Rattle.std.specs.Option.{MatchOption};
@@ -45,6 +46,17 @@ impl Model for Formula {
 }
 
 impl Formula {
+    /// The formula of these pieces, the operands before their operator; none where they are those of no formula, or of several.
+    pub fn of(pieces: Vec<Piece>) -> Option<Formula>
+        ensures { IfSome result (λ f. stacked [] pieces.items ≡ f ∷ []) }
+    {
+        let count = formulas_in(pieces.as_slice())?;
+        if count != 1 {
+            return None;
+        }
+        Some(Formula { pieces })
+    }
+
     /// Its pieces, the operands before their operator: its instances stand there from left to right.
     pub fn pieces(&self) -> &[Piece]
         ensures { stacked [] result.now ≡ self.now ∷ [] }
@@ -57,6 +69,42 @@ impl Formula {
         ensures { stacked [] result.items ≡ self ∷ [] }
     {
         self.pieces
+    }
+}
+
+/// How many formulas the pieces are those of; none where an operator lacks an operand.
+fn formulas_in(pieces: &[Piece]) -> Option<usize>
+    ensures { IfSome result (λ n. length (stacked [] pieces.now) ≡ n) }
+{
+    let mut count = 0;
+    for piece in pieces {
+        count = with_piece(count, piece)?;
+    }
+    Some(count)
+}
+
+/// How many formulas there are with a piece more above so many; none where it is an operator that lacks an operand.
+fn with_piece(count: usize, piece: &Piece) -> Option<usize>
+    ensures { IfSome result (λ n. (fs : List (Meant ℕ)) → length fs ≡ count → length (piled piece.now fs) ≡ n) }
+{
+    if !is_operator(piece) {
+        return count.checked_add(1);
+    }
+    if count < 2 {
+        return None;
+    }
+    Some(count - 1)
+}
+
+/// Whether the piece is an operator.
+fn is_operator(piece: &Piece) -> bool
+    ensures { result ≡ is_operator piece.now }
+{
+    match piece {
+        Piece::Known(_) => false,
+        Piece::Asks(_) => false,
+        Piece::Both => true,
+        Piece::Either => true,
     }
 }
 

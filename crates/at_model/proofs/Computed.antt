@@ -32,7 +32,7 @@ use Rattle.at_model.proofs.Reached.{AreLost, reached, leads_in, in_leads, sees_i
 -- tests that decide --------------------------------------------------------------------------------------------------
 
 -- the same value
-abbrev same_value : Value Node → Value Node → Bool
+abbrev pub same_value : Value Node → Value Node → Bool
 same_value (Int m) (Int n) = int_eq m n
 same_value (Truth a) (Truth b) = bool_eq a b
 same_value (Text a) (Text b) = bytes_eq a b
@@ -77,7 +77,7 @@ value_same (Text a) = (bytes_eq-Decides a a).1 refl
 value_same (Ref None) = refl
 value_same (Ref (Some n)) = (node_eq-is n n).1 refl
 
-abbrev same_values : List (Value Node) → List (Value Node) → Bool
+abbrev pub same_values : List (Value Node) → List (Value Node) → Bool
 same_values [] [] = true
 same_values [] (w ∷ ws) = false
 same_values (v ∷ vs) [] = false
@@ -96,7 +96,7 @@ values_same [] = refl
 values_same (v ∷ vs) = and_true (same_value v v) (same_values vs vs) (value_same v) (values_same vs)
 
 -- the same instance
-abbrev same : Instance Node → Instance Node → Bool
+abbrev pub same : Instance Node → Instance Node → Bool
 same i j = node_eq i.node j.node && (nat_eq i.attribute j.attribute && same_values i.arguments j.arguments)
 
 same_sound : (i j : Instance Node) → same i j ≡ true → i ≡ j
@@ -113,10 +113,10 @@ same_is i = and_true (node_eq i.node i.node) (nat_eq i.attribute i.attribute && 
     (and_true (nat_eq i.attribute i.attribute) (same_values i.arguments i.arguments) ((nat_eq-is i.attribute i.attribute).1 refl) (values_same i.arguments))
 
 -- it is one of these
-abbrev is_among : Instance Node → List (Instance Node) → Bool
+abbrev pub is_among : Instance Node → List (Instance Node) → Bool
 is_among i xs = list_any (same i) xs
 
-among_sound : (i : Instance Node) (xs : List (Instance Node)) → is_among i xs ≡ true → Among i xs
+pub among_sound : (i : Instance Node) (xs : List (Instance Node)) → is_among i xs ≡ true → Among i xs
 among_sound i [] e = absurd cc
 among_sound i (x ∷ xs) e = at_head (same i x) refl e (among_sound i xs)
   where
@@ -124,7 +124,7 @@ among_sound i (x ∷ xs) e = at_head (same i x) refl e (among_sound i xs)
     at_head true is f rest = inl (same_sound i x is)
     at_head false is f rest = inr (rest f)
 
-among_is : (i : Instance Node) (xs : List (Instance Node)) → Among i xs → is_among i xs ≡ true
+pub among_is : (i : Instance Node) (xs : List (Instance Node)) → Among i xs → is_among i xs ≡ true
 among_is i [] h = absurd h
 among_is i (x ∷ xs) (inl e) = rw (subst (λ y. same i y ≡ true) e (same_is i)) refl
 among_is i (x ∷ xs) (inr h) = at_tail (same i x) (among_is i xs h)

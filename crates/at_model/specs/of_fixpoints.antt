@@ -7,3 +7,5 @@ pub mod Circles
 pub mod Likeness
 pub mod FixpointSamples
 pub mod FormKinds
+pub mod Searching
+pub mod Searched

@@ -13,7 +13,7 @@ abbrev pub Settles : {N : Type 0} → Contents N → Forms N → ℕ → Instanc
 Settles {N} look forms n i = (o : Outcome N) × HoldsAt look forms n i o
 
 -- an evaluation that ends at a depth has demanded what has outcomes there
-ends_lower : {N A : Type 0} (look : Contents N) (forms : Forms N) (n : ℕ) (i : Instance N) (r : Run N A) (e : End N A)
+pub ends_lower : {N A : Type 0} (look : Contents N) (forms : Forms N) (n : ℕ) (i : Instance N) (r : Run N A) (e : End N A)
     (j : Instance N) →
     Ends look (HoldsAt look forms n) i r e → Reaches look (HasValue look forms) r j → Settles look forms n j
 ends_lower look forms n i (Gives a) e j x c = absurd c
@@ -89,12 +89,13 @@ first_unique look forms (Demands m k) i j p q (inr (v, h, r)) (inr (w, g, s)) =
     let e : Finds v ≡ Finds w = once look forms m (Finds v) (Finds w) h g in let e' : v ≡ w = cc in
     first_unique look forms (k w) i j p q (subst (λ z. Reaches look (HasValue look forms) (k z) i) e' r) s
 
-not_ended : {N : Type 0} (look : Contents N) (forms : Forms N) (m j : Instance N) →
+-- what demands one that has no outcome doesn't end
+pub not_ended : {N : Type 0} (look : Contents N) (forms : Forms N) (m j : Instance N) →
     ((n : ℕ) → Settles look forms n j → ⊥) → Reaches look (HasValue look forms) (forms.formula m) j →
     (e : End N (Formula N)) → EndsSo look forms m e → ⊥
 not_ended look forms m j none c e (n, x) = none n (ends_lower look forms n m (forms.formula m) e j x c)
 
-no_settling : {N : Type 0} (look : Contents N) (forms : Forms N) (k : Instance N) → HasNone look forms k → (n : ℕ) →
+pub no_settling : {N : Type 0} (look : Contents N) (forms : Forms N) (k : Instance N) → HasNone look forms k → (n : ℕ) →
     Settles look forms n k → ⊥
 no_settling look forms k none n (o, h) = none o (n, h)
 

@@ -108,7 +108,7 @@ demanded_valued look forms n i (Demands m k) a j (inl (v, h, x)) (inr (w, (d, g)
     let q : Finds w ≡ Finds v = once_at look forms d n m (Finds w) (Finds v) g h in let q' : w ≡ v = cc in
     demanded_valued look forms n i (k v) a j x (subst (λ z. Reaches look (HasValue look forms) (k z) j) q' c)
 
-leads_by : {N : Type 0} (look : Contents N) (forms : Forms N) (n : ℕ) (i j : Instance N) →
+pub leads_by : {N : Type 0} (look : Contents N) (forms : Forms N) (n : ℕ) (i j : Instance N) →
     LeadsOver (EndsAt look forms n) i j → Leads look forms i j
 leads_by look forms n _ _ (stays i) = led.stays i
 leads_by look forms n _ _ (goes i j k f h a l) = led.goes i j k (inr (f, (n, h), a)) (leads_by look forms n j k l)

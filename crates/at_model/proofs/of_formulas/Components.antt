@@ -8,6 +8,7 @@ use Rattle.at_model.proofs.Reached.{front_among, back_among}
 use Rattle.at_model.specs.of_fixpoints.Formulas.{Formula, Known, Asks, Both, Either, atoms, Forms}
 use Rattle.at_model.specs.of_fixpoints.Fixpoints.{End, Made, Spoilt, Ends, LeadsOver, stays, goes, AreFormed, AreEnded, Leaves, known, asks, true_both, true_left, true_right, false_left, false_right, false_both, HoldsAt, EndsAt}
 use Rattle.at_model.specs.of_fixpoints.Circles.{HasNone}
+use Rattle.at_model.specs.of_fixpoints.Searching.{asked_in}
 use Rattle.at_model.proofs.of_formulas.UniqueOutcomes.{Ending, OneEnd}
 use Rattle.at_model.proofs.of_formulas.ClosedOnce.{ended}
 
@@ -20,11 +21,6 @@ pub pick : {A : Type 0} (as' bs : List A) (a : A) → AllAmong as' bs → Among 
 pick [] bs a all h = absurd h
 pick (b ∷ as') bs a (x, all) (inl e) = subst (λ z. Among z bs) (sym e) x
 pick (b ∷ as') bs a (x, all) (inr h) = pick as' bs a all h
-
--- the instances of what an equation ends with
-abbrev pub asked_in : {N : Type 0} → End N (Formula N) → List (Instance N)
-asked_in (Made f) = atoms f
-asked_in (Spoilt k at) = []
 
 -- each of them has an equation that ends, with instances of the whole list
 abbrev pub EndIn : {N : Type 0} → Ending N → List (Instance N) → List (Instance N) → Type 0
@@ -47,7 +43,7 @@ pub all_end : {N : Type 0} (E : Ending N) (all js : List (Instance N)) → Forme
 all_end E all [] l = tt
 all_end E all (j ∷ js) ((f, x, m), l) = ((Made f, x, m), all_end E all js l)
 
-form_of : {N : Type 0} (E : Ending N) (all js : List (Instance N)) (j : Instance N) → FormedIn E all js → Among j js →
+pub form_of : {N : Type 0} (E : Ending N) (all js : List (Instance N)) (j : Instance N) → FormedIn E all js → Among j js →
     (f : Formula N) × E j (Made f) × AllAmong (atoms f) all
 form_of E all [] j l h = absurd h
 form_of {N} E all (k ∷ js) j (x, l) (inl q) =

@@ -11,7 +11,7 @@ use Rattle.at_model.proofs.of_formulas.ClosedOnce.{ended}
 use Rattle.at_model.proofs.of_formulas.Matching.{Matches, knows, wants, joins, chooses, EndMatches, makes, spoils, OutcomeMatches, finds, faults, AreMatched, settled_on}
 
 -- an evaluation ends alike where more is told
-ends_more : {N A : Type 0} (look : Contents N) (H G : Instance N → Outcome N → Type 0) →
+pub ends_more : {N A : Type 0} (look : Contents N) (H G : Instance N → Outcome N → Type 0) →
     ((j : Instance N) (o : Outcome N) → H j o → G j o) → (i : Instance N) (r : Run N A) (e : End N A) →
     Ends look H i r e → Ends look G i r e
 ends_more look H G more i (Gives a) e x = x

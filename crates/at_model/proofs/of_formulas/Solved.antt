@@ -149,12 +149,12 @@ module _ {N : Type 0} (look : Contents N) (forms : Forms N) where
   formed_higher n d all (j ∷ js) ((f, x, m), l) =
       ((f, ends_higher look forms n d j (Made f) x, m), formed_higher n d all js l)
 
-  all_among : {A : Type 0} (as' bs : List A) → ((a : A) → Among a as' → Among a bs) → AllAmong as' bs
+  pub all_among : {A : Type 0} (as' bs : List A) → ((a : A) → Among a as' → Among a bs) → AllAmong as' bs
   all_among [] bs h = tt
   all_among (a ∷ as') bs h = (h a (inl refl), all_among as' bs (λ c m. h c (inr m)))
 
   -- one depth for the whole list
-  one_depth : (all js : List (Instance N)) →
+  pub one_depth : (all js : List (Instance N)) →
       ((j : Instance N) → Among j js →
       (f : Formula N) × HasForm look forms j f × ((k : Instance N) → Among k (atoms f) → Among k all)) →
       (n : ℕ) × FormedIn (EndsAt look forms n) all js

@@ -139,7 +139,11 @@ form_start classes same starts b p e scope =
 -- of all starts that an attribute may have
 abbrev OfStart : {N : Type 0} → Starts → Option Bool → Formula N → Type 0
 OfStart {N} starts start f =
-    (k : Instance N) → Among k (atoms f) → (starts k.attribute ≡ start) × ((b : Bool) × (start ≡ Some b))
+    ((k : Instance N) → Among k (atoms f) → (starts k.attribute ≡ start) × ((b : Bool) × (start ≡ Some b)))
+    × (start ≡ None → (v : Value N) × (f ≡ Known v))
+
+off : (b : Bool) → Some b ≡ None → ⊥
+off b e = cc
 
 body_start : {N : Type 0} (rules : Rules) (same : N → N → Bool) (start : Option Bool) (scope : Scope N)
     (r : Run N (Formula N)) (o : Option Expr) → GivesOnly (OfStart (start_of rules) start) r →
@@ -147,10 +151,10 @@ body_start : {N : Type 0} (rules : Rules) (same : N → N → Bool) (start : Opt
 body_start rules same start scope r None g = g
 body_start rules same None scope r (Some e) g =
     then_only (OfStart (start_of rules) None) (eval rules.classes same e scope) (λ v. Gives (Known v))
-    (λ v k h. absurd h)
+    (λ v. ((λ k h. absurd h), λ e. (v, refl)))
 body_start rules same (Some b) scope r (Some e) g =
     less_only (StartFrom (start_of rules) b) (OfStart (start_of rules) (Some b))
-    (form rules.classes same (start_of rules) b true e scope) (λ f h k a. (h k a, (b, refl)))
+    (form rules.classes same (start_of rules) b true e scope) (λ f h. ((λ k a. (h k a, (b, refl))), λ e. absurd (off b e)))
     (form_start rules.classes same (start_of rules) b true e scope)
 
 above_at : {N : Type 0} (rules : Rules) (same : N → N → Bool) (start : Option Bool) (name : List ℕ)
@@ -205,8 +209,15 @@ of_start : {N : Type 0} (look : Contents N) (rules : Rules) (same : N → N → 
     HasForm look (evaluation rules same) i f → Among k (atoms f) →
     (start_of rules k.attribute ≡ start_of rules i.attribute) × ((b : Bool) × (start_of rules i.attribute ≡ Some b))
 of_start look rules same i k f (n, e) h =
-    ends_only look (HoldsAt look (evaluation rules same) n) (OfStart (start_of rules) (start_of rules i.attribute)) i
-    (evaluation_within max_depth rules same i) f (evaluation_start max_depth rules same i) e k h
+    (ends_only look (HoldsAt look (evaluation rules same) n) (OfStart (start_of rules) (start_of rules i.attribute)) i
+    (evaluation_within max_depth rules same i) f (evaluation_start max_depth rules same i) e).0 k h
+
+-- the formula of one that isn't circular is a value
+pub of_none : {N : Type 0} (look : Contents N) (rules : Rules) (same : N → N → Bool) (i : Instance N) (f : Formula N) →
+    HasForm look (evaluation rules same) i f → start_of rules i.attribute ≡ None → (v : Value N) × (f ≡ Known v)
+of_none look rules same i f (n, e) none =
+    (ends_only look (HoldsAt look (evaluation rules same) n) (OfStart (start_of rules) (start_of rules i.attribute)) i
+    (evaluation_within max_depth rules same i) f (evaluation_start max_depth rules same i) e).1 none
 
 pub of_one_start : {N : Type 0} (look : Contents N) (rules : Rules) (same : N → N → Bool) →
     AreOfOneStart look (evaluation rules same)

@@ -1,0 +1,4 @@
+pub mod Recorded
+pub mod LedTo
+pub mod Systems
+pub mod Solved
