@@ -34,6 +34,9 @@ const DEPTH: usize = 800;
 // How many instances are evaluated at most, one behind the other, so that one which used them may be kept again.
 const IN_THE_WAY: usize = 16;
 
+// A level is used again where its evaluation looked at no more locations than that.
+const SPARED: usize = 1024;
+
 impl Level {
     // Takes all out; the memory stays.
     fn clear(&mut self)
@@ -77,13 +80,14 @@ impl Direct {
         self.told(keeper, basis, &mut asks, needed, DEPTH)
     }
 
-    // The level of an evaluation that ended, emptied, or a fresh one.
+    // The level of an evaluation that ended, emptied, or a fresh one. One with room for many locations isn't used again: below a long chain each
+    // instance that waits would hold such a one.
     fn level(&mut self) -> Level
         ensures { GivesLevel self.old self.new result }
     {
         match self.spare.pop() {
-            Some(level) => emptied(level),
-            None => Level {
+            Some(level) if level.reads.len() <= SPARED => emptied(level),
+            _ => Level {
                 reads: Reads::new(self.alloc),
                 uses: Vec::new(self.alloc),
             },
