@@ -52,10 +52,16 @@ class Lab:
     def __init__(self, root: str, built: Optional[Path] = None) -> None:
         self.proved = Proved(root)
         self.room = ROOM / hashlib.sha256(str(self.proved.root).encode()).hexdigest()[:12]
-        self.built = built
+        self.built, self.found = built, dict[str, Optional[Path]]()
 
     def library(self, crate: str) -> Optional[Path]:
-        """Where the crate was built, if its files and those of all below it are the same there."""
+        """Where the crate was built, if its files and those of all below it are the same there; each crate is looked at once."""
+        if crate not in self.found:
+            self.found[crate] = self.same_library(crate)
+        return self.found[crate]
+
+    def same_library(self, crate: str) -> Optional[Path]:
+        """The same, looked at now."""
         if self.built is None:
             return None
         folder, below = self.built / "crates" / crate, [it for it in self.proved.uses[crate] if it in self.proved.uses]

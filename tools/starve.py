@@ -3,26 +3,122 @@
 
     tools/starve.py [-k PART].. PROGRAM
 
-In each session of the program `starve`, with each keeper; with -k in those alone of whose names, SESSION/KEEPER, it is a part.
-What each took is told. A round may end for want of memory before the session's first
-line, or have one line answered `memory`; each other line must be answered right."""
+In each session below, over the calculator, with each way to keep values that the program has; with -k in those alone of whose names,
+SESSION/KEEPER, it is a part. What each took is told. A round may end for want of memory before the session's first line, or have one
+line or question answered `memory`. Its other lines are answered right, as a server tells that is given these alone, and so is each
+question, as where it is asked at once. The requests in front of the first line are the same in each session with a keeper, and are
+refused in the first of them."""
 import argparse
 import os
+import re
 import shutil
 import subprocess
 import sys
 import tempfile
 import time
 from collections import Counter
+from dataclasses import dataclass
 from pathlib import Path
-from typing import Dict
+from typing import Dict, List, Optional, Sequence, Tuple
 
-# The words that choose a session.
-SESSIONS = ("edits", "moves", "turns")
-# The words that choose a keeper, and the name that its verdict has.
-KEEPERS = {"nothing": "nothing kept", "until-edit": "kept until an edit", "over-edits": "kept over edits", "few": "few kept over edits",
-           "cut-off": "kept again over edits"}
-BEFORE, ANSWERED, UNSEEN, NONE = "ended before the first line", "had a line answered `memory`", "made no difference", "none refused"
+FILES = [str(Path(__file__).resolve().parent.parent / "crates/attrd/data" / it) for it in ("calc.ast", "tree.txt", "calc.jrag")]
+# How values are kept, by words of the command line. Four entries are so few that edits fold what is kept.
+KEEPERS: Dict[str, List[str]] = {"over-edits": [], "few": ["--keep", "4"], "cut-off": ["--cut-off"]}
+# Lines, and the replies to them where no memory is refused.
+Session = Tuple[str, str]
+# A question, each edit but a move, and a mark, and the question again; and another one twice where it was asked last. At the end the
+# tree is shown, and the mark goes.
+EDITS = """0 ask /Block/Stmt:1/Expr value()
+100 ask /Block/Stmt:1/Expr/Right value()
+100 ask /Block/Stmt:1/Expr/Right value()
+0 mark u /Block/Stmt:1/Expr/Left
+0 insert /Block Stmt 0 Decl("y",-)
+0 put /Block/Stmt:0 Init Num(6)
+0 drop /Block/Stmt:0
+0 set /Block/Stmt:0/Init Num(4)
+0 token /Block/Stmt:1/Expr/Right Value 5
+100 ask /Block/Stmt:1/Expr/Right value()
+100 ask /Block/Stmt:1/Expr/Right value()
+0 where u
+0 ask /Block/Stmt:1/Expr value()
+0 show /
+0 unmark u
+0 where u
+""", """0 = 3
+100 = 2
+100 = 2
+0 ok 0
+0 ok 1
+0 ok 2
+0 ok 3
+0 ok 4
+0 ok 5
+100 = 5
+100 = 5
+0 = /Block/Stmt:1/Expr/Left
+0 = 9
+0 = Program(Block([Decl("x",Num(4)),Print(Add(Use("x"),Num(5)))]))
+0 ok 5
+0 refused 3 mark
+"""
+# A marked statement is moved into another list, out of it, and within a list, with questions before and after it. At the end the
+# tree is shown.
+MOVES = """0 ask /Block/Stmt:1/Expr value()
+0 mark u /Block/Stmt:1/Expr/Left
+0 insert /Block Stmt 2 Block([])
+0 move /Block/Stmt:1 to /Block/Stmt:2 Stmt 0
+0 where u
+0 ask /Block/Stmt:1/Stmt:0/Expr value()
+0 move /Block/Stmt:1/Stmt:0 to /Block Stmt 0
+0 move /Block/Stmt:0 to /Block Stmt 2
+0 where u
+0 ask /Block/Stmt:2/Expr value()
+0 show /
+""", """0 = 3
+0 ok 0
+0 ok 1
+0 ok 2
+0 = /Block/Stmt:1/Stmt:0/Expr/Left
+0 = 3
+0 ok 3
+0 ok 4
+0 = /Block/Stmt:2/Expr/Left
+0 = 3
+0 = Program(Block([Decl("x",Num(1)),Block([]),Print(Add(Use("x"),Num(2)))]))
+"""
+# Questions in turns, one turn behind each line: one that is waited for, one whose place is gone, one whose mark is gone, and one that
+# is answered at the end. With each keeper they are answered by the same turns.
+TURNS = """0 post /Block/Stmt:1/Expr value()
+0 mark u /Block/Stmt:1/Expr/Left
+0 post $u decl()
+0 wait 2
+0 insert /Block Stmt 0 Decl("y",-)
+0 post $u decl()
+0 drop /Block/Stmt:2
+0 where u
+0 post /Block/Stmt:1 value()
+0 post /Block local("x")
+0 wait 4
+0 token /Block/Stmt:1/Init Value 5
+""", """0 open 1
+0 ok 0
+0 open 2
+0 done 2 0 = /Block/Stmt:0
+0 ok 1
+0 done 1 1 refused 4 path
+0 open 3
+0 ok 2
+0 done 3 2 refused 3 mark
+0 refused 3 mark
+0 open 4
+0 open 5
+0 done 4 2 = 1
+0 ok 3
+0 done 5 3 = /Block/Stmt:1
+"""
+SESSIONS: Dict[str, Session] = {"edits": EDITS, "moves": MOVES, "turns": TURNS}
+DONE = re.compile(r"(\d+) done (\d+) (\d+) (.*)")
+BEFORE, ANSWERED, UNSEEN = "ended before the first line", "had a line answered `memory`", "made no difference"
 MOST_ROUNDS = 100_000
 
 
@@ -39,41 +135,103 @@ def refusing(folder: str) -> Dict[str, str]:
     return preloading(folder, "refuse")
 
 
-def round_of(program: str, name: str, word: str, environment: Dict[str, str], nth: int) -> str:
-    """How the session went with the nth request refused."""
-    refused = {**environment, "REFUSE": str(nth)}
-    run = subprocess.run([program, name, word], env=refused, capture_output=True, text=True, timeout=60)
-    verdict = f"{name}, {KEEPERS[word]}: right"
-    outcomes = {
-        (0, verdict + "\n", ""): NONE,
-        (0, verdict + "\n", "refused\n"): UNSEEN,
-        (0, verdict + ", and a line answered memory\n", "refused\n"): ANSWERED,
-        (4, "", "refused\n"): BEFORE,
-    }
-    outcome = outcomes.get((run.returncode, run.stdout, run.stderr))
-    if outcome is None:
-        sys.exit(f"{name} {word}: with request {nth} refused, status {run.returncode}\n{run.stdout}{run.stderr}")
-    return outcome
+class Retold:
+    """A session without want of memory: its other lines and the replies to them. Each question is asked where it was answered."""
+
+    def __init__(self, lines: Sequence[str], replies: Sequence[str]) -> None:
+        self.lines, self.replies, self.wanting = list[str](), list[str](), 0
+        self.posted, left = dict[str, str](), list(replies)
+        for line, following in zip(lines, [*lines[1:], ""]):
+            self.take(line, left.pop(0) if left else "")
+            while self.is_of_a_turn(left, following):
+                self.answer(left.pop(0))
+        # whether each line has its reply, and each question its answer
+        self.is_whole = not left and not self.posted
+
+    def is_of_a_turn(self, left: Sequence[str], following: str) -> bool:
+        """Whether a turn's answer comes next. The following line that waits for it is told then that no question is open."""
+        done = DONE.fullmatch(left[0]) if left else None
+        if not done or done[2] not in self.posted:
+            return False
+        return following != f"{done[1]} wait {done[2]}" or left[1:2] == [f"{done[1]} refused 15 question"]
+
+    def take(self, line: str, reply: str) -> None:
+        """Retells a line with its reply; a question that is opened is only noted."""
+        session, word, rest = line.split(" ", 2)
+        if reply == f"{session} memory":
+            self.wanting += 1
+        elif reply.startswith(f"{session} open "):
+            self.posted[reply.split()[2]] = f"{session} ask {rest}"
+        elif DONE.fullmatch(reply):
+            self.answer(reply)
+        else:
+            self.lines.append(f"{session} ask {rest}" if word == "post" else line)
+            self.replies.append(reply)
+
+    def answer(self, reply: str) -> None:
+        """Retells the answer to a question: it is asked, and so is the version."""
+        done = DONE.fullmatch(reply)
+        assert done
+        question = self.posted.pop(done[2], "")
+        if done[4] == "memory":
+            self.wanting += 1
+        else:
+            self.lines += [question, f"{done[1]} version"]
+            self.replies += [f"{done[1]} {done[4]}", f"{done[1]} ok {done[3]}"]
 
 
-def session(program: str, name: str, word: str, environment: Dict[str, str]) -> None:
-    """Runs the rounds of one keeper, until in one no request is refused."""
-    began = time.perf_counter()
-    counts = Counter[str]()
-    for nth in range(1, MOST_ROUNDS):
-        outcome = round_of(program, name, word, environment, nth)
-        if outcome == NONE:
+@dataclass
+class Server:
+    """The program, with words for a keeper, and an environment in which a request for memory is refused."""
+
+    program: str
+    words: Sequence[str]
+    environment: Dict[str, str]
+
+    def run(self, lines: str, nth: int) -> "subprocess.CompletedProcess[str]":
+        """A run over these lines with the nth request refused; with none where that is 0."""
+        return subprocess.run([self.program, *self.words, *FILES], env={**self.environment, "REFUSE": str(nth)}, input=lines,
+                              capture_output=True, text=True, timeout=60)
+
+    def tells(self, lines: Sequence[str], replies: Sequence[str]) -> bool:
+        """Whether these are the replies to the lines where no request is refused."""
+        run = self.run("".join(f"{it}\n" for it in lines), 0)
+        return (run.returncode, run.stdout.splitlines(), run.stderr) == (0, list(replies), "")
+
+    def outcome(self, name: str, nth: int) -> Optional[str]:
+        """How the session went with the nth request refused; None where it makes fewer. Ends the process where it went wrong."""
+        lines, replies = SESSIONS[name]
+        run = self.run(lines, nth)
+        if (run.returncode, run.stdout, run.stderr) == (4, "", "refused\nmemory\n"):
+            return BEFORE
+        if run.returncode == 0 and run.stdout == replies and run.stderr in ("", "refused\n"):
+            return UNSEEN if run.stderr else None
+        retold = Retold(lines.splitlines(), run.stdout.splitlines())
+        is_one = retold.is_whole and retold.wanting == 1
+        if (run.returncode, run.stderr) == (0, "refused\n") and is_one and self.tells(retold.lines, retold.replies):
+            return ANSWERED
+        sys.exit(f"{name} {self.words}: with request {nth} refused, status {run.returncode}\n{run.stdout}{run.stderr}")
+
+
+def starved(server: Server, name: str, word: str, first: int) -> int:
+    """Runs the rounds of a session from that request on, until in one no request is refused: the last one that begins no session."""
+    began, counts, last = time.perf_counter(), Counter[str](), first
+    for nth in range(first, MOST_ROUNDS):
+        outcome = server.outcome(name, nth)
+        if outcome is None:
             break
         if outcome == BEFORE and counts[ANSWERED] > 0:
             sys.exit(f"{name} {word}: with request {nth} refused, the program ended in its session")
         counts[outcome] += 1
+        last = nth if outcome == BEFORE else last
     else:
         sys.exit(f"{name} {word}: a request was refused in each of {MOST_ROUNDS} rounds")
-    if counts[ANSWERED] == 0:
-        sys.exit(f"{name} {word}: in no round a line was answered `memory`")
-    seconds = time.perf_counter() - began
+    if not counts[BEFORE] or not counts[ANSWERED]:
+        sys.exit(f"{name} {word}: in no round {BEFORE if counts[ANSWERED] else ANSWERED}")
     told = ", ".join(f"{counts[outcome]:,} {outcome}" for outcome in (BEFORE, UNSEEN, ANSWERED))
-    print(f"{name}, {KEEPERS[word]}: {sum(counts.values()):,} rounds in {seconds:.0f} s, all right: {told}", flush=True)
+    seconds = time.perf_counter() - began
+    print(f"{name}/{word}: {sum(counts.values()):,} rounds in {seconds:.0f} s, all right: {told}", flush=True)
+    return last
 
 
 def main() -> None:
@@ -81,14 +239,16 @@ def main() -> None:
     words.add_argument("-k", metavar="PART", action="append", default=[], help="in those alone whose names, SESSION/KEEPER, have this part")
     words.add_argument("program", metavar="PROGRAM")
     given = words.parse_args()
-    pairs = [(name, word) for name in SESSIONS for word in KEEPERS]
+    pairs = [(name, word) for word in KEEPERS for name in SESSIONS]
     chosen = [it for it in pairs if not given.k or any(part in "/".join(it) for part in given.k)]
     if not chosen:
         words.error(f"no session has such a name; there are {', '.join(map('/'.join, pairs))}")
+    begun: Dict[str, int] = {}
     with tempfile.TemporaryDirectory() as folder:
         environment = refusing(folder)
         for name, word in chosen:
-            session(os.path.abspath(given.program), name, word, environment)
+            server = Server(os.path.abspath(given.program), KEEPERS[word], environment)
+            begun[word] = starved(server, name, word, begun.get(word, 1))
 
 
 if __name__ == "__main__":

@@ -1,9 +1,9 @@
-//! Tests of whole sessions: over the calculator, with each keeper, with readers and writers that fail, with
-//! questions in turns, of aspects as they are read, and of what no session shows; of keepers by themselves, beside
-//! plain models; of what is derived, of components, and of searches over formulas, found by hand.
+//! Tests of what no session of the program shows: lines and turns one by one, readers and writers that fail, lines by
+//! chance with each keeper, aspects as they are read, a store; keepers by themselves, beside plain models; what is
+//! derived, components, and searches over formulas, found by hand.
 //!
-//! **Where to begin:** `sessions.rt` has lines, replies and work as rows of a table. A test that a page can show
-//! stands on a page, and one that the program shows in tools/of_the_program (docs/TESTING.md).
+//! **Where to begin:** `turns.rt` has lines and turns as rows of a table. A test that a page can show stands on a page,
+//! and one that the program shows, such as a whole session with its work, in tools/of_the_program (docs/TESTING.md).
 #![tactic(auto)]
 
 #[cfg(test)]
@@ -21,13 +21,9 @@ mod hearing;
 #[cfg(test)]
 mod keepers;
 #[cfg(test)]
-mod kept_again;
-#[cfg(test)]
 mod samples;
 #[cfg(test)]
 mod searching;
-#[cfg(test)]
-mod sessions;
 #[cfg(test)]
 mod settled;
 #[cfg(test)]

@@ -55,12 +55,6 @@ const PROBE: &[u8] = b"aspect Probe {
   eq Block.getStmt(int i).pos() = i;
   eq Program.getBlock().pos() = -1;
 }
-aspect Doubled {
-  syn String Use.d1() = getID() + getID();
-  syn String Use.d2() = d1() + d1();
-  syn String Use.d3() = d2() + d2();
-  syn String Use.d4() = d3() + d3();
-}
 ";
 
 /// The calculator's aspects, and some that ask it more.

@@ -241,7 +241,7 @@ fn ended(alloc: Global, equations: &[Equation]) -> Result<IndexMap<Inst, Ended>,
 }
 
 /// The values that are known of them.
-fn kept(alloc: Global, equations: &[Equation]) -> Result<Kept, AllocError> {
+fn known_of(alloc: Global, equations: &[Equation]) -> Result<Kept, AllocError> {
     let mut values = IndexMap::new(alloc);
     for (number, equation) in equations.iter().enumerate() {
         if let Equation::Knows(value) = equation {
@@ -271,7 +271,7 @@ fn values(
     equations: &[Equation],
 ) -> Result<Option<Vec<Option<bool>>>, Fail> {
     let ended = ended(alloc, equations)?;
-    let known = kept(alloc, equations)?;
+    let known = known_of(alloc, equations)?;
     let Some(seen) = closure(alloc, &ended, &known, &numbered(0))? else {
         return Ok(None);
     };
@@ -286,7 +286,7 @@ fn values(
 /// The fault that a search from the first one meets first.
 fn met(alloc: Global, equations: &[Equation]) -> Result<Option<Fault>, Fail> {
     let ended = ended(alloc, equations)?;
-    let known = kept(alloc, equations)?;
+    let known = known_of(alloc, equations)?;
     Ok(first_fault(alloc, &ended, &known, &numbered(0))?)
 }
 
@@ -338,7 +338,7 @@ fn a_ring_is_solved_behind_the_one_to_which_it_leads(rt: HostRuntime) -> Result<
         Forms(&[Of(2)]),
     ];
     let ended = ended(alloc, rings)?;
-    let known = kept(alloc, rings)?;
+    let known = known_of(alloc, rings)?;
     let Some(seen) = closure(alloc, &ended, &known, &numbered(0))? else {
         return Err(Fail::new("an equation hasn't ended"));
     };

@@ -1,10 +1,9 @@
-//! Lines and turns one by one: questions in turns, the tree between lines, and how many lines are told before an answer.
+//! Lines and turns one by one: questions in turns, the tree between lines, and a question that is given no turns.
 
 ghost use Rattle.at_start.specs.Starts.{IsReady};
 
 use crate::hearing::{calculator, played};
 use crate::samples::{TREE, over};
-use crate::sessions::built::joined;
 use at_cache::KeepRecorded;
 use at_engine::Engine;
 use at_tree::tree::{depth, nodes};
@@ -294,39 +293,17 @@ fn lines_and_turns_are_taken_one_by_one(rt: HostRuntime) -> Result<(), Fail> {
     Ok(())
 }
 
-/// How many turns follow each line, and how many of 20 lines behind the post are told before the answer. It needs 17 turns;
-/// at the end of the input the question is answered in any case.
-const SLICES: &[(u32, usize)] = &[
-    (0, 20),
-    (1, 16),
-    (2, 8),
-    (7, 2),
-    (16, 1),
-    (17, 0),
-    (1_000, 0),
-];
-
-/// A failure where not so many lines are told before the answer, where so many turns follow each line.
-fn are_before(alloc: Global, slice: u32, before: usize) -> Result<(), Fail> {
-    let post = "0 post /Block/Stmt:1/Expr value()\n";
-    let lines = joined(alloc, &[(post, 1), ("0 version\n", 20)])?;
-    let replies = joined(
-        alloc,
-        &[
-            ("0 open 1\n", 1),
-            ("0 ok 0\n", before),
-            ("0 done 1 0 = 3\n", 1),
-            ("0 ok 0\n", 20_usize.saturating_sub(before)),
-        ],
-    )?;
-    played(alloc, &over(TREE), slice, &lines, replies.as_bytes())?;
-    Ok(())
-}
-
 #[test]
-fn so_many_turns_follow_each_line(rt: HostRuntime) -> Result<(), Fail> {
-    for (slice, before) in SLICES {
-        are_before(rt.alloc(), *slice, *before)?;
-    }
+fn without_turns_a_question_is_answered_at_the_end(rt: HostRuntime) -> Result<(), Fail> {
+    let lines = "0 post /Block/Stmt:1/Expr value()
+0 version
+0 version
+";
+    let replies = b"0 open 1
+0 ok 0
+0 ok 0
+0 done 1 0 = 3
+";
+    played(rt.alloc(), &over(TREE), 0, lines, replies)?;
     Ok(())
 }

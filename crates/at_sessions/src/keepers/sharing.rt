@@ -44,10 +44,4 @@ pub const SHARED_WORDS: Words = Words {
         "set /Item:3 Item(9)",
         "set / Names([Item(1),Item(2),Item(3),Item(4),Item(5),Item(6),Item(7),Item(8),Item(9),Item(10)])",
     ],
-    questions: &[
-        "/ all()",
-        "/ backward()",
-        "/Item:9 kept()",
-        "/Item:4 twice()",
-    ],
 };

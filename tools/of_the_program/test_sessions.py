@@ -1,0 +1,89 @@
+"""Whole sessions with each keeper: their replies, and the work that they cost; and over trees, and of lines, that are built."""
+import subprocess
+from typing import List
+
+from tools.of_the_program.runs import NOTHING, SECONDS, ProgramTest
+from tools.of_the_program.sessions import CALCULATOR, KEPT_AGAIN, LOST, OPTIONAL, REUSED, SESSIONS, SIGNS, Sample, Session
+
+# All that is kept over edits; what is kept again; and so few entries that an edit folds some: of these no work is told.
+KEEPERS: List[List[str]] = [[], ["--cut-off"]]
+FEW = ["--keep", "4"]
+# A question for sixteen times a name, which is changed to that one before.
+NAMED = '0 token /Block/Stmt:1/Expr/Left ID "{}"\n0 ask /Block/Stmt:1/Expr/Left d4()\n'
+
+
+def deep(levels: int) -> str:
+    """The path of the innermost of so many blocks below the first one."""
+    return "/Block" + "/Stmt:0" * levels
+
+
+def moved(levels: int, index: int) -> str:
+    """A move of the second statement into the innermost of so many blocks, to that index."""
+    return f"0 move /Block/Stmt:1 to {deep(levels)} Stmt {index}\n"
+
+
+# Over the calculator, and over trees of its grammar.
+BUILT = [
+    Session("a text has fewer than 65,536 bytes", NAMED.format("a" * 4_095), '0 ok 1\n0 = "' + "a" * 65_520 + '"\n'),
+    Session("a text of 65,536 bytes is a fault", NAMED.format("a" * 4_096), "0 ok 1\n0 fault long in /Block/Stmt:1/Expr/Left.d4\n"),
+    Session("a move may not make the tree deeper than it may be",
+            "0 insert /Block Stmt 0 " + "Block([" * 510 + "])" * 510 + "\n" + moved(510, 0) + moved(509, 1) + moved(508, 1)
+            + "0 ask /Block/Stmt:1/Expr value()\n",
+            "0 ok 1\n0 refused 12 limit\n0 refused 12 limit\n0 ok 2\n0 fault null in /Block/Stmt:1/Expr/Left.value\n"),
+    Session("a session has 100 marks and no more",
+            "".join(f"0 mark m{i} /\n" for i in range(101)) + "1 mark m0 /\n0 unmark m0\n0 mark m100 /\n",
+            "0 ok 0\n" * 100 + "0 refused 12 limit\n1 ok 0\n0 ok 0\n0 ok 0\n", 0),
+]
+SUMS = CALCULATOR._replace(tree="Program(Block([Print(" + "Add(" * 508 + "Num(1)" + ",Num(1))" * 508 + ")]))")
+AS_DEEP = Session("questions go as deep as the tree", "0 ask /Block/Stmt:0/Expr value()\n", "0 = 509\n", 1_017)
+CHAIN = CALCULATOR._replace(
+    tree='Program(Block([Decl("a0",Num(1))' + "".join(f',Decl("a{i + 1}",Use("a{i}"))' for i in range(199)) + "]))")
+ALONG = Session("questions follow references", "0 ask /Block/Stmt:199 value()\n", "0 = 1\n", 997)
+# How many turns follow each line, and how many of 20 lines behind the post are told before the answer. It needs 17 turns; at the end
+# of the input the question is answered in any case.
+SLICES = [(1, 16), (2, 8), (7, 2), (16, 1), (17, 0), (1_000, 0)]
+
+
+class Sessions(ProgramTest):
+    """Sessions with each keeper."""
+
+    def write(self, sample: Sample) -> List[str]:
+        """Writes the sample's files: their names."""
+        files = {"it.ast": sample.grammar, "it.txt": sample.tree, **{f"{i}.jrag": text for i, text in enumerate(sample.aspects)}}
+        for name, text in files.items():
+            (self.folder / name).write_text(text, encoding="utf-8")
+        return list(files)
+
+    def played(self, words: List[str], session: Session) -> str:
+        """What a run with these words, which has the session's replies, tells of its work."""
+        run = subprocess.run([self.program, "--work", *words], cwd=self.folder, env=NOTHING, input=session.lines, capture_output=True,
+                             encoding="utf-8", timeout=SECONDS)
+        self.assertEqual((run.returncode, run.stdout), (0, session.replies))
+        return run.stderr
+
+    def assert_all(self, sample: Sample, *sessions: Session) -> None:
+        """The sessions over the sample have their replies with each keeper, and with two of them the same work, as they tell it."""
+        files = self.write(sample)
+        for session in sessions:
+            with self.subTest(session.name):
+                self.played([*FEW, *files], session)
+                kept, again = (self.played([*keeper, *files], session) for keeper in KEEPERS)
+                self.assertEqual([kept, again], [kept if session.work is None else f"work {session.work}\n"] * 2)
+
+    def test_sessions_have_their_replies_and_work(self) -> None:
+        self.assert_all(CALCULATOR, *SESSIONS, *KEPT_AGAIN)
+        self.assert_all(OPTIONAL, *REUSED)
+        self.assert_all(SIGNS, *LOST)
+
+    def test_what_is_built_has_its_replies_and_work(self) -> None:
+        self.assert_all(CALCULATOR, *BUILT)
+        self.assert_all(SUMS, AS_DEEP)
+        self.assert_all(CHAIN, ALONG)
+
+    def test_so_many_turns_follow_each_line(self) -> None:
+        files, lines = self.write(CALCULATOR), "0 post /Block/Stmt:1/Expr value()\n" + "0 version\n" * 20
+        for turns, before in SLICES:
+            told = "0 open 1\n" + "0 ok 0\n" * before + "0 done 1 0 = 3\n" + "0 ok 0\n" * (20 - before)
+            for keeper in [*KEEPERS, FEW]:
+                with self.subTest(turns=turns, keeper=keeper):
+                    self.played(["--slice", str(turns), *keeper, *files], Session("turns", lines, told))
