@@ -132,14 +132,14 @@ def elements(bench: Bench) -> None:
 def declarations(bench: Bench) -> None:
     """Chains of declarations in the calculator, of which each is looked up by the next: each look-up goes through those before it."""
     samples = ROOT / "samples" / "calculator"
-    for count, most, most_from_front, turns in ((2_000, 40, 40, bench.turns), (10_000, 100, 40, 1)):
+    for count, turns in ((2_000, bench.turns), (10_000, 1)):
         chain = ",".join(['Decl("x0",Num(1))'] + [f'Decl("x{k}",Use("x{k - 1}"))' for k in range(1, count)])
         words = [str(samples / "calc.ast"), bench.put("chain.txt", f"Program(Block([{chain}]))\n"), str(samples / "calc.jrag")]
-        asked = (("at its end", f"0 ask /Block/Stmt:{count - 1} value()\n", most),
-                 ("from the front", "".join(f"0 ask /Block/Stmt:{k} value()\n" for k in range(count)), most_from_front))
-        for where, lines, bound in asked:
+        asked = (("at its end", f"0 ask /Block/Stmt:{count - 1} value()\n"),
+                 ("from the front", "".join(f"0 ask /Block/Stmt:{k} value()\n" for k in range(count))))
+        for where, lines in asked:
             time, peak = bench.spent(words, lines, turns=turns)
-            bench.told(f"a chain of {count:,} declarations asked {where}, in MiB", peak / 1024, bound)
+            bench.told(f"a chain of {count:,} declarations asked {where}, in MiB", peak / 1024, 40)
             bench.told("the same, in seconds", time)
 
 
