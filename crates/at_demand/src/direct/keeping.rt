@@ -138,7 +138,7 @@ impl Direct {
         if keeper.stands(&needed) {
             return Err(Stop::GivesUp);
         }
-        let order = order_in(keeper, basis.rules, below.uses.as_slice());
+        let order = order_of(basis.rules, below.uses.as_slice());
         let put = self.put(keeper, &needed, value, below, order)?;
         match put {
             Put::Kept => {
@@ -242,16 +242,6 @@ impl Direct {
         }
         Ok(())
     }
-}
-
-// How the uses of an evaluation stand, for a keeper that traces; for another one it tells nothing.
-fn order_in<K: Keeper>(keeper: &K, rules: &Rules, uses: &[Inst]) -> Order
-    ensures { result ≡ order_code.AsTaken → AreLazy rules.now uses.now }
-{
-    if !keeper.is_tracing() {
-        return Order::Any;
-    }
-    order_of(rules, uses)
 }
 
 // How the uses of an evaluation stand: as they were taken, where all are lazy. The value of another one is known for one question alone.

@@ -28,7 +28,7 @@ pub returns-in_err-put : goal.returns-in_err-put
 returns-in_err-put g c = record {
   told = search rules;
   grown = grown_unkept c.args.basis.now.idle c.requires c.put.ensures.found c.as_slice.ensures.value
-      c.order_in-order.result c.order_in-order.ensures (g.K.Keeper.kept_last c.put.new.keeper) c.put.ensures.traces
+      c.order_of-order.result c.order_of-order.ensures (g.K.Keeper.kept_last c.put.new.keeper) c.put.ensures.traces
       c.put.ensures.counts c.in_err-put.ensures.err;
 }
 
@@ -36,7 +36,7 @@ pub returns-in_err-push-in-Kept : goal.returns-in_err-push-in-Kept
 returns-in_err-push-in-Kept g c = record {
   told = search rules;
   grown = grown_kept c.args.basis.now.idle c.requires c.put.ensures.found c.as_slice.ensures.value
-      c.order_in-order.result c.order_in-order.ensures (g.K.Keeper.kept_last c.put.new.keeper) c.put.ensures.traces
+      c.order_of-order.result c.order_of-order.ensures (g.K.Keeper.kept_last c.put.new.keeper) c.put.ensures.traces
       c.put.ensures.counts
       (none_entered (g.K.Keeper.contents c.args.keeper.now c.args.needed) c.stands.result c.stands.ensures
       c.if-stands.false) c.in_ok-put.put c.in_ok-put.ensures.puts;
@@ -61,7 +61,7 @@ returns-in_ok-push-in-Kept g c = record {
       (kept_now new c.put.new.self.found.entries c.args.needed v
       (put_kept g.K.Keeper.exact entries new c.args.needed v ls us puts)) refl c.in_ok-push-in-Kept.ensures.items;
   grown = grown_kept c.args.basis.now.idle c.requires c.put.ensures.found c.as_slice.ensures.value
-      c.order_in-order.result c.order_in-order.ensures (g.K.Keeper.kept_last c.put.new.keeper) c.put.ensures.traces
+      c.order_of-order.result c.order_of-order.ensures (g.K.Keeper.kept_last c.put.new.keeper) c.put.ensures.traces
       c.put.ensures.counts
       (none_entered (g.K.Keeper.contents c.args.keeper.now c.args.needed) c.stands.result c.stands.ensures
       c.if-stands.false) c.in_ok-put.put c.in_ok-put.ensures.puts;
@@ -71,7 +71,7 @@ pub returns-in-Left : goal.returns-in-Left
 returns-in-Left g c = record {
   told = search rules;
   grown = grown_kept c.args.basis.now.idle c.requires c.put.ensures.found c.as_slice.ensures.value
-      c.order_in-order.result c.order_in-order.ensures (g.K.Keeper.kept_last c.put.new.keeper) c.put.ensures.traces
+      c.order_of-order.result c.order_of-order.ensures (g.K.Keeper.kept_last c.put.new.keeper) c.put.ensures.traces
       c.put.ensures.counts
       (none_entered (g.K.Keeper.contents c.args.keeper.now c.args.needed) c.stands.result c.stands.ensures
       c.if-stands.false) c.in_ok-put.put c.in_ok-put.ensures.puts;
