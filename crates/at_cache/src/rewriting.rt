@@ -115,6 +115,7 @@ fn gather(
                 &Row::few(*count, *step, *slot, *stamp),
             )
         }
+        Edges::Several(rows) => gather_rows(entries, plan, slots, rows.as_slice()),
         Edges::More(rows) => gather_rows(entries, plan, slots, rows.as_slice()),
     }
 }

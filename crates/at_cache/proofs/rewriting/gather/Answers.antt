@@ -7,5 +7,8 @@ returns-in-Empty c = rw c.in-Empty.is (record { gathers = gathered_none _ _ _; a
 pub returns-in-Few : goal.returns-in-Few
 returns-in-Few c = rw (c.in-Few.is, ← c.few.ensures) (record { gathers = c.gather_row.ensures.gathers; alone = c.gather_row.ensures.alone })
 
+pub returns-in-Several : goal.returns-in-Several
+returns-in-Several c = rw (c.in-Several.is, ← c.deref.ensures, ← c.as_slice.ensures.value) (record { gathers = c.gather_rows.ensures.gathers; alone = c.gather_rows.ensures.alone })
+
 pub returns-in-More : goal.returns-in-More
-returns-in-More c = rw (c.in-More.is, ← c.deref.ensures, ← c.as_slice.ensures) (record { gathers = c.gather_rows.ensures.gathers; alone = c.gather_rows.ensures.alone })
+returns-in-More c = rw (c.in-More.is, ← c.deref-in-More.ensures, ← c.as_slice-in-More.ensures) (record { gathers = c.gather_rows-in-More.ensures.gathers; alone = c.gather_rows-in-More.ensures.alone })
