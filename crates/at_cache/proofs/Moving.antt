@@ -324,3 +324,12 @@ apart_by es d p q e f at_p at_q same = elim (cases_lt p q) [
     | inr not_more ↦ omega (arith, not_less, not_more)
   ]
 ]
+
+-- the same entries and slots, in less memory
+pub placed_same : (xs ys : List (Instance ℕ × Entry)) (slots later : ℕ → Option ℕ) → ys ≡ xs → ((k : ℕ) → later k ≡ slots k) → IsPlaced xs slots → IsPlaced ys later
+placed_same xs ys slots later same values placed =
+    subst (λ (f : ℕ → Option ℕ). IsPlaced ys f) (sym (λ i k. values k i)) (subst (λ (zs : List (Instance ℕ × Entry)). IsPlaced zs slots) (sym same) placed)
+
+pub at_same : (xs ys : List (Instance ℕ × Entry)) (slots later : ℕ → Option ℕ) (k : ℕ) → ys ≡ xs → ((k : ℕ) → later k ≡ slots k) → at ys later k ≡ at xs slots k
+at_same xs ys slots later k same values =
+    ap (λ (zs : List (Instance ℕ × Entry)). at zs later k) same ∙ ap (λ (f : ℕ → Option ℕ). at xs f k) (λ i k. values k i)

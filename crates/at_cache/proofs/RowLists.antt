@@ -123,6 +123,15 @@ lists_row rs new r x same k is alone = listed_one k (one_row rs new r x is alone
 pub has_row : (rs new : List Row) (r : Row) (x : Edge) → new ≡ rs ++ r ∷ [] → edges_of r ≡ x ∷ [] → Contains (edges_along new) x
 has_row rs new r x is alone = subst (λ es. Contains es x) (sym (one_row rs new r x is alone)) (Contains-push (edges_along rs) x)
 
+-- a row alone
+pub none_along : (rs : List Row) → length rs ≡ 0 → [] ≡ edges_along rs
+none_along [] none = refl
+none_along (r ∷ rs) none = absurd (omega (arith, none))
+
+pub alone_along : (rs others : List Row) (r : Row) → rs ≡ r ∷ others → length others ≡ 0 → edges_of r ≡ edges_along rs
+alone_along rs [] r is none = sym (append-nil (edges_of r)) ∙ sym (ap edges_along is)
+alone_along rs (s ∷ others) r is none = absurd (omega (arith, none))
+
 longer_last : (rs : List Row) (i : ℕ) (d s : Row) (x : Edge) → length rs ≡ suc i → edges_of s ≡ edges_of (get_or rs i d) ++ x ∷ [] → edges_along (slice_set rs i s) ≡ edges_along rs ++ x ∷ []
 longer_last [] i d s x long longer = absurd (omega (arith, long))
 longer_last (y ∷ []) zero d s x long longer = append-nil (edges_of s) ∙ longer ∙ ap (λ ys. ys ++ x ∷ []) (sym (append-nil (edges_of y)))

@@ -77,6 +77,13 @@ pub record Folded (lists : Location ℕ → List Edge) (m : Memory) (into : ℕ 
 abbrev pub AreAlone : (there : Edge → Bool) → (into : ℕ → List ℕ) → List Edge → Type 0
 AreAlone there into edges = (x : Edge) → Contains edges x → (there x ≡ true) × (into x.slot ≡ x.slot ∷ [])
 
+-- the number at a slot, if it isn't that for none, is that of an entry which is there and folded into itself alone
+abbrev pub IsLone : (there : Edge → Bool) → (into : ℕ → List ℕ) → (none slot number : ℕ) → Type 0
+IsLone there into none s x = (x ≡ none) ⊎ ((there (record { slot = s; stamp = x }) ≡ true) × (into s ≡ s ∷ []))
+
+abbrev pub AreLone : (there : Edge → Bool) → (into : ℕ → List ℕ) → (none : ℕ) → (numbers : List ℕ) → Type 0
+AreLone there into none numbers = (s x : ℕ) → slice_get numbers s ≡ Some x → IsLone there into none s x
+
 -- The slots are gathered of all into which those are folded that the edges tell of.
 pub record Gathered (there : Edge → Bool) (into : ℕ → List ℕ) (edges : List Edge) (old new : List ℕ) : Type 0 where
   pub kept : (r : ℕ) → Contains old r → Contains new r

@@ -1,12 +1,13 @@
 //! Edges of the index.
 
-ghost use Rattle.std.specs.Prelude.{◌≡◌, ◌∷◌, [], IfSome, length, nat_eq};
+ghost use Rattle.std.specs.Prelude.{◌≡◌, ◌∷◌, [], IfOk, IfSome, length, nat_eq};
 ghost use Rattle.at_cache.specs.Edges.{edges_in};
 ghost use Rattle.at_cache.specs.Rows.{edges_along, edges_of};
 
 use crate::row::Row;
 use arrayvec::ArrayVec;
 use smallvec::SmallVec;
+use std::alloc::{AllocError, Global};
 
 /// Where an entry stands as long as it does, while others come and go.
 pub type Slot = u32;
@@ -63,6 +64,19 @@ fn are_empty(rows: &[Row]) -> bool
     true
 }
 
+// The edges of these rows, where they take sixteen bytes.
+fn few_of(rows: &[Row]) -> Option<Edges>
+    ensures { IfSome result (λ edges. edges_in edges ≡ edges_along rows.now) }
+{
+    let Some((row, others)) = rows.split_first() else {
+        return Some(Edges::Empty);
+    };
+    match others.split_first() {
+        Some(_) => None,
+        None => Edges::of_row(*row),
+    }
+}
+
 impl Edges {
     /// That edge alone.
     pub fn of(edge: Edge) -> Edges
@@ -79,6 +93,18 @@ impl Edges {
             return None;
         }
         Some(Edges::Few(row.count as u8, row.step, row.slot, row.stamp))
+    }
+
+    /// The edges of these rows, in no more memory than they need.
+    pub fn of_rows(alloc: Global, rows: Many) -> Result<Edges, AllocError>
+        ensures { IfOk result (λ edges. edges_in edges ≡ edges_along rows.items) }
+    {
+        if let Some(edges) = few_of(rows.as_slice()) {
+            return Ok(edges);
+        }
+        let mut rows = rows;
+        rows.shrink_to_fit();
+        Ok(Edges::More(Box::new(alloc, rows)?))
     }
 
     /// Whether there is none.

@@ -15,6 +15,7 @@ use crate::checking::is_sound;
 use crate::edge::Slot;
 use crate::entry::Links;
 use crate::facet::Facets;
+use crate::lone::lone_of;
 use crate::relinking::{links_of, relink, remove_folded};
 use crate::rewriting::rewrite;
 use crate::table::Table;
@@ -78,7 +79,8 @@ pub fn fold(
         return Err(AllocError);
     }
     let links = links_of(alloc, entries, plan)?;
-    rewrite(alloc, entries, plan, readers)?;
-    relink(alloc, entries, plan, links.as_slice())?;
+    let lone = lone_of(alloc, entries, plan)?;
+    rewrite(alloc, entries, plan, &lone, readers)?;
+    relink(alloc, entries, plan, links.as_slice(), &lone)?;
     remove_folded(entries, plan)
 }

@@ -13,7 +13,7 @@
 //! **Where to begin:** the trait in `keeper.rt`, then `keep_recorded.rt`: `table.rt` holds the entries,
 //! `row.rt` and `linking.rt` the edges; `putting.rt` is `put`, `forgetting.rt` a flush, `places.rt` one by places.
 //! `keep_at_most.rt` is a keeper over it, with a bound: beyond it entries are folded (`folding.rt`) by a plan that is chosen (`choosing.rt`) and
-//! tested (`checking.rt`); `rewriting.rt` has their edges, `relinking.rt` the entries.
+//! tested (`checking.rt`); `lone.rt` tells which lists stay, `rewriting.rt` has their edges, `relinking.rt` the entries.
 //! `keep_cut_off.rt` is one whose entries stay in memory: `cut.rt` and `standing.rt` have them,
 //! `cutting.rt` is its flush over what `forgetting.rt` marks (`marked.rt`), `renewing.rt` its `put`, `settling.rt`
 //! and `blocking.rt` what a question keeps again.
@@ -41,6 +41,7 @@ mod keep_recorded;
 mod keep_until_edit;
 mod keeper;
 mod linking;
+mod lone;
 mod mark;
 mod marked;
 mod noting;

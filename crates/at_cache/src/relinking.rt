@@ -1,13 +1,15 @@
 //! Entries that stay use what those used that are folded into them, and the others go.
 
 ghost use Rattle.std.specs.Prelude.{◌≡◌, ◌<◌, ◌∷◌, [], ℕ, IfOk, OnOk, length};
-ghost use Rattle.at_cache.specs.Folding.{AreLinks, HasLinked, HasSame, Linked, LinkedTo, Relinks, RelinksAt, Remains, RemovesAt, slots_at};
+ghost use Rattle.at_cache.specs.Folding.{AreLinks, AreLone, HasLinked, HasSame, Linked, LinkedTo, Relinks, RelinksAt, Remains, RemovesAt, slots_at};
 ghost use Rattle.at_cache.specs.Info.{memory_of};
+ghost use Rattle.at_cache.specs.Putting.{is_current};
 
 use crate::edge::{Edges, Slot};
 use crate::entry::Links;
 use crate::facet::small;
 use crate::folding::{does_stay, is_near, slots_at};
+use crate::lone::Lone;
 use crate::rewriting::rewrite_list;
 use crate::table::Table;
 use std::alloc::{AllocError, Global};
@@ -138,9 +140,11 @@ fn relink_at(
     entries: &mut Table,
     plan: &[Links],
     links: &[Links],
+    lone: &Lone,
     slots: &mut Vec<Slot>,
     slot: Slot,
 ) -> Result<(), AllocError>
+    requires lone { AreLone (is_current (memory_of entries.old)) (slots_at plan.now) lone.now.none lone.now.stamps.items }
     ensures { OnOk result (RelinksAt (slots_at plan.now) (slots_at links.now slot) slot (memory_of entries.old) (memory_of entries.new)) }
 {
     if !does_stay(plan, slot) {
@@ -151,7 +155,7 @@ fn relink_at(
     }
     let list = Links::from_slice(alloc, slots_at(links, slot))?;
     let mut users = entries.exchange_users(slot, Edges::Empty);
-    rewrite_list(alloc, entries, plan, slots, &mut users)?;
+    rewrite_list(alloc, entries, plan, lone, slots, &mut users)?;
     entries.relink(slot, list, users);
     Ok(())
 }
@@ -162,13 +166,15 @@ pub fn relink(
     entries: &mut Table,
     plan: &[Links],
     links: &[Links],
+    lone: &Lone,
 ) -> Result<(), AllocError>
+    requires lone { AreLone (is_current (memory_of entries.old)) (slots_at plan.now) lone.now.none lone.now.stamps.items }
     ensures { OnOk result (Relinks (slots_at plan.now) (slots_at links.now) (memory_of entries.old) (memory_of entries.new)) }
 {
     let mut slots = Vec::new(alloc);
     for number in 0..plan.len() {
         let slot = small(number)?;
-        relink_at(alloc, entries, plan, links, &mut slots, slot)?;
+        relink_at(alloc, entries, plan, links, lone, &mut slots, slot)?;
     }
     Ok(())
 }

@@ -139,6 +139,7 @@ impl Table {
         ensures { (k : ℕ) → memory_of self.new k ≡ memory_of self.old k }
     {
         self.entries.shrink_to_fit();
+        self.places.shrink_to_fit();
     }
 
     /// The entry in the slot is put anew, and has the edges to those that used it before.

@@ -1,5 +1,5 @@
 -- What is gathered for a list, and the list that is made of it.
-use Rattle.std.proofs.Common.{◌≡◌, ◌⊎◌, inl, inr, ℕ, List, [], ◌∷◌, ◌++◌, Bool, true, false, true≢false, nat_eq, Option, None, Some, Contains, IsPermutation, refl, sym, ap, ◌∙◌, subst, eqb-true}
+use Rattle.std.proofs.Common.{◌≡◌, ◌⊎◌, inl, inr, ℕ, List, [], ◌∷◌, ◌++◌, Bool, true, false, true≢false, nat_eq, Option, None, Some, Contains, IsPermutation, length, slice_get, refl, sym, ap, ◌∙◌, subst, eqb-true}
 use Rattle.std.specs.List.{list_any}
 use Rattle.std.proofs.lemmas.Bool.{eq-eqb}
 use Rattle.std.proofs.lemmas.Option.{none-some, same_Some}
@@ -7,12 +7,13 @@ use Rattle.std.proofs.lemmas.List.Elements.{Contains-append_cases, Contains-appe
 use Rattle.std.proofs.lemmas.List.Sorted.{Contains-permutation, IsPermutation-sym}
 use Rattle.slab.proofs.SlabLemmas.{Contains-cons_cases}
 use Rattle.at_cache.specs.declared.edge.Edge.{Edge}
-use Rattle.at_cache.specs.Folding.{AreAlone, AreEdgesTo, Gathered, HasUser, Refolded, Stays, Tells}
+use Rattle.at_cache.specs.Folding.{AreAlone, AreEdgesTo, AreLone, Gathered, HasUser, IsLone, Refolded, Stays, Tells}
 use Rattle.at_cache.specs.Info.{Info, Memory}
 use Rattle.at_cache.specs.Putting.{Lists, is_current}
 use Rattle.at_cache.proofs.Dooming.{head_of}
 use Rattle.at_cache.proofs.Ending.{any_of, some_of}
 use Rattle.at_cache.proofs.Listing.{current}
+use Rattle.at_cache.proofs.Lists.{get_push}
 use Rattle.at_cache.proofs.Taking.{none_in}
 
 -- a number is one of these, by a test and back
@@ -44,6 +45,10 @@ told_same m x y a b same =
     let one : e ≡ f = same_Some e f (sym there ∙ ap m same ∙ found) in
     let stamps : x.stamp ≡ y.stamp = sym of_x ∙ ap (λ (i : Info). i.stamp) one ∙ of_y in
     λ i. record { slot = same i; stamp = stamps i }
+
+-- each of these but those that are left is alone
+abbrev pub AreAloneBut : (there : Edge → Bool) → (into : ℕ → List ℕ) → (all left : List Edge) → Type 0
+AreAloneBut there into all left = (x : Edge) → Contains all x → ((there x ≡ true) × (into x.slot ≡ x.slot ∷ [])) ⊎ Contains left x
 
 module _ (there : Edge → Bool) (into : ℕ → List ℕ) where
   pub user_of : (xs ys : List Edge) (r : ℕ) → ((x : Edge) → Contains xs x → Contains ys x) → HasUser there into xs r → HasUser there into ys r
@@ -83,11 +88,40 @@ module _ (there : Edge → Bool) (into : ℕ → List ℕ) where
   pub alone_none : AreAlone there into []
   alone_none x c = absurd (none_in x c)
 
-  pub alone_one : (x : Edge) → there x ≡ true → into x.slot ≡ x.slot ∷ [] → AreAlone there into (x ∷ [])
-  alone_one x is only y c = subst (λ (z : Edge). (there z ≡ true) × (into z.slot ≡ z.slot ∷ [])) (sym (only_one x y c)) (is, only)
-
   pub alone_then : (xs ys : List Edge) → AreAlone there into xs → AreAlone there into ys → AreAlone there into (xs ++ ys)
   alone_then xs ys a b x c = elim (Contains-append_cases xs ys x c) [ inl d ↦ a x d | inr d ↦ b x d ]
+
+  pub alone_more : (all left rest : List Edge) (x : Edge) → left ≡ x ∷ rest → (there x ≡ true) × (into x.slot ≡ x.slot ∷ [])
+      → AreAloneBut there into all left → AreAloneBut there into all rest
+  alone_more all left rest x is only before y c = elim (before y c) [
+    | inl done ↦ inl done
+    | inr more ↦ elim (Contains-cons_cases x y rest (subst (λ es. Contains es y) is more)) [
+      | inl same ↦ inl (subst (λ (z : Edge). (there z ≡ true) × (into z.slot ≡ z.slot ∷ [])) same only)
+      | inr later ↦ inr later
+    ]
+  ]
+
+  pub alone_end : (all left : List Edge) → left ≡ [] → AreAloneBut there into all left → AreAlone there into all
+  alone_end all left none before x c = elim (before x c) [ inl done ↦ done | inr more ↦ absurd (none_in x (subst (λ es. Contains es x) none more)) ]
+
+  -- an edge with the number that stands at its slot is alone
+  pub lone_has : (none : ℕ) (numbers : List ℕ) (x : Edge) (number : ℕ) → AreLone there into none numbers → slice_get numbers x.slot ≡ Some number
+      → (x.stamp ≡ none → ⊥) → nat_eq number x.stamp ≡ true → (there x ≡ true) × (into x.slot ≡ x.slot ∷ [])
+  lone_has none numbers x number lone is differs same = elim (lone x.slot number is) [
+    | inl nothing ↦ absurd (differs (sym (eqb-true number x.stamp same) ∙ nothing))
+    | inr (told, only) ↦ (subst (λ n. there (record { slot = x.slot; stamp = n }) ≡ true) (eqb-true number x.stamp same) told, only)
+  ]
+
+  -- the numbers of no slots, and of one more
+  pub lone_none : (none : ℕ) (numbers : List ℕ) → numbers ≡ [] → AreLone there into none numbers
+  lone_none none numbers empty s x found = absurd (none-some x (ap (λ xs. slice_get xs s) (sym empty) ∙ found))
+
+  pub lone_push : (none : ℕ) (numbers new : List ℕ) (slot number : ℕ) → slot ≡ length numbers → new ≡ numbers ++ number ∷ [] → IsLone there into none slot number
+      → AreLone there into none numbers → AreLone there into none new
+  lone_push none numbers new slot number next is one lone s x found = elim (get_push numbers number s x (ap (λ xs. slice_get xs s) (sym is) ∙ found)) [
+    | inl old ↦ lone s x old
+    | inr (last, same) ↦ subst (λ k. IsLone there into none k x) (next ∙ sym last) (subst (IsLone there into none slot) same one)
+  ]
 
 -- the edges to what is in slots
 pub edges_none : (m : Memory) → AreEdgesTo m [] []

@@ -49,6 +49,18 @@ current_by m n same x = seen n ∙ ap (λ o. elim o as (λ _. Bool) [ None ↦ f
         by None = refl
         by (Some e) = refl
 
+-- an entry that is taken its users is there still
+pub current_taken : (slot : ℕ) (m mid : Memory) → ((k : ℕ) → mid k ≡ reused slot [] m k) → is_current mid ≡ is_current m
+current_taken slot m mid taken = λ i x. current_by m mid stamps x i
+  where
+    stamps : (k : ℕ) → stamp_at (mid k) ≡ stamp_at (m k)
+    stamps k = ap stamp_at (taken k) ∙ by (nat_eq k slot) (m k)
+      where
+        by : (t : Bool) (o : Option Info) → stamp_at (if t then option_map (with_users []) o else o) ≡ stamp_at o
+        by true None = refl
+        by true (Some e) = refl
+        by false o = refl
+
 module _ {into : ℕ → List ℕ} where
   pub relinks_nothing : (links : List ℕ) (slot : ℕ) (m : Memory) → (Stays into slot → ⊥) → RelinksAt into links slot m m
   relinks_nothing links slot m goes = record { here = λ s. absurd (goes s); others = λ k differs. refl; current = λ x. refl }
@@ -66,17 +78,9 @@ module _ {into : ℕ → List ℕ} where
   relinks_one links slot m mid new users later taken were lists written = record {
     here = λ s. by (m slot) refl;
     others = λ k differs. written k ∙ off_slot k slot _ _ differs ∙ taken k ∙ off_slot k slot _ _ differs;
-    current = λ x. current_by mid new stamps_new x ∙ current_by m mid stamps_mid x;
+    current = λ x. current_by mid new stamps_new x ∙ ap (λ t. t x) same;
   }
     where
-      stamps_mid : (k : ℕ) → stamp_at (mid k) ≡ stamp_at (m k)
-      stamps_mid k = ap stamp_at (taken k) ∙ by (nat_eq k slot) (m k)
-        where
-          by : (t : Bool) (o : Option Info) → stamp_at (if t then option_map (with_users []) o else o) ≡ stamp_at o
-          by true None = refl
-          by true (Some e) = refl
-          by false o = refl
-
       stamps_new : (k : ℕ) → stamp_at (new k) ≡ stamp_at (mid k)
       stamps_new k = ap stamp_at (written k) ∙ by (nat_eq k slot) (mid k)
         where
@@ -86,7 +90,7 @@ module _ {into : ℕ → List ℕ} where
           by false o = refl
 
       same : is_current mid ≡ is_current m
-      same = λ i x. current_by m mid stamps_mid x i
+      same = current_taken slot m mid taken
 
       new_is : (o : Option Info) → m slot ≡ o → new slot ≡ option_map (relinked links later) (option_map (with_users []) o)
       new_is o is = written slot ∙ at_slot slot slot _ _ refl ∙ ap (option_map (relinked links later)) (taken slot ∙ at_slot slot slot _ _ refl ∙ ap (option_map (with_users [])) is)

@@ -21,7 +21,7 @@ use Rattle.at_cache.proofs.Index.{Index}
 use Rattle.at_cache.proofs.Moving.{got}
 use Rattle.at_cache.proofs.RowLists.{along_end, along_has}
 use Rattle.at_cache.proofs.Taking.{none_in}
-use Rattle.at_cache.proofs.of_folding.Gathering.{alone_none, alone_then, gathered_none, gathered_then, told, user_of}
+use Rattle.at_cache.proofs.of_folding.Gathering.{alone_then, gathered_none, gathered_then, told, user_of}
 use Rattle.at_cache.proofs.of_folding.Linking.{linked_then, planned, to_then}
 
 -- each of the first ones, and one more
@@ -40,29 +40,26 @@ module _ (there : Edge → Bool) (into : ℕ → List ℕ) where
   user_along rows i d r less = user_of there into (edges_of (get_or rows i d)) (edges_along rows) r (λ x c. along_has rows i (get_or rows i d) x (got rows i d less) c)
 
   -- Of some edges at the front, with these behind them, all is gathered.
-  pub record Behind (all left : List Edge) (old new : List ℕ) (alone : Bool) : Type 0 where
+  pub record Behind (all left : List Edge) (old new : List ℕ) : Type 0 where
     pub front : List Edge
     pub is : all ≡ front ++ left
     pub gathered : Gathered there into front old new
-    pub alones : alone ≡ true → AreAlone there into front
 
-  pub behind_none : (all : List Edge) (slots : List ℕ) → Behind all all slots slots true
-  behind_none all slots = record { front = []; is = refl; gathered = gathered_none there into slots; alones = λ h. alone_none there into }
+  pub behind_none : (all : List Edge) (slots : List ℕ) → Behind all all slots slots
+  behind_none all slots = record { front = []; is = refl; gathered = gathered_none there into slots }
 
-  pub behind_one : (all left rest : List Edge) (x : Edge) (old mid new : List ℕ) (alone here now : Bool) → Behind all left old mid alone → left ≡ x ∷ rest → Gathered there into (x ∷ []) mid new
-      → (here ≡ true → AreAlone there into (x ∷ [])) → (now ≡ true → (here ≡ true) × (alone ≡ true)) → Behind all rest old new now
-  behind_one all left rest x old mid new alone here now b is g only both = record {
+  pub behind_one : (all left rest : List Edge) (x : Edge) (old mid new : List ℕ) → Behind all left old mid → left ≡ x ∷ rest
+      → Gathered there into (x ∷ []) mid new → Behind all rest old new
+  behind_one all left rest x old mid new b is g = record {
     front = b.front ++ x ∷ [];
     is = b.is ∙ ap (λ es. b.front ++ es) is ∙ sym (append_assoc b.front (x ∷ []) rest);
     gathered = gathered_then there into b.front (x ∷ []) b.gathered g;
-    alones = λ h. let (one, other) = both h in alone_then there into b.front (x ∷ []) (b.alones other) (only one);
   }
 
   -- where none is left that is all
-  pub behind_all : (all left : List Edge) (old new : List ℕ) (alone : Bool) → Behind all left old new alone → left ≡ [] → Gathered there into all old new × (alone ≡ true → AreAlone there into all)
-  behind_all all left old new alone b none =
-      let whole : b.front ≡ all = sym (append-nil b.front) ∙ ap (λ es. b.front ++ es) (sym none) ∙ sym b.is in
-      (subst (λ es. Gathered there into es old new) whole b.gathered, λ h. subst (AreAlone there into) whole (b.alones h))
+  pub behind_all : (all left : List Edge) (old new : List ℕ) → Behind all left old new → left ≡ [] → Gathered there into all old new
+  behind_all all left old new b none =
+      subst (λ es. Gathered there into es old new) (sym (append-nil b.front) ∙ ap (λ es. b.front ++ es) (sym none) ∙ sym b.is) b.gathered
 
   -- one row more
   pub gathered_row : (rows : List Row) (i : ℕ) (d : Row) (old mid new : List ℕ) → i < length rows → Gathered there into (edges_along (take i rows)) old mid
@@ -70,11 +67,10 @@ module _ (there : Edge → Bool) (into : ℕ → List ℕ) where
   gathered_row rows i d old mid new less a b =
       subst (λ es. Gathered there into es old new) (sym (row_more rows i d less)) (gathered_then there into (edges_along (take i rows)) (edges_of (get_or rows i d)) a b)
 
-  pub alone_row : (rows : List Row) (i : ℕ) (d : Row) (alone here now : Bool) → i < length rows → (alone ≡ true → AreAlone there into (edges_along (take i rows)))
-      → (here ≡ true → AreAlone there into (edges_of (get_or rows i d))) → (now ≡ true → (here ≡ true) × (alone ≡ true)) → now ≡ true → AreAlone there into (edges_along (take (i + 1) rows))
-  alone_row rows i d alone here now less a b both h =
-      let (one, other) = both h in
-      subst (AreAlone there into) (sym (row_more rows i d less)) (alone_then there into (edges_along (take i rows)) (edges_of (get_or rows i d)) (a other) (b one))
+  pub alone_row : (rows : List Row) (i : ℕ) (d : Row) → i < length rows → AreAlone there into (edges_along (take i rows))
+      → AreAlone there into (edges_of (get_or rows i d)) → AreAlone there into (edges_along (take (i + 1) rows))
+  alone_row rows i d less a b =
+      subst (AreAlone there into) (sym (row_more rows i d less)) (alone_then there into (edges_along (take i rows)) (edges_of (get_or rows i d)) a b)
 
 -- the links and targets of a loop
 pub folds_at : (m : Memory) (into : ℕ → List ℕ) (s : ℕ) (i : Instance ℕ) (entry : Entry) → m s ≡ Some (info (i, entry)) → ((p : ℕ) → Contains entry.links.items p → IsBelow into (into s) p)

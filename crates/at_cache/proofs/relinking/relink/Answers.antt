@@ -1,11 +1,17 @@
-use Rattle.std.proofs.Common.{arith, subst}
-use Rattle.at_cache.specs.Folding.{RelinksAt, slots_at}
+use Rattle.std.proofs.Common.{arith, subst, sym}
+use Rattle.at_cache.specs.Folding.{AreLone, RelinksAt, slots_at}
 use Rattle.at_cache.specs.Info.{memory_of}
 use Rattle.at_cache.proofs.of_folding.Relinking.{relinks_end, relinks_more, relinks_start}
 use Rattle.at_cache.proofs.relinking.relink.Goals as goal
 
 pub loop-number-init : goal.loop-number-init
 loop-number-init c = relinks_start _
+
+pub relink_at-requires : goal.relink_at-requires
+relink_at-requires c = record {
+  lone = subst (λ t. AreLone t (slots_at c.args.plan.now) c.args.lone.now.none c.args.lone.now.stamps.items)
+      (sym (λ i x. c.loop-number.invariant.current x i)) c.requires.lone;
+}
 
 pub loop-number-preserved : goal.loop-number-preserved
 loop-number-preserved c =

@@ -1,9 +1,9 @@
 use Rattle.std.proofs.Common.{◌∙◌, subst, sym}
 use Rattle.at_cache.specs.Edges.{edges_in}
-use Rattle.at_cache.specs.Folding.{RelinksAt, slots_at}
+use Rattle.at_cache.specs.Folding.{AreLone, RelinksAt, slots_at}
 use Rattle.at_cache.specs.Info.{memory_of}
 use Rattle.at_cache.proofs.of_folding.Gathering.{is_none}
-use Rattle.at_cache.proofs.of_folding.Relinking.{relinks_none, relinks_nothing, relinks_one}
+use Rattle.at_cache.proofs.of_folding.Relinking.{current_taken, relinks_none, relinks_nothing, relinks_one}
 use Rattle.at_cache.proofs.relinking.relink_at.Goals as goal
 
 pub returns-then-not-does_stay : goal.returns-then-not-does_stay
@@ -14,6 +14,12 @@ returns-then-not-is_taken c = relinks_none _ c.args.slot _ (sym c.is_taken.ensur
 
 pub exchange_users-users-requires : goal.exchange_users-users-requires
 exchange_users-users-requires c = record { there = sym c.is_taken.ensures ∙ c.if-not-is_taken.false }
+
+pub rewrite_list-requires : goal.rewrite_list-requires
+rewrite_list-requires c = record {
+  lone = subst (λ t. AreLone t (slots_at c.args.plan.now) c.args.lone.now.none c.args.lone.now.stamps.items)
+      (sym (current_taken c.args.slot _ _ c.exchange_users-users.ensures.written)) c.requires.lone;
+}
 
 pub returns : goal.returns
 returns c =

@@ -1,14 +1,14 @@
-use Rattle.at_cache.proofs.of_folding.Gathering.{alone_none, gathered_none}
+use Rattle.at_cache.proofs.of_folding.Gathering.{gathered_none}
 use Rattle.at_cache.proofs.rewriting.gather.Goals as goal
 
 pub returns-in-Empty : goal.returns-in-Empty
-returns-in-Empty c = rw c.in-Empty.is (record { gathers = gathered_none _ _ _; alone = λ t. alone_none _ _ })
+returns-in-Empty c = rw c.in-Empty.is (gathered_none _ _ _)
 
 pub returns-in-Few : goal.returns-in-Few
-returns-in-Few c = rw (c.in-Few.is, ← c.few.ensures) (record { gathers = c.gather_row.ensures.gathers; alone = c.gather_row.ensures.alone })
+returns-in-Few c = rw (c.in-Few.is, ← c.few.ensures) c.gather_row.ensures
 
 pub returns-in-Several : goal.returns-in-Several
-returns-in-Several c = rw (c.in-Several.is, ← c.deref.ensures, ← c.as_slice.ensures.value) (record { gathers = c.gather_rows.ensures.gathers; alone = c.gather_rows.ensures.alone })
+returns-in-Several c = rw (c.in-Several.is, ← c.deref.ensures, ← c.as_slice.ensures.value) c.gather_rows.ensures
 
 pub returns-in-More : goal.returns-in-More
-returns-in-More c = rw (c.in-More.is, ← c.deref-in-More.ensures, ← c.as_slice-in-More.ensures) (record { gathers = c.gather_rows-in-More.ensures.gathers; alone = c.gather_rows-in-More.ensures.alone })
+returns-in-More c = rw (c.in-More.is, ← c.deref-in-More.ensures, ← c.as_slice-in-More.ensures) c.gather_rows-in-More.ensures

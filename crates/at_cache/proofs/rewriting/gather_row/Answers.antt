@@ -6,8 +6,7 @@ loop-edge-init c = behind_none _ _ _ _
 
 pub loop-edge-preserved : goal.loop-edge-preserved
 loop-edge-preserved c =
-    behind_one _ _ _ _ _ c.in-Some.edge _ _ _ _ _ _ c.loop-edge.invariant c.in-Some.ensures c.in_ok-here.ensures.gathers
-    c.in_ok-here.ensures.alone c.both-alone.ensures
+    behind_one _ _ _ _ _ c.in-Some.edge _ _ _ c.loop-edge.invariant c.in-Some.ensures c.in_ok-gather_edge.ensures
 
 pub returns : goal.returns
-returns c = let (g, a) = behind_all _ _ _ _ _ _ _ c.loop-edge.invariant c.in_default.ensures in record { gathers = g; alone = a }
+returns c = behind_all _ _ _ _ _ _ c.loop-edge.invariant c.in_default.ensures

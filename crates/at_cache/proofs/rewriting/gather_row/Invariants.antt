@@ -7,7 +7,7 @@ use Rattle.at_cache.proofs.of_folding.Walking.{Behind}
 use Rattle.at_cache.proofs.rewriting.gather_row.Given as goal
 
 abbrev pub invariant-loop-edge : goal.invariant-loop-edge
-invariant-loop-edge l = Behind (is_current (memory_of l.entries)) (slots_at l.plan) (edges_of l.row) (edges_of l.rest) l.initial.slots.items l.slots.items l.alone
+invariant-loop-edge l = Behind (is_current (memory_of l.entries)) (slots_at l.plan) (edges_of l.row) (edges_of l.rest) l.initial.slots.items l.slots.items
 
 abbrev pub decreases-loop-edge : goal.decreases-loop-edge
 decreases-loop-edge l = length (edges_of l.rest)

@@ -1,10 +1,13 @@
+use Rattle.at_cache.specs.Folding.{slots_at}
+use Rattle.at_cache.specs.Info.{memory_of}
+use Rattle.at_cache.specs.Putting.{is_current}
 use Rattle.at_cache.proofs.of_folding.Gathering.{refolded_alone, refolded_by}
 use Rattle.at_cache.proofs.rewriting.rewrite_list.Goals as goal
 
-pub returns-then-branch : goal.returns-then-branch
-returns-then-branch c = refolded_alone _ _ _ (c.in_ok-gather.ensures.alone c.if-branch.true)
+pub returns-then-has_all : goal.returns-then-has_all
+returns-then-has_all c = refolded_alone _ _ _ (c.has_all.ensures (is_current (memory_of c.args.entries.now)) (slots_at c.args.plan.now) c.requires.lone c.if-has_all.true)
 
 pub returns : goal.returns
 returns c =
-    refolded_by _ _ _ _ _ _ _ _ c.clear.ensures.items c.in_ok-gather.ensures.gathers c.sort_unstable.ensures.permutation
+    refolded_by _ _ _ _ _ _ _ _ c.clear.ensures.items c.in_ok-gather.ensures c.sort_unstable.ensures.permutation
     c.as_slice.ensures.value c.in_ok-edges.ensures

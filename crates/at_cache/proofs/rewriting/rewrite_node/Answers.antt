@@ -10,7 +10,7 @@ pub loop-place-init : goal.loop-place-init
 loop-place-init c = below_start (IsRefolded (is_current (memory_of c.args.entries.now)) (slots_at c.args.plan.now)) _
 
 pub rewrite_at-requires : goal.rewrite_at-requires
-rewrite_at-requires c = record { there = omega (arith, c.loop-place-test.true, c.loop-place.invariant.len, c.len-place-end.ensures.value) }
+rewrite_at-requires c = record { lone = c.requires.lone; there = omega (arith, c.loop-place-test.true, c.loop-place.invariant.len, c.len-place-end.ensures.value) }
 
 pub loop-place-preserved : goal.loop-place-preserved
 loop-place-preserved c =

@@ -1,0 +1,133 @@
+//! Entries that a plan leaves by themselves, and lists of edges to such alone, which it leaves as they are.
+
+ghost use Rattle.std.specs.Prelude.{◌≡◌, ◌∷◌, [], ℕ, Bool, IfOk, IsTrue, List, true};
+ghost use Rattle.at_cache.specs.declared.edge.Edge.{Edge};
+ghost use Rattle.at_cache.specs.Edges.{edges_in};
+ghost use Rattle.at_cache.specs.Folding.{AreAlone, AreLone, IsLone, slots_at};
+ghost use Rattle.at_cache.specs.Info.{memory_of};
+ghost use Rattle.at_cache.specs.Putting.{is_current};
+ghost use Rattle.at_cache.specs.Rows.{edges_along, edges_of};
+
+use crate::edge::{Edge, Edges, Slot};
+use crate::entry::Links;
+use crate::facet::small;
+use crate::folding::slots_at;
+use crate::row::Row;
+use crate::table::Table;
+use std::alloc::{AllocError, Global};
+
+/// By slots, the numbers of those entries that are folded into themselves alone.
+#[derive(Drop)]
+pub struct Lone {
+    // What stands for no such entry.
+    none: u64,
+    stamps: Vec<u64>,
+}
+
+// Whether that slot is the only one.
+fn is_only(slots: &[Slot], slot: Slot) -> bool
+    ensures { IsTrue result → slots.now ≡ slot ∷ [] }
+{
+    match slots {
+        [only] => *only == slot,
+        _ => false,
+    }
+}
+
+// The number of the entry in the slot, if there is one and it is folded into itself alone, and else that other one.
+fn number_in(entries: &Table, plan: &[Links], slot: Slot, none: u64) -> u64
+    ensures { IsLone (is_current (memory_of entries.now)) (slots_at plan.now) none slot result }
+{
+    if !is_only(slots_at(plan, slot), slot) {
+        return none;
+    }
+    match entries.pair(slot) {
+        Some((_, entry)) => entry.stamp,
+        None => none,
+    }
+}
+
+// The numbers of all slots.
+fn numbers_of(
+    alloc: Global,
+    entries: &Table,
+    plan: &[Links],
+    none: u64,
+) -> Result<Vec<u64>, AllocError>
+    ensures { IfOk result (λ stamps. AreLone (is_current (memory_of entries.now)) (slots_at plan.now) none stamps.items) }
+{
+    let mut stamps = Vec::with_capacity(alloc, plan.len())?;
+    for number in 0..plan.len() {
+        let slot = small(number)?;
+        stamps.push(number_in(entries, plan, slot, none))?;
+    }
+    Ok(stamps)
+}
+
+/// Those of the plan.
+pub fn lone_of(alloc: Global, entries: &Table, plan: &[Links]) -> Result<Lone, AllocError>
+    ensures { IfOk result (λ lone. AreLone (is_current (memory_of entries.now)) (slots_at plan.now) lone.none lone.stamps.items) }
+{
+    let none = u64::MAX;
+    let stamps = numbers_of(alloc, entries, plan, none)?;
+    Ok(Lone { none, stamps })
+}
+
+impl Lone {
+    /// Whether the edge tells of one.
+    pub fn has(&self, edge: Edge) -> bool
+        ensures { (there : Edge → Bool) (into : ℕ → List ℕ) → AreLone there into self.now.none self.now.stamps.items
+            → IsTrue result → (there edge ≡ true) × (into edge.slot ≡ edge.slot ∷ []) }
+    {
+        if edge.stamp == self.none {
+            return false;
+        }
+        match self.stamps.get(edge.slot as usize) {
+            Some(stamp) => *stamp == edge.stamp,
+            None => false,
+        }
+    }
+
+    // Whether each of the row does.
+    fn has_row(&self, row: &Row) -> bool
+        ensures { (there : Edge → Bool) (into : ℕ → List ℕ) → AreLone there into self.now.none self.now.stamps.items
+            → IsTrue result → AreAlone there into (edges_of row.now) }
+    {
+        let mut rest = *row;
+        while let Some((edge, others)) = rest.split_first() {
+            if !self.has(edge) {
+                return false;
+            }
+            rest = others;
+        }
+        true
+    }
+
+    // Whether each of these rows does.
+    fn has_rows(&self, rows: &[Row]) -> bool
+        ensures { (there : Edge → Bool) (into : ℕ → List ℕ) → AreLone there into self.now.none self.now.stamps.items
+            → IsTrue result → AreAlone there into (edges_along rows.now) }
+    {
+        for row in rows {
+            if !self.has_row(row) {
+                return false;
+            }
+        }
+        true
+    }
+
+    /// Whether each of the list does.
+    pub fn has_all(&self, edges: &Edges) -> bool
+        ensures { (there : Edge → Bool) (into : ℕ → List ℕ) → AreLone there into self.now.none self.now.stamps.items
+            → IsTrue result → AreAlone there into (edges_in edges.now) }
+    {
+        match edges {
+            Edges::Empty => true,
+            Edges::Few(count, step, slot, stamp) => {
+                self.has_row(&Row::few(*count, *step, *slot, *stamp))
+            }
+            Edges::Several(rows) => self.has_rows(rows.as_slice()),
+            Edges::More(rows) => self.has_rows(rows.as_slice()),
+        }
+    }
+}
