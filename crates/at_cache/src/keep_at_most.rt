@@ -67,7 +67,8 @@ impl KeepAtMost {
             return;
         }
         let keeper = mem::replace(&mut self.keeper, KeepRecorded::empty(self.alloc));
-        let Ok((keeper, limit)) = keeper.folded(self.most - self.most / 4, self.since, self.limit) else {
+        let Ok((keeper, limit)) = keeper.folded(self.most - self.most / 4, self.since, self.limit)
+        else {
             return;
         };
         self.limit = limit;

@@ -8,8 +8,8 @@ returns-then-not-is_only c = inl refl
 
 pub returns-in-Some : goal.returns-in-Some
 returns-in-Some c = inr (
-    current (memory_of c.args.entries.now) (record { slot = c.args.slot; stamp = c.in-Some.entry.now.stamp }) _ (ap (option_map info) (sym c.in-Some.ensures)) refl,
-    sym c.slots_at.ensures ∙ c.is_only.ensures c.if-not-is_only.false,
+  current (memory_of c.args.entries.now) (record { slot = c.args.slot; stamp = c.in-Some.entry.now.stamp }) _ (ap (option_map info) (sym c.in-Some.ensures)) refl,
+  sym c.slots_at.ensures ∙ c.is_only.ensures c.if-not-is_only.false,
 )
 
 pub returns-in-None : goal.returns-in-None

@@ -22,5 +22,5 @@ loop-slot-preserved c =
 pub returns : goal.returns
 returns c =
     let all = subst (λ xs. AreEdgesTo (memory_of c.args.entries.now) xs (edges_along c.loop-slot.rows.items))
-        (take_all c.loop-slot.slot-index c.args.slots.now c.loop-slot-test.false) c.loop-slot.invariant in
+    (take_all c.loop-slot.slot-index c.args.slots.now c.loop-slot-test.false) c.loop-slot.invariant in
     IfOk-weaker c.of_rows.result _ _ (λ edges is. subst (λ (es : List Edge). AreEdgesTo (memory_of c.args.entries.now) c.args.slots.now es) (sym is) all) c.of_rows.ensures
