@@ -4,7 +4,7 @@ SAMPLE := crates/attrd/data
 PREFIX ?= /usr/local
 PAGES := README.md docs/ATTRIBUTE_GRAMMARS.md docs/MANUAL.md docs/EDGES.md docs/REFUSALS.md docs/TUTORIAL.md docs/FROM_JASTADD.md samples/calculator samples/objects samples/machines
 
-# What examples, program, clients and starve test: PROGRAM=.., else ./attrd where it stands, else a program with no proof.
+# What examples, program and clients test: PROGRAM=.., else ./attrd where it stands, else a program with no proof.
 QUICK := .quick/attrd
 TESTED := $(or $(PROGRAM),$(if $(wildcard attrd),./attrd,$(QUICK)))
 
@@ -32,8 +32,8 @@ help:
 	@echo "  make program       the tests of the command line, streams and sockets alone (seconds)"
 	@echo "  make clients [T=test_update]"
 	@echo "                     the tests of the clients alone, or of one client or module (2 minutes)"
-	@echo "  make starve        three sessions with each keeper, with each request for memory refused in turn (a minute)"
-	@echo "                     These four take PROGRAM=..; else ./attrd where it stands, else the program of make quick (2 minutes more)"
+	@echo "                     These three take PROGRAM=..; else ./attrd where it stands, else the program of make quick (2 minutes more)"
+	@echo "  make starve        three sessions with each keeper, with each request for memory refused in turn (a minute, behind its proof)"
 	@echo "  make tries         the examples of single tries of equations (a minute, behind its proof)"
 	@echo "  make bench         measures ./attrd (25 minutes and five GB, behind make build)"
 
@@ -51,8 +51,8 @@ test: tools python
 	@python3 tools/counts.py --hold
 	@python3 -B -m unittest discover -s tools/tests -t .
 	@python3 tools/gate.py
-	@python3 tools/starve.py crates/attrd/out/attrd
-	@ATTRD_READS=1 python3 tools/program.py crates/attrd/out/attrd
+	@python3 tools/starve.py crates/starve/out/starve
+	@ATTRD_READS=1 python3 tools/program.py --starve crates/starve/out/starve crates/attrd/out/attrd
 	@tools/editors.sh nvim chromium || true
 	@python3 clients/run_tests.py crates/attrd/out/attrd
 	@python3 tools/examples.py --program crates/attrd/out/attrd --tries crates/tries/out/tries $(PAGES) docs/TRIES.md
@@ -106,7 +106,7 @@ crate:
 	@test -n "$(C)" || { echo "name a crate, as in: make check C=at_demand"; exit 1; }
 	@test -d "crates/$(C)" || { echo "there is no crate $(C); crates.txt has them all"; exit 1; }
 
-# The program that the next four test, built with no proof where it is none of the others.
+# The program that the next three test, built with no proof where it is none of the others.
 tested: python
 	@$(if $(filter $(QUICK),$(TESTED)),$(MAKE) --no-print-directory tools && python3 -B -m tools.quick_program,test -x $(TESTED) || { echo "there is no program $(TESTED)"; exit 1; })
 	@echo "tested: $$(python3 -B -m tools.proved tell $(TESTED))"
@@ -123,9 +123,10 @@ program: tested
 clients: tested
 	@python3 clients/run_tests.py --skip-missing $(TESTED) $(T)
 
-# Three sessions with each keeper, with each request for memory refused in turn.
-starve: tested
-	@python3 tools/starve.py $(TESTED)
+# Three sessions with each keeper, by the proved program, with each request for memory refused in turn.
+starve: tools python
+	cd crates/starve && rt run < stdin -- until-edit 1 data/sum.ast data/sum.txt data/sum.jrag
+	@python3 tools/starve.py crates/starve/out/starve
 
 # Single tries of equations, by the proved program.
 tries: tools python

@@ -3,9 +3,10 @@
 or come in pieces, clients that wait for each reply, connections of a real socket and what becomes of its file, what is kept with a
 bound, and requests for memory that are refused.
 
-    tools/program.py [-k PART].. [--slowest N] PROGRAM
+    tools/program.py [-k PART].. [--slowest N] [--starve STARVE] PROGRAM
 
-With -k those tests alone whose names have that part. With --slowest so many of the slowest tests are told. The last line is
+With -k those tests alone whose names have that part. With --slowest so many of the slowest tests are told. With --starve the sessions
+are also answered by that program, `starve`, with the keepers that PROGRAM has no option for. The last line is
 'N passed, M failed'; the status is 1 where one failed. The tests stand in tools/of_the_program."""
 import argparse
 import os
@@ -23,11 +24,13 @@ def main() -> int:
     words = argparse.ArgumentParser(description="Tests of the program that no page shows.")
     words.add_argument("-k", metavar="PART", action="append", default=[], help="those tests alone whose names have this part")
     words.add_argument("--slowest", metavar="N", type=int, default=0, help="tell so many of the slowest tests")
+    words.add_argument("--starve", metavar="STARVE", help="the program that has the other keepers")
     words.add_argument("program", metavar="PROGRAM")
     given = words.parse_args()
-    if not os.access(given.program, os.X_OK):
-        words.error(f"{given.program} is no program")
-    os.environ["ATTRD"] = str(Path(given.program).resolve())
+    for name, program in {"ATTRD": given.program, "STARVE": given.starve}.items():
+        if program and not os.access(program, os.X_OK):
+            words.error(f"{program} is no program")
+        os.environ[name] = str(Path(program).resolve()) if program else ""
     found = unittest.TestLoader().discover(str(ROOT / "tools/of_the_program"), top_level_dir=str(ROOT))
     return unit.run(unit.named(found, given.k), given.slowest)
 

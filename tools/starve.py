@@ -1,13 +1,13 @@
 #!/usr/bin/env python3
 """Refuses the first request for memory, then the second alone, and so on, until no run asks for that many.
 
-    tools/starve.py [-k PART].. PROGRAM
+    tools/starve.py [-k PART].. STARVE
 
-In each session below, over the calculator, with each way to keep values that the program has; with -k in those alone of whose names,
+In each session below, over the calculator, with each keeper, by the program `starve`; with -k in those alone of whose names,
 SESSION/KEEPER, it is a part. What each took is told. A round may end for want of memory before the session's first line, or have one
-line or question answered `memory`. Its other lines are answered right, as a server tells that is given these alone, and so is each
-question, as where it is asked at once. The requests in front of the first line are the same in each session with a keeper, and are
-refused in the first of them."""
+line or question answered `memory`, which the run reports. Its other lines are answered right, as a server tells that is given these
+alone, and so is each question, as where it is asked at once. The requests in front of the first line are the same in each session with
+a keeper, and are refused in the first of them."""
 import argparse
 import os
 import re
@@ -19,11 +19,11 @@ import time
 from collections import Counter
 from dataclasses import dataclass
 from pathlib import Path
-from typing import Dict, List, Optional, Sequence, Tuple
+from typing import Dict, Optional, Sequence, Tuple
 
 FILES = [str(Path(__file__).resolve().parent.parent / "crates/attrd/data" / it) for it in ("calc.ast", "tree.txt", "calc.jrag")]
-# How values are kept, by words of the command line. Four entries are so few that edits fold what is kept.
-KEEPERS: Dict[str, List[str]] = {"over-edits": [], "few": ["--keep", "4"], "cut-off": ["--cut-off"]}
+# How values are kept, as `starve` names it.
+KEEPERS = ("nothing", "until-edit", "over-edits", "few", "cut-off")
 # Lines, and the replies to them where no memory is refused.
 Session = Tuple[str, str]
 # A question, each edit but a move, and a mark, and the question again; and another one twice where it was asked last. At the end the
@@ -118,6 +118,8 @@ TURNS = """0 post /Block/Stmt:1/Expr value()
 """
 SESSIONS: Dict[str, Session] = {"edits": EDITS, "moves": MOVES, "turns": TURNS}
 DONE = re.compile(r"(\d+) done (\d+) (\d+) (.*)")
+# Whether a request was refused, and how many lines and questions were answered `memory`.
+TOLD = re.compile(r"(refused\n)?memory (\d+)\nwork \d+\n")
 BEFORE, ANSWERED, UNSEEN = "ended before the first line", "had a line answered `memory`", "made no difference"
 MOST_ROUNDS = 100_000
 
@@ -182,21 +184,22 @@ class Retold:
 
 @dataclass
 class Server:
-    """The program, with words for a keeper, and an environment in which a request for memory is refused."""
+    """The program `starve`, with a keeper, and an environment in which a request for memory is refused."""
 
     program: str
-    words: Sequence[str]
+    keeper: str
     environment: Dict[str, str]
 
     def run(self, lines: str, nth: int) -> "subprocess.CompletedProcess[str]":
-        """A run over these lines with the nth request refused; with none where that is 0."""
-        return subprocess.run([self.program, *self.words, *FILES], env={**self.environment, "REFUSE": str(nth)}, input=lines,
+        """A run over these lines with the nth request refused; with none where that is 0. One turn follows each line."""
+        return subprocess.run([self.program, self.keeper, "1", *FILES], env={**self.environment, "REFUSE": str(nth)}, input=lines,
                               capture_output=True, text=True, timeout=60)
 
     def tells(self, lines: Sequence[str], replies: Sequence[str]) -> bool:
         """Whether these are the replies to the lines where no request is refused."""
         run = self.run("".join(f"{it}\n" for it in lines), 0)
-        return (run.returncode, run.stdout.splitlines(), run.stderr) == (0, list(replies), "")
+        told = TOLD.fullmatch(run.stderr)
+        return (run.returncode, run.stdout.splitlines(), told and told.groups()) == (0, list(replies), (None, "0"))
 
     def outcome(self, name: str, nth: int) -> Optional[str]:
         """How the session went with the nth request refused; None where it makes fewer. Ends the process where it went wrong."""
@@ -204,18 +207,19 @@ class Server:
         run = self.run(lines, nth)
         if (run.returncode, run.stdout, run.stderr) == (4, "", "refused\nmemory\n"):
             return BEFORE
-        if run.returncode == 0 and run.stdout == replies and run.stderr in ("", "refused\n"):
-            return UNSEEN if run.stderr else None
+        told = TOLD.fullmatch(run.stderr) if run.returncode == 0 else None
+        if told and run.stdout == replies and told[2] == "0":
+            return UNSEEN if told[1] else None
         retold = Retold(lines.splitlines(), run.stdout.splitlines())
         is_one = retold.is_whole and retold.wanting == 1
-        if (run.returncode, run.stderr) == (0, "refused\n") and is_one and self.tells(retold.lines, retold.replies):
+        if told and told.groups() == ("refused\n", "1") and is_one and self.tells(retold.lines, retold.replies):
             return ANSWERED
-        sys.exit(f"{name} {self.words}: with request {nth} refused, status {run.returncode}\n{run.stdout}{run.stderr}")
+        sys.exit(f"{name} {self.keeper}: with request {nth} refused, status {run.returncode}\n{run.stdout}{run.stderr}")
 
 
-def starved(server: Server, name: str, word: str, first: int) -> int:
+def starved(server: Server, name: str, first: int) -> int:
     """Runs the rounds of a session from that request on, until in one no request is refused: the last one that begins no session."""
-    began, counts, last = time.perf_counter(), Counter[str](), first
+    began, counts, last, word = time.perf_counter(), Counter[str](), first, server.keeper
     for nth in range(first, MOST_ROUNDS):
         outcome = server.outcome(name, nth)
         if outcome is None:
@@ -237,7 +241,7 @@ def starved(server: Server, name: str, word: str, first: int) -> int:
 def main() -> None:
     words = argparse.ArgumentParser(description="Refuses each request for memory in turn, in each session with each keeper.")
     words.add_argument("-k", metavar="PART", action="append", default=[], help="in those alone whose names, SESSION/KEEPER, have this part")
-    words.add_argument("program", metavar="PROGRAM")
+    words.add_argument("program", metavar="STARVE")
     given = words.parse_args()
     pairs = [(name, word) for word in KEEPERS for name in SESSIONS]
     chosen = [it for it in pairs if not given.k or any(part in "/".join(it) for part in given.k)]
@@ -247,8 +251,8 @@ def main() -> None:
     with tempfile.TemporaryDirectory() as folder:
         environment = refusing(folder)
         for name, word in chosen:
-            server = Server(os.path.abspath(given.program), KEEPERS[word], environment)
-            begun[word] = starved(server, name, word, begun.get(word, 1))
+            server = Server(os.path.abspath(given.program), word, environment)
+            begun[word] = starved(server, name, begun.get(word, 1))
 
 
 if __name__ == "__main__":

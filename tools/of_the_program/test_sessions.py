@@ -1,13 +1,7 @@
 """Whole sessions with each keeper: their replies, and the work that they cost; and over trees, and of lines, that are built."""
-import subprocess
-from typing import List
-
-from tools.of_the_program.runs import NOTHING, SECONDS, ProgramTest
+from tools.of_the_program.keeping import KeepingTest
 from tools.of_the_program.sessions import CALCULATOR, KEPT_AGAIN, LOST, OPTIONAL, REUSED, SESSIONS, SIGNS, Sample, Session
 
-# All that is kept over edits; what is kept again; and so few entries that an edit folds some: of these no work is told.
-KEEPERS: List[List[str]] = [[], ["--cut-off"]]
-FEW = ["--keep", "4"]
 # A question for sixteen times a name, which is changed to that one before.
 NAMED = '0 token /Block/Stmt:1/Expr/Left ID "{}"\n0 ask /Block/Stmt:1/Expr/Left d4()\n'
 
@@ -44,30 +38,18 @@ ALONG = Session("questions follow references", "0 ask /Block/Stmt:199 value()\n"
 SLICES = [(1, 16), (2, 8), (7, 2), (16, 1), (17, 0), (1_000, 0)]
 
 
-class Sessions(ProgramTest):
+class Sessions(KeepingTest):
     """Sessions with each keeper."""
 
-    def write(self, sample: Sample) -> List[str]:
-        """Writes the sample's files: their names."""
-        files = {"it.ast": sample.grammar, "it.txt": sample.tree, **{f"{i}.jrag": text for i, text in enumerate(sample.aspects)}}
-        for name, text in files.items():
-            (self.folder / name).write_text(text, encoding="utf-8")
-        return list(files)
-
-    def played(self, words: List[str], session: Session) -> str:
-        """What a run with these words, which has the session's replies, tells of its work."""
-        run = subprocess.run([self.program, "--work", *words], cwd=self.folder, env=NOTHING, input=session.lines, capture_output=True,
-                             encoding="utf-8", timeout=SECONDS)
-        self.assertEqual((run.returncode, run.stdout), (0, session.replies))
-        return run.stderr
-
     def assert_all(self, sample: Sample, *sessions: Session) -> None:
-        """The sessions over the sample have their replies with each keeper, and with two of them the same work, as they tell it."""
+        """The sessions over the sample have their replies with each keeper. With the two that keep all the work is the same, and what
+        they tell, where they tell it."""
         files = self.write(sample)
         for session in sessions:
             with self.subTest(session.name):
-                self.played([*FEW, *files], session)
-                kept, again = (self.played([*keeper, *files], session) for keeper in KEEPERS)
+                told = {it: self.played(it, 1, files, session.lines) for it in self.keepers}
+                self.assertEqual({it: replies for it, (replies, _) in told.items()}, dict.fromkeys(self.keepers, session.replies))
+                kept, again = told["over-edits"][1], told["cut-off"][1]
                 self.assertEqual([kept, again], [kept if session.work is None else f"work {session.work}\n"] * 2)
 
     def test_sessions_have_their_replies_and_work(self) -> None:
@@ -84,6 +66,6 @@ class Sessions(ProgramTest):
         files, lines = self.write(CALCULATOR), "0 post /Block/Stmt:1/Expr value()\n" + "0 version\n" * 20
         for turns, before in SLICES:
             told = "0 open 1\n" + "0 ok 0\n" * before + "0 done 1 0 = 3\n" + "0 ok 0\n" * (20 - before)
-            for keeper in [*KEEPERS, FEW]:
+            for keeper in self.keepers:
                 with self.subTest(turns=turns, keeper=keeper):
-                    self.played(["--slice", str(turns), *keeper, *files], Session("turns", lines, told))
+                    self.assertEqual(self.played(keeper, turns, files, lines)[0], told)

@@ -1,14 +1,14 @@
 """Questions in turns, in lines by chance, with each keeper: each answer is what a server that is asked tells on the tree of its version."""
 import re
-import subprocess
-from typing import List, Sequence
+from typing import Sequence
 
 from tools.of_the_program.chance import Chance
-from tools.of_the_program.runs import NOTHING, SECONDS, ProgramTest, Run
+from tools.of_the_program.keeping import OPTIONS, KeepingTest
+from tools.of_the_program.runs import Run
 from tools.of_the_program.sessions import CALCULATOR
 
-# A keeper for the turns, and another one for the server that is asked.
-KEEPERS: Sequence[Sequence[List[str]]] = (([], ["--keep", "1"]), (["--keep", "4"], ["--cut-off"]), (["--cut-off"], []))
+# For each keeper that is given turns another one, with which the program is asked.
+ASKED = {"over-edits": "few", "few": "cut-off", "cut-off": "over-edits", "nothing": "over-edits", "until-edit": "few"}
 SEED, SLICES, LINES = 2026, (1, 2, 7, 1_000), 1_500
 MARKS = ("u", "v")
 # The other server's session for the marks of the first question; the next question's are in the next session.
@@ -70,35 +70,25 @@ class Beside:
             assert asked.split(" ", 1)[1] == told.split(" ", 1)[1], (number, told, asked)
 
 
-class Turns(ProgramTest):
+class Turns(KeepingTest):
     """Questions in turns."""
 
-    def setUp(self) -> None:
-        super().setUp()
-        files = {"it.ast": CALCULATOR.grammar, "it.txt": CALCULATOR.tree,
-                 **{f"{i}.jrag": text for i, text in enumerate(CALCULATOR.aspects)}}
-        for name, text in files.items():
-            (self.folder / name).write_text(text, encoding="utf-8")
-        self.files = list(files)
-
-    def assert_led(self, slice_of: int, keepers: Sequence[List[str]], lines: Sequence[str]) -> None:
+    def assert_led(self, keeper: str, turns: int, lines: Sequence[str]) -> None:
         """Turns, so many behind each line, lead to what is asked."""
-        words = [self.program, "--slice", str(slice_of), *keepers[0], *self.files]
-        run = subprocess.run(words, cwd=self.folder, env=NOTHING, input="".join(f"{it}\n" for it in lines), capture_output=True,
-                             encoding="utf-8", timeout=SECONDS)
-        self.assertEqual((run.returncode, run.stderr), (0, ""))
-        beside = Beside(self.begin([*keepers[1], *self.files]), run.stdout.splitlines())
+        files = self.write(CALCULATOR)
+        told, _ = self.played(keeper, turns, files, "".join(f"{it}\n" for it in lines))
+        beside = Beside(self.begin([*OPTIONS[ASKED[keeper]], *files]), told.splitlines())
         for line in filter(None, lines):
             beside.follow(line)
         self.assertEqual((beside.told, beside.answers), ([], {}))
         self.assertGreater(beside.answered, FEW)
         # each question is answered
-        self.assertEqual(len(beside.asks), len(DONE.findall(run.stdout)))
+        self.assertEqual(len(beside.asks), len(DONE.findall(told)))
 
     def test_turns_lead_to_what_is_asked(self) -> None:
         chance = Chance(SEED)
-        for slice_of in SLICES:
+        for turns in SLICES:
             lines = list(chance.lines(LINES))
-            for keepers in KEEPERS:
-                with self.subTest(slice=slice_of, keepers=keepers):
-                    self.assert_led(slice_of, keepers, lines)
+            for keeper in self.keepers:
+                with self.subTest(turns=turns, keeper=keeper):
+                    self.assert_led(keeper, turns, lines)

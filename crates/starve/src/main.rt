@@ -1,0 +1,147 @@
+//! starve: answers lines with a keeper that a word names, also with those that `attrd` has no option for, and tells how
+//! many were answered `memory`. `tools/starve.py` has a request for memory refused in each run, and
+//! `tools/of_the_program` plays sessions.
+//!
+//! **Where to begin:** `serve`, below. Lines are answered by `at_start`'s `answer`, as by `attrd`.
+#![tactic(auto)]
+
+ghost use Rattle.at_engine.specs.Engines.{KeepsNothing};
+
+use at_cache::{KeepAtMost, KeepCutOff, KeepNone, KeepRecorded, KeepUntilEdit, Keeper};
+use at_engine::{RunFault, Watched};
+use at_start::{Files, MAX_FILE, Source, StartFault, USUAL_NODES, answer};
+use std::alloc::{AllocError, AllocFailed};
+use std::fs::File;
+use std::io::{ErrorKind, Read};
+use std::process::ExitCode;
+use std::{env, io};
+
+/// How many entries the keeper with a bound may have from one edit to the next: so few that edits fold what is kept.
+const FEW: usize = 4;
+
+/// Why lines weren't answered to their end.
+enum Stop {
+    Memory,
+    /// Words, a file or a stream.
+    Fault,
+}
+
+impl From<AllocError> for Stop {
+    fn from(_error: AllocError) -> Stop {
+        Stop::Memory
+    }
+}
+
+impl<T: Drop> From<AllocFailed<T>> for Stop {
+    fn from(_error: AllocFailed<T>) -> Stop {
+        Stop::Memory
+    }
+}
+
+/// Answers lines of standard input on standard output, by the words `KEEPER SLICE GRAMMAR TREE ASPECT..`. Ends with
+/// status 0; 2 where words, a file or a stream are at fault, 4 for want of memory outside of the lines.
+fn main(rt: HostRuntime) -> ExitCode {
+    match serve(&rt) {
+        Ok(()) => ExitCode::SUCCESS,
+        Err(Stop::Fault) => ExitCode::from(2),
+        Err(Stop::Memory) => {
+            let _ = eprintln!(rt; "memory");
+            ExitCode::from(4)
+        }
+    }
+}
+
+/// Answers the lines as the words say.
+fn serve(rt: &HostRuntime) -> Result<(), Stop> {
+    let Ok(words) = env::args(rt) else {
+        return Err(Stop::Memory);
+    };
+    let words: Vec<String> = words.skip(1).collect(rt.alloc())?;
+    let [keeper, slice, grammar, tree, aspects @ ..] = words.as_slice() else {
+        return Err(Stop::Fault);
+    };
+    let Ok(slice) = slice.parse::<u32>() else {
+        return Err(Stop::Fault);
+    };
+    let mut files = read_files(rt, grammar, tree, aspects)?;
+    match keeper.as_str() {
+        "nothing" => serve_with(rt, slice, &mut files, KeepNone::new(rt.alloc())),
+        "until-edit" => serve_with(rt, slice, &mut files, KeepUntilEdit::new(rt.alloc())),
+        "over-edits" => serve_with(rt, slice, &mut files, KeepRecorded::new(rt.alloc())),
+        "few" => serve_with(rt, slice, &mut files, KeepAtMost::new(rt.alloc(), FEW)),
+        "cut-off" => serve_with(rt, slice, &mut files, KeepCutOff::new(rt.alloc())),
+        _ => Err(Stop::Fault),
+    }
+}
+
+/// Answers the lines over an empty keeper, with so many turns behind each. On standard error it tells how many lines
+/// and questions were answered `memory`, and the work.
+fn serve_with<K: Keeper>(
+    rt: &HostRuntime,
+    slice: u32,
+    files: &mut Files,
+    keeper: K,
+) -> Result<(), Stop>
+    requires { KeepsNothing K.contents K.memories keeper }
+{
+    let mut reader = Watched::new(rt.reader());
+    let mut writer = Watched::new(io::writer(rt));
+    let answered = match answer(
+        rt.alloc(),
+        files,
+        keeper,
+        slice,
+        &mut reader,
+        &mut writer,
+        false,
+    ) {
+        Ok(answered) => answered,
+        Err(StartFault::Memory) => return Err(Stop::Memory),
+        Err(_) => return Err(Stop::Fault),
+    };
+    match answered.run {
+        Ok(report) => {
+            let _ = eprintln!(rt; "memory {}\nwork {}", report.memory, answered.work);
+            Ok(())
+        }
+        Err(RunFault::Memory) => Err(Stop::Memory),
+        Err(_) => Err(Stop::Fault),
+    }
+}
+
+/// The files of these names.
+fn read_files(
+    rt: &HostRuntime,
+    grammar: &str,
+    tree: &str,
+    aspects: &[String],
+) -> Result<Files, Stop> {
+    let mut sources = Vec::new(rt.alloc());
+    for name in aspects {
+        sources.push(read_file(rt, name)?)?;
+    }
+    Ok(Files {
+        grammar: read_file(rt, grammar)?,
+        tree: read_file(rt, tree)?,
+        aspects: sources,
+        nodes: USUAL_NODES,
+    })
+}
+
+/// The file of that name, and one byte more at most than it may have.
+fn read_file(rt: &HostRuntime, name: &str) -> Result<Source, Stop> {
+    let name = String::from_str(rt.alloc(), name)?;
+    let mut bytes = Vec::new(rt.alloc());
+    match read_bytes(rt, name.as_str(), &mut bytes) {
+        Ok(()) => Ok(Source { name, bytes }),
+        Err(e) if e.kind() == ErrorKind::OutOfMemory => Err(Stop::Memory),
+        Err(_) => Err(Stop::Fault),
+    }
+}
+
+fn read_bytes(rt: &HostRuntime, name: &str, bytes: &mut Vec<u8>) -> io::Result<()> {
+    let file = File::open(rt, name)?;
+    file.take((MAX_FILE as u64).saturating_add(1))
+        .read_to_end(bytes)?;
+    Ok(())
+}

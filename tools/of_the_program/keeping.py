@@ -1,0 +1,39 @@
+"""Runs with each way to keep values. The program has options for some; with the others `starve` answers, where the variable STARVE
+names it."""
+import os
+import subprocess
+from typing import Dict, List, Tuple
+
+from tools.of_the_program.runs import NOTHING, SECONDS, ProgramTest
+from tools.of_the_program.sessions import Sample
+
+# All that is kept over edits; so few entries that an edit folds some; and what is kept again.
+OPTIONS: Dict[str, List[str]] = {"over-edits": [], "few": ["--keep", "4"], "cut-off": ["--cut-off"]}
+# Nothing is kept, and all until an edit.
+OTHERS = ("nothing", "until-edit")
+
+
+class KeepingTest(ProgramTest):
+    """A test with each way to keep values."""
+
+    def setUp(self) -> None:
+        super().setUp()
+        self.starve = os.environ.get("STARVE", "")
+        self.keepers = [*OPTIONS, *(OTHERS if self.starve else ())]
+
+    def write(self, sample: Sample) -> List[str]:
+        """Writes the sample's files: their names."""
+        files = {"it.ast": sample.grammar, "it.txt": sample.tree, **{f"{i}.jrag": text for i, text in enumerate(sample.aspects)}}
+        for name, text in files.items():
+            (self.folder / name).write_text(text, encoding="utf-8")
+        return list(files)
+
+    def played(self, keeper: str, turns: int, files: List[str], lines: str) -> Tuple[str, str]:
+        """The replies to the lines, each of which so many turns follow, and what is told of the work. No memory was wanting."""
+        front, told = [str(self.program), "--work", "--slice", str(turns), *OPTIONS.get(keeper, ())], ""
+        if keeper in OTHERS:
+            front, told = [self.starve, keeper, str(turns)], "memory 0\n"
+        run = subprocess.run([*front, *files], cwd=self.folder, env=NOTHING, input=lines, capture_output=True, encoding="utf-8",
+                             timeout=SECONDS)
+        self.assertEqual((run.returncode, run.stderr[:len(told)]), (0, told))
+        return run.stdout, run.stderr[len(told):]
