@@ -25,15 +25,16 @@ use at_body::{Inst, Value};
 use at_store::{Loc, Node};
 use std::alloc::{AllocError, Global};
 
-/// The slots of these instances.
+/// The slots of these instances. Mostly they came last, one behind the other, as their evaluations ended.
 pub fn slots_of(alloc: Global, entries: &Table, uses: &[Inst]) -> Result<Links, AllocError>
     ensures taken { IfOk result (λ slots. AreTaken (memory_of entries.now) slots.items) }
     ensures covers { IfOk result (λ slots. AreOf entries.now uses.now slots.items) }
     ensures theirs { IfOk result (λ slots. AreTheirs entries.now uses.now slots.items) }
 {
     let mut slots = Links::with_capacity(alloc, uses.len())?;
+    let first = entries.entries.len().saturating_sub(uses.len());
     for used in uses {
-        if let Some(entry) = entries.entries.get(used) {
+        if let Some(entry) = entries.get_near(used, first.saturating_add(slots.len())) {
             slots.push(entry.slot)?;
         }
     }
