@@ -252,33 +252,57 @@ evaluate-returns-in_err-begun g n c = record {
 pub evaluate-returns : goal.evaluate-returns
 evaluate-returns g n c = record {
   come =
-      IfOk-weaker c.value.result _ _ (λ v h. come_begun c.args.basis.now.rules.now c.args.basis.now.store.now (held_by
-      g.K.Keeper.contents g.K.Keeper.memories c.value.new.keeper c.value.new.self) c.args.level.now
-      (record { reads = c.begin.new.reads; uses = c.args.level.now.uses }) c.value.new.level (meaning
+      IfOk-weaker c.operand.result _ _ (λ v h. come_begun c.args.basis.now.rules.now c.args.basis.now.store.now (held_by
+      g.K.Keeper.contents g.K.Keeper.memories c.operand.new.keeper c.operand.new.self) c.args.level.now
+      (record { reads = c.begin.new.reads; uses = c.args.level.now.uses }) c.operand.new.level (meaning
       c.args.basis.now.rules.now c.args.inst.now) (ev c.args.basis.now.rules.now.classes (body_view
       c.in_ok-begun.begun.1.now) (place_at c.in_ok-begun.begun.0)) (value_view v) refl c.in_ok-begun.ensures h)
-      c.value.ensures.come;
+      c.operand.ensures.come;
   grown =
       grown_evaluated c.args.basis.now.rules.now c.args.basis.now.store.now g.K.Keeper.exact c.args.basis.now.idle
       c.args.inst.now (held_by g.K.Keeper.contents g.K.Keeper.memories c.args.keeper.now c.args.self.now) (held_by
-      g.K.Keeper.contents g.K.Keeper.memories c.value.new.keeper c.value.new.self) (gains_begun
+      g.K.Keeper.contents g.K.Keeper.memories c.operand.new.keeper c.operand.new.self) (gains_begun
       c.args.basis.now.rules.now c.args.basis.now.store.now g.K.Keeper.exact (held_by g.K.Keeper.contents
       g.K.Keeper.memories c.args.keeper.now c.args.self.now) (held_by g.K.Keeper.contents g.K.Keeper.memories
-      c.value.new.keeper c.value.new.self) c.args.level.now.reads c.begin.new.reads (meaning c.args.basis.now.rules.now
+      c.operand.new.keeper c.operand.new.self) c.args.level.now.reads c.begin.new.reads (meaning c.args.basis.now.rules.now
       c.args.inst.now) (ev c.args.basis.now.rules.now.classes (body_view c.in_ok-begun.begun.1.now) (place_at
-      c.in_ok-begun.begun.0)) c.in_ok-begun.ensures c.value.ensures.gains);
+      c.in_ok-begun.begun.0)) c.in_ok-begun.ensures c.operand.ensures.gains);
+}
+
+pub operand-returns-in_err-at_once : goal.operand-returns-in_err-at_once
+operand-returns-in_err-at_once g n c = record {
+  come = search rules;
+  gains =
+      nothing_gained c.args.basis.now.rules.now c.args.basis.now.store.now g.K.Keeper.exact
+      (ev c.args.basis.now.rules.now.classes (body_view c.args.body.now) (place_at c.args.here.now)) _ c.args.self.now.few c.requires;
 }
 
 pub operand-returns-in-Some : goal.operand-returns-in-Some
 operand-returns-in-Some g n c = record {
   come =
-      come_gives c.args.basis.now.rules.now c.args.basis.now.store.now _ c.args.level.now (ev
-      c.args.basis.now.rules.now.classes (body_view c.args.body.now) (place_at c.args.here.now)) (value_view
-      c.in-Some.value) (c.in-Some.ensures c.args.basis.now.rules.now.classes);
+      come_looked c.args.basis.now.rules.now c.args.basis.now.store.now _ c.args.level.now (record {
+        reads = c.value_at_once.new.reads;
+        uses =
+            c.args.level.now.uses;
+      }) (ev c.args.basis.now.rules.now.classes (body_view c.args.body.now) (place_at c.args.here.now))
+      (value_view c.in-Some.value) refl (subst (λ o. MayHaveLooked (contents c.args.basis.now.store.now)
+      c.args.level.now.reads c.value_at_once.new.reads (ev c.args.basis.now.rules.now.classes (body_view c.args.body.now) (place_at c.args.here.now)) o) c.in-Some.is
+      c.in_ok-at_once.ensures);
   gains =
-      nothing_gained c.args.basis.now.rules.now c.args.basis.now.store.now g.K.Keeper.exact (ev
-      c.args.basis.now.rules.now.classes (body_view c.args.body.now) (place_at c.args.here.now)) _ c.args.self.now.few
-      c.requires;
+      nothing_gained c.args.basis.now.rules.now c.args.basis.now.store.now g.K.Keeper.exact
+      (ev c.args.basis.now.rules.now.classes (body_view c.args.body.now) (place_at c.args.here.now)) _ c.args.self.now.few c.requires;
+}
+
+pub operand-returns-in-None : goal.operand-returns-in-None
+operand-returns-in-None g n c = record {
+  come =
+      subst (λ (ls : List (Location ℕ)). IfOk c.value.result (λ v. HasCome c.args.basis.now.rules.now (contents
+      c.args.basis.now.store.now) (held_by g.K.Keeper.contents g.K.Keeper.memories c.value.new.keeper c.value.new.self)
+      (record { reads = ls; uses = c.args.level.now.uses }) c.value.new.level (ev c.args.basis.now.rules.now.classes (body_view c.args.body.now) (place_at c.args.here.now))
+      (value_view v))) (subst (λ o. MayHaveLooked (contents c.args.basis.now.store.now) c.args.level.now.reads
+      c.value_at_once.new.reads (ev c.args.basis.now.rules.now.classes (body_view c.args.body.now) (place_at c.args.here.now)) o) c.in-None.is
+      c.in_ok-at_once.ensures) c.value.ensures.come;
+  gains = c.value.ensures.gains;
 }
 
 pub one-returns-in_err-value : goal.one-returns-in_err-value
