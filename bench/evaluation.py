@@ -126,13 +126,13 @@ def elements(bench: Bench) -> None:
     items = ",".join(f'Item("name{k}")' for k in range(count))
     words = [bench.put("names.ast", NAMES), bench.put("names.txt", f"Names([{items}])\n"), bench.put("named.jrag", NAMED)]
     line = f'0 ask / named("name{count - 1}")\n'
-    bench.told("an element of `first` with its text, in instructions", each(bench.counted(words, line), count), 3_500)
+    bench.told("an element of `first` with its text, in instructions", each(bench.counted(words, line), count), 900)
 
 
 def declarations(bench: Bench) -> None:
     """Chains of declarations in the calculator, of which each is looked up by the next: each look-up goes through those before it."""
     samples = ROOT / "samples" / "calculator"
-    for count, most, most_from_front, turns in ((2_000, 260, 260, bench.turns), (10_000, 763, 143, 1)):
+    for count, most, most_from_front, turns in ((2_000, 40, 40, bench.turns), (10_000, 100, 40, 1)):
         chain = ",".join(['Decl("x0",Num(1))'] + [f'Decl("x{k}",Use("x{k - 1}"))' for k in range(1, count)])
         words = [str(samples / "calc.ast"), bench.put("chain.txt", f"Program(Block([{chain}]))\n"), str(samples / "calc.jrag")]
         asked = (("at its end", f"0 ask /Block/Stmt:{count - 1} value()\n", most),

@@ -1,7 +1,7 @@
 #!/usr/bin/env python3
-"""Tests of the program that no page shows: the words of its command line, real streams that fail or come in pieces, clients that
-wait for each reply, connections of a real socket and what becomes of its file, what is kept with a bound, and requests for memory that
-are refused.
+"""Tests of the program that no page shows: the words of its command line, in which order files are looked at, real streams that fail
+or come in pieces, clients that wait for each reply, connections of a real socket and what becomes of its file, what is kept with a
+bound, and requests for memory that are refused.
 
     tools/program.py [-k PART].. [--slowest N] PROGRAM
 

@@ -23,9 +23,27 @@ NAMED = """aspect C {
 """
 
 
+# Each item looks for the one before it through all up to that one, so all of them look at two million names.
+CHAIN, MEMORY = 2_000, 64 * 1024 * 1024
+LINKED = "Names ::= Item*;\nItem ::= <ID> <Before>;\n"
+LOOKED_UP = """aspect C {
+  syn lazy int Item.c() = getBefore().equals("") ? 0 : before().c() + 1;
+  syn lazy Item Item.before() = named(getBefore());
+  inh Item Item.named(String n);
+  eq Names.getItem(int i).named(String n) = first (j : getItemList()) { j.is(n) };
+  syn boolean Item.is(String n) = getID().equals(n);
+}
+"""
+
+
 def little_stack() -> None:
     """For a process that begins: it has no more than that."""
     resource.setrlimit(resource.RLIMIT_STACK, (STACK, STACK))
+
+
+def little_memory() -> None:
+    """The same of all that it maps."""
+    resource.setrlimit(resource.RLIMIT_AS, (MEMORY, MEMORY))
 
 
 class Nesting(ProgramTest):
@@ -75,3 +93,11 @@ class Nesting(ProgramTest):
             with self.subTest(items=items):
                 first = f"getItem({items - 1}).c()"
                 self.assertEqual(self.told(items, "", first), f"0 circular /Item:{items - 1}.c\n".encode() * 2)
+
+    def test_what_a_deep_chain_looks_through_is_not_held(self) -> None:
+        items = ",".join(f'Item("n{k}","{f"n{k - 1}" if k else ""}")' for k in range(CHAIN))
+        for name, text in {"names.ast": LINKED, "names.jrag": LOOKED_UP, "names.txt": f"Names([{items}])\n"}.items():
+            (self.folder / name).write_text(text, encoding="utf-8")
+        run = subprocess.run([self.program, "--work", "names.ast", "names.txt", "names.jrag"], cwd=self.folder, env=NOTHING, timeout=SECONDS,
+                             input=f"0 ask /Item:{CHAIN - 1} c()\n".encode(), capture_output=True, preexec_fn=little_memory)
+        self.assertEqual((run.returncode, run.stdout, run.stderr), (0, f"0 = {CHAIN - 1}\n".encode(), f"work {2 * CHAIN - 1}\n".encode()))

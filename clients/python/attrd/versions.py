@@ -1,7 +1,7 @@
 """The version of this library, which is that of the program it belongs to."""
 from typing import Optional
 
-VERSION = "0.30"
+VERSION = "0.31"
 
 
 class VersionWarning(UserWarning):

@@ -3,7 +3,7 @@ use Rattle.std.specs.Prelude.{ℕ, Bool, true, false, cond, List, Option, Some, 
 use Rattle.std.specs.Borrow.{Bor}
 use Rattle.at_model.specs.Bodies.{Expr, truth_of, demand_of, elements_of}
 use Rattle.at_model.specs.Classes.{Classes}
-use Rattle.at_model.specs.Run.{Value, Truth, Run, Gives, ◌>>=◌}
+use Rattle.at_model.specs.Run.{Value, Text, Truth, Run, Gives, ◌>>=◌}
 use Rattle.at_rules.specs.Bodies.{body_view, bodies_view}
 use Rattle.at_rules.specs.declared.body.Body.{Body}
 use Rattle.at_body.specs.Rest.{ev, ev_all, over, with_one, with_two}
@@ -22,6 +22,10 @@ one_of classes p u a = ev classes (body_view a) p >>= with_one classes u
 -- what is done with the values of two operands
 abbrev pub two_of : Classes → Place → Binary → Body → Body → Run ℕ (Value ℕ)
 two_of classes p o a b = ev classes (body_view a) p >>= λ v. ev classes (body_view b) p >>= with_two o v
+
+-- what is done with the value of an operand beside a text
+abbrev pub beside_text : Classes → Place → Binary → Body → List ℕ → Run ℕ (Value ℕ)
+beside_text classes p o a text = ev classes (body_view a) p >>= λ v. with_two o v (Text text)
 
 -- the expression, or that truth value where there is none
 abbrev pub or_truth : Classes → Place → Option (Bor Body) → Bool → Run ℕ (Value ℕ)

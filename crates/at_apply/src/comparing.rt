@@ -7,7 +7,7 @@ ghost use Rattle.at_model.specs.Run.{Gives, Ref, Text};
 ghost use Rattle.at_store.specs.Shown.{IsIdle, contents};
 ghost use Rattle.at_rules.specs.Bodies.{body_view};
 ghost use Rattle.at_body.specs.Comparing.{IsComparison};
-ghost use Rattle.at_body.specs.Rest.{ev};
+ghost use Rattle.at_body.specs.Rest.{ev, with_two};
 ghost use Rattle.at_body.specs.Standing.{scope};
 ghost use Rattle.at_body.specs.Values.{value_view};
 ghost use Rattle.at_apply.specs.Parts.{two_of};
@@ -55,8 +55,19 @@ pub(crate) fn is_same(left: &str, right: &str) -> bool
     left == right
 }
 
-// The text of a literal or of an argument.
-fn lent<'s>(here: &'s Here, body: &'s Body) -> Option<&'s str>
+/// What the comparison of a value with a text tells, of which no copy is made. Gives up at a value of another kind.
+pub fn compare_with(comparison: &Binary, left: &Value, right: &str) -> Result<Value, Stop>
+    requires { IsComparison comparison.now }
+    ensures { IfOk result (λ v. with_two comparison.now (value_view left.now) (Text right.now) ≡ Gives (value_view v)) }
+{
+    let Some(own) = text_in(left) else {
+        return Err(Stop::GivesUp);
+    };
+    Ok(Value::Bool(tells(comparison, is_same(own, right))))
+}
+
+/// The text of a literal or of an argument, of which no copy is made. None of other expressions.
+pub fn lent<'s>(here: &'s Here, body: &'s Body) -> Option<&'s str>
     ensures { IfSome result (λ text. (classes : Classes) → ev classes (body_view body.now) (place_at here.now) ≡ Gives (Text text.now)) }
 {
     match body {

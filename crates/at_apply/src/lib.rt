@@ -18,7 +18,7 @@ mod near;
 mod stop;
 
 pub use applying::{node_of, truth_in, with_one, with_two};
-pub use comparing::compare;
+pub use comparing::{compare, compare_with, lent};
 pub use folding::{Next, chosen, settle};
 pub use form::{Form, form_of};
 pub use here::{Here, begin};

@@ -13,9 +13,13 @@ unfoldable pub edges_from : (first : Edge) (step : ℕ) → ℕ → ℕ → List
 edges_from first step place zero = []
 edges_from first step place (suc n) = edge_at first step place ∷ edges_from first step (suc place) n
 
+-- the edge with which it begins
+abbrev pub first_of : Row → Edge
+first_of r = record { slot = r.slot; stamp = r.stamp }
+
 -- its edges, in order
 abbrev pub edges_of : Row → List Edge
-edges_of r = edges_from r.first r.step 0 r.count
+edges_of r = edges_from (first_of r) r.step 0 r.count
 
 -- the edges of rows, in order
 abbrev pub edges_along : List Row → List Edge

@@ -69,11 +69,10 @@ impl Edges {
     pub fn of_row(row: Row) -> Option<Edges>
         ensures { IfSome result (λ edges. edges_in edges ≡ edges_of row) }
     {
-        if row.count > u32::from(u8::MAX) || row.step > u32::from(u16::MAX) {
+        if row.count > u16::from(u8::MAX) {
             return None;
         }
-        let (count, step) = (row.count as u8, row.step as u16);
-        Some(Edges::Few(count, step, row.first.slot, row.first.stamp))
+        Some(Edges::Few(row.count as u8, row.step, row.slot, row.stamp))
     }
 
     /// Whether there is none.

@@ -3,21 +3,24 @@
 ghost use Rattle.std.specs.Prelude.{◌≡◌, ◌+◌, ◌*◌, ◌++◌, ◌∷◌, ◌<◌, [], Contains, IfSome, IsTrue, MatchOption, length, nat_eq};
 ghost use Rattle.at_cache.specs.declared.edge.Edges.TheVariants as edges;
 ghost use Rattle.at_cache.specs.Edges.{edges_in};
-ghost use Rattle.at_cache.specs.Rows.{edge_at, edges_from, edges_of};
+ghost use Rattle.at_cache.specs.Rows.{edge_at, edges_from, edges_of, first_of};
 
 use crate::edge::{Edge, Slot};
 
 /// Edges of entries that came one after the other: the slot and the number of each are by the same step greater than those of the one
-/// before. What reads a location mostly comes so, and a row takes 24 bytes, however many edges it has.
+/// before. What reads a location mostly comes so, and a row takes 16 bytes, for up to 65,535 edges.
 #[derive(Clone, Copy, Default)]
 pub struct Row {
-    pub first: Edge,
-    pub step: u32,
-    pub count: u32,
+    /// The first one's slot.
+    pub slot: Slot,
+    pub step: u16,
+    pub count: u16,
+    /// The first one's number.
+    pub stamp: u64,
 }
 
 // How far so many steps lead.
-fn way(step: u32, places: u32) -> u64
+fn way(step: u16, places: u16) -> u64
     ensures { result ≡ places * step }
 {
     u64::from(places) * u64::from(step)
@@ -40,9 +43,10 @@ impl Row {
         ensures { edges_of result ≡ edge ∷ [] }
     {
         Row {
-            first: edge,
+            slot: edge.slot,
             step: 0,
             count: 1,
+            stamp: edge.stamp,
         }
     }
 
@@ -51,9 +55,10 @@ impl Row {
         ensures { edges_of result ≡ edges_in (edges.Few count step slot stamp) }
     {
         Row {
-            first: Edge { slot, stamp },
-            step: u32::from(step),
-            count: u32::from(count),
+            slot,
+            step,
+            count: u16::from(count),
+            stamp,
         }
     }
 
@@ -71,37 +76,50 @@ impl Row {
         if self.count == 0 {
             return None;
         }
+        let second = self.second();
         let rest = Row {
-            first: self.second(),
+            slot: second.slot,
             step: self.step,
             count: self.count - 1,
+            stamp: second.stamp,
         };
-        Some((self.first, rest))
+        Some((self.first(), rest))
+    }
+
+    // The edge with which it begins.
+    fn first(&self) -> Edge
+        ensures { result ≡ first_of self.now }
+    {
+        Edge {
+            slot: self.slot,
+            stamp: self.stamp,
+        }
     }
 
     // The edge behind the first one.
     fn second(&self) -> Edge
-        ensures { result ≡ edge_at self.now.first self.now.step 1 }
+        ensures { result ≡ edge_at (first_of self.now) self.now.step 1 }
     {
         Edge {
-            slot: self.first.slot.wrapping_add(self.step),
-            stamp: self.first.stamp.wrapping_add(u64::from(self.step)),
+            slot: self.slot.wrapping_add(u32::from(self.step)),
+            stamp: self.stamp.wrapping_add(u64::from(self.step)),
         }
     }
 
-    /// The row with one more edge at its end, where that lies there.
+    /// The row with one more edge at its end, where that lies there and the row has room.
     pub fn extended(&self, edge: Edge) -> Option<Row>
         ensures { IfSome result (λ r. edges_of r ≡ edges_of self.now ++ edge ∷ []) }
     {
         let step = self.step_to(edge)?;
         let count = self.count.checked_add(1)?;
-        if !lies(self.first, edge, way(step, self.count)) {
+        if !lies(self.first(), edge, way(step, self.count)) {
             return None;
         }
         Some(Row {
-            first: self.first,
+            slot: self.slot,
             step,
             count,
+            stamp: self.stamp,
         })
     }
 
@@ -110,21 +128,25 @@ impl Row {
         ensures { IsTrue result → Contains (edges_of self.now) edge }
     {
         match self.count.checked_sub(1) {
-            Some(place) => lies(self.first, edge, way(self.step, place)),
+            Some(place) => lies(self.first(), edge, way(self.step, place)),
             None => false,
         }
     }
 
-    // The step of the row with this edge at its end: a row of one edge takes any that leads on.
-    fn step_to(&self, edge: Edge) -> Option<u32>
-        ensures { IfSome result (λ step. edges_from self.now.first step 0 self.now.count ≡ edges_of self.now) }
+    // The step of the row with this edge at its end: a row of one edge takes any that leads on and isn't too far.
+    fn step_to(&self, edge: Edge) -> Option<u16>
+        ensures { IfSome result (λ step. edges_from (first_of self.now) step 0 self.now.count ≡ edges_of self.now) }
     {
         if self.count != 1 {
             return Some(self.step);
         }
-        if edge.slot <= self.first.slot {
+        if edge.slot <= self.slot {
             return None;
         }
-        Some(edge.slot - self.first.slot)
+        let step = edge.slot - self.slot;
+        if step > u32::from(u16::MAX) {
+            return None;
+        }
+        Some(step as u16)
     }
 }

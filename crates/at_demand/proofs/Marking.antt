@@ -56,7 +56,7 @@ one_marked old new i x at set keys same = record {
 }
 
 -- whether it is one of these can be told
-told_among : (j : Instance ℕ) (ks : List (Instance ℕ)) → Among j ks ⊎ (Among j ks → ⊥)
+pub told_among : (j : Instance ℕ) (ks : List (Instance ℕ)) → Among j ks ⊎ (Among j ks → ⊥)
 told_among j [] = inr (λ h. h)
 told_among j (k ∷ ks) = by (same_instance j k) refl (told_among j ks)
   where

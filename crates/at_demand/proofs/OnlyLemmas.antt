@@ -38,7 +38,7 @@ use Rattle.at_demand.proofs.Extending.{get_more, map_among}
 use Rattle.at_model.proofs.of_formulas.PlainRules.{plain}
 use Rattle.at_demand.proofs.of_levels.Plain.{past_formula}
 
-get_among : {A : Type 0} (xs : List A) (n : ℕ) (a : A) → slice_get xs n ≡ Some a → Among a xs
+pub get_among : {A : Type 0} (xs : List A) (n : ℕ) (a : A) → slice_get xs n ≡ Some a → Among a xs
 get_among [] n a e = absurd (none-some a e)
 get_among (x ∷ xs) zero a e = inl (sym (same_Some x a e))
 get_among (x ∷ xs) (suc n) a e = inr (get_among xs n a e)

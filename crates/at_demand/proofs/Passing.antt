@@ -97,7 +97,7 @@ module _ (rules : Rules) (look : Contents ℕ) where
         ];
       })
 
-  whole_in_more : (found more : List (Instance ℕ × Find)) (these : List (Instance ℕ)) (d : Find) → Extends found more → AreWholeIn rules look found these d → AreWholeIn rules look more these d
+  pub whole_in_more : (found more : List (Instance ℕ × Find)) (these : List (Instance ℕ)) (d : Find) → Extends found more → AreWholeIn rules look found these d → AreWholeIn rules look more these d
   whole_in_more found more these d grows w = record {
     reads = w.reads;
     demands = λ k j b c. elim (w.demands k j b c) [ inl m ↦ inl m | inr x ↦ inr (demanded_more found more d.demanded j grows x) ];

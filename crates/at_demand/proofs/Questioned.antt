@@ -1,6 +1,6 @@
 -- The steps of a question.
 use Rattle.std.proofs.Common.{◌≡◌, ◌⊎◌, ℕ, Bool, true, false, List, [], ◌∷◌, ◌++◌, Option, Some, None, MatchBool, inl, inr, refl, sym, ap, ◌∙◌, subst, true≢false, is_some, not}
-use Rattle.std.specs.Prelude.{IfNone}
+use Rattle.std.specs.Prelude.{IfNone, IfSome}
 use Rattle.std.specs.Global.{Box}
 use Rattle.std.specs.Option.{option_to_list}
 use Rattle.at_model.specs.Run.{Instance}
@@ -10,7 +10,7 @@ use Rattle.at_body.specs.Same.{same_instance}
 use Rattle.at_search.specs.Recorded.{seen_by, todo_of}
 use Rattle.at_search.specs.declared.search.Search.{Search as SearchCode}
 use Rattle.at_demand.specs.declared.question.Question.{Question}
-use Rattle.at_demand.specs.ChainSteps.{IsAlike, IsSearched}
+use Rattle.at_demand.specs.ChainSteps.{HasNext, IsAlike, IsSearched}
 use Rattle.at_demand.specs.Levels.{LevelCode, fault_in, root_in, seen_in, todo_in}
 use Rattle.at_demand.proofs.Sameness.{same_true, same_refl}
 
@@ -77,6 +77,21 @@ alike_done q old new b c None at was is root seen fault none left = record {
   root = ap (λ (x : SearchCode). x.root) is ∙ root ∙ ap (λ (x : SearchCode). x.root) (sym was) ∙ sym (ap (λ (l : LevelCode). root_in l q.inst) at);
   seen = ap (λ (x : SearchCode). seen_by x) is ∙ seen ∙ ap (λ (x : SearchCode). seen_by x) (sym was) ∙ sym (ap (λ (l : LevelCode). seen_in l) at);
   todo = ap (λ (x : SearchCode). todo_of x) is ∙ left ∙ sym none ∙ ap (λ (x : SearchCode). todo_of x) (sym was) ∙ sym (ap (λ (l : LevelCode). todo_in l) at);
+  fault = ap (λ (x : SearchCode). x.fault) is ∙ fault ∙ ap (λ (x : SearchCode). x.fault) (sym was) ∙ sym (ap (λ (l : LevelCode). fault_in l) at);
+}
+
+-- the next one is taken off
+pub next_taken : (q : Question) (old new : SearchCode) (b c : Box SearchCode) (o : Option (Instance ℕ)) → q.level ≡ Some b → b.value ≡ old → c.value ≡ new →
+    new.root ≡ old.root → seen_by new ≡ seen_by old → new.fault ≡ old.fault → IfSome o (λ i. todo_of old ≡ i ∷ todo_of new) →
+    IfSome o (HasNext q (record q { level = Some c }))
+next_taken q old new b c None at was is root seen fault some = tt
+next_taken q old new b c (Some i) at was is root seen fault some = record {
+  is = (c, refl);
+  chain = record { waiting = refl; inst = refl };
+  finds = record { found = refl; passed = refl; ended = refl; turns = refl };
+  root = ap (λ (x : SearchCode). x.root) is ∙ root ∙ ap (λ (x : SearchCode). x.root) (sym was) ∙ sym (ap (λ (l : LevelCode). root_in l q.inst) at);
+  todo = ap (λ (l : LevelCode). todo_in l) at ∙ ap (λ (x : SearchCode). todo_of x) was ∙ some ∙ ap (λ (x : SearchCode). i ∷ todo_of x) (sym is);
+  seen = ap (λ (x : SearchCode). seen_by x) is ∙ seen ∙ ap (λ (x : SearchCode). seen_by x) (sym was) ∙ sym (ap (λ (l : LevelCode). seen_in l) at);
   fault = ap (λ (x : SearchCode). x.fault) is ∙ fault ∙ ap (λ (x : SearchCode). x.fault) (sym was) ∙ sym (ap (λ (l : LevelCode). fault_in l) at);
 }
 

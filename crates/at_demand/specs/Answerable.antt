@@ -19,6 +19,7 @@ use Rattle.at_demand.specs.Known.{meaning, kept_values, known_in, ArePlain, AreV
 use Rattle.at_demand.specs.Attempts.{HasComeTo}
 use Rattle.at_demand.specs.Covering.{AreWhole}
 use Rattle.at_demand.specs.KeptTrials.{Fit}
+use Rattle.at_demand.specs.Sound.{AreKeptWhole}
 use Rattle.at_demand.specs.Traces.{AreJustified}
 use Rattle.at_demand.specs.Turns.{IsStanding}
 
@@ -45,21 +46,18 @@ pub record IsAnswerable (rules : Rules) (s : Shown) (entries : Entries) : Type 0
   pub right : AreRightValues (contents s) (meaning rules) (kept_values entries)
   pub plain : ArePlain rules entries
 
--- so is one for the instance, which is well typed
-pub record CanBeAnswered (rules : Rules) (s : Shown) (entries : Entries) (i : Instance ℕ) : Type 0 where
-  pub answerable : IsAnswerable rules s entries
-  pub typed : IsWellTyped rules (class_shown s) AnyText i
-
--- and where what can be kept again is right, too
+-- so is one for the instance, which is well typed, where what can be kept again is right, too, and what is kept is whole
 pub record CanBeAsked (rules : Rules) (s : Shown) (entries : Entries) (m : Memories) (i : Instance ℕ) : Type 0 where
   pub answerable : IsAnswerable rules s entries
   pub typed : IsWellTyped rules (class_shown s) AnyText i
   pub justified : AreJustified rules (contents s) m
+  pub wholes : AreKeptWhole rules s entries
 
 -- and so is a question that is given turns, where what was done for it stands
 pub record CanTurn (rules : Rules) (s : Shown) (entries : Entries) (q : Question) : Type 0 where
   pub answerable : IsAnswerable rules s entries
   pub standing : IsStanding rules s entries q
+  pub wholes : AreKeptWhole rules s entries
 
 -- and with the trials that wait
 pub record CanTurnWith (rules : Rules) (s : Shown) (entries : Entries) (q : Question) (t : Trials) : Type 0 where

@@ -1,5 +1,5 @@
 -- What a question is answered, and what becomes of what is kept.
-use Rattle.std.specs.Prelude.{◌≡◌, ◌⊎◌, ◌+◌, ◌-◌, ◌^◌, min, ℕ, Bool, List, [], ◌∷◌, Option, Some, None, IsTrue, IfOk, IfSome, OnErr, Result}
+use Rattle.std.specs.Prelude.{◌≡◌, ◌⊎◌, ◌+◌, ◌-◌, ◌^◌, min, ℕ, Bool, List, [], ◌∷◌, Option, Some, None, IsTrue, IfNone, IfOk, IfSome, OnErr, Result}
 use Rattle.std.specs.Option.{option_map}
 use Rattle.at_model.specs.Run.{Contents, Instance, Location}
 use Rattle.at_model.specs.Rules.{Rules}
@@ -22,6 +22,7 @@ use Rattle.at_demand.specs.Right.{AreRight, IsThere}
 use Rattle.at_demand.specs.Sparing.{AddsWorthy, AreSpare, Counts, HasWorthy, IsWork, IsWorthKeeping}
 use Rattle.at_demand.specs.KeptTrials.{FitAfter}
 use Rattle.at_demand.specs.Traces.{StayJustified}
+use Rattle.at_demand.specs.Groups.{KeepsGroups}
 use Rattle.at_demand.specs.Levels.{StandsFor, asked_by}
 use Rattle.at_demand.specs.Turns.{
   AreTurns,
@@ -82,13 +83,13 @@ pub record HasGivenPlainly {E : Type 0} (rules : Rules) (s : Shown) (before afte
   pub each : IfOk r (λ g. AreTurnsOfChain rules s g.0 before (under_way old) after (under_way new) (option_map answer_view g.1))
   pub broke : OnErr r (BreaksOffChain rules s limit before (under_way old) after)
 
--- The instance has its answer. What is kept stays right; with an exact keeper it stays spare, has all that is worth keeping, and the
--- work counts that.
+-- The instance has its answer. What is kept stays right; with an exact keeper it stays spare, where groups are kept whole, has all that is worth
+-- keeping, and the work counts that.
 pub record HasAnswered {E : Type 0} (rules : Rules) (s : Shown) (exact : Bool) (before after : Entries) (earlier later : ℕ) (i : Instance ℕ)
     (r : Result AnswerCode E) : Type 0 where
   pub answers : IfOk r (λ a. Answers (contents s) (meaning rules) i (answer_view a))
   pub worthy : AddsWorthy rules (contents s) i before after
-  pub spare : IsTrue exact → AreSpare rules (contents s) before → AreSpare rules (contents s) after
+  pub spare : KeepsGroups rules r → IsTrue exact → AreSpare rules (contents s) before → AreSpare rules (contents s) after
   pub all : IsTrue exact → AreSpare rules (contents s) before → IfOk r (λ a. HasWorthyFor rules (contents s) i (answer_view a) after)
   pub counts : IsTrue exact → Counts before after earlier later
   pub work : IsTrue exact → AreSpare rules (contents s) before
@@ -97,15 +98,15 @@ pub record HasAnswered {E : Type 0} (rules : Rules) (s : Shown) (exact : Bool) (
   pub plain : ArePlain rules after
 
 -- A turn of the question lets at most its last instance, and what levels under way have seen, come to what is kept, and entries without a
--- value of what it had found. That
--- stays right and, with an exact keeper, spare; the work counts the value.
-pub record GainsAtMost (rules : Rules) (s : Shown) (exact : Bool) (before after : Entries) (earlier later : ℕ) (q : Question) : Type 0 where
+-- value of what it had found. That stays right and, with an exact keeper, spare, where groups are kept whole; the work counts the value.
+pub record GainsAtMost (rules : Rules) (s : Shown) (exact : Bool) (before after : Entries) (earlier later : ℕ) (q : Question) (Whole : Type 0)
+    : Type 0 where
   pub right : AreRightValues (contents s) (meaning rules) (kept_values after)
   pub stays : IsThere s (asked_by q) → AreRight rules s before → AreRight rules s after
   pub plain : ArePlain rules after
   pub last : GainsBy rules s before after q
   pub worthy : AddsWorthy rules (contents s) (asked_by q) before after
-  pub spare : IsTrue exact → AreSpare rules (contents s) before → IsSparingTurns rules (contents s) before q → AreSpare rules (contents s) after
+  pub spare : Whole → IsTrue exact → AreSpare rules (contents s) before → IsSparingTurns rules (contents s) before q → AreSpare rules (contents s) after
   pub counts : IsTrue exact → Counts before after earlier later
 
 -- It was given a turn so; where that doesn't answer it, it stands, and its trials are those of its chain.
@@ -118,17 +119,18 @@ pub record HasTurnedWith {E : Type 0} (rules : Rules) (s : Shown) (exact : Bool)
       → IfOk r (λ o. IfSome o (λ a. HasWorthyFor rules (contents s) (asked_by old) (answer_view a) after))
   pub sparing : IsTrue exact → AreSpare rules (contents s) before → IsSparingTurns rules (contents s) before old
       → IfOk r (λ o. IsOfUse rules o (IsSparingTurns rules (contents s) after new))
-  pub gains : GainsAtMost rules s exact before after earlier later old
+  pub gains : GainsAtMost rules s exact before after earlier later old (KeepsGroups rules r)
 
 -- one turn is counted, and all else stays
 abbrev pub IsCounted : (old new : Question) → Type 0
 IsCounted old new = (new.turns ≡ min (old.turns + 1) (2 ^ 128 - 1)) × (new ≡ record old { turns = new.turns })
 
--- so it was, where the turn isn't counted yet: counted, it stands
+-- so it was, where the turn isn't counted yet: counted, it stands, where it isn't answered
 pub record HasTurnedOn {E : Type 0} (rules : Rules) (s : Shown) (exact : Bool) (before after : Entries) (earlier later : ℕ)
     (old new : Question) (t : Trials) (r : Result (Option AnswerCode) E) : Type 0 where
-  pub counted : (q : Question) → IsCounted new q → HasTurnedWith rules s exact before after earlier later old q t r
+  pub counted : IfOk r (λ o. IfNone o ((q : Question) → IsCounted new q → HasTurnedWith rules s exact before after earlier later old q t r))
   pub answered : IfOk r (λ o. IfSome o (λ a. HasTurnedWith rules s exact before after earlier later old new t r))
+  pub gains : GainsAtMost rules s exact before after earlier later old (KeepsGroups rules r)
 
 -- The question was given a turn, and what answers it is right; where none does, it stands. At most its last instance came to what is
 -- kept, which stays right and, with an exact keeper, spare.
@@ -146,7 +148,8 @@ pub record HasTurned {E : Type 0} (rules : Rules) (s : Shown) (exact : Bool) (be
       → IfOk r (λ o. IfSome o (λ a. HasWorthyFor rules (contents s) (asked_by old) (answer_view a) after))
   pub sparing : IsTrue exact → AreSpare rules (contents s) before → IsSparingTurns rules (contents s) before old
       → IfOk r (λ o. IsOfUse rules o (IsSparingTurns rules (contents s) after new))
-  pub spare : IsTrue exact → AreSpare rules (contents s) before → IsSparingTurns rules (contents s) before old → AreSpare rules (contents s) after
+  pub spare : KeepsGroups rules r → IsTrue exact → AreSpare rules (contents s) before → IsSparingTurns rules (contents s) before old
+      → AreSpare rules (contents s) after
   pub counts : IsTrue exact → Counts before after earlier later
 
 -- It was given as many turns as it may be, or fewer where one of them answered it; so it is then, too.
@@ -165,7 +168,8 @@ pub record HasTurnedOften {E : Type 0} (rules : Rules) (s : Shown) (exact : Bool
   pub worthy : AddsWorthy rules (contents s) (asked_by old) before after
   pub stays : IsThere s (asked_by old) → AreRight rules s before → AreRight rules s after
   pub plain : ArePlain rules after
-  pub spare : IsTrue exact → AreSpare rules (contents s) before → IsSparingTurns rules (contents s) before old → AreSpare rules (contents s) after
+  pub spare : KeepsGroups rules r → IsTrue exact → AreSpare rules (contents s) before → IsSparingTurns rules (contents s) before old
+      → AreSpare rules (contents s) after
   pub sparing : IsTrue exact → AreSpare rules (contents s) before → IsSparingTurns rules (contents s) before old
       → IfOk r (λ g. IsOfUse rules g.1 (IsSparingTurns rules (contents s) after new))
   pub counts : IsTrue exact → Counts before after earlier later

@@ -1,5 +1,5 @@
 -- What one try of an instance comes to.
-use Rattle.std.specs.Prelude.{◌≡◌, ℕ, Bool, List, [], ◌∷◌, ◌++◌, Some, None, IsTrue, IfOk, Result}
+use Rattle.std.specs.Prelude.{◌≡◌, ℕ, Bool, List, [], ◌∷◌, ◌++◌, Some, None, IsSome, IsTrue, IfOk, Result}
 use Rattle.std.specs.Map.{lookup}
 use Rattle.at_model.specs.Run.{Instance, Contents}
 use Rattle.at_model.specs.Rules.{Rules, start_of}
@@ -55,7 +55,7 @@ pub record HasFormedTo (rules : Rules) (at : ClassAt ℕ) (look : Contents ℕ) 
 -- so has a try, for a value where the attribute isn't circular
 abbrev pub IsGoing : Rules → ClassAt ℕ → Contents ℕ → Entries → List (Instance ℕ × Find) → Instance ℕ → Going → Type 0
 IsGoing rules at look entries found i (going.Value f s) = (start_of rules i.attribute ≡ None) × HasComeTo rules at look entries found i f s
-IsGoing rules at look entries found i (going.Formula b p) = HasFormedTo rules at look entries found i b.value p
+IsGoing rules at look entries found i (going.Formula b p) = IsSome (start_of rules i.attribute) × HasFormedTo rules at look entries found i b.value p
 
 -- where it needs another instance, its trial waits for that, and where it fails it has come to that
 abbrev pub Awaits : Rules → ClassAt ℕ → Contents ℕ → Entries → List (Instance ℕ × Find) → Instance ℕ → Frame → Attempt → Type 0
@@ -100,6 +100,13 @@ IsKeptAs entries i (attempt.Found f) = Unit {0}
 IsKeptAs entries i (attempt.Fails kind) = Unit {0}
 IsKeptAs entries i (attempt.Needs j) = Unit {0}
 
+-- nothing is kept where no value was found
+abbrev pub IsIdleBy : (before after : Entries) → (earlier later : ℕ) → Attempt → Type 0
+IsIdleBy before after earlier later (attempt.Kept v) = Unit {0}
+IsIdleBy before after earlier later (attempt.Found f) = Unit {0}
+IsIdleBy before after earlier later (attempt.Fails kind) = (after ≡ before) × (later ≡ earlier)
+IsIdleBy before after earlier later (attempt.Needs j) = (after ≡ before) × (later ≡ earlier)
+
 -- One try of an instance has come to this. What is kept stays right; with an exact keeper it stays spare, and the work counts what
 -- is added.
 pub record HasAttempted {E : Type 0} (rules : Rules) (s : Shown) (exact : Bool) (before after : Entries) (earlier later : ℕ)
@@ -116,3 +123,4 @@ pub record HasAttempted {E : Type 0} (rules : Rules) (s : Shown) (exact : Bool) 
   pub counts : IsTrue exact → Counts before after earlier later
   pub keeps : IfOk r (IsKeptAs after i)
   pub waits : IfOk r (Awaits rules (class_shown s) (contents s) before found i f)
+  pub idle : IfOk r (IsIdleBy before after earlier later)

@@ -134,12 +134,19 @@ pub record HasEnded (old : Question) (e : Ending) (new : Question) : Type 0 wher
   pub passed : new.passed.entries ≡ old.passed.entries
   pub turns : new.turns ≡ old.turns
 
+-- but for what the search of its last level has seen, and has to do, it is as it was
+pub record KeepsRest (old new : Question) : Type 0 where
+  pub chain : KeepsChain old new
+  pub finds : KeepsFinds old new
+  pub root : root_in new.level new.inst ≡ root_in old.level old.inst
+
 -- the search of the last level has seen an instance as its equation is recorded to have ended
 abbrev pub HasGoneOver : Question → Instance ℕ → Question → Type 0
 HasGoneOver old i new = elim (lookup (same_instance i) old.ended.entries) [ None ↦ new ≡ old | Some x ↦ HasSeen old i x.ending new ]
 
--- the next one that it is to look at is taken off
+-- the next one that it is to look at is taken off, so it is a search
 pub record HasNext (old new : Question) (i : Instance ℕ) : Type 0 where
+  pub is : (b : Box SearchCode) × (new.level ≡ Some b)
   pub chain : KeepsChain old new
   pub finds : KeepsFinds old new
   pub root : root_in new.level new.inst ≡ root_in old.level old.inst

@@ -1,5 +1,5 @@
 -- How the evaluation of a circular attribute begins and goes on, over what is kept and what was found; and what a try begins with.
-use Rattle.std.specs.Prelude.{◌≡◌, ℕ, List, [], map, None}
+use Rattle.std.specs.Prelude.{◌≡◌, ℕ, List, [], map, None, IsSome}
 use Rattle.std.specs.Global.{Box}
 use Rattle.at_model.specs.Follow.{Past}
 use Rattle.at_model.specs.Rules.{Rules, start_of}
@@ -67,7 +67,7 @@ pub record HasGoneOnForming (rules : Rules) (s : Shown) (entries : Entries) (fou
 -- the evaluation of an instance has begun so, by whether its attribute is circular
 abbrev pub HasBegunTrying : Rules → Shown → Instance ℕ → Going → Type 0
 HasBegunTrying rules s i (going.Value f t) = (start_of rules i.attribute ≡ None) × HasBegun rules s i f t
-HasBegunTrying rules s i (going.Formula b p) = HasBegunForming rules s i b.value p
+HasBegunTrying rules s i (going.Formula b p) = IsSome (start_of rules i.attribute) × HasBegunForming rules s i b.value p
 
 -- it has come to the demand of j
 abbrev pub waits_for : Trying → Instance ℕ → Going

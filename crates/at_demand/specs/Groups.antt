@@ -1,12 +1,13 @@
 -- What becomes of instances that are solved together: a group, in which formulas lead from each to each, is kept or found by its first member.
-use Rattle.std.specs.Prelude.{◌≡◌, ◌⊎◌, ℕ, Bool, true, List, [], ◌∷◌, ◌++◌, map, length, slice_get, Option, Some, None, IsSome, IsTrue, IfOk, OnOk, Result}
+use Rattle.std.specs.Prelude.{◌≡◌, ◌⊎◌, ℕ, Bool, true, List, [], ◌∷◌, ◌++◌, map, length, slice_get, Option, Some, None, IsSome, IsTrue, IfOk, OnOk, Result, Ok, Err}
 use Rattle.std.specs.Borrow.{Bor}
 use Rattle.std.specs.Map.{keys_of, lookup}
 use Rattle.at_model.specs.Meaning.{Among}
 use Rattle.at_model.specs.Rules.{Rules, is_lazy, start_of}
 use Rattle.at_model.specs.Run.{Instance, Contents, Truth}
-use Rattle.at_model.specs.of_fixpoints.Fixpoints.{AreFormed, HasValue, LeadsOver}
+use Rattle.at_model.specs.of_fixpoints.Fixpoints.{HasValue, LeadsOver}
 use Rattle.at_model.specs.of_fixpoints.Formulas.{atoms}
+use Rattle.at_rules.specs.Circular.{HasNoneCircular}
 use Rattle.at_store.specs.Located.{loc_view}
 use Rattle.at_store.specs.declared.node.Loc.{Loc}
 use Rattle.at_store.specs.Shown.{Shown, contents}
@@ -18,7 +19,9 @@ use Rattle.at_body.specs.declared.value.Value.TheVariants as value
 use Rattle.indexmap.specs.IndexMap.{insert_entry}
 use Rattle.at_cache.specs.Kept.{Entries}
 use Rattle.at_cache.specs.Traced.{Memories, StayTraced}
+use Rattle.at_search.specs.LedTo.{AreClosedIn}
 use Rattle.at_search.specs.Recorded.{IsRecordedForm, Recorded}
+use Rattle.at_search.specs.Solved.{IsSpoilt}
 use Rattle.at_search.specs.declared.ended.Ended.{Ended}
 use Rattle.at_search.specs.declared.ended.Formed.{Formed}
 use Rattle.at_search.specs.declared.solving.Solved.{Solved}
@@ -44,10 +47,15 @@ start_in rules (i ∷ is) = start_of rules i.attribute
 abbrev pub IsMember : List (Instance ℕ) → List Solved → Instance ℕ → Bool → Type 0
 IsMember insts group i b = (m : Solved) × Among m group × (slice_get insts m.position ≡ Some i) × (m.value ≡ b)
 
+-- no group is kept in part: a call has not failed, or no attribute is circular
+abbrev pub KeepsGroups : {T E : Type 0} → Rules → Result T E → Type 0
+KeepsGroups rules (Ok x) = Unit {0}
+KeepsGroups rules (Err e) = HasNoneCircular rules
+
 -- What became of what is kept and found since: all that is new there are values of these instances. What is kept stays right and, with an
--- exact keeper, spare; the work counts it, and nothing is traced. The chain stays, and how equations ended.
+-- exact keeper, spare, where groups are kept whole; the work counts it, and nothing is traced. The chain stays, and how equations ended.
 pub record Tells (rules : Rules) (s : Shown) (exact : Bool) (before after : Entries) (former latter : Memories) (earlier later : ℕ)
-    (old new : Question) (these : List (Instance ℕ)) : Type 0 where
+    (old new : Question) (these : List (Instance ℕ)) (Whole : Type 0) : Type 0 where
   pub chain : KeepsChain old new
   pub level : new.level ≡ old.level
   pub ended : keys_of new.ended.entries ≡ keys_of old.ended.entries
@@ -68,11 +76,22 @@ pub record Tells (rules : Rules) (s : Shown) (exact : Bool) (before after : Entr
   pub plain : ArePlain rules after
   pub lean : IsTrue exact → AreLean rules (contents s) old.found.entries → AreLean rules (contents s) new.found.entries
   pub settled : IsTrue exact → AreSettled rules before old.found.entries → AreSettled rules after new.found.entries
-  pub spare : IsTrue exact → AreSpare rules (contents s) before → AreSettled rules before old.found.entries → AreSpare rules (contents s) after
+  pub only : IsTrue exact → AreLean rules (contents s) old.found.entries → AreOnly rules (contents s) before → AreOnly rules (contents s) after
+  pub spare : Whole → IsTrue exact → AreSpare rules (contents s) before → AreLean rules (contents s) old.found.entries
+      → AreSettled rules before old.found.entries → AreSpare rules (contents s) after
   pub counts : IsTrue exact → Counts before after earlier later
   pub traces : StayTraced former latter
 
--- Instances can be solved: they are circular, and all start so; and what is known and recorded holds.
+-- Instances can be solved: all start alike; and what is known and recorded holds.
+pub record CanBeSolved (rules : Rules) (s : Shown) (entries : Entries) (q : Question) (insts : List (Instance ℕ)) : Type 0 where
+  pub answerable : IsAnswerable rules s entries
+  pub facts : AreFactsOf rules (contents s) entries q
+  pub finds : AreWhole rules (contents s) q.found.entries
+  pub took : FoundKept entries q.found.entries
+  pub alike : (i : Instance ℕ) → Among i insts → start_of rules i.attribute ≡ start_in rules insts
+  pub recorded : (i : Instance ℕ) → Among i insts → Among i (keys_of q.ended.entries)
+
+-- so they can, and are circular
 pub record CanSolve (rules : Rules) (s : Shown) (entries : Entries) (q : Question) (insts : List (Instance ℕ)) : Type 0 where
   pub answerable : IsAnswerable rules s entries
   pub facts : AreFactsOf rules (contents s) entries q
@@ -82,25 +101,32 @@ pub record CanSolve (rules : Rules) (s : Shown) (entries : Entries) (q : Questio
   pub alike : (i : Instance ℕ) → Among i insts → start_of rules i.attribute ≡ start_in rules insts
   pub recorded : (i : Instance ℕ) → Among i insts → Among i (keys_of q.ended.entries)
 
+-- it is known now; or formulas led from it to a fault, or to one that is marked whole and wasn't known
+abbrev pub IsKnownOrSpoilt : (before after : Entries) → (old new : Question) → Instance ℕ → Type 0
+IsKnownOrSpoilt before after old new i = IsSome (known_to after new i) ⊎ IsSpoilt (known_to before old) old.ended.entries i
+
 -- Each of these is told its value from which formulas lead to formulas alone, as far as they are recorded: in all else nothing changes.
 pub record HasSolved {E : Type 0} (rules : Rules) (s : Shown) (exact : Bool) (before after : Entries) (former latter : Memories) (earlier later : ℕ)
     (old new : Question) (insts : List (Instance ℕ)) (r : Result Unit E) : Type 0 where
-  pub tells : Tells rules s exact before after former latter earlier later old new insts
+  pub tells : Tells rules s exact before after former latter earlier later old new insts (KeepsGroups rules r)
   pub same : new.ended.entries ≡ old.ended.entries
-  pub all : OnOk r ((i : Instance ℕ) → Among i insts → AreFormed (Recorded old.ended.entries) i → IsSome (known_to after new i))
+  pub rest : AreClosedIn (known_to before old) old.ended.entries insts
+      → OnOk r ((i : Instance ℕ) → Among i insts → IsKnownOrSpoilt before after old new i)
 
 -- so it is, and all of them are marked whole
 pub record HasMarkedSolved {E : Type 0} (rules : Rules) (s : Shown) (exact : Bool) (before after : Entries) (former latter : Memories)
     (earlier later : ℕ) (old new : Question) (insts : List (Instance ℕ)) (r : Result Unit E) : Type 0 where
-  pub tells : Tells rules s exact before after former latter earlier later old new insts
-  pub all : OnOk r ((i : Instance ℕ) → Among i insts → AreFormed (Recorded old.ended.entries) i → IsSome (known_to after new i))
+  pub tells : Tells rules s exact before after former latter earlier later old new insts (KeepsGroups rules r)
+  pub rest : AreClosedIn (known_to before old) old.ended.entries insts
+      → OnOk r ((i : Instance ℕ) → Among i insts → IsKnownOrSpoilt before after old new i)
   pub marked : OnOk r ((mid : Question) × (mid.ended.entries ≡ old.ended.entries) × HasMarkedAll insts mid new)
 
--- A group can be kept: each member isn't known and has its value; formulas lead from each to each, and what the formula of one asks for is
+-- A group can be kept: each member has a place, isn't known, and has its value; formulas lead from each to each, and what the formula of one asks for is
 -- known, or a member.
 pub record CanKeepGroup (rules : Rules) (s : Shown) (entries : Entries) (q : Question) (insts : List (Instance ℕ)) (group : List Solved)
     : Type 0 where
   pub can : CanSolve rules s entries q insts
+  pub placed : (m : Solved) → Among m group → IsSome (slice_get insts m.position)
   pub unknown : (i : Instance ℕ) (b : Bool) → IsMember insts group i b → known_to entries q i ≡ None
   pub values : (i : Instance ℕ) (b : Bool) → IsMember insts group i b → HasValue (contents s) (meaning rules) i (Truth b)
   pub closed : (i j : Instance ℕ) (b : Bool) (f : Formed) → IsMember insts group i b → IsRecordedForm q.ended.entries i f → Among j (atoms f.formula)
@@ -110,7 +136,7 @@ pub record CanKeepGroup (rules : Rules) (s : Shown) (entries : Entries) (q : Que
 -- so it is, and each member is known
 pub record HasKeptGroup {E : Type 0} (rules : Rules) (s : Shown) (exact : Bool) (before after : Entries) (former latter : Memories) (earlier later : ℕ)
     (old new : Question) (insts : List (Instance ℕ)) (group : List Solved) (r : Result Unit E) : Type 0 where
-  pub tells : Tells rules s exact before after former latter earlier later old new insts
+  pub tells : Tells rules s exact before after former latter earlier later old new insts (KeepsGroups rules r)
   pub same : new.ended.entries ≡ old.ended.entries
   pub told : OnOk r ((i : Instance ℕ) (b : Bool) → IsMember insts group i b → IsSome (known_to after new i))
   pub only : (i : Instance ℕ) → IsSome (known_to after new i) → IsSome (known_to before old i) ⊎ ((b : Bool) × IsMember insts group i b)

@@ -3,29 +3,29 @@ use Rattle.std.specs.Prelude.{◌≡◌, ◌⊎◌, ℕ, ◌≤◌, List, [], �
 use Rattle.std.specs.Global.{Box}
 use Rattle.std.specs.Map.{keys_of}
 use Rattle.at_model.specs.Instances.{AnyText}
-use Rattle.at_model.specs.Meaning.{Among, Finds, Reaches}
+use Rattle.at_model.specs.Meaning.{Among, Finds, Outcome, Reaches}
 use Rattle.at_model.specs.Rules.{Rules, start_of}
 use Rattle.at_model.specs.Run.{Value, Instance, Location, Contents, FaultKind, Known}
 use Rattle.at_model.specs.Support.{Sees}
 use Rattle.at_model.specs.TypedRuns.{IsWellTyped}
-use Rattle.at_model.specs.of_fixpoints.Fixpoints.{AreEnded, HasValue, LeadsOver, Spoilt}
+use Rattle.at_model.specs.of_fixpoints.Fixpoints.{End, EndsSo, HasValue, LeadsOver, Spoilt}
+use Rattle.at_model.specs.of_fixpoints.Formulas.{Formula, Forms}
 use Rattle.at_model.specs.of_fixpoints.Resting.{Leads}
-use Rattle.at_model.specs.of_fixpoints.Searched.{IsFresh, IsOn, tried_at}
+use Rattle.at_model.specs.of_fixpoints.Searched.{IsClosedIn, IsFresh, IsInOrder, IsMade, IsOn, tried_at}
 use Rattle.at_model.specs.of_fixpoints.Searching.{Level, Search, most_turns, under}
 use Rattle.at_store.specs.Located.{loc_view}
 use Rattle.at_store.specs.Shown.{Shown, contents}
 use Rattle.at_body.specs.Typed.{class_shown}
-use Rattle.at_body.specs.Values.{value_view}
 use Rattle.at_cache.specs.Kept.{Entries}
-use Rattle.at_search.specs.Recorded.{AreFacts, IsMarked, MetFrom, Recorded, seen_by, todo_of}
+use Rattle.at_search.specs.LedTo.{IsMet}
+use Rattle.at_search.specs.Recorded.{AreFacts, AreWhole, IsMarked, IsRecordedForm, MetFrom, Recorded, seen_by, todo_of}
 use Rattle.at_search.specs.declared.ended.Ended.{Ended}
-use Rattle.at_search.specs.declared.ended.Ending.TheVariants as ending
 use Rattle.at_search.specs.declared.ended.Fault.{Fault}
 use Rattle.at_search.specs.declared.ended.Formed.{Formed}
 use Rattle.at_search.specs.declared.search.Search.{Search as SearchCode}
 use Rattle.at_demand.specs.declared.evaluation.Find.{Find}
 use Rattle.at_demand.specs.declared.question.Question.{Question}
-use Rattle.at_demand.specs.Known.{FoundAs, IsKept, known_in, meaning}
+use Rattle.at_demand.specs.Known.{IsKept, kept_values, known_in, meaning}
 use Rattle.at_demand.specs.Meant.{AreRightValues}
 
 -- a level: no search as yet, or one
@@ -54,6 +54,11 @@ fault_in (Some b) = b.value.fault
 abbrev pub IsDoneIn : LevelCode → Type 0
 IsDoneIn l = todo_in l ≡ []
 
+-- a search has seen its root
+abbrev pub IsRooted : LevelCode → Type 0
+IsRooted None = Unit {0}
+IsRooted (Some b) = Among b.value.root (seen_by b.value)
+
 -- the level at which the equation of i is tried
 abbrev pub level_of : Instance ℕ → LevelCode → Level ℕ
 level_of i l = record { root = root_in l i; seen = seen_in l; next = i; todo = todo_in l }
@@ -75,14 +80,14 @@ abbrev pub known_to : Entries → Question → Known ℕ
 known_to entries q = known_in entries q.found.entries
 
 -- The search that the question stands for: its levels are those; the equations that have ended there are recorded to have ended, or are
--- those of known instances; and the values that were told there are known, those of the finds among them.
+-- those of known instances; and the values that were told there are known, all that are known and aren't kept among them.
 pub record IsSearch (entries : Entries) (q : Question) (s : Search ℕ) : Type 0 where
   pub last : s.last ≡ level_of q.inst q.level
   pub below : s.below ≡ levels_of q.waiting.entries
   pub ended : (i : Instance ℕ) → Among i s.ended → Among i (keys_of q.ended.entries) ⊎ IsSome (known_to entries q i)
   pub recorded : (i : Instance ℕ) → Among i (keys_of q.ended.entries) → Among i s.ended
   pub told : (i : Instance ℕ) (v : Value ℕ) → Among (i, Finds v) s.told → known_to entries q i ≡ Some v
-  pub found : (i : Instance ℕ) (f : Find) → FoundAs q.found.entries i f → Among (i, Finds (value_view f.value)) s.told
+  pub known : (i : Instance ℕ) (v : Value ℕ) → known_to entries q i ≡ Some v → (kept_values entries i ≡ Some v) ⊎ Among (i, Finds v) s.told
 
 -- what the equation of i took: it is one of the kept ones, or was found at one of the positions
 abbrev pub IsUsed : List (Instance ℕ × Find) → Formed → Instance ℕ → Type 0
@@ -97,33 +102,51 @@ pub record IsFormOf (rules : Rules) (look : Contents ℕ) (entries : Entries) (f
   pub kept : (j : Instance ℕ) → Among j f.kept.items → IsKept entries j × Leads look (meaning rules) i j
   pub finds : (p : ℕ) → Among p f.finds.items → (j : Instance ℕ) × (g : Find) × (slice_get found p ≡ Some (j, g)) × Leads look (meaning rules) i j
 
--- What is recorded of equations is so on the tree, with what each looked at and took; and what is known holds.
+-- What is recorded of equations is so on the tree, with what each looked at and took, and just circular instances have formulas there; and what
+-- is known holds, and is whole.
 pub record AreFactsOf (rules : Rules) (look : Contents ℕ) (entries : Entries) (q : Question) : Type 0 where
   pub ends : AreFacts look (meaning rules) q.ended.entries
-  pub forms : (i : Instance ℕ) (x : Ended) (f : Formed) → Among (i, x) q.ended.entries → x.ending ≡ ending.Formed f
-      → IsFormOf rules look entries q.found.entries i f
+  pub forms : (i : Instance ℕ) (f : Formed) → IsRecordedForm q.ended.entries i f → IsFormOf rules look entries q.found.entries i f
+  pub circular : (i : Instance ℕ) (f : Formed) → IsRecordedForm q.ended.entries i f → IsSome (start_of rules i.attribute)
   pub values : AreRightValues look (meaning rules) (known_to entries q)
+  pub wholes : AreWhole look (meaning rules) (known_to entries q)
+
+-- A search has come so far from its root: that was seen, is known, or is to do; and so is, in its order, each of which the formula of one that was
+-- seen asks. The equation of each that was seen is recorded; it has a formula, where no fault was met.
+pub record IsCovered (known : Known ℕ) (ended : List (Instance ℕ × Ended)) (root : Instance ℕ) (seen todo : List (Instance ℕ))
+    (fault : Option Fault) : Type 0 where
+  pub first : IsMet (λ k. IsSome (known k)) seen todo root
+  pub ends : (i : Instance ℕ) → Among i seen → (e : End ℕ (Formula ℕ)) × Recorded ended i e × (fault ≡ None → IsMade e)
+  pub order : IsInOrder (Recorded ended) (λ k. IsSome (known k)) seen todo
 
 -- The fault of a level is the one that a search from its root meets, or what is met from here is met from the root; all start as the root does.
-pub record IsLevel (rules : Rules) (look : Contents ℕ) (i : Instance ℕ) (l : LevelCode) : Type 0 where
+-- Where it is a search, that has seen its root.
+pub record IsLevel (rules : Rules) (look : Contents ℕ) (known : Known ℕ) (ended : List (Instance ℕ × Ended)) (i : Instance ℕ) (l : LevelCode)
+    : Type 0 where
+  pub covered : IsCovered known ended (root_in l i) (seen_in l) (i ∷ todo_in l) (fault_in l)
   pub met : MetFrom look (meaning rules) (root_in l i) (seen_in l) (i ∷ todo_in l) (fault_in l)
   pub alike : (j : Instance ℕ) → Among j (seen_in l ++ i ∷ todo_in l) → start_of rules j.attribute ≡ start_of rules (root_in l i).attribute
+  pub rooted : IsRooted l
 
 -- so it is of the last level, and of those of all that wait
-pub record AreLevels (rules : Rules) (look : Contents ℕ) (q : Question) : Type 0 where
-  pub last : IsLevel rules look q.inst q.level
-  pub below : (i : Instance ℕ) (l : LevelCode) → Among (i, l) q.waiting.entries → IsLevel rules look i l
+pub record AreLevels (rules : Rules) (look : Contents ℕ) (entries : Entries) (q : Question) : Type 0 where
+  pub last : IsLevel rules look (known_to entries q) q.ended.entries q.inst q.level
+  pub below : (i : Instance ℕ) (l : LevelCode) → Among (i, l) q.waiting.entries → IsLevel rules look (known_to entries q) q.ended.entries i l
 
 -- from it formulas lead to one whose equation has a fault
 abbrev pub LeadsToFault : List (Instance ℕ × Ended) → Instance ℕ → Type 0
 LeadsToFault ended i = (j at : Instance ℕ) × (k : FaultKind) × LeadsOver (Recorded ended) i j × Recorded ended j (Spoilt k at)
 
+-- formulas lead from it to finitely many, and the equation of each of them ends
+abbrev pub HasAllEnded : Contents ℕ → Forms ℕ → Instance ℕ → Type 0
+HasAllEnded look forms i = IsClosedIn (EndsSo look forms) (λ e. Unit {0}) i
+
 -- Each equation that has ended is that of an instance that is known, or marked whole, or seen at a level under way. The equations of all to
--- which formulas lead from one that is marked have ended, and where that isn't known they lead to a fault.
-pub record AreWholeOrSeen (entries : Entries) (q : Question) : Type 0 where
+-- which formulas lead from one that is marked end, and where that isn't known they lead to a fault.
+pub record AreWholeOrSeen (rules : Rules) (look : Contents ℕ) (entries : Entries) (q : Question) : Type 0 where
   pub placed : (i : Instance ℕ) → Among i (keys_of q.ended.entries)
       → IsSome (known_to entries q i) ⊎ (IsMarked q.ended.entries i ⊎ Among i (under (all_levels q)))
-  pub marked : (i : Instance ℕ) → IsMarked q.ended.entries i → AreEnded (Recorded q.ended.entries) i
+  pub marked : (i : Instance ℕ) → IsMarked q.ended.entries i → HasAllEnded look (meaning rules) i
   pub spoilt : (i : Instance ℕ) → IsMarked q.ended.entries i → known_to entries q i ≡ None → LeadsToFault q.ended.entries i
 
 -- all that it tries, has seen, or is to look at
@@ -132,15 +155,16 @@ IsAbout q i = Among i (under (all_levels q)) ⊎ ((j : Instance ℕ) × (l : Lev
     × (Among i (todo_in l) ⊎ (i ≡ root_in l j)))
 
 -- The question stands for a search on the tree: its levels have come so far, what is recorded is so, no equation is tried twice to its end,
--- and at most so many turns were given.
+-- what was asked leads to all that was told, and at most so many turns were given.
 pub record StandsFor (rules : Rules) (s : Shown) (entries : Entries) (q : Question) (u : Search ℕ) : Type 0 where
   pub is : IsSearch entries q u
   pub on : IsOn (contents s) (meaning rules) (asked_by q) u
   pub fresh : IsFresh (contents s) (meaning rules) (asked_by q) (tried_at (u.last ∷ u.below)) u.ended
   pub facts : AreFactsOf rules (contents s) entries q
-  pub levels : AreLevels rules (contents s) q
-  pub whole : AreWholeOrSeen entries q
+  pub levels : AreLevels rules (contents s) entries q
+  pub whole : AreWholeOrSeen rules (contents s) entries q
   pub typed : (i : Instance ℕ) → IsAbout q i → IsWellTyped rules (class_shown s) AnyText i
+  pub reached : (i : Instance ℕ) (o : Outcome ℕ) → Among (i, o) u.told → Leads (contents s) (meaning rules) (asked_by q) i
   pub few : q.turns ≤ most_turns u
 
 -- it stands for some search

@@ -1,5 +1,6 @@
 pub mod Known
 pub mod Meant
+pub mod Sound
 pub mod UnderWay
 pub mod Right
 pub mod Touched

@@ -1,5 +1,5 @@
 -- Questions that are given turns, as code has them.
-use Rattle.std.specs.Prelude.{◌≡◌, ◌⊎◌, ℕ, ◌+◌, ◌<◌, ◌≤◌, true, List, [], ◌∷◌, ◌++◌, map, Option, Some, None, IsSome, IfOk, Result}
+use Rattle.std.specs.Prelude.{◌≡◌, ◌⊎◌, ℕ, ◌+◌, ◌-◌, ◌^◌, ◌<◌, ◌≤◌, min, true, List, [], ◌∷◌, ◌++◌, map, Option, Some, None, IsSome, IfOk, Result}
 use Rattle.std.specs.Option.{option_map}
 use Rattle.std.specs.Map.{keys_of}
 use Rattle.at_model.specs.Run.{Value, Instance, Location, Contents, Known, Run, Demands}
@@ -10,6 +10,7 @@ use Rattle.at_model.specs.of_fixpoints.Fixpoints.{HasValue}
 use Rattle.at_model.specs.Turning.{UnderWay, asked, keys, turns_of}
 use Rattle.at_model.specs.Turning.{IsOn as ChainIsOn, Silent as ChainSilent, Turned as ChainTurned}
 use Rattle.at_model.specs.of_fixpoints.Formulas.{Formula, Forms}
+use Rattle.at_model.specs.of_fixpoints.Resting.{Comes}
 use Rattle.at_model.specs.of_fixpoints.Searching.{Search, Silent, Turned, under}
 use Rattle.at_store.specs.Shown.{Shown, contents}
 use Rattle.at_body.specs.Values.{value_view}
@@ -20,9 +21,10 @@ use Rattle.at_demand.specs.declared.question.Question.{Question}
 use Rattle.at_rules.specs.Circular.{HasNoneCircular}
 use Rattle.at_demand.specs.declared.answer.Answer.{Answer as AnswerCode}
 use Rattle.at_demand.specs.Known.{answer_view, equations, meaning, kept_values, FoundKept, IsFound, IsKept}
-use Rattle.at_demand.specs.Levels.{LevelCode, StandsByLevels, StandsFor, root_in}
+use Rattle.at_demand.specs.Levels.{IsAbout, LevelCode, StandsByLevels, StandsFor, root_in}
 use Rattle.at_demand.specs.Covering.{AreWhole}
 use Rattle.at_demand.specs.Only.{AreLean}
+use Rattle.at_demand.specs.Sound.{AreSound}
 use Rattle.at_demand.specs.Sparing.{AreSettled, MayAddLazy}
 
 -- the values that were found
@@ -38,18 +40,18 @@ abbrev pub under_way : Question → UnderWay ℕ
 under_way q = record { waiting = keys_of q.waiting.entries; last = q.inst; found = found_of q.found.entries ++ passed_of q.passed.entries }
 
 -- Where no attribute is circular, no equation ends but by a value or by the answer, no level is a search, and the question is a chain of
--- demands, which was given so many turns.
+-- demands, which was given so many turns; the count stays at the greatest number.
 pub record IsStandingPlainly (rules : Rules) (s : Shown) (q : Question) : Type 0 where
   pub ended : q.ended.entries ≡ []
   pub level : q.level ≡ None
   pub levels : (i : Instance ℕ) (l : LevelCode) → Among (i, l) q.waiting.entries → l ≡ None
   pub on : ChainIsOn (contents s) (equations rules) (asked (under_way q)) (under_way q)
-  pub turns : q.turns ≡ turns_of (under_way q)
+  pub turns : q.turns ≡ min (turns_of (under_way q)) (2 ^ 128 - 1)
 
--- The question was posted on the tree as it is, where that is kept: it stands for a search, of well-typed instances; what was found holds, and
--- what it took of what is kept is kept; all that it rests on stands with it.
+-- The question was posted on the tree as it is, where that is kept: as long as what is kept is sound it stands for a search, of well-typed
+-- instances; what was found holds, and what it took of what is kept is kept; all that it rests on stands with it.
 pub record IsStanding (rules : Rules) (s : Shown) (entries : Entries) (q : Question) : Type 0 where
-  pub levels : StandsByLevels rules s entries q
+  pub levels : AreSound rules s entries → StandsByLevels rules s entries q
   pub plainly : HasNoneCircular rules → IsStandingPlainly rules s q
   pub kept : FoundKept entries q.found.entries
   pub passed : (i : Instance ℕ) (v : Value ℕ) → Among (i, v) (passed_of q.passed.entries) → kept_values entries i ≡ Some v
@@ -74,12 +76,22 @@ abbrev pub HaveMet : Rules → Contents ℕ → Entries → List (Instance ℕ �
 HaveMet rules look entries found [] n = Unit {0}
 HaveMet rules look entries found (e ∷ es) n = HasMet rules look entries found e.0 (next_root es n) × HaveMet rules look entries found es n
 
+-- the equation of i comes to what is met alone
+abbrev pub HasMetAll : Rules → Contents ℕ → Entries → List (Instance ℕ × Find) → Instance ℕ → Type 0
+HasMetAll rules look entries found i = (j : Instance ℕ) → Comes look (meaning rules) i j → IsMet entries found j
+
+-- each one to which an equation has come that has ended is met, or its own has ended, or the question is about it
+abbrev pub IsFollowed : Rules → Contents ℕ → Entries → Question → Type 0
+IsFollowed rules look entries q = (i j : Instance ℕ) → Among i (keys_of q.ended.entries) → Comes look (meaning rules) i j
+    → IsMet entries q.found.entries j ⊎ (Among j (keys_of q.ended.entries) ⊎ IsAbout q j)
+
 -- nothing else stands with what was found than what its instances rest on and lead to, what was found of lazy attributes is
--- kept, and those that wait have met nothing else
+-- kept, those that wait have met nothing else, and all to which equations have come that have ended is followed
 pub record IsSparingTurns (rules : Rules) (look : Contents ℕ) (entries : Entries) (q : Question) : Type 0 where
   pub lean : AreLean rules look q.found.entries
   pub settled : AreSettled rules entries q.found.entries
   pub met : HaveMet rules look entries q.found.entries q.waiting.entries (root_in q.level q.inst)
+  pub followed : IsFollowed rules look entries q
 
 -- It was given a turn so, where these values were kept before: where no attribute is circular, a turn of its chain, and else of the search for
 -- which it stood. For that it stands then, where it isn't answered.
@@ -102,15 +114,16 @@ HasGivenBy look forms limit given u new None = (given ≡ limit) × Silent look 
 HasGivenBy look forms limit given u new (Some a) = (before : ℕ) × (mid : Search ℕ) × (kept : Known ℕ) × (given ≡ before + 1) × (given ≤ limit)
     × Silent look forms before u mid × Turned look forms kept mid new (Some a)
 
--- one of these, whose values may come to be kept in a turn: the last one, and what levels under way have seen
+-- one of these, whose values may come to be kept in a turn: the last one, what levels under way have seen, and what the last level goes over,
+-- since its equation has ended before
 abbrev pub MayComeIn : Search ℕ → Instance ℕ → Type 0
-MayComeIn u j = Among j (under (u.last ∷ u.below))
+MayComeIn u j = Among j (under (u.last ∷ u.below)) ⊎ Among j u.ended
 
--- What a turn of the search lets come to what is kept: values of lazy ones among these, and entries without a value of instances that had been
--- found. Of these, how many come also hangs on how many turns go on with one trial.
+-- What a turn of the search lets come to what is kept: values of lazy ones among these, and entries without a value of them, or of instances
+-- that had been found. Of these, how many come also hangs on how many turns go on with one trial.
 pub record GainsInTurn (rules : Rules) (old new : Entries) (u : Search ℕ) : Type 0 where
   pub last : (j : Instance ℕ) → (kept_values new j ≡ kept_values old j) ⊎ (MayComeIn u j × IsKept new j × (is_lazy rules j.attribute ≡ true))
-  pub others : (j : Instance ℕ) → IsSome (new j) → IsSome (old j) ⊎ (IsKept new j ⊎ ((o : Outcome ℕ) × Among (j, o) u.told))
+  pub others : (j : Instance ℕ) → IsSome (new j) → IsSome (old j) ⊎ (IsKept new j ⊎ (((o : Outcome ℕ) × Among (j, o) u.told) ⊎ MayComeIn u j))
 
 -- where no attribute is circular: the value of the instance to which the chain had come, and entries without a value
 pub record GainsInChain (rules : Rules) (old new : Entries) (u : UnderWay ℕ) : Type 0 where

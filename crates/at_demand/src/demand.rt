@@ -6,15 +6,14 @@ ghost use Rattle.at_store.specs.Located.{loc_view};
 ghost use Rattle.at_store.specs.Shown.{IsIdle, contents};
 ghost use Rattle.at_body.specs.Values.{value_view};
 ghost use Rattle.at_cache.specs.Kept.{AreKept, AreNamed, Answers as Says, value_at};
-ghost use Rattle.at_demand.specs.Answerable.{CanBeAnswered, CanBeAsked, CanBeKept, CanBeKeptLazily};
+ghost use Rattle.at_demand.specs.Answerable.{CanBeAsked, CanBeKept, CanBeKeptLazily};
 ghost use Rattle.at_demand.specs.Known.{meaning};
 ghost use Rattle.at_demand.specs.Keeping.{IsKeptWhereLazy, IsPlaced, IsPut};
-ghost use Rattle.at_demand.specs.Answered.{Forgets, HasAnswered, IsAnswered};
+ghost use Rattle.at_demand.specs.Answered.{Forgets, IsAnswered};
 ghost use Rattle.at_demand.specs.Sparing.{AreSpare, HasWorthy};
 ghost use Rattle.at_demand.specs.Inner.{Gains};
 ghost use Rattle.at_demand.specs.InParts.{IsHeld, held};
 ghost use Rattle.at_demand.specs.Traces.{StayJustified};
-ghost use Rattle.at_cache.specs.Traced.{StayTraced};
 
 mod recalling;
 mod searching;
@@ -26,7 +25,9 @@ use crate::answer::Answer;
 use crate::basis::Basis;
 use crate::direct::Direct;
 use crate::evaluation::Find;
+use crate::question::Question;
 use crate::sharing::Sharing;
+use crate::trials::Trials;
 use at_apply::Stop;
 use at_body::{Inst, Value};
 use at_cache::{Keeper, Order, Put};
@@ -34,6 +35,9 @@ use at_rules::Rules;
 use at_store::{Loc, Places, Store};
 use indexmap::IndexMap;
 use std::alloc::{AllocError, Global};
+
+// By how many instances the chain of a question gets longer until its last one is evaluated in one go.
+const AHEAD: usize = 128;
 
 /// Answers questions, and keeps the values of lazy attributes.
 #[derive(Drop)]
@@ -100,7 +104,7 @@ impl<K: Keeper> Demand<K> {
         let at_once = self.answer_at_once(rules, store, inst)?;
         match at_once {
             Some(value) => Ok(Answer::Value(value)),
-            None => self.answer_by_turns(rules, store, inst),
+            None => self.answer_looking_ahead(rules, store, inst),
         }
     }
 
@@ -129,21 +133,61 @@ impl<K: Keeper> Demand<K> {
         }
     }
 
-    // The answer for an instance by all turns of a question. An error behind the greatest number, as if memory were wanting.
-    fn answer_by_turns(
+    // The answer for an instance by all turns of a question. Where its chain gets long its last instance is evaluated in one go first, so that what
+    // lies deep takes no turns. An error behind the greatest number, as if memory were wanting.
+    fn answer_looking_ahead(
         &mut self,
         rules: &Rules,
         store: &Store,
         inst: &Inst,
     ) -> Result<Answer, AllocError>
-        requires { CanBeAnswered rules.now store.now (K.contents self.old.keeper) inst.now }
-        ensures answered { HasAnswered rules.now store.now K.exact (K.contents self.old.keeper) (K.contents self.new.keeper)
-            self.old.work self.new.work inst.now result }
-        ensures traces { StayTraced (K.memories self.old.keeper) (K.memories self.new.keeper) }
+        requires { CanBeAsked rules.now store.now (K.contents self.old.keeper) (K.memories self.old.keeper) inst.now }
+        ensures { IsAnswered rules.now store.now K.exact (K.contents self.old.keeper) (K.contents self.new.keeper)
+            (K.memories self.old.keeper) (K.memories self.new.keeper) self.old.work self.new.work inst.now result }
     {
         let mut question = self.post(inst.copy(self.alloc)?)?;
-        let given = self.turns(rules, store, &mut question, u64::MAX)?;
-        given.1.ok_or(AllocError)
+        // Positions among the finds of one question say nothing of another one.
+        self.sharing.clear();
+        let mut trials = Trials::new(self.alloc);
+        let mut due = AHEAD;
+        let mut given: u64 = 0;
+        while given < u64::MAX {
+            let next = self.look_ahead(rules, store, &question, due)?;
+            let told = self.turn_with(rules, store, &mut question, &mut trials)?;
+            due = next;
+            given += 1;
+            if let Some(answer) = told {
+                return Ok(answer);
+            }
+        }
+        Err(AllocError)
+    }
+
+    // Evaluates the last instance of a question in one go, where as many others wait, and says how many are to wait the next time. Where nothing
+    // comes to be kept so, that is the last time.
+    fn look_ahead(
+        &mut self,
+        rules: &Rules,
+        store: &Store,
+        question: &Question,
+        due: usize,
+    ) -> Result<usize, AllocError>
+        requires idle { IsIdle store.now }
+        requires held { IsHeld rules.now (contents store.now) (held (K.contents self.old.keeper) (K.memories self.old.keeper) [] self.old.work) }
+        ensures gains { Gains rules.now store.now K.exact question.now.inst (K.contents self.old.keeper) (K.contents self.new.keeper) [] []
+            self.old.work self.new.work }
+        ensures traces { StayJustified rules.now store.now question.now.inst (K.memories self.old.keeper) (K.memories self.new.keeper) }
+    {
+        let waiting = question.waiting.len();
+        if waiting < due {
+            return Ok(lowered(due, waiting));
+        }
+        let before = self.work;
+        self.answer_at_once(rules, store, &question.inst)?;
+        if self.work == before {
+            return Ok(usize::MAX);
+        }
+        Ok(waiting.saturating_add(AHEAD))
     }
 
     /// Forgets what an edit touches, all of which the places name: called once the edit is decided, and before it is made.
@@ -233,4 +277,12 @@ impl<K: Keeper> Demand<K> {
         self.work = self.work.saturating_add(1);
         Ok(put)
     }
+}
+
+// How many instances are to wait the next time, where so many wait now: no more than if it had been now. Of the last time it stays as it is.
+fn lowered(due: usize, waiting: usize) -> usize {
+    if due == usize::MAX {
+        return due;
+    }
+    due.min(waiting.saturating_add(AHEAD))
 }

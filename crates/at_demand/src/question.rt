@@ -7,7 +7,7 @@ ghost use Rattle.at_model.specs.Meaning.{Among};
 ghost use Rattle.at_body.specs.Same.{same_instance};
 ghost use Rattle.at_demand.specs.Levels.{IsDoneIn, asked_by, fault_in, root_in, seen_in};
 ghost use Rattle.at_demand.specs.ChainSteps.{HasEnded, HasGoneOver, HasLostFault, HasLostSeen, HasMarked, HasMarkedAll, HasNext, HasSeen};
-ghost use Rattle.at_demand.specs.ChainSteps.{HasPassedOn, HasRisen, HasSettled, IsAlike, IsDeeper, IsSearched};
+ghost use Rattle.at_demand.specs.ChainSteps.{HasPassedOn, HasRisen, HasSettled, IsAlike, IsDeeper, IsSearched, KeepsRest};
 
 use crate::answer::Answer;
 use crate::evaluation::Find;
@@ -185,7 +185,8 @@ impl Question {
     // The equation of the last instance ended so: that is recorded, the instance is seen, and those of its formula are to be looked at next.
     pub(crate) fn end(&mut self, alloc: Global, ending: Ending) -> Result<(), AllocError>
         requires { Among self.old.inst (seen_in self.old.level) → ⊥ }
-        ensures { IfOk result (λ u. HasEnded self.old ending self.new) }
+        ensures ended { IfOk result (λ u. HasEnded self.old ending self.new) }
+        ensures found { self.new.found.entries ≡ self.old.found.entries }
     {
         let is_whole = matches!(&ending, Ending::Spoilt(_));
         let seen = self.inst.copy(alloc)?;
@@ -197,7 +198,8 @@ impl Question {
 
     // The last level is a search from now on.
     fn search(&mut self, alloc: Global) -> Result<(), AllocError>
-        ensures { IfOk result (λ u. IsSearched self.old self.new) }
+        ensures searched { IfOk result (λ u. IsSearched self.old self.new) }
+        ensures found { self.new.found.entries ≡ self.old.found.entries }
     {
         if self.level.is_none() {
             let search = Search::new(alloc, self.inst.copy(alloc)?);
@@ -209,7 +211,8 @@ impl Question {
     // The search of the last level sees an instance whose equation ended so.
     fn see(&mut self, alloc: Global, inst: Inst, ending: &Ending) -> Result<(), AllocError>
         requires { Among inst (seen_in self.old.level) → ⊥ }
-        ensures { IfOk result (λ u. HasSeen self.old inst ending.now self.new) }
+        ensures seen { IfOk result (λ u. HasSeen self.old inst ending.now self.new) }
+        ensures found { self.new.found.entries ≡ self.old.found.entries }
     {
         match &mut self.level {
             Some(search) => search.see(alloc, inst, ending),
@@ -220,7 +223,8 @@ impl Question {
     // The search of the last level goes over an instance whose equation has ended before.
     pub(crate) fn go_over(&mut self, alloc: Global, inst: Inst) -> Result<(), AllocError>
         requires { Among inst (seen_in self.old.level) → ⊥ }
-        ensures { IfOk result (λ u. HasGoneOver self.old inst self.new) }
+        ensures over { IfOk result (λ u. HasGoneOver self.old inst self.new) }
+        ensures rest { KeepsRest self.old self.new }
     {
         let Some(search) = &mut self.level else {
             return Ok(());

@@ -4,6 +4,7 @@ pub mod Questions
 pub mod FittingAlike
 pub mod Collecting
 pub mod AnswersTold
+pub mod Plainly
 pub mod Numbered
 pub mod Asked
 pub mod of_marks

@@ -1,5 +1,5 @@
 -- Questions that are open, as they are held, and what they stand for.
-use Rattle.std.specs.Prelude.{◌≡◌, ℕ, Bool, ◌&&◌, nat_eq, List, [], ◌∷◌, filter, length, Option, Some, None, is_some, slice_set, string_bytes}
+use Rattle.std.specs.Prelude.{◌≡◌, ℕ, ◌≤◌, ◌-◌, ◌^◌, Bool, ◌&&◌, nat_eq, List, [], ◌∷◌, filter, length, Option, Some, None, is_some, slice_set, string_bytes}
 use Rattle.at_model.specs.Paths.{Node}
 use Rattle.at_model.specs.Run.{Instance, Value}
 use Rattle.at_model.specs.Run as run
@@ -28,6 +28,16 @@ came_to (Some q) i = under_way q
 abbrev pub turns_given : Option Question → ℕ
 turns_given None = 0
 turns_given (Some q) = turns_of (under_way q)
+
+-- how many it says that they were
+abbrev pub turns_told : Option Question → ℕ
+turns_told None = 0
+turns_told (Some q) = q.turns
+
+-- there are no more than can be counted
+abbrev pub AreCountable : Option Question → Type 0
+AreCountable None = Unit {0}
+AreCountable (Some q) = turns_of (under_way q) ≤ 2 ^ 128 - 1
 
 -- the question, of marks whose numbers have these paths
 abbrev pub posted_view : (ℕ → Option Node) → Posted → PostedOf

@@ -1,11 +1,11 @@
 //! Questions that are open: their words, the marks in these, and how far each has come.
 
-ghost use Rattle.std.specs.Prelude.{◌≡◌, ◌++◌, ◌∷◌, ◌<◌, ◌+◌, [], nat_eq, nat_le, count_by, position, find, slice_get, remove, IfOk, OnErr, None, Some, MatchBool, MatchOption, length};
+ghost use Rattle.std.specs.Prelude.{◌≡◌, ◌++◌, ◌∷◌, ◌<◌, ◌+◌, [], nat_eq, nat_le, count_by, position, find, slice_get, remove, IfOk, IfSome, OnErr, None, Some, MatchBool, MatchOption, length};
 ghost use Rattle.std.specs.Option.{option_map};
 ghost use Rattle.at_model.specs.Alike.{ListLike};
 ghost use Rattle.at_model.specs.Lines.{last_post};
 ghost use Rattle.at_store.specs.Shown.{path};
-ghost use Rattle.at_engine.specs.Posted.{is_numbered, turns_given, IsBegunAnew, IsRenewed};
+ghost use Rattle.at_engine.specs.Posted.{is_numbered, turns_told, AreCountable, IsBegunAnew, IsRenewed};
 
 use crate::marks::Noted;
 use crate::nodes::Nodes;
@@ -53,7 +53,8 @@ impl Posted {
 
     /// How many turns it was given since it was posted, or since the last edit.
     fn turns(&self) -> u128
-        ensures { result ≡ turns_given self.now.question }
+        ensures turns { result ≡ turns_told self.now.question }
+        ensures few { AreCountable self.now.question }
     {
         match &self.question {
             Some(question) => question.turns(),
@@ -139,7 +140,8 @@ impl Posts {
 
     /// How many turns the open question of that number was given; none where none is open under it.
     pub fn turns(&self, number: u64) -> Option<u128>
-        ensures { result ≡ option_map (λ p. turns_given p.question) (find (λ p. nat_eq number p.number) self.now.items.items) }
+        ensures turns { result ≡ option_map (λ p. turns_told p.question) (find (λ p. nat_eq number p.number) self.now.items.items) }
+        ensures few { IfSome (find (λ p. nat_eq number p.number) self.now.items.items) (λ p. AreCountable p.question) }
     {
         for posted in &self.items {
             if posted.number == number {

@@ -31,8 +31,6 @@ ghost use Rattle.at_jrag.specs.Syntax as written;
 ghost use Rattle.at_jrag.specs.Grammar.{File, IsWithin};
 ghost use Rattle.at_jrag.specs.declared.JragCode.TheVariants.{Syntax};
 
-#[cfg(test)]
-mod circular_cases;
 mod declared;
 mod reader;
 mod syntax;

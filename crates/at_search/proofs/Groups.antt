@@ -78,6 +78,11 @@ place_of [] i h = absurd h
 place_of (x ∷ xs) i (inl e) = (zero, ap (λ (z : Instance ℕ). Some z) (sym e))
 place_of (x ∷ xs) i (inr h) = let (q, e) = place_of xs i h in (suc q, e)
 
+has_place : (xs : List (Instance ℕ)) (q : ℕ) → q < length xs → IsSome (slice_get xs q)
+has_place [] q less = absurd (omega (arith, less))
+has_place (x ∷ xs) zero less = refl
+has_place (x ∷ xs) (suc q) less = has_place xs q (omega (arith, less))
+
 closed_within : (xs : List Bool) (q : ℕ) → is_open_at xs q ≡ false → q < length xs
 closed_within [] q e = absurd (true≢false e)
 closed_within (x ∷ xs) zero e = omega arith
@@ -196,7 +201,7 @@ leads_then has _ j k (fixpoints.goes i m _ f h a x) y = fixpoints.goes i m k f h
 
 module _ (known : Known ℕ) (ended : List (Instance ℕ × Ended)) (insts : List (Instance ℕ)) where
   -- an equation is recorded to have ended once
-  one_end : (i : Instance ℕ) (d e : End ℕ (Formula ℕ)) → Recorded ended i d → Recorded ended i e → d ≡ e
+  pub one_end : (i : Instance ℕ) (d e : End ℕ (Formula ℕ)) → Recorded ended i d → Recorded ended i e → d ≡ e
   one_end i d e (x, at, is) (y, there, so) =
       let both : Some x ≡ Some y = sym at ∙ there in
       let same : x ≡ y = cc in sym is ∙ ap (λ (z : Ended). end_of z.ending) same ∙ so
@@ -289,8 +294,13 @@ module _ (known : Known ℕ) (ended : List (Instance ℕ × Ended)) (insts : Lis
           let same : m ≡ j = cc in
           subst (λ z. LeadsOver (Recorded ended) i z) same led
 
+      told_placed : (k : ℕ) (g : Vec Solved Global) (t : Solved) → slice_get solved k ≡ Some g → Among t g.items → IsSome (slice_get insts t.position)
+      told_placed k g t at_g in_g =
+          let shut = x.wider t.position (x.closed k t.position (g, t, at_g, in_g, refl)) in
+          has_place insts t.position (subst (λ m. t.position < m) system.all.opens (closed_within first.open.items t.position shut))
+
       pub all_groups : AreComponents first.edges.items (length first.edges.items) lists → AreGroups known ended insts solved
-      all_groups comps = record { together = told_together comps; unknown = told_unknown; once = told_once }
+      all_groups comps = record { together = told_together comps; unknown = told_unknown; once = told_once; placed = told_placed }
 
     -- what stops one stops those that lead to it
     stops_before : (i j : Instance ℕ) → known j ≡ None → LeadsOver (Recorded ended) i j → IsSome (known j) ⊎ IsStopped known ended insts j →
@@ -591,7 +601,7 @@ module _ (known : Known ℕ) (ended : List (Instance ℕ × Ended)) (insts : Lis
       (subst (λ z. AreComponents z (length z) lists') ee (subst (λ z. AreComponents edges (length edges) z) (sym el) comps))
 
   -- what is recorded leads where formulas do
-  led_so : (look : Contents ℕ) (forms : Forms ℕ) → AreFacts look forms ended → (i j : Instance ℕ) → LeadsOver (Recorded ended) i j →
+  pub led_so : (look : Contents ℕ) (forms : Forms ℕ) → AreFacts look forms ended → (i j : Instance ℕ) → LeadsOver (Recorded ended) i j →
       LeadsOver (EndsSo look forms) i j
   led_so look forms facts _ _ (fixpoints.stays i) = fixpoints.stays i
   led_so look forms facts _ j (fixpoints.goes i m _ f h a y) =

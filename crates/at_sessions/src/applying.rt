@@ -60,14 +60,14 @@ fn given(
 }
 
 /// The first row of ints of which another one comes, where there is one.
-fn first_other_int(alloc: Global) -> Result<Option<usize>, Fail> {
-    let classes = classes(alloc)?;
-    let store = loaded(alloc, &classes)?;
+fn first_other_int(alloc: Global, store: &Store) -> Result<Option<usize>, Fail>
+    requires { IsIdle store.now }
+{
     let mut reads = Reads::new(alloc);
     for (at, (operator, left, right, wanted)) in INTS.iter().enumerate() {
         let binary = Binary::Arithmetic(*operator);
         let value = given(
-            &store,
+            store,
             &mut reads,
             binary,
             Value::Int(*left),
@@ -81,15 +81,15 @@ fn first_other_int(alloc: Global) -> Result<Option<usize>, Fail> {
 }
 
 /// The first row of elements of which another node comes, or for which other than the list is looked at.
-fn first_other_element(alloc: Global) -> Result<Option<usize>, Fail> {
-    let classes = classes(alloc)?;
-    let store = loaded(alloc, &classes)?;
+fn first_other_element(alloc: Global, store: &Store) -> Result<Option<usize>, Fail>
+    requires { IsIdle store.now }
+{
     let block = Node::new(BLOCK);
     for (at, (index, wanted)) in ELEMENTS.iter().enumerate() {
         let mut reads = Reads::new(alloc);
         let list = Value::Ref(Some(block));
         let value = given(
-            &store,
+            store,
             &mut reads,
             Binary::Element(0),
             list,
@@ -131,12 +131,12 @@ fn told(
 }
 
 /// The first row of tokens of which another comparison comes, or for which other than the token is looked at.
-fn first_other_token(alloc: Global) -> Result<Option<usize>, Fail> {
-    let classes = classes(alloc)?;
-    let store = loaded(alloc, &classes)?;
+fn first_other_token(alloc: Global, store: &Store) -> Result<Option<usize>, Fail>
+    requires { IsIdle store.now }
+{
     for (at, (node, text, wanted)) in TOKENS.iter().enumerate() {
         let looked = if wanted.is_some() { 1 } else { 0 };
-        let (value, reads) = told(alloc, &store, Node::new(*node), text)?;
+        let (value, reads) = told(alloc, store, Node::new(*node), text)?;
         if value != wanted.map(Value::Bool) || reads != looked {
             return Ok(Some(at));
         }
@@ -180,26 +180,14 @@ fn first_other_call(alloc: Global) -> Result<Option<usize>, Fail> {
 }
 
 #[test]
-fn ints_wrap_and_are_cut_toward_zero(rt: HostRuntime) -> Result<(), Fail> {
-    assert_eq!(rt; first_other_int(rt.alloc())?, None);
-    Ok(())
-}
-
-#[test]
-fn an_element_is_the_node_at_its_index(rt: HostRuntime) -> Result<(), Fail> {
-    assert_eq!(rt; first_other_element(rt.alloc())?, None);
-    Ok(())
-}
-
-#[test]
-fn tokens_are_compared_where_they_stand(rt: HostRuntime) -> Result<(), Fail> {
-    assert_eq!(rt; first_other_token(rt.alloc())?, None);
-    Ok(())
-}
-
-#[test]
-fn a_fold_asks_each_element_with_what_was_passed(rt: HostRuntime) -> Result<(), Fail> {
-    assert_eq!(rt; first_other_call(rt.alloc())?, None);
+fn values_are_as_the_rows_tell(rt: HostRuntime) -> Result<(), Fail> {
+    let alloc = rt.alloc();
+    let classes = classes(alloc)?;
+    let store = loaded(alloc, &classes)?;
+    assert_eq!(rt; first_other_int(alloc, &store)?, None);
+    assert_eq!(rt; first_other_element(alloc, &store)?, None);
+    assert_eq!(rt; first_other_token(alloc, &store)?, None);
+    assert_eq!(rt; first_other_call(alloc)?, None);
     Ok(())
 }
 

@@ -1,6 +1,5 @@
 //! What keepers keep of instances that are put by themselves, and what they forget.
 
-use crate::keepers::KeepRefused;
 use crate::keepers::chance::Chance;
 use crate::keepers::compared::KeepCompared;
 use at_body::{Arguments, Inst, Value};
@@ -16,17 +15,17 @@ fn numbered(number: usize) -> Node {
 }
 
 /// The first attribute of that node.
-fn inst(node: usize) -> Inst {
+pub fn inst(node: usize) -> Inst {
     Inst::new(numbered(node), AttrId::new(0), Arguments::none())
 }
 
 /// A location of its own for each node.
-fn own(node: usize) -> Loc {
+pub fn own(node: usize) -> Loc {
     Loc::Tok(numbered(node), 0)
 }
 
 /// The instances of these nodes.
-fn insts(alloc: Global, nodes: &[usize]) -> Result<Vec<Inst>, AllocError> {
+pub fn insts(alloc: Global, nodes: &[usize]) -> Result<Vec<Inst>, AllocError> {
     let mut all = Vec::new(alloc);
     for node in nodes {
         all.push(inst(*node))?;
@@ -35,12 +34,13 @@ fn insts(alloc: Global, nodes: &[usize]) -> Result<Vec<Inst>, AllocError> {
 }
 
 /// Puts an entry for an instance that has none, which uses entries that are there.
-fn put_new<K: Keeper>(
+pub fn put_new<K: Keeper>(
     keeper: &mut K,
     inst: Inst,
     value: Option<Value>,
     reads: &[Loc],
     uses: &[Inst],
+    order: Order,
 ) -> Result<(), AllocError> {
     if keeper.stands(&inst) {
         return Ok(());
@@ -50,7 +50,7 @@ fn put_new<K: Keeper>(
             return Ok(());
         }
     }
-    keeper.put(inst, value, reads, uses, Order::Any)?;
+    keeper.put(inst, value, reads, uses, order)?;
     Ok(())
 }
 
@@ -65,6 +65,7 @@ fn recorded(alloc: Global, graph: &[&[usize]]) -> Result<KeepRecorded, AllocErro
             Some(Value::Bool(true)),
             &[own(node)],
             uses.as_slice(),
+            Order::Any,
         )?;
     }
     Ok(keeper)
@@ -91,6 +92,11 @@ fn left_of(alloc: Global, graph: &[&[usize]], touched: usize) -> Result<usize, A
     Ok(left)
 }
 
+/// Whether the keeper has so many entries, and stores so many locations for them.
+fn has_counts(keeper: &KeepRecorded, entries: usize, stored: usize) -> bool {
+    keeper.len() == entries && keeper.stored() == stored
+}
+
 /// What each entry uses, and for each how many entries a flush of its location leaves.
 struct Graph {
     uses: &'static [&'static [usize]],
@@ -112,8 +118,7 @@ const GRAPHS: &[Graph] = &[
 fn what_uses_an_entry_goes_with_it(rt: HostRuntime) -> Result<(), Fail> {
     for graph in GRAPHS {
         let keeper = recorded(rt.alloc(), graph.uses)?;
-        assert_eq!(rt; keeper.len(), graph.uses.len());
-        assert_eq!(rt; keeper.stored(), graph.uses.len());
+        assert!(rt; has_counts(&keeper, graph.uses.len(), graph.uses.len()));
         for (touched, left) in graph.left.iter().enumerate() {
             assert_eq!(rt; left_of(rt.alloc(), graph.uses, touched)?, *left);
         }
@@ -121,17 +126,28 @@ fn what_uses_an_entry_goes_with_it(rt: HostRuntime) -> Result<(), Fail> {
     Ok(())
 }
 
-/// Whether an entry that reads these locations stays where that one is touched.
-fn stays(alloc: Global, reads: &[Loc], touched: Loc) -> Result<bool, AllocError> {
+/// How many locations are stored for an entry that reads these, and whether it stays where that one is touched.
+fn stored_and_stays(
+    alloc: Global,
+    reads: &[Loc],
+    touched: Loc,
+) -> Result<(usize, bool), AllocError> {
     let mut keeper = KeepRecorded::new(alloc);
-    put_new(&mut keeper, inst(0), Some(Value::Int(7)), reads, &[])?;
+    put_new(
+        &mut keeper,
+        inst(0),
+        Some(Value::Int(7)),
+        reads,
+        &[],
+        Order::Any,
+    )?;
+    let stored = keeper.stored();
     keeper.flush(&|location: Loc| location == touched);
-    Ok(has(&keeper, 0))
+    Ok((stored, has(&keeper, 0)))
 }
 
 #[test]
 fn a_class_and_what_is_read_next_are_two_locations(rt: HostRuntime) -> Result<(), Fail> {
-    let alloc = rt.alloc();
     let node = numbered(0);
     let class = Loc::Is(node);
     for next in [
@@ -141,14 +157,15 @@ fn a_class_and_what_is_read_next_are_two_locations(rt: HostRuntime) -> Result<()
         Loc::Idx(node),
     ] {
         let reads = [class, class, next, Loc::Tok(node, 2)];
-        assert!(rt; !stays(alloc, &reads, class)?);
-        assert!(rt; !stays(alloc, &reads, next)?);
-        assert!(rt; !stays(alloc, &reads, Loc::Tok(node, 2))?);
-        assert!(rt; stays(alloc, &reads, Loc::Tok(node, 1))?);
-        assert!(rt; stays(alloc, &reads, Loc::Is(numbered(1)))?);
-        let mut keeper = KeepRecorded::new(alloc);
-        put_new(&mut keeper, inst(0), Some(Value::Int(7)), &reads, &[])?;
-        assert_eq!(rt; keeper.stored(), 3);
+        for (touched, stays) in [
+            (class, false),
+            (next, false),
+            (Loc::Tok(node, 2), false),
+            (Loc::Tok(node, 1), true),
+            (Loc::Is(numbered(1)), true),
+        ] {
+            assert!(rt; stored_and_stays(rt.alloc(), &reads, touched)? == (3, stays));
+        }
     }
     Ok(())
 }
@@ -158,25 +175,29 @@ fn links_follow_their_entries(rt: HostRuntime) -> Result<(), Fail> {
     let alloc = rt.alloc();
     let mut keeper = recorded(alloc, &[&[], &[0], &[], &[2]])?;
     flush(&mut keeper, 0);
-    assert_eq!(rt; keeper.len(), 2);
-    assert_eq!(rt; keeper.stored(), 2);
+    assert!(rt; has_counts(&keeper, 2, 2));
     let used = insts(alloc, &[3])?;
-    put_new(&mut keeper, inst(4), Some(Value::Int(7)), &[], &used)?;
-    assert_eq!(rt; keeper.len(), 3);
-    assert_eq!(rt; keeper.stored(), 2);
+    put_new(
+        &mut keeper,
+        inst(4),
+        Some(Value::Int(7)),
+        &[],
+        &used,
+        Order::Any,
+    )?;
+    assert!(rt; has_counts(&keeper, 3, 2));
     flush(&mut keeper, 0);
     assert!(rt; keeper.get(&inst(4)) == Some(&Value::Int(7)));
     flush(&mut keeper, 2);
     assert!(rt; !has(&keeper, 4));
-    assert_eq!(rt; keeper.len(), 0);
-    assert_eq!(rt; keeper.stored(), 0);
+    assert!(rt; has_counts(&keeper, 0, 0));
     Ok(())
 }
 
 /// Puts entries of nodes 0 and 1 without a value, and of 2 and 3 with one, of which the one uses 0 and the other 1.
 fn put_pairs<K: Keeper>(alloc: Global, keeper: &mut K) -> Result<(), AllocError> {
     for node in 0..2 {
-        put_new(keeper, inst(node), None, &[own(node)], &[])?;
+        put_new(keeper, inst(node), None, &[own(node)], &[], Order::Any)?;
     }
     for node in 2..4 {
         put_new(
@@ -185,6 +206,7 @@ fn put_pairs<K: Keeper>(alloc: Global, keeper: &mut K) -> Result<(), AllocError>
             Some(Value::Int(7)),
             &[own(node)],
             &insts(alloc, &[node - 2])?,
+            Order::Any,
         )?;
     }
     Ok(())
@@ -258,12 +280,7 @@ fn an_entry_without_a_value_is_never_told(rt: HostRuntime) -> Result<(), Fail> {
     assert!(rt; goes_with_its_users(alloc, KeepRecorded::new(alloc))?);
     assert!(rt; goes_with_its_users(alloc, KeepAtMost::new(alloc, 4))?);
     assert!(rt; goes_with_its_users(alloc, KeepCompared::new(alloc, usize::MAX))?);
-    Ok(())
-}
-
-#[test]
-fn what_stands_for_everything_needs_no_entry_without_a_value(rt: HostRuntime) -> Result<(), Fail> {
-    let alloc = rt.alloc();
+    // what stands for everything needs no such entry
     let mut keeper = KeepUntilEdit::new(alloc);
     put_pairs(alloc, &mut keeper)?;
     assert!(rt; shows(&keeper, &[Sight::Nothing; 4]));
@@ -280,6 +297,7 @@ fn put_chain<K: Keeper>(alloc: Global, keeper: &mut K, count: usize) -> Result<(
             Some(Value::Bool(true)),
             &[own(node)],
             uses.as_slice(),
+            Order::Any,
         )?;
         uses.clear();
         uses.push(inst(node))?;
@@ -369,7 +387,14 @@ fn put_by_chance(
     }
     let uses = used(alloc, keeper, chance)?;
     let value = value_by_chance(chance, node);
-    put_new(keeper, inst(node), value, reads.as_slice(), uses.as_slice())
+    put_new(
+        keeper,
+        inst(node),
+        value,
+        reads.as_slice(),
+        uses.as_slice(),
+        Order::Any,
+    )
 }
 
 /// The instances of some of the nodes that have an entry.
@@ -398,16 +423,24 @@ fn the_index_forgets_what_plain_models_forget(rt: HostRuntime) -> Result<(), Fai
             let touched = location(&mut chance);
             keeper.flush(&|location: Loc| location == touched);
         }
-        assert!(rt; !keeper.differs());
+        assert!(rt; !keeper.models.differs);
     }
-    let gone = keeper.gone();
+    let gone = keeper.models.gone;
     assert!(rt; gone > 800, "{gone} entries are gone");
     Ok(())
 }
 
 /// Whether the keeper takes an entry, or not; whether it keeps what it took; and whether it forgets it with any flush.
 fn is_as_told<K: Keeper>(mut keeper: K, takes: bool, keeps: bool) -> bool {
-    let taken = put_new(&mut keeper, inst(1), Some(Value::Int(5)), &[own(1)], &[]).is_ok();
+    let taken = put_new(
+        &mut keeper,
+        inst(1),
+        Some(Value::Int(5)),
+        &[own(1)],
+        &[],
+        Order::Any,
+    )
+    .is_ok();
     let kept = keeper.get(&inst(1)) == Some(&Value::Int(5));
     let is_other_kept = has(&keeper, 2);
     flush(&mut keeper, 2);
@@ -419,6 +452,6 @@ fn what_records_nothing_keeps_until_an_edit_at_most(rt: HostRuntime) -> Result<(
     let alloc = rt.alloc();
     assert!(rt; is_as_told(KeepUntilEdit::new(alloc), true, true));
     assert!(rt; is_as_told(KeepNone::new(alloc), true, false));
-    assert!(rt; is_as_told(KeepRefused {}, false, false));
+    assert!(rt; is_as_told(KeepCompared::new(alloc, 0), false, false));
     Ok(())
 }

@@ -66,67 +66,63 @@ const POSTS: &str = "0 post /Block/Stmt:1/Expr value()
 1 post /Block/Stmt:1/Expr/Right value()
 ";
 
-/// What a run wrote, the fault by which it ended, and whether a call of its reader or of its writer failed.
-#[derive(Drop)]
-struct Heard {
-    told: Vec<u8>,
-    fault: Option<RunFault>,
-    read_failed: bool,
-    write_failed: bool,
+/// How many bytes a read brings, and how many reads are allowed; and how many reads, writes of one byte, and flushes succeed.
+#[derive(Clone, Copy)]
+struct Calls {
+    size: usize,
+    limit: u64,
+    reads: usize,
+    writes: usize,
+    flushes: usize,
+    refused: Refused,
 }
 
-impl Heard {
-    /// Whether the run ended by this fault, or none, behind these replies, and no other call failed.
-    fn has_ended(&self, told: &[u8], fault: Option<RunFault>) -> bool {
-        self.fault == fault
-            && self.told.as_slice() == told
-            && self.read_failed == (fault == Some(RunFault::Read))
-            && self.write_failed == (fault == Some(RunFault::Write))
+/// One read brings all lines, and no call fails.
+const ALL: Calls = Calls {
+    size: usize::MAX,
+    limit: u64::MAX,
+    reads: usize::MAX,
+    writes: usize::MAX,
+    flushes: usize::MAX,
+    refused: Refused::Fails,
+};
+
+/// Whether the run of a fresh engine ends by this fault, or by none, behind these replies, and no other call fails.
+fn has_ended(
+    alloc: Global,
+    lines: &'static str,
+    calls: Calls,
+    told: &[u8],
+    fault: Option<RunFault>,
+) -> Result<bool, Fail> {
+    let mut engine = calculator(alloc)?;
+    let mut reader = Watched::new(reader_of(lines, calls));
+    let mut writer = Watched::new(writer_of(alloc, calls));
+    let ended = run_for(&mut engine, &mut reader, &mut writer, calls.limit).err();
+    Ok(
+        ended == fault
+            && writer.stream.told.as_slice() == told
+            && reader.failed() == (fault == Some(RunFault::Read))
+            && writer.failed() == (fault == Some(RunFault::Write)),
+    )
+}
+
+/// The lines, as they are read by these calls.
+fn reader_of(lines: &'static str, calls: Calls) -> FailingReader {
+    FailingReader {
+        bytes: lines.as_bytes(),
+        size: calls.size,
+        reads: calls.reads,
     }
 }
 
-/// What is heard of a fresh engine where each read brings so many bytes, the one after so many fails, and so many are allowed.
-fn read_for(
-    alloc: Global,
-    lines: &'static str,
-    size: usize,
-    reads: usize,
-    limit: u64,
-) -> Result<Heard, Fail> {
-    let mut engine = calculator(alloc)?;
-    let bytes = lines.as_bytes();
-    let mut reader = Watched::new(FailingReader { bytes, size, reads });
-    let mut writer = Watched::new(Vec::new(alloc));
-    let fault = run_for(&mut engine, &mut reader, &mut writer, limit).err();
-    Ok(Heard {
-        fault,
-        read_failed: reader.failed(),
-        write_failed: writer.failed(),
-        told: writer.stream,
-    })
-}
-
-/// What is heard of one where one read brings all lines, and the replies go to that writer.
-fn written_to(alloc: Global, lines: &'static str, writer: FailingWriter) -> Result<Heard, Fail> {
-    let mut engine = calculator(alloc)?;
-    let mut reader = Watched::new(lines.as_bytes());
-    let mut writer = Watched::new(writer);
-    let fault = run(&mut engine, &mut reader, &mut writer).err();
-    Ok(Heard {
-        fault,
-        read_failed: reader.failed(),
-        write_failed: writer.failed(),
-        told: writer.stream.told,
-    })
-}
-
-/// A writer of which each write takes one byte, and the one after so many fails.
-fn writer_for(alloc: Global, writes: usize) -> FailingWriter {
+/// Where nothing is written yet by these calls.
+fn writer_of(alloc: Global, calls: Calls) -> FailingWriter {
     FailingWriter {
         told: Vec::new(alloc),
-        writes,
-        refused: Refused::Fails,
-        flushes: usize::MAX,
+        writes: calls.writes,
+        refused: calls.refused,
+        flushes: calls.flushes,
     }
 }
 
@@ -136,9 +132,17 @@ fn a_failed_read_leaves_whole_lines(rt: HostRuntime) -> Result<(), Fail> {
         let bytes = session.lines.as_bytes();
         let mut lines: usize = 0;
         for reads in 0..=bytes.len() {
-            let heard = read_for(rt.alloc(), session.lines, 1, reads, u64::MAX)?;
+            let calls = Calls {
+                size: 1,
+                reads,
+                ..ALL
+            };
             let told = first_lines(session.replies.as_bytes(), lines);
-            assert!(rt; heard.has_ended(told, Some(RunFault::Read)), "{reads}");
+            let fault = Some(RunFault::Read);
+            assert!(rt;
+                has_ended(rt.alloc(), session.lines, calls, told, fault)?,
+                "{reads}"
+            );
             if bytes.get(reads) == Some(&b'\n') {
                 lines = lines.saturating_add(1);
             }
@@ -147,33 +151,31 @@ fn a_failed_read_leaves_whole_lines(rt: HostRuntime) -> Result<(), Fail> {
     Ok(())
 }
 
-#[test]
-fn a_failed_write_leaves_a_front(rt: HostRuntime) -> Result<(), Fail> {
-    for session in SESSIONS {
-        let replies = session.replies.as_bytes();
-        for writes in 0..replies.len() {
-            let heard = written_to(rt.alloc(), session.lines, writer_for(rt.alloc(), writes))?;
-            assert!(rt;
-                heard.has_ended(&replies[..writes], Some(RunFault::Write)),
-                "{writes}"
-            );
+/// Whether the run ends behind the first replies where so many writes succeed, and the next one fails or takes nothing.
+fn leaves_front(alloc: Global, session: &Session, writes: usize) -> Result<bool, Fail> {
+    let told = session
+        .replies
+        .as_bytes()
+        .split_at(writes.min(session.replies.len()))
+        .0;
+    for refused in [Refused::Fails, Refused::TakesNothing] {
+        let calls = Calls {
+            writes,
+            refused,
+            ..ALL
+        };
+        if !has_ended(alloc, session.lines, calls, told, Some(RunFault::Write))? {
+            return Ok(false);
         }
     }
-    Ok(())
+    Ok(true)
 }
 
 #[test]
-fn a_write_that_takes_nothing_is_a_failed_one(rt: HostRuntime) -> Result<(), Fail> {
+fn a_failed_write_leaves_a_front(rt: HostRuntime) -> Result<(), Fail> {
     for session in SESSIONS {
-        let replies = session.replies.as_bytes();
-        for writes in 0..replies.len() {
-            let mut writer = writer_for(rt.alloc(), writes);
-            writer.refused = Refused::TakesNothing;
-            let heard = written_to(rt.alloc(), session.lines, writer)?;
-            assert!(rt;
-                heard.has_ended(&replies[..writes], Some(RunFault::Write)),
-                "{writes}"
-            );
+        for writes in 0..session.replies.len() {
+            assert!(rt; leaves_front(rt.alloc(), session, writes)?, "{writes}");
         }
     }
     Ok(())
@@ -182,13 +184,14 @@ fn a_write_that_takes_nothing_is_a_failed_one(rt: HostRuntime) -> Result<(), Fai
 #[test]
 fn a_failed_flush_leaves_what_was_written(rt: HostRuntime) -> Result<(), Fail> {
     for session in SESSIONS {
-        let replies = session.replies.as_bytes();
         for flushes in 0..session.replies.lines().count() {
-            let mut writer = writer_for(rt.alloc(), usize::MAX);
-            writer.flushes = flushes;
-            let heard = written_to(rt.alloc(), session.lines, writer)?;
-            let told = first_lines(replies, flushes.saturating_add(1));
-            assert!(rt; heard.has_ended(told, Some(RunFault::Write)), "{flushes}");
+            let calls = Calls { flushes, ..ALL };
+            let told = first_lines(session.replies.as_bytes(), flushes.saturating_add(1));
+            let fault = Some(RunFault::Write);
+            assert!(rt;
+                has_ended(rt.alloc(), session.lines, calls, told, fault)?,
+                "{flushes}"
+            );
         }
     }
     Ok(())
@@ -197,13 +200,15 @@ fn a_failed_flush_leaves_what_was_written(rt: HostRuntime) -> Result<(), Fail> {
 #[test]
 fn without_a_failure_all_is_told(rt: HostRuntime) -> Result<(), Fail> {
     for session in SESSIONS {
-        let replies = session.replies.as_bytes();
-        let read = read_for(rt.alloc(), session.lines, 1, usize::MAX, u64::MAX)?;
-        assert!(rt; read.has_ended(replies, None));
-        let mut writer = writer_for(rt.alloc(), replies.len());
-        writer.flushes = session.replies.lines().count();
-        let written = written_to(rt.alloc(), session.lines, writer)?;
-        assert!(rt; written.has_ended(replies, None));
+        let told = session.replies.as_bytes();
+        let read = Calls { size: 1, ..ALL };
+        assert!(rt; has_ended(rt.alloc(), session.lines, read, told, None)?);
+        let written = Calls {
+            writes: told.len(),
+            flushes: session.replies.lines().count(),
+            ..ALL
+        };
+        assert!(rt; has_ended(rt.alloc(), session.lines, written, told, None)?);
     }
     Ok(())
 }
@@ -225,8 +230,15 @@ const LIMITS: &[(usize, u64, &[u8], Option<RunFault>)] = &[
 #[test]
 fn reads_are_counted(rt: HostRuntime) -> Result<(), Fail> {
     for (size, limit, told, fault) in LIMITS {
-        let heard = read_for(rt.alloc(), "0 version\n", *size, usize::MAX, *limit)?;
-        assert!(rt; heard.has_ended(told, *fault), "{size} {limit}");
+        let calls = Calls {
+            size: *size,
+            limit: *limit,
+            ..ALL
+        };
+        assert!(rt;
+            has_ended(rt.alloc(), "0 version\n", calls, told, *fault)?,
+            "{size} {limit}"
+        );
     }
     Ok(())
 }
@@ -253,10 +265,15 @@ const BROKEN: &[(usize, usize, &str)] = &[
 /// What the second run tells.
 fn told_then(alloc: Global, reads: usize, writes: usize) -> Result<Vec<u8>, Fail> {
     let mut engine = calculator(alloc)?;
-    let bytes = POSTS.as_bytes();
     let size = 1;
-    let mut reader = Watched::new(FailingReader { bytes, size, reads });
-    let mut writer = Watched::new(writer_for(alloc, writes));
+    let calls = Calls {
+        size,
+        reads,
+        writes,
+        ..ALL
+    };
+    let mut reader = Watched::new(reader_of(POSTS, calls));
+    let mut writer = Watched::new(writer_of(alloc, calls));
     let _ = run(&mut engine, &mut reader, &mut writer);
     let mut nothing: &[u8] = b"";
     let mut then = Vec::new(alloc);

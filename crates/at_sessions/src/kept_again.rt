@@ -1,19 +1,10 @@
-//! Sessions in which what an edit may have changed is the same again, or isn't, with every keeper.
+//! Sessions in which what an edit may have changed is the same again, or isn't. `sessions.rt` plays them with every keeper.
 
-use crate::hearing::{ONE_TURN, played};
-use crate::samples::{Sample, TREE, files, over};
-use std::alloc::Global;
-use std::test::Fail;
-
-/// Lines over a sample, and the replies to them.
-struct Session<'a> {
-    name: &'a str,
-    lines: &'a str,
-    replies: &'a str,
-}
+use crate::samples::Sample;
+use crate::sessions::Session;
 
 /// Over the calculator.
-const CALCULATED: &[Session<'static>] = &[
+pub const CALCULATED: &[Session<'static>] = &[
     Session {
         name: "a token changes, and changes back",
         lines: "0 ask /Block/Stmt:1/Expr value()
@@ -28,6 +19,7 @@ const CALCULATED: &[Session<'static>] = &[
 0 ok 2
 0 = 3
 ",
+        work: None,
     },
     Session {
         name: "a token that changes back is asked for in between by one of two",
@@ -47,6 +39,7 @@ const CALCULATED: &[Session<'static>] = &[
 0 = 4
 0 = 6
 ",
+        work: None,
     },
     Session {
         name: "what comes to the front of a list changes no value",
@@ -64,6 +57,7 @@ const CALCULATED: &[Session<'static>] = &[
 0 ok 2
 0 = 3
 ",
+        work: None,
     },
     Session {
         name: "a fault is mended",
@@ -83,6 +77,7 @@ const CALCULATED: &[Session<'static>] = &[
 0 ok 3
 0 fault null in /Block/Stmt:0/Expr/Left.value
 ",
+        work: None,
     },
     Session {
         name: "a circle comes and goes",
@@ -98,6 +93,7 @@ const CALCULATED: &[Session<'static>] = &[
 0 ok 2
 0 = 3
 ",
+        work: None,
     },
     Session {
         name: "a reference changes, and changes back",
@@ -117,6 +113,7 @@ const CALCULATED: &[Session<'static>] = &[
 0 = /Block/Stmt:0
 0 = 3
 ",
+        work: None,
     },
     Session {
         name: "a statement is moved to where its name means another one, and back",
@@ -136,10 +133,11 @@ const CALCULATED: &[Session<'static>] = &[
 0 = 3
 0 = 1
 ",
+        work: None,
     },
 ];
 
-const OPTIONAL: Sample<'static> = Sample {
+pub const OPTIONAL: Sample<'static> = Sample {
     grammar: b"P ::= [X:D];
 abstract D;
 A : D;
@@ -159,7 +157,7 @@ B : D;
     ],
 };
 
-const REUSED: Session<'static> = Session {
+pub const REUSED: &[Session<'static>] = &[Session {
     name: "the number of a node that left is another one's",
     lines: "0 ask / isA()
 0 ask / n()
@@ -175,9 +173,10 @@ const REUSED: Session<'static> = Session {
 0 = false
 0 = 2
 ",
-};
+    work: None,
+}];
 
-const SIGNS: Sample<'static> = Sample {
+pub const SIGNS: Sample<'static> = Sample {
     grammar: b"Sum ::= Left:Num Right:Num; Num ::= <Value:int>;",
     tree: b"Sum(Num(3),Num(4))",
     aspects: &[
@@ -191,7 +190,7 @@ const SIGNS: Sample<'static> = Sample {
     ],
 };
 
-const LOST: Session<'static> = Session {
+pub const LOST: &[Session<'static>] = &[Session {
     name: "a change is lost on its way up",
     lines: "0 ask / told()
 0 token /Left Value 5
@@ -213,25 +212,5 @@ const LOST: Session<'static> = Session {
 0 = \"no\"
 0 = -12
 ",
-};
-
-/// A failure where the replies are others with any keeper, or where what is kept again is seen in the work.
-fn told(alloc: Global, sample: &Sample, session: &Session) -> Result<(), Fail> {
-    let files = files(alloc, sample)?;
-    let (told, _) = played(alloc, &files, ONE_TURN, session.lines)?;
-    if told.as_slice() != session.replies.as_bytes() {
-        let told = std::str::from_utf8(&told)?;
-        return Err(Fail::new(format_args!("{}: {told}", session.name)));
-    }
-    Ok(())
-}
-
-#[test]
-fn what_is_kept_again_is_right(rt: HostRuntime) -> Result<(), Fail> {
-    let alloc = rt.alloc();
-    for session in CALCULATED {
-        told(alloc, &over(TREE), session)?;
-    }
-    told(alloc, &OPTIONAL, &REUSED)?;
-    told(alloc, &SIGNS, &LOST)
-}
+    work: None,
+}];

@@ -92,20 +92,6 @@ pub fn files(alloc: Global, sample: &Sample) -> Result<Files, AllocError> {
     })
 }
 
-/// The same files once more.
-pub fn copied(alloc: Global, files: &Files) -> Result<Files, AllocError> {
-    let mut aspects = Vec::new(alloc);
-    for file in &files.aspects {
-        aspects.push(source(alloc, file.name.as_str(), &file.bytes)?)?;
-    }
-    Ok(Files {
-        grammar: source(alloc, files.grammar.name.as_str(), &files.grammar.bytes)?,
-        tree: source(alloc, files.tree.name.as_str(), &files.tree.bytes)?,
-        aspects,
-        nodes: files.nodes,
-    })
-}
-
 /// The file of that name.
 fn source(alloc: Global, name: &str, bytes: &[u8]) -> Result<Source, AllocError> {
     Ok(Source {

@@ -1,35 +1,11 @@
 //! What a keeper keeps again with no evaluation, of instances that are put by themselves.
 
-use at_body::{Arguments, Inst, Value};
+use crate::caches::{inst, insts, own, put_new};
+use at_body::{Inst, Value};
 use at_cache::{KeepCutOff, Keeper, Order};
-use at_rules::AttrId;
-use at_store::{Loc, Node};
+use at_store::Loc;
 use std::alloc::{AllocError, Global};
 use std::test::Fail;
-
-/// The node of that number.
-fn numbered(number: usize) -> Node {
-    Node::of(number).unwrap_or_default()
-}
-
-/// The first attribute of that node.
-fn inst(node: usize) -> Inst {
-    Inst::new(numbered(node), AttrId::new(0), Arguments::none())
-}
-
-/// A location of its own for each node.
-fn own(node: usize) -> Loc {
-    Loc::Tok(numbered(node), 0)
-}
-
-/// The instances of these nodes.
-fn insts(alloc: Global, nodes: &[usize]) -> Result<Vec<Inst>, AllocError> {
-    let mut all = Vec::new(alloc);
-    for node in nodes {
-        all.push(inst(*node))?;
-    }
-    Ok(all)
-}
 
 /// What is done to a keeper.
 enum Act {
@@ -41,34 +17,20 @@ enum Act {
     Settle(usize),
 }
 
-/// Puts the entry of a node that has none, where all that it uses is there.
-fn put<K: Keeper>(
-    alloc: Global,
-    keeper: &mut K,
-    node: usize,
-    value: i32,
-    uses: &[usize],
-) -> Result<(), AllocError> {
-    let uses = insts(alloc, uses)?;
-    let needed = inst(node);
-    if keeper.stands(&needed) {
-        return Ok(());
-    }
-    for used in uses.as_slice() {
-        if !keeper.stands(used) {
-            return Ok(());
-        }
-    }
-    let value = Some(Value::Int(value));
-    keeper.put(needed, value, &[own(node)], uses.as_slice(), Order::AsTaken)?;
-    Ok(())
-}
-
 /// Does so, and tells how much work was done.
 fn done<K: Keeper>(alloc: Global, keeper: &mut K, act: &Act, work: u64) -> Result<u64, AllocError> {
     match act {
         Act::Put(node, value, uses) => {
-            put(alloc, keeper, *node, *value, uses)?;
+            let value = Some(Value::Int(*value));
+            let uses = insts(alloc, uses)?;
+            put_new(
+                keeper,
+                inst(*node),
+                value,
+                &[own(*node)],
+                &uses,
+                Order::AsTaken,
+            )?;
             Ok(work)
         }
         Act::Touch(node) => {

@@ -29,21 +29,11 @@ fn greatest(alloc: Global, system: &[Condition]) -> Result<Vec<bool>, AllocError
     Ok(stays)
 }
 
-/// The rows, each as a list.
-fn lists_of(alloc: Global, rows: &[&[usize]]) -> Result<Vec<Vec<usize>>, AllocError> {
-    let mut lists = Vec::new(alloc);
-    for row in rows {
-        let mut list = Vec::new(alloc);
-        list.extend_from_slice(row)?;
-        lists.push(list)?;
-    }
-    Ok(lists)
-}
-
-/// The components of the graph with these edges from each node.
-fn components(alloc: Global, edges: &[&[usize]]) -> Result<Vec<Vec<usize>>, AllocError> {
-    let edges = lists_of(alloc, edges)?;
-    components_of(alloc, &edges)
+/// What is derived of conditions, and their greatest fixpoint, where it is told.
+struct System {
+    conditions: &'static [Condition],
+    least: &'static [bool],
+    greatest: Option<&'static [bool]>,
 }
 
 /// Each waits for the next, and the last one for nothing.
@@ -90,73 +80,121 @@ const LOOPS: &[Condition] = &[
     Condition::Always,
 ];
 
+const SYSTEMS: &[System] = &[
+    System {
+        conditions: CHAIN,
+        least: &[true, true, true],
+        greatest: None,
+    },
+    System {
+        conditions: BROKEN_CHAIN,
+        least: &[false, false, false],
+        greatest: Some(&[false, false, false]),
+    },
+    System {
+        conditions: RING,
+        least: &[false, false, false],
+        greatest: Some(&[true, true, true]),
+    },
+    System {
+        conditions: ENTERED_RING,
+        least: &[true, true, true, true],
+        greatest: None,
+    },
+    System {
+        conditions: LED_RINGS,
+        least: &[true, true, true, true, true],
+        greatest: None,
+    },
+    System {
+        conditions: HELD_RINGS,
+        least: &[false, false, true, true, true],
+        greatest: Some(&[true, true, true, true, true]),
+    },
+    System {
+        conditions: LOOPS,
+        least: &[false, true, false, false, true],
+        greatest: Some(&[true, true, true, true, true]),
+    },
+];
+
 #[test]
 fn what_is_derived_is_the_least_fixpoint(rt: HostRuntime) -> Result<(), Fail> {
-    let alloc = rt.alloc();
-    assert!(rt; derived(alloc, CHAIN)?.as_slice() == [true, true, true].as_slice());
-    assert!(rt; derived(alloc, BROKEN_CHAIN)?.as_slice() == [false, false, false].as_slice());
-    assert!(rt; derived(alloc, RING)?.as_slice() == [false, false, false].as_slice());
-    assert!(rt; derived(alloc, ENTERED_RING)?.as_slice() == [true, true, true, true].as_slice());
-    assert!(rt; derived(alloc, LED_RINGS)?.as_slice() == [true, true, true, true, true].as_slice());
-    assert!(rt;
-        derived(alloc, HELD_RINGS)?.as_slice() == [false, false, true, true, true].as_slice()
-    );
-    assert!(rt; derived(alloc, LOOPS)?.as_slice() == [false, true, false, false, true].as_slice());
+    for system in SYSTEMS {
+        let least = derived(rt.alloc(), system.conditions)?;
+        assert!(rt; least.as_slice() == system.least);
+    }
     Ok(())
 }
 
 #[test]
 fn what_does_not_leave_true_is_the_greatest_fixpoint(rt: HostRuntime) -> Result<(), Fail> {
-    let alloc = rt.alloc();
-    assert!(rt; greatest(alloc, BROKEN_CHAIN)?.as_slice() == [false, false, false].as_slice());
-    assert!(rt; greatest(alloc, RING)?.as_slice() == [true, true, true].as_slice());
-    assert!(rt;
-        greatest(alloc, HELD_RINGS)?.as_slice() == [true, true, true, true, true].as_slice()
-    );
-    assert!(rt; greatest(alloc, LOOPS)?.as_slice() == [true, true, true, true, true].as_slice());
+    for system in SYSTEMS {
+        if let Some(wanted) = system.greatest {
+            let greatest = greatest(rt.alloc(), system.conditions)?;
+            assert!(rt; greatest.as_slice() == wanted);
+        }
+    }
     Ok(())
+}
+
+/// The nodes to which each node of a graph leads, and the components in the order in which they are listed.
+struct Graph {
+    edges: &'static [&'static [usize]],
+    components: &'static [&'static [usize]],
+}
+
+const GRAPHS: &[Graph] = &[
+    Graph {
+        edges: &[&[1], &[2], &[]],
+        components: &[&[2], &[1], &[0]],
+    },
+    Graph {
+        edges: &[&[1], &[2], &[0]],
+        components: &[&[0, 1, 2]],
+    },
+    Graph {
+        edges: &[&[1], &[0, 2], &[3], &[2]],
+        components: &[&[2, 3], &[0, 1]],
+    },
+    Graph {
+        edges: &[&[0], &[0, 1]],
+        components: &[&[0], &[1]],
+    },
+    Graph {
+        edges: &[&[9], &[]],
+        components: &[&[0], &[1]],
+    },
+    // a component goes on behind an edge back
+    Graph {
+        edges: &[&[1], &[2, 0], &[0]],
+        components: &[&[0, 1, 2]],
+    },
+    Graph {
+        edges: &[&[1], &[0, 2], &[0]],
+        components: &[&[0, 1, 2]],
+    },
+    Graph {
+        edges: &[&[1], &[2], &[1, 3], &[4], &[3, 0]],
+        components: &[&[0, 1, 2, 3, 4]],
+    },
+];
+
+/// The rows, each as a list.
+fn lists_of(alloc: Global, rows: &[&[usize]]) -> Result<Vec<Vec<usize>>, AllocError> {
+    let mut lists = Vec::new(alloc);
+    for row in rows {
+        lists.push(Vec::from_slice(alloc, row)?)?;
+    }
+    Ok(lists)
 }
 
 #[test]
 fn components_are_listed_behind_those_to_which_they_lead(rt: HostRuntime) -> Result<(), Fail> {
-    let alloc = rt.alloc();
-    assert_eq!(rt;
-        components(alloc, &[&[1], &[2], &[]])?,
-        lists_of(alloc, &[&[2], &[1], &[0]])?
-    );
-    assert_eq!(rt;
-        components(alloc, &[&[1], &[2], &[0]])?,
-        lists_of(alloc, &[&[0, 1, 2]])?
-    );
-    assert_eq!(rt;
-        components(alloc, &[&[1], &[0, 2], &[3], &[2]])?,
-        lists_of(alloc, &[&[2, 3], &[0, 1]])?
-    );
-    assert_eq!(rt;
-        components(alloc, &[&[0], &[0, 1]])?,
-        lists_of(alloc, &[&[0], &[1]])?
-    );
-    assert_eq!(rt;
-        components(alloc, &[&[9], &[]])?,
-        lists_of(alloc, &[&[0], &[1]])?
-    );
-    Ok(())
-}
-
-#[test]
-fn a_component_goes_on_behind_an_edge_back(rt: HostRuntime) -> Result<(), Fail> {
-    let alloc = rt.alloc();
-    assert_eq!(rt;
-        components(alloc, &[&[1], &[2, 0], &[0]])?,
-        lists_of(alloc, &[&[0, 1, 2]])?
-    );
-    assert_eq!(rt;
-        components(alloc, &[&[1], &[0, 2], &[0]])?,
-        lists_of(alloc, &[&[0, 1, 2]])?
-    );
-    assert_eq!(rt;
-        components(alloc, &[&[1], &[2], &[1, 3], &[4], &[3, 0]])?,
-        lists_of(alloc, &[&[0, 1, 2, 3, 4]])?
-    );
+    for graph in GRAPHS {
+        let edges = lists_of(rt.alloc(), graph.edges)?;
+        let components = components_of(rt.alloc(), &edges)?;
+        assert_eq!(rt; components, lists_of(rt.alloc(), graph.components)?);
+    }
     Ok(())
 }

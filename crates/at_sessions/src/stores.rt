@@ -146,64 +146,63 @@ fn reason(
     Ok(reason)
 }
 
-/// A number as an element of a block, or in the declaration, which has one.
-fn number_refused(alloc: Global, under: &str, is_element: bool) -> Result<Refusal, Fail> {
+/// An edit with a copy of what stands elsewhere in the tree.
+enum Asked {
+    Insert(usize),
+    Put(usize),
+    Drop,
+}
+
+/// Where an edit is asked for, where what it brings stands, what is done, and why it is refused.
+const REFUSED: &[(&str, &str, Asked, Refusal)] = &[
+    // a number as an element of a block, and in the declaration, which has one
+    (
+        "/Block",
+        "/Block/Stmt:0/Init",
+        Asked::Insert(0),
+        Refusal::Fit,
+    ),
+    (
+        "/Block/Stmt:0",
+        "/Block/Stmt:0/Init",
+        Asked::Put(1),
+        Refusal::Taken,
+    ),
+    // a plain child
+    ("/Block", "/", Asked::Drop, Refusal::Fixed),
+    // a declaration more, behind an element that isn't there
+    ("/Block", "/Block/Stmt:0", Asked::Insert(3), Refusal::Index),
+];
+
+/// Why the edit at that place is refused.
+fn refused(alloc: Global, place: &str, source: &str, asked: &Asked) -> Result<Refusal, Fail> {
     let classes = classes(alloc)?;
     let mut store = loaded(alloc, &classes)?;
-    let node = node_at(alloc, &classes, &store, under)?;
-    let number = node_at(alloc, &classes, &store, "/Block/Stmt:0/Init")?;
-    let tree = store.tree_of(alloc, number)?;
-    let edit = if is_element {
-        Edit::Insert {
+    let node = node_at(alloc, &classes, &store, place)?;
+    let source = node_at(alloc, &classes, &store, source)?;
+    let tree = store.tree_of(alloc, source)?;
+    let edit = match asked {
+        Asked::Insert(index) => Edit::Insert {
             node,
             part: 0,
-            index: 0,
+            index: *index,
             tree,
-        }
-    } else {
-        Edit::Put {
+        },
+        Asked::Put(part) => Edit::Put {
             node,
-            part: 1,
+            part: *part,
             tree,
-        }
-    };
-    reason(alloc, &classes, &mut store, edit)
-}
-
-/// A drop of the block, which is a plain child.
-fn drop_refused(alloc: Global) -> Result<Refusal, Fail> {
-    let classes = classes(alloc)?;
-    let mut store = loaded(alloc, &classes)?;
-    let node = node_at(alloc, &classes, &store, "/Block")?;
-    reason(alloc, &classes, &mut store, Edit::Drop { node })
-}
-
-/// A declaration more, behind an element that isn't there.
-fn index_refused(alloc: Global) -> Result<Refusal, Fail> {
-    let classes = classes(alloc)?;
-    let mut store = loaded(alloc, &classes)?;
-    let node = node_at(alloc, &classes, &store, "/Block")?;
-    let declaration = node_at(alloc, &classes, &store, "/Block/Stmt:0")?;
-    let tree = store.tree_of(alloc, declaration)?;
-    let edit = Edit::Insert {
-        node,
-        part: 0,
-        index: 3,
-        tree,
+        },
+        Asked::Drop => Edit::Drop { node },
     };
     reason(alloc, &classes, &mut store, edit)
 }
 
 #[test]
 fn the_store_refuses_edits_and_stays_as_it_was(rt: HostRuntime) -> Result<(), Fail> {
-    let alloc = rt.alloc();
-    assert_eq!(rt; number_refused(alloc, "/Block", true)?, Refusal::Fit);
-    assert_eq!(rt; drop_refused(alloc)?, Refusal::Fixed);
-    assert_eq!(rt;
-        number_refused(alloc, "/Block/Stmt:0", false)?,
-        Refusal::Taken
-    );
-    assert_eq!(rt; index_refused(alloc)?, Refusal::Index);
+    for (place, source, asked, wanted) in REFUSED {
+        assert_eq!(rt; refused(rt.alloc(), place, source, asked)?, *wanted);
+    }
     Ok(())
 }
 
@@ -270,23 +269,15 @@ const TOUCHED: &[bool] = &[
 
 #[test]
 fn a_drop_leaves_the_numbers_of_the_others(rt: HostRuntime) -> Result<(), Fail> {
-    let Dropped {
-        touched,
-        before: _,
-        behind,
-        other,
-        first,
-    } = drop_declaration(rt.alloc(), End::Done)?;
-    assert_eq!(rt; touched.as_slice(), TOUCHED);
-    assert_eq!(rt; first, other);
-    assert!(rt; behind.starts_with(b"Program(Block([Print(Add(Use(\"x\"),Num(2)))]))"));
-    Ok(())
-}
-
-#[test]
-fn an_edit_that_is_given_up_leaves_all_as_it_was(rt: HostRuntime) -> Result<(), Fail> {
-    let all = drop_declaration(rt.alloc(), End::GivenUp)?;
-    assert_eq!(rt; all.touched.as_slice(), TOUCHED);
-    assert_eq!(rt; all.before, all.behind);
+    let done = drop_declaration(rt.alloc(), End::Done)?;
+    assert_eq!(rt; done.touched.as_slice(), TOUCHED);
+    assert_eq!(rt; done.first, done.other);
+    assert!(rt;
+        done.behind
+            .starts_with(b"Program(Block([Print(Add(Use(\"x\"),Num(2)))]))")
+    );
+    let given_up = drop_declaration(rt.alloc(), End::GivenUp)?;
+    assert_eq!(rt; given_up.touched.as_slice(), TOUCHED);
+    assert_eq!(rt; given_up.before, given_up.behind);
     Ok(())
 }

@@ -1,12 +1,13 @@
-//! Questions in turns: lines and turns one by one, and how many lines are told before an answer.
+//! Lines and turns one by one: questions in turns, the tree between lines, and how many lines are told before an answer.
 
 ghost use Rattle.at_start.specs.Starts.{IsReady};
 
 use crate::hearing::{calculator, played};
-use crate::samples::{TREE, files, over};
+use crate::samples::{TREE, over};
 use crate::sessions::built::joined;
 use at_cache::KeepRecorded;
 use at_engine::Engine;
+use at_tree::tree::{depth, nodes};
 use std::alloc::{AllocError, Global};
 use std::test::Fail;
 
@@ -18,6 +19,8 @@ enum Step {
     Turn(bool, &'static str),
     /// So many questions of session 0 are posted: they are told the numbers from 1 on.
     Posts(u32),
+    /// How many nodes and levels a copy of the engine's tree has.
+    Tree(usize, usize),
     /// How many turns the open question of that number was given.
     Given(u64, Option<u128>),
 }
@@ -185,6 +188,24 @@ const SCRIPTS: &[Script] = &[
             Step::Line("0 post / circ()", "0 open 103\n"),
         ],
     },
+    Script {
+        name: "the tree is read between lines",
+        steps: &[
+            Step::Line("0 version", "0 ok 0\n"),
+            Step::Tree(8, 5),
+            Step::Line(
+                "0 set /Block/Stmt:1/Expr/Right Add(Num(3),Add(Num(4),Num(5)))",
+                "0 ok 1\n",
+            ),
+            Step::Tree(12, 7),
+            Step::Line("0 drop /Block/Stmt:1/Expr/Right", "0 refused 10 fixed\n"),
+            Step::Tree(12, 7),
+            Step::Line("0 insert /Block Stmt 0 Decl(\"y\",-)", "0 ok 2\n"),
+            Step::Tree(13, 7),
+            Step::Line("0 drop /Block/Stmt:2", "0 ok 3\n"),
+            Step::Tree(5, 4),
+        ],
+    },
 ];
 
 /// The value of the sum is posted, which needs 17 turns: it comes to eight other instances, each of which a turn adds and
@@ -196,6 +217,7 @@ const MARK: Step = Step::Line("0 mark u /Block/Stmt:1/Expr/Left", "0 ok 0\n");
 
 /// Whether the step is taken as it says; what has to be appended is noted.
 fn is_taken(
+    alloc: Global,
     engine: &mut Engine<KeepRecorded>,
     step: &Step,
     out: &mut Vec<u8>,
@@ -219,7 +241,17 @@ fn is_taken(
             Ok(true)
         }
         Step::Given(number, turns) => Ok(engine.turns(*number) == *turns),
+        Step::Tree(nodes, levels) => Ok(size(alloc, engine)? == (*nodes, *levels)),
     }
+}
+
+/// How many nodes and levels a copy of the engine's tree has.
+fn size(alloc: Global, engine: &Engine<KeepRecorded>) -> Result<(usize, usize), AllocError>
+    requires { IsReady engine.now }
+{
+    let store = engine.tree();
+    let tree = store.tree_of(alloc, store.root())?;
+    Ok((nodes(&tree), depth(&tree)))
 }
 
 /// Posts so many questions of session 0.
@@ -245,7 +277,7 @@ fn first_wrong(alloc: Global, steps: &[Step]) -> Result<Option<usize>, Fail> {
     let mut out = Vec::new(alloc);
     let mut told = String::new(alloc);
     for (at, step) in steps.iter().enumerate() {
-        let is_taken = is_taken(&mut engine, step, &mut out, &mut told)?;
+        let is_taken = is_taken(alloc, &mut engine, step, &mut out, &mut told)?;
         if !is_taken || out.as_slice() != told.as_bytes() {
             return Ok(Some(at));
         }
@@ -274,8 +306,8 @@ const SLICES: &[(u32, usize)] = &[
     (1_000, 0),
 ];
 
-/// Whether so many lines are told before the answer, where so many turns follow each line.
-fn are_before(alloc: Global, slice: u32, before: usize) -> Result<bool, Fail> {
+/// A failure where not so many lines are told before the answer, where so many turns follow each line.
+fn are_before(alloc: Global, slice: u32, before: usize) -> Result<(), Fail> {
     let post = "0 post /Block/Stmt:1/Expr value()\n";
     let lines = joined(alloc, &[(post, 1), ("0 version\n", 20)])?;
     let replies = joined(
@@ -287,14 +319,14 @@ fn are_before(alloc: Global, slice: u32, before: usize) -> Result<bool, Fail> {
             ("0 ok 0\n", 20_usize.saturating_sub(before)),
         ],
     )?;
-    let (told, _) = played(alloc, &files(alloc, &over(TREE))?, slice, &lines)?;
-    Ok(told.as_slice() == replies.as_bytes())
+    played(alloc, &over(TREE), slice, &lines, replies.as_bytes())?;
+    Ok(())
 }
 
 #[test]
 fn so_many_turns_follow_each_line(rt: HostRuntime) -> Result<(), Fail> {
     for (slice, before) in SLICES {
-        assert!(rt; are_before(rt.alloc(), *slice, *before)?, "{slice}");
+        are_before(rt.alloc(), *slice, *before)?;
     }
     Ok(())
 }

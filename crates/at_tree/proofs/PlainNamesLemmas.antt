@@ -1,21 +1,23 @@
 -- Names of ASCII, told by their bytes.
 use Rattle.std.proofs.Common.{◌≡◌, ℕ, zero, suc, ◌+◌, ◌<◌, ◌≤◌, Bool, true, false, ◌&&◌, ◌||◌, ◌==◌, not, List, [], ◌∷◌, ◌++◌, ◌-◌, length, take, drop, get_or, Some, None, refl, ap, sym, ◌∙◌, subst, arith, cond, ltb, encode_utf8_all}
 use Rattle.std.specs.Prelude.{chars, encode_utf8, IsUtf8}
-use Rattle.std.specs.Char.{is_ascii_alphabetic, is_ascii_digit}
+use Rattle.std.specs.Char.{is_ascii, is_ascii_alphabetic, is_ascii_digit}
 use Rattle.std.specs.List.{list_all, AllByRecursion}
 use Rattle.std.specs.Str.{IsAscii, IsCharBoundary}
 use Rattle.std.proofs.lemmas.Bool.Decides.{nat_tests}
-use Rattle.std.proofs.lemmas.List.Sums.{fails_before_first, prefix_len-le-length}
+use Rattle.std.proofs.lemmas.List.Sums.{fails_before_first, passes_at_first, prefix_len-le-length}
 use Rattle.std.proofs.lemmas.List.Folds.{list_all_more}
-use Rattle.std.proofs.lemmas.List.{take_all, take-append-drop}
-use Rattle.std.proofs.lemmas.Str.{chars-IsAscii, encodes-chars, IsUtf8-from_ascii, IsCharBoundary-from_take}
+use Rattle.std.proofs.lemmas.List.{take_all, take-append-drop, drop_all, drop_more}
+use Rattle.std.proofs.lemmas.Str.{chars-IsAscii, encode_ascii, encodes-chars, IsUtf8-from_ascii, IsCharBoundary-from_take}
 use Rattle.std.proofs.lemmas.Str.Ascii.{IsAscii-nil, IsAscii-cons}
 use Rattle.unicode_ident.proofs.IdentLemmas.{is_xid_start-ascii, is_xid_continue-ascii}
 use Rattle.at_model.specs.Names.{starts_name, continues_name, is_word, IsName, is_reserved}
 use Rattle.at_model.proofs.Options.{both}
 use Rattle.at_text.specs.Front.{EndsRun}
+use Rattle.at_text.specs.Pieces.{NotBefore}
+use Rattle.at_text.proofs.Fronts.{not_false, stops_at, stops_at_end}
 use Rattle.at_text.proofs.ReadingLaws.{all_append}
-use Rattle.at_tree.specs.PlainNames.{is_name_byte, name_len, begins_name}
+use Rattle.at_tree.specs.PlainNames.{is_name_byte, name_len, begins_name, begins_plain}
 use Rattle.at_tree.specs.Runs.{Passes, IsWordBefore}
 use Rattle.at_tree.proofs.Passing.{cut_back, cut_front, joined, one_before}
 
@@ -102,11 +104,13 @@ all_of : (p : ℕ → Bool) (cs : List ℕ) → list_all p cs ≡ true → AllBy
 all_of p [] h = tt
 all_of p (c ∷ cs) h = let f = both (p c) (list_all p cs) h in (f.0, all_of p cs f.1)
 
+spelled : (bs : List ℕ) → AreNameBytes bs → encode_utf8_all bs ≡ bs
+spelled bs h = let ascii = all_ascii bs h in ap encode_utf8_all (sym (chars-IsAscii bs ascii)) ∙ encodes-chars bs (IsUtf8-from_ascii bs ascii)
+
 pub plain_passes : (text rest : List ℕ) → rest ≡ drop (name_len text) text → Passes continues_name text rest
 plain_passes text rest is =
     let name = take (name_len text) text in
-    let ascii : IsAscii name = all_ascii name (name_bytes text) in
-    let same : encode_utf8_all name ≡ name = ap encode_utf8_all (sym (chars-IsAscii name ascii)) ∙ encodes-chars name (IsUtf8-from_ascii name ascii) in
+    let same = spelled name (name_bytes text) in
     (name, sym (ap (λ y. y ++ rest) same ∙ ap (λ y. name ++ y) is ∙ take-append-drop (name_len text) text), all_of continues_name name (all_go_on name (name_bytes text)))
 
 pub word_split : (text behind next rest : List ℕ) (c : ℕ) → text ≡ encode_utf8 c ++ behind → (plain : Passes continues_name behind next) → (run : EndsRun continues_name next rest)
@@ -120,3 +124,34 @@ word_before text behind next rest word after c first starts plain run front back
     let split : text ≡ encode_utf8_all (c ∷ cs) ++ rest = word_split text behind next rest c first plain run in
     subst (λ x. IsWordBefore text word x) (sym (back ∙ cut_back text (encode_utf8_all (c ∷ cs)) rest split))
     (c, cs, front ∙ cut_front text (encode_utf8_all (c ∷ cs)) rest split, split, starts, (all_append (λ c. continues_name c ≡ true) plain.0 run.0 plain.2 run.2.0, run.2.1))
+
+-- words of ASCII alone at the front
+low : (b : ℕ) → is_ascii b ≡ true → b < 128
+low b h = grind (arith, nat_tests, h)
+
+-- a name doesn't go on with a byte of ASCII that is none of a name
+ends_here : (b : ℕ) (bs : List ℕ) → not (is_name_byte b) ≡ true → is_ascii b ≡ true → NotBefore continues_name (b ∷ bs)
+ends_here b bs h k = stops_at continues_name b (b ∷ bs) bs (ap (λ y. y ++ bs) (sym (encode_ascii b (low b k)))) (is_xid_continue-ascii b (low b k) ∙ not_false (is_name_byte b) h)
+
+ends_plain : (text : List ℕ) → begins_plain (drop (name_len text) text) ≡ true → NotBefore continues_name (drop (name_len text) text)
+ends_plain text h = by (ltb (name_len text) (length text)) refl
+  where
+    by : (r : Bool) → ltb (name_len text) (length text) ≡ r → NotBefore continues_name (drop (name_len text) text)
+    by true t =
+        let split = drop_more text (name_len text) 0 (grind (arith, nat_tests, t)) in
+        let stops = passes_at_first (λ b. not (is_name_byte b)) text 0 (grind (arith, nat_tests, t)) in
+        subst (NotBefore continues_name) (sym split) (ends_here _ _ stops (sym (ap begins_plain split) ∙ h))
+    by false t = stops_at_end continues_name _ (ap length (drop_all (name_len text) text (grind (arith, nat_tests, t))))
+
+plain_at : (text word rest : List ℕ) → AreNameBytes word → begins_name word ≡ true → text ≡ word ++ rest → NotBefore continues_name rest → IsWordBefore text word rest
+plain_at text [] rest h k split stops = absurd cc
+plain_at text (b ∷ bs) rest h k split stops =
+    let p = both (is_name_byte b) (list_all is_name_byte bs) h in
+    let is = spelled (b ∷ bs) h in
+    (b, bs, sym is, split ∙ ap (λ y. y ++ rest) (sym is), starts b p.0 k, (all_of continues_name bs (all_go_on bs p.1), stops))
+
+pub plain_before : (text word rest : List ℕ) → word ≡ take (name_len text) text → rest ≡ drop (name_len text) text → begins_name word ≡ true → begins_plain rest ≡ true → IsWordBefore text word rest
+plain_before text word rest front back begins ends =
+    let split = ap (λ y. y ++ rest) front ∙ ap (λ y. take (name_len text) text ++ y) back ∙ take-append-drop (name_len text) text in
+    let stops = ends_plain text (ap begins_plain (sym back) ∙ ends) in
+    plain_at text word rest (subst AreNameBytes (sym front) (name_bytes text)) begins (sym split) (subst (NotBefore continues_name) (sym back) stops)

@@ -1,6 +1,6 @@
 -- Names of ASCII, told by their bytes.
-use Rattle.std.specs.Prelude.{ℕ, Bool, false, not, ◌||◌, ◌==◌, List, [], ◌∷◌}
-use Rattle.std.specs.Char.{is_ascii_alphanumeric, is_ascii_digit}
+use Rattle.std.specs.Prelude.{ℕ, Bool, true, false, not, ◌||◌, ◌==◌, List, [], ◌∷◌}
+use Rattle.std.specs.Char.{is_ascii, is_ascii_alphanumeric, is_ascii_digit}
 use Rattle.std.specs.List.{position_or_len}
 
 -- a name goes on with the byte
@@ -15,3 +15,8 @@ name_len text = position_or_len (λ b. not (is_name_byte b)) text
 abbrev pub begins_name : List ℕ → Bool
 begins_name [] = false
 begins_name (b ∷ bs) = not (is_ascii_digit b)
+
+-- no character beyond ASCII is the first
+abbrev pub begins_plain : List ℕ → Bool
+begins_plain [] = true
+begins_plain (b ∷ bs) = is_ascii b

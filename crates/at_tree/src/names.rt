@@ -2,7 +2,7 @@
 ghost use Rattle.std.specs.Prelude.{◌≡◌, ◌++◌, true, IfOk, MatchOption};
 ghost use Rattle.at_model.specs.Names.{IsName, starts_name, continues_name};
 ghost use Rattle.at_text.specs.Pieces.{NotBefore};
-ghost use Rattle.at_tree.specs.PlainNames.{is_name_byte, name_len, begins_name};
+ghost use Rattle.at_tree.specs.PlainNames.{is_name_byte, name_len, begins_name, begins_plain};
 ghost use Rattle.at_tree.specs.Runs.{Passes, IsWordBefore};
 
 use crate::fault::{Misfit, Untaken};
@@ -53,8 +53,20 @@ pub(crate) fn name_first(text: &str) -> Result<(&str, &str), Untaken>
     Ok((name, rest))
 }
 
-/// What has the form of a name at the front, as long as it goes on, and what follows it.
+/// What has the form of a name at the front, as long as it goes on, and what follows it. Most are of ASCII, and told so at once.
 pub(crate) fn word_first(text: &str) -> Option<(&str, &str)>
+    ensures { MatchOption result (NotBefore starts_name text.now) (λ r. IsWordBefore text.now r.0.now r.1.now) }
+{
+    let (word, rest) = text.split_at(name_len(text));
+    if !begins_name(word) || !begins_plain(rest) {
+        return any_word_first(text);
+    }
+    Some((word, rest))
+}
+
+/// The same for any text, by characters. By itself, so that words of ASCII cost no more than a look at their bytes.
+#[inline(never)]
+fn any_word_first(text: &str) -> Option<(&str, &str)>
     ensures { MatchOption result (NotBefore starts_name text.now) (λ r. IsWordBefore text.now r.0.now r.1.now) }
 {
     let mut chars = text.chars();
@@ -99,5 +111,15 @@ fn begins_name(name: &str) -> bool
     match name.as_bytes() {
         [first, ..] => !first.is_ascii_digit(),
         [] => false,
+    }
+}
+
+/// Whether no character beyond ASCII stands at the front.
+fn begins_plain(text: &str) -> bool
+    ensures { result ≡ begins_plain text.now }
+{
+    match text.as_bytes() {
+        [first, ..] => first.is_ascii(),
+        [] => true,
     }
 }

@@ -1,10 +1,10 @@
 -- The evaluation of an instance of a circular attribute goes on, past what it demands.
 use Rattle.std.proofs.Common.{◌≡◌, ℕ, nat_eq, List, [], map, inl, inr, refl, sym, ap, subst}
 use Rattle.std.specs.Global.{Box}
-use Rattle.std.specs.Prelude.{Vec}
+use Rattle.std.specs.Prelude.{IsSome, Vec}
 use Rattle.at_model.specs.Follow.{follow}
 use Rattle.at_model.specs.Meaning.{Among, Reaches}
-use Rattle.at_model.specs.Rules.{Rules}
+use Rattle.at_model.specs.Rules.{Rules, start_of}
 use Rattle.at_model.specs.Run.{Value, Instance, Contents, Run, Gives, Fails, Demands}
 use Rattle.at_model.specs.TypedRuns.{ClassAt}
 use Rattle.at_model.specs.of_fixpoints.Evaluations.{evaluation}
@@ -34,6 +34,7 @@ use Rattle.at_demand.specs.Only.{TakesOnly}
 use Rattle.at_demand.specs.Tries.{HasTriedTo, NeedsOther}
 use Rattle.at_demand.proofs.Coming.{begins, comes, ends_past, goes_on}
 use Rattle.at_demand.proofs.Extending.{among_at}
+use Rattle.at_demand.proofs.of_levels.FailedMet.{failed_met}
 use Rattle.at_demand.proofs.Passing.{past_has, past_more}
 use Rattle.at_demand.proofs.Seeing.{comes_told, read_seen, sees_read}
 
@@ -92,8 +93,8 @@ module _ (rules : Rules) (look : Contents ℕ) where
           finds = λ p a. h.takes.finds p (subst (Among p) (same_items d.finds b.demanded.finds from.finds) a);
         }
 
-    pub formed_tried : (b : Box Formation) (p : Progress) (r : Tried) → HasFormedTo rules at look entries found i b.value p → IsOpenAt entries found p → IsFormedBy p b r → HasTriedTo rules at look entries entries found i r
-    formed_tried b (progress.Formula f) r h free (d, is, from) =
+    pub formed_tried : IsSome (start_of rules i.attribute) → (b : Box Formation) (p : Progress) (r : Tried) → HasFormedTo rules at look entries found i b.value p → IsOpenAt entries found p → IsFormedBy p b r → HasTriedTo rules at look entries entries found i r
+    formed_tried some b (progress.Formula f) r h free (d, is, from) =
         let (js, past) = h.passed in
         let holds = past_more look (IsTold rules look found b.value.demanded) (HasValue look (meaning rules)) (λ k w t. t.0) ((meaning rules).formula i) (Gives f) js b.value.forming.trial.reads past in
         let ends : EndsSo look (meaning rules) i (Made f) = ends_past look (meaning rules) i (Made f) ((meaning rules).formula i) (Gives f) js b.value.forming.trial.reads holds (0, refl) in
@@ -101,17 +102,19 @@ module _ (rules : Rules) (look : Contents ℕ) where
           subst (λ g. EndsSo look (meaning rules) i (Made g)) (sym from.formula) ends,
           is_form_of b.value f d h from,
           subst (λ g. IsForm rules at g) (sym from.formula) h.typed,
+          some,
         )
-    formed_tried b (progress.Fault k) r h free is =
+    formed_tried some b (progress.Fault k) r h free is =
         let (js, past) = h.passed in
         let holds = past_more look (IsTold rules look found b.value.demanded) (HasValue look (meaning rules)) (λ k w t. t.0) ((meaning rules).formula i) (Fails (fault_view k)) js b.value.forming.trial.reads past in
         let ends : EndsSo look (meaning rules) i (Spoilt (fault_view k) i) = ends_past look (meaning rules) i (Spoilt (fault_view k) i) ((meaning rules).formula i) (Fails (fault_view k)) js b.value.forming.trial.reads holds (0, refl) in
-        subst (HasTriedTo rules at look entries entries found i) (sym is) ends
-    formed_tried b (progress.Need j) r h free is =
+        subst (HasTriedTo rules at look entries entries found i) (sym is) (ends,
+        failed_met rules look entries found i b.value.demanded h.kept (fault_view k) ends js b.value.forming.trial.reads past)
+    formed_tried some b (progress.Need j) r h free is =
         let needs : NeedsOther rules at look entries found i j (going.Formula b (progress.Need j)) = record {
           demands = form_comes found i j b.value h.passed;
           unknown = free;
           typed = h.typed.2.waits.instance;
-          waits = h;
+          waits = (some, h);
         } in
         subst (HasTriedTo rules at look entries entries found i) (sym is) needs

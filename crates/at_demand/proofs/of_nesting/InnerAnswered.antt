@@ -37,7 +37,7 @@ module _ {E : Type 0} (rules : Rules) (s : Shown) (exact : Bool) (i : Instance �
   answered_by old new w x g answers all = record {
     answers = answers;
     worthy = g.worthy;
-    spare = g.spare;
+    spare = λ whole. g.spare;
     all = all;
     counts = g.counts;
     work = λ k spare. IfOk-weaker r _ _ (λ a h ends. work_is rules (contents s) i old new w x (g.counts k) g.worthy
@@ -56,7 +56,7 @@ module _ {E : Type 0} (rules : Rules) (s : Shown) (exact : Bool) (i : Instance �
       record {
         answers = h.answers;
         worthy = worthy;
-        spare = λ k spare. h.spare k (g.spare k spare);
+        spare = λ whole k spare. h.spare whole k (g.spare k spare);
         all = λ k spare. h.all k (g.spare k spare);
         counts = counts;
         work = λ k spare. IfOk-weaker r _ _ (λ a all ends. work_is rules (contents s) i old new w y (counts k) worthy

@@ -1,8 +1,9 @@
 -- Evaluations in one go, form by form.
 use Rattle.std.proofs.Common.{◌≡◌, ℕ, Bool, true, false, cond, List, [], ◌∷◌, ◌++◌, map, Option, Some, Result, Ok, Err, IfOk, refl, sym, ap, ◌∙◌, subst}
 use Rattle.std.specs.Borrow.{Bor}
-use Rattle.at_model.specs.Run.{Value, Truth, Ref, Slot, Instance, Location, Run, LooksTo, ◌>>=◌}
+use Rattle.at_model.specs.Run.{Value, Text, Truth, Ref, Slot, Instance, Location, Run, Gives, LooksTo, ◌>>=◌}
 use Rattle.at_model.specs.Bodies.{Expr, demand_of, elements_of, truth_of}
+use Rattle.at_model.specs.Follow.{follow}
 use Rattle.at_model.specs.Rules.{Rules}
 use Rattle.at_store.specs.Shown.{Shown, contents}
 use Rattle.at_rules.specs.Bodies.{bodies_view, body_view}
@@ -15,7 +16,7 @@ use Rattle.at_body.specs.declared.todo.Binary.{Binary}
 use Rattle.at_body.specs.declared.todo.Fold.{Fold}
 use Rattle.at_body.specs.declared.value.Value.{Value as ValueCode}
 use Rattle.at_apply.specs.Looking.{HasBegun, HasLooked}
-use Rattle.at_apply.specs.Parts.{call_of, either_of, fold_of, one_of, or_truth, two_of}
+use Rattle.at_apply.specs.Parts.{beside_text, call_of, either_of, fold_of, one_of, or_truth, two_of}
 use Rattle.at_demand.specs.declared.direct.Level.{Level}
 use Rattle.at_demand.specs.Inner.{Gains, HasTold}
 use Rattle.at_demand.specs.InParts.{HasCome, HasGained, Held, demand, values_in}
@@ -62,6 +63,21 @@ module _ (rules : Rules) (s : Shown) (exact : Bool) (p : Place) where
       z))
   one_come u a v res first mid old between new same g q h = come_end rules s (run_at rules p a) (with_one rules.classes
       u) (value_view v) value_view res mid old between new same g.right q h
+
+  pub beside_gains : (o : Binary) (text : List ℕ) (a : Body) (old new : Held) → HasGained rules s exact (run_at rules p a)
+      old new → HasGained rules s exact (beside_text rules.classes p o a text) old new
+  beside_gains o text a old new g = gains_within rules s exact (run_at rules p a) (λ v. with_two o v (Text text)) old
+      new g
+
+  pub beside_come : {E : Type 0} (o : Binary) (text : List ℕ) (a : Body) (v : ValueCode) (res : Result ValueCode E)
+      (first mid : Held) (old between : Level) → HasGained rules s exact (run_at rules p a) first mid →
+      HasCome rules (contents s) mid old between (run_at rules p a) (value_view v) →
+      IfOk res (λ z. with_two o (value_view v) (Text text) ≡ Gives (value_view z)) →
+      IfOk res (λ z. HasCome rules (contents s) mid old between (beside_text rules.classes p o a text) (value_view z))
+  beside_come o text a v (Ok z) first mid old between g q h = come_end rules s {E = ℕ} (run_at rules p a) (λ w. with_two
+      o w (Text text)) (value_view v) value_view (Ok z) mid old between between refl g.right q (ap (follow (contents s)
+      between.reads) h)
+  beside_come o text a v (Err e) first mid old between g q h = tt
 
   pub two_gains_first : (o : Binary) (a b : Body) (old new : Held) → HasGained rules s exact (run_at rules p a) old new
       → HasGained rules s exact (two_of rules.classes p o a b) old new

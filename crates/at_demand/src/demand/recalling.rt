@@ -7,7 +7,7 @@ ghost use Rattle.at_model.specs.of_fixpoints.Fixpoints.{EndsSo, Meets};
 ghost use Rattle.at_model.specs.of_fixpoints.Formulas.{Forms};
 ghost use Rattle.at_body.specs.Values.{fault_view, value_view};
 ghost use Rattle.at_search.specs.LedTo.{IsClosure, LeadsOut};
-ghost use Rattle.at_search.specs.Recorded.{AreFacts, AreWhole};
+ghost use Rattle.at_search.specs.Recorded.{AreFacts, AreWhole, IsSettled};
 ghost use Rattle.at_demand.specs.Levels.{known_to};
 
 use super::Demand;
@@ -60,7 +60,8 @@ impl<K: Keeper> Demand<K> {
     ) -> Result<Option<IndexMap<Inst, ()>>, AllocError>
         ensures some { IfOk result (λ o. IfSome o (λ set. IsClosure (known_to (K.contents self.now.keeper) question.now) question.now.ended.entries
             inst.now (keys_of set.entries))) }
-        ensures none { IfOk result (λ o. IfNone o (LeadsOut (known_to (K.contents self.now.keeper) question.now) question.now.ended.entries inst.now)) }
+        ensures none { IfOk result (λ o. IfNone o (LeadsOut (IsSettled (known_to (K.contents self.now.keeper) question.now) question.now.ended.entries)
+            question.now.ended.entries inst.now)) }
     {
         closure(self.alloc, &question.ended, &self.knowing(question), inst)
     }

@@ -5,7 +5,7 @@ ghost use Rattle.indexmap.specs.IndexMap.{insert_entry};
 ghost use Rattle.at_body.specs.Same.{same_instance};
 ghost use Rattle.at_body.specs.declared.value.Value.TheVariants as value_code;
 ghost use Rattle.std.specs.Map.{keys_of};
-ghost use Rattle.at_demand.specs.Groups.{AddsAtoms, AddsMember, AddsUse, AddsUses, CanBeFirst, CanBeOther, CanKeepGroup, CanSolve, IsFindOf, IsFormedAt, IsOtherFind, UsesFirst};
+ghost use Rattle.at_demand.specs.Groups.{AddsAtoms, AddsMember, AddsUse, AddsUses, CanBeFirst, CanBeOther, CanBeSolved, CanKeepGroup, IsFindOf, IsFormedAt, IsOtherFind, UsesFirst};
 ghost use Rattle.at_demand.specs.Groups.{HasKeptFirst, HasKeptGroup, HasKeptOther, HasMarkedSolved, HasPutLast, HasSolved, start_in};
 
 use super::Demand;
@@ -29,7 +29,7 @@ impl<K: Keeper> Demand<K> {
         question: &mut Question,
         seen: &IndexMap<Inst, ()>,
     ) -> Result<(), AllocError>
-        requires { CanSolve rules.now store.now (K.contents self.old.keeper) question.old (keys_of seen.now.entries) }
+        requires { CanBeSolved rules.now store.now (K.contents self.old.keeper) question.old (keys_of seen.now.entries) }
         ensures { HasMarkedSolved rules.now store.now K.exact (K.contents self.old.keeper) (K.contents self.new.keeper) (K.memories self.old.keeper)
             (K.memories self.new.keeper) self.old.work self.new.work question.old question.new (keys_of seen.now.entries) result }
     {
@@ -46,7 +46,7 @@ impl<K: Keeper> Demand<K> {
         question: &mut Question,
         seen: &IndexMap<Inst, ()>,
     ) -> Result<(), AllocError>
-        requires { CanSolve rules.now store.now (K.contents self.old.keeper) question.old (keys_of seen.now.entries) }
+        requires { CanBeSolved rules.now store.now (K.contents self.old.keeper) question.old (keys_of seen.now.entries) }
         ensures { HasSolved rules.now store.now K.exact (K.contents self.old.keeper) (K.contents self.new.keeper) (K.memories self.old.keeper)
             (K.memories self.new.keeper) self.old.work self.new.work question.old question.new (keys_of seen.now.entries) result }
     {
@@ -88,7 +88,8 @@ impl<K: Keeper> Demand<K> {
         };
         let find = self.find_of(question, insts, group, first.value)?;
         let place = self.keep_first(rules, question, inst, find)?;
-        for member in group.split_at(1).1 {
+        // The first one is known by now, and passed over.
+        for member in group {
             self.keep_other(rules, question, insts, inst, place, *member)?;
         }
         Ok(())

@@ -15,7 +15,7 @@ ghost use Rattle.at_demand.specs.Levels.{IsSearch};
 ghost use Rattle.at_demand.specs.Turns.{IsStanding, IsSparingTurns, under_way};
 ghost use Rattle.at_demand.specs.Answered.{HasTurned, HasTurnedOften, HasTurnedOn, HasTurnedWith, TracesNothing};
 ghost use Rattle.at_demand.specs.Attempts.{HasAttempted, IsGoing};
-ghost use Rattle.at_demand.specs.Searches.{CanSpoil, CanTryLast, HasSpoilt};
+ghost use Rattle.at_demand.specs.Searches.{CanSpoil, CanTryLast, CanTurnOn, HasSpoilt};
 ghost use Rattle.at_demand.specs.Tries.{CanCarryOn, HasCarriedOn};
 ghost use Rattle.at_demand.specs.KeptTrials.{Fit};
 ghost use Rattle.at_demand.specs.Traces.{StaysTraced};
@@ -98,7 +98,7 @@ impl<K: Keeper> Demand<K> {
 
     // A turn, which goes on with the trial of the last instance where it is there, and leaves those of the others; it is counted where it
     // doesn't answer the question.
-    fn turn_with<'a>(
+    pub(super) fn turn_with<'a>(
         &mut self,
         rules: &'a Rules,
         store: &'a Store,
@@ -128,7 +128,7 @@ impl<K: Keeper> Demand<K> {
         question: &mut Question,
         trials: &mut Trials<'a>,
     ) -> Result<Option<Answer>, AllocError>
-        requires { CanTurnWith rules.now store.now (K.contents self.old.keeper) question.old trials.old }
+        requires { CanTurnOn rules.now store.now (K.contents self.old.keeper) question.old trials.old }
         ensures { TracesNothing (HasTurnedOn rules.now store.now K.exact (K.contents self.old.keeper) (K.contents self.new.keeper)
             self.old.work self.new.work question.old question.new trials.new result)
             (K.memories self.old.keeper) (K.memories self.new.keeper) }

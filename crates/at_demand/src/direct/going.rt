@@ -8,7 +8,7 @@ ghost use Rattle.at_body.specs.Comparing.{IsComparison};
 ghost use Rattle.at_body.specs.Rest.{ev, ev_all, over};
 ghost use Rattle.at_body.specs.Standing.{inside};
 ghost use Rattle.at_body.specs.Values.{value_view};
-ghost use Rattle.at_apply.specs.Parts.{call_of, either_of, fold_of, one_of, two_of};
+ghost use Rattle.at_apply.specs.Parts.{beside_text, call_of, either_of, fold_of, one_of, two_of};
 ghost use Rattle.at_apply.specs.Place.{place_at};
 ghost use Rattle.at_demand.specs.Known.{meaning};
 ghost use Rattle.at_demand.specs.InParts.{EndsEvaluated, EndsRecalled, EndsTold, EvaluatesTo, GivesLevel, HasGrown, IsEmptied, IsHeld, IsHeldFor, IsHeldFrom, held_by};
@@ -19,8 +19,8 @@ use super::keeping::{few_of, is_circular, is_inner, is_small};
 use super::{Direct, Level};
 use crate::basis::Basis;
 use at_apply::{
-    Form, Here, Next, Stop, asked_of_each, at_hand, begin, chosen, compare, form_of, node_of,
-    plain_value, settle, truth_in, with_one, with_two,
+    Form, Here, Next, Stop, asked_of_each, at_hand, begin, chosen, compare, compare_with, form_of,
+    lent, node_of, plain_value, settle, truth_in, with_one, with_two,
 };
 use at_body::{Arguments, Binary, Fold, Inst, Reads, Unary, Value, come_to};
 use at_cache::Keeper;
@@ -353,8 +353,58 @@ impl Direct {
         )?;
         match at_once {
             Some(value) => Ok(value),
+            None => self.in_turn(keeper, basis, level, here, comparison, left, right, above),
+        }
+    }
+
+    // The comparison of two values, one evaluated after the other. A text at hand isn't copied.
+    #[inline(always)]
+    #[cycle(direct)]
+    fn in_turn<K: Keeper>(
+        &mut self,
+        keeper: &mut K,
+        basis: &Basis<'_>,
+        level: &mut Level,
+        here: &Here,
+        comparison: Binary,
+        left: &Body,
+        right: &Body,
+        above: usize,
+    ) -> Result<Value, Stop>
+        requires comparison { IsComparison comparison }
+        requires held { IsHeld basis.now.rules.now (contents basis.now.store.now) (held_by K.contents K.memories keeper.old self.old) }
+        ensures { EvaluatesTo basis.now.rules.now basis.now.store.now K.exact
+            (two_of basis.now.rules.now.classes (place_at here.now) comparison left.now right.now) value_view
+            (held_by K.contents K.memories keeper.old self.old) (held_by K.contents K.memories keeper.new self.new) level.old level.new result }
+    {
+        match lent(here, right) {
+            Some(text) => self.beside(keeper, basis, level, here, comparison, left, text, above),
             None => self.two(keeper, basis, level, here, comparison, left, right, above),
         }
+    }
+
+    // The comparison of a value with a text.
+    #[inline(always)]
+    #[cycle(direct)]
+    fn beside<K: Keeper>(
+        &mut self,
+        keeper: &mut K,
+        basis: &Basis<'_>,
+        level: &mut Level,
+        here: &Here,
+        comparison: Binary,
+        left: &Body,
+        text: &str,
+        above: usize,
+    ) -> Result<Value, Stop>
+        requires comparison { IsComparison comparison }
+        requires held { IsHeld basis.now.rules.now (contents basis.now.store.now) (held_by K.contents K.memories keeper.old self.old) }
+        ensures { EvaluatesTo basis.now.rules.now basis.now.store.now K.exact
+            (beside_text basis.now.rules.now.classes (place_at here.now) comparison left.now text.now) value_view
+            (held_by K.contents K.memories keeper.old self.old) (held_by K.contents K.memories keeper.new self.new) level.old level.new result }
+    {
+        let value = self.operand(keeper, basis, level, here, left, above)?;
+        compare_with(&comparison, &value, text)
     }
 
     // The value of the expression that a test chooses, or what the test is where there is none.

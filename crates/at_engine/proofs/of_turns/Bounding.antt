@@ -1,6 +1,7 @@
 -- How many turns an open question has been given: few, by the list of all instances.
-use Rattle.std.proofs.Common.{◌≡◌, ◌∙◌, ℕ, ◌+◌, ◌*◌, ◌≤◌, Bool, true, false, cond, if◌then◌else◌, nat_eq, List, [], ◌∷◌, ◌++◌, map, find, length, Option, Some, None, option_map, option_and_then, ap, arith, refl, sym, subst}
+use Rattle.std.proofs.Common.{◌≡◌, ◌∙◌, ℕ, ◌+◌, ◌-◌, ◌*◌, ◌^◌, ◌≤◌, min, Bool, true, false, cond, if◌then◌else◌, nat_eq, List, [], ◌∷◌, ◌++◌, map, find, length, Option, Some, None, option_map, option_and_then, ap, arith, refl, sym, subst}
 use Rattle.std.specs.List.{AllByRecursion, flat_map}
+use Rattle.std.specs.Prelude.{IfSome}
 use Rattle.at_model.specs.Instances.{all_nodes, argument_lists, below, instances, literals_of, text_in, text_of_value, tokens}
 use Rattle.at_model.specs.Edits.{max_nodes}
 use Rattle.at_model.specs.Lines.{Argument, Ask, Place, Ref, Text, Null}
@@ -15,12 +16,13 @@ use Rattle.at_model.specs.WellFormed.{AreWellFormed, IsTreeSound}
 use Rattle.at_model.specs.Machine.{State, Posted as PostedOf, Verdict, Asks, Refuses, each, fit_parameters, line_of, node_named, obeyed, parameters_of, questioned, value_named}
 use Rattle.at_model.proofs.of_machines.WellAsked.{well_asked}
 use Rattle.at_store.specs.Shown.{IsIdle, Shown, path, tree}
+use Rattle.at_rules.specs.Circular.{HasNoneCircular}
 use Rattle.at_cache.specs.Kept.{Entries}
 use Rattle.at_demand.specs.Turns.{under_way}
 use Rattle.at_demand.specs.declared.question.Question.{Question}
 use Rattle.at_demand.proofs.Few.{few_on}
 use Rattle.at_engine.specs.Holding.{HasBegun, IsBegunFor, IsPostedOn}
-use Rattle.at_engine.specs.Posted.{posted_view, texts_in, turns_given, universe_of}
+use Rattle.at_engine.specs.Posted.{posted_view, texts_in, turns_given, turns_told, universe_of, AreCountable}
 use Rattle.at_engine.specs.declared.posts.Posted.{Posted}
 
 mapped_some : {A B : Type 0} (f : A → B) (o : Option A) (b : B) → option_map f o ≡ Some b → (a : A) × (o ≡ Some a) × (f a ≡ b)
@@ -80,15 +82,28 @@ by_marks : (b : Bool) (v : Verdict) (i : Instance Node) → (if b then Refuses c
 by_marks true v i e = absurd cc
 by_marks false v i e = e
 
-module _ (rules : Rules) (s : Shown) (idle : IsIdle s) (ok : AreWellFormed rules) (sound : IsTreeSound rules.classes (tree s)) (entries : Entries) where
+-- as many as it says that they were, where they can be counted
+countable : (most n m : ℕ) → n ≡ min m most → m ≤ most → n ≡ m
+countable most n m is few = grind arith
+
+module _ (rules : Rules) (s : Shown) (idle : IsIdle s) (ok : AreWellFormed rules)
+    (sound : IsTreeSound rules.classes (tree s)) (none : HasNoneCircular rules)
+    (entries : Entries) where
   abbrev bare : PostedOf → State
   bare q = record { tree = tree s; limit = max_nodes; version = 0; marks = q.marks; posts = 0; posted = [] }
+
+  told_given : (p : Posted) (o : Option Question) → HasBegun rules s entries p o → AreCountable o → turns_told o ≡
+      turns_given o
+  told_given p None h few = refl
+  told_given p (Some q) h few = countable (2 ^ 128 - 1) q.turns (turns_of (under_way q)) (h.standing.plainly none).turns
+      few
 
   few_begun : (p : Posted) (q : Question) → IsBegunFor rules s entries p q → turns_of (under_way q) ≤ 2 * universe_of rules (tree s) (posted_view (path s) p) + 1
   few_begun p q b =
       let v = posted_view (path s) p in
       let formed = well_asked rules (bare v) (line_of v) b.named b.asks in
-      let few = few_on rules s idle (asked (under_way q)) b.named b.like ok sound formed (under_way q) b.standing.on in
+      let few = few_on rules s idle (asked (under_way q)) b.named b.like ok sound formed (under_way q)
+      (b.standing.plainly none).on in
       let obeys = by_marks _ (obeyed rules (bare v) v.session (Ask v.place v.attribute v.arguments)) b.named b.asks in
       let same = same_universe rules (tree s) b.named.arguments (texts_in v.arguments) (texts_asked rules (bare v) v.session v.place v.attribute v.arguments b.named obeys) in
       omega (arith, few, same)
@@ -108,13 +123,24 @@ module _ (rules : Rules) (s : Shown) (idle : IsIdle s) (ok : AreWellFormed rules
       by true f others = let same : posted_view (path s) p ≡ q = cc in subst (λ (x : PostedOf). x.turns ≤ 2 * universe_of rules (tree s) x + 1) same (few_given p p.question h.0.begun)
       by false f others = others f
 
--- the turns of the question of that number
-pub turns_found : (look : ℕ → Option Node) (number : ℕ) (ps : List Posted) → option_map (λ (p : Posted). turns_given p.question) (find (λ (p : Posted). nat_eq number p.number) ps)
-    ≡ option_map (λ (q : PostedOf). q.turns) (find (λ (q : PostedOf). nat_eq number q.number) (map (posted_view look) ps))
-turns_found look number [] = refl
-turns_found look number (p ∷ ps) = by (nat_eq number p.number) (turns_found look number ps)
-  where
-    by : (b : Bool) → option_map (λ (p : Posted). turns_given p.question) (find (λ (p : Posted). nat_eq number p.number) ps) ≡ option_map (λ (q : PostedOf). q.turns) (find (λ (q : PostedOf). nat_eq number q.number) (map (posted_view look) ps))
-        → option_map (λ (x : Posted). turns_given x.question) (cond b (Some p) (find (λ (x : Posted). nat_eq number x.number) ps)) ≡ option_map (λ (q : PostedOf). q.turns) (cond b (Some (posted_view look p)) (find (λ (q : PostedOf). nat_eq number q.number) (map (posted_view look) ps)))
-    by true e = refl
-    by false e = e
+  -- the turns of the question of that number
+  pub turns_found : (number : ℕ) (ps : List Posted) → AllByRecursion (IsPostedOn rules s entries) ps
+      → IfSome (find (λ (p : Posted). nat_eq number p.number) ps) (λ p. AreCountable p.question)
+      → option_map (λ (p : Posted). turns_told p.question) (find (λ (p : Posted). nat_eq number p.number) ps)
+      ≡ option_map (λ (q : PostedOf). q.turns) (find (λ (q : PostedOf). nat_eq number q.number)
+      (map (posted_view (path s)) ps))
+  turns_found number [] h few = refl
+  turns_found number (p ∷ ps) h few = by (nat_eq number p.number) few (turns_found number ps h.1)
+    where
+      by : (b : Bool) → IfSome (cond b (Some p) (find (λ (x : Posted). nat_eq number x.number) ps))
+          (λ (x : Posted). AreCountable x.question)
+          → (IfSome (find (λ (x : Posted). nat_eq number x.number) ps) (λ (x : Posted). AreCountable x.question)
+          → option_map (λ (x : Posted). turns_told x.question) (find (λ (x : Posted). nat_eq number x.number) ps)
+          ≡ option_map (λ (q : PostedOf). q.turns) (find (λ (q : PostedOf). nat_eq number q.number)
+          (map (posted_view (path s)) ps)))
+          → option_map (λ (x : Posted). turns_told x.question)
+          (cond b (Some p) (find (λ (x : Posted). nat_eq number x.number) ps))
+          ≡ option_map (λ (q : PostedOf). q.turns) (cond b (Some (posted_view (path s) p))
+          (find (λ (q : PostedOf). nat_eq number q.number) (map (posted_view (path s)) ps)))
+      by true few others = ap Some (told_given p p.question h.0.begun few)
+      by false few others = others few

@@ -47,7 +47,7 @@ module _ {N : Type 0} (look : Contents N) (forms : Forms N) where
       (come.closes j (closes.deeper l.next root shut fresh (demands, none) off x))
 
 -- where it demands one that has a fault it ends by that
-demanded_fault : {N : Type 0} (look : Contents N) (forms : Forms N) (i k : Instance N) (f : FaultKind) (at : Instance N)
+pub demanded_fault : {N : Type 0} (look : Contents N) (forms : Forms N) (i k : Instance N) (f : FaultKind) (at : Instance N)
     (r : Run N (Formula N)) → Reaches look (HasValue look forms) r k → Holds look forms k (Faults f at) →
     (n : ℕ) × Ends look (HoldsAt look forms n) i r (Spoilt f at)
 demanded_fault look forms i k f at (Gives a) x h = absurd x

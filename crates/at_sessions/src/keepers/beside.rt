@@ -4,9 +4,9 @@ ghost use Rattle.std.specs.Prelude.{◌≡◌};
 ghost use Rattle.at_engine.specs.Engines.{IsSound, KeepsNothing};
 
 use crate::hearing::started;
+use crate::samples::Sample;
 use at_cache::Keeper;
 use at_engine::Engine;
-use at_start::Files;
 use std::alloc::Global;
 use std::str;
 use std::test::Fail;
@@ -17,39 +17,35 @@ const MARKS: &[&str] = &["u", "v"];
 /// The other engine's session for the marks of the first question; the next question's are in the next session.
 const FIRST_SESSION: usize = 100;
 
-/// What an engine wrote, and how many questions were answered and not refused.
-#[derive(Drop)]
-pub struct Told {
-    pub told: String,
-    pub count: usize,
-}
+/// More questions than these are to be answered and not refused.
+const FEW: usize = 60;
 
 /// An engine over an empty keeper that is given the lines, and so many turns behind each, and until no question is open at
-/// the end: what it tells. Each answer is what an engine over the other keeper is told, which has the same tree.
+/// the end: what it tells. A failure where an answer isn't what an engine over the other keeper is told, which has the same tree.
 pub fn answers<K: Keeper, L: Keeper>(
     alloc: Global,
-    files: &Files,
+    sample: &Sample,
     keeper: K,
     other: L,
     slice: u32,
     lines: &str,
-) -> Result<Told, Fail>
+) -> Result<String, Fail>
     requires keeper { KeepsNothing K.contents K.memories keeper }
     requires other { KeepsNothing L.contents L.memories other }
 {
     let mut beside = Beside {
         alloc,
-        engine: started(alloc, files, keeper)?,
-        other: started(alloc, files, other)?,
+        engine: started(alloc, sample, keeper)?,
+        other: started(alloc, sample, other)?,
         asks: Vec::new(alloc),
         told: String::new(alloc),
         answers: 0,
     };
     beside.serve(slice, lines)?;
-    Ok(Told {
-        told: beside.told,
-        count: beside.answers,
-    })
+    if beside.answers <= FEW {
+        return Err(Fail::new("few answers"));
+    }
+    Ok(beside.told)
 }
 
 /// The reply to a line, without its end; empty where there is none.

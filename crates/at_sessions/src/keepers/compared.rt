@@ -1,109 +1,44 @@
-//! A keeper that is compared, entry by entry, with two plain models of what it keeps.
+//! A keeper that is compared, entry by entry, with plain models of what it keeps.
 
 ghost use Rattle.std.specs.Prelude.{◌≡◌, None};
 ghost use Rattle.at_cache.specs.Kept.{KeepsAll};
 ghost use Rattle.at_cache.specs.Keeping.{recorded_by, remembered_by};
 
-use super::flat::{Covering, Flat};
-use super::listed::List;
+use super::models::Models;
 use at_body::{Inst, Value};
 use at_cache::{KeepRecorded, Keeper, Order, Put};
 use at_store::{Loc, Places};
 use std::alloc::{AllocError, Global};
 
-/// Keeps what a `KeepRecorded` keeps, and the same in two plain models: each entry with all locations that it stands for, and the entries
-/// in the order of `put`. Where they differ behind a flush, or so many entries are gone, it takes no entry any more, which is heard.
+/// Keeps what a `KeepRecorded` keeps, and the same in plain models. Where they differ behind a flush, or so many entries are gone, it
+/// takes no entry any more, which is heard.
 pub struct KeepCompared {
-    alloc: Global,
     keeper: KeepRecorded,
-    flat: Flat,
-    list: List,
-    puts: usize,
-    gone: usize,
-    most_gone: usize,
-    differs: bool,
+    pub models: Models,
+    limit: usize,
 }
 
 /// One call, where each exit that lets it go would else have a case for each field.
 impl Drop for KeepCompared {
     fn drop(self) {
         let KeepCompared {
-            alloc: _,
             keeper: _,
-            flat: _,
-            list: _,
-            puts: _,
-            gone: _,
-            most_gone: _,
-            differs: _,
+            models: _,
+            limit: _,
         } = self;
-    }
-}
-
-/// The value once more, if there is one.
-fn copied(value: &Option<Value>) -> Result<Option<Value>, AllocError> {
-    match value {
-        Some(value) => Ok(Some(value.copy()?)),
-        None => Ok(None),
     }
 }
 
 impl KeepCompared {
     /// A keeper that keeps nothing yet, and takes no entry any more behind so many that are gone.
-    pub fn new(alloc: Global, most_gone: usize) -> KeepCompared
+    pub fn new(alloc: Global, limit: usize) -> KeepCompared
         ensures { KeepsAll (λ _. None) (recorded_by result.keeper) }
     {
         KeepCompared {
-            alloc,
             keeper: KeepRecorded::new(alloc),
-            flat: Flat::new(alloc),
-            list: List::new(alloc),
-            puts: 0,
-            gone: 0,
-            most_gone,
-            differs: false,
+            models: Models::new(alloc),
+            limit,
         }
-    }
-
-    /// How many entries are gone by flushes.
-    pub fn gone(&self) -> usize {
-        self.gone
-    }
-
-    /// Whether the keeper and the models had other entries than each other behind a flush.
-    pub fn differs(&self) -> bool {
-        self.differs
-    }
-
-    /// The models get an entry more. Where memory is wanting they differ from now on.
-    fn note(&mut self, inst: Inst, value: Option<Value>, reads: &[Loc], uses: &[Inst])
-        ensures { self.new.keeper ≡ self.old.keeper }
-    {
-        if self.enter(inst, value, reads, uses).is_err() {
-            self.differs = true;
-        }
-    }
-
-    fn enter(
-        &mut self,
-        inst: Inst,
-        value: Option<Value>,
-        reads: &[Loc],
-        uses: &[Inst],
-    ) -> Result<(), AllocError>
-        ensures { self.new.keeper ≡ self.old.keeper }
-    {
-        let number = self.puts;
-        self.puts = number.saturating_add(1);
-        let numbers = self.flat.numbers(uses)?;
-        let covers = self.flat.covered(reads, uses)?;
-        self.list.put(number, reads, numbers.as_slice())?;
-        self.flat.put(Covering {
-            number,
-            inst,
-            value,
-            covers,
-        })
     }
 
     /// The models forget what is touched, and are compared with the keeper, which has done so.
@@ -111,15 +46,8 @@ impl KeepCompared {
         requires { F.IsAlwaysCallable touched.now }
         ensures { self.new.keeper ≡ self.old.keeper }
     {
-        match self.list.flush(touched) {
-            Ok(gone) => self.gone = self.gone.saturating_add(gone),
-            Err(_) => self.differs = true,
-        }
-        if !self.flat.is_alike(&self.keeper, &self.list, touched) {
-            self.differs = true;
-        }
-        if self.flat.flush(touched).is_err() {
-            self.differs = true;
+        if self.models.flush(&self.keeper, touched).is_err() {
+            self.models.differs = true;
         }
     }
 }
@@ -151,13 +79,12 @@ impl Keeper for KeepCompared {
         uses: &[Inst],
         order: Order,
     ) -> Result<Put, AllocError> {
-        if self.differs || self.gone > self.most_gone {
+        if self.models.differs || self.models.gone >= self.limit {
             return Err(AllocError);
         }
-        let noted = inst.copy(self.alloc)?;
-        let told = copied(&value)?;
+        let entry = self.models.entry(&inst, &value, reads, uses)?;
         let put = self.keeper.put(inst, value, reads, uses, order)?;
-        self.note(noted, told, reads, uses);
+        self.models.push(entry);
         Ok(put)
     }
 

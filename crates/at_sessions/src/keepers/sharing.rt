@@ -1,12 +1,10 @@
-//! Lazy attributes over a chain of others that aren't lazy, which all of them share: each reply is what it is without a keeper.
+//! Lazy attributes over a chain of others that aren't lazy, which all of them share.
 
-use super::chance::{Chance, Words, lines};
-use super::{are_gone, edits_alike};
+use super::chance::Words;
 use crate::samples::Sample;
-use std::test::Fail;
 
 /// Ten items, each of which has the sizes before it added up by a chain.
-const SHARED: Sample<'static> = Sample {
+pub const SHARED: Sample<'static> = Sample {
     grammar: b"Names ::= Item*; Item ::= <Size:int>;",
     tree: b"Names([Item(1),Item(2),Item(3),Item(4),Item(5),Item(6),Item(7),Item(8),Item(9),Item(10)])",
     aspects: &[
@@ -25,7 +23,7 @@ const SHARED: Sample<'static> = Sample {
     ],
 };
 
-const WORDS: Words = Words {
+pub const SHARED_WORDS: Words = Words {
     places: &[
         "/", "/Item:0", "/Item:3", "/Item:5", "/Item:9", "$u", "$v", "/Item:12",
     ],
@@ -53,13 +51,3 @@ const WORDS: Words = Words {
         "/Item:4 twice()",
     ],
 };
-
-#[test]
-fn what_is_shared_is_told_alike(rt: HostRuntime) -> Result<(), Fail> {
-    let alloc = rt.alloc();
-    let lines = lines(alloc, &WORDS, &mut Chance::from_seed(1977), 1_200)?;
-    let edits = edits_alike(alloc, &SHARED, &lines)?;
-    assert!(rt; edits > 100, "{edits} edits");
-    assert!(rt; are_gone(alloc, &SHARED, &lines, 100)?);
-    Ok(())
-}

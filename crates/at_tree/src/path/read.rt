@@ -1,5 +1,6 @@
 //! A path in one pass over its text, a step at a time.
 ghost use Rattle.std.specs.Prelude.{◌≡◌, ◌≢◌, ◌<◌, ◌∷◌, ◌+◌, ◌==◌, [], ℕ, List, true, IfOk, IfErr, MatchOption};
+ghost use Rattle.std.specs.Str.{bytes_eq};
 ghost use Rattle.at_model.specs.Paths.{Path as Steps, IsPath, path_text};
 ghost use Rattle.at_text.specs.Pieces.{NotBefore};
 ghost use Rattle.at_tree.specs.Leads.{LeadsTo};
@@ -55,7 +56,7 @@ fn whole_path<'a>(alloc: Global, text: &'a str) -> Result<Path<'a>, Stopped>
     ensures found { IfOk result (λ p. IsPath (path_view p) × (path_text (path_view p) ≡ text.now)) }
     ensures stops { IfErr result (StopsLeaving text.now) }
 {
-    if text == "/" {
+    if is_root(text) {
         return Ok(Path {
             steps: Vec::new(alloc),
         });
@@ -74,6 +75,16 @@ fn whole_path<'a>(alloc: Global, text: &'a str) -> Result<Path<'a>, Stopped>
         return Err(Stopped::For(rest.len()));
     }
     Ok(Path { steps })
+}
+
+/// Whether the text is the path of the root.
+fn is_root(text: &str) -> bool
+    ensures { result ≡ bytes_eq text.now (47 ∷ []) }
+{
+    match text.as_bytes() {
+        [b'/'] => true,
+        _ => false,
+    }
 }
 
 /// The step at the front, behind its slash, and what follows it.

@@ -6,9 +6,10 @@ use Rattle.at_body.specs.Values.{value_view}
 use Rattle.at_body.specs.declared.value.Value.{Value as ValueCode}
 use Rattle.at_demand.specs.Known.{meaning}
 use Rattle.at_demand.specs.Sparing.{HasWorthy}
+use Rattle.at_demand.proofs.Standing.{sound_more}
 use Rattle.at_demand.proofs.of_nesting.InnerAnswered.{answered_after, answered_by}
 use Rattle.at_demand.proofs.of_nesting.InnerGains.{known_none}
-use Rattle.at_demand.proofs.of_traces.Putting.{traced_on, traced_then}
+use Rattle.at_demand.proofs.of_traces.Putting.{traced_then}
 use Rattle.at_demand.proofs.demand.Demand.answer_anew.Goals as goal
 
 pub returns-in-Some : goal.returns-in-Some
@@ -29,15 +30,13 @@ returns-in-Some g c = record {
 pub returns-in-None : goal.returns-in-None
 returns-in-None g c = record {
   answered =
-      answered_after c.args.rules.now c.args.store.now g.K.Keeper.exact c.args.inst.now c.answer_by_turns.result
+      answered_after c.args.rules.now c.args.store.now g.K.Keeper.exact c.args.inst.now c.answer_looking_ahead.result
       (g.K.Keeper.contents c.args.self.now.keeper) (g.K.Keeper.contents c.answer_at_once.new.self.keeper)
-      (g.K.Keeper.contents c.answer_by_turns.new.self.keeper)
-      c.args.self.now.work c.answer_at_once.new.self.work c.answer_by_turns.new.self.work c.answer_at_once.ensures.gains
-      c.answer_by_turns.ensures.answered;
+      (g.K.Keeper.contents c.answer_looking_ahead.new.self.keeper)
+      c.args.self.now.work c.answer_at_once.new.self.work c.answer_looking_ahead.new.self.work c.answer_at_once.ensures.gains
+      c.answer_looking_ahead.ensures.answered;
   traces = traced_then c.args.rules.now c.args.store.now c.args.inst.now (g.K.Keeper.memories c.args.self.now.keeper) (g.K.Keeper.memories c.answer_at_once.new.self.keeper)
-      (g.K.Keeper.memories c.answer_by_turns.new.self.keeper) c.answer_at_once.ensures.traces (traced_on c.args.rules.now c.args.store.now c.args.inst.now
-      (g.K.Keeper.memories c.answer_at_once.new.self.keeper) (g.K.Keeper.memories c.answer_by_turns.new.self.keeper) c.answer_by_turns.ensures.traces
-      c.answer_at_once.ensures.traces.justified);
+      (g.K.Keeper.memories c.answer_looking_ahead.new.self.keeper) c.answer_at_once.ensures.traces c.answer_looking_ahead.ensures.traces;
 }
 
 pub answer_at_once-requires-clause-idle : goal.answer_at_once-requires-clause-idle
@@ -51,12 +50,16 @@ answer_at_once-requires-clause-held g c = record {
   justified = c.requires.justified;
 }
 
-pub answer_by_turns-requires : goal.answer_by_turns-requires
-answer_by_turns-requires g c = record {
+pub answer_looking_ahead-requires : goal.answer_looking_ahead-requires
+answer_looking_ahead-requires g c = record {
   answerable = record {
     basis = c.requires.answerable.basis;
     right = c.answer_at_once.ensures.gains.known.right;
     plain = c.answer_at_once.ensures.gains.known.plain;
   };
   typed = c.requires.typed;
+  justified = c.answer_at_once.ensures.traces.justified;
+  wholes = (sound_more c.args.rules.now c.args.store.now c.requires.answerable.basis c.args.inst.now c.requires.typed
+      (g.K.Keeper.contents c.args.self.now.keeper) (g.K.Keeper.contents c.answer_at_once.new.self.keeper) c.requires.wholes
+      c.answer_at_once.ensures.gains.known.right c.answer_at_once.ensures.gains.worthy).whole;
 }

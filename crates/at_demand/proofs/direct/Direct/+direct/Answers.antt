@@ -1,7 +1,7 @@
 use Rattle.std.proofs.Common.{◌≡◌, ℕ, List, true, drop, take, length, Option, Result, refl, sym, ap, ◌+◌, ◌∙◌, subst, arith, ◌++◌, Ok, Err, IfOk, map, rules}
 use Rattle.std.specs.Prelude.{IsErrAnd}
 use Rattle.std.proofs.lemmas.Result.{IfOk-weaker}
-use Rattle.at_model.specs.Run.{Instance, Location, Gives, Truth}
+use Rattle.at_model.specs.Run.{Instance, Location, Gives, Run, Truth, Value, ◌>>=◌}
 use Rattle.at_store.specs.Shown.{contents}
 use Rattle.at_body.specs.Values.{value_view}
 use Rattle.at_body.specs.declared.value.Value.{Value as ValueCode}
@@ -13,13 +13,13 @@ use Rattle.at_demand.proofs.of_nesting.Asked.{evaluated_behind, evaluated_in, in
 use Rattle.at_demand.proofs.of_nesting.Grown.{grown_aside, grown_evaluated, grown_from, grown_none, grown_then, held_after}
 use Rattle.std.proofs.lemmas.List.{nil_from_length}
 use Rattle.at_rules.specs.Bodies.{bodies_view, body_view}
-use Rattle.at_body.specs.Rest.{ev, ev_all, over}
+use Rattle.at_body.specs.Rest.{ev, ev_all, over, with_two}
 use Rattle.at_apply.specs.Looking.{MayHaveLooked}
 use Rattle.at_apply.specs.Parts.{next_of, or_truth, two_of}
 use Rattle.at_apply.specs.Place.{place_at}
 use Rattle.at_demand.specs.Traces.{StayJustified}
 use Rattle.at_demand.proofs.of_parts.Directly.{come_begun, come_gives, come_looked, gains_begun, nothing_gained}
-use Rattle.at_demand.proofs.of_parts.ByForm.{call_come, call_gains, call_gains_first, call_gains_second, either_come, either_gains, either_gains_test, fold_come, fold_gains, fold_gains_first, one_come, one_gains, two_come, two_gains, two_gains_first}
+use Rattle.at_demand.proofs.of_parts.ByForm.{beside_come, beside_gains, call_come, call_gains, call_gains_first, call_gains_second, either_come, either_gains, either_gains_test, fold_come, fold_gains, fold_gains_first, one_come, one_gains, two_come, two_gains, two_gains_first}
 use Rattle.at_demand.proofs.of_parts.Looping.{bound_at, each_all, each_ends, each_gains, each_on, gains_so_far, passed_all, passed_gains, passed_on, starts, unbound_at}
 use Rattle.at_demand.proofs.direct.Direct.+direct.Goals as goal
 use Rattle.at_body.specs.declared.value.Value.TheVariants as value
@@ -371,14 +371,41 @@ compared-returns-in-Some g n c = record {
 pub compared-returns-in-None : goal.compared-returns-in-None
 compared-returns-in-None g n c = record {
   come =
-      subst (λ (ls : List (Location ℕ)). IfOk c.two.result (λ v. HasCome c.args.basis.now.rules.now (contents
-      c.args.basis.now.store.now) (held_by g.K.Keeper.contents g.K.Keeper.memories c.two.new.keeper c.two.new.self)
-      (record { reads = ls; uses = c.args.level.now.uses }) c.two.new.level (two_of c.args.basis.now.rules.now.classes
+      subst (λ (ls : List (Location ℕ)). IfOk c.in_turn.result (λ v. HasCome c.args.basis.now.rules.now (contents
+      c.args.basis.now.store.now) (held_by g.K.Keeper.contents g.K.Keeper.memories c.in_turn.new.keeper c.in_turn.new.self)
+      (record { reads = ls; uses = c.args.level.now.uses }) c.in_turn.new.level (two_of c.args.basis.now.rules.now.classes
       (place_at c.args.here.now) c.args.comparison c.args.left.now c.args.right.now) (value_view v))) (subst (λ o.
       MayHaveLooked (contents c.args.basis.now.store.now) c.args.level.now.reads c.compare.new.reads (two_of
       c.args.basis.now.rules.now.classes (place_at c.args.here.now) c.args.comparison c.args.left.now c.args.right.now)
-      o) c.in-None.is (c.in_ok-at_once.ensures c.args.basis.now.rules.now.classes)) c.two.ensures.come;
-  gains = c.two.ensures.gains;
+      o) c.in-None.is (c.in_ok-at_once.ensures c.args.basis.now.rules.now.classes)) c.in_turn.ensures.come;
+  gains = c.in_turn.ensures.gains;
+}
+
+pub in_turn-returns-in-Some : goal.in_turn-returns-in-Some
+in_turn-returns-in-Some g n c =
+    subst (λ (r : Run ℕ (Value ℕ)). EvaluatesTo c.args.basis.now.rules.now c.args.basis.now.store.now g.K.Keeper.exact (ev
+    c.args.basis.now.rules.now.classes (body_view c.args.left.now) (place_at c.args.here.now) >>= λ v. r >>= with_two
+    c.args.comparison v) value_view (held_by g.K.Keeper.contents g.K.Keeper.memories c.args.keeper.now c.args.self.now)
+    (held_by g.K.Keeper.contents g.K.Keeper.memories c.beside.new.keeper c.beside.new.self) c.args.level.now
+    c.beside.new.level c.beside.result) (sym (c.in-Some.ensures c.args.basis.now.rules.now.classes)) c.beside.ensures
+
+pub beside-returns-in_err-value : goal.beside-returns-in_err-value
+beside-returns-in_err-value g n c = record {
+  come = search rules;
+  gains =
+      beside_gains c.args.basis.now.rules.now c.args.basis.now.store.now g.K.Keeper.exact (place_at c.args.here.now)
+      c.args.comparison c.args.text.now c.args.left.now _ _ c.operand.ensures.gains;
+}
+
+pub beside-returns : goal.beside-returns
+beside-returns g n c = record {
+  come =
+      beside_come c.args.basis.now.rules.now c.args.basis.now.store.now g.K.Keeper.exact (place_at c.args.here.now)
+      c.args.comparison c.args.text.now c.args.left.now c.in_ok-value.value c.compare_with.result _ _ _ _
+      c.operand.ensures.gains c.in_ok-value.ensures.come c.compare_with.ensures;
+  gains =
+      beside_gains c.args.basis.now.rules.now c.args.basis.now.store.now g.K.Keeper.exact (place_at c.args.here.now)
+      c.args.comparison c.args.text.now c.args.left.now _ _ c.operand.ensures.gains;
 }
 
 pub either-returns-in_err-value : goal.either-returns-in_err-value

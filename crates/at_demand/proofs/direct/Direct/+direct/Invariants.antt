@@ -35,7 +35,13 @@ abbrev pub decreases-over : goal.decreases-over
 decreases-over g l = 16 * l.above + 4
 
 abbrev pub decreases-compared : goal.decreases-compared
-decreases-compared g l = 16 * l.above + 3
+decreases-compared g l = 16 * l.above + 4
+
+abbrev pub decreases-in_turn : goal.decreases-in_turn
+decreases-in_turn g l = 16 * l.above + 3
+
+abbrev pub decreases-beside : goal.decreases-beside
+decreases-beside g l = 16 * l.above + 2
 
 abbrev pub decreases-evaluate : goal.decreases-evaluate
 decreases-evaluate g l = 16 * l.above + 4

@@ -9,7 +9,7 @@ use Rattle.at_tree.proofs.path.read.whole_path.Goals as goal
 
 pub loop-behind-init : goal.loop-behind-init
 loop-behind-init c =
-    (c.utf8.text, nothing_yet _ (steps_view c.in_ok-steps.steps.items) c.utf8.text (not_root c.args.text.now (sym c.eq.ensures ∙ c.if-eq.false)) (ap steps_view c.in_ok-steps.ensures.items))
+    (c.utf8.text, nothing_yet _ (steps_view c.in_ok-steps.steps.items) c.utf8.text (not_root c.args.text.now (sym c.is_root.ensures ∙ c.if-is_root.false)) (ap steps_view c.in_ok-steps.ensures.items))
 
 pub loop-behind-preserved : goal.loop-behind-preserved
 loop-behind-preserved c =

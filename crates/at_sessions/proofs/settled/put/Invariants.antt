@@ -1,7 +1,0 @@
-use Rattle.std.proofs.Common.{ℕ, Contains, take}
-use Rattle.std.specs.Prelude.{IsSome}
-use Rattle.at_model.specs.Run.{Instance}
-use Rattle.at_sessions.proofs.settled.put.Given as goal
-
-abbrev pub invariant-loop-used : goal.invariant-loop-used
-invariant-loop-used g l = (u : Instance ℕ) → Contains (take l.used-index l.used-items) u → IsSome (g.K.Keeper.contents l.keeper u)
