@@ -1,6 +1,7 @@
 """How the hub waits: it looks before it sleeps where that pays, keeps off nobody, and takes no time when there is nothing to do."""
 from __future__ import annotations
 
+import itertools
 import signal
 import statistics
 import threading
@@ -46,6 +47,13 @@ class Looking(unittest.TestCase):
         self.addCleanup(loop.close)
         return loop, Streams(loop)
 
+    def steady(self, loop: Loop) -> None:
+        """Gives the loop a clock by which no look comes late, however busy the machine is: behind a late one it would rest."""
+        ticks = itertools.count(loop.now, LOOK / 2)
+        patched = mock.patch("attrd_hub.loop.monotonic", side_effect=lambda: next(ticks))
+        patched.start()
+        self.addCleanup(patched.stop)
+
     def test_what_is_found_at_once_needs_no_sleep(self) -> None:
         loop, streams = self.loop()
         streams.ready = [(99, READ)]
@@ -55,6 +63,7 @@ class Looking(unittest.TestCase):
 
     def test_who_finds_nothing_looks_ever_more_seldom(self) -> None:
         loop, streams = self.loop()
+        self.steady(loop)
         found = []
         for _ in range(4 * MOST_PAUSE):
             streams.asked.clear()
@@ -71,6 +80,7 @@ class Looking(unittest.TestCase):
 
     def test_what_is_found_later_brings_the_looking_back(self) -> None:
         loop, streams = self.loop()
+        self.steady(loop)
         for _ in range(7):
             loop.turn(0.5, True)
         streams.ready, streams.asked = [(99, READ)], []
