@@ -1,10 +1,8 @@
 -- Where a flush begins.
-use Rattle.std.proofs.Common.{◌≡◌, ◌⊎◌, inl, inr, ℕ, ◌+◌, get_or, List, [], ◌∷◌, ◌++◌, Bool, true, false, true≢false, cond, Some, Contains, take, slice_get, if◌then◌else◌, length, ◌<◌, ◌≤◌, refl, sym, ap, ◌∙◌, subst, arith, append-nil}
-use Rattle.std.proofs.lemmas.Bool.{cases_eq, cases_lt}
+use Rattle.std.proofs.Common.{◌≡◌, ◌⊎◌, inl, inr, ℕ, ◌+◌, get_or, List, [], ◌∷◌, ◌++◌, Bool, true, false, cond, Contains, take, if◌then◌else◌, length, ◌<◌, refl, sym, ap, ◌∙◌, subst, append-nil}
 use Rattle.std.proofs.lemmas.List.{take_more}
 use Rattle.std.proofs.lemmas.List.Concat.{flat_map-append}
 use Rattle.std.proofs.lemmas.List.Elements.{Contains-append_cases, Contains-append_left, Contains-append_right}
-use Rattle.smallvec.specs.SmallVec.{SmallVec}
 use Rattle.std.specs.Bool.{MatchBool}
 use Rattle.at_model.specs.Run.{Location, Is}
 use Rattle.at_store.specs.declared.node.Loc.{Loc}
@@ -14,15 +12,12 @@ use Rattle.at_cache.specs.declared.edge.Edge.{Edge}
 use Rattle.at_cache.specs.declared.facet.Facet.{Facet}
 use Rattle.at_cache.specs.declared.facet.Readers.{Readers}
 use Rattle.at_cache.specs.declared.scope.Scope.{Scope}
-use Rattle.at_cache.specs.declared.scope.Scope.TheVariants as scope
 use Rattle.at_cache.specs.Edges.{edges_in}
 use Rattle.at_cache.specs.Asking.{Asked, looks_at}
 use Rattle.at_cache.specs.Flushing.{Begins}
 use Rattle.at_cache.specs.Kept.{Answers, node_at}
-use Rattle.at_cache.specs.Readers.{edges_among, edges_at, facet_at, has_class, stands_for}
+use Rattle.at_cache.specs.Readers.{edges_among, facet_at, has_class, stands_for}
 use Rattle.at_cache.proofs.Locations.{stands_at, stands_cases, stands_for_class, stands_for_own}
-use Rattle.at_cache.proofs.Listed.{edges_are, no_edges, same_list}
-use Rattle.at_cache.proofs.Moving.{take_past, take_within}
 use Rattle.at_cache.proofs.Taking.{none_in}
 
 module _ {says : Location ℕ → Bool → Type 0} {seen : Location ℕ → Bool} where
@@ -112,22 +107,6 @@ module _ (n : ℕ) where
         by l s true h = inl (said l h s)
         by l s false h = inr (λ x c. c)
 
-module _ (readers : List (SmallVec Readers)) (n : ℕ) (v : SmallVec Readers) (there : slice_get readers n ≡ Some v) where
-  pub at_more : (l : Location ℕ) → edges_at (take (n + 1) readers) l ≡ edges_at (take n readers) l ++ edges_among n v.items l
-  at_more l = elim (cases_eq (node_at l) n) [
-    | inl at_n ↦
-        edges_are (take (n + 1) readers) l v (ap (slice_get (take (n + 1) readers)) at_n ∙ take_within (n + 1) readers n (omega arith) ∙ there)
-        ∙ ap (λ k. edges_among k v.items l) at_n
-        ∙ ap (λ es. es ++ edges_among n v.items l) (sym (no_edges (take n readers) l (ap (slice_get (take n readers)) at_n ∙ take_past n readers n (omega arith))))
-    | inr differs ↦
-        same_list (take (n + 1) readers) (take n readers) l (elim (cases_lt (node_at l) n) [
-          | inl less ↦ take_within (n + 1) readers (node_at l) (omega (arith, less)) ∙ sym (take_within n readers (node_at l) less)
-          | inr more ↦ let past : n + 1 ≤ node_at l = omega (arith, more, differs) in take_past (n + 1) readers (node_at l) past ∙ sym (take_past n readers (node_at l) more)
-        ])
-        ∙ sym (append-nil (edges_at (take n readers) l))
-        ∙ ap (λ es. edges_at (take n readers) l ++ es) (sym (among_others n v.items l differs))
-  ]
-
 -- one facet more is asked
 module _ {says : Location ℕ → Bool → Type 0} {seen : Location ℕ → Bool} (n : ℕ) (rs : List Readers) (i : ℕ) (r : Readers) (is : r ≡ get_or rs i r) (less : i < length rs) {edges : List Edge} (asked : Asked says seen (edges_among n (take i rs)) edges) where
   on_more : (lists : List Edge) → Asked says seen (edges_among n (take i rs ++ r ∷ [])) lists → Asked says seen (edges_among n (take (i + 1) rs)) lists
@@ -141,10 +120,6 @@ module _ {says : Location ℕ → Bool → Type 0} {seen : Location ℕ → Bool
       → Asked says seen (edges_among n (take (i + 1) rs)) edges
   asked_next_untouched said = on_more edges (subst (Asked says seen (edges_among n (take i rs ++ r ∷ []))) (append-nil edges) (asked_both (among_more n (take i rs) r) asked (asked_untouched n r said)))
 
--- before the first node
-pub at_start : (says : Location ℕ → Bool → Type 0) (readers : List (SmallVec Readers)) → Begins says (edges_at (take 0 readers)) []
-at_start says readers = record { from = λ x c. absurd (none_in x c); all = λ l. inr (λ x c. c) }
-
 module _ {says : Location ℕ → Bool → Type 0} {seen : Location ℕ → Bool} {lists : Location ℕ → List Edge} {start : List Edge} where
   -- what isn't seen has the answer `false`
   pub begins_by : Asked says seen lists start → ((l : Location ℕ) → seen l ≡ false → says l false) → Begins says lists start
@@ -153,10 +128,3 @@ module _ {says : Location ℕ → Bool → Type 0} {seen : Location ℕ → Bool
       by : (l : Location ℕ) (b : Bool) → seen l ≡ b → says l false ⊎ ((x : Edge) → Contains (lists l) x → Contains start x)
       by l true s = a.all l s
       by l false s = inl (others l s)
-
-  pub asked_by : Begins says lists start → Asked says seen lists start
-  asked_by b = record { from = b.from; all = λ l s. b.all l }
-
--- one node more
-pub begins_node : {says : Location ℕ → Bool → Type 0} (readers : List (SmallVec Readers)) (n : ℕ) (v : SmallVec Readers) {start edges : List Edge} → slice_get readers n ≡ Some v → Begins says (edges_at (take n readers)) start → Asked says (looks_at scope.All) (edges_among n v.items) edges → Begins says (edges_at (take (n + 1) readers)) (start ++ edges)
-begins_node readers n v there a b = begins_by (asked_both {seen = looks_at scope.All} (at_more readers n v there) (asked_by a) b) (λ l h. absurd (true≢false h))

@@ -29,3 +29,4 @@ pub mod NoRows
 pub mod Came
 mod of_cut
 mod of_folding
+mod of_runs

@@ -73,7 +73,7 @@ module _ (n : ℕ) (f : Facet) where
   stands_at l h = elim (stands_cases l h)
       [ inl own ↦ ap node_at own ∙ node_of_facet n f | inr class ↦ ap node_at class.1 ]
 
-class_is_no_index : (n : ℕ) (f : Facet) → has_class f ≡ true → is_index (facet_at n f) ≡ false
+pub class_is_no_index : (n : ℕ) (f : Facet) → has_class f ≡ true → is_index (facet_at n f) ≡ false
 class_is_no_index n facet.Is h = absurd (true≢false (sym h))
 class_is_no_index n (facet.Tok part) h = absurd (true≢false (sym h))
 class_is_no_index n (facet.Slot part) h = absurd (true≢false (sym h))

@@ -82,3 +82,10 @@ counted_all m es n total less none before = let e = ap (current_of m) none in by
   where
     by : (n k total : ℕ) → n ≤ 2 ^ 64 - 1 → k ≡ 0 → min (n + k) (2 ^ 64 - 1) ≡ total → n ≡ total
     by n k total less none e = grind arith
+
+-- one more at the end is counted
+pub counted_next : (m : Memory) (es : List Edge) (x : Edge) (n more : ℕ) (b : Bool) {all : List Edge} → n ≡ min (current_of m es) (2 ^ 64 - 1) → b ≡ is_current m x
+    → more ≡ min (n + bool_byte b) (2 ^ 64 - 1) → all ≡ es ++ x ∷ [] → more ≡ min (current_of m all) (2 ^ 64 - 1)
+counted_next m es x n more b before same sum is =
+    capped (current_of m es) (current_of m (x ∷ [])) n (bool_byte b) more _ before (counted_alone m x (x ∷ []) b refl same) sum
+    (ap (current_of m) is ∙ sum_both m es (x ∷ []))

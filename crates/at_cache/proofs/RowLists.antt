@@ -33,14 +33,14 @@ keeps_rest {m} {old} x rest is stale = record {
 }
 
 module _ {X Y : Type 0} (f : X → List Y) where
-  along_from : (xs : List X) (y : Y) → Contains (flat_map f xs) y → (x : X) × Contains xs x × Contains (f x) y
+  pub along_from : (xs : List X) (y : Y) → Contains (flat_map f xs) y → (x : X) × Contains xs x × Contains (f x) y
   along_from [] y c = absurd (none_in y c)
   along_from (x ∷ xs) y c = elim (Contains-append_cases (f x) (flat_map f xs) y c) [
     | inl here ↦ (x, head_of x xs, here)
     | inr there ↦ let (z, d, e) = along_from xs y there in (z, Contains-cons x z xs d, e)
   ]
 
-  along_to : (xs : List X) (x : X) (y : Y) → Contains xs x → Contains (f x) y → Contains (flat_map f xs) y
+  pub along_to : (xs : List X) (x : X) (y : Y) → Contains xs x → Contains (f x) y → Contains (flat_map f xs) y
   along_to [] x y d c = absurd (none_in x d)
   along_to (z ∷ zs) x y d c = elim (Contains-cons_cases z x zs d) [
     | inl same ↦ Contains-append_left (f z) (flat_map f zs) y (subst (λ w. Contains (f w) y) (sym same) c)

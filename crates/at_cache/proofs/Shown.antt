@@ -1,5 +1,5 @@
 -- What is kept of instances is what is kept in slots.
-use Rattle.std.proofs.Common.{◌≡◌, inl, inr, ℕ, zero, suc, List, [], ◌∷◌, Bool, true, false, cond, Option, None, Some, option_map, IsSome, is_some, if◌then◌else◌, slice_get, refl, sym, ap, ◌∙◌, arith, true≢false}
+use Rattle.std.proofs.Common.{◌≡◌, inl, inr, ℕ, zero, suc, List, [], ◌∷◌, Bool, true, false, cond, Option, None, Some, option_map, IsSome, is_some, if◌then◌else◌, slice_get, refl, sym, ap, ◌∙◌, subst, arith, true≢false}
 use Rattle.std.specs.List.{list_any}
 use Rattle.std.specs.Map.{lookup}
 use Rattle.std.specs.Option.{option_and_then}
@@ -10,6 +10,7 @@ use Rattle.at_model.specs.Run.{Instance, Location, Value}
 use Rattle.at_body.specs.Same.{same_instance}
 use Rattle.at_body.specs.Sameness.{instances_equiv}
 use Rattle.at_body.specs.Values.{value_view}
+use Rattle.at_body.proofs.SamenessLemmas.{same_true}
 use Rattle.at_cache.specs.declared.edge.Edge.{Edge}
 use Rattle.at_cache.specs.declared.entry.Entry.{Entry}
 use Rattle.at_cache.specs.declared.table.Table.{Table}
@@ -38,6 +39,14 @@ first_at test (x ∷ xs) (suc p) e h t only = by (test x.0) refl (first_at test 
     by : (b : Bool) → test x.0 ≡ b → lookup test xs ≡ Some e.1 → cond (test x.0) (Some x.1) (lookup test xs) ≡ Some e.1
     by true is rest = absurd (let no = only zero x refl is in omega (arith, no))
     by false is rest = ap (λ b. cond b (Some x.1) (lookup test xs)) is ∙ rest
+
+-- what stands at a place is the entry of its instance
+pub looked_up : (t : Table) (p : ℕ) (j i : Instance ℕ) (e : Entry) → slice_get t.entries.entries p ≡ Some (j, e) →
+    same_instance j i ≡ true → lookup (same_instance i) t.entries.entries ≡ Some e
+looked_up t p j i e there same = subst (λ (x : Instance ℕ). lookup (same_instance x) t.entries.entries ≡ Some e)
+    (same_true j i same)
+    (first_at (same_instance j) t.entries.entries p (j, e) there (instances_equiv.refl j)
+    (λ q f at_q its. sym (t.placed.apart p q (j, e) f there at_q its)))
 
 -- where the entry of an instance is
 pub slot_taken : (t : Table) (p : ℕ) (e : Instance ℕ × Entry) → slice_get t.entries.entries p ≡ Some e → memory_of t e.1.slot ≡ Some (info e)

@@ -10,6 +10,8 @@ pub mod Flushing
 pub mod Putting
 pub mod Slots
 pub mod Asking
+pub mod Runs
+pub mod Finding
 pub mod Keeping
 pub mod Stored
 pub mod Bound

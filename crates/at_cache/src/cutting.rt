@@ -1,6 +1,6 @@
 //! What an edit takes away from entries that stay in memory.
 
-ghost use Rattle.std.specs.Prelude.{◌≡◌, ◌≢◌, ◌<◌, ◌≤◌, ◌^◌, length, ◌⊎◌, ◌+◌, ℕ, List, [], Option, None, Some, IfNone, IfSome, IsSome, IsTrue, OnSome};
+ghost use Rattle.std.specs.Prelude.{◌≡◌, ◌≢◌, ◌<◌, ◌≤◌, length, ◌⊎◌, ◌+◌, ℕ, List, [], Option, None, Some, IfNone, IfSome, IsSome, IsTrue, OnSome};
 ghost use Rattle.at_cache.specs.declared.edge.Edge.{Edge};
 ghost use Rattle.at_cache.specs.Asking.{AreNoted};
 ghost use Rattle.at_cache.specs.Flushing.{IsIdle, Work};
@@ -8,16 +8,16 @@ ghost use Rattle.at_cache.specs.Info.{Memory, memory_of};
 ghost use Rattle.at_cache.specs.Kept.{Answers, AreNamed};
 ghost use Rattle.at_cache.specs.Marking.{HasMark, IsPast, TakesAway, aside_cut, seen_among, seen_by, seen_count};
 ghost use Rattle.at_cache.specs.Putting.{users_at};
-ghost use Rattle.at_cache.specs.Readers.{edges_at};
+ghost use Rattle.at_cache.specs.Finding.{edges_to};
 ghost use Rattle.at_cache.specs.Standings.{IsTaken, is_shown, standing_of};
 
 use crate::cut::{Cut, Pass};
 use crate::edge::{Edge, Edges, Slot};
-use crate::facet::Facets;
 use crate::forgetting::{begin, doom_listed};
 use crate::mark::Mark;
 use crate::marked::Marked;
 use crate::places::begin_named;
+use crate::run::AllReaders;
 use crate::standing::{Standing, set_standing, standing_at};
 use at_store::{Loc, Node, Places};
 
@@ -106,11 +106,10 @@ pub fn forget_all(cut: &mut Cut, first: Option<Slot>)
 }
 
 /// What the pass takes away is taken from what reads a touched location, and where that are values from all that stands for one.
-pub fn take_away<F: Fn(Loc) -> bool>(cut: &mut Cut, pass: Pass, readers: &[Facets], touched: &F)
+pub fn take_away<F: Fn(Loc) -> bool>(cut: &mut Cut, pass: Pass, readers: &AllReaders, touched: &F)
     requires callable { F.IsAlwaysCallable touched.now }
-    requires short { length readers.now ≤ 2 ^ 32 }
     requires idle { IsIdle (memory_of cut.old.entries) }
-    ensures { TakesAway pass (Answers (F.post touched.now)) (edges_at readers.now) cut.old.standings.items (memory_of cut.old.entries)
+    ensures { TakesAway pass (Answers (F.post touched.now)) (edges_to readers.now) cut.old.standings.items (memory_of cut.old.entries)
         cut.new.standings.items (memory_of cut.new.entries) }
 {
     cut.pass = pass;
@@ -122,16 +121,16 @@ pub fn take_away<F: Fn(Loc) -> bool>(cut: &mut Cut, pass: Pass, readers: &[Facet
 pub fn take_away_at<F: Fn(Loc) -> bool>(
     cut: &mut Cut,
     pass: Pass,
-    readers: &[Facets],
+    readers: &AllReaders,
     index_read: &[Node],
     places: &Places<'_>,
     touched: &F,
 )
     requires callable { F.IsAlwaysCallable touched.now }
     requires named { AreNamed places.now (F.post touched.now) }
-    requires noted { AreNoted (edges_at readers.now) index_read.now }
+    requires noted { AreNoted (edges_to readers.now) index_read.now }
     requires idle { IsIdle (memory_of cut.old.entries) }
-    ensures { TakesAway pass (Answers (F.post touched.now)) (edges_at readers.now) cut.old.standings.items (memory_of cut.old.entries)
+    ensures { TakesAway pass (Answers (F.post touched.now)) (edges_to readers.now) cut.old.standings.items (memory_of cut.old.entries)
         cut.new.standings.items (memory_of cut.new.entries) }
 {
     cut.pass = pass;

@@ -129,4 +129,13 @@ impl Facet {
             Facet::ClassAndUp => false,
         }
     }
+
+    /// Whether a fold looks so at an element: at its class, or at that and a token.
+    pub fn is_of_element(self) -> bool {
+        match self {
+            Facet::Is => true,
+            Facet::ClassAndTok(_) => true,
+            _ => false,
+        }
+    }
 }

@@ -7,8 +7,10 @@ ghost use Rattle.at_cache.specs.Edges.{edges_in};
 ghost use Rattle.at_cache.specs.Rows.{edges_along, edges_of};
 ghost use Rattle.at_cache.specs.Info.{Memory, memory_of, table_len};
 ghost use Rattle.at_cache.specs.Flushing.{Begins, IsIdle, Work, dooms, first_after};
-ghost use Rattle.at_cache.specs.Asking.{GoesOn, looks_at};
+ghost use Rattle.at_cache.specs.Asking.{GoesOn, looks_at, sees};
 ghost use Rattle.at_cache.specs.Readers.{edges_among, edges_at, has_class, stands_for};
+ghost use Rattle.at_cache.specs.Finding.{edges_to};
+ghost use Rattle.at_cache.specs.Runs.{edges_on, edges_over, edges_past};
 ghost use Rattle.at_cache.specs.Recorded.{IsIndexed, kept_in};
 ghost use Rattle.at_cache.specs.Kept.{Answers, LeavesUntouched, LosesTouched};
 
@@ -16,7 +18,9 @@ use crate::edge::{Edge, Edges, Slot};
 use crate::facet::{Facet, Facets, Readers};
 use crate::marked::Marked;
 use crate::row::Row;
+use crate::run::{AllReaders, Reach, Run, Seat};
 use crate::scope::Scope;
+use crate::seating::seat_of;
 use crate::table::Table;
 use at_store::{Loc, Node};
 
@@ -105,8 +109,8 @@ fn is_touched<F: Fn(Loc) -> bool>(node: Node, facet: Facet, scope: Scope, touche
     touched(facet.at(node))
 }
 
-/// What reads a touched location in the scope of the node goes: the first one that goes.
-pub fn begin_at<W: Marked, F: Fn(Loc) -> bool>(
+// What reads a touched location in the scope of the node goes: the first one that goes.
+fn begin_at<W: Marked, F: Fn(Loc) -> bool>(
     entries: &mut W,
     first: Option<Slot>,
     node: Node,
@@ -128,25 +132,133 @@ pub fn begin_at<W: Marked, F: Fn(Loc) -> bool>(
     first
 }
 
-// What reads a touched location goes: the first one that goes.
-pub fn begin<W: Marked, F: Fn(Loc) -> bool>(
+// What those edges tell of that are over the place goes.
+fn doom_past<W: Marked>(
     entries: &mut W,
-    readers: &[Facets],
+    first: Option<Slot>,
+    edges: &[Reach],
+    place: u32,
+) -> Option<Slot>
+    ensures works { (old : Memory) (start : List Edge) → Work old start (edges_past place edges.now) first (W.memory entries.old)
+        → Work old start [] result (W.memory entries.new) }
+    ensures aside { W.aside entries.new ≡ W.aside entries.old }
+{
+    let mut first = first;
+    for reach in edges {
+        if reach.is_over(place) {
+            first = doom(entries, first, &reach.edge);
+        }
+    }
+    first
+}
+
+// What the edges tell of goes that are over the seat.
+fn doom_on<W: Marked>(
+    entries: &mut W,
+    first: Option<Slot>,
+    runs: &[Run],
+    seat: Seat,
+) -> Option<Slot>
+    ensures works { (old : Memory) (start : List Edge) → Work old start (edges_on runs.now seat) first (W.memory entries.old)
+        → Work old start [] result (W.memory entries.new) }
+    ensures aside { W.aside entries.new ≡ W.aside entries.old }
+{
+    match runs.get(seat.run as usize) {
+        Some(run) => doom_past(entries, first, run.edges.as_slice(), seat.place),
+        None => first,
+    }
+}
+
+// What reads a touched location in the scope of the node that sits there goes, where an edge over its seat tells of it.
+fn begin_over<W: Marked, F: Fn(Loc) -> bool>(
+    entries: &mut W,
+    first: Option<Slot>,
+    node: Node,
+    readers: &AllReaders,
+    scope: Scope,
     touched: &F,
 ) -> Option<Slot>
-    requires callable { F.IsAlwaysCallable touched.now }
-    requires short { length readers.now ≤ 2 ^ 32 }
+    requires { F.IsAlwaysCallable touched.now }
+    ensures goes_on { GoesOn (Answers (F.post touched.now)) (sees scope node) (edges_over readers.now.seats.items readers.now.runs.items) first
+        (W.memory entries.old) result (W.memory entries.new) }
+    ensures aside { W.aside entries.new ≡ W.aside entries.old }
+{
+    let seat = seat_of(readers.seats.as_slice(), node);
+    if seat.place == 0 || seat.facet.is_index() {
+        return first;
+    }
+    if is_touched(node, seat.facet, scope, touched) {
+        return doom_on(entries, first, readers.runs.as_slice(), seat);
+    }
+    first
+}
+
+// So does what an edge of its own tells of.
+fn begin_own<W: Marked, F: Fn(Loc) -> bool>(
+    entries: &mut W,
+    first: Option<Slot>,
+    node: Node,
+    readers: &[Facets],
+    scope: Scope,
+    touched: &F,
+) -> Option<Slot>
+    requires { F.IsAlwaysCallable touched.now }
+    ensures goes_on { GoesOn (Answers (F.post touched.now)) (sees scope node) (edges_at readers.now) first
+        (W.memory entries.old) result (W.memory entries.new) }
+    ensures aside { W.aside entries.new ≡ W.aside entries.old }
+{
+    match readers.get(node.index()) {
+        Some(list) => begin_at(entries, first, node, list.as_slice(), scope, touched),
+        None => first,
+    }
+}
+
+/// What reads a touched location in the scope of the node goes: the first one that goes.
+pub fn begin_node<W: Marked, F: Fn(Loc) -> bool>(
+    entries: &mut W,
+    first: Option<Slot>,
+    readers: &AllReaders,
+    node: Node,
+    scope: Scope,
+    touched: &F,
+) -> Option<Slot>
+    requires { F.IsAlwaysCallable touched.now }
+    ensures goes_on { GoesOn (Answers (F.post touched.now)) (sees scope node) (edges_to readers.now) first
+        (W.memory entries.old) result (W.memory entries.new) }
+    ensures aside { W.aside entries.new ≡ W.aside entries.old }
+{
+    let own = begin_own(entries, first, node, readers.own.as_slice(), scope, touched);
+    begin_over(entries, own, node, readers, scope, touched)
+}
+
+// How many nodes were looked at, by the greatest number of one.
+fn count_of(readers: &AllReaders) -> usize
+    ensures own { length readers.now.own.items ≤ result }
+    ensures seats { length readers.now.seats.items ≤ result }
+    ensures short { result ≤ 2 ^ 32 }
+{
+    let (own, seats) = (readers.own.len(), readers.seats.len());
+    if own < seats { seats } else { own }
+}
+
+/// What reads a touched location goes: the first one that goes.
+pub fn begin<W: Marked, F: Fn(Loc) -> bool>(
+    entries: &mut W,
+    readers: &AllReaders,
+    touched: &F,
+) -> Option<Slot>
+    requires { F.IsAlwaysCallable touched.now }
     ensures works { IsIdle (W.memory entries.old) → (start : List Edge) × Work (W.memory entries.old) start [] result (W.memory entries.new)
-        × Begins (Answers (F.post touched.now)) (edges_at readers.now) start }
+        × Begins (Answers (F.post touched.now)) (edges_to readers.now) start }
     ensures aside { W.aside entries.new ≡ W.aside entries.old }
 {
     let mut first = None;
-    for number in 0..readers.len() {
-        first = begin_at(
+    for number in 0..count_of(readers) {
+        first = begin_node(
             entries,
             first,
+            readers,
             Node::new(number as u32),
-            readers[number].as_slice(),
             Scope::All,
             touched,
         );
@@ -178,15 +290,14 @@ pub fn forget_all(entries: &mut Table, first: Option<Slot>)
 }
 
 /// All that stands for a touched location is taken out.
-pub fn take_out<F: Fn(Loc) -> bool>(entries: &mut Table, readers: &[Facets], touched: &F)
+pub fn take_out<F: Fn(Loc) -> bool>(entries: &mut Table, readers: &AllReaders, touched: &F)
     requires callable { F.IsAlwaysCallable touched.now }
-    requires short { length readers.now ≤ 2 ^ 32 }
-    ensures indexed { (puts : ℕ) → IsIndexed (edges_at readers.now) puts (memory_of entries.old)
-        → IsIndexed (edges_at readers.now) puts (memory_of entries.new) }
-    ensures leaves { (puts : ℕ) → IsIndexed (edges_at readers.now) puts (memory_of entries.old)
-        → LeavesUntouched (Answers (F.post touched.now)) (kept_in (edges_at readers.now) entries.old puts) (kept_in (edges_at readers.now) entries.new puts) }
-    ensures loses { (puts : ℕ) → IsIndexed (edges_at readers.now) puts (memory_of entries.old)
-        → LosesTouched (Answers (F.post touched.now)) (kept_in (edges_at readers.now) entries.old puts) (kept_in (edges_at readers.now) entries.new puts) }
+    ensures indexed { (puts : ℕ) → IsIndexed (edges_to readers.now) puts (memory_of entries.old)
+        → IsIndexed (edges_to readers.now) puts (memory_of entries.new) }
+    ensures leaves { (puts : ℕ) → IsIndexed (edges_to readers.now) puts (memory_of entries.old)
+        → LeavesUntouched (Answers (F.post touched.now)) (kept_in (edges_to readers.now) entries.old puts) (kept_in (edges_to readers.now) entries.new puts) }
+    ensures loses { (puts : ℕ) → IsIndexed (edges_to readers.now) puts (memory_of entries.old)
+        → LosesTouched (Answers (F.post touched.now)) (kept_in (edges_to readers.now) entries.old puts) (kept_in (edges_to readers.now) entries.new puts) }
     ensures fewer { table_len entries.new ≤ table_len entries.old }
 {
     let first = begin(entries, readers, touched);

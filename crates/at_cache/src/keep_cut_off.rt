@@ -4,7 +4,7 @@ ghost use Rattle.std.specs.Prelude.{◌≡◌, ◌≤◌, ◌^◌, length, None,
 ghost use Rattle.at_cache.specs.Asking.{AreNoted};
 ghost use Rattle.at_cache.specs.Info.{memory_of, table_len};
 ghost use Rattle.at_cache.specs.Kept.{KeepsAll};
-ghost use Rattle.at_cache.specs.Readers.{edges_at};
+ghost use Rattle.at_cache.specs.Finding.{edges_to};
 ghost use Rattle.at_cache.specs.Recorded.{IsIndexed};
 ghost use Rattle.at_cache.specs.Standings.{AreValued, IsTied, held, kept_held, last_is, remembered};
 ghost use Rattle.at_cache.specs.Traced.{TracesNothing};
@@ -12,9 +12,9 @@ ghost use Rattle.at_cache.specs.Traced.{TracesNothing};
 use crate::blocking::blocking;
 use crate::cut::{Cut, Pass};
 use crate::cutting::{take_away, take_away_at};
-use crate::facet::Facets;
 use crate::keeper::{Keeper, Order, Put};
 use crate::renewing::enter_held;
+use crate::run::AllReaders;
 use crate::settling::{Counts, LEVELS, settle_at};
 use crate::table::Table;
 use at_body::{Inst, Value};
@@ -30,19 +30,17 @@ use std::alloc::{AllocError, Global};
 pub struct KeepCutOff {
     alloc: Global,
     cut: Cut,
-    // By the numbers of nodes.
-    readers: Vec<Facets>,
+    readers: AllReaders,
     // The nodes of which the index was ever read.
     index_read: Vec<Node>,
     // How many numbers were given, by `put` and where an entry was kept again.
     puts: u64,
     // Whether there ever was an edit; before that there is nothing to be kept again. Nothing rests on it.
     doubtful: bool,
-    ghost indexed: { IsIndexed (edges_at readers.items) puts (held cut.standings.items (memory_of cut.entries)) },
-    ghost tied: { IsTied (edges_at readers.items) puts (memory_of cut.entries) },
+    ghost indexed: { IsIndexed (edges_to readers) puts (held cut.standings.items (memory_of cut.entries)) },
+    ghost tied: { IsTied (edges_to readers) puts (memory_of cut.entries) },
     ghost valued: { AreValued cut.standings.items (memory_of cut.entries) },
-    ghost noted: { AreNoted (edges_at readers.items) index_read.items },
-    ghost short: { length readers.items ≤ 2 ^ 32 },
+    ghost noted: { AreNoted (edges_to readers) index_read.items },
 }
 
 /// One call, where each exit that lets it go would else have a case for each field.
@@ -62,8 +60,8 @@ impl Drop for KeepCutOff {
 impl KeepCutOff {
     /// A keeper that keeps nothing yet.
     pub fn new(alloc: Global) -> KeepCutOff
-        ensures nothing { KeepsAll (λ _. None) (kept_held (edges_at result.readers.items) result.cut.entries result.cut.standings.items result.puts) }
-        ensures traces { TracesNothing (remembered (edges_at result.readers.items) result.cut.entries result.cut.standings.items) }
+        ensures nothing { KeepsAll (λ _. None) (kept_held (edges_to result.readers) result.cut.entries result.cut.standings.items result.puts) }
+        ensures traces { TracesNothing (remembered (edges_to result.readers) result.cut.entries result.cut.standings.items) }
     {
         KeepCutOff {
             alloc,
@@ -76,7 +74,7 @@ impl KeepCutOff {
                 standings: Vec::new(alloc),
                 pass: Pass::Values,
             },
-            readers: Vec::new(alloc),
+            readers: AllReaders::new(alloc, true),
             index_read: Vec::new(alloc),
             puts: 0,
             doubtful: false,
@@ -92,13 +90,13 @@ impl KeepCutOff {
 }
 
 impl Keeper for KeepCutOff {
-    ghost contents = { λ k. kept_held (edges_at k.readers.items) k.cut.entries k.cut.standings.items k.puts };
+    ghost contents = { λ k. kept_held (edges_to k.readers) k.cut.entries k.cut.standings.items k.puts };
 
     ghost exact = { true };
 
-    ghost memories = { λ k. remembered (edges_at k.readers.items) k.cut.entries k.cut.standings.items };
+    ghost memories = { λ k. remembered (edges_to k.readers) k.cut.entries k.cut.standings.items };
 
-    ghost kept_last = { λ k i v kept. last_is (edges_at k.readers.items) k.cut.entries k.cut.standings.items k.puts i v kept };
+    ghost kept_last = { λ k i v kept. last_is (edges_to k.readers) k.cut.entries k.cut.standings.items k.puts i v kept };
 
     fn get(&self, inst: &Inst) -> Option<&Value> {
         let entry = self.cut.held(inst)?;
@@ -178,14 +176,14 @@ impl Keeper for KeepCutOff {
 
     fn flush<F: Fn(Loc) -> bool>(&mut self, touched: &F) {
         self.doubtful = true;
-        let readers = self.readers.as_slice();
+        let readers = &self.readers;
         take_away(&mut self.cut, Pass::Traces, readers, touched);
         take_away(&mut self.cut, Pass::Values, readers, touched);
     }
 
     fn flush_at<F: Fn(Loc) -> bool>(&mut self, places: &Places<'_>, touched: &F) {
         self.doubtful = true;
-        let readers = self.readers.as_slice();
+        let readers = &self.readers;
         let index_read = self.index_read.as_slice();
         take_away_at(
             &mut self.cut,

@@ -5,18 +5,18 @@ ghost use Rattle.at_cache.specs.Asking.{AreNoted};
 ghost use Rattle.at_cache.specs.Folding.{LeavesKept};
 ghost use Rattle.at_cache.specs.Info.{memory_of, table_len};
 ghost use Rattle.at_cache.specs.Kept.{Answers, AreNamed, KeepsAll, LeavesUntouched, LosesTouched, value_at};
-ghost use Rattle.at_cache.specs.Readers.{edges_at};
+ghost use Rattle.at_cache.specs.Finding.{edges_to};
 ghost use Rattle.at_cache.specs.Recorded.{IsIndexed, kept_in};
 ghost use Rattle.at_cache.specs.Stored.{reads_held};
 
 use crate::choosing::choose;
 use crate::entry::Links;
-use crate::facet::Facets;
 use crate::folding::fold;
 use crate::forgetting::take_out;
 use crate::keeper::{Keeper, Order, Put};
 use crate::places::take_out_at;
 use crate::putting::enter_with;
+use crate::run::AllReaders;
 use crate::stored::reads_held;
 use crate::table::Table;
 use at_body::{Inst, Value};
@@ -30,15 +30,13 @@ use std::alloc::{AllocError, Global};
 pub struct KeepRecorded {
     alloc: Global,
     entries: Table,
-    // By the numbers of nodes.
-    readers: Vec<Facets>,
+    readers: AllReaders,
     // The nodes of which the index was ever read.
     index_read: Vec<Node>,
     // How often `put` was called.
     puts: u64,
-    ghost indexed: { IsIndexed (edges_at readers.items) puts (memory_of entries) },
-    ghost noted: { AreNoted (edges_at readers.items) index_read.items },
-    ghost short: { length readers.items ≤ 2 ^ 32 },
+    ghost indexed: { IsIndexed (edges_to readers) puts (memory_of entries) },
+    ghost noted: { AreNoted (edges_to readers) index_read.items },
 }
 
 /// One call, where each exit that lets it go would else have a case for each field.
@@ -57,14 +55,14 @@ impl Drop for KeepRecorded {
 impl KeepRecorded {
     /// A keeper that keeps nothing yet.
     pub fn new(alloc: Global) -> KeepRecorded
-        ensures { KeepsAll (λ _. None) (kept_in (edges_at result.readers.items) result.entries result.puts) }
+        ensures { KeepsAll (λ _. None) (kept_in (edges_to result.readers) result.entries result.puts) }
     {
-        KeepRecorded::empty(alloc)
+        KeepRecorded::empty(alloc, true)
     }
 
-    /// A keeper with no entries.
-    pub fn empty(alloc: Global) -> KeepRecorded
-        ensures nothing { KeepsAll (λ _. None) (kept_in (edges_at result.readers.items) result.entries result.puts) }
+    /// A keeper with no entries, which makes runs or doesn't.
+    pub fn empty(alloc: Global, has_runs: bool) -> KeepRecorded
+        ensures nothing { KeepsAll (λ _. None) (kept_in (edges_to result.readers) result.entries result.puts) }
         ensures len { table_len result.entries ≡ 0 }
     {
         KeepRecorded {
@@ -74,7 +72,7 @@ impl KeepRecorded {
                 places: Slab::new(alloc),
                 attributes: Vec::new(alloc),
             },
-            readers: Vec::new(alloc),
+            readers: AllReaders::new(alloc, has_runs),
             index_read: Vec::new(alloc),
             puts: 0,
         }
@@ -100,13 +98,13 @@ impl KeepRecorded {
         since: u64,
         limit: u32,
     ) -> Result<(KeepRecorded, u32), AllocError>
-        ensures { IfOk result (λ r. LeavesKept (kept_in (edges_at self.readers.items) self.entries self.puts)
-            (kept_in (edges_at r.0.readers.items) r.0.entries r.0.puts)) }
+        ensures { IfOk result (λ r. LeavesKept (kept_in (edges_to self.readers) self.entries self.puts)
+            (kept_in (edges_to r.0.readers) r.0.entries r.0.puts)) }
     {
         let choice = choose(
             self.alloc,
             &self.entries,
-            self.readers.as_slice(),
+            self.readers.own.as_slice(),
             target,
             since,
             limit,
@@ -115,10 +113,10 @@ impl KeepRecorded {
         Ok((keeper, choice.limit))
     }
 
-    // The same folded by that plan.
+    // The same folded by that plan; an error, too, where there are runs.
     fn folded_by(self, plan: &[Links]) -> Result<KeepRecorded, AllocError>
-        ensures { IfOk result (λ k. LeavesKept (kept_in (edges_at self.readers.items) self.entries self.puts)
-            (kept_in (edges_at k.readers.items) k.entries k.puts)) }
+        ensures { IfOk result (λ k. LeavesKept (kept_in (edges_to self.readers) self.entries self.puts)
+            (kept_in (edges_to k.readers) k.entries k.puts)) }
     {
         let KeepRecorded {
             alloc,
@@ -127,7 +125,10 @@ impl KeepRecorded {
             index_read,
             puts,
         } = self;
-        fold(alloc, &mut entries, &mut readers, plan)?;
+        if !readers.runs.is_empty() {
+            return Err(AllocError);
+        }
+        fold(alloc, &mut entries, &mut readers.own, plan)?;
         Ok(KeepRecorded {
             alloc,
             entries,
@@ -140,49 +141,50 @@ impl KeepRecorded {
     /// As `flush`: no more entries are left than there were.
     pub fn forget<F: Fn(Loc) -> bool>(&mut self, touched: &F)
         requires { F.IsAlwaysCallable touched.now }
-        ensures leaves { LeavesUntouched (Answers (F.post touched.now)) (kept_in (edges_at self.old.readers.items) self.old.entries self.old.puts)
-            (kept_in (edges_at self.new.readers.items) self.new.entries self.new.puts) }
-        ensures loses { LosesTouched (Answers (F.post touched.now)) (kept_in (edges_at self.old.readers.items) self.old.entries self.old.puts)
-            (kept_in (edges_at self.new.readers.items) self.new.entries self.new.puts) }
+        ensures leaves { LeavesUntouched (Answers (F.post touched.now)) (kept_in (edges_to self.old.readers) self.old.entries self.old.puts)
+            (kept_in (edges_to self.new.readers) self.new.entries self.new.puts) }
+        ensures loses { LosesTouched (Answers (F.post touched.now)) (kept_in (edges_to self.old.readers) self.old.entries self.old.puts)
+            (kept_in (edges_to self.new.readers) self.new.entries self.new.puts) }
         ensures fewer { table_len self.new.entries ≤ table_len self.old.entries }
     {
-        take_out(&mut self.entries, self.readers.as_slice(), touched);
+        take_out(&mut self.entries, &self.readers, touched);
     }
 
     /// As `flush_at`: no more entries are left than there were.
     pub fn forget_at<F: Fn(Loc) -> bool>(&mut self, places: &Places<'_>, touched: &F)
         requires callable { F.IsAlwaysCallable touched.now }
         requires named { AreNamed places.now (F.post touched.now) }
-        ensures leaves { LeavesUntouched (Answers (F.post touched.now)) (kept_in (edges_at self.old.readers.items) self.old.entries self.old.puts)
-            (kept_in (edges_at self.new.readers.items) self.new.entries self.new.puts) }
-        ensures loses { LosesTouched (Answers (F.post touched.now)) (kept_in (edges_at self.old.readers.items) self.old.entries self.old.puts)
-            (kept_in (edges_at self.new.readers.items) self.new.entries self.new.puts) }
+        ensures leaves { LeavesUntouched (Answers (F.post touched.now)) (kept_in (edges_to self.old.readers) self.old.entries self.old.puts)
+            (kept_in (edges_to self.new.readers) self.new.entries self.new.puts) }
+        ensures loses { LosesTouched (Answers (F.post touched.now)) (kept_in (edges_to self.old.readers) self.old.entries self.old.puts)
+            (kept_in (edges_to self.new.readers) self.new.entries self.new.puts) }
         ensures fewer { table_len self.new.entries ≤ table_len self.old.entries }
     {
         take_out_at(
             &mut self.entries,
-            self.readers.as_slice(),
+            &self.readers,
             self.index_read.as_slice(),
             places,
             touched,
         );
     }
 
-    /// How many direct reads the entries have: of an entry a location once, however often it was put, and a node's class once for each
+    /// How many direct reads the entries have, each location as often as an edge tells of it: of an entry once, however
+    /// often it was put, but once for each of the entry's folds that go over it; and a node's class once for each
     /// location that is read next to it; or the greatest `usize` if they are more. It goes over all that was ever read.
     pub fn stored(&self) -> usize
-        ensures { result ≡ min (reads_held (memory_of self.now.entries) self.now.readers.items) (2 ^ 64 - 1) }
+        ensures { result ≡ min (reads_held (memory_of self.now.entries) self.now.readers) (2 ^ 64 - 1) }
     {
-        reads_held(&self.entries, self.readers.as_slice())
+        reads_held(&self.entries, &self.readers)
     }
 }
 
 impl Keeper for KeepRecorded {
-    ghost contents = { λ k. kept_in (edges_at k.readers.items) k.entries k.puts };
+    ghost contents = { λ k. kept_in (edges_to k.readers) k.entries k.puts };
 
     ghost exact = { true };
 
-    ghost memories = { λ k. record { traced = λ _. None; last = λ i. value_at (kept_in (edges_at k.readers.items) k.entries k.puts i) } };
+    ghost memories = { λ k. record { traced = λ _. None; last = λ i. value_at (kept_in (edges_to k.readers) k.entries k.puts i) } };
 
     ghost kept_last = { λ k i v kept. kept };
 

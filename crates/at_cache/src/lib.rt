@@ -2,7 +2,8 @@
 //! without a value stands only for what its instance rests on: those that use it need no locations of their own for that.
 //!
 //! **Its specs:** `Kept` has the laws that every keeper meets. Of the recording one, `Info` is what is kept by
-//! slots, `Edges` what a list of edges has, in `Rows`, `Readers` who read which location, `Recorded` what an entry stands for and how
+//! slots, `Edges` what a list of edges has, in `Rows`, `Readers` who read which location, `Runs` how one edge tells of
+//! many locations, `Finding` both, `Recorded` what an entry stands for and how
 //! it is found (`IsIndexed`), `Keeping` what the keeper keeps, `Placed` where entries stand, `Putting` one more, `Flushing` a flush under way and
 //! `Asking` where one begins, `Slots` single writes, `Attributes` of which attributes entries came, `Stored` how many locations are
 //! read. `Folding` is what becomes of entries that are folded into those that used them. `UntilEdit` is the keeper that forgets all at an
@@ -11,7 +12,8 @@
 //! `Settling` what is kept again, and `Blocking` what stands in its way.
 //!
 //! **Where to begin:** the trait in `keeper.rt`, then `keep_recorded.rt`: `table.rt` holds the entries,
-//! `row.rt` and `linking.rt` the edges; `putting.rt` is `put`, `forgetting.rt` a flush, `places.rt` one by places.
+//! `row.rt` and `linking.rt` the edges; `run.rt` has runs, of which one edge tells of many locations: `seating.rt` makes them, and
+//! `stretch.rt` adds to them; `putting.rt` is `put`, `forgetting.rt` a flush, `places.rt` one by places.
 //! `keep_at_most.rt` is a keeper over it, with a bound: beyond it entries are folded (`folding.rt`) by a plan that is chosen (`choosing.rt`) and
 //! tested (`checking.rt`); `lone.rt` tells which lists stay, `rewriting.rt` has their edges, `relinking.rt` the entries.
 //! `keep_cut_off.rt` is one whose entries stay in memory: `cut.rt` and `standing.rt` have them,
@@ -32,6 +34,7 @@ mod cutting;
 mod edge;
 mod entry;
 mod facet;
+mod facets;
 mod folding;
 mod forgetting;
 mod keep_at_most;
@@ -51,11 +54,14 @@ mod relinking;
 mod renewing;
 mod rewriting;
 mod row;
+mod run;
 mod scope;
+mod seating;
 mod settling;
 mod slots;
 mod standing;
 mod stored;
+mod stretch;
 mod table;
 
 pub use keep_at_most::KeepAtMost;

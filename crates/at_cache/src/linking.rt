@@ -16,15 +16,23 @@ ghost use Rattle.at_cache.specs.Info.{memory_of};
 ghost use Rattle.at_cache.specs.Kept.{node_at};
 ghost use Rattle.at_cache.specs.Putting.{AreListed, AreTaken, Keeps, Lists, Reads, Uses, reused, users_at};
 ghost use Rattle.at_cache.specs.Readers.{IsFirst, edges_among, edges_at, stands_for};
+ghost use Rattle.at_cache.specs.Finding.{edges_to};
+ghost use Rattle.at_cache.specs.Runs.{ListsBut, Stays};
 ghost use Rattle.at_cache.specs.Slots.{HasAdded, HasChanged, ListsAt, with_edges};
 
 use crate::edge::{Edge, Edges, Many, Several, Slot};
 use crate::facet::{Facet, Facets, Readers};
+use crate::facets::first_facet;
 use crate::noting::note;
 use crate::row::Row;
+use crate::run::AllReaders;
+use crate::stretch::{MANY, add_along, add_stretch, before_fold};
 use crate::table::Table;
 use at_store::{Loc, Node};
 use std::alloc::{AllocError, Global};
+
+// So often what is left of a fold is looked for in a run.
+const PARTS: usize = 3;
 
 // The row without the edges at its front that tell of no entry.
 fn trimmed(entries: &Table, row: Row) -> Row
@@ -420,59 +428,8 @@ fn add_user(alloc: Global, entries: &mut Table, slot: Slot, edge: Edge) -> Resul
     result
 }
 
-// Whether the location is the class of the node.
-fn is_class(location: Loc, node: Node) -> bool
-    ensures { IsTrue result → loc_view location ≡ Is node }
-{
-    match location {
-        Loc::Is(other) => other == node,
-        _ => false,
-    }
-}
-
-// What is left of these locations behind those at the front that are the class of the node.
-fn behind_class(node: Node, locations: &[Loc]) -> &[Loc]
-    ensures all { (l : Location ℕ) → Contains (map loc_view locations.now) l → (l ≡ Is node) ⊎ Contains (map loc_view result.now) l }
-    ensures rest { (l : Location ℕ) → Contains (map loc_view result.now) l → Contains (map loc_view locations.now) l }
-    ensures fewer { length result.now ≤ length locations.now }
-{
-    let mut rest = locations;
-    while let Some((next, left)) = rest.split_first() {
-        if !is_class(*next, node) {
-            return rest;
-        }
-        rest = left;
-    }
-    rest
-}
-
-// The facet of the node's class or, where they have one, of it and the first of these locations that isn't the class once more; with what
-// is left of them.
-fn facet_of_class(node: Node, rest: &[Loc]) -> Result<(Facet, &[Loc]), AllocError>
-    ensures { IfOk result (λ r. IsFirst (Is node ∷ map loc_view rest.now) node r.0 (map loc_view r.1.now)) }
-{
-    let rest = behind_class(node, rest);
-    let Some((next, left)) = rest.split_first() else {
-        return Ok((Facet::Is, rest));
-    };
-    match Facet::of_both(node, *next)? {
-        Some(facet) => Ok((facet, left)),
-        None => Ok((Facet::Is, rest)),
-    }
-}
-
-// The facet of the location or, where they have one, of it and the first of the others; with what is left of these.
-fn first_facet(location: Loc, others: &[Loc]) -> Result<(Facet, &[Loc]), AllocError>
-    ensures { IfOk result (λ r. IsFirst (loc_view location ∷ map loc_view others.now) (node_at (loc_view location)) r.0 (map loc_view r.1.now)) }
-{
-    match location {
-        Loc::Is(node) => facet_of_class(node, others),
-        _ => Ok((Facet::of(location)?, others)),
-    }
-}
-
-/// One more edge of each of these locations. The nodes whose index is among them are noted.
-pub fn add_readers(
+// One more edge of each of these locations, of its own. The nodes whose index is among them are noted.
+fn add_each(
     alloc: Global,
     entries: &Table,
     readers: &mut Vec<Facets>,
@@ -481,6 +438,7 @@ pub fn add_readers(
     edge: Edge,
 ) -> Result<(), AllocError>
     ensures reads { Reads (memory_of entries.now) edge (map loc_view locations.now) (edges_at readers.old.items) (edges_at readers.new.items) }
+    ensures stay { OnOk result (Stays edge (edges_at readers.old.items) (edges_at readers.new.items)) }
     ensures listed { OnOk result (AreListed edge (map loc_view locations.now) (edges_at readers.new.items)) }
     ensures noted { AreNoted (edges_at readers.old.items) index_read.old.items → AreNoted (edges_at readers.new.items) index_read.new.items }
     ensures short { length readers.old.items ≤ 2 ^ 32 → length readers.new.items ≤ 2 ^ 32 }
@@ -493,6 +451,113 @@ pub fn add_readers(
         rest = left;
     }
     Ok(())
+}
+
+// The same among all readers.
+fn add_own(
+    alloc: Global,
+    entries: &Table,
+    readers: &mut AllReaders,
+    index_read: &mut Vec<Node>,
+    locations: &[Loc],
+    edge: Edge,
+) -> Result<(), AllocError>
+    ensures reads { Reads (memory_of entries.now) edge (map loc_view locations.now) (edges_to readers.old) (edges_to readers.new) }
+    ensures stay { OnOk result (Stays edge (edges_to readers.old) (edges_to readers.new)) }
+    ensures listed { OnOk result (AreListed edge (map loc_view locations.now) (edges_to readers.new)) }
+    ensures noted { AreNoted (edges_to readers.old) index_read.old.items → AreNoted (edges_to readers.new) index_read.new.items }
+{
+    add_each(
+        alloc,
+        entries,
+        &mut readers.own,
+        index_read,
+        locations,
+        edge,
+    )
+}
+
+// How many locations at the front have one facet.
+fn first_width(locations: &[Loc]) -> Result<usize, AllocError>
+    ensures { IfOk result (λ width. width ≤ length locations.now) }
+{
+    let Some((location, others)) = locations.split_first() else {
+        return Ok(0);
+    };
+    let (_, left) = first_facet(*location, others)?;
+    Ok(locations.len() - left.len())
+}
+
+// One more edge for the first facet of these locations, and one for those behind it that sit in a run; what is left of them.
+fn add_further<'a>(
+    alloc: Global,
+    entries: &Table,
+    readers: &mut AllReaders,
+    index_read: &mut Vec<Node>,
+    locations: &'a [Loc],
+    edge: Edge,
+) -> Result<&'a [Loc], AllocError>
+    ensures reads { Reads (memory_of entries.now) edge (map loc_view locations.now) (edges_to readers.old) (edges_to readers.new) }
+    ensures stay { OnOk result (Stays edge (edges_to readers.old) (edges_to readers.new)) }
+    ensures listed { IfOk result (λ left. ListsBut edge (map loc_view locations.now) (map loc_view left.now) (edges_to readers.new)) }
+    ensures noted { AreNoted (edges_to readers.old) index_read.old.items → AreNoted (edges_to readers.new) index_read.new.items }
+{
+    let width = first_width(locations)?;
+    let (front, others) = locations.split_at(width);
+    add_own(alloc, entries, readers, index_read, front, edge)?;
+    add_along(entries, &mut readers.seats, &mut readers.runs, others, edge)
+}
+
+// The same, where those of a fold have one edge for each part of a run in which they lie.
+fn add_fold(
+    alloc: Global,
+    entries: &Table,
+    readers: &mut AllReaders,
+    index_read: &mut Vec<Node>,
+    locations: &[Loc],
+    edge: Edge,
+) -> Result<(), AllocError>
+    ensures reads { Reads (memory_of entries.now) edge (map loc_view locations.now) (edges_to readers.old) (edges_to readers.new) }
+    ensures listed { OnOk result (AreListed edge (map loc_view locations.now) (edges_to readers.new)) }
+    ensures noted { AreNoted (edges_to readers.old) index_read.old.items → AreNoted (edges_to readers.new) index_read.new.items }
+{
+    let place = before_fold(readers.seats.as_slice(), locations);
+    let (front, others) = locations.split_at(place);
+    add_own(alloc, entries, readers, index_read, front, edge)?;
+    let mut rest = add_stretch(
+        alloc,
+        entries,
+        &mut readers.seats,
+        &mut readers.runs,
+        others,
+        edge,
+    )?;
+    for _ in 0..PARTS {
+        if rest.is_empty() {
+            return Ok(());
+        }
+        rest = add_further(alloc, entries, readers, index_read, rest, edge)?;
+    }
+    add_own(alloc, entries, readers, index_read, rest, edge)
+}
+
+/// One more edge of each of these locations, or one for several. The nodes whose index is among them are noted.
+pub fn add_readers(
+    alloc: Global,
+    entries: &Table,
+    readers: &mut AllReaders,
+    index_read: &mut Vec<Node>,
+    locations: &[Loc],
+    edge: Edge,
+) -> Result<(), AllocError>
+    ensures reads { Reads (memory_of entries.now) edge (map loc_view locations.now) (edges_to readers.old) (edges_to readers.new) }
+    ensures listed { OnOk result (AreListed edge (map loc_view locations.now) (edges_to readers.new)) }
+    ensures noted { AreNoted (edges_to readers.old) index_read.old.items → AreNoted (edges_to readers.new) index_read.new.items }
+{
+    if locations.len() < MANY || !readers.has_runs {
+        return add_own(alloc, entries, readers, index_read, locations, edge);
+    }
+    add_fold(alloc, entries, readers, index_read, locations, edge)
 }
 
 /// One more edge to each of these entries that used this one.

@@ -7,48 +7,28 @@ ghost use Rattle.at_store.specs.Places.{is_index_among, is_node, named, names_ar
 ghost use Rattle.at_cache.specs.Asking.{AreNoted, GoesOn, sees};
 ghost use Rattle.at_cache.specs.Info.{memory_of, table_len};
 ghost use Rattle.at_cache.specs.Kept.{Answers, AreNamed, LeavesUntouched, LosesTouched};
-ghost use Rattle.at_cache.specs.Readers.{edges_at};
+ghost use Rattle.at_cache.specs.Finding.{edges_to};
 ghost use Rattle.at_cache.specs.Recorded.{IsIndexed, kept_in};
 
 use crate::edge::Slot;
-use crate::facet::Facets;
-use crate::forgetting::{begin_at, forget_all};
+use crate::forgetting::{begin_node, forget_all};
 use crate::marked::Marked;
+use crate::run::AllReaders;
 use crate::scope::Scope;
 use crate::table::Table;
 use at_store::{Changing, Loc, Node, Places};
-
-// What reads a touched location in the scope of the node goes: the first one that goes.
-fn begin_node<W: Marked, F: Fn(Loc) -> bool>(
-    entries: &mut W,
-    first: Option<Slot>,
-    readers: &[Facets],
-    node: Node,
-    scope: Scope,
-    touched: &F,
-) -> Option<Slot>
-    requires { F.IsAlwaysCallable touched.now }
-    ensures goes_on { GoesOn (Answers (F.post touched.now)) (sees scope node) (edges_at readers.now) first
-        (W.memory entries.old) result (W.memory entries.new) }
-    ensures aside { W.aside entries.new ≡ W.aside entries.old }
-{
-    match readers.get(node.index()) {
-        Some(list) => begin_at(entries, first, node, list.as_slice(), scope, touched),
-        None => first,
-    }
-}
 
 // So does what reads one in that scope of any of the nodes.
 fn begin_nodes<W: Marked, F: Fn(Loc) -> bool>(
     entries: &mut W,
     first: Option<Slot>,
-    readers: &[Facets],
+    readers: &AllReaders,
     nodes: &[Node],
     scope: Scope,
     touched: &F,
 ) -> Option<Slot>
     requires { F.IsAlwaysCallable touched.now }
-    ensures goes_on { GoesOn (Answers (F.post touched.now)) (λ l. list_any (λ n. sees scope n l) nodes.now) (edges_at readers.now) first
+    ensures goes_on { GoesOn (Answers (F.post touched.now)) (λ l. list_any (λ n. sees scope n l) nodes.now) (edges_to readers.now) first
         (W.memory entries.old) result (W.memory entries.new) }
     ensures aside { W.aside entries.new ≡ W.aside entries.old }
 {
@@ -64,14 +44,14 @@ fn begin_nodes<W: Marked, F: Fn(Loc) -> bool>(
 fn begin_children<W: Marked, F: Fn(Loc) -> bool>(
     entries: &mut W,
     first: Option<Slot>,
-    readers: &[Facets],
+    readers: &AllReaders,
     index_read: &[Node],
     children: &[Node],
     touched: &F,
 ) -> Option<Slot>
     requires callable { F.IsAlwaysCallable touched.now }
-    requires noted { AreNoted (edges_at readers.now) index_read.now }
-    ensures goes_on { GoesOn (Answers (F.post touched.now)) (is_index_among children.now) (edges_at readers.now) first
+    requires noted { AreNoted (edges_to readers.now) index_read.now }
+    ensures goes_on { GoesOn (Answers (F.post touched.now)) (is_index_among children.now) (edges_to readers.now) first
         (W.memory entries.old) result (W.memory entries.new) }
     ensures aside { W.aside entries.new ≡ W.aside entries.old }
 {
@@ -87,14 +67,14 @@ fn begin_children<W: Marked, F: Fn(Loc) -> bool>(
 fn begin_around<W: Marked, F: Fn(Loc) -> bool>(
     entries: &mut W,
     first: Option<Slot>,
-    readers: &[Facets],
+    readers: &AllReaders,
     index_read: &[Node],
     changing: &Option<Changing<'_>>,
     touched: &F,
 ) -> Option<Slot>
     requires callable { F.IsAlwaysCallable touched.now }
-    requires noted { AreNoted (edges_at readers.now) index_read.now }
-    ensures goes_on { GoesOn (Answers (F.post touched.now)) (names_around changing.now) (edges_at readers.now) first
+    requires noted { AreNoted (edges_to readers.now) index_read.now }
+    ensures goes_on { GoesOn (Answers (F.post touched.now)) (names_around changing.now) (edges_to readers.now) first
         (W.memory entries.old) result (W.memory entries.new) }
     ensures aside { W.aside entries.new ≡ W.aside entries.old }
 {
@@ -111,12 +91,12 @@ fn begin_around<W: Marked, F: Fn(Loc) -> bool>(
 fn begin_moved<W: Marked, F: Fn(Loc) -> bool>(
     entries: &mut W,
     first: Option<Slot>,
-    readers: &[Facets],
+    readers: &AllReaders,
     moved: Option<Node>,
     touched: &F,
 ) -> Option<Slot>
     requires { F.IsAlwaysCallable touched.now }
-    ensures goes_on { GoesOn (Answers (F.post touched.now)) (λ l. is_node moved (node_of l)) (edges_at readers.now) first
+    ensures goes_on { GoesOn (Answers (F.post touched.now)) (λ l. is_node moved (node_of l)) (edges_to readers.now) first
         (W.memory entries.old) result (W.memory entries.new) }
     ensures aside { W.aside entries.new ≡ W.aside entries.old }
 {
@@ -129,14 +109,14 @@ fn begin_moved<W: Marked, F: Fn(Loc) -> bool>(
 /// What reads a touched location that the places name goes: the first one that goes.
 pub fn begin_named<W: Marked, F: Fn(Loc) -> bool>(
     entries: &mut W,
-    readers: &[Facets],
+    readers: &AllReaders,
     index_read: &[Node],
     places: &Places<'_>,
     touched: &F,
 ) -> Option<Slot>
     requires callable { F.IsAlwaysCallable touched.now }
-    requires noted { AreNoted (edges_at readers.now) index_read.now }
-    ensures goes_on { GoesOn (Answers (F.post touched.now)) (named places.now) (edges_at readers.now) None
+    requires noted { AreNoted (edges_to readers.now) index_read.now }
+    ensures goes_on { GoesOn (Answers (F.post touched.now)) (named places.now) (edges_to readers.now) None
         (W.memory entries.old) result (W.memory entries.new) }
     ensures aside { W.aside entries.new ≡ W.aside entries.old }
 {
@@ -150,20 +130,20 @@ pub fn begin_named<W: Marked, F: Fn(Loc) -> bool>(
 /// which an entry read the index.
 pub fn take_out_at<F: Fn(Loc) -> bool>(
     entries: &mut Table,
-    readers: &[Facets],
+    readers: &AllReaders,
     index_read: &[Node],
     places: &Places<'_>,
     touched: &F,
 )
     requires callable { F.IsAlwaysCallable touched.now }
     requires named { AreNamed places.now (F.post touched.now) }
-    requires noted { AreNoted (edges_at readers.now) index_read.now }
-    ensures indexed { (puts : ℕ) → IsIndexed (edges_at readers.now) puts (memory_of entries.old)
-        → IsIndexed (edges_at readers.now) puts (memory_of entries.new) }
-    ensures leaves { (puts : ℕ) → IsIndexed (edges_at readers.now) puts (memory_of entries.old)
-        → LeavesUntouched (Answers (F.post touched.now)) (kept_in (edges_at readers.now) entries.old puts) (kept_in (edges_at readers.now) entries.new puts) }
-    ensures loses { (puts : ℕ) → IsIndexed (edges_at readers.now) puts (memory_of entries.old)
-        → LosesTouched (Answers (F.post touched.now)) (kept_in (edges_at readers.now) entries.old puts) (kept_in (edges_at readers.now) entries.new puts) }
+    requires noted { AreNoted (edges_to readers.now) index_read.now }
+    ensures indexed { (puts : ℕ) → IsIndexed (edges_to readers.now) puts (memory_of entries.old)
+        → IsIndexed (edges_to readers.now) puts (memory_of entries.new) }
+    ensures leaves { (puts : ℕ) → IsIndexed (edges_to readers.now) puts (memory_of entries.old)
+        → LeavesUntouched (Answers (F.post touched.now)) (kept_in (edges_to readers.now) entries.old puts) (kept_in (edges_to readers.now) entries.new puts) }
+    ensures loses { (puts : ℕ) → IsIndexed (edges_to readers.now) puts (memory_of entries.old)
+        → LosesTouched (Answers (F.post touched.now)) (kept_in (edges_to readers.now) entries.old puts) (kept_in (edges_to readers.now) entries.new puts) }
     ensures fewer { table_len entries.new ≤ table_len entries.old }
 {
     let first = begin_named(entries, readers, index_read, places, touched);

@@ -10,30 +10,31 @@ ghost use Rattle.at_cache.specs.Asking.{AreNoted};
 ghost use Rattle.at_cache.specs.Info.{info, memory_of};
 ghost use Rattle.at_cache.specs.Kept.{HasPut, KeepsAll};
 ghost use Rattle.at_cache.specs.Putting.{AreTaken, fresh_entry};
-ghost use Rattle.at_cache.specs.Readers.{edges_at};
+ghost use Rattle.at_cache.specs.Finding.{edges_to};
 ghost use Rattle.at_cache.specs.Recorded.{AreOf, IsIndexed, kept_in};
 ghost use Rattle.at_cache.specs.Theirs.{AreTheirs};
 
 use crate::edge::{Edge, Edges};
 use crate::entry::{Entry, Links};
-use crate::facet::Facets;
 use crate::keeper::Put;
 use crate::linking::{add_readers, add_users};
 use crate::mark::Mark;
+use crate::run::AllReaders;
 use crate::table::Table;
 use at_body::{Inst, Value};
 use at_store::{Loc, Node};
 use std::alloc::{AllocError, Global};
 
-/// The slots of these instances.
+/// The slots of these instances. Mostly they came last, one behind the other, as their evaluations ended.
 pub fn slots_of(alloc: Global, entries: &Table, uses: &[Inst]) -> Result<Links, AllocError>
     ensures taken { IfOk result (λ slots. AreTaken (memory_of entries.now) slots.items) }
     ensures covers { IfOk result (λ slots. AreOf entries.now uses.now slots.items) }
     ensures theirs { IfOk result (λ slots. AreTheirs entries.now uses.now slots.items) }
 {
     let mut slots = Links::with_capacity(alloc, uses.len())?;
+    let first = entries.entries.len().saturating_sub(uses.len());
     for used in uses {
-        if let Some(entry) = entries.entries.get(used) {
+        if let Some(entry) = entries.get_near(used, first.saturating_add(slots.len())) {
             slots.push(entry.slot)?;
         }
     }
@@ -59,7 +60,7 @@ pub fn fresh(value: Option<Value>, links: Links, edge: Edge) -> Entry
 pub fn enter_with(
     alloc: Global,
     entries: &mut Table,
-    readers: &mut Vec<Facets>,
+    readers: &mut AllReaders,
     index_read: &mut Vec<Node>,
     stamp: u64,
     inst: Inst,
@@ -68,15 +69,14 @@ pub fn enter_with(
     uses: &[Inst],
 ) -> Result<Put, AllocError>
     requires absent { lookup (same_instance inst) entries.old.entries.entries ≡ None }
-    ensures indexed { IsIndexed (edges_at readers.old.items) stamp (memory_of entries.old)
-        → IsIndexed (edges_at readers.new.items) (stamp + 1) (memory_of entries.new) }
-    ensures noted { AreNoted (edges_at readers.old.items) index_read.old.items → AreNoted (edges_at readers.new.items) index_read.new.items }
-    ensures short { length readers.old.items ≤ 2 ^ 32 → length readers.new.items ≤ 2 ^ 32 }
-    ensures puts { IsIndexed (edges_at readers.old.items) stamp (memory_of entries.old)
-        → IfOk result (HasPut true (kept_in (edges_at readers.old.items) entries.old stamp) inst (option_map value_view value) (map loc_view reads.now)
-        uses.now (kept_in (edges_at readers.new.items) entries.new (stamp + 1))) }
-    ensures err { IsIndexed (edges_at readers.old.items) stamp (memory_of entries.old)
-        → OnErr result (KeepsAll (kept_in (edges_at readers.old.items) entries.old stamp) (kept_in (edges_at readers.new.items) entries.new (stamp + 1))) }
+    ensures indexed { IsIndexed (edges_to readers.old) stamp (memory_of entries.old)
+        → IsIndexed (edges_to readers.new) (stamp + 1) (memory_of entries.new) }
+    ensures noted { AreNoted (edges_to readers.old) index_read.old.items → AreNoted (edges_to readers.new) index_read.new.items }
+    ensures puts { IsIndexed (edges_to readers.old) stamp (memory_of entries.old)
+        → IfOk result (HasPut true (kept_in (edges_to readers.old) entries.old stamp) inst (option_map value_view value) (map loc_view reads.now)
+        uses.now (kept_in (edges_to readers.new) entries.new (stamp + 1))) }
+    ensures err { IsIndexed (edges_to readers.old) stamp (memory_of entries.old)
+        → OnErr result (KeepsAll (kept_in (edges_to readers.old) entries.old stamp) (kept_in (edges_to readers.new) entries.new (stamp + 1))) }
 {
     let links = slots_of(alloc, entries, uses)?;
     let slot = entries.next()?;

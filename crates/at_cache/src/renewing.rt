@@ -9,7 +9,7 @@ ghost use Rattle.at_cache.specs.Flushing.{IsIdle};
 ghost use Rattle.at_cache.specs.Info.{Info, info, memory_of};
 ghost use Rattle.at_cache.specs.Kept.{AreKept, HasPut, KeepsAll};
 ghost use Rattle.at_cache.specs.Putting.{fresh_entry};
-ghost use Rattle.at_cache.specs.Readers.{edges_at};
+ghost use Rattle.at_cache.specs.Finding.{edges_to};
 ghost use Rattle.at_cache.specs.Recorded.{IsIndexed};
 ghost use Rattle.at_cache.specs.Renewing.{Compares, IsSlotFor, LosesUsers, PutsIn};
 ghost use Rattle.at_cache.specs.Standings.{AreValued, IsTied, held, kept_held, remembered};
@@ -19,10 +19,10 @@ use crate::cut::{Cut, Pass};
 use crate::cutting::{doom_users, forget_all, take_from};
 use crate::edge::{Edge, Slot};
 use crate::entry::Entry;
-use crate::facet::Facets;
 use crate::keeper::{Order, Put};
 use crate::linking::{add_readers, add_users};
 use crate::putting::{fresh, slots_of};
+use crate::run::AllReaders;
 use crate::standing::{Standing, make_standing, set_standing};
 use crate::table::Table;
 use at_body::{Inst, Value};
@@ -107,7 +107,7 @@ fn put_in(cut: &mut Cut, inst: Inst, entry: Entry) -> Result<(), AllocError>
 pub fn enter_held(
     alloc: Global,
     cut: &mut Cut,
-    readers: &mut Vec<Facets>,
+    readers: &mut AllReaders,
     index_read: &mut Vec<Node>,
     stamp: u64,
     inst: Inst,
@@ -116,24 +116,23 @@ pub fn enter_held(
     uses: &[Inst],
     order: Order,
 ) -> Result<Put, AllocError>
-    requires absent { kept_held (edges_at readers.old.items) cut.old.entries cut.old.standings.items stamp inst ≡ None }
-    requires present { AreKept (kept_held (edges_at readers.old.items) cut.old.entries cut.old.standings.items stamp) uses.now }
-    requires indexed { IsIndexed (edges_at readers.old.items) stamp (held cut.old.standings.items (memory_of cut.old.entries)) }
-    requires tied { IsTied (edges_at readers.old.items) stamp (memory_of cut.old.entries) }
+    requires absent { kept_held (edges_to readers.old) cut.old.entries cut.old.standings.items stamp inst ≡ None }
+    requires present { AreKept (kept_held (edges_to readers.old) cut.old.entries cut.old.standings.items stamp) uses.now }
+    requires indexed { IsIndexed (edges_to readers.old) stamp (held cut.old.standings.items (memory_of cut.old.entries)) }
+    requires tied { IsTied (edges_to readers.old) stamp (memory_of cut.old.entries) }
     requires valued { AreValued cut.old.standings.items (memory_of cut.old.entries) }
-    ensures indexed { IsIndexed (edges_at readers.new.items) (stamp + 1) (held cut.new.standings.items (memory_of cut.new.entries)) }
-    ensures tied { IsTied (edges_at readers.new.items) (stamp + 1) (memory_of cut.new.entries) }
+    ensures indexed { IsIndexed (edges_to readers.new) (stamp + 1) (held cut.new.standings.items (memory_of cut.new.entries)) }
+    ensures tied { IsTied (edges_to readers.new) (stamp + 1) (memory_of cut.new.entries) }
     ensures valued { AreValued cut.new.standings.items (memory_of cut.new.entries) }
-    ensures noted { AreNoted (edges_at readers.old.items) index_read.old.items → AreNoted (edges_at readers.new.items) index_read.new.items }
-    ensures short { length readers.old.items ≤ 2 ^ 32 → length readers.new.items ≤ 2 ^ 32 }
-    ensures puts { IfOk result (HasPut true (kept_held (edges_at readers.old.items) cut.old.entries cut.old.standings.items stamp) inst
+    ensures noted { AreNoted (edges_to readers.old) index_read.old.items → AreNoted (edges_to readers.new) index_read.new.items }
+    ensures puts { IfOk result (HasPut true (kept_held (edges_to readers.old) cut.old.entries cut.old.standings.items stamp) inst
         (option_map value_view value) (map loc_view reads.now) uses.now
-        (kept_held (edges_at readers.new.items) cut.new.entries cut.new.standings.items (stamp + 1))) }
-    ensures err { OnErr result (KeepsAll (kept_held (edges_at readers.old.items) cut.old.entries cut.old.standings.items stamp)
-        (kept_held (edges_at readers.new.items) cut.new.entries cut.new.standings.items (stamp + 1))) }
+        (kept_held (edges_to readers.new) cut.new.entries cut.new.standings.items (stamp + 1))) }
+    ensures err { OnErr result (KeepsAll (kept_held (edges_to readers.old) cut.old.entries cut.old.standings.items stamp)
+        (kept_held (edges_to readers.new) cut.new.entries cut.new.standings.items (stamp + 1))) }
     ensures traces { PutsTrace inst (option_map value_view value) (map loc_view reads.now) uses.now order
-        (remembered (edges_at readers.old.items) cut.old.entries cut.old.standings.items)
-        (remembered (edges_at readers.new.items) cut.new.entries cut.new.standings.items) }
+        (remembered (edges_to readers.old) cut.old.entries cut.old.standings.items)
+        (remembered (edges_to readers.new) cut.new.entries cut.new.standings.items) }
 {
     let links = slots_of(alloc, &cut.entries, uses)?;
     let slot = slot_for(&cut.entries, &inst)?;

@@ -68,6 +68,18 @@ impl Table {
         self.entries.get(instance)
     }
 
+    /// The entry of the instance, which may stand at that place.
+    pub fn get_near(&self, instance: &Inst, place: usize) -> Option<&Entry>
+        ensures value { option_copied result ≡ lookup (same_instance instance.now) self.now.entries.entries }
+    {
+        if let Some(pair) = self.entries.get_index(place) {
+            if *pair.0 == *instance {
+                return Some(pair.1);
+            }
+        }
+        self.entries.get(instance)
+    }
+
     /// The entry in the slot.
     pub fn pair(&self, slot: Slot) -> Option<(&Inst, &Entry)>
         ensures { option_map (λ e. (e.0.now, e.1.now)) result ≡ at self.now.entries.entries (get self.now.places) slot }

@@ -14,6 +14,16 @@ use Rattle.at_demand.specs.Sparing.{AddsWorthy, HasWorthy, AreGained, Counts, Is
 use Rattle.at_demand.proofs.Entered.{entered_on, is_there, kept_on, not_none, value_on}
 use Rattle.at_demand.proofs.Sameness.{same_true, same_refl}
 
+-- what is counted from nothing, and added then
+pub counted_more : (w n x y : ℕ) → x ≡ min (0 + n) (2 ^ 64 - 1) → y ≡ min (w + x) (2 ^ 64 - 1) → y ≡ min (w + n) (2 ^ 64 - 1)
+counted_more w n x y count sum = omega (arith, count, sum)
+
+pub counted_none : (n x : ℕ) → x ≡ min (0 + n) (2 ^ 64 - 1) → x ≡ 0 → n ≡ 0
+counted_none n x count none = omega (arith, count, none)
+
+pub counted_still : (w n : ℕ) → w < 2 ^ 64 → n ≡ 0 → w ≡ min (w + n) (2 ^ 64 - 1)
+counted_still w n few none = omega (arith, few, none)
+
 module _ (old new : Entries) where
   gains_none : KeepsEntries old new → ((i : Instance ℕ) → kept_values new i ≡ kept_values old i) → AreGained old new []
   gains_none stays same = record {

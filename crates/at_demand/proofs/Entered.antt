@@ -1,6 +1,6 @@
 -- Entries with a value and without one.
-use Rattle.std.proofs.Common.{◌≡◌, ℕ, Bool, true, false, List, Option, Some, None, refl, sym, ap, ◌∙◌, subst, if◌then◌else◌, true≢false}
-use Rattle.std.specs.Prelude.{IsSome, is_some}
+use Rattle.std.proofs.Common.{◌≡◌, ℕ, Bool, true, false, List, Option, Some, None, Result, Ok, Err, IfOk, refl, sym, ap, ◌∙◌, subst, if◌then◌else◌, true≢false}
+use Rattle.std.specs.Prelude.{IfNone, IsSome, is_some}
 use Rattle.at_model.specs.Run.{Value, Instance}
 use Rattle.at_model.specs.Rules.{Rules, is_lazy}
 use Rattle.at_body.specs.Same.{same_instance}
@@ -25,6 +25,13 @@ module _ {A : Type 0} where
   pub not_none : (o : Option A) → IsSome o → o ≡ None → ⊥
   not_none None some e = absurd (true≢false (sym some))
   not_none (Some a) some e = absurd cc
+
+-- what holds where nothing is there, under a condition that is met
+pub none_where : {A E : Type 0} (r : Result (Option A) E) (P Q : Type 0) → P → IfOk r (λ o. IfNone o (P → Q)) →
+    IfOk r (λ o. IfNone o Q)
+none_where (Ok None) P Q is h = h is
+none_where (Ok (Some a)) P Q is h = tt
+none_where (Err e) P Q is h = tt
 
 -- what has a value is there
 value_there : (o : Option Kept) → IsSome (value_at o) → IsSome o

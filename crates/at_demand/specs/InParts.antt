@@ -1,5 +1,5 @@
 -- Evaluations in one go, part by part: what an expression comes to, and what comes to what is kept meanwhile.
-use Rattle.std.specs.Prelude.{◌≡◌, ℕ, Bool, List, ◌++◌, [], Option, None, Some, false, IsSome, IsTrue, IfOk, OnOk, Result}
+use Rattle.std.specs.Prelude.{◌≡◌, ℕ, Bool, List, ◌++◌, [], Option, None, Some, false, true, IsSome, IsTrue, IfNone, IfOk, OnOk, Result}
 use Rattle.at_model.specs.Run.{Value, Instance, Location, Contents, Known, Run, Gives, Demands}
 use Rattle.at_model.specs.Classes.{Classes}
 use Rattle.at_model.specs.Rules.{Rules, is_inherited, is_lazy}
@@ -45,6 +45,10 @@ values_in h = known_by h.entries h.found
 pub record IsHeld (rules : Rules) (look : Contents ℕ) (h : Held) : Type 0 where
   pub known : AreKnown rules look h.entries h.found
   pub justified : AreJustified rules look h.memories
+
+-- no value of the instance is kept
+abbrev pub IsUnkept : Held → Instance ℕ → Type 0
+IsUnkept h i = kept_values h.entries i ≡ None
 
 -- the demand of an instance
 abbrev pub demand : Instance ℕ → Run ℕ (Value ℕ)
@@ -110,11 +114,22 @@ pub record IsHeldFor (rules : Rules) (look : Contents ℕ) (h : Held) (lazily : 
   pub lazy : is_lazy rules i.attribute ≡ lazily
   pub held : IsHeld rules look h
 
+-- all is right, for a lazy instance of which no value is kept
+pub record IsHeldAfresh (rules : Rules) (look : Contents ℕ) (h : Held) (i : Instance ℕ) : Type 0 where
+  pub lazy : is_lazy rules i.attribute ≡ true
+  pub unkept : IsUnkept h i
+  pub held : IsHeld rules look h
+
 -- and its evaluation has come to v, with what stands with the level
 pub record IsEvaluatedFor (rules : Rules) (look : Contents ℕ) (h : Held) (lazily : Bool) (i : Instance ℕ) (v : Value ℕ) (below : Level) : Type 0 where
   pub lazy : is_lazy rules i.attribute ≡ lazily
   pub held : IsHeld rules look h
   pub come : IsEvaluated rules look (values_in h) i v below.reads below.uses.items
+
+-- a lazy one that has no entry was evaluated so
+pub record IsEvaluatedAfresh (rules : Rules) (look : Contents ℕ) (h : Held) (i : Instance ℕ) (v : Value ℕ) (below : Level) : Type 0 where
+  pub absent : h.entries i ≡ None
+  pub evaluated : IsEvaluatedFor rules look h true i v below
 
 -- the instance is told what comes out, and what was held has grown for it
 pub record EndsTold {E : Type 0} (rules : Rules) (s : Shown) (exact : Bool) (i : Instance ℕ) (old new : Held) (before after : Level)
@@ -128,16 +143,19 @@ pub record EndsTaken {A E : Type 0} (rules : Rules) (s : Shown) (exact : Bool) (
   pub told : OnOk r (HasTold rules (contents s) (values_in new) before after i v)
   pub grown : HasGrown rules s exact i old new
 
--- and where it may be known
+-- and where it may be known; else no value of it is kept
 pub record EndsRecalled {E : Type 0} (rules : Rules) (s : Shown) (exact : Bool) (i : Instance ℕ) (old new : Held) (before after : Level)
     (r : Result (Option ValueCode) E) : Type 0 where
   pub recalled : IfOk r (HasRecalled rules (contents s) (values_in new) before after i)
+  pub unkept : IfOk r (λ o. IfNone o (IsUnkept new i))
   pub grown : HasGrown rules s exact i old new
 
--- the evaluation of the instance comes to what comes out, and what was held has grown for it
+-- The evaluation of the instance comes to what comes out, and what was held has grown for it. If it comes to a value, none came to be kept
+-- of the instance itself.
 pub record EndsEvaluated {E : Type 0} (rules : Rules) (s : Shown) (exact : Bool) (i : Instance ℕ) (old new : Held) (before after : Level)
     (r : Result ValueCode E) : Type 0 where
   pub come : IfOk r (λ v. HasCome rules (contents s) new before after (meaning rules i) (value_view v))
+  pub unkept : OnOk r (IsUnkept old i → IsUnkept new i)
   pub grown : HasGrown rules s exact i old new
 
 -- the evaluation r of an expression comes to the view of what comes out, and what was held has gained what r demands

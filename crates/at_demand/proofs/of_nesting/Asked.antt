@@ -1,18 +1,24 @@
 -- What an instance is told where its evaluation in one go has come to its value, and what came to what is kept for it.
-use Rattle.std.proofs.Common.{◌≡◌, ℕ, Bool, false, List, [], ◌++◌, drop, length, take, ◌+◌, ap, sym, ◌∙◌, subst}
+use Rattle.std.proofs.Common.{◌≡◌, ℕ, Bool, false, List, [], ◌++◌, drop, length, take, ◌+◌, Option, None, Some, Result, Ok, Err, IfOk, OnOk, refl, ap, sym, ◌∙◌, subst}
 use Rattle.std.proofs.Math.Seq.{take-append_seam, drop-append_seam}
 use Rattle.std.proofs.lemmas.List.{length-append}
 use Rattle.at_model.specs.Run.{Value, Instance, Location}
 use Rattle.at_model.specs.Rules.{Rules, is_lazy}
+use Rattle.at_model.specs.Meaning.{HasValue}
+use Rattle.at_model.proofs.of_nesting.Nesting.{evaluates_value, waits_apart}
 use Rattle.at_store.specs.Shown.{Shown, IsIdle, contents}
+use Rattle.at_body.specs.Values.{value_view}
+use Rattle.at_body.specs.declared.value.Value.{Value as ValueCode}
 use Rattle.at_demand.specs.declared.direct.Level.{Level}
-use Rattle.at_demand.specs.Known.{meaning}
-use Rattle.at_demand.specs.Inner.{Gains, HasTold, IsEvaluated}
-use Rattle.at_demand.specs.InParts.{HasCome, HasGained, Held, values_in}
+use Rattle.at_demand.specs.Known.{meaning, kept_values}
+use Rattle.at_demand.specs.Inner.{Gains, HasTold, IsEvaluated, is_inner}
+use Rattle.at_demand.specs.InParts.{HasCome, HasGained, Held, IsUnkept, values_in}
 use Rattle.at_demand.specs.Traces.{StayJustified}
+use Rattle.at_demand.proofs.Entered.{is_there}
 use Rattle.at_demand.proofs.Leading.{leads_on}
 use Rattle.at_demand.proofs.There.{led_there}
 use Rattle.at_demand.proofs.of_nesting.InnerGains.{leads_next, told_inner}
+use Rattle.at_demand.proofs.of_nesting.Remembered.{right_by}
 
 module _ (rules : Rules) (s : Shown) (exact : Bool) where
   -- what came for the evaluation of an instance came for the instance
@@ -43,6 +49,30 @@ module _ (rules : Rules) (s : Shown) (exact : Bool) where
     justified = h.right.justified;
     there = λ there all. h.there (λ m d. led_there rules s idle i m there (leads_next rules (contents s) i m d)) all;
   }
+
+  -- no value of an instance that comes to one itself came for its evaluation: nothing that this demands leads to the instance
+  pub unkept_evaluated : (i : Instance ℕ) (v : Value ℕ) (old new : Held) (before after : Level) →
+      HasGained rules s exact (meaning rules i) old new →
+      HasCome rules (contents s) new before after (meaning rules i) v → IsUnkept old i → IsUnkept new i
+  unkept_evaluated i v old new before after g come none = by (kept_values new.entries i) refl
+    where
+      has : HasValue (contents s) (meaning rules) i v
+      has = evaluates_value (contents s) (meaning rules) (values_in new)
+          (right_by rules (contents s) new.entries new.found g.right.known) (is_inner rules) come.depth i v come.looks
+          come.takes come.evaluates
+
+      by : (o : Option (Value ℕ)) → kept_values new.entries i ≡ o → kept_values new.entries i ≡ None
+      by None is = is
+      by (Some w) is =
+          let (m, demanded, worth) = g.worthy i none (is_there (kept_values new.entries i) w is) in
+          absurd (waits_apart (contents s) (meaning rules) i m [] v demanded worth.reached has)
+
+  pub unkept_result : {E : Type 0} (r : Result ValueCode E) (i : Instance ℕ) (old new : Held) (before after : Level) →
+      HasGained rules s exact (meaning rules i) old new →
+      IfOk r (λ v. HasCome rules (contents s) new before after (meaning rules i) (value_view v)) →
+      OnOk r (IsUnkept old i → IsUnkept new i)
+  unkept_result (Ok v) i old new before after g come = unkept_evaluated i (value_view v) old new before after g come
+  unkept_result (Err e) i old new before after g come = tt
 
   module _ (h : Held) (old new : Level) (i : Instance ℕ) (v : Value ℕ)
       (come : HasCome rules (contents s) h old new (meaning rules i) v) where

@@ -1,11 +1,12 @@
 -- What grows while an evaluation in one go goes on: how it begins, goes on, and counts for who asks, and what is kept or remembered.
 use Rattle.std.proofs.Common.{◌≡◌, ℕ, ◌<◌, ◌+◌, ◌-◌, ◌^◌, min, Bool, true, false, List, Option, Some, None, inl, inr, refl, sym, subst}
 use Rattle.std.specs.Option.{IfSome}
-use Rattle.std.specs.Prelude.{IsSome, IsTrue}
+use Rattle.std.specs.Prelude.{◌≢◌, IsSome, IsTrue}
 use Rattle.indexmap.specs.IndexMap.{insert_entry}
 use Rattle.at_model.specs.Run.{Instance, Location, Value}
 use Rattle.at_model.specs.Rules.{Rules, is_lazy}
 use Rattle.at_model.specs.Meaning.{HasValue, Leads}
+use Rattle.at_model.proofs.of_nesting.Nesting.{waits_apart}
 use Rattle.at_store.specs.Shown.{Shown, IsIdle, contents}
 use Rattle.at_body.specs.Same.{same_instance}
 use Rattle.at_body.specs.Values.{value_view}
@@ -16,10 +17,11 @@ use Rattle.at_cache.specs.declared.keeper.Order.{Order}
 use Rattle.at_cache.specs.declared.keeper.Order.TheVariants as order
 use Rattle.at_cache.specs.declared.keeper.Put.{Put}
 use Rattle.at_demand.specs.declared.direct.Level.{Level}
-use Rattle.at_demand.specs.Known.{meaning}
+use Rattle.at_demand.specs.Known.{kept_values, meaning}
 use Rattle.at_demand.specs.Inner.{AreLazy, Gains, known_by}
-use Rattle.at_demand.specs.InParts.{HasGained, HasGrown, Held, IsEvaluatedFor, IsHeld, held}
-use Rattle.at_demand.specs.Sparing.{Counts}
+use Rattle.at_demand.specs.InParts.{HasGained, HasGrown, Held, IsEvaluatedFor, IsHeld, IsUnkept, held}
+use Rattle.at_demand.specs.Sparing.{Counts, IsWorthKeeping}
+use Rattle.at_demand.proofs.Entered.{is_there}
 use Rattle.at_demand.proofs.of_nesting.Asked.{gains_evaluated, traced_evaluated}
 use Rattle.at_demand.proofs.of_nesting.InnerGains.{Found, counts_shared_so, gains_as, gains_more, gains_none, gains_put_so, gains_same, gains_then, gains_up, more_known, valued}
 use Rattle.at_demand.proofs.of_traces.Putting.{put_traced, stays_put, traced_on, traced_same, traced_then, traced_up}
@@ -69,6 +71,28 @@ grown_aside {rules} {s} {exact} {i} {j} {old} {new} {entries} {m} {f} {g} {w} {x
     let leads : Leads (contents s) (meaning rules) i j =
     subst (λ (p : Option (Instance ℕ)). IfSome p (Leads (contents s) (meaning rules) i)) is led in
     grown_then a (grown_up idle leads (grown_from e d b))
+
+-- no value came of the instance itself, where that is another one
+pub unkept_aside : {rules : Rules} {s : Shown} {exact : Bool} (i : Instance ℕ) {j : Instance ℕ} {old new : Held}
+    {o : Option (Instance ℕ)} → o ≡ Some j → IfSome o (Leads (contents s) (meaning rules) i) → IfSome o (λ m. m ≢ i) →
+    HasGrown rules s exact j old new → IsUnkept old i → IsUnkept new i
+unkept_aside {rules} {s} {exact} i {j} {old} {new} {o} is led other a none = by (kept_values new.entries i) refl
+  where
+    apart : j ≢ i
+    apart = subst (λ (p : Option (Instance ℕ)). IfSome p (λ m. m ≢ i)) is other
+
+    leads : Leads (contents s) (meaning rules) i j
+    leads = subst (λ (p : Option (Instance ℕ)). IfSome p (Leads (contents s) (meaning rules) i)) is led
+
+    back : IsWorthKeeping rules (contents s) j i → Leads (contents s) (meaning rules) i j → ⊥
+    back worth (inl same) = apart (sym same)
+    back worth (inr (ms, walks)) =
+        waits_apart (contents s) (meaning rules) i j ms worth.value walks worth.reached worth.has
+
+    by : (v : Option (Value ℕ)) → kept_values new.entries i ≡ v → kept_values new.entries i ≡ None
+    by None same = same
+    by (Some w) same =
+        absurd (back (a.gains.worthy.worthy i none (is_there (kept_values new.entries i) w same)) leads)
 
 -- what can be kept again is kept, and counted
 pub grown_settled : (rules : Rules) (s : Shown) → IsIdle s → (exact : Bool) (i : Instance ℕ) (old : Held) (entries : Entries)

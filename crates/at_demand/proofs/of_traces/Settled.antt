@@ -24,6 +24,9 @@ use Rattle.at_demand.proofs.of_nesting.Remembered.{kept_now}
 use Rattle.at_demand.proofs.of_traces.Justified.{contains_of}
 use Rattle.at_demand.proofs.of_traces.SameWay.{AreAlike, evaluates_same, takes_next}
 
+no_more : (n : ℕ) → suc n ≡ 0 → ⊥
+no_more n e = omega (arith, e)
+
 -- a predicate that says just what stands in a list
 same_reads : (reads : Location ℕ → Bool) (ls : List (Location ℕ)) → ((l : Location ℕ) → Among l ls → reads l ≡ true) →
     ((l : Location ℕ) → reads l ≡ true → Among l ls) → (l : Location ℕ) → reads l ≡ list_any (same_location l) ls
@@ -45,6 +48,12 @@ puts_list : (exact : Bool) (old new : Entries) (i : Instance ℕ) (v : Value ℕ
 puts_list exact old new i v reads ls us same puts =
     let is : reads ≡ (λ l. list_any (same_location l) ls) = λ k l. same l k in
     subst (λ (r : Location ℕ → Bool). PutsBy exact old i (Some v) r us new) is puts
+
+-- where none came all is as it was
+pub settled_none : (exact : Bool) (m : Memories) (q : Instance ℕ) (n : ℕ) (old new : Entries) →
+    Settled exact m q n old new → n ≡ 0 → new ≡ old
+settled_none exact m q _ old _ (nothing _) none = refl
+settled_none exact m q _ old new (one_more n _ mid _ i t before next is absent all p) none = absurd (no_more n none)
 
 -- of what is kept the value is the last one
 abbrev pub LastKept : Memories → Entries → Type 0

@@ -11,7 +11,7 @@ ghost use Rattle.at_body.specs.Values.{value_view};
 ghost use Rattle.at_apply.specs.Parts.{beside_text, call_of, either_of, fold_of, one_of, two_of};
 ghost use Rattle.at_apply.specs.Place.{place_at};
 ghost use Rattle.at_demand.specs.Known.{meaning};
-ghost use Rattle.at_demand.specs.InParts.{EndsEvaluated, EndsRecalled, EndsTold, EvaluatesTo, GivesLevel, HasGrown, IsEmptied, IsHeld, IsHeldFor, held_by};
+ghost use Rattle.at_demand.specs.InParts.{EndsEvaluated, EndsRecalled, EndsTold, EvaluatesTo, GivesLevel, HasGrown, IsEmptied, IsHeld, IsHeldAfresh, IsHeldFor, held_by};
 ghost use Rattle.at_demand.specs.InParts.{AsksEachInner, AsksInner, MayHaveCome};
 ghost use Rattle.at_demand.specs.Sparing.{AreSpare, HasWorthy};
 
@@ -147,7 +147,7 @@ impl Direct {
         Ok(value)
     }
 
-    // The value of a lazy instance that isn't known, where it can be kept again; it is taken then. What stands in the way is
+    // The value of a lazy instance that isn't kept, where it can be kept again; it is taken then. What stands in the way is
     // evaluated first, one behind the other, as long as these are few.
     #[cycle(direct)]
     fn verify<K: Keeper>(
@@ -158,7 +158,7 @@ impl Direct {
         needed: &Inst,
         above: usize,
     ) -> Result<Option<Value>, Stop>
-        requires { IsHeld basis.now.rules.now (contents basis.now.store.now) (held_by K.contents K.memories keeper.old self.old) }
+        requires { IsHeldAfresh basis.now.rules.now (contents basis.now.store.now) (held_by K.contents K.memories keeper.old self.old) needed.now }
         ensures { EndsRecalled basis.now.rules.now basis.now.store.now K.exact needed.now (held_by K.contents K.memories keeper.old self.old)
             (held_by K.contents K.memories keeper.new self.new) level.old level.new result }
     {
@@ -177,7 +177,7 @@ impl Direct {
         Ok(None)
     }
 
-    // The value of a lazy instance, by an evaluation of its own; it is kept at its end, and taken then.
+    // The value of a lazy instance that isn't kept, by an evaluation of its own; it is kept at its end, and taken then.
     #[cycle(direct)]
     fn afresh<K: Keeper>(
         &mut self,
@@ -187,7 +187,7 @@ impl Direct {
         needed: Inst,
         above: usize,
     ) -> Result<Value, Stop>
-        requires { IsHeldFor basis.now.rules.now (contents basis.now.store.now) (held_by K.contents K.memories keeper.old self.old) true needed }
+        requires { IsHeldAfresh basis.now.rules.now (contents basis.now.store.now) (held_by K.contents K.memories keeper.old self.old) needed }
         ensures { EndsTold basis.now.rules.now basis.now.store.now K.exact needed (held_by K.contents K.memories keeper.old self.old)
             (held_by K.contents K.memories keeper.new self.new) level.old level.new result }
     {

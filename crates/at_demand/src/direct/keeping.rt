@@ -1,6 +1,6 @@
 //! What is done at the end of an evaluation in one go, and with what is known: it is told, kept, kept again or remembered.
 
-ghost use Rattle.std.specs.Prelude.{◌≡◌, IfOk, IfSome, OnErr, OnOk, IsTrue, None, Some, false, true};
+ghost use Rattle.std.specs.Prelude.{◌≡◌, ◌≢◌, IfNone, IfOk, IfSome, OnErr, OnOk, IsTrue, None, Some, false, true};
 ghost use Rattle.std.specs.Option.{option_map};
 ghost use Rattle.at_model.specs.Meaning.{Leads};
 ghost use Rattle.at_model.specs.Rules.{is_lazy};
@@ -13,7 +13,7 @@ ghost use Rattle.at_cache.specs.Traced.{PutsTrace};
 ghost use Rattle.at_cache.specs.declared.keeper.Order.TheVariants as order_code;
 ghost use Rattle.at_demand.specs.Known.{kept_values, meaning};
 ghost use Rattle.at_demand.specs.Inner.{AreKnown, AreLazy, HasRecalled, IsOneOf, known_by, remembered};
-ghost use Rattle.at_demand.specs.InParts.{EndsRecalled, EndsTaken, HasEntered, IsEvaluatedFor, IsHeld, LeavesFinds, held_by};
+ghost use Rattle.at_demand.specs.InParts.{EndsRecalled, EndsTaken, HasEntered, IsEvaluatedAfresh, IsEvaluatedFor, IsHeld, IsHeldAfresh, LeavesFinds, held_by};
 ghost use Rattle.at_demand.specs.Sparing.{Counts};
 
 use super::{Direct, Level};
@@ -34,7 +34,7 @@ const FEW: usize = 16;
 const FEW_TRACED: usize = 64;
 
 impl Direct {
-    // What stands in the way of keeping the instance again; it leads to that.
+    // What stands in the way of keeping the instance again: another one, to which that leads, and of which no value is kept.
     pub(super) fn in_the_way<K: Keeper>(
         &self,
         keeper: &K,
@@ -43,6 +43,8 @@ impl Direct {
     ) -> Result<Option<Inst>, AllocError>
         requires { IsHeld basis.now.rules.now (contents basis.now.store.now) (held_by K.contents K.memories keeper.now self.now) }
         ensures lazy { IfOk result (λ o. IfSome o (λ i. is_lazy basis.now.rules.now i.attribute ≡ true)) }
+        ensures unkept { IfOk result (λ o. IfSome o (λ i. kept_values (K.contents keeper.now) i ≡ None)) }
+        ensures other { IfOk result (λ o. IfSome o (λ i. i ≢ needed.now)) }
         ensures led { IfOk result (λ o. IfSome o (Leads (contents basis.now.store.now) (meaning basis.now.rules.now) needed.now)) }
     {
         let Some(other) = keeper.blocker(needed) else {
@@ -51,10 +53,16 @@ impl Direct {
         if !basis.rules.is_lazy(other.attribute()) {
             return Ok(None);
         }
+        if *other == *needed {
+            return Ok(None);
+        }
+        if keeper.stands(other) {
+            return Ok(None);
+        }
         Ok(Some(other.copy(self.alloc)?))
     }
 
-    // The value of an instance that isn't known, where it can be kept again with no evaluation; it is taken then. What is kept again is counted.
+    // The value of an instance that isn't kept, where it can be kept again with no evaluation; it is taken then. What is kept again is counted.
     pub(super) fn keep_again<K: Keeper>(
         &mut self,
         keeper: &mut K,
@@ -62,20 +70,19 @@ impl Direct {
         level: &mut Level,
         needed: &Inst,
     ) -> Result<Option<Value>, AllocError>
-        requires { IsHeld basis.now.rules.now (contents basis.now.store.now) (held_by K.contents K.memories keeper.old self.old) }
+        requires { IsHeldAfresh basis.now.rules.now (contents basis.now.store.now) (held_by K.contents K.memories keeper.old self.old) needed.now }
         ensures { EndsRecalled basis.now.rules.now basis.now.store.now K.exact needed.now (held_by K.contents K.memories keeper.old self.old)
             (held_by K.contents K.memories keeper.new self.new) level.old level.new result }
     {
-        let before = self.work;
-        let later = keeper.settle(needed, before);
-        self.work = later;
-        if later <= before {
+        let count = keeper.settle(needed, 0);
+        if count == 0 {
             return Ok(None);
         }
+        self.work = self.work.saturating_add(count);
         self.recall(keeper, basis, level, needed)
     }
 
-    // The known value of an instance, which is taken then.
+    // The known value of an instance, which is taken then. Where a lazy one has none, none is kept.
     pub(super) fn recall<K: Keeper>(
         &self,
         keeper: &K,
@@ -84,8 +91,10 @@ impl Direct {
         needed: &Inst,
     ) -> Result<Option<Value>, AllocError>
         requires { AreKnown basis.now.rules.now (contents basis.now.store.now) (K.contents keeper.now) self.now.found.entries }
-        ensures { IfOk result (HasRecalled basis.now.rules.now (contents basis.now.store.now) (known_by (K.contents keeper.now) self.now.found.entries)
-            level.old level.new needed.now) }
+        ensures recalled { IfOk result (HasRecalled basis.now.rules.now (contents basis.now.store.now)
+            (known_by (K.contents keeper.now) self.now.found.entries) level.old level.new needed.now) }
+        ensures unkept { IfOk result (λ o. IfNone o (is_lazy basis.now.rules.now needed.now.attribute ≡ true
+            → kept_values (K.contents keeper.now) needed.now ≡ None)) }
     {
         let Some(value) = self.value_of(keeper, basis.rules, needed)? else {
             return Ok(None);
@@ -101,7 +110,8 @@ impl Direct {
         rules: &Rules,
         needed: &Inst,
     ) -> Result<Option<Value>, AllocError>
-        ensures { IfOk result (IsOneOf (kept_values (K.contents keeper.now) needed.now) (remembered self.now.found.entries needed.now)) }
+        ensures one { IfOk result (IsOneOf (kept_values (K.contents keeper.now) needed.now) (remembered self.now.found.entries needed.now)) }
+        ensures unkept { IfOk result (λ o. IfNone o (is_lazy rules.now needed.now.attribute ≡ true → kept_values (K.contents keeper.now) needed.now ≡ None)) }
     {
         if rules.is_lazy(needed.attribute()) {
             return copy_of(keeper.get(needed));
@@ -120,7 +130,7 @@ impl Direct {
         }
     }
 
-    // Keeps the value of a lazy instance, which is taken then.
+    // Keeps the value of a lazy instance that has no entry, which is taken then.
     pub(super) fn keep<K: Keeper>(
         &mut self,
         keeper: &mut K,
@@ -130,14 +140,11 @@ impl Direct {
         needed: Inst,
         value: &Value,
     ) -> Result<(), Stop>
-        requires { IsEvaluatedFor basis.now.rules.now (contents basis.now.store.now) (held_by K.contents K.memories keeper.old self.old) true
+        requires { IsEvaluatedAfresh basis.now.rules.now (contents basis.now.store.now) (held_by K.contents K.memories keeper.old self.old)
             needed (value_view value.now) below.now }
         ensures { EndsTaken basis.now.rules.now basis.now.store.now K.exact needed (value_view value.now)
             (held_by K.contents K.memories keeper.old self.old) (held_by K.contents K.memories keeper.new self.new) level.old level.new result }
     {
-        if keeper.stands(&needed) {
-            return Err(Stop::GivesUp);
-        }
         let order = order_of(basis.rules, below.uses.as_slice());
         let put = self.put(keeper, &needed, value, below, order)?;
         match put {

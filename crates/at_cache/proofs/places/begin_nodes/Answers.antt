@@ -2,7 +2,7 @@ use Rattle.std.proofs.Common.{◌∙◌, List, ℕ, refl, subst, take_all}
 use Rattle.std.specs.List.{list_any}
 use Rattle.at_cache.specs.Asking.{GoesOn, sees}
 use Rattle.at_cache.specs.Kept.{Answers}
-use Rattle.at_cache.specs.Readers.{edges_at}
+use Rattle.at_cache.specs.Finding.{edges_to}
 use Rattle.at_cache.proofs.Naming.{goes_next, goes_nowhere}
 use Rattle.at_cache.proofs.places.begin_nodes.Goals as goal
 
@@ -17,6 +17,6 @@ loop-node-preserved g c = record {
 
 pub returns : goal.returns
 returns g c = record {
-  goes_on = subst (λ (ns : List ℕ). GoesOn (Answers (goal.F-post g c.args.touched.now)) (λ l. list_any (λ n. sees c.args.scope n l) ns) (edges_at c.args.readers.now) c.args.first (g.W.Marked.memory c.args.entries.now) c.loop-node.first (g.W.Marked.memory c.loop-node.entries)) (take_all c.loop-node.node-index c.args.nodes.now c.loop-node-test.false) c.loop-node.invariant.goes_on;
+  goes_on = subst (λ (ns : List ℕ). GoesOn (Answers (goal.F-post g c.args.touched.now)) (λ l. list_any (λ n. sees c.args.scope n l) ns) (edges_to c.args.readers.now) c.args.first (g.W.Marked.memory c.args.entries.now) c.loop-node.first (g.W.Marked.memory c.loop-node.entries)) (take_all c.loop-node.node-index c.args.nodes.now c.loop-node-test.false) c.loop-node.invariant.goes_on;
   aside = c.loop-node.invariant.aside;
 }

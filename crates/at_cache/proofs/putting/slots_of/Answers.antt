@@ -19,7 +19,7 @@ loop-used-init c = record {
 pub loop-used-preserved : goal.loop-used-preserved
 loop-used-preserved c =
     let t = c.args.entries.now in
-    elim c.match-get.branch [
+    elim c.match-get_near.branch [
       | in-Some+in_ok-push w ↦
           let found = sym w.in-Some.ensures.value in
           let pushed = ap (λ v. v.items) w.slots-is ∙ w.in_ok-push.ensures.ok in

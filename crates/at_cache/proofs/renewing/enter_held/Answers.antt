@@ -4,7 +4,7 @@ use Rattle.at_store.specs.Located.{loc_view}
 use Rattle.at_cache.specs.declared.standing.Standing.{Standing}
 use Rattle.at_cache.specs.Info.{memory_of}
 use Rattle.at_cache.specs.Putting.{AreTaken}
-use Rattle.at_cache.specs.Readers.{edges_at}
+use Rattle.at_cache.specs.Finding.{edges_to}
 use Rattle.at_cache.specs.Renewing.{IsSlotFor}
 use Rattle.at_cache.specs.Standings.{standing_of}
 use Rattle.at_cache.proofs.of_cut.EnteredHeld.{has_entered, made_so, puts_so, slot_still}
@@ -14,93 +14,93 @@ use Rattle.at_cache.proofs.Listing.{uses_none}
 use Rattle.at_cache.proofs.renewing.enter_held.Goals as goal
 
 pub returns-in_err-links-clause-err : goal.returns-in_err-links-clause-err
-returns-in_err-links-clause-err c = let k = (left_alone (edges_at c.args.readers.now.items) c.args.cut.now.entries
+returns-in_err-links-clause-err c = let k = (left_alone (edges_to c.args.readers.now) c.args.cut.now.entries
     c.args.cut.now.standings.items c.requires.indexed c.requires.tied c.requires.valued c.args.cut.now.standings.items
     (λ k. refl)).err in search rules
 
 pub returns-in_err-slot-clause-err : goal.returns-in_err-slot-clause-err
-returns-in_err-slot-clause-err c = let k = (left_alone (edges_at c.args.readers.now.items) c.args.cut.now.entries
+returns-in_err-slot-clause-err c = let k = (left_alone (edges_to c.args.readers.now) c.args.cut.now.entries
     c.args.cut.now.standings.items c.requires.indexed c.requires.tied c.requires.valued c.args.cut.now.standings.items
     (λ k. refl)).err in search rules
 
 pub returns-in_err-make_standing-clause-indexed : goal.returns-in_err-make_standing-clause-indexed
-returns-in_err-make_standing-clause-indexed c = (left_alone (edges_at c.args.readers.now.items) c.args.cut.now.entries
+returns-in_err-make_standing-clause-indexed c = (left_alone (edges_to c.args.readers.now) c.args.cut.now.entries
     c.args.cut.now.standings.items c.requires.indexed c.requires.tied c.requires.valued
     c.make_standing.new.standings.items c.make_standing.ensures.same).indexed
 
 pub returns-in_err-make_standing-clause-err : goal.returns-in_err-make_standing-clause-err
 returns-in_err-make_standing-clause-err c = let k = (left_alone
-    (edges_at c.args.readers.now.items) c.args.cut.now.entries c.args.cut.now.standings.items c.requires.indexed
+    (edges_to c.args.readers.now) c.args.cut.now.entries c.args.cut.now.standings.items c.requires.indexed
     c.requires.tied c.requires.valued c.make_standing.new.standings.items c.make_standing.ensures.same).err in
     search rules
 
 pub returns-in_err-make_standing-clause-traces : goal.returns-in_err-make_standing-clause-traces
-returns-in_err-make_standing-clause-traces c = (left_alone (edges_at c.args.readers.now.items) c.args.cut.now.entries
+returns-in_err-make_standing-clause-traces c = (left_alone (edges_to c.args.readers.now) c.args.cut.now.entries
     c.args.cut.now.standings.items c.requires.indexed c.requires.tied c.requires.valued
     c.make_standing.new.standings.items c.make_standing.ensures.same).traces c.args.inst
     (option_map value_view c.args.value) (map loc_view c.args.reads.now) c.args.uses.now c.args.order
 
 pub returns-in_err-add_readers-clause-indexed : goal.returns-in_err-add_readers-clause-indexed
-returns-in_err-add_readers-clause-indexed c = (left (edges_at c.args.readers.now.items)
-    (edges_at c.add_readers.new.readers.items) c.args.cut.now.entries c.args.cut.now.entries
+returns-in_err-add_readers-clause-indexed c = (left (edges_to c.args.readers.now)
+    (edges_to c.add_readers.new.readers) c.args.cut.now.entries c.args.cut.now.entries
     c.args.cut.now.standings.items c.make_standing.new.standings.items c.requires.indexed c.requires.tied
     c.requires.valued refl c.make_standing.ensures.same c.add_readers.ensures.reads (uses_none _ _)).indexed
 
 pub returns-in_err-add_readers-clause-tied : goal.returns-in_err-add_readers-clause-tied
-returns-in_err-add_readers-clause-tied c = (left (edges_at c.args.readers.now.items)
-    (edges_at c.add_readers.new.readers.items) c.args.cut.now.entries c.args.cut.now.entries
+returns-in_err-add_readers-clause-tied c = (left (edges_to c.args.readers.now)
+    (edges_to c.add_readers.new.readers) c.args.cut.now.entries c.args.cut.now.entries
     c.args.cut.now.standings.items c.make_standing.new.standings.items c.requires.indexed c.requires.tied
     c.requires.valued refl c.make_standing.ensures.same c.add_readers.ensures.reads (uses_none _ _)).tied
 
 pub returns-in_err-add_readers-clause-err : goal.returns-in_err-add_readers-clause-err
-returns-in_err-add_readers-clause-err c = let k = (left (edges_at c.args.readers.now.items)
-    (edges_at c.add_readers.new.readers.items) c.args.cut.now.entries c.args.cut.now.entries
+returns-in_err-add_readers-clause-err c = let k = (left (edges_to c.args.readers.now)
+    (edges_to c.add_readers.new.readers) c.args.cut.now.entries c.args.cut.now.entries
     c.args.cut.now.standings.items c.make_standing.new.standings.items c.requires.indexed c.requires.tied
     c.requires.valued refl c.make_standing.ensures.same c.add_readers.ensures.reads (uses_none _ _)).err in search rules
 
 pub returns-in_err-add_readers-clause-traces : goal.returns-in_err-add_readers-clause-traces
-returns-in_err-add_readers-clause-traces c = (left (edges_at c.args.readers.now.items)
-    (edges_at c.add_readers.new.readers.items) c.args.cut.now.entries c.args.cut.now.entries
+returns-in_err-add_readers-clause-traces c = (left (edges_to c.args.readers.now)
+    (edges_to c.add_readers.new.readers) c.args.cut.now.entries c.args.cut.now.entries
     c.args.cut.now.standings.items c.make_standing.new.standings.items c.requires.indexed c.requires.tied
     c.requires.valued refl c.make_standing.ensures.same c.add_readers.ensures.reads
     (uses_none _ _)).traces c.args.inst (option_map value_view c.args.value)
     (map loc_view c.args.reads.now) c.args.uses.now c.args.order
 
 pub returns-in_err-add_users-clause-indexed : goal.returns-in_err-add_users-clause-indexed
-returns-in_err-add_users-clause-indexed c = (left (edges_at c.args.readers.now.items)
-    (edges_at c.add_readers.new.readers.items) c.args.cut.now.entries c.add_users.new.entries
+returns-in_err-add_users-clause-indexed c = (left (edges_to c.args.readers.now)
+    (edges_to c.add_readers.new.readers) c.args.cut.now.entries c.add_users.new.entries
     c.args.cut.now.standings.items c.make_standing.new.standings.items c.requires.indexed c.requires.tied
     c.requires.valued refl c.make_standing.ensures.same c.add_readers.ensures.reads c.add_users.ensures.uses).indexed
 
 pub returns-in_err-add_users-clause-tied : goal.returns-in_err-add_users-clause-tied
-returns-in_err-add_users-clause-tied c = (left (edges_at c.args.readers.now.items)
-    (edges_at c.add_readers.new.readers.items) c.args.cut.now.entries c.add_users.new.entries
+returns-in_err-add_users-clause-tied c = (left (edges_to c.args.readers.now)
+    (edges_to c.add_readers.new.readers) c.args.cut.now.entries c.add_users.new.entries
     c.args.cut.now.standings.items c.make_standing.new.standings.items c.requires.indexed c.requires.tied
     c.requires.valued refl c.make_standing.ensures.same c.add_readers.ensures.reads c.add_users.ensures.uses).tied
 
 pub returns-in_err-add_users-clause-valued : goal.returns-in_err-add_users-clause-valued
-returns-in_err-add_users-clause-valued c = (left (edges_at c.args.readers.now.items)
-    (edges_at c.add_readers.new.readers.items) c.args.cut.now.entries c.add_users.new.entries
+returns-in_err-add_users-clause-valued c = (left (edges_to c.args.readers.now)
+    (edges_to c.add_readers.new.readers) c.args.cut.now.entries c.add_users.new.entries
     c.args.cut.now.standings.items c.make_standing.new.standings.items c.requires.indexed c.requires.tied
     c.requires.valued refl c.make_standing.ensures.same c.add_readers.ensures.reads c.add_users.ensures.uses).valued
 
 pub returns-in_err-add_users-clause-err : goal.returns-in_err-add_users-clause-err
-returns-in_err-add_users-clause-err c = let k = (left (edges_at c.args.readers.now.items)
-    (edges_at c.add_readers.new.readers.items) c.args.cut.now.entries c.add_users.new.entries
+returns-in_err-add_users-clause-err c = let k = (left (edges_to c.args.readers.now)
+    (edges_to c.add_readers.new.readers) c.args.cut.now.entries c.add_users.new.entries
     c.args.cut.now.standings.items c.make_standing.new.standings.items c.requires.indexed c.requires.tied
     c.requires.valued refl c.make_standing.ensures.same c.add_readers.ensures.reads c.add_users.ensures.uses).err in
     search rules
 
 pub returns-in_err-add_users-clause-traces : goal.returns-in_err-add_users-clause-traces
-returns-in_err-add_users-clause-traces c = (left (edges_at c.args.readers.now.items)
-    (edges_at c.add_readers.new.readers.items) c.args.cut.now.entries c.add_users.new.entries
+returns-in_err-add_users-clause-traces c = (left (edges_to c.args.readers.now)
+    (edges_to c.add_readers.new.readers) c.args.cut.now.entries c.add_users.new.entries
     c.args.cut.now.standings.items c.make_standing.new.standings.items c.requires.indexed c.requires.tied
     c.requires.valued refl c.make_standing.ensures.same c.add_readers.ensures.reads c.add_users.ensures.uses).traces
     c.args.inst (option_map value_view c.args.value) (map loc_view c.args.reads.now) c.args.uses.now c.args.order
 
 pub returns-in_err-put_in-clause-indexed : goal.returns-in_err-put_in-clause-indexed
 returns-in_err-put_in-clause-indexed c = let kept = rw c.in_err-put_in.was at c.put_in.ensures.err in (left
-    (edges_at c.args.readers.now.items) (edges_at c.add_readers.new.readers.items) c.args.cut.now.entries
+    (edges_to c.args.readers.now) (edges_to c.add_readers.new.readers) c.args.cut.now.entries
     c.put_in.new.cut.entries c.args.cut.now.standings.items c.put_in.new.cut.standings.items c.requires.indexed
     c.requires.tied c.requires.valued refl (λ k. ap (λ (ss : List Standing). standing_of ss k) kept.1
     ∙ c.make_standing.ensures.same k) c.add_readers.ensures.reads (uses_alike (memory_of c.args.cut.now.entries)
@@ -108,7 +108,7 @@ returns-in_err-put_in-clause-indexed c = let kept = rw c.in_err-put_in.was at c.
 
 pub returns-in_err-put_in-clause-tied : goal.returns-in_err-put_in-clause-tied
 returns-in_err-put_in-clause-tied c = let kept = rw c.in_err-put_in.was at c.put_in.ensures.err in (left
-    (edges_at c.args.readers.now.items) (edges_at c.add_readers.new.readers.items) c.args.cut.now.entries
+    (edges_to c.args.readers.now) (edges_to c.add_readers.new.readers) c.args.cut.now.entries
     c.put_in.new.cut.entries c.args.cut.now.standings.items c.put_in.new.cut.standings.items c.requires.indexed
     c.requires.tied c.requires.valued refl (λ k. ap (λ (ss : List Standing). standing_of ss k) kept.1
     ∙ c.make_standing.ensures.same k) c.add_readers.ensures.reads (uses_alike (memory_of c.args.cut.now.entries)
@@ -116,7 +116,7 @@ returns-in_err-put_in-clause-tied c = let kept = rw c.in_err-put_in.was at c.put
 
 pub returns-in_err-put_in-clause-valued : goal.returns-in_err-put_in-clause-valued
 returns-in_err-put_in-clause-valued c = let kept = rw c.in_err-put_in.was at c.put_in.ensures.err in (left
-    (edges_at c.args.readers.now.items) (edges_at c.add_readers.new.readers.items) c.args.cut.now.entries
+    (edges_to c.args.readers.now) (edges_to c.add_readers.new.readers) c.args.cut.now.entries
     c.put_in.new.cut.entries c.args.cut.now.standings.items c.put_in.new.cut.standings.items c.requires.indexed
     c.requires.tied c.requires.valued refl (λ k. ap (λ (ss : List Standing). standing_of ss k) kept.1
     ∙ c.make_standing.ensures.same k) c.add_readers.ensures.reads (uses_alike (memory_of c.args.cut.now.entries)
@@ -124,7 +124,7 @@ returns-in_err-put_in-clause-valued c = let kept = rw c.in_err-put_in.was at c.p
 
 pub returns-in_err-put_in-clause-err : goal.returns-in_err-put_in-clause-err
 returns-in_err-put_in-clause-err c = let kept = rw c.in_err-put_in.was at c.put_in.ensures.err in let k = (left
-    (edges_at c.args.readers.now.items) (edges_at c.add_readers.new.readers.items) c.args.cut.now.entries
+    (edges_to c.args.readers.now) (edges_to c.add_readers.new.readers) c.args.cut.now.entries
     c.put_in.new.cut.entries c.args.cut.now.standings.items c.put_in.new.cut.standings.items c.requires.indexed
     c.requires.tied c.requires.valued refl (λ k. ap (λ (ss : List Standing). standing_of ss k) kept.1
     ∙ c.make_standing.ensures.same k) c.add_readers.ensures.reads (uses_alike (memory_of c.args.cut.now.entries)
@@ -133,7 +133,7 @@ returns-in_err-put_in-clause-err c = let kept = rw c.in_err-put_in.was at c.put_
 
 pub returns-in_err-put_in-clause-traces : goal.returns-in_err-put_in-clause-traces
 returns-in_err-put_in-clause-traces c = let kept = rw c.in_err-put_in.was at c.put_in.ensures.err in (left
-    (edges_at c.args.readers.now.items) (edges_at c.add_readers.new.readers.items) c.args.cut.now.entries
+    (edges_to c.args.readers.now) (edges_to c.add_readers.new.readers) c.args.cut.now.entries
     c.put_in.new.cut.entries c.args.cut.now.standings.items c.put_in.new.cut.standings.items c.requires.indexed
     c.requires.tied c.requires.valued refl (λ k. ap (λ (ss : List Standing). standing_of ss k) kept.1
     ∙ c.make_standing.ensures.same k) c.add_readers.ensures.reads (uses_alike (memory_of c.args.cut.now.entries)
@@ -169,8 +169,8 @@ returns c =
     (rw c.in_ok-put_in.was at c.put_in.ensures.puts) in
     let within = subst (λ n. c.in_ok-slot.slot < n) (sym put.room)
     (rw c.in_ok-make_standing.was at c.make_standing.ensures.there) in
-    let done = has_entered (edges_at c.args.readers.now.items)
-    (edges_at c.add_readers.new.readers.items) c.args.cut.now.entries c.put_in.new.cut.entries
+    let done = has_entered (edges_to c.args.readers.now)
+    (edges_to c.add_readers.new.readers) c.args.cut.now.entries c.put_in.new.cut.entries
     (memory_of c.add_users.new.entries)
     c.args.cut.now.standings.items c.make_standing.new.standings.items c.put_in.new.cut.standings.items
     c.set_standing.new.standings.items c.args.stamp c.in_ok-slot.slot c.args.inst
@@ -188,7 +188,6 @@ returns c =
       tied = done.tied;
       valued = done.valued;
       noted = c.add_readers.ensures.noted;
-      short = c.add_readers.ensures.short;
       puts = done.puts;
       err = tt;
       traces = done.traces;

@@ -9,5 +9,4 @@ invariant_of-self c = record {
   tied = c.enter_held.ensures.tied;
   valued = c.enter_held.ensures.valued;
   noted = c.enter_held.ensures.noted c.args.self.now.noted;
-  short = c.enter_held.ensures.short c.args.self.now.short;
 }

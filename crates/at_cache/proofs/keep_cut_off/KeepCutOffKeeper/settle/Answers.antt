@@ -1,6 +1,6 @@
 use Rattle.std.proofs.Common.{ap, sym, ◌∙◌}
 use Rattle.std.specs.Option.{option_copied}
-use Rattle.at_cache.specs.Readers.{edges_at}
+use Rattle.at_cache.specs.Finding.{edges_to}
 use Rattle.at_cache.specs.Settling.{IsWhole}
 use Rattle.at_cache.proofs.of_cut.Goes.{goes_from, settled_from, stay_from}
 use Rattle.at_cache.proofs.of_cut.Untraced.{settles_nothing}
@@ -15,7 +15,7 @@ returns-in_default-clause-settled c = settles_nothing _ _ _ _ c.args.work c.rang
 pub invariant_of-self-2 : goal.invariant_of-self-2
 invariant_of-self-2 c =
     let k = c.args.self.now in
-    let lists = edges_at k.readers.items in
+    let lists = edges_to k.readers in
     let found = sym c.get.ensures.value ∙ ap option_copied c.in-Some.is in
     let whole : IsWhole lists k.cut.entries k.cut.standings.items (record { puts = k.puts; work = c.args.work })
     = record { indexed = k.indexed; tied = k.tied; valued = k.valued; few = c.ranges.work.fits } in
@@ -25,13 +25,12 @@ invariant_of-self-2 c =
       tied = goes.whole.tied;
       valued = goes.whole.valued;
       noted = k.noted;
-      short = k.short;
     }
 
 pub returns-clause-settled : goal.returns-clause-settled
 returns-clause-settled c =
     let k = c.args.self.now in
-    let lists = edges_at k.readers.items in
+    let lists = edges_to k.readers in
     let found = sym c.get.ensures.value ∙ ap option_copied c.in-Some.is in
     let whole : IsWhole lists k.cut.entries k.cut.standings.items (record { puts = k.puts; work = c.args.work })
     = record { indexed = k.indexed; tied = k.tied; valued = k.valued; few = c.ranges.work.fits } in
@@ -40,7 +39,7 @@ returns-clause-settled c =
 pub returns-clause-stay : goal.returns-clause-stay
 returns-clause-stay c =
     let k = c.args.self.now in
-    let lists = edges_at k.readers.items in
+    let lists = edges_to k.readers in
     let found = sym c.get.ensures.value ∙ ap option_copied c.in-Some.is in
     let whole : IsWhole lists k.cut.entries k.cut.standings.items (record { puts = k.puts; work = c.args.work })
     = record { indexed = k.indexed; tied = k.tied; valued = k.valued; few = c.ranges.work.fits } in

@@ -1,4 +1,4 @@
-use Rattle.std.proofs.Common.{◌≡◌, ℕ, List, true, drop, take, length, Option, refl, sym, ap, ◌+◌, ◌∙◌, subst, arith, ◌++◌, Ok, IfOk, map, rules}
+use Rattle.std.proofs.Common.{◌≡◌, ℕ, List, true, drop, take, length, Option, None, IfNone, refl, sym, ap, ◌+◌, ◌∙◌, subst, arith, ◌++◌, Ok, IfOk, map, rules}
 use Rattle.std.proofs.lemmas.Result.{IfOk-weaker}
 use Rattle.at_model.specs.Run.{Instance, Location, Gives, Run, Truth, Value, ◌>>=◌}
 use Rattle.at_store.specs.Shown.{contents}
@@ -6,10 +6,11 @@ use Rattle.at_body.specs.Values.{value_view}
 use Rattle.at_body.specs.declared.value.Value.{Value as ValueCode}
 use Rattle.at_demand.specs.declared.direct.Level.{Level}
 use Rattle.at_demand.specs.Inner.{Gains, HasRecalled, HasTold, IsEvaluated, known_by}
-use Rattle.at_demand.specs.InParts.{EvaluatesTo, HasCome, MayHaveCome, held_by, values_in}
-use Rattle.at_demand.specs.Known.{meaning}
-use Rattle.at_demand.proofs.of_nesting.Asked.{evaluated_behind, evaluated_in, inner_told, reads_before, reads_longer, told_alike, uses_before, uses_longer}
-use Rattle.at_demand.proofs.of_nesting.Grown.{grown_aside, grown_evaluated, grown_from, grown_none, grown_then, held_after}
+use Rattle.at_demand.specs.InParts.{EvaluatesTo, HasCome, HasGained, MayHaveCome, held_by, values_in}
+use Rattle.at_demand.specs.Known.{kept_values, meaning}
+use Rattle.at_demand.proofs.Entered.{absent}
+use Rattle.at_demand.proofs.of_nesting.Asked.{evaluated_behind, evaluated_in, inner_told, reads_before, reads_longer, told_alike, unkept_result, uses_before, uses_longer}
+use Rattle.at_demand.proofs.of_nesting.Grown.{grown_aside, grown_evaluated, grown_from, grown_none, grown_then, held_after, unkept_aside}
 use Rattle.std.proofs.lemmas.List.{nil_from_length}
 use Rattle.at_rules.specs.Bodies.{bodies_view, body_view}
 use Rattle.at_body.specs.Rest.{ev, ev_all, over, with_two}
@@ -28,13 +29,18 @@ told-recall-requires g n c = c.requires.known
 
 pub afresh-keep-requires : goal.afresh-keep-requires
 afresh-keep-requires g n c = record {
-  lazy = c.requires.lazy;
-  held = held_after c.evaluate.ensures.grown;
-  come =
-      let h = held_by g.K.Keeper.contents g.K.Keeper.memories c.evaluate.new.keeper c.evaluate.new.self in
-      evaluated_in c.args.basis.now.rules.now c.args.basis.now.store.now g.K.Keeper.exact h c.level-below.result
-      c.evaluate.new.level c.args.needed (value_view c.in_ok-value.value) c.in_ok-value.ensures.come
-      c.level-below.ensures.reads c.level-below.ensures.uses;
+  absent = absent c.args.basis.now.rules.now (g.K.Keeper.contents c.evaluate.new.keeper)
+      c.evaluate.ensures.grown.gains.known.plain c.args.needed c.requires.lazy
+      (c.in_ok-value.ensures.unkept c.requires.unkept);
+  evaluated = record {
+    lazy = c.requires.lazy;
+    held = held_after c.evaluate.ensures.grown;
+    come =
+        let h = held_by g.K.Keeper.contents g.K.Keeper.memories c.evaluate.new.keeper c.evaluate.new.self in
+        evaluated_in c.args.basis.now.rules.now c.args.basis.now.store.now g.K.Keeper.exact h c.level-below.result
+        c.evaluate.new.level c.args.needed (value_view c.in_ok-value.value) c.in_ok-value.ensures.come
+        c.level-below.ensures.reads c.level-below.ensures.uses;
+  };
 }
 
 pub inner-remember-requires : goal.inner-remember-requires
@@ -73,40 +79,52 @@ verify-in_the_way-requires g n c = held_after c.keep_again.ensures.grown
 
 pub verify-loop-init : goal.verify-loop-init
 verify-loop-init g n c = record {
-  grown = grown_none c.args.basis.now.rules.now c.args.basis.now.store.now g.K.Keeper.exact c.args.needed.now _ c.args.self.now.few c.requires;
+  grown = grown_none c.args.basis.now.rules.now c.args.basis.now.store.now g.K.Keeper.exact c.args.needed.now _
+      c.args.self.now.few c.requires.held;
   level = refl;
+  unkept = c.requires.unkept;
 }
 
 pub verify-keep_again-requires : goal.verify-keep_again-requires
-verify-keep_again-requires g n c = held_after c.loop.invariant.grown
+verify-keep_again-requires g n c = record {
+  lazy = c.requires.lazy;
+  unkept = c.loop.invariant.unkept;
+  held = held_after c.loop.invariant.grown;
+}
 
 pub verify-returns-in_err-again : goal.verify-returns-in_err-again
 verify-returns-in_err-again g n c = record {
   recalled = search rules;
+  unkept = search rules;
   grown = grown_then c.loop.invariant.grown c.keep_again.ensures.grown;
 }
 
 pub verify-returns-in-Some : goal.verify-returns-in-Some
 verify-returns-in-Some g n c = record {
   recalled = search rules;
+  unkept = search rules;
   grown = grown_then c.loop.invariant.grown c.keep_again.ensures.grown;
 }
 
 pub verify-returns-in_err-other : goal.verify-returns-in_err-other
 verify-returns-in_err-other g n c = record {
   recalled = search rules;
+  unkept = search rules;
   grown = grown_then c.loop.invariant.grown c.keep_again.ensures.grown;
 }
 
 pub verify-returns-in_default-2 : goal.verify-returns-in_default-2
 verify-returns-in_default-2 g n c = record {
   recalled = search rules;
+  unkept = subst (λ (o : Option ValueCode). IfNone o (kept_values (g.K.Keeper.contents c.keep_again.new.keeper)
+      c.args.needed.now ≡ None)) c.in_default.is c.in_ok-again.ensures.unkept;
   grown = grown_then c.loop.invariant.grown c.keep_again.ensures.grown;
 }
 
 pub verify-returns-in_err-afresh : goal.verify-returns-in_err-afresh
 verify-returns-in_err-afresh g n c = record {
   recalled = search rules;
+  unkept = search rules;
   grown = grown_aside c.args.basis.now.idle c.in-Some-2.is c.in_ok-other.ensures.led
       (grown_then c.loop.invariant.grown c.keep_again.ensures.grown) c.level-aside.ensures.found
       c.level-aside.ensures.work c.afresh.ensures.grown;
@@ -115,6 +133,7 @@ verify-returns-in_err-afresh g n c = record {
 pub verify-returns-in_err-push : goal.verify-returns-in_err-push
 verify-returns-in_err-push g n c = record {
   recalled = search rules;
+  unkept = search rules;
   grown = grown_aside c.args.basis.now.idle c.in-Some-2.is c.in_ok-other.ensures.led
       (grown_then c.loop.invariant.grown c.keep_again.ensures.grown) c.level-aside.ensures.found
       c.level-aside.ensures.work c.afresh.ensures.grown;
@@ -129,6 +148,10 @@ verify-loop-preserved g n c = record {
       (g.K.Keeper.contents c.keep_again.new.keeper) c.keep_again.new.self.found.entries) c.loop.level
       c.keep_again.new.level c.args.needed.now o) c.in_default.is c.in_ok-again.ensures.recalled ∙
       c.loop.invariant.level;
+  unkept = unkept_aside c.args.needed.now c.in-Some-2.is c.in_ok-other.ensures.led c.in_ok-other.ensures.other
+      c.afresh.ensures.grown
+      (subst (λ (o : Option ValueCode). IfNone o (kept_values (g.K.Keeper.contents c.keep_again.new.keeper)
+      c.args.needed.now ≡ None)) c.in_default.is c.in_ok-again.ensures.unkept);
 }
 
 -- told, where it isn't known and can't be kept again
@@ -144,7 +167,7 @@ told-returns-in-None g n c =
     let d1 = c.verify.new.self in
     let d2 = c.afresh.new.self in
     let before : c.recall.new.level ≡ c.args.level.now = subst (λ (o : Option ValueCode). HasRecalled rules (contents s)
-    (known_by e0 d0.found.entries) c.args.level.now c.recall.new.level i o) c.in_default.is c.in_ok-recalled.ensures in
+    (known_by e0 d0.found.entries) c.args.level.now c.recall.new.level i o) c.in_default.is c.in_ok-recalled.ensures.recalled in
     let same : c.verify.new.level ≡ c.recall.new.level = subst (λ (o : Option ValueCode). HasRecalled rules (contents s)
     (known_by e1 d1.found.entries) c.recall.new.level c.verify.new.level i o) c.in-None.is
     c.in_ok-verified.ensures.recalled in
@@ -240,6 +263,7 @@ inner-returns g n c =
 pub evaluate-returns-in_err-begun : goal.evaluate-returns-in_err-begun
 evaluate-returns-in_err-begun g n c = record {
   come = search rules;
+  unkept = search rules;
   grown =
       grown_evaluated c.args.basis.now.rules.now c.args.basis.now.store.now g.K.Keeper.exact c.args.basis.now.idle
       c.args.inst.now (held_by g.K.Keeper.contents g.K.Keeper.memories c.args.keeper.now c.args.self.now) (held_by
@@ -250,24 +274,27 @@ evaluate-returns-in_err-begun g n c = record {
 }
 
 pub evaluate-returns : goal.evaluate-returns
-evaluate-returns g n c = record {
-  come =
-      IfOk-weaker c.value.result _ _ (λ v h. come_begun c.args.basis.now.rules.now c.args.basis.now.store.now (held_by
-      g.K.Keeper.contents g.K.Keeper.memories c.value.new.keeper c.value.new.self) c.args.level.now
-      (record { reads = c.begin.new.reads; uses = c.args.level.now.uses }) c.value.new.level (meaning
-      c.args.basis.now.rules.now c.args.inst.now) (ev c.args.basis.now.rules.now.classes (body_view
-      c.in_ok-begun.begun.1.now) (place_at c.in_ok-begun.begun.0)) (value_view v) refl c.in_ok-begun.ensures h)
-      c.value.ensures.come;
-  grown =
-      grown_evaluated c.args.basis.now.rules.now c.args.basis.now.store.now g.K.Keeper.exact c.args.basis.now.idle
-      c.args.inst.now (held_by g.K.Keeper.contents g.K.Keeper.memories c.args.keeper.now c.args.self.now) (held_by
-      g.K.Keeper.contents g.K.Keeper.memories c.value.new.keeper c.value.new.self) (gains_begun
-      c.args.basis.now.rules.now c.args.basis.now.store.now g.K.Keeper.exact (held_by g.K.Keeper.contents
-      g.K.Keeper.memories c.args.keeper.now c.args.self.now) (held_by g.K.Keeper.contents g.K.Keeper.memories
-      c.value.new.keeper c.value.new.self) c.args.level.now.reads c.begin.new.reads (meaning c.args.basis.now.rules.now
-      c.args.inst.now) (ev c.args.basis.now.rules.now.classes (body_view c.in_ok-begun.begun.1.now) (place_at
-      c.in_ok-begun.begun.0)) c.in_ok-begun.ensures c.value.ensures.gains);
-}
+evaluate-returns g n c =
+    let rules = c.args.basis.now.rules.now in
+    let s = c.args.basis.now.store.now in
+    let i = c.args.inst.now in
+    let old = held_by g.K.Keeper.contents g.K.Keeper.memories c.args.keeper.now c.args.self.now in
+    let new = held_by g.K.Keeper.contents g.K.Keeper.memories c.value.new.keeper c.value.new.self in
+    let run = ev rules.classes (body_view c.in_ok-begun.begun.1.now) (place_at c.in_ok-begun.begun.0) in
+    let gained : HasGained rules s g.K.Keeper.exact (meaning rules i) old new =
+    gains_begun rules s g.K.Keeper.exact old new c.args.level.now.reads c.begin.new.reads (meaning rules i) run
+    c.in_ok-begun.ensures c.value.ensures.gains in
+    let come : IfOk c.value.result (λ v. HasCome rules (contents s) new c.args.level.now c.value.new.level
+    (meaning rules i) (value_view v)) =
+    IfOk-weaker c.value.result _ _ (λ v h. come_begun rules s new c.args.level.now
+    (record { reads = c.begin.new.reads; uses = c.args.level.now.uses }) c.value.new.level (meaning rules i) run
+    (value_view v) refl c.in_ok-begun.ensures h) c.value.ensures.come in
+    record {
+      come = come;
+      unkept = unkept_result rules s g.K.Keeper.exact c.value.result i old new c.args.level.now c.value.new.level gained
+          come;
+      grown = grown_evaluated rules s g.K.Keeper.exact c.args.basis.now.idle i old new gained;
+    }
 
 pub operand-returns-in-Some : goal.operand-returns-in-Some
 operand-returns-in-Some g n c = record {

@@ -1,9 +1,10 @@
-use Rattle.std.proofs.Common.{◌≡◌, ◌+◌, ◌*◌, ◌++◌, length, map}
+use Rattle.std.proofs.Common.{◌≡◌, ◌+◌, ◌*◌, ◌++◌, None, length, map}
 use Rattle.at_rules.specs.Bodies.{bodies_view, body_view}
 use Rattle.at_body.specs.Rest.{ev_all, over}
 use Rattle.at_body.specs.Values.{value_view}
 use Rattle.at_apply.specs.Place.{place_at}
 use Rattle.at_demand.specs.InParts.{HasGrown, held}
+use Rattle.at_demand.specs.Known.{kept_values}
 use Rattle.at_demand.proofs.of_parts.Looping.{GoesOn}
 use Rattle.at_demand.proofs.direct.Direct.+direct.Given as goal
 
@@ -67,6 +68,7 @@ invariant-verify-loop g l = record {
       (held (g.K.Keeper.contents l.initial.keeper) (g.K.Keeper.memories l.initial.keeper) l.initial.self.found.entries l.initial.self.work)
       (held (g.K.Keeper.contents l.keeper) (g.K.Keeper.memories l.keeper) l.self.found.entries l.self.work);
   level : l.level ≡ l.initial.level;
+  unkept : kept_values (g.K.Keeper.contents l.keeper) l.needed ≡ None;
 }
 
 abbrev pub invariant-passed-loop-argument : goal.invariant-passed-loop-argument

@@ -1,10 +1,25 @@
-use Rattle.std.proofs.Common.{ℕ, subst, sym}
+use Rattle.std.proofs.Common.{◌≡◌, ◌∙◌, ℕ, None, ap, subst, sym, true≢false}
 use Rattle.at_model.specs.Meaning.{Leads}
 use Rattle.at_model.specs.Run.{Instance}
 use Rattle.at_store.specs.Shown.{contents}
-use Rattle.at_demand.specs.Known.{meaning}
+use Rattle.at_body.specs.Same.{same_instance}
+use Rattle.at_cache.specs.Kept.{value_at}
+use Rattle.at_demand.specs.Known.{kept_values, meaning}
+use Rattle.at_demand.proofs.Entered.{none_entered}
+use Rattle.at_demand.proofs.Sameness.{same_refl}
 use Rattle.at_demand.proofs.of_traces.Settled.{next_led}
 use Rattle.at_demand.proofs.direct.Direct.in_the_way.Goals as goal
+
+pub returns-clause-unkept : goal.returns-clause-unkept
+returns-clause-unkept g c =
+    subst (λ (x : Instance ℕ). kept_values (g.K.Keeper.contents c.args.keeper.now) x ≡ None) (sym c.in_ok-copy.ensures)
+    (ap value_at (none_entered (g.K.Keeper.contents c.args.keeper.now c.in-Some.other.now) c.stands.result
+    c.stands.ensures c.if-stands.false))
+
+pub returns-clause-other : goal.returns-clause-other
+returns-clause-other g c = λ same. absurd (true≢false (sym (same_refl c.args.needed.now) ∙
+    ap (λ (x : Instance ℕ). same_instance x c.args.needed.now) (sym same ∙ c.in_ok-copy.ensures) ∙
+    sym c.eq.ensures ∙ c.if-eq.false))
 
 pub returns-clause-led : goal.returns-clause-led
 returns-clause-led g c =

@@ -4,8 +4,7 @@ use Rattle.at_cache.specs.Kept.{HasPut}
 use Rattle.at_cache.specs.declared.keeper.Put.{Put}
 use Rattle.at_demand.specs.Inner.{known_by}
 use Rattle.at_store.specs.Shown.{contents}
-use Rattle.at_demand.proofs.Entered.{none_entered}
-use Rattle.at_demand.proofs.of_nesting.Grown.{grown_kept, grown_none, grown_unkept}
+use Rattle.at_demand.proofs.of_nesting.Grown.{grown_kept, grown_unkept}
 use Rattle.at_demand.proofs.of_nesting.InnerGains.{put_kept, taken, told_kept}
 use Rattle.at_demand.proofs.of_nesting.Remembered.{kept_now}
 use Rattle.at_demand.proofs.direct.Direct.keep.Goals as goal
@@ -15,19 +14,12 @@ put-requires-clause-present g c =
     let entries = g.K.Keeper.contents c.args.keeper.now in
     taken c.args.basis.now.rules.now c.args.basis.now.store.now g.K.Keeper.exact c.args.needed entries entries
     c.args.self.now.found.entries (value_view c.args.value.now) c.args.below.now.reads
-    c.args.below.now.uses.items c.requires.held.known c.requires.come
-
-pub returns-then-stands : goal.returns-then-stands
-returns-then-stands g c = record {
-  told = search rules;
-  grown = grown_none c.args.basis.now.rules.now c.args.basis.now.store.now g.K.Keeper.exact c.args.needed _
-      c.args.self.now.few c.requires.held;
-}
+    c.args.below.now.uses.items c.requires.evaluated.held.known c.requires.evaluated.come
 
 pub returns-in_err-put : goal.returns-in_err-put
 returns-in_err-put g c = record {
   told = search rules;
-  grown = grown_unkept c.args.basis.now.idle c.requires c.put.ensures.found c.as_slice.ensures.value
+  grown = grown_unkept c.args.basis.now.idle c.requires.evaluated c.put.ensures.found c.as_slice.ensures.value
       c.order_of-order.result c.order_of-order.ensures (g.K.Keeper.kept_last c.put.new.keeper) c.put.ensures.traces
       c.put.ensures.counts c.in_err-put.ensures.err;
 }
@@ -35,11 +27,10 @@ returns-in_err-put g c = record {
 pub returns-in_err-push-in-Kept : goal.returns-in_err-push-in-Kept
 returns-in_err-push-in-Kept g c = record {
   told = search rules;
-  grown = grown_kept c.args.basis.now.idle c.requires c.put.ensures.found c.as_slice.ensures.value
+  grown = grown_kept c.args.basis.now.idle c.requires.evaluated c.put.ensures.found c.as_slice.ensures.value
       c.order_of-order.result c.order_of-order.ensures (g.K.Keeper.kept_last c.put.new.keeper) c.put.ensures.traces
       c.put.ensures.counts
-      (none_entered (g.K.Keeper.contents c.args.keeper.now c.args.needed) c.stands.result c.stands.ensures
-      c.if-stands.false) c.in_ok-put.put c.in_ok-put.ensures.puts;
+      c.requires.absent c.in_ok-put.put c.in_ok-put.ensures.puts;
 }
 
 pub returns-in_ok-push-in-Kept : goal.returns-in_ok-push-in-Kept
@@ -60,19 +51,17 @@ returns-in_ok-push-in-Kept g c = record {
       }) c.args.needed v
       (kept_now new c.put.new.self.found.entries c.args.needed v
       (put_kept g.K.Keeper.exact entries new c.args.needed v ls us puts)) refl c.in_ok-push-in-Kept.ensures.items;
-  grown = grown_kept c.args.basis.now.idle c.requires c.put.ensures.found c.as_slice.ensures.value
+  grown = grown_kept c.args.basis.now.idle c.requires.evaluated c.put.ensures.found c.as_slice.ensures.value
       c.order_of-order.result c.order_of-order.ensures (g.K.Keeper.kept_last c.put.new.keeper) c.put.ensures.traces
       c.put.ensures.counts
-      (none_entered (g.K.Keeper.contents c.args.keeper.now c.args.needed) c.stands.result c.stands.ensures
-      c.if-stands.false) c.in_ok-put.put c.in_ok-put.ensures.puts;
+      c.requires.absent c.in_ok-put.put c.in_ok-put.ensures.puts;
 }
 
 pub returns-in-Left : goal.returns-in-Left
 returns-in-Left g c = record {
   told = search rules;
-  grown = grown_kept c.args.basis.now.idle c.requires c.put.ensures.found c.as_slice.ensures.value
+  grown = grown_kept c.args.basis.now.idle c.requires.evaluated c.put.ensures.found c.as_slice.ensures.value
       c.order_of-order.result c.order_of-order.ensures (g.K.Keeper.kept_last c.put.new.keeper) c.put.ensures.traces
       c.put.ensures.counts
-      (none_entered (g.K.Keeper.contents c.args.keeper.now c.args.needed) c.stands.result c.stands.ensures
-      c.if-stands.false) c.in_ok-put.put c.in_ok-put.ensures.puts;
+      c.requires.absent c.in_ok-put.put c.in_ok-put.ensures.puts;
 }

@@ -9,13 +9,13 @@ use Rattle.at_demand.proofs.of_nesting.InnerGains.{told_kept}
 use Rattle.at_demand.proofs.of_nesting.Remembered.{one_known}
 use Rattle.at_demand.proofs.direct.Direct.recall.Goals as goal
 
-pub returns : goal.returns
-returns g c =
+pub returns-clause-recalled : goal.returns-clause-recalled
+returns-clause-recalled g c =
     let old = c.args.level.now in
     let entries = g.K.Keeper.contents c.args.keeper.now in
     let found = c.args.self.now.found.entries in
     let is = subst (λ (o : Option ValueCode). IsOneOf (kept_values entries c.args.needed.now) (remembered found
-    c.args.needed.now) o) c.in-Some.is c.in_ok-value.ensures in
+    c.args.needed.now) o) c.in-Some.is c.in_ok-value.ensures.one in
     told_kept c.args.basis.now.rules.now (contents c.args.basis.now.store.now) (known_by entries found) old (record {
       reads = old.reads;
       uses = c.push.new.self;

@@ -1,0 +1,194 @@
+-- A flush goes over the seats of nodes, beside their own facets.
+use Rattle.std.proofs.Common.{◌≡◌, ◌⊎◌, inl, inr, ℕ, ◌+◌, ◌<◌, ◌≤◌, List, [], ◌∷◌, ◌++◌, append-nil, ◌&&◌, ◌||◌, Bool, true, false, not, cond, Option, None, Some, Contains, slice_get, length, nat_eq, nat_lt, if◌then◌else◌, refl, sym, ap, ◌∙◌, subst, append_assoc, arith, eqb-true}
+use Rattle.std.proofs.lemmas.Bool.{cases_lt, cases_Bool, eq-eqb, lt-ltb, ltb-true}
+use Rattle.std.proofs.lemmas.Option.{slice_get_past}
+use Rattle.at_model.specs.Run.{Location, Idx}
+use Rattle.smallvec.specs.SmallVec.{SmallVec}
+use Rattle.at_cache.specs.declared.edge.Edge.{Edge}
+use Rattle.at_cache.specs.declared.facet.Readers.{Readers}
+use Rattle.at_cache.specs.declared.run.AllReaders.{AllReaders}
+use Rattle.at_cache.specs.declared.run.Reach.{Reach}
+use Rattle.at_cache.specs.declared.run.Run.{Run}
+use Rattle.at_cache.specs.declared.run.Seat.{Seat}
+use Rattle.at_cache.specs.declared.scope.Scope.{Scope}
+use Rattle.at_cache.specs.declared.scope.Scope.TheVariants as scope
+use Rattle.at_cache.specs.Asking.{AreNoted, Asked, GoesOn, is_index, looks_at, sees}
+use Rattle.at_cache.specs.Flushing.{Begins, IsIdle, Work}
+use Rattle.at_cache.specs.Info.{Memory}
+use Rattle.at_cache.specs.Kept.{node_at}
+use Rattle.at_cache.specs.Recorded.{is_listed}
+use Rattle.at_cache.specs.Readers.{edges_at, facet_at, stands_for}
+use Rattle.at_cache.specs.Finding.{edges_to}
+use Rattle.at_cache.specs.Runs.{edges_on, edges_over, edges_past, is_seen, lies}
+use Rattle.at_cache.proofs.Beginning.{asked_both}
+use Rattle.at_cache.proofs.Ending.{and, both, on_left, on_right}
+use Rattle.at_cache.proofs.of_runs.Following.{lies_in, no_index}
+use Rattle.at_cache.proofs.Listed.{no_edges}
+use Rattle.at_cache.proofs.Locations.{class_is_no_index, stands_at, stands_cases}
+use Rattle.at_cache.proofs.of_runs.Reaching.{on_are}
+use Rattle.at_cache.proofs.Naming.{goes_as, goes_further, goes_nowhere}
+use Rattle.at_cache.proofs.Taking.{begun, none_in}
+
+seen_node : (node : ℕ) (s : Scope) (l : Location ℕ) → sees s node l ≡ true → node_at l ≡ node
+seen_node node s l h = sym (eqb-true node (node_at l) (both _ _ h).0)
+
+-- the edges over the seat of a node
+pub over_at : (seats : List Seat) (runs : List Run) (l : Location ℕ) (seat : Seat) → slice_get seats (node_at l) ≡ Some seat
+    → edges_over seats runs l ≡ cond (is_seen (node_at l) seat l) (edges_on runs seat) []
+over_at seats runs l seat h = ap (λ (o : Option Seat). elim o as (λ _. List Edge) [ None ↦ [] | Some s ↦ if is_seen (node_at l) s l then edges_on runs s else [] ]) h
+
+pub over_none : (seats : List Seat) (runs : List Run) (l : Location ℕ) → slice_get seats (node_at l) ≡ None → edges_over seats runs l ≡ []
+over_none seats runs l h = ap (λ (o : Option Seat). elim o as (λ _. List Edge) [ None ↦ [] | Some s ↦ if is_seen (node_at l) s l then edges_on runs s else [] ]) h
+
+-- none is over an index
+pub over_index : (seats : List Seat) (runs : List Run) (n : ℕ) → edges_over seats runs (Idx n) ≡ []
+over_index seats runs n = by (slice_get seats n)
+  where
+    by : (o : Option Seat) → elim o as (λ _. List Edge) [ None ↦ [] | Some s ↦ if is_seen n s (Idx n) then edges_on runs s else [] ] ≡ []
+    by None = refl
+    by (Some s) = refl
+
+module _ (own : List (SmallVec Readers)) (seats : List Seat) (runs : List Run) (nodes : List ℕ) where
+  index_alone : (n : ℕ) → edges_at own (Idx n) ++ edges_over seats runs (Idx n) ≡ edges_at own (Idx n)
+  index_alone n = ap (λ es. edges_at own (Idx n) ++ es) (over_index seats runs n) ∙ append-nil (edges_at own (Idx n))
+
+  -- what is noted goes by the edges of nodes alone
+  pub noted_to : AreNoted (λ l. edges_at own l ++ edges_over seats runs l) nodes → AreNoted (edges_at own) nodes
+  noted_to noted n x h = noted n x (subst (λ es. is_listed x es ≡ true) (sym (index_alone n)) h)
+
+  pub noted_from : AreNoted (edges_at own) nodes → AreNoted (λ l. edges_at own l ++ edges_over seats runs l) nodes
+  noted_from noted n x h = noted n x (subst (λ es. is_listed x es ≡ true) (index_alone n) h)
+
+over_there : (seats : List Seat) (runs : List Run) (node : ℕ) (seat : Seat) → slice_get seats node ≡ Some seat → (l : Location ℕ) → node_at l ≡ node
+    → edges_over seats runs l ≡ cond (is_seen (node_at l) seat l) (edges_on runs seat) []
+over_there seats runs node seat there l at = over_at seats runs l seat (ap (slice_get seats) at ∙ there)
+
+module _ {says : Location ℕ → Bool → Type 0} (s : Scope) (seats : List Seat) (runs : List Run) (node : ℕ) (seat : Seat) (there : slice_get seats node ≡ Some seat) where
+  pub over_touched : ((n : ℕ) → is_index (facet_at n seat.facet) ≡ false) → (l : Location ℕ) × (stands_for node seat.facet l ≡ true) × says l true
+      → Asked says (sees s node) (edges_over seats runs) (edges_on runs seat)
+  over_touched own (k, stands, said) = record {
+    from = λ x c. (k, said, subst (λ es. Contains es x) (sym (over_there seats runs node seat there k at ∙ ap (λ b. cond b (edges_on runs seat) []) seen)) c);
+    all = λ l h. inr (λ x c. by (is_seen (node_at l) seat l) x (subst (λ es. Contains es x) (over_there seats runs node seat there l (seen_node node s l h)) c));
+  }
+    where
+      at : node_at k ≡ node
+      at = stands_at node seat.facet k stands
+
+      seen : is_seen (node_at k) seat k ≡ true
+      seen = and (not (is_index k)) (stands_for (node_at k) seat.facet k) (ap not (no_index node seat.facet k own stands))
+          (subst (λ n. stands_for n seat.facet k ≡ true) (sym at) stands)
+
+      by : (b : Bool) (x : Edge) → Contains (cond b (edges_on runs seat) []) x → Contains (edges_on runs seat) x
+      by true x c = c
+      by false x c = absurd (none_in x c)
+
+  pub over_untouched : ((l : Location ℕ) → stands_for node seat.facet l ≡ true → looks_at s l ≡ true → says l false)
+      → Asked says (sees s node) (edges_over seats runs) []
+  over_untouched said = record {
+    from = λ x c. absurd (none_in x c);
+    all = λ l h. by l h (is_seen (node_at l) seat l) refl;
+  }
+    where
+      by : (l : Location ℕ) → sees s node l ≡ true → (b : Bool) → is_seen (node_at l) seat l ≡ b
+          → says l false ⊎ ((x : Edge) → Contains (edges_over seats runs l) x → Contains [] x)
+      by l h true on =
+          let (same, looked) = both (nat_eq node (node_at l)) (looks_at s l) h in
+          inl (said l (subst (λ n. stands_for n seat.facet l ≡ true) (seen_node node s l h) (both (not (is_index l)) (stands_for (node_at l) seat.facet l) on).1) looked)
+      by l h false off = inr (λ x c. subst (λ es. Contains es x) (over_there seats runs node seat there l (seen_node node s l h) ∙ ap (λ b. cond b (edges_on runs seat) []) off) c)
+
+not_behind : (behind last place : ℕ) → place ≡ 0 → lies behind last place ≡ false
+not_behind behind last place is = elim (cases_Bool (lies behind last place)) [
+  | inl on ↦ absurd (let a = (lies_in behind last place on).0 in omega (arith, a, is))
+  | inr off ↦ off
+]
+
+-- no edge is over the place 0
+pub on_nowhere : (runs : List Run) (seat : Seat) → seat.place ≡ 0 → edges_on runs seat ≡ []
+on_nowhere runs seat is = by (slice_get runs seat.run) refl
+  where
+    no_place : (xs : List Reach) → edges_past seat.place xs ≡ []
+    no_place [] = refl
+    no_place (x ∷ xs) = ap (λ b. cond b (x.edge ∷ []) [] ++ edges_past seat.place xs) (not_behind x.behind x.last seat.place is) ∙ no_place xs
+
+    by : (o : Option Run) → slice_get runs seat.run ≡ o → edges_on runs seat ≡ []
+    by None h = ap (λ (o : Option Run). elim o as (λ _. List Edge) [ None ↦ [] | Some r ↦ edges_past seat.place r.edges.items ]) h
+    by (Some r) h = on_are runs seat r h ∙ no_place r.edges.items
+
+pub either_empty : (b : Bool) {es : List Edge} → es ≡ [] → cond b es [] ≡ []
+either_empty true is = is
+either_empty false is = refl
+
+-- a seat that is looked at as the index has no edge that is seen
+pub not_seen : (n : ℕ) (seat : Seat) (l : Location ℕ) → ((k : ℕ) → is_index (facet_at k seat.facet) ≡ true) → node_at l ≡ n → is_seen (node_at l) seat l ≡ false
+not_seen n seat l index at = by (is_index l) (stands_for (node_at l) seat.facet l) refl refl
+  where
+    by : (a b : Bool) → is_index l ≡ a → stands_for (node_at l) seat.facet l ≡ b → (not (is_index l) && stands_for (node_at l) seat.facet l) ≡ false
+    by true b e f = ap (λ z. not z && stands_for (node_at l) seat.facet l) e
+    by false false e f = ap (λ z. not z && stands_for (node_at l) seat.facet l) e ∙ f
+    by false true e f = elim (stands_cases (node_at l) seat.facet l f) [
+      | inl own ↦ absurd (let on = ap is_index own ∙ index (node_at l) in cc)
+      | inr (has, same) ↦ absurd (let on = class_is_no_index (node_at l) seat.facet has in let off = index (node_at l) in cc)
+    ]
+
+-- a node that sits nowhere, or whose index is looked at there, has no edge that is seen
+pub goes_past_seat : {says : Location ℕ → Bool → Type 0} (s : Scope) (seats : List Seat) (runs : List Run) (node : ℕ)
+    → ((seat : Seat) → slice_get seats node ≡ Some seat → (seat.place ≡ 0) ⊎ ((k : ℕ) → is_index (facet_at k seat.facet) ≡ true))
+    → (first : Option ℕ) (m : Memory) → GoesOn says (sees s node) (edges_over seats runs) first m first m
+goes_past_seat s seats runs node none first m = goes_nowhere first m (λ l h x c.
+    let at = seen_node node s l h in none_in x (subst (λ es. Contains es x) (by l at (slice_get seats node) refl) c))
+  where
+    by : (l : Location ℕ) → node_at l ≡ node → (o : Option Seat) → slice_get seats node ≡ o → edges_over seats runs l ≡ []
+    by l at None h = over_none seats runs l (ap (slice_get seats) at ∙ h)
+    by l at (Some seat) h = over_at seats runs l seat (ap (slice_get seats) at ∙ h) ∙ elim (none seat h) [
+      | inl is ↦ either_empty (is_seen (node_at l) seat l) (on_nowhere runs seat is)
+      | inr index ↦ ap (λ b. cond b (edges_on runs seat) []) (not_seen node seat l index at)
+    ]
+
+-- one list after the other, of the same locations
+pub goes_both : {says : Location ℕ → Bool → Type 0} {seen : Location ℕ → Bool} {lists more all : Location ℕ → List Edge} {first mid later : Option ℕ} {m n o : Memory}
+    → ((l : Location ℕ) → all l ≡ lists l ++ more l) → GoesOn says seen lists first m mid n → GoesOn says seen more mid n later o → GoesOn says seen all first m later o
+goes_both {later = later} {o = o} is a b old start w =
+    let (edges, done, asked) = a old start w in
+    let (rest, ended, then_asked) = b old (start ++ edges) done in
+    (edges ++ rest, subst (λ es. Work old es [] later o) (append_assoc start edges rest) ended, asked_both is asked then_asked)
+
+module _ {says : Location ℕ → Bool → Type 0} (rs : AllReaders) where
+  -- no node yet
+  pub goes_first : (first : Option ℕ) (m : Memory) → GoesOn says (λ l. nat_lt (node_at l) 0) (edges_to rs) first m first m
+  goes_first first m = goes_nowhere first m (λ l h. absurd (let less = ltb-true (node_at l) 0 h in omega (arith, less)))
+
+  -- one node more
+  pub goes_node : (number node : ℕ) → node ≡ number → {first mid later : Option ℕ} {m n o : Memory}
+      → GoesOn says (λ l. nat_lt (node_at l) number) (edges_to rs) first m mid n → GoesOn says (sees scope.All node) (edges_to rs) mid n later o
+      → GoesOn says (λ l. nat_lt (node_at l) (number + 1)) (edges_to rs) first m later o
+  goes_node number node is a b = goes_as (λ l h. inl (within l (ltb-true (node_at l) (number + 1) h))) (goes_further a b)
+    where
+      within : (l : Location ℕ) → node_at l < number + 1 → (nat_lt (node_at l) number || sees scope.All node l) ≡ true
+      within l less = elim (cases_lt (node_at l) number) [
+        | inl before ↦ on_left (nat_lt (node_at l) number) (sees scope.All node l) (lt-ltb (node_at l) number before)
+        | inr after ↦ on_right (nat_lt (node_at l) number) (sees scope.All node l)
+            (and (nat_eq node (node_at l)) true (eq-eqb node (node_at l) (let e : node_at l ≡ number = omega (arith, less, after) in is ∙ sym e)) refl)
+      ]
+
+  -- all nodes
+  pub goes_through : (number : ℕ) → length rs.own.items ≤ number → length rs.seats.items ≤ number → {later : Option ℕ} {m n : Memory}
+      → GoesOn says (λ l. nat_lt (node_at l) number) (edges_to rs) None m later n → IsIdle m
+      → (start : List Edge) × Work m start [] later n × Begins says (edges_to rs) start
+  goes_through number own seats {later} {m} {n} goes idle =
+      let (start, work, asked) = goes m [] (begun m idle) in
+      (start, work, record { from = asked.from; all = λ l. by l start asked (nat_lt (node_at l) number) refl })
+    where
+      beyond : (l : Location ℕ) → number ≤ node_at l → edges_to rs l ≡ []
+      beyond l more =
+          let a : length rs.own.items ≤ node_at l = omega (arith, own, more) in
+          let b : length rs.seats.items ≤ node_at l = omega (arith, seats, more) in
+          ap (λ es. es ++ edges_over rs.seats.items rs.runs.items l) (no_edges rs.own.items l (slice_get_past rs.own.items (node_at l) a))
+          ∙ over_none rs.seats.items rs.runs.items l (slice_get_past rs.seats.items (node_at l) b)
+
+      by : (l : Location ℕ) (start : List Edge) → Asked says (λ k. nat_lt (node_at k) number) (edges_to rs) start → (b : Bool) → nat_lt (node_at l) number ≡ b
+          → says l false ⊎ ((x : Edge) → Contains (edges_to rs l) x → Contains start x)
+      by l start asked true h = asked.all l h
+      by l start asked false h = inr (λ x c. absurd (none_in x (subst (λ es. Contains es x) (beyond l (past (node_at l) number h)) c)))
+        where
+          past : (a b : ℕ) → nat_lt a b ≡ false → b ≤ a
+          past a b off = elim (cases_lt a b) [ inl less ↦ absurd (let on = lt-ltb a b less in cc) | inr more ↦ more ]

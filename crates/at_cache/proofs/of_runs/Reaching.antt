@@ -1,0 +1,132 @@
+-- Edges of a run, some of which go, and one of which comes.
+use Rattle.std.proofs.Common.{◌≡◌, ◌⊎◌, inl, inr, ℕ, zero, suc, ◌<◌, List, [], ◌∷◌, ◌++◌, ◌&&◌, Bool, true, false, true≢false, cond, Option, None, Some, Result, Ok, Err, OnOk, Contains, length, get_or, slice_get, slice_set, swap_remove, IsPermutation, nat_eq, if◌then◌else◌, refl, sym, ap, ◌∙◌, subst, eqb-true}
+use Rattle.std.specs.List.{flat_map}
+use Rattle.std.proofs.lemmas.Bool.{cases_eq, eq-eqb}
+use Rattle.std.proofs.lemmas.Option.{none-some, same_Some, get_or_from_slice_get}
+use Rattle.std.proofs.lemmas.List.Elements.{Contains-append_left, Contains-push, Contains-push_cases}
+use Rattle.std.proofs.lemmas.List.Sorted.{Contains-permutation, IsPermutation-swap_remove, IsPermutation-sym}
+use Rattle.slab.proofs.SlabLemmas.{Contains-cons, Contains-cons_cases}
+use Rattle.at_cache.specs.declared.edge.Edge.{Edge}
+use Rattle.at_cache.specs.declared.run.Reach.{Reach}
+use Rattle.at_cache.specs.declared.run.Run.{Run}
+use Rattle.at_cache.specs.declared.run.Seat.{Seat}
+use Rattle.at_cache.specs.Info.{Memory}
+use Rattle.at_cache.specs.Runs.{Adds, Gains, Holds, HoldsReach, edges_on, edges_past, is_live, is_within, lies}
+use Rattle.at_cache.proofs.Dooming.{head_of}
+use Rattle.at_cache.proofs.Ending.{and, both}
+use Rattle.at_cache.proofs.Gained.{get_other, get_same}
+use Rattle.at_cache.proofs.RowLists.{along_from, along_to}
+use Rattle.at_cache.proofs.Taking.{none_in}
+
+module _ {X : Type 0} {live : X → Bool} where
+  pub holds_all : {old new : List X} → new ≡ old → Holds live old new
+  holds_all is = record { keeps = λ x c on. subst (λ xs. Contains xs x) (sym is) c; from = λ x c. subst (λ xs. Contains xs x) is c }
+
+  pub holds_then : {old mid new : List X} → Holds live old mid → Holds live mid new → Holds live old new
+  holds_then a b = record { keeps = λ x c on. b.keeps x (a.keeps x c on) on; from = λ x c. a.from x (b.from x c) }
+
+  -- one that isn't live goes
+  pub holds_swapped : {old new : List X} (i : ℕ) (x : X) → i < length old → x ≡ get_or old i x → live x ≡ false → new ≡ swap_remove old i x → Holds live old new
+  holds_swapped {old} {new} i x inside is stale swapped =
+      let shuffled : IsPermutation old (x ∷ new) = subst (λ ys. IsPermutation old (x ∷ ys)) (sym swapped) (IsPermutation-swap_remove old i x inside is) in
+      record {
+        keeps = λ y c on. elim (Contains-cons_cases x y new (Contains-permutation old (x ∷ new) y shuffled c)) [
+          | inl same ↦ absurd (let off = ap live same in cc)
+          | inr d ↦ d
+        ];
+        from = λ y c. Contains-permutation (x ∷ new) old y (IsPermutation-sym old (x ∷ new) shuffled) (Contains-cons x y new c);
+      }
+
+  pub holds_popped : {old new : List X} (x : X) → old ≡ new ++ x ∷ [] → live x ≡ false → Holds live old new
+  holds_popped {old} {new} x is stale = record {
+    keeps = λ y c on. elim (Contains-push_cases new x y (subst (λ ys. Contains ys y) is c)) [
+      | inl d ↦ d
+      | inr same ↦ absurd (let off = ap live same in cc)
+    ];
+    from = λ y c. subst (λ ys. Contains ys y) (sym is) (Contains-append_left new (x ∷ []) y c);
+  }
+
+-- what comes behind what is left
+pub gains_pushed : {m : Memory} {x : Reach} {old mid new : List Reach} → HoldsReach m x.edge old mid → new ≡ mid ++ x ∷ [] → Gains m x old new
+gains_pushed {m} {x} {old} {mid} {new} h is = record {
+  keeps = λ r c on. subst (λ rs. Contains rs r) (sym is) (Contains-append_left mid (x ∷ []) r (h.keeps r c on));
+  only = λ r c. elim (Contains-push_cases mid x r (subst (λ rs. Contains rs r) is c)) [ inl d ↦ inl (h.from r d) | inr same ↦ inr (sym same) ];
+}
+
+pub gains_none : {m : Memory} {x : Reach} {old new : List Reach} → HoldsReach m x.edge old new → Gains m x old new
+gains_none h = record { keeps = h.keeps; only = λ r c. inl (h.from r c) }
+
+pub pushed_has : (mid : List Reach) {new : List Reach} (x : Reach) → new ≡ mid ++ x ∷ [] → Contains new x
+pushed_has mid x is = subst (λ rs. Contains rs x) (sym is) (Contains-push mid x)
+
+-- one edge over a place
+over_one : ℕ → Reach → List Edge
+over_one place r = if lies r.behind r.last place then r.edge ∷ [] else []
+
+pub past_from : (place : ℕ) (rs : List Reach) (y : Edge) → Contains (edges_past place rs) y
+    → (r : Reach) × Contains rs r × (lies r.behind r.last place ≡ true) × (r.edge ≡ y)
+past_from place rs y c =
+    let (r, d, e) = along_from (λ r. if lies r.behind r.last place then r.edge ∷ [] else []) rs y c in
+    let (on, is) = by r (lies r.behind r.last place) refl e in
+    (r, d, on, is)
+  where
+    by : (r : Reach) (b : Bool) → lies r.behind r.last place ≡ b → Contains (cond b (r.edge ∷ []) []) y
+        → (lies r.behind r.last place ≡ true) × (r.edge ≡ y)
+    by r true h e = (h, elim (Contains-cons_cases r.edge y [] e) [ inl same ↦ same | inr d ↦ absurd (none_in y d) ])
+    by r false h e = absurd (none_in y e)
+
+pub past_to : (place : ℕ) (rs : List Reach) (r : Reach) → Contains rs r → lies r.behind r.last place ≡ true → Contains (edges_past place rs) r.edge
+past_to place rs r c on = along_to (λ r. if lies r.behind r.last place then r.edge ∷ [] else []) rs r r.edge c
+    (subst (λ b. Contains (cond b (r.edge ∷ []) []) r.edge) (sym on) (head_of r.edge []))
+
+-- the edges over a seat where its run is that one
+pub on_are : (runs : List Run) (s : Seat) (r : Run) → slice_get runs s.run ≡ Some r → edges_on runs s ≡ edges_past s.place r.edges.items
+on_are runs s r h = ap (λ (o : Option Run). elim o as (λ _. List Edge) [ None ↦ [] | Some r ↦ edges_past s.place r.edges.items ]) h
+
+pub on_same : (xs ys : List Run) (s : Seat) → slice_get xs s.run ≡ slice_get ys s.run → edges_on xs s ≡ edges_on ys s
+on_same xs ys s h = ap (λ (o : Option Run). elim o as (λ _. List Edge) [ None ↦ [] | Some r ↦ edges_past s.place r.edges.items ]) h
+
+-- one run has other edges
+module _ {m : Memory} (x : Reach) (old new : List Run) (run : ℕ) (was v : Run) (there : slice_get old run ≡ Some was) (so : new ≡ slice_set old run v)
+    (gains : Gains m x was.edges.items v.edges.items) where
+  now : slice_get new run ≡ Some v
+  now = ap (λ xs. slice_get xs run) so ∙ get_same old run v was there
+
+  off : (s : Seat) → (s.run ≡ run → ⊥) → edges_on new s ≡ edges_on old s
+  off s differs = on_same new old s (ap (λ xs. slice_get xs s.run) so ∙ get_other old run s.run v differs)
+
+  before : (s : Seat) → s.run ≡ run → edges_on old s ≡ edges_past s.place was.edges.items
+  before s same = on_are old s was (ap (slice_get old) same ∙ there)
+
+  after : (s : Seat) → s.run ≡ run → edges_on new s ≡ edges_past s.place v.edges.items
+  after s same = on_are new s v (ap (slice_get new) same ∙ now)
+
+  pub adds_reach : Adds m x.edge (is_within run x.behind x.last) (edges_on old) (edges_on new)
+  adds_reach = record {
+    keeps = λ s y c on. elim (cases_eq s.run run) [
+      | inl same ↦
+          let (r, d, over, is) = past_from s.place was.edges.items y (subst (λ es. Contains es y) (before s same) c) in
+          let stays = gains.keeps r d (ap (is_live m x.edge) is ∙ on) in
+          subst (λ es. Contains es y) (sym (after s same)) (subst (Contains (edges_past s.place v.edges.items)) is (past_to s.place v.edges.items r stays over))
+      | inr differs ↦ subst (λ es. Contains es y) (sym (off s differs)) c
+    ];
+    only = λ s y c. elim (cases_eq s.run run) [
+      | inl same ↦ comes s same y (past_from s.place v.edges.items y (subst (λ es. Contains es y) (after s same) c))
+      | inr differs ↦ inl (subst (λ es. Contains es y) (off s differs) c)
+    ];
+  }
+    where
+      comes : (s : Seat) → s.run ≡ run → (y : Edge) → (r : Reach) × Contains v.edges.items r × (lies r.behind r.last s.place ≡ true) × (r.edge ≡ y)
+          → Contains (edges_on old s) y ⊎ ((y ≡ x.edge) × (is_within run x.behind x.last s ≡ true))
+      comes s same y (r, d, over, is) = elim (gains.only r d) [
+        | inl e ↦ inl (subst (λ es. Contains es y) (sym (before s same)) (subst (Contains (edges_past s.place was.edges.items)) is (past_to s.place was.edges.items r e over)))
+        | inr alike ↦ inr (sym is ∙ ap (λ (z : Reach). z.edge) alike, and_within s same (subst (λ (z : Reach). lies z.behind z.last s.place ≡ true) alike over))
+      ]
+        where
+          and_within : (s : Seat) → s.run ≡ run → lies x.behind x.last s.place ≡ true → is_within run x.behind x.last s ≡ true
+          and_within s same over = and (nat_eq s.run run) (lies x.behind x.last s.place) (eq-eqb s.run run same) over
+
+  pub reach_there : Contains v.edges.items x → (s : Seat) → is_within run x.behind x.last s ≡ true → Contains (edges_on new s) x.edge
+  reach_there c s h =
+      let (same, over) = both (nat_eq s.run run) (lies x.behind x.last s.place) h in
+      subst (λ es. Contains es x.edge) (sym (after s (eqb-true s.run run same))) (past_to s.place v.edges.items x c over)

@@ -1,0 +1,61 @@
+use Rattle.std.proofs.Common.{◌<◌, ◌≤◌, arith}
+use Rattle.at_cache.specs.Runs.{count_of}
+use Rattle.at_cache.proofs.of_runs.Along.{adds_along, lists_along}
+use Rattle.at_cache.proofs.of_runs.Seats.{counted, has_run}
+use Rattle.at_cache.proofs.of_runs.Stretches.{adds_before, lists_kept}
+use Rattle.at_cache.proofs.stretch.add_along.Goals as goal
+
+pub add_reach-requires : goal.add_reach-requires
+add_reach-requires c =
+    let f = rw c.as_slice-2.ensures.value at c.in_ok-last.ensures.follows in
+    let few = c.if-last-behind-lt-FEW.false in
+    let more : c.in-Some.behind < c.in_ok-last.last = omega (arith, few) in
+    has_run c.args.runs.now.items c.first_seat-seat.result.run c.in_ok-last.last (counted c.args.runs.now.items c.requires.given f more) (omega (arith, more))
+
+pub returns-in_err-add_reach-clause-seated : goal.returns-in_err-add_reach-clause-seated
+returns-in_err-add_reach-clause-seated c =
+    let f = rw c.as_slice-2.ensures.value at c.in_ok-last.ensures.follows in
+    let few = c.if-last-behind-lt-FEW.false in
+    let more : c.in-Some.behind < c.in_ok-last.last = omega (arith, few) in
+    record {
+      apart = c.requires.apart;
+      given = λ n s h.
+          let a = c.requires.given n s h in
+          let e = c.add_reach.ensures.given s.run in
+          omega (arith, a, e);
+      past = c.add_reach.ensures.past (counted c.args.runs.now.items c.requires.given f more) c.requires.past;
+    }
+
+pub returns-in_err-add_reach-clause-adds : goal.returns-in_err-add_reach-clause-adds
+returns-in_err-add_reach-clause-adds c =
+    let f = rw c.as_slice-2.ensures.value at c.in_ok-last.ensures.follows in
+    adds_along c.args.seats.now.items c.add_reach.new.runs.items f c.args.runs.now.items c.add_reach.ensures.adds
+
+pub lengthen-requires : goal.lengthen-requires
+lengthen-requires c =
+    let f = rw c.as_slice-2.ensures.value at c.in_ok-last.ensures.follows in
+    let few = c.if-last-behind-lt-FEW.false in
+    let more : c.in-Some.behind < c.in_ok-last.last = omega (arith, few) in
+    record {
+      apart = c.requires.apart;
+      given = λ n s h.
+          let a = c.requires.given n s h in
+          let e = c.add_reach.ensures.given s.run in
+          omega (arith, a, e);
+      past = c.add_reach.ensures.past (counted c.args.runs.now.items c.requires.given f more) c.requires.past;
+    }
+
+pub returns-in_err-lengthen-clause-adds : goal.returns-in_err-lengthen-clause-adds
+returns-in_err-lengthen-clause-adds c =
+    let f = rw c.as_slice-2.ensures.value at c.in_ok-last.ensures.follows in
+    adds_before (adds_along c.args.seats.now.items c.add_reach.new.runs.items f c.args.runs.now.items c.add_reach.ensures.adds) c.lengthen.ensures.holds
+
+pub returns-clause-adds : goal.returns-clause-adds
+returns-clause-adds c =
+    let f = rw c.as_slice-2.ensures.value at c.in_ok-last.ensures.follows in
+    adds_before (adds_along c.args.seats.now.items c.add_reach.new.runs.items f c.args.runs.now.items c.add_reach.ensures.adds) c.lengthen.ensures.holds
+
+pub returns-clause-listed : goal.returns-clause-listed
+returns-clause-listed c =
+    let f = rw c.as_slice-2.ensures.value at c.in_ok-last.ensures.follows in
+    lists_kept _ (lists_along c.args.seats.now.items c.add_reach.new.runs.items f c.in_ok-add_reach.ensures.has) c.lengthen.ensures.holds
