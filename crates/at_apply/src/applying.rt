@@ -148,6 +148,7 @@ fn node_as(
 }
 
 // The child.
+#[inline(always)]
 fn child(store: &Store, reads: &mut Reads, part: usize, value: &Value) -> Result<Value, Stop>
     requires idle { IsIdle store.now }
     ensures { IfOk result (λ v. HasLooked (contents store.now) reads.old reads.new (child_of part (value_view value.now)) (value_view v)) }
@@ -181,6 +182,7 @@ fn has(store: &Store, reads: &mut Reads, part: usize, value: &Value) -> Result<V
 }
 
 // The token.
+#[inline(always)]
 fn token(store: &Store, reads: &mut Reads, part: usize, value: &Value) -> Result<Value, Stop>
     requires idle { IsIdle store.now }
     ensures { IfOk result (λ v. HasLooked (contents store.now) reads.old reads.new (token_of part (value_view value.now)) (value_view v)) }

@@ -153,6 +153,7 @@ impl Value {
     }
 
     /// The value of a token. An error where memory is wanting.
+    #[inline(always)]
     pub fn of_token(token: Token<'_>) -> Result<Value, AllocError>
         ensures { IfOk result (λ v. value_view v ≡ value_of (lent_view token.entry)) }
     {

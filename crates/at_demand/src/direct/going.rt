@@ -82,6 +82,7 @@ impl Direct {
 
     // The level of an evaluation that ended, emptied, or a fresh one. One with room for many locations isn't used again: below a long chain each
     // instance that waits would hold such a one.
+    #[inline(always)]
     fn level(&mut self) -> Level
         ensures { GivesLevel self.old self.new result }
     {
