@@ -52,39 +52,28 @@ pub along_has : (rs : List Row) (k : ℕ) (r : Row) (x : Edge) → slice_get rs 
     → Contains (edges_along rs) x
 along_has rs k r x is c = along_to edges_of rs r x (get_contains rs k r is) c
 
-none_left : (xs : List Edge) → nat_eq (length xs) 0 ≡ true → xs ≡ []
-none_left [] h = refl
-none_left (x ∷ xs) h = absurd (let e = eqb-true (length (x ∷ xs)) 0 h in omega (arith, e))
-
--- none of its edges tells of an entry, where none is left of them
-pub keeps_none : {m : Memory} {old : List Edge} (new : List Edge) → Keeps m old new → nat_eq (length new) 0 ≡ true → Keeps m old []
-keeps_none {m} {old} new k none = subst (Keeps m old) (none_left new none) k
-
 -- a row whose edges tell of no entry goes
-pub stale_goes : {m : Memory} {new : List Row} (mid : List Row) (i : ℕ) (r d : Row) → i < length mid → r ≡ get_or mid i r → Keeps m (edges_of (get_or mid i d)) []
-    → new ≡ swap_remove mid i r → Keeps m (edges_along mid) (edges_along new)
-stale_goes {m} {new} mid i r d inside is empties swapped =
+pub row_goes : {m : Memory} {read mid new : List Row} (i : ℕ) (r d t : Row) → i < length mid → read ≡ mid → r ≡ get_or mid i r → Keeps m (edges_of (get_or read i d)) (edges_of t) → nat_eq (length (edges_of t)) 0 ≡ true →
+    new ≡ swap_remove mid i r → Keeps m (edges_along mid) (edges_along new)
+row_goes {m} {read} {mid} {new} i r d t inside same is trims none swapped =
     let shuffled : IsPermutation mid (r ∷ new) = subst (λ ys. IsPermutation mid (r ∷ ys)) (sym swapped) (IsPermutation-swap_remove mid i r inside is) in
-    let it : get_or mid i d ≡ r = sym (get_or_default mid i r d inside) ∙ sym is in
-    let none : Keeps m (edges_of r) [] = subst (λ w. Keeps m (edges_of w) []) it empties in
+    let it : get_or read i d ≡ r = ap (λ (rs : List Row). get_or rs i d) same ∙ sym (get_or_default mid i r d inside) ∙ sym is in
+    let empties : Keeps m (edges_of r) [] = subst (λ w. Keeps m (edges_of w) []) it (subst (Keeps m (edges_of (get_or read i d))) (none_left (edges_of t) none) trims) in
     record {
       keeps = λ y c e there same.
           let (x, d, f) = along_from edges_of mid y c in
           elim (Contains-cons_cases r x new (Contains-permutation mid (r ∷ new) x shuffled d)) [
-            | inl alike ↦ absurd (none_in y (none.keeps y (subst (λ w. Contains (edges_of w) y) (sym alike) f) e there same))
+            | inl alike ↦ absurd (none_in y (empties.keeps y (subst (λ w. Contains (edges_of w) y) (sym alike) f) e there same))
             | inr rest ↦ along_to edges_of new x y rest f
           ];
       from = λ y c.
           let (x, d, f) = along_from edges_of new y c in
           along_to edges_of mid x y (Contains-permutation (r ∷ new) mid x (IsPermutation-sym mid (r ∷ new) shuffled) (Contains-cons r x new d)) f;
     }
-
--- so it does where the list that was read is another one by name
-pub row_goes : {m : Memory} {read mid new : List Row} (i : ℕ) (r d t : Row) → i < length mid → read ≡ mid → r ≡ get_or mid i r
-    → Keeps m (edges_of (get_or read i d)) (edges_of t) → nat_eq (length (edges_of t)) 0 ≡ true → new ≡ swap_remove mid i r
-    → Keeps m (edges_along mid) (edges_along new)
-row_goes {m} {mid = mid} i r d t inside same is trims none swapped =
-    stale_goes mid i r d inside is (subst (λ (rs : List Row). Keeps m (edges_of (get_or rs i d)) []) same (keeps_none (edges_of t) trims none)) swapped
+  where
+    none_left : (xs : List Edge) → nat_eq (length xs) 0 ≡ true → xs ≡ []
+    none_left [] h = refl
+    none_left (x ∷ xs) h = absurd (let e = eqb-true (length (x ∷ xs)) 0 h in omega (arith, e))
 
 module _ {m : Memory} where
   keeps_before : (front : List Edge) {a b : List Edge} → Keeps m a b → Keeps m (front ++ a) (front ++ b)

@@ -8,5 +8,4 @@ use Rattle.at_cache.specs.Rows.{edges_along, edges_from}
 abbrev pub edges_in : Edges → List Edge
 edges_in edges.Empty = []
 edges_in (edges.Few count step slot stamp) = edges_from (record { slot = slot; stamp = stamp }) step 0 count
-edges_in (edges.Several rows) = edges_along rows.value.items
 edges_in (edges.More rows) = edges_along rows.value.items

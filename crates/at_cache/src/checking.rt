@@ -100,7 +100,6 @@ fn is_in(entries: &Table, plan: &[Links], edges: &Edges, target: Slot) -> bool
                 target,
             )
         }
-        Edges::Several(rows) => is_in_rows(entries, plan, rows.as_slice(), target),
         Edges::More(rows) => is_in_rows(entries, plan, rows.as_slice(), target),
     }
 }

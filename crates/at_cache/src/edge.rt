@@ -5,7 +5,6 @@ ghost use Rattle.at_cache.specs.Edges.{edges_in};
 ghost use Rattle.at_cache.specs.Rows.{edges_along, edges_of};
 
 use crate::row::Row;
-use arrayvec::ArrayVec;
 use smallvec::SmallVec;
 use std::alloc::{AllocError, Global};
 
@@ -19,18 +18,14 @@ pub struct Edge {
     pub stamp: u64,
 }
 
-/// Edges in up to three rows, or in a long one. With how many there are they take 56 bytes, just what a block of 64 of the C library has.
-pub type Several = ArrayVec<Row, 3>;
-
-/// Edges in more rows.
-pub type Many = SmallVec<Row, 1>;
+/// Edges in several rows, or in a long one; three rows stand in the block of the list itself.
+pub type Many = SmallVec<Row, 3>;
 
 /// Edges, in sixteen bytes.
 pub enum Edges {
     Empty,
     /// A row of so many edges, with so great a step, from that slot and number on.
     Few(u8, u16, Slot, u64),
-    Several(Box<Several>),
     More(Box<Many>),
 }
 
@@ -46,8 +41,7 @@ impl Drop for Edges {
         match self {
             Edges::Empty => {}
             Edges::Few(_, _, _, _) => {}
-            Edges::Several(_rows) => {}
-            Edges::More(_rows) => {}
+            Edges::More(_list) => {}
         }
     }
 }
@@ -114,7 +108,6 @@ impl Edges {
         match self {
             Edges::Empty => true,
             Edges::Few(count, _, _, _) => *count == 0,
-            Edges::Several(rows) => are_empty(rows.as_slice()),
             Edges::More(rows) => are_empty(rows.as_slice()),
         }
     }

@@ -77,7 +77,6 @@ pub fn doom_listed<W: Marked>(entries: &mut W, first: Option<Slot>, edges: &Edge
         Edges::Few(count, step, slot, stamp) => {
             doom_row(entries, first, &Row::few(*count, *step, *slot, *stamp))
         }
-        Edges::Several(rows) => doom_all(entries, first, rows.as_slice()),
         Edges::More(rows) => doom_all(entries, first, rows.as_slice()),
     }
 }

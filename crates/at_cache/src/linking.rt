@@ -1,6 +1,6 @@
 //! One edge more of what an entry rests on.
 
-ghost use Rattle.std.specs.Prelude.{◌≡◌, ◌⊎◌, ◌<◌, ◌≤◌, ◌^◌, ◌∷◌, ◌++◌, [], ℕ, List, Option, None, Some, IsSome, Contains, IfOk, IfSome, IsTrue, MatchBool, OnErr, OnOk, get_or, length, map, slice_get, slice_set, true, false};
+ghost use Rattle.std.specs.Prelude.{◌≡◌, ◌⊎◌, ◌<◌, ◌≤◌, ◌^◌, ◌∷◌, ◌++◌, [], ℕ, List, Option, None, Some, IsSome, Contains, IfOk, IfSome, IsTrue, MatchBool, OnErr, OnOk, length, map, slice_get, slice_set, true, false};
 ghost use Rattle.std.specs.Map.{lookup};
 ghost use Rattle.at_model.specs.Run.{Instance, Is, Location};
 ghost use Rattle.at_body.specs.Same.{same_instance};
@@ -8,7 +8,6 @@ ghost use Rattle.at_store.specs.Located.{loc_view};
 ghost use Rattle.at_cache.specs.declared.edge.Edge.{Edge};
 ghost use Rattle.at_cache.specs.declared.edge.Edges.{Edges};
 ghost use Rattle.at_cache.specs.declared.facet.Readers.{Readers};
-ghost use Rattle.at_cache.specs.declared.row.Row.{Row};
 ghost use Rattle.at_cache.specs.Asking.{AreNoted};
 ghost use Rattle.at_cache.specs.Edges.{edges_in};
 ghost use Rattle.at_cache.specs.Rows.{edges_along, edges_of};
@@ -20,7 +19,7 @@ ghost use Rattle.at_cache.specs.Finding.{edges_to};
 ghost use Rattle.at_cache.specs.Runs.{ListsBut, Stays};
 ghost use Rattle.at_cache.specs.Slots.{HasAdded, HasChanged, ListsAt, with_edges};
 
-use crate::edge::{Edge, Edges, Many, Several, Slot};
+use crate::edge::{Edge, Edges, Many, Slot};
 use crate::facet::{Facet, Facets, Readers};
 use crate::facets::first_facet;
 use crate::noting::note;
@@ -150,105 +149,16 @@ pub fn add_to_many(entries: &Table, rows: &mut Many, edge: Edge) -> Result<(), A
     add_row(entries, rows, edge)
 }
 
-// The row comes to that place, of up to three.
-fn set_third(rows: &mut Several, place: usize, row: Row)
-    requires { place < length rows.old.items }
-    ensures { rows.new.items ≡ slice_set rows.old.items place row }
-{
-    if let Some(at) = rows.get_mut(place) {
-        *at = row;
-    }
-}
-
-// Whether the edge lies behind the last one of up to three rows, which has it then.
-fn extends_third(rows: &mut Several, edge: Edge) -> bool
-    ensures { MatchBool result (edges_along rows.new.items ≡ edges_along rows.old.items ++ edge ∷ []) (rows.new.items ≡ rows.old.items) }
-{
-    let Some(place) = rows.len().checked_sub(1) else {
-        return false;
-    };
-    match rows.as_slice()[place].extended(edge) {
-        Some(row) => {
-            set_third(rows, place, row);
-            true
-        }
-        None => false,
-    }
-}
-
-// Where a row stands that tells of no entry, if there is one.
-fn stale(entries: &Table, rows: &[Row]) -> Option<usize>
-    ensures { IfSome result (λ k. (r : Row) × (k < length rows.now) × Keeps (memory_of entries.now) (edges_of (get_or rows.now k r)) []) }
-{
-    for place in 0..rows.len() {
-        if trimmed(entries, rows[place]).is_empty() {
-            return Some(place);
-        }
-    }
-    None
-}
-
-// Takes out a row that tells of no entry, where there is no room for one more.
-fn make_place(entries: &Table, rows: &mut Several)
-    ensures { Keeps (memory_of entries.now) (edges_along rows.old.items) (edges_along rows.new.items) }
-{
-    if !rows.is_full() {
-        return;
-    }
-    if let Some(place) = stale(entries, rows.as_slice()) {
-        rows.swap_remove(place);
-    }
-}
-
-// One more row of up to three, and whether there is a place for it.
-fn add_third(entries: &Table, rows: &mut Several, edge: Edge) -> bool
-    ensures lists { MatchBool result (Lists (memory_of entries.now) edge (edges_along rows.old.items) (edges_along rows.new.items))
-        (Keeps (memory_of entries.now) (edges_along rows.old.items) (edges_along rows.new.items)) }
-    ensures has { IsTrue result → Contains (edges_along rows.new.items) edge }
-{
-    make_place(entries, rows);
-    if rows.is_full() {
-        return false;
-    }
-    rows.push(Row::of(edge));
-    true
-}
-
-// One more edge of up to three rows: the last one has it, or another one, if there is a place for that.
-fn add_to_several(entries: &Table, rows: &mut Several, edge: Edge) -> bool
-    ensures lists { MatchBool result (Lists (memory_of entries.now) edge (edges_along rows.old.items) (edges_along rows.new.items))
-        (Keeps (memory_of entries.now) (edges_along rows.old.items) (edges_along rows.new.items)) }
-    ensures has { IsTrue result → Contains (edges_along rows.new.items) edge }
-{
-    if extends_third(rows, edge) {
-        return true;
-    }
-    if do_end_with(rows.as_slice(), edge) {
-        return true;
-    }
-    add_third(entries, rows, edge)
-}
-
-// These rows and one more edge.
-fn more(alloc: Global, rows: &[Row], edge: Edge) -> Result<Edges, AllocError>
-    ensures { IfOk result (λ edges. edges_in edges ≡ edges_along rows.now ++ edge ∷ []) }
-{
-    let mut many = Many::with_capacity(alloc, rows.len().saturating_mul(2))?;
-    many.extend_from_slice(rows)?;
-    many.push(Row::of(edge))?;
-    Ok(Edges::More(Box::new(alloc, many)?))
-}
-
 // A row and one more edge, which lies behind it or in another one.
-fn two(row: Row, edge: Edge) -> Several
-    ensures { edges_along result.items ≡ edges_of row ++ edge ∷ [] }
+fn two(alloc: Global, row: Row, edge: Edge) -> Result<Many, AllocError>
+    ensures { IfOk result (λ rows. edges_along rows.items ≡ edges_of row ++ edge ∷ []) }
 {
-    let mut rows = Several::new();
-    rows.push(row);
-    if !extends_third(&mut rows, edge) {
-        rows.push(Row::of(edge));
+    let mut rows = Many::new(alloc);
+    rows.push(row)?;
+    if !extends_last(&mut rows, edge) {
+        rows.push(Row::of(edge))?;
     }
-    rows
+    Ok(rows)
 }
 
 // The edges of a row and one more.
@@ -258,7 +168,8 @@ fn both(alloc: Global, row: Row, edge: Edge) -> Result<Edges, AllocError>
     if row.is_empty() {
         return Ok(Edges::of(edge));
     }
-    Ok(Edges::Several(Box::new(alloc, two(row, edge))?))
+    let rows = two(alloc, row, edge)?;
+    Ok(Edges::More(Box::new(alloc, rows)?))
 }
 
 // The same in sixteen bytes, where it lies behind the row.
@@ -309,12 +220,6 @@ pub fn add_edge(
         Edges::Few(count, step, slot, stamp) => {
             let row = Row::few(*count, *step, *slot, *stamp);
             add_to_few(alloc, entries, edges, row, edge)
-        }
-        Edges::Several(rows) => {
-            if !add_to_several(entries, rows, edge) {
-                *edges = more(alloc, rows.as_slice(), edge)?;
-            }
-            Ok(())
         }
         Edges::More(rows) => add_to_many(entries, rows, edge),
     }

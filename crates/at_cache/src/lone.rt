@@ -126,7 +126,6 @@ impl Lone {
             Edges::Few(count, step, slot, stamp) => {
                 self.has_row(&Row::few(*count, *step, *slot, *stamp))
             }
-            Edges::Several(rows) => self.has_rows(rows.as_slice()),
             Edges::More(rows) => self.has_rows(rows.as_slice()),
         }
     }

@@ -100,7 +100,6 @@ fn gather(
                 &Row::few(*count, *step, *slot, *stamp),
             )
         }
-        Edges::Several(rows) => gather_rows(entries, plan, lone, slots, rows.as_slice()),
         Edges::More(rows) => gather_rows(entries, plan, lone, slots, rows.as_slice()),
     }
 }

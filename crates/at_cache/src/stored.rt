@@ -108,7 +108,6 @@ fn current_in(entries: &Table, edges: &Edges) -> usize
         Edges::Few(count, step, slot, stamp) => {
             current_along(entries, &Row::few(*count, *step, *slot, *stamp))
         }
-        Edges::Several(rows) => current_of(entries, rows.as_slice()),
         Edges::More(rows) => current_of(entries, rows.as_slice()),
     }
 }

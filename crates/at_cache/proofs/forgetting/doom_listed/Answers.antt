@@ -7,8 +7,5 @@ returns-in-Empty-clause-works g c old start w = rw c.in-Empty.is at w
 pub returns-in-Few-clause-works : goal.returns-in-Few-clause-works
 returns-in-Few-clause-works g c old start w = c.doom_row.ensures.works old start [] (rw (append-nil _, c.few.ensures) (rw c.in-Few.is at w))
 
-pub returns-in-Several-clause-works : goal.returns-in-Several-clause-works
-returns-in-Several-clause-works g c old start w = c.doom_all.ensures.works old start (rw (c.as_slice.ensures.value, c.deref.ensures) (rw c.in-Several.is at w))
-
 pub returns-in-More-clause-works : goal.returns-in-More-clause-works
-returns-in-More-clause-works g c old start w = c.doom_all-in-More.ensures.works old start (rw (c.as_slice-in-More.ensures, c.deref-in-More.ensures) (rw c.in-More.is at w))
+returns-in-More-clause-works g c old start w = c.doom_all.ensures.works old start (rw (c.as_slice.ensures, c.deref.ensures) (rw c.in-More.is at w))

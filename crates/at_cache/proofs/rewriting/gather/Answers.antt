@@ -7,8 +7,5 @@ returns-in-Empty c = rw c.in-Empty.is (gathered_none _ _ _)
 pub returns-in-Few : goal.returns-in-Few
 returns-in-Few c = rw (c.in-Few.is, ← c.few.ensures) c.gather_row.ensures
 
-pub returns-in-Several : goal.returns-in-Several
-returns-in-Several c = rw (c.in-Several.is, ← c.deref.ensures, ← c.as_slice.ensures.value) c.gather_rows.ensures
-
 pub returns-in-More : goal.returns-in-More
-returns-in-More c = rw (c.in-More.is, ← c.deref-in-More.ensures, ← c.as_slice-in-More.ensures) c.gather_rows-in-More.ensures
+returns-in-More c = rw (c.in-More.is, ← c.deref.ensures, ← c.as_slice.ensures) c.gather_rows.ensures

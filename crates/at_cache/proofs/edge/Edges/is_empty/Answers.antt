@@ -8,8 +8,5 @@ returns-in-Empty c = rw c.in-Empty.is refl
 pub returns-in-Few : goal.returns-in-Few
 returns-in-Few c = rw c.in-Few.is (ap (λ n. nat_eq n 0) (sym (many _ _ 0 _)))
 
-pub returns-in-Several : goal.returns-in-Several
-returns-in-Several c = rw (c.in-Several.is, ← c.deref.ensures, ← c.as_slice.ensures.value) c.are_empty.ensures
-
 pub returns-in-More : goal.returns-in-More
-returns-in-More c = rw (c.in-More.is, ← c.deref-in-More.ensures, ← c.as_slice-in-More.ensures) c.are_empty-in-More.ensures
+returns-in-More c = rw (c.in-More.is, ← c.deref.ensures, ← c.as_slice.ensures) c.are_empty.ensures

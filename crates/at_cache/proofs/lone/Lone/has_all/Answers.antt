@@ -7,8 +7,5 @@ returns-in-Empty c there into lone t = rw c.in-Empty.is (alone_none there into)
 pub returns-in-Few : goal.returns-in-Few
 returns-in-Few c = rw (c.in-Few.is, ← c.few.ensures) c.has_row.ensures
 
-pub returns-in-Several : goal.returns-in-Several
-returns-in-Several c = rw (c.in-Several.is, ← c.deref.ensures, ← c.as_slice.ensures.value) c.has_rows.ensures
-
 pub returns-in-More : goal.returns-in-More
-returns-in-More c = rw (c.in-More.is, ← c.deref-in-More.ensures, ← c.as_slice-in-More.ensures) c.has_rows-in-More.ensures
+returns-in-More c = rw (c.in-More.is, ← c.deref.ensures, ← c.as_slice.ensures) c.has_rows.ensures
