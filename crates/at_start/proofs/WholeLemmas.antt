@@ -62,22 +62,19 @@ answers_by {K} files slice made set new run readable left before after is starts
 -- so all that the run promises holds of it
 pub runs_by : {K R W : Type 0} (exact : Bool) (entries : K → Entries) (memories : K → Memories)
     (remaining : R → Option (List ℕ)) (misread ending : R → Option Bool) (count : R → Option ℕ) (contents : W → Option (List ℕ))
-    (failure : W → Option Bool) (waiting : W → Bool) (files : Files) (slice : ℕ) (made set new : Engine K) (reader left : R) (writer later : W)
-    (answered : Answered) → set ≡ record made { slice = slice } → Starts files (rules_of made) (state_of made)
+    (failure : W → Option Bool) (waiting : W → Bool) (files : Files) (slice : ℕ) (made set : Engine K) (reader left : R) (writer later : W)
+    (answered : Answered K) → set ≡ record made { slice = slice } → Starts files (rules_of made) (state_of made)
     → IsSpare entries made → work_of made ≡ 0
-    → RunsFor exact entries memories remaining misread ending count contents failure waiting max_reads set new reader left writer
+    → RunsFor exact entries memories remaining misread ending count contents failure waiting max_reads set answered.engine reader left writer
     later answered.run
-    → answered.work ≡ work_of new
     → RunsFiles exact entries memories remaining misread ending count contents failure waiting files slice reader left writer
     later answered
-runs_by {K} exact entries memories remaining misread ending count contents failure waiting files slice made set new reader left
-    writer later answered is starts spare idle runs work = record {
+runs_by {K} exact entries memories remaining misread ending count contents failure waiting files slice made set reader left
+    writer later answered is starts spare idle runs = record {
       made = set;
-      new = new;
       starts = subst (λ (e : Engine K). Starts files (rules_of e) (state_of e)) (sym is) starts;
       spare = subst (IsSpare entries) (sym is) spare;
       idle = ap work_of is ∙ idle;
       turns = ap slice_of is;
       runs = runs;
-      work = work;
     }

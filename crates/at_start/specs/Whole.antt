@@ -31,24 +31,22 @@ pub record Answers (files : Files) (slice : ℕ) (run : Result Report RunFault) 
   pub starts : Starts files rules old
   pub ran : Ran max_reads run rules slice old new readable left before after
 
--- The files make an engine, with so many turns behind each line, and all that a run promises holds of the run of that;
--- its work at the end is told.
+-- The files make an engine, with so many turns behind each line, and all that a run promises holds of the run of that, which
+-- leaves the engine that is given.
 pub record RunsFiles {K R W : Type 0} (exact : Bool) (entries : K → Entries) (memories : K → Memories)
     (remaining : R → Option (List ℕ)) (misread ending : R → Option Bool) (count : R → Option ℕ) (contents : W → Option (List ℕ))
     (failure : W → Option Bool) (waiting : W → Bool) (files : Files) (slice : ℕ) (reader left : R) (writer later : W)
-    (answered : Answered) : Type 0 where
+    (answered : Answered K) : Type 0 where
   pub made : Engine K
-  pub new : Engine K
   pub starts : Starts files (rules_of made) (state_of made)
   pub spare : IsSpare entries made
   pub idle : work_of made ≡ 0
   pub turns : slice_of made ≡ slice
-  pub runs : RunsFor exact entries memories remaining misread ending count contents failure waiting max_reads made new
+  pub runs : RunsFor exact entries memories remaining misread ending count contents failure waiting max_reads made answered.engine
       reader left writer later answered.run
-  pub work : answered.work ≡ work_of new
 
 -- So it is; or the fault is that of the first file that is refused, and nothing was read or written.
-abbrev pub AnswersFiles : Files → (slice : ℕ) → Result Answered StartFault → (readable left before after : Option (List ℕ)) → Type 0
+abbrev pub AnswersFiles : {K : Type 0} → Files → (slice : ℕ) → Result (Answered K) StartFault → (readable left before after : Option (List ℕ)) → Type 0
 AnswersFiles files slice (Ok answered) readable left before after = Answers files slice answered.run readable left before after
 AnswersFiles files slice (Err fault) readable left before after = IsStartFault files fault × (left ≡ readable) × (after ≡ before)
 

@@ -9,16 +9,16 @@ use super::fault::StartFault;
 use super::files::Files;
 use super::start_with;
 use at_cache::Keeper;
-use at_engine::{Input, Output, Report, RunFault, run_gathering};
+use at_engine::{Engine, Input, Output, Report, RunFault, run_gathering};
 use std::alloc::Global;
 
 /// What became of the lines that a reader gave.
-#[derive(Clone, Copy)]
-pub struct Answered {
+#[derive(Drop)]
+pub struct Answered<K> {
     /// What the run did, or why it ended before its input.
     pub run: Result<Report, RunFault>,
-    /// The engine's work at the end.
-    pub work: u64,
+    /// The engine as the run left it. It tells its work, and answers whatever else is asked.
+    pub engine: Engine<K>,
 }
 
 /// Serves the lines that the reader gives by the engine that the files make, over an empty keeper, with so many turns behind
@@ -36,7 +36,7 @@ pub fn answer<K: Keeper, R: Input, W: Output>(
     reader: &mut R,
     writer: &mut W,
     gathers: bool,
-) -> Result<Answered, StartFault>
+) -> Result<Answered<K>, StartFault>
     requires { KeepsNothing K.contents K.memories keeper }
     ensures answers { AnswersFiles files.old slice result (R.remaining reader.old) (R.remaining reader.new) (W.contents writer.old) (W.contents writer.new) }
     ensures runs { IfOk result (RunsFiles K.exact K.contents K.memories R.remaining R.failed R.ended R.reads W.contents W.failed W.waits files.old slice
@@ -46,7 +46,6 @@ pub fn answer<K: Keeper, R: Input, W: Output>(
 {
     let mut engine = start_with(alloc, files, keeper)?;
     engine.set_slice(slice);
-    let ended = run_gathering(&mut engine, reader, writer, gathers);
-    let work = engine.work();
-    Ok(Answered { run: ended, work })
+    let run = run_gathering(&mut engine, reader, writer, gathers);
+    Ok(Answered { run, engine })
 }

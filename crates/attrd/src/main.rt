@@ -27,7 +27,7 @@ mod socket;
 
 use at_cache::{KeepAtMost, KeepCutOff, KeepRecorded, Keeper};
 use at_engine::{Engine, Output, Watched};
-use at_start::{Files, MAX_FILE, Source, StartFault, USUAL_NODES, answer, start_with, tree_bytes};
+use at_start::{Answered, Files, MAX_FILE, Source, StartFault, USUAL_NODES, answer, start_with, tree_bytes};
 use door::Gathering;
 use failure::{Failure, status, tell};
 use options::{Options, options};
@@ -38,7 +38,7 @@ use std::fs::File;
 use std::io::{BufWriter, ErrorKind, Read};
 use std::os::unix::net::UnixListener;
 use std::process::ExitCode;
-use std::{env, io};
+use std::{env, io, mem};
 
 /// Serves what the words of the command line ask for, and ends with status 0; 1 where a file is refused, 2 where the
 /// words are, 3 where a file, the socket or a stream fails, 4 for want of memory.
@@ -192,8 +192,11 @@ fn serve_lines<K: Keeper, W: Output>(
         options.gather,
     ) {
         Ok(answered) => {
-            *work = Some(answered.work);
-            match answered.run {
+            let Answered { run, engine } = answered;
+            *work = Some(engine.work());
+            // what it holds goes with the process, at once
+            mem::forget(engine);
+            match run {
                 Ok(_) => Ok(()),
                 Err(fault) => Err(Failure::Run(fault)),
             }
@@ -202,7 +205,8 @@ fn serve_lines<K: Keeper, W: Output>(
     }
 }
 
-/// Serves the connections of the socket with the engine that the files make; notes the engine's work.
+/// Serves the connections of the socket with the engine that the files make; notes the engine's work. What the engine holds is
+/// left to the end of the process.
 fn serve_connections<K: Keeper>(
     rt: &HostRuntime,
     path: &str,
@@ -220,6 +224,7 @@ fn serve_connections<K: Keeper>(
     engine.set_slice(options.slice);
     let served = serve_socket(rt, path, options, &mut engine);
     *work = Some(engine.work());
+    mem::forget(engine);
     served
 }
 

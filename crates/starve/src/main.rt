@@ -101,7 +101,7 @@ fn serve_with<K: Keeper>(
     };
     match answered.run {
         Ok(report) => {
-            let _ = eprintln!(rt; "memory {}\nwork {}", report.memory, answered.work);
+            let _ = eprintln!(rt; "memory {}\nwork {}", report.memory, answered.engine.work());
             Ok(())
         }
         Err(RunFault::Memory) => Err(Stop::Memory),
