@@ -1,6 +1,7 @@
 //! Evaluation in one go: an instance is evaluated with all that it demands, by a recursion over the bodies of equations, which comes to its value
 //! or gives up. What isn't lazy is evaluated in the one that asks, and each lazy one is kept at its end; before it is evaluated it is kept again,
-//! if the keeper can do that without. Here is what such evaluations go by; `going.rt` has the recursion, `keeping.rt` what is done at an end.
+//! if the keeper can do that without. Here is what such evaluations go by; `going.rt` has the recursion, `operands.rt` what
+//! comes with none, `keeping.rt` what is done at an end.
 
 ghost use Rattle.std.specs.Prelude.{◌≡◌, ◌<◌, ◌^◌, []};
 
@@ -10,6 +11,7 @@ use std::alloc::Global;
 
 mod going;
 mod keeping;
+mod operands;
 
 // What an evaluation under way has looked at, and the known instances whose values it took.
 pub struct Level {

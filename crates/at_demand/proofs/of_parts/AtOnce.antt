@@ -1,16 +1,20 @@
--- Evaluations in one go: elements of a fold that come to their value at once.
+-- Evaluations in one go: elements of a fold, and operands, that come to their value at once.
 use Rattle.std.proofs.Common.{◌≡◌, ℕ, false, List, Option, Some, None, Result, Ok, Err, IfOk, IfSome, refl, sym, ap, ◌∙◌, subst}
-use Rattle.at_model.specs.Run.{Value, Instance, Location, Run}
+use Rattle.at_model.specs.Bodies.{Expr}
+use Rattle.at_model.specs.Classes.{Classes}
+use Rattle.at_model.specs.Run.{Value, Instance, Location, Contents, Run, Gives, ◌>>=◌}
 use Rattle.at_model.specs.Rules.{Rules, is_lazy}
 use Rattle.at_store.specs.Shown.{Shown, contents}
 use Rattle.at_rules.specs.Bodies.{body_view}
 use Rattle.at_rules.specs.declared.body.Body.{Body}
-use Rattle.at_body.specs.Rest.{ev}
+use Rattle.at_body.specs.Rest.{ev, with_one}
 use Rattle.at_body.specs.Standing.{Place, inside}
 use Rattle.at_body.specs.Values.{value_view}
+use Rattle.at_body.specs.declared.todo.Unary.{Unary}
 use Rattle.at_body.specs.declared.value.Value.{Value as ValueCode}
 use Rattle.at_apply.specs.Looking.{HasLooked, MayHaveLooked}
 use Rattle.at_apply.specs.Near.{asked}
+use Rattle.at_apply.specs.Parts.{one_of}
 use Rattle.at_demand.specs.declared.direct.Level.{Level}
 use Rattle.at_demand.specs.Known.{meaning}
 use Rattle.at_demand.specs.Inner.{HasTold}
@@ -53,3 +57,17 @@ plain_come rules s old reads p b n a (Ok (Some v)) is h = λ known. subst
 
     new : Level
     new = record { reads = reads; uses = old.uses }
+
+-- an expression whose value is at hand looks at nothing
+pub looked_at_hand : (look : Contents ℕ) (classes : Classes) (reads : List (Location ℕ)) (e : Expr) (p : Place) (o : Option ValueCode)
+    → IfSome o (λ v. (cs : Classes) → ev cs e p ≡ Gives (value_view v)) → MayHaveLooked look reads reads (ev classes e p) o
+looked_at_hand look classes reads e p None h = refl
+looked_at_hand look classes reads e p (Some v) h =
+    subst (λ (r : Run ℕ (Value ℕ)). HasLooked look reads reads r (value_view v)) (sym (h classes)) refl
+
+-- what is done with a value at hand comes to what that comes to
+pub looked_one : (look : Contents ℕ) (classes : Classes) (old new : List (Location ℕ)) (p : Place) (u : Unary) (b : Body) (x y : ValueCode)
+    → ev classes (body_view b) p ≡ Gives (value_view x) → HasLooked look old new (with_one classes u (value_view x)) (value_view y)
+    → HasLooked look old new (one_of classes p u b) (value_view y)
+looked_one look classes old new p u b x y is h =
+    subst (λ (r : Run ℕ (Value ℕ)). HasLooked look old new (r >>= with_one classes u) (value_view y)) (sym is) h

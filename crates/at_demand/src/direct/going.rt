@@ -16,11 +16,12 @@ ghost use Rattle.at_demand.specs.InParts.{AsksEachInner, AsksInner, MayHaveCome}
 ghost use Rattle.at_demand.specs.Sparing.{AreSpare, HasWorthy};
 
 use super::keeping::{few_of, is_small};
+use super::operands::value_at_once;
 use super::{Direct, Level};
 use crate::basis::Basis;
 use at_apply::{
-    Form, Here, Next, Stop, asked_of_each, at_hand, begin, chosen, compare, compare_with, form_of,
-    lent, node_of, plain_value, settle, truth_in, with_one, with_two,
+    Form, Here, Next, Stop, asked_of_each, begin, chosen, compare, compare_with, form_of, lent,
+    node_of, plain_value, settle, truth_in, with_one, with_two,
 };
 use at_body::{Arguments, Binary, Fold, Inst, Reads, Unary, Value, come_to};
 use at_cache::Keeper;
@@ -215,7 +216,7 @@ impl Direct {
             (held_by K.contents K.memories keeper.new self.new) level.old level.new result }
     {
         let begun = begin(self.alloc, basis.rules, basis.store, &mut level.reads, inst)?;
-        self.value(keeper, basis, level, &begun.0, begun.1, above)
+        self.operand(keeper, basis, level, &begun.0, begun.1, above)
     }
 
     // The value of an expression.
@@ -257,7 +258,7 @@ impl Direct {
         }
     }
 
-    // The value of an expression within another one, which may be at hand.
+    // The value of an expression within another one, which may come at once.
     #[inline(always)]
     #[cycle(direct)]
     fn operand<K: Keeper>(
@@ -274,7 +275,8 @@ impl Direct {
             (ev basis.now.rules.now.classes (body_view body.now) (place_at here.now)) value_view
             (held_by K.contents K.memories keeper.old self.old) (held_by K.contents K.memories keeper.new self.new) level.old level.new result }
     {
-        match at_hand(here, body) {
+        let at_once = value_at_once(basis, &mut level.reads, here, body)?;
+        match at_once {
             Some(value) => Ok(value),
             None => self.value(keeper, basis, level, here, body, above),
         }

@@ -279,33 +279,57 @@ evaluate-returns g n c =
     let s = c.args.basis.now.store.now in
     let i = c.args.inst.now in
     let old = held_by g.K.Keeper.contents g.K.Keeper.memories c.args.keeper.now c.args.self.now in
-    let new = held_by g.K.Keeper.contents g.K.Keeper.memories c.value.new.keeper c.value.new.self in
+    let new = held_by g.K.Keeper.contents g.K.Keeper.memories c.operand.new.keeper c.operand.new.self in
     let run = ev rules.classes (body_view c.in_ok-begun.begun.1.now) (place_at c.in_ok-begun.begun.0) in
     let gained : HasGained rules s g.K.Keeper.exact (meaning rules i) old new =
     gains_begun rules s g.K.Keeper.exact old new c.args.level.now.reads c.begin.new.reads (meaning rules i) run
-    c.in_ok-begun.ensures c.value.ensures.gains in
-    let come : IfOk c.value.result (λ v. HasCome rules (contents s) new c.args.level.now c.value.new.level
+    c.in_ok-begun.ensures c.operand.ensures.gains in
+    let come : IfOk c.operand.result (λ v. HasCome rules (contents s) new c.args.level.now c.operand.new.level
     (meaning rules i) (value_view v)) =
-    IfOk-weaker c.value.result _ _ (λ v h. come_begun rules s new c.args.level.now
-    (record { reads = c.begin.new.reads; uses = c.args.level.now.uses }) c.value.new.level (meaning rules i) run
-    (value_view v) refl c.in_ok-begun.ensures h) c.value.ensures.come in
+    IfOk-weaker c.operand.result _ _ (λ v h. come_begun rules s new c.args.level.now
+    (record { reads = c.begin.new.reads; uses = c.args.level.now.uses }) c.operand.new.level (meaning rules i) run
+    (value_view v) refl c.in_ok-begun.ensures h) c.operand.ensures.come in
     record {
       come = come;
-      unkept = unkept_result rules s g.K.Keeper.exact c.value.result i old new c.args.level.now c.value.new.level gained
+      unkept = unkept_result rules s g.K.Keeper.exact c.operand.result i old new c.args.level.now c.operand.new.level gained
           come;
       grown = grown_evaluated rules s g.K.Keeper.exact c.args.basis.now.idle i old new gained;
     }
 
+pub operand-returns-in_err-at_once : goal.operand-returns-in_err-at_once
+operand-returns-in_err-at_once g n c = record {
+  come = search rules;
+  gains =
+      nothing_gained c.args.basis.now.rules.now c.args.basis.now.store.now g.K.Keeper.exact
+      (ev c.args.basis.now.rules.now.classes (body_view c.args.body.now) (place_at c.args.here.now)) _ c.args.self.now.few c.requires;
+}
+
 pub operand-returns-in-Some : goal.operand-returns-in-Some
 operand-returns-in-Some g n c = record {
   come =
-      come_gives c.args.basis.now.rules.now c.args.basis.now.store.now _ c.args.level.now (ev
-      c.args.basis.now.rules.now.classes (body_view c.args.body.now) (place_at c.args.here.now)) (value_view
-      c.in-Some.value) (c.in-Some.ensures c.args.basis.now.rules.now.classes);
+      come_looked c.args.basis.now.rules.now c.args.basis.now.store.now _ c.args.level.now (record {
+        reads = c.value_at_once.new.reads;
+        uses =
+            c.args.level.now.uses;
+      }) (ev c.args.basis.now.rules.now.classes (body_view c.args.body.now) (place_at c.args.here.now))
+      (value_view c.in-Some.value) refl (subst (λ o. MayHaveLooked (contents c.args.basis.now.store.now)
+      c.args.level.now.reads c.value_at_once.new.reads (ev c.args.basis.now.rules.now.classes (body_view c.args.body.now) (place_at c.args.here.now)) o) c.in-Some.is
+      c.in_ok-at_once.ensures);
   gains =
-      nothing_gained c.args.basis.now.rules.now c.args.basis.now.store.now g.K.Keeper.exact (ev
-      c.args.basis.now.rules.now.classes (body_view c.args.body.now) (place_at c.args.here.now)) _ c.args.self.now.few
-      c.requires;
+      nothing_gained c.args.basis.now.rules.now c.args.basis.now.store.now g.K.Keeper.exact
+      (ev c.args.basis.now.rules.now.classes (body_view c.args.body.now) (place_at c.args.here.now)) _ c.args.self.now.few c.requires;
+}
+
+pub operand-returns-in-None : goal.operand-returns-in-None
+operand-returns-in-None g n c = record {
+  come =
+      subst (λ (ls : List (Location ℕ)). IfOk c.value.result (λ v. HasCome c.args.basis.now.rules.now (contents
+      c.args.basis.now.store.now) (held_by g.K.Keeper.contents g.K.Keeper.memories c.value.new.keeper c.value.new.self)
+      (record { reads = ls; uses = c.args.level.now.uses }) c.value.new.level (ev c.args.basis.now.rules.now.classes (body_view c.args.body.now) (place_at c.args.here.now))
+      (value_view v))) (subst (λ o. MayHaveLooked (contents c.args.basis.now.store.now) c.args.level.now.reads
+      c.value_at_once.new.reads (ev c.args.basis.now.rules.now.classes (body_view c.args.body.now) (place_at c.args.here.now)) o) c.in-None.is
+      c.in_ok-at_once.ensures) c.value.ensures.come;
+  gains = c.value.ensures.gains;
 }
 
 pub one-returns-in_err-value : goal.one-returns-in_err-value
