@@ -101,7 +101,7 @@ impl KeepRecorded {
         ensures { IfOk result (λ r. LeavesKept (kept_in (edges_to self.readers) self.entries self.puts)
             (kept_in (edges_to r.0.readers) r.0.entries r.0.puts)) }
     {
-        let choice = choose(
+        let (plan, limit) = choose(
             self.alloc,
             &self.entries,
             self.readers.own.as_slice(),
@@ -109,8 +109,8 @@ impl KeepRecorded {
             since,
             limit,
         )?;
-        let keeper = self.folded_by(choice.plan.as_slice())?;
-        Ok((keeper, choice.limit))
+        let keeper = self.folded_by(plan.as_slice())?;
+        Ok((keeper, limit))
     }
 
     // The same folded by that plan; an error, too, where there are runs.
