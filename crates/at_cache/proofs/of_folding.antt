@@ -7,4 +7,5 @@ pub mod Made
 pub mod Nodes
 pub mod Places
 pub mod Relinking
+pub mod Rerun
 pub mod Walking

@@ -23,4 +23,5 @@ pub mod Standings
 pub mod Marking
 pub mod Settling
 pub mod Renewing
+pub mod Rerunning
 pub mod Theirs

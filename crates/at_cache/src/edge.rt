@@ -2,6 +2,7 @@
 
 ghost use Rattle.std.specs.Prelude.{◌≡◌, ◌∷◌, [], IfOk, IfSome, length, nat_eq};
 ghost use Rattle.at_cache.specs.Edges.{edges_in};
+ghost use Rattle.at_cache.specs.Recorded.{same_edge};
 ghost use Rattle.at_cache.specs.Rows.{edges_along, edges_of};
 
 use crate::row::Row;
@@ -16,6 +17,15 @@ pub type Slot = u32;
 pub struct Edge {
     pub slot: Slot,
     pub stamp: u64,
+}
+
+impl Edge {
+    /// Whether it is the other one.
+    pub fn is_same(&self, other: &Edge) -> bool
+        ensures { result ≡ same_edge self.now other.now }
+    {
+        self.slot == other.slot && self.stamp == other.stamp
+    }
 }
 
 /// Edges in several rows, or in a long one; three rows stand in the block of the list itself.

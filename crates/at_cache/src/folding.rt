@@ -3,21 +3,22 @@
 //! A plan has for each slot those of the entries that its entry is folded into: itself where it stays, none where it goes whole. Any plan that
 //! passes `is_sound` is right, so that which one is made is a matter of speed alone.
 
-ghost use Rattle.std.specs.Prelude.{◌≡◌, ℕ, Contains, IsTrue, List, OnOk, length, nat_eq};
+ghost use Rattle.std.specs.Prelude.{◌≡◌, ℕ, Contains, IsTrue, List, OnOk, nat_eq};
 ghost use Rattle.std.specs.List.{list_any};
 ghost use Rattle.at_cache.specs.Asking.{AreNoted};
+ghost use Rattle.at_cache.specs.Finding.{edges_to};
 ghost use Rattle.at_cache.specs.Folding.{LeavesKept, slots_at};
 ghost use Rattle.at_cache.specs.Info.{memory_of};
-ghost use Rattle.at_cache.specs.Readers.{edges_at};
 ghost use Rattle.at_cache.specs.Recorded.{IsIndexed, kept_in};
 
 use crate::checking::is_sound;
 use crate::edge::Slot;
 use crate::entry::Links;
-use crate::facet::Facets;
 use crate::lone::lone_of;
 use crate::relinking::{links_of, relink, remove_folded};
+use crate::rerunning::rerun;
 use crate::rewriting::rewrite;
+use crate::run::AllReaders;
 use crate::table::Table;
 use std::alloc::{AllocError, Global};
 
@@ -65,22 +66,22 @@ pub fn does_stay(plan: &[Links], slot: Slot) -> bool
 pub fn fold(
     alloc: Global,
     entries: &mut Table,
-    readers: &mut Vec<Facets>,
+    readers: &mut AllReaders,
     plan: &[Links],
 ) -> Result<(), AllocError>
-    ensures indexed { (puts : ℕ) → IsIndexed (edges_at readers.old.items) puts (memory_of entries.old)
-        → OnOk result (IsIndexed (edges_at readers.new.items) puts (memory_of entries.new)) }
-    ensures kept { (puts : ℕ) → IsIndexed (edges_at readers.old.items) puts (memory_of entries.old)
-        → OnOk result (LeavesKept (kept_in (edges_at readers.old.items) entries.old puts) (kept_in (edges_at readers.new.items) entries.new puts)) }
-    ensures noted { (nodes : List ℕ) → AreNoted (edges_at readers.old.items) nodes → OnOk result (AreNoted (edges_at readers.new.items) nodes) }
-    ensures short { length readers.new.items ≡ length readers.old.items }
+    ensures indexed { (puts : ℕ) → IsIndexed (edges_to readers.old) puts (memory_of entries.old)
+        → OnOk result (IsIndexed (edges_to readers.new) puts (memory_of entries.new)) }
+    ensures kept { (puts : ℕ) → IsIndexed (edges_to readers.old) puts (memory_of entries.old)
+        → OnOk result (LeavesKept (kept_in (edges_to readers.old) entries.old puts) (kept_in (edges_to readers.new) entries.new puts)) }
+    ensures noted { (nodes : List ℕ) → AreNoted (edges_to readers.old) nodes → OnOk result (AreNoted (edges_to readers.new) nodes) }
 {
     if !is_sound(entries, plan) {
         return Err(AllocError);
     }
     let links = links_of(alloc, entries, plan)?;
     let lone = lone_of(alloc, entries, plan)?;
-    rewrite(alloc, entries, plan, &lone, readers)?;
+    rewrite(alloc, entries, plan, &lone, &mut readers.own)?;
+    rerun(alloc, entries, plan, &mut readers.runs)?;
     relink(alloc, entries, plan, links.as_slice(), &lone)?;
     remove_folded(entries, plan)
 }

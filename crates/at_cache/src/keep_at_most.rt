@@ -50,7 +50,7 @@ impl KeepAtMost {
         KeepAtMost {
             alloc,
             most,
-            keeper: KeepRecorded::empty(alloc, false),
+            keeper: KeepRecorded::empty(alloc),
             since: 0,
             limit: 0,
         }
@@ -66,7 +66,7 @@ impl KeepAtMost {
         if self.keeper.len() <= self.most {
             return;
         }
-        let keeper = mem::replace(&mut self.keeper, KeepRecorded::empty(self.alloc, false));
+        let keeper = mem::replace(&mut self.keeper, KeepRecorded::empty(self.alloc));
         let Ok((keeper, limit)) = keeper.folded(self.most - self.most / 4, self.since, self.limit)
         else {
             return;
@@ -85,8 +85,7 @@ impl KeepAtMost {
         self.keeper.len()
     }
 
-    /// How many direct reads the entries have: of an entry a location once, however often it was put, and a node's class once for each
-    /// location that is read next to it; or the greatest `usize` if they are more. It goes over all that was ever read.
+    /// How many direct reads the entries have, counted as by `KeepRecorded::stored`.
     pub fn stored(&self) -> usize
         ensures { result ≡ min (reads_held (memory_of self.now.keeper.entries) self.now.keeper.readers) (2 ^ 64 - 1) }
     {

@@ -74,7 +74,7 @@ impl KeepCutOff {
                 standings: Vec::new(alloc),
                 pass: Pass::Values,
             },
-            readers: AllReaders::new(alloc, true),
+            readers: AllReaders::new(alloc),
             index_read: Vec::new(alloc),
             puts: 0,
             doubtful: false,

@@ -57,11 +57,11 @@ impl KeepRecorded {
     pub fn new(alloc: Global) -> KeepRecorded
         ensures { KeepsAll (λ _. None) (kept_in (edges_to result.readers) result.entries result.puts) }
     {
-        KeepRecorded::empty(alloc, true)
+        KeepRecorded::empty(alloc)
     }
 
-    /// A keeper with no entries, which makes runs or doesn't.
-    pub fn empty(alloc: Global, has_runs: bool) -> KeepRecorded
+    /// A keeper with no entries.
+    pub fn empty(alloc: Global) -> KeepRecorded
         ensures nothing { KeepsAll (λ _. None) (kept_in (edges_to result.readers) result.entries result.puts) }
         ensures len { table_len result.entries ≡ 0 }
     {
@@ -72,7 +72,7 @@ impl KeepRecorded {
                 places: Slab::new(alloc),
                 attributes: Vec::new(alloc),
             },
-            readers: AllReaders::new(alloc, has_runs),
+            readers: AllReaders::new(alloc),
             index_read: Vec::new(alloc),
             puts: 0,
         }
@@ -104,7 +104,7 @@ impl KeepRecorded {
         let (plan, limit) = choose(
             self.alloc,
             &self.entries,
-            self.readers.own.as_slice(),
+            &self.readers,
             target,
             since,
             limit,
@@ -113,7 +113,7 @@ impl KeepRecorded {
         Ok((keeper, limit))
     }
 
-    // The same folded by that plan; an error, too, where there are runs.
+    // The same folded by that plan.
     fn folded_by(self, plan: &[Links]) -> Result<KeepRecorded, AllocError>
         ensures { IfOk result (λ k. LeavesKept (kept_in (edges_to self.readers) self.entries self.puts)
             (kept_in (edges_to k.readers) k.entries k.puts)) }
@@ -125,10 +125,7 @@ impl KeepRecorded {
             index_read,
             puts,
         } = self;
-        if !readers.runs.is_empty() {
-            return Err(AllocError);
-        }
-        fold(alloc, &mut entries, &mut readers.own, plan)?;
+        fold(alloc, &mut entries, &mut readers, plan)?;
         Ok(KeepRecorded {
             alloc,
             entries,

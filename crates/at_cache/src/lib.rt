@@ -6,7 +6,7 @@
 //! many locations, `Finding` both, `Recorded` what an entry stands for and how
 //! it is found (`IsIndexed`), `Keeping` what the keeper keeps, `Placed` where entries stand, `Putting` one more, `Flushing` a flush under way and
 //! `Asking` where one begins, `Slots` single writes, `Attributes` of which attributes entries came, `Stored` how many locations are
-//! read. `Folding` is what becomes of entries that are folded into those that used them. `UntilEdit` is the keeper that forgets all at an
+//! read. `Folding` is what becomes of entries that are folded into those that used them, `Rerunning` of edges of runs that tell of such. `UntilEdit` is the keeper that forgets all at an
 //! edit. Of the one that keeps again what didn't change, `Traced` is what it remembers, `Standings` what is kept
 //! and traced of the entries in memory, `Marking` a pass over them at an edit, `Renewing` and `Theirs` a put over one,
 //! `Settling` what is kept again, and `Blocking` what stands in its way.
@@ -15,7 +15,7 @@
 //! `row.rt` and `linking.rt` the edges; `run.rt` has runs, of which one edge tells of many locations: `seating.rt` makes them, and
 //! `stretch.rt` adds to them; `putting.rt` is `put`, `forgetting.rt` a flush, `places.rt` one by places.
 //! `keep_at_most.rt` is a keeper over it, with a bound: beyond it entries are folded (`folding.rt`) by a plan that is chosen (`choosing.rt`) and
-//! tested (`checking.rt`); `lone.rt` tells which lists stay, `rewriting.rt` has their edges, `relinking.rt` the entries.
+//! tested (`checking.rt`); `lone.rt` tells which lists stay, `rewriting.rt` has their edges, `rerunning.rt` those of runs, `relinking.rt` the entries.
 //! `keep_cut_off.rt` is one whose entries stay in memory: `cut.rt` and `standing.rt` have them,
 //! `cutting.rt` is its flush over what `forgetting.rt` marks (`marked.rt`), `renewing.rt` its `put`, `settling.rt`
 //! and `blocking.rt` what a question keeps again.
@@ -52,6 +52,7 @@ mod places;
 mod putting;
 mod relinking;
 mod renewing;
+mod rerunning;
 mod rewriting;
 mod row;
 mod run;

@@ -459,7 +459,7 @@ pub fn add_readers(
     ensures listed { OnOk result (AreListed edge (map loc_view locations.now) (edges_to readers.new)) }
     ensures noted { AreNoted (edges_to readers.old) index_read.old.items → AreNoted (edges_to readers.new) index_read.new.items }
 {
-    if locations.len() < MANY || !readers.has_runs {
+    if locations.len() < MANY {
         return add_own(alloc, entries, readers, index_read, locations, edge);
     }
     add_fold(alloc, entries, readers, index_read, locations, edge)

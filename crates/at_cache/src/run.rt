@@ -1,6 +1,7 @@
 //! Runs: nodes that were looked at one after the other, as a fold over a list looks at its elements.
 
 ghost use Rattle.std.specs.Prelude.{◌≡◌, ◌≤◌, ◌^◌, [], length};
+ghost use Rattle.at_cache.specs.Rerunning.{is_as_wide};
 ghost use Rattle.at_cache.specs.Runs.{AreSeated, lies};
 
 use crate::edge::Edge;
@@ -38,8 +39,6 @@ pub struct AllReaders {
     /// Where nodes sit, by their numbers.
     pub seats: Vec<Seat>,
     pub runs: Vec<Run>,
-    /// Whether runs are made.
-    pub has_runs: bool,
     pub ghost seated: { AreSeated seats.items runs.items },
     pub ghost short: { length own.items ≤ 2 ^ 32 },
     pub ghost few: { length seats.items ≤ 2 ^ 32 },
@@ -59,6 +58,24 @@ impl Seat {
 }
 
 impl Reach {
+    /// The same to another entry.
+    pub fn to(&self, edge: Edge) -> Reach
+        ensures { result ≡ record self.now { edge = edge } }
+    {
+        Reach {
+            edge,
+            behind: self.behind,
+            last: self.last,
+        }
+    }
+
+    /// Whether it tells of the same entry as the other one, over that part of the run or more.
+    pub fn is_as_wide(&self, other: &Reach) -> bool
+        ensures { result ≡ is_as_wide self.now other.now }
+    {
+        self.edge.is_same(&other.edge) && !(other.behind < self.behind) && !(self.last < other.last)
+    }
+
     /// Whether it is over the place.
     pub fn is_over(&self, place: u32) -> bool
         ensures { result ≡ lies self.now.behind self.now.last place }
@@ -68,8 +85,8 @@ impl Reach {
 }
 
 impl AllReaders {
-    /// None yet, where runs are made, or aren't.
-    pub fn new(alloc: Global, has_runs: bool) -> AllReaders
+    /// None yet.
+    pub fn new(alloc: Global) -> AllReaders
         ensures own { result.own.items ≡ [] }
         ensures seats { result.seats.items ≡ [] }
     {
@@ -77,7 +94,6 @@ impl AllReaders {
             own: Vec::new(alloc),
             seats: Vec::new(alloc),
             runs: Vec::new(alloc),
-            has_runs,
         }
     }
 }
