@@ -17,5 +17,6 @@ pub mod Renewed
 pub mod Resting
 pub mod Retraced
 pub mod Seeing
+pub mod Slotted
 pub mod Tying
 pub mod Untraced

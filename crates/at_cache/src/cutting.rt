@@ -13,7 +13,7 @@ ghost use Rattle.at_cache.specs.Standings.{IsTaken, is_shown, standing_of};
 
 use crate::cut::{Cut, Pass};
 use crate::edge::{Edge, Edges, Slot};
-use crate::forgetting::{begin, doom_listed};
+use crate::forgetting::{begin, doom_listed, doom_row};
 use crate::mark::Mark;
 use crate::marked::Marked;
 use crate::places::begin_named;
@@ -75,6 +75,9 @@ pub fn doom_users(cut: &mut Cut, slot: Slot, first: Option<Slot>) -> Option<Slot
     ensures past { IsPast cut.old cut.new }
     ensures count { seen_count cut.new ≡ seen_count cut.old }
 {
+    if let Some(row) = cut.entries.users_row(slot) {
+        return doom_row(cut, first, &row);
+    }
     let users = cut.entries.exchange_users(slot, Edges::Empty);
     let first = doom_listed(cut, first, &users);
     cut.entries.exchange_users(slot, users);

@@ -99,6 +99,18 @@ impl Edges {
         Some(Edges::Few(row.count as u8, row.step, row.slot, row.stamp))
     }
 
+    /// The row that they are, where they are one in sixteen bytes.
+    pub fn row(&self) -> Option<Row>
+        ensures { IfSome result (λ row. edges_of row ≡ edges_in self.now) }
+    {
+        match self {
+            Edges::Few(count, step, slot, stamp) => Some(Row::few(*count, *step, *slot, *stamp)),
+            Edges::Empty => None,
+            Edges::Several(_) => None,
+            Edges::More(_) => None,
+        }
+    }
+
     /// The edges of these rows, in no more memory than they need.
     pub fn of_rows(alloc: Global, rows: Many) -> Result<Edges, AllocError>
         ensures { IfOk result (λ edges. edges_in edges ≡ edges_along rows.items) }

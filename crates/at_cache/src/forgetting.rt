@@ -38,8 +38,8 @@ fn doom<W: Marked>(entries: &mut W, first: Option<Slot>, edge: &Edge) -> Option<
     }
 }
 
-// So do those that all edges of the row tell of.
-fn doom_row<W: Marked>(entries: &mut W, first: Option<Slot>, row: &Row) -> Option<Slot>
+/// So do those that all edges of the row tell of.
+pub fn doom_row<W: Marked>(entries: &mut W, first: Option<Slot>, row: &Row) -> Option<Slot>
     ensures works { (old : Memory) (start left : List Edge) → Work old start (edges_of row.now ++ left) first (W.memory entries.old)
         → Work old start left result (W.memory entries.new) }
     ensures aside { W.aside entries.new ≡ W.aside entries.old }

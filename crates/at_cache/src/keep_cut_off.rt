@@ -1,17 +1,20 @@
 //! The keeper that takes what an edit may have changed as changed only where it did.
 
-ghost use Rattle.std.specs.Prelude.{◌≡◌, ◌≤◌, ◌^◌, length, None, true};
+ghost use Rattle.std.specs.Prelude.{◌≡◌, ◌≤◌, ◌^◌, IfSome, length, None, true};
 ghost use Rattle.at_cache.specs.Asking.{AreNoted};
 ghost use Rattle.at_cache.specs.Info.{memory_of, table_len};
 ghost use Rattle.at_cache.specs.Kept.{KeepsAll};
 ghost use Rattle.at_cache.specs.Finding.{edges_to};
 ghost use Rattle.at_cache.specs.Recorded.{IsIndexed};
 ghost use Rattle.at_cache.specs.Standings.{AreValued, IsTied, held, kept_held, last_is, remembered};
+ghost use Rattle.at_cache.specs.Theirs.{HasSlot};
 ghost use Rattle.at_cache.specs.Traced.{TracesNothing};
 
+use crate::again::is_its;
 use crate::blocking::blocking;
 use crate::cut::{Cut, Pass};
 use crate::cutting::{take_away, take_away_at};
+use crate::edge::Slot;
 use crate::keeper::{Keeper, Order, Put};
 use crate::renewing::enter_held;
 use crate::run::AllReaders;
@@ -35,6 +38,8 @@ pub struct KeepCutOff {
     index_read: Vec<Node>,
     // How many numbers were given, by `put` and where an entry was kept again.
     puts: u64,
+    // Where the entry may be that is asked for next: the last one that was to be kept again. Nothing rests on it.
+    near: Slot,
     // Whether there ever was an edit; before that there is nothing to be kept again. Nothing rests on it.
     doubtful: bool,
     ghost indexed: { IsIndexed (edges_to readers) puts (held cut.standings.items (memory_of cut.entries)) },
@@ -52,6 +57,7 @@ impl Drop for KeepCutOff {
             readers: _,
             index_read: _,
             puts: _,
+            near: _,
             doubtful: _,
         } = self;
     }
@@ -77,8 +83,20 @@ impl KeepCutOff {
             readers: AllReaders::new(alloc),
             index_read: Vec::new(alloc),
             puts: 0,
+            near: 0,
             doubtful: false,
         }
+    }
+
+    // Where the entry of the instance is, if it has one.
+    fn slot_of(&self, inst: &Inst) -> Option<Slot>
+        ensures { IfSome result (HasSlot self.now.cut.entries inst.now) }
+    {
+        if is_its(&self.cut.entries, inst, self.near) {
+            return Some(self.near);
+        }
+        let entry = self.cut.entries.get(inst)?;
+        Some(entry.slot)
     }
 
     /// How many entries are in memory, kept or not.
@@ -142,6 +160,7 @@ impl Keeper for KeepCutOff {
             return work;
         };
         let slot = entry.slot;
+        self.near = slot;
         let mut counts = Counts {
             puts: self.puts,
             work,
@@ -161,9 +180,9 @@ impl Keeper for KeepCutOff {
         if !self.doubtful {
             return None;
         }
-        let entry = self.cut.entries.get(inst)?;
-        let slot = blocking(&self.cut.entries, self.cut.standings.as_slice(), entry.slot);
-        if slot == entry.slot {
+        let asked = self.slot_of(inst)?;
+        let slot = blocking(&self.cut.entries, self.cut.standings.as_slice(), asked);
+        if slot == asked {
             return None;
         }
         let (instance, _) = self.cut.entries.pair(slot)?;

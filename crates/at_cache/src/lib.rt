@@ -25,6 +25,7 @@
 //! one's. A flush takes no memory.
 #![tactic(auto)]
 
+mod again;
 mod attributes;
 mod blocking;
 mod checking;

@@ -15,13 +15,14 @@ ghost use Rattle.at_cache.specs.Renewing.{Compares, IsSlotFor, LosesUsers, PutsI
 ghost use Rattle.at_cache.specs.Standings.{AreValued, IsTied, held, kept_held, remembered};
 ghost use Rattle.at_cache.specs.Traced.{PutsTrace};
 
+use crate::again::slots_again;
 use crate::cut::{Cut, Pass};
 use crate::cutting::{doom_users, forget_all, take_from};
 use crate::edge::{Edge, Slot};
 use crate::entry::Entry;
 use crate::keeper::{Order, Put};
 use crate::linking::{add_readers, add_users};
-use crate::putting::{fresh, slots_of};
+use crate::putting::fresh;
 use crate::run::AllReaders;
 use crate::standing::{Standing, make_standing, set_standing};
 use crate::table::Table;
@@ -96,11 +97,11 @@ fn put_in(cut: &mut Cut, inst: Inst, entry: Entry) -> Result<(), AllocError>
         cut.old.standings.items (memory_of cut.old.entries) cut.new.standings.items (memory_of cut.new.entries)) }
     ensures err { OnErr result (((k : ℕ) → memory_of cut.new.entries k ≡ memory_of cut.old.entries k) × (cut.new.standings.items ≡ cut.old.standings.items)) }
 {
-    if cut.entries.get(&inst).is_none() {
-        return cut.entries.enter(inst, entry);
+    if cut.entries.is_taken(entry.slot) {
+        renew(cut, &inst, entry);
+        return Ok(());
     }
-    renew(cut, &inst, entry);
-    Ok(())
+    cut.entries.enter(inst, entry)
 }
 
 /// An entry that is kept from now on, of that number, which no entry had.
@@ -134,8 +135,8 @@ pub fn enter_held(
         (remembered (edges_to readers.old) cut.old.entries cut.old.standings.items)
         (remembered (edges_to readers.new) cut.new.entries cut.new.standings.items) }
 {
-    let links = slots_of(alloc, &cut.entries, uses)?;
     let slot = slot_for(&cut.entries, &inst)?;
+    let links = slots_again(alloc, &cut.entries, uses, slot)?;
     make_standing(&mut cut.standings, slot)?;
     let edge = Edge { slot, stamp };
     add_readers(alloc, &cut.entries, readers, index_read, reads, edge)?;

@@ -8,7 +8,7 @@ ghost use Rattle.at_cache.specs.Putting.{AreTaken};
 ghost use Rattle.at_cache.specs.Settling.{CanKeep, HasSettled, HasSettledAll, IsWhole};
 
 use crate::edge::Slot;
-use crate::standing::{Standing, set_standing, standing_at};
+use crate::standing::{Standing, is_verified, set_standing, standing_at};
 use crate::table::Table;
 
 /// How many levels deep what was used is gone into at most. A level takes some hundred bytes of the native stack.
@@ -23,8 +23,27 @@ pub struct Counts {
 
 /// Whether the entry in the slot is kept with a value, once all that can be kept again is, of what it used, and so on, and of itself. What lies
 /// more levels below stays as it is.
+#[inline(always)]
 #[cycle(settling)]
 pub fn settle_at(
+    entries: &Table,
+    standings: &mut Vec<Standing>,
+    counts: &mut Counts,
+    slot: Slot,
+    levels: usize,
+) -> bool
+    ensures { (lists : Location ℕ → List Edge) → IsWhole lists entries.now standings.old.items counts.old
+        → HasSettled lists entries.now slot standings.old.items counts.old result standings.new.items counts.new }
+{
+    if is_verified(standing_at(standings.as_slice(), slot)) {
+        return true;
+    }
+    settle_below(entries, standings, counts, slot, levels)
+}
+
+// The same, by a look at the entry itself.
+#[cycle(settling)]
+fn settle_below(
     entries: &Table,
     standings: &mut Vec<Standing>,
     counts: &mut Counts,

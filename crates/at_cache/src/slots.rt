@@ -8,6 +8,7 @@ ghost use Rattle.at_body.specs.Values.{value_view};
 ghost use Rattle.slab.specs.Slab.{get};
 ghost use Rattle.indexmap.specs.IndexMap.{IsUnique, index_map_len};
 ghost use Rattle.at_cache.specs.Edges.{edges_in};
+ghost use Rattle.at_cache.specs.Rows.{edges_of};
 ghost use Rattle.at_cache.specs.Info.{Info, info, is_going, memory_of, table_len};
 ghost use Rattle.at_cache.specs.Placed.{IsMoved, IsPlaced, at};
 ghost use Rattle.at_cache.specs.Marking.{HasMark, aside_table, unmarked};
@@ -21,6 +22,7 @@ use crate::entry::{Entry, Links};
 use crate::facet::small;
 use crate::mark::Mark;
 use crate::marked::Marked;
+use crate::row::Row;
 use crate::table::Table;
 use at_body::{Inst, Value};
 use indexmap::IndexMap;
@@ -124,6 +126,14 @@ impl Table {
             Some(place) => write_users(&mut self.entries, *place, users),
             None => users,
         }
+    }
+
+    /// The edges to those that used the entry in the slot, where they are a row in sixteen bytes.
+    pub fn users_row(&self, slot: Slot) -> Option<Row>
+        ensures { IfSome result (λ row. edges_of row ≡ users_at (memory_of self.now) slot) }
+    {
+        let (_, entry) = self.pair(slot)?;
+        entry.users.row()
     }
 
     /// Whether an entry is in the slot.

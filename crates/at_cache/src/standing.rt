@@ -1,6 +1,6 @@
 //! How entries stand that stay in memory also where they aren't kept.
 
-ghost use Rattle.std.specs.Prelude.{◌≡◌, ◌<◌, ℕ, OnOk, length, slice_set};
+ghost use Rattle.std.specs.Prelude.{◌≡◌, ◌<◌, ℕ, IsTrue, OnOk, length, slice_set, true};
 ghost use Rattle.at_cache.specs.Standings.{standing_of};
 
 use crate::edge::Slot;
@@ -25,6 +25,17 @@ pub fn standing_at(standings: &[Standing], slot: Slot) -> Standing
         Some(standing) => *standing,
         None => Standing::default(),
     }
+}
+
+/// Whether what stands so is kept, and can be kept again: so it has a value.
+pub fn is_verified(standing: Standing) -> bool
+    ensures holds { IsTrue result → standing.holds ≡ true }
+    ensures traced { IsTrue result → standing.traced ≡ true }
+{
+    if !standing.holds {
+        return false;
+    }
+    standing.traced
 }
 
 /// Room for the standing of the slot.

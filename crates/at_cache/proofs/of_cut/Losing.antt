@@ -1,5 +1,5 @@
 -- What used an entry that is put with another value has no trace any more.
-use Rattle.std.proofs.Common.{◌≡◌, ◌⊎◌, inl, inr, ℕ, List, [], ◌∷◌, length, Bool, true, false, true≢false, Option, None, Some, IsSome, option_map, nat_eq, Contains, if◌then◌else◌, refl, sym, ap, ◌∙◌, subst}
+use Rattle.std.proofs.Common.{◌≡◌, ◌⊎◌, inl, inr, ℕ, List, [], ◌∷◌, length, Bool, true, false, true≢false, Option, None, Some, IsSome, is_some, option_map, nat_eq, Contains, if◌then◌else◌, refl, sym, ap, ◌∙◌, subst}
 use Rattle.std.specs.Map.{lookup}
 use Rattle.std.specs.Option.{option_and_then}
 use Rattle.std.proofs.lemmas.Bool.{cases_eq, eq-eqb, ne_eqb}
@@ -155,3 +155,11 @@ module _ (t : Table) (i : Instance ℕ) (slot : ℕ) (for : IsSlotFor t i slot) 
 
   pub slot_stands : IsSome (lookup (same_instance i) t.entries.entries) → IsSome (memory_of t slot)
   slot_stands some = there_slot (lookup (same_instance i) t.entries.entries) for refl some
+
+  -- where its slot is free it has none
+  pub slot_free : is_some (memory_of t slot) ≡ false → lookup (same_instance i) t.entries.entries ≡ None
+  slot_free off = by (lookup (same_instance i) t.entries.entries) refl
+    where
+      by : (o : Option Entry) → lookup (same_instance i) t.entries.entries ≡ o → lookup (same_instance i) t.entries.entries ≡ None
+      by None is = is
+      by (Some e) is = absurd (true≢false (sym (slot_stands (ap is_some is)) ∙ off))

@@ -1,12 +1,12 @@
-use Rattle.std.proofs.Common.{◌≡◌, ◌∙◌, ap, sym, subst, List, [], ℕ, refl}
+use Rattle.std.proofs.Common.{◌≡◌, ◌∙◌, ap, append-nil, sym, subst, List, [], ℕ, refl}
 use Rattle.at_cache.specs.declared.edge.Edge.{Edge}
 use Rattle.at_cache.specs.Edges.{edges_in}
 use Rattle.at_cache.specs.Flushing.{Work}
 use Rattle.at_cache.specs.Info.{Memory, memory_of}
-use Rattle.at_cache.specs.Marking.{Aside, seen_among}
+use Rattle.at_cache.specs.Marking.{Aside, seen_among, seen_by}
 use Rattle.at_cache.specs.Putting.{users_at}
 use Rattle.at_cache.specs.Standings.{seen}
-use Rattle.at_cache.proofs.of_cut.Passing.{seen_out, users_come}
+use Rattle.at_cache.proofs.of_cut.Passing.{past_aside, seen_out, users_come}
 use Rattle.at_cache.proofs.cutting.doom_users.Goals as goal
 
 pub exchange_users-requires : goal.exchange_users-requires
@@ -36,5 +36,18 @@ returns c =
           let w2 = subst (λ (m : Memory). Work old start us c.args.first m) (sym (seen_out p ss c.args.slot [] m0 m1 c.requires.there c.requires.hidden c.exchange_users-users.ensures.written)) w1 in
           subst (λ (m : Memory). Work old start [] c.doom_listed-first.result m) (sym same) (c.doom_listed-first.ensures.works old start w2);
       past = (ap (λ (a : Aside). a.pass) aside, passes);
+      count = ap (λ (a : Aside). seen_among a.pass a.standings) aside;
+    }
+
+pub returns-in-Some : goal.returns-in-Some
+returns-in-Some c =
+    let aside = c.doom_row.ensures.aside in
+    let p = c.args.cut.now.pass in
+    let ss = c.args.cut.now.standings.items in
+    record {
+      works = λ old start w.
+          c.doom_row.ensures.works old start [] (subst (λ (us : List Edge). Work old start us c.args.first (seen_by c.args.cut.now))
+          (sym (append-nil _ ∙ c.in-Some.ensures)) w);
+      past = past_aside c.args.cut.now c.doom_row.new.entries aside;
       count = ap (λ (a : Aside). seen_among a.pass a.standings) aside;
     }

@@ -39,8 +39,8 @@ settle_all-returns t c lists whole taken i trace traced uses =
           (take_all c.loop-slot.slot-index c.args.slots.now c.loop-slot-test.false) all,
     )
 
-pub settle_at-returns-then-standing : goal.settle_at-returns-then-standing
-settle_at-returns-then-standing t c lists whole e there = (
+pub settle_below-returns-then-standing : goal.settle_below-returns-then-standing
+settle_below-returns-then-standing t c lists whole e there = (
   goes_none lists c.args.entries.now e.instance _ _ whole,
   λ h. value_kept lists c.args.entries.now c.args.standings.now.items c.args.counts.now.puts c.args.slot e there
       (ap (λ (z : Standing). z.holds) (sym (rw c.as_slice.ensures.value at c.standing_at-standing.ensures)) ∙ c.if-standing.true)
@@ -50,12 +50,12 @@ settle_at-returns-then-standing t c lists whole e there = (
       ∙ h),
 )
 
-pub settle_at-returns-then-not-standing : goal.settle_at-returns-then-not-standing
-settle_at-returns-then-not-standing t c lists whole e there =
+pub settle_below-returns-then-not-standing : goal.settle_below-returns-then-not-standing
+settle_below-returns-then-not-standing t c lists whole e there =
     (goes_none lists c.args.entries.now e.instance _ _ whole, λ h. absurd (true≢false (sym h)))
 
-pub settle_at-returns-then-not-settle_all : goal.settle_at-returns-then-not-settle_all
-settle_at-returns-then-not-settle_all t c lists whole e there =
+pub settle_below-returns-then-not-settle_all : goal.settle_below-returns-then-not-settle_all
+settle_below-returns-then-not-settle_all t c lists whole e there =
     let m = memory_of c.args.entries.now in
     let traced = ap (λ (z : Standing). z.traced) (sym (rw c.as_slice.ensures.value at c.standing_at-standing.ensures))
     ∙ is_on c.standing_at-standing.result.traced c.if-not-standing.false in
@@ -70,8 +70,8 @@ settle_at-returns-then-not-settle_all t c lists whole e there =
     (ap (instances_in m) (sym same)) in
     (goes, λ h. absurd (true≢false (sym h)))
 
-pub settle_at-returns : goal.settle_at-returns
-settle_at-returns t c lists whole e there =
+pub settle_below-returns : goal.settle_below-returns
+settle_below-returns t c lists whole e there =
     let m = memory_of c.args.entries.now in
     let traced = ap (λ (z : Standing). z.traced) (sym (rw c.as_slice.ensures.value at c.standing_at-standing.ensures))
     ∙ is_on c.standing_at-standing.result.traced c.if-not-standing.false in
@@ -92,3 +92,16 @@ settle_at-returns t c lists whole e there =
           (same ∙ ap (λ (y : Info). y.links) (same_Some e f (sym there ∙ in_f))) kept,
     ) e there in
     (goes_then lists c.args.entries.now e.instance _ _ _ _ _ _ goes again, value)
+
+pub settle_at-returns-then-is_verified : goal.settle_at-returns-then-is_verified
+settle_at-returns-then-is_verified t c lists whole e there =
+    let same = sym (rw c.as_slice.ensures.value at c.standing_at.ensures) in (
+      goes_none lists c.args.entries.now e.instance _ _ whole,
+      λ h. value_kept lists c.args.entries.now c.args.standings.now.items c.args.counts.now.puts c.args.slot e there
+          (ap (λ (z : Standing). z.holds) same ∙ c.is_verified.ensures.holds c.if-is_verified.true)
+          (whole.valued c.args.slot e there (ap (λ (z : Standing). z.traced) same
+          ∙ c.is_verified.ensures.traced c.if-is_verified.true)),
+    )
+
+pub settle_at-returns : goal.settle_at-returns
+settle_at-returns t c = c.settle_below.ensures

@@ -9,10 +9,13 @@ use Rattle.at_cache.specs.Traced.{AreAllKept, Trace}
 use Rattle.at_cache.proofs.settling.+settling.Given as goal
 
 abbrev pub decreases-settle_all : goal.decreases-settle_all
-decreases-settle_all l = 2 * l.levels + 1
+decreases-settle_all l = 3 * l.levels + 2
 
 abbrev pub decreases-settle_at : goal.decreases-settle_at
-decreases-settle_at l = 2 * l.levels
+decreases-settle_at l = 3 * l.levels + 1
+
+abbrev pub decreases-settle_below : goal.decreases-settle_below
+decreases-settle_below l = 3 * l.levels
 
 abbrev pub invariant-settle_all-loop-slot : goal.invariant-settle_all-loop-slot
 invariant-settle_all-loop-slot l = (lists : Location ℕ → List Edge)

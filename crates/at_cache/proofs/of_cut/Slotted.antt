@@ -1,0 +1,59 @@
+-- The slot of an instance's entry.
+use Rattle.std.proofs.Common.{◌≡◌, ℕ, List, [], Option, None, Some, ap, option_map, refl, subst, sym, true, ◌∙◌}
+use Rattle.std.specs.Map.{lookup}
+use Rattle.std.proofs.lemmas.Option.{none-some, same_Some}
+use Rattle.slab.specs.Slab.{get}
+use Rattle.at_model.specs.Run.{Instance}
+use Rattle.at_body.specs.Same.{same_instance}
+use Rattle.at_body.proofs.SamenessLemmas.{same_true}
+use Rattle.at_cache.specs.declared.entry.Entry.{Entry}
+use Rattle.at_cache.specs.declared.table.Table.{Table}
+use Rattle.at_cache.specs.declared.edge.Edge.{Edge}
+use Rattle.at_cache.specs.Edges.{edges_in}
+use Rattle.at_cache.specs.Info.{Info, info, memory_of}
+use Rattle.at_cache.specs.Placed.{at}
+use Rattle.at_cache.specs.Putting.{users_at}
+use Rattle.at_cache.specs.Theirs.{HasSlot}
+use Rattle.at_cache.proofs.of_cut.HeldSlots.{entry_in}
+
+-- the users of what is in the slot
+pub users_there : (t : Table) (s : ℕ) (x : Instance ℕ × Entry) → Some x ≡ at t.entries.entries (get t.places) s
+    → edges_in x.1.users ≡ users_at (memory_of t) s
+users_there t s x found = ap (λ (o : Option Info). elim o as (λ _. List Edge) [ None ↦ [] | Some e ↦ e.users ])
+    (ap (option_map info) found)
+
+-- what is in the slot is of the instance
+pub its_slot : (t : Table) (s : ℕ) (i : Instance ℕ) (x : Instance ℕ × Entry) → Some x ≡ at t.entries.entries (get t.places) s
+    → same_instance x.0 i ≡ true → HasSlot t i s
+its_slot t s i x found same =
+    let (e, looked, there, value) = entry_in t s (info x) (ap (option_map info) (sym found)) in
+    record {
+      entry = e;
+      found = subst (λ j. lookup (same_instance j) t.entries.entries ≡ Some e) (same_true x.0 i same) looked;
+      there = there;
+    }
+
+-- the slot of the entry that is looked up
+pub slot_is : (t : Table) (i : Instance ℕ) (s : ℕ) → HasSlot t i s
+    → Some s ≡ option_map (λ (e : Entry). e.slot) (lookup (same_instance i) t.entries.entries)
+slot_is t i s has = sym (ap (option_map (λ (e : Entry). e.slot)) has.found ∙ ap Some has.there)
+
+-- and the other way round
+pub has_slot : (t : Table) (i : Instance ℕ) (s : ℕ)
+    → Some s ≡ option_map (λ (e : Entry). e.slot) (lookup (same_instance i) t.entries.entries) → HasSlot t i s
+has_slot t i s is = by (lookup (same_instance i) t.entries.entries) refl is
+  where
+    by : (o : Option Entry) → lookup (same_instance i) t.entries.entries ≡ o → Some s ≡ option_map (λ (e : Entry). e.slot) o
+        → HasSlot t i s
+    by None looked is = absurd (none-some s (sym is))
+    by (Some e) looked is = record { entry = e; found = looked; there = sym (same_Some s e.slot is) }
+
+pub no_slot : (t : Table) (i : Instance ℕ)
+    → None ≡ option_map (λ (e : Entry). e.slot) (lookup (same_instance i) t.entries.entries)
+    → lookup (same_instance i) t.entries.entries ≡ None
+no_slot t i is = by (lookup (same_instance i) t.entries.entries) refl is
+  where
+    by : (o : Option Entry) → lookup (same_instance i) t.entries.entries ≡ o → None ≡ option_map (λ (e : Entry). e.slot) o
+        → lookup (same_instance i) t.entries.entries ≡ None
+    by None looked is = looked
+    by (Some e) looked is = absurd (none-some e.slot is)

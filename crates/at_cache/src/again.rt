@@ -1,0 +1,119 @@
+//! What an entry used that is put anew: mostly what it used before, in the same order.
+
+ghost use Rattle.std.specs.Prelude.{◌≡◌, IfOk, IfSome, IsTrue, option_map};
+ghost use Rattle.std.specs.Map.{lookup};
+ghost use Rattle.at_body.specs.Same.{same_instance};
+ghost use Rattle.at_cache.specs.Info.{memory_of};
+ghost use Rattle.at_cache.specs.Putting.{AreTaken};
+ghost use Rattle.at_cache.specs.Recorded.{AreOf};
+ghost use Rattle.at_cache.specs.Theirs.{AreTheirs, HasSlot};
+
+use crate::edge::Slot;
+use crate::entry::Links;
+use crate::putting::slots_of;
+use crate::table::Table;
+use at_body::Inst;
+use std::alloc::{AllocError, Global};
+
+/// Whether the entry of the instance is in the slot.
+pub fn is_its(entries: &Table, instance: &Inst, slot: Slot) -> bool
+    ensures { IsTrue result → HasSlot entries.now instance.now slot }
+{
+    match entries.pair(slot) {
+        Some((other, _)) => *other == *instance,
+        None => false,
+    }
+}
+
+// The slot at that place of these, where the entry of the instance is in it.
+fn its_at(entries: &Table, instance: &Inst, known: &[Slot], place: usize) -> Option<Slot>
+    ensures { IfSome result (HasSlot entries.now instance.now) }
+{
+    let slot = *known.get(place)?;
+    if is_its(entries, instance, slot) {
+        return Some(slot);
+    }
+    None
+}
+
+// The slot at that place of these, or at the next one, where the entry of the instance is in it.
+fn its_near(entries: &Table, instance: &Inst, known: &[Slot], place: usize) -> Option<Slot>
+    ensures { IfSome result (HasSlot entries.now instance.now) }
+{
+    let first = its_at(entries, instance, known, place);
+    if first.is_some() {
+        return first;
+    }
+    its_at(entries, instance, known, place.saturating_add(1))
+}
+
+// The slot of the instance's entry.
+fn looked_up(entries: &Table, instance: &Inst) -> Option<Slot>
+    ensures { result ≡ option_map (λ e. e.slot) (lookup (same_instance instance.now) entries.now.entries.entries) }
+{
+    match entries.get(instance) {
+        Some(entry) => Some(entry.slot),
+        None => None,
+    }
+}
+
+// The slot of the instance's entry, which may be at that place of these, or at the next one.
+fn slot_near(entries: &Table, instance: &Inst, known: &[Slot], place: usize) -> Option<Slot>
+    ensures { result ≡ option_map (λ e. e.slot) (lookup (same_instance instance.now) entries.now.entries.entries) }
+{
+    match its_near(entries, instance, known, place) {
+        Some(slot) => Some(slot),
+        None => looked_up(entries, instance),
+    }
+}
+
+// Where the next one may be, where the slot was looked for at that place.
+fn next_place(known: &[Slot], place: usize, slot: Slot) -> usize {
+    let next = place.saturating_add(1);
+    if known.get(place).copied() == Some(slot) {
+        return next;
+    }
+    if known.get(next).copied() == Some(slot) {
+        return next.saturating_add(1);
+    }
+    place
+}
+
+/// The slots of these instances. What the entry in the slot used, if there is one, is looked at first.
+pub fn slots_again(
+    alloc: Global,
+    entries: &Table,
+    uses: &[Inst],
+    slot: Slot,
+) -> Result<Links, AllocError>
+    ensures taken { IfOk result (λ slots. AreTaken (memory_of entries.now) slots.items) }
+    ensures covers { IfOk result (λ slots. AreOf entries.now uses.now slots.items) }
+    ensures theirs { IfOk result (λ slots. AreTheirs entries.now uses.now slots.items) }
+{
+    let Some((_, entry)) = entries.pair(slot) else {
+        return slots_of(alloc, entries, uses);
+    };
+    slots_near(alloc, entries, uses, entry.links.as_slice())
+}
+
+// The slots of these instances, which may be these, in this order.
+fn slots_near(
+    alloc: Global,
+    entries: &Table,
+    uses: &[Inst],
+    known: &[Slot],
+) -> Result<Links, AllocError>
+    ensures taken { IfOk result (λ slots. AreTaken (memory_of entries.now) slots.items) }
+    ensures covers { IfOk result (λ slots. AreOf entries.now uses.now slots.items) }
+    ensures theirs { IfOk result (λ slots. AreTheirs entries.now uses.now slots.items) }
+{
+    let mut slots = Links::with_capacity(alloc, uses.len())?;
+    let mut place = 0_usize;
+    for used in uses {
+        if let Some(slot) = slot_near(entries, used, known, place) {
+            slots.push(slot)?;
+            place = next_place(known, place, slot);
+        }
+    }
+    Ok(slots)
+}
