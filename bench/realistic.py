@@ -10,7 +10,7 @@ alone. All answers of the two are compared. Times are processor times, the least
 attributes that --work counts; instructions are counted where there is `valgrind`, of keystrokes only with --instructions, which takes
 minutes. --row measures the rows whose names have that in them; --cut-off and --keep give the program that option. With --quarter the
 rows are measured with --keep, too, for a quarter of the values that the first question evaluates, foldings with them. What is wanted is
-told beside what was measured, for the programs of the first seed; with --hold the status is 1 where it isn't reached. It takes five
+told beside what was measured, for the programs of the first seed; with --hold the status is 1 where it isn't reached. It takes ten
 minutes.
 """
 from __future__ import annotations
@@ -37,10 +37,10 @@ from served import Served
 from attrd import Grammar
 
 SIZES, SEED, ROUNDS = (1_000, 10_000, 60_000), 1, 4
-# How long the Java program does the same again in each round, in seconds.
-JAVA_SECONDS = 0.7
-# How often the lines are sent in each round.
-REPEATED = 2
+# How long each of the two does the same again in each round, in seconds of its own time.
+SECONDS = 0.7
+# How often the lines are sent in each round, at least and at most.
+REPEATED, MOST_REPEATED = 2, 200
 COLD = "all errors, nothing kept"
 # What is wanted: instructions of the cold question by the size of the program, and the most memory behind it, in megabytes.
 MOST_INSTRUCTIONS = {10_000: 0.36 * 456e6, 60_000: 0.36 * 2_489e6}
@@ -142,7 +142,7 @@ class Bench:
         for it in self.rows:
             self.typed(run, it)
         if self.java:
-            seconds, errors = self.java.cold(JAVA_SECONDS)
+            seconds, errors = self.java.cold(SECONDS)
             self.figures.note(self.figures.java, COLD, seconds)
             self.compare(COLD, replies, [errors])
         run.end()
@@ -156,14 +156,18 @@ class Bench:
         run.end()
 
     def typed(self, run: Served, it: Keystrokes) -> None:
-        """Measures one row."""
-        for _ in range(REPEATED):
+        """Measures one row: the least time of those that fit, as of Java. A few alone tell too much of what else the machine does."""
+        seconds, replies = 0.0, list[str]()
+        for count in range(MOST_REPEATED):
+            if count >= REPEATED and seconds > SECONDS:
+                break
             spent, replies = run.answered(it.lines)
             self.figures.note(self.figures.attrd, it.name, spent / it.edits)
+            seconds += spent
         if self.java:
             file = Path(self.folder) / "lines"
             file.write_text(it.lines, encoding="utf-8")
-            seconds, errors = self.java.row(file.name, JAVA_SECONDS)
+            seconds, errors = self.java.row(file.name, SECONDS)
             self.figures.note(self.figures.java, it.name, seconds)
             self.compare(it.name, [reply for reply in replies if " = " in reply], errors)
 
