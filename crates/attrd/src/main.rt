@@ -27,7 +27,9 @@ mod socket;
 
 use at_cache::{KeepAtMost, KeepCutOff, KeepRecorded, Keeper};
 use at_engine::{Engine, Output, Watched};
-use at_start::{Answered, Files, MAX_FILE, Source, StartFault, USUAL_NODES, answer, start_with, tree_bytes};
+use at_start::{
+    Answered, Files, MAX_FILE, Source, StartFault, USUAL_NODES, answer, start_with, tree_bytes,
+};
 use door::Gathering;
 use failure::{Failure, status, tell};
 use options::{Options, options};
