@@ -106,7 +106,6 @@ impl Edges {
         match self {
             Edges::Few(count, step, slot, stamp) => Some(Row::few(*count, *step, *slot, *stamp)),
             Edges::Empty => None,
-            Edges::Several(_) => None,
             Edges::More(_) => None,
         }
     }
