@@ -34,6 +34,22 @@ SHARED = ("aspect Shared {\n  syn lazy int Item.kept() = chained() + 1;\n  inh i
           "  eq Names.getItem(int i).chained() = i == 0 ? 0 : getItem(i - 1).chained() + 1;\n"
           "  syn int Names.all() = sum (i : getItemList()) { i.kept() };\n}\n")
 
+# Chains of an inherited attribute, where evaluation in one go gains least: what an element asks, and the most instructions an element,
+# half as many again as version 0.23 took, which evaluated each by steps of a machine.
+CHAINS = (
+    ("that aren't lazy", "inh", "getItem(i - 1).step() + 1", "0", 9_900),
+    ("each of which is demanded twice", "inh", "getItem(i - 1).step() + getItem(i - 1).step()", "0", 12_500),
+    ("that are lazy", "inh lazy", "getItem(i - 1).step() + 1", "0", 12_000),
+    ("that end in a fault", "inh", "getItem(i - 1).step() + 1", "1 / 0", 7_500),
+    ("that end in a circle", "inh", "getItem(i - 1).step() + 1", "getItem(4000).step()", 7_500),
+)
+# One attribute that isn't lazy and is asked by each element: what it is, and the most instructions an element.
+COMMON = (
+    ("a sum over all elements", "sum (i : getItemList()) { 1 }", "1", 6_700),
+    ("ten instances", " + ".join(f"getItem({k}).part()" for k in range(9)), "1", 6_000),
+    ("fifty-seven instances", " + ".join(f"getItem({k}).part()" for k in range(8)), " + ".join(["one()"] * 6), 6_100),
+)
+
 
 class Bench:
     """The program, a folder for its files, and the bounds."""
@@ -81,7 +97,7 @@ def sums(bench: Bench) -> None:
     tree = SumTree(60_000)
     words = ["kept.ast", bench.put("sums.txt", tree.term), "kept.jrag"]
     instances = tree.nodes - 1
-    bench.told("an instance of a sum over 60,000 nodes, in instructions", each(bench.counted(words, SUM), instances), 2_600)
+    bench.told("an instance of a sum over 60,000 nodes, in instructions", each(bench.counted(words, SUM), instances), 1_700)
     time, _ = bench.spent(words, SUM)
     bench.told("the same, in microseconds", time / instances * 1e6, 0.8)
     _, loaded = bench.spent(words, "0 version\n")
@@ -132,7 +148,7 @@ def elements(bench: Bench) -> None:
 def declarations(bench: Bench) -> None:
     """Chains of declarations in the calculator, of which each is looked up by the next: each look-up goes through those before it."""
     samples = ROOT / "samples" / "calculator"
-    for count, turns in ((2_000, bench.turns), (10_000, 1)):
+    for count, turns, most in ((2_000, bench.turns, 0.32), (10_000, 1, 8)):
         chain = ",".join(['Decl("x0",Num(1))'] + [f'Decl("x{k}",Use("x{k - 1}"))' for k in range(1, count)])
         words = [str(samples / "calc.ast"), bench.put("chain.txt", f"Program(Block([{chain}]))\n"), str(samples / "calc.jrag")]
         asked = (("at its end", f"0 ask /Block/Stmt:{count - 1} value()\n"),
@@ -140,21 +156,46 @@ def declarations(bench: Bench) -> None:
         for where, lines in asked:
             time, peak = bench.spent(words, lines, turns=turns)
             bench.told(f"a chain of {count:,} declarations asked {where}, in MiB", peak / 1024, 40)
-            bench.told("the same, in seconds", time)
+            bench.told("the same, in seconds", time, most)
+
+
+def items_of(bench: Bench, count: int) -> List[str]:
+    """The grammar of names and a tree of so many, as the first two files."""
+    items = ",".join(['Item("n")'] * count)
+    return [bench.put("names.ast", NAMES), bench.put(f"items{count}.txt", f"Names([{items}])\n")]
 
 
 def shared(bench: Bench) -> None:
     """Lazy attributes over a shared chain of others: how time and memory grow."""
-    words = [bench.put("names.ast", NAMES), "", bench.put("shared.jrag", SHARED)]
+    aspect = bench.put("shared.jrag", SHARED)
     spent: List[Tuple[float, int]] = []
     for count in (500, 4_000):
-        items = ",".join(['Item("n")'] * count)
-        words[1] = bench.put(f"shared{count}.txt", f"Names([{items}])\n")
+        words = [*items_of(bench, count), aspect]
         _, before = bench.spent(words, "0 version\n")
         time, peak = bench.spent(words, "0 ask / all()\n")
         spent.append((time, peak - before))
     for what, first, last in zip(("time", "memory"), *spent):
         bench.told(f"lazy attributes over a shared chain of others: the exponent of their {what}", log2(last / first) / 3, 1.1)
+
+
+def chains(bench: Bench) -> None:
+    """Chains of an attribute of each element, asked at the end."""
+    files = items_of(bench, 5_000)
+    for what, kind, asked, first, most in CHAINS:
+        aspect = f"aspect Chain {{\n  {kind} int Item.step();\n  eq Names.getItem(int i).step() = i == 0 ? {first} : {asked};\n}}\n"
+        count = bench.counted([*files, bench.put("chain.jrag", aspect)], "0 ask /Item:4999 step()\n")
+        bench.told(f"an element of a chain of 5,000 {what}, in instructions", each(count, 5_000), most)
+
+
+def common(bench: Bench) -> None:
+    """An attribute that isn't lazy, and that each element asks."""
+    files = items_of(bench, 2_000)
+    for what, whole, part, most in COMMON:
+        aspect = (f"aspect Common {{\n  syn int Names.whole() = {whole};\n  syn int Item.part() = {part};\n  syn int Item.one() = 1;\n"
+                  "  inh int Item.common();\n  eq Names.getItem(int i).common() = whole();\n"
+                  "  syn lazy int Names.all() = sum (i : getItemList()) { i.common() };\n}\n")
+        count = bench.counted([*files, bench.put("common.jrag", aspect)], "0 ask / all()\n")
+        bench.told(f"an element that asks for what rests on {what}, in instructions", each(count, 2_000), most)
 
 
 def loading(bench: Bench) -> None:
@@ -200,7 +241,7 @@ def main() -> None:
         bench = Bench(program, folder, int(sys.argv[2]) if len(sys.argv) > 2 else TURNS)
         bench.put("kept.ast", GRAMMAR)
         bench.put("kept.jrag", ASPECTS)
-        for part in (sums, questions, elements, declarations, shared, loading, reading):
+        for part in (sums, questions, elements, declarations, shared, chains, common, loading, reading):
             part(bench)
     if bench.bounds.broken:
         sys.exit(bench.bounds.told())
