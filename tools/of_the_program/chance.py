@@ -1,31 +1,42 @@
-"""Lines made by chance over the calculator, the same for the same seed; among them are some that post questions, and wait for them."""
-from typing import Iterator, Sequence, Tuple
+"""Lines made by chance over a sample, the same for the same seed; over the calculator some post questions, and wait for them."""
+from typing import Iterator, NamedTuple, Sequence, Tuple, Union
 
-PLACES = (
-    "/", "/Block", "/Block/Stmt:0", "/Block/Stmt:0/Init", "/Block/Stmt:1", "/Block/Stmt:1/Expr", "/Block/Stmt:1/Expr/Left",
-    "/Block/Stmt:1/Expr/Right", "/Block/Stmt:2", "/Block/Stmt:2/Expr", "/Block/Stmt:2/Init", "/Block/Stmt:0/Stmt:0/Expr", "$u", "$v",
-    "$v/Init", "/Block/Stmt", "/Left",
-)
-PARTS = (
-    "Value", "ID", "Stmt", "Init", "Expr", "Left",
-)
-VALUES = (
-    "5", "-7", "2147483647", '"x"', '"y"', '""',
-)
-TERMS = (
-    "Num(4)", 'Use("x")', 'Add(Num(1),Use("y"))', 'Decl("x",Num(5))', 'Decl("x",Add(Use("y"),Num(1)))', 'Decl("y",-)',
-    'Print(Use("x"))', 'Print(Add(Use("x"),Use("y")))', 'Block([Decl("y",Num(8)),Print(Use("x"))])', 'Num("x")', "Stmt()",
-)
-ATTRIBUTES = (
-    "value()", "value()", "value()", "decl()", "decl()", 'lookup("x")', 'local("x")', 'local("y")', 'declares("x")', "pos()", "circ()",
-    "c2()", "c3()", "same()", "big()", "value(null)", "lookup(/)",
-)
-EDITS = (
-    'token /Block/Stmt:0 ID "x"', 'token /Block/Stmt:0 ID "y"', "token /Block/Stmt:1/Expr/Right Value 5",
-    'set /Block/Stmt:1 Print(Add(Use("x"),Num(2)))', 'set /Block/Stmt:0/Init Add(Use("y"),Num(3))', "put /Block/Stmt:0 Init Num(6)",
-    "drop /Block/Stmt:0/Init", "drop /Block/Stmt:0", "drop /Block/Stmt:1", 'insert /Block Stmt 0 Decl("x",Num(1))',
-    'insert /Block Stmt 0 Decl("y",Use("x"))', 'insert /Block Stmt 1 Print(Add(Use("x"),Use("y")))',
-    'insert /Block Stmt 1 Block([Print(Use("x"))])',
+
+class Words(NamedTuple):
+    """What the words of a sample's lines are taken from."""
+
+    places: Sequence[str]
+    parts: Sequence[str]
+    values: Sequence[str]
+    terms: Sequence[str]
+    attributes: Sequence[str]
+    # whole edits
+    edits: Sequence[str]
+
+
+CALCULATED = Words(
+    places=(
+        "/", "/Block", "/Block/Stmt:0", "/Block/Stmt:0/Init", "/Block/Stmt:1", "/Block/Stmt:1/Expr", "/Block/Stmt:1/Expr/Left",
+        "/Block/Stmt:1/Expr/Right", "/Block/Stmt:2", "/Block/Stmt:2/Expr", "/Block/Stmt:2/Init", "/Block/Stmt:0/Stmt:0/Expr", "$u",
+        "$v", "$v/Init", "/Block/Stmt", "/Left",
+    ),
+    parts=("Value", "ID", "Stmt", "Init", "Expr", "Left"),
+    values=("5", "-7", "2147483647", '"x"', '"y"', '""'),
+    terms=(
+        "Num(4)", 'Use("x")', 'Add(Num(1),Use("y"))', 'Decl("x",Num(5))', 'Decl("x",Add(Use("y"),Num(1)))', 'Decl("y",-)',
+        'Print(Use("x"))', 'Print(Add(Use("x"),Use("y")))', 'Block([Decl("y",Num(8)),Print(Use("x"))])', 'Num("x")', "Stmt()",
+    ),
+    attributes=(
+        "value()", "value()", "value()", "decl()", "decl()", 'lookup("x")', 'local("x")', 'local("y")', 'declares("x")', "pos()", "circ()",
+        "c2()", "c3()", "same()", "big()", "value(null)", "lookup(/)",
+    ),
+    edits=(
+        'token /Block/Stmt:0 ID "x"', 'token /Block/Stmt:0 ID "y"', "token /Block/Stmt:1/Expr/Right Value 5",
+        'set /Block/Stmt:1 Print(Add(Use("x"),Num(2)))', 'set /Block/Stmt:0/Init Add(Use("y"),Num(3))', "put /Block/Stmt:0 Init Num(6)",
+        "drop /Block/Stmt:0/Init", "drop /Block/Stmt:0", "drop /Block/Stmt:1", 'insert /Block Stmt 0 Decl("x",Num(1))',
+        'insert /Block Stmt 0 Decl("y",Use("x"))', 'insert /Block Stmt 1 Print(Add(Use("x"),Use("y")))',
+        'insert /Block Stmt 1 Block([Print(Use("x"))])',
+    ),
 )
 QUESTIONS = (
     "/Block/Stmt:0 value()", "/Block/Stmt:1/Expr value()", "/Block/Stmt:1/Expr value()", "/Block/Stmt:0/Init value()",
@@ -41,30 +52,31 @@ BROKEN = (
 )
 SESSIONS = ("0", "0", "0", "1", "999")
 VERSIONS = (" at 0", " at 1", " at 2", " at 3", " at 18446744073709551615")
-# What is taken one after the other for a command: a text of each. A row that stands more often is taken more often.
-Pieces = Tuple[Sequence[str], ...]
+# What is taken one after the other for a command: a text of each, or a word of that kind, as a field of `Words` is called. A row that
+# stands more often is taken more often.
+Pieces = Tuple[Union[str, Sequence[str]], ...]
 SPACE = (" ",)
-ASK: Pieces = ((" ask ",), PLACES, SPACE, ATTRIBUTES)
+ASK: Pieces = ((" ask ",), "places", SPACE, "attributes")
 POST: Pieces = ((" post ",), QUESTIONS)
-POSTS: Sequence[Pieces] = (((" post ",), PLACES, SPACE, ATTRIBUTES), POST, POST, POST)
-DROP: Pieces = ((" drop ",), PLACES)
-MOVE: Pieces = ((" move ",), PLACES, (" to ",), PLACES, SPACE, PARTS, (" 0", " 0", " 1", " 2", " 7"))
-WHOLE: Pieces = (SPACE, EDITS)
+POSTS: Sequence[Pieces] = (((" post ",), "places", SPACE, "attributes"), POST, POST, POST)
+DROP: Pieces = ((" drop ",), "places")
+MOVE: Pieces = ((" move ",), "places", (" to ",), "places", SPACE, "parts", (" 0", " 0", " 1", " 2", " 7"))
+WHOLE: Pieces = (SPACE, "edits")
 # Commands that edit nothing.
 COMMANDS: Sequence[Pieces] = (
     ((" version",),),
-    ((" mark u ", " mark v "), PLACES),
+    ((" mark u ", " mark v "), "places"),
     ((" unmark u", " unmark v"),),
     ((" where u", " where v", " where w"),),
-    ((" show ",), PLACES),
+    ((" show ",), "places"),
     *[ASK] * 4,
 )
 EDITING: Sequence[Pieces] = (
-    ((" set ",), PLACES, SPACE, TERMS),
-    ((" put ",), PLACES, SPACE, PARTS, SPACE, TERMS),
+    ((" set ",), "places", SPACE, "terms"),
+    ((" put ",), "places", SPACE, "parts", SPACE, "terms"),
     *[DROP] * 2,
-    ((" insert ",), PLACES, SPACE, PARTS, (" 0 ", " 0 ", " 1 ", " 2 ", " 7 "), TERMS),
-    ((" token ",), PLACES, SPACE, PARTS, SPACE, VALUES),
+    ((" insert ",), "places", SPACE, "parts", (" 0 ", " 0 ", " 1 ", " 2 ", " 7 "), "terms"),
+    ((" token ",), "places", SPACE, "parts", SPACE, "values"),
     *[MOVE] * 2,
     *[WHOLE] * 6,
 )
@@ -73,8 +85,8 @@ EDITING: Sequence[Pieces] = (
 class Chance:
     """Numbers, each made of the one before (Marsaglia 2003)."""
 
-    def __init__(self, seed: int) -> None:
-        self.state = seed
+    def __init__(self, seed: int, words: Words = CALCULATED) -> None:
+        self.state, self.words = seed, words
 
     def below(self, limit: int) -> int:
         """A number below the limit."""
@@ -89,7 +101,7 @@ class Chance:
 
     def joined(self, pieces: Pieces) -> str:
         """A text of each piece."""
-        return "".join(map(self.among, pieces))
+        return "".join(self.among(getattr(self.words, it) if isinstance(it, str) else it) for it in pieces)
 
     def lines(self, count: int) -> Iterator[str]:
         """So many lines. One in eight posts a question, and another one waits for one."""

@@ -30,10 +30,16 @@ class KeepingTest(ProgramTest):
 
     def played(self, keeper: str, turns: int, files: List[str], lines: str) -> Tuple[str, str]:
         """The replies to the lines, each of which so many turns follow, and what is told of the work. No memory was wanting."""
-        front, told = [str(self.program), "--work", "--slice", str(turns), *OPTIONS.get(keeper, ())], ""
         if keeper in OTHERS:
-            front, told = [self.starve, keeper, str(turns)], "memory 0\n"
-        run = subprocess.run([*front, *files], cwd=self.folder, env=NOTHING, input=lines, capture_output=True, encoding="utf-8",
-                             timeout=SECONDS)
-        self.assertEqual((run.returncode, run.stderr[:len(told)]), (0, told))
-        return run.stdout, run.stderr[len(told):]
+            return self.told([self.starve, keeper, str(turns), *files], "memory 0\n", lines)
+        return self.played_with(OPTIONS[keeper], turns, files, lines)
+
+    def played_with(self, options: List[str], turns: int, files: List[str], lines: str) -> Tuple[str, str]:
+        """The same by the program with these options."""
+        return self.told([str(self.program), "--work", "--slice", str(turns), *options, *files], "", lines)
+
+    def told(self, words: List[str], front: str, lines: str) -> Tuple[str, str]:
+        """What a run with these words writes for the lines, and tells on standard error behind that front."""
+        run = subprocess.run(words, cwd=self.folder, env=NOTHING, input=lines, capture_output=True, encoding="utf-8", timeout=SECONDS)
+        self.assertEqual((run.returncode, run.stderr[:len(front)]), (0, front))
+        return run.stdout, run.stderr[len(front):]

@@ -1,6 +1,7 @@
 """Whole sessions with each keeper: their replies, and the work that they cost; and over trees, and of lines, that are built."""
 from tools.of_the_program.keeping import KeepingTest
 from tools.of_the_program.sessions import CALCULATOR, KEPT_AGAIN, LOST, OPTIONAL, REUSED, SESSIONS, SIGNS, Sample, Session
+from tools.starve import KEEPERS
 
 # A question for sixteen times a name, which is changed to that one before.
 NAMED = '0 token /Block/Stmt:1/Expr/Left ID "{}"\n0 ask /Block/Stmt:1/Expr/Left d4()\n'
@@ -69,3 +70,11 @@ class Sessions(KeepingTest):
             for keeper in self.keepers:
                 with self.subTest(turns=turns, keeper=keeper):
                     self.assertEqual(self.played(keeper, turns, files, lines)[0], told)
+
+    def test_without_turns_a_question_is_answered_at_the_end(self) -> None:
+        # no option of the program gives none
+        files, lines = self.write(CALCULATOR), "0 post /Block/Stmt:1/Expr value()\n0 version\n0 version\n"
+        for keeper in KEEPERS if self.starve else ():
+            with self.subTest(keeper=keeper):
+                told = self.told([self.starve, keeper, "0", *files], "memory 0\n", lines)
+                self.assertEqual(told[0], "0 open 1\n0 ok 0\n0 ok 0\n0 done 1 0 = 3\n")
