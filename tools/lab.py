@@ -1,12 +1,12 @@
 #!/usr/bin/env python3
 """Proves functions of a crate before the crates below it are proved.
 
-    tools/lab.py [--whole] [--built FOLDER] CRATE [FUNCTION...]
+    tools/lab.py [--whole] [--test] [--built FOLDER] CRATE [FUNCTION...]
 
 The folder that it runs in is a repository; its files are read as they stand. FUNCTION is a path as the prover has it, such as
 `table::Table::enter`. The libraries below are given as source, in copies in which each function is left open: what is proved rests
-on their contracts. So does it on those of the crate's other functions, which are left open, too, unless --whole is given. Without
-a FUNCTION the front end's errors are told alone. What was checked is kept below /tmp/attrd-lab for the next run.
+on their contracts. So does it on those of the crate's other functions, which are left open, too, unless --whole is given. With
+--test functions under `#[cfg(test)]` are there. Without a FUNCTION the front end's errors are told alone. What was checked is kept below /tmp/attrd-lab for the next run.
 
 With `--built FOLDER` crates below whose files are those of the repository in FOLDER are taken as they were built there, by a check or
 by `rt ci` (its copy, below /tmp/rt-copy-*): most of a run's time is the reading of crates.
@@ -93,7 +93,7 @@ class Lab:
         add(crate)
         return order, sorted(kit)
 
-    def words(self, crate: str, functions: Sequence[str]) -> List[str]:
+    def words(self, crate: str, functions: Sequence[str], tests: bool = False) -> List[str]:
         """The words of the check."""
         order, kit = self.below(crate)
         rlibs, logic = self.proved.kit / "rlibs", self.proved.kit / "rattle/logic/antt-project.json"
@@ -110,19 +110,20 @@ class Lab:
         kept = self.room / f"checked-{crate}"
         kept.mkdir(parents=True, exist_ok=True)
         words += ["-L", f"dependency={rlibs}", "--antt-project", str(logic), "--logic-built", f"{self.proved.kit}/logic_built"]
-        words += ["--links", f"{crate}=", "--incremental", str(kept)]
+        words += ["--links", f"{crate}=", "--incremental", str(kept), *(["--test"] if tests else [])]
         return [*words, *(word for it in functions or [""] for word in ("--only", it))]
 
 
 def main() -> int:
     words = argparse.ArgumentParser(description="Proves functions of a crate before the crates below it are proved.")
     words.add_argument("--whole", action="store_true", help="leave nothing open in the crate itself")
+    words.add_argument("--test", action="store_true", help="the crate's tests, too")
     words.add_argument("--built", type=Path, metavar="FOLDER", help="a repository whose built crates are taken where they are the same")
     words.add_argument("crate")
     words.add_argument("functions", metavar="FUNCTION", nargs="*")
     given = words.parse_args()
     lab = Lab(".", given.built and given.built.resolve())
-    check = lab.words(given.crate, given.functions)
+    check = lab.words(given.crate, given.functions, given.test)
     folder = lab.opened(given.crate, given.functions if given.functions and not given.whole else None)
     return subprocess.run(check, cwd=folder, check=False).returncode
 
