@@ -2,13 +2,14 @@
 
 ghost use Rattle.at_store.specs.Shown.{IsIdle};
 
+use crate::rows::holds_at;
 use crate::stores::{classes, loaded};
 use at_apply::{Here, Next, Stop, asked_of_each, compare, settle, with_two};
 use at_body::{Arguments, Binary, Fold, Reads, Stack, Value};
 use at_rules::{AttrId, Body, Operator};
 use at_store::{Loc, Node, Store};
-use std::alloc::{AllocError, Global};
-use std::test::Fail;
+use std::alloc::Global;
+use std::process::Abort;
 
 /// Two ints, and what an operator gives for them; nothing where it gives up.
 const INTS: &[(Operator, i32, i32, Option<i32>)] = &[
@@ -44,75 +45,66 @@ const BLOCK: u32 = 1;
 
 /// What two values give; nothing where it gives up.
 fn given(
+    rt: &impl Abort,
     store: &Store,
     reads: &mut Reads,
     binary: Binary,
     left: Value,
     right: &Value,
-) -> Result<Option<Value>, Fail>
+) -> Option<Value>
     requires { IsIdle store.now }
 {
     match with_two(store, reads, binary, left, right) {
-        Ok(value) => Ok(Some(value)),
-        Err(Stop::GivesUp) => Ok(None),
-        Err(Stop::Memory) => Err(Fail::new("no memory")),
+        Ok(value) => Some(value),
+        Err(Stop::GivesUp) => None,
+        Err(Stop::Memory) => panic!(rt; "no memory"),
     }
 }
 
-/// The first row of ints of which another one comes, where there is one.
-fn first_other_int(alloc: Global, store: &Store) -> Result<Option<usize>, Fail>
+/// Each row of ints gives what it says.
+fn look_at_ints(rt: &impl Abort, alloc: Global, store: &Store)
     requires { IsIdle store.now }
 {
     let mut reads = Reads::new(alloc);
-    for (at, (operator, left, right, wanted)) in INTS.iter().enumerate() {
+    for (row, (operator, left, right, wanted)) in INTS.iter().enumerate() {
         let binary = Binary::Arithmetic(*operator);
-        let value = given(
-            store,
-            &mut reads,
-            binary,
-            Value::Int(*left),
-            &Value::Int(*right),
-        )?;
-        if value != wanted.map(Value::Int) {
-            return Ok(Some(at));
-        }
+        let right = Value::Int(*right);
+        let value = given(rt, store, &mut reads, binary, Value::Int(*left), &right);
+        holds_at(rt, row, value == wanted.map(Value::Int));
     }
-    Ok(None)
 }
 
-/// The first row of elements of which another node comes, or for which other than the list is looked at.
-fn first_other_element(alloc: Global, store: &Store) -> Result<Option<usize>, Fail>
+/// Each row of elements gives the node that it says, and the list alone is looked at for it.
+fn look_at_elements(rt: &impl Abort, alloc: Global, store: &Store)
     requires { IsIdle store.now }
 {
     let block = Node::new(BLOCK);
-    for (at, (index, wanted)) in ELEMENTS.iter().enumerate() {
+    for (row, (index, wanted)) in ELEMENTS.iter().enumerate() {
         let mut reads = Reads::new(alloc);
         let list = Value::Ref(Some(block));
-        let value = given(
-            store,
-            &mut reads,
-            Binary::Element(0),
-            list,
-            &Value::Int(*index),
-        )?;
+        let at = Value::Int(*index);
+        let value = given(rt, store, &mut reads, Binary::Element(0), list, &at);
         let wanted = match wanted {
             Some(number) => Some(Value::Ref(Some(Node::new(*number)))),
             None => None,
         };
-        if value != wanted || reads.as_slice() != [Loc::Slot(block, 0)].as_slice() {
-            return Ok(Some(at));
-        }
+        holds_at(rt, row, value == wanted);
+        holds_at(
+            rt,
+            row,
+            reads.as_slice() == [Loc::Slot(block, 0)].as_slice(),
+        );
     }
-    Ok(None)
 }
 
 /// What the first token of a node tells beside a text, and how much was looked at.
 fn told(
+    rt: &impl Abort,
     alloc: Global,
     store: &Store,
     node: Node,
     text: &str,
-) -> Result<(Option<Value>, usize), Fail>
+) -> (Option<Value>, usize)
     requires { IsIdle store.now }
 {
     let here = Here {
@@ -122,77 +114,67 @@ fn told(
         arguments: Arguments::none(),
     };
     let mut reads = Reads::new(alloc);
-    let token = Body::TokenOf(Box::new(alloc, Body::This)?, 0);
-    let text = Body::Text(String::from_str(alloc, text)?);
+    let this = Box::new(alloc, Body::This).ok().expect(rt, "memory");
+    let token = Body::TokenOf(this, 0);
+    let text = Body::Text(String::from_str(alloc, text).expect(rt, "memory"));
     match compare(&here, store, &mut reads, &Binary::Equals, &token, &text) {
-        Ok(told) => Ok((told, reads.len())),
-        Err(_) => Err(Fail::new("gives up")),
+        Ok(told) => (told, reads.len()),
+        Err(_) => panic!(rt; "gives up"),
     }
 }
 
-/// The first row of tokens of which another comparison comes, or for which other than the token is looked at.
-fn first_other_token(alloc: Global, store: &Store) -> Result<Option<usize>, Fail>
+/// Each row of tokens is compared as it says, and the token alone is looked at for it.
+fn look_at_tokens(rt: &impl Abort, alloc: Global, store: &Store)
     requires { IsIdle store.now }
 {
-    for (at, (node, text, wanted)) in TOKENS.iter().enumerate() {
+    for (row, (node, text, wanted)) in TOKENS.iter().enumerate() {
         let looked = if wanted.is_some() { 1 } else { 0 };
-        let (value, reads) = told(alloc, store, Node::new(*node), text)?;
-        if value != wanted.map(Value::Bool) || reads != looked {
-            return Ok(Some(at));
-        }
+        let (value, reads) = told(rt, alloc, store, Node::new(*node), text);
+        holds_at(rt, row, value == wanted.map(Value::Bool) && reads == looked);
     }
-    Ok(None)
 }
 
 /// A call of an attribute within a fold, by the names of its receiver and of its argument.
-fn call(alloc: Global, receiver: usize, argument: usize) -> Result<Body, AllocError> {
+fn call(rt: &impl Abort, alloc: Global, receiver: usize, argument: usize) -> Body {
     let mut passed = Vec::new(alloc);
-    passed.push(Body::Name(argument))?;
-    Ok(Body::Call(
-        Box::new(alloc, Body::Name(receiver))?,
-        AttrId::new(0),
-        passed,
-    ))
+    passed.push(Body::Name(argument)).ok().expect(rt, "memory");
+    let receiver = Box::new(alloc, Body::Name(receiver)).ok();
+    Body::Call(receiver.expect(rt, "memory"), AttrId::new(0), passed)
 }
 
 /// A place outside of all folds, where one value was passed.
-fn passed_one(alloc: Global) -> Result<Here, AllocError> {
+fn passed_one(rt: &impl Abort, alloc: Global) -> Here {
     let mut values = Vec::new(alloc);
-    values.push(Value::Bool(true))?;
-    Ok(Here {
+    values.push(Value::Bool(true)).ok().expect(rt, "memory");
+    Here {
         this: Node::new(BLOCK),
         child: None,
         bound: Stack::new(alloc),
-        arguments: Arguments::of(values)?,
-    })
-}
-
-/// The first row of calls that asks each element, or doesn't, other than it says.
-fn first_other_call(alloc: Global) -> Result<Option<usize>, Fail> {
-    let here = passed_one(alloc)?;
-    for (at, (receiver, argument, wanted)) in CALLS.iter().enumerate() {
-        let body = call(alloc, *receiver, *argument)?;
-        if asked_of_each(&here, &body).is_some() != *wanted {
-            return Ok(Some(at));
-        }
+        arguments: Arguments::of(values).ok().expect(rt, "memory"),
     }
-    Ok(None)
+}
+
+/// Each row of calls asks each element, or doesn't, as it says.
+fn look_at_calls(rt: &impl Abort, alloc: Global) {
+    let here = passed_one(rt, alloc);
+    for (row, (receiver, argument, wanted)) in CALLS.iter().enumerate() {
+        let body = call(rt, alloc, *receiver, *argument);
+        holds_at(rt, row, asked_of_each(&here, &body).is_some() == *wanted);
+    }
 }
 
 #[test]
-fn values_are_as_the_rows_tell(rt: HostRuntime) -> Result<(), Fail> {
-    let alloc = rt.alloc();
-    let classes = classes(alloc)?;
-    let store = loaded(alloc, &classes)?;
-    assert_eq!(rt; first_other_int(alloc, &store)?, None);
-    assert_eq!(rt; first_other_element(alloc, &store)?, None);
-    assert_eq!(rt; first_other_token(alloc, &store)?, None);
-    assert_eq!(rt; first_other_call(alloc)?, None);
-    Ok(())
+fn values_are_as_the_rows_tell(rt: HostRuntime) {
+    let classes = classes(&rt, rt.alloc());
+    let store = loaded(&rt, rt.alloc(), &classes);
+    look_at_ints(&rt, rt.alloc(), &store);
+    look_at_elements(&rt, rt.alloc(), &store);
+    look_at_tokens(&rt, rt.alloc(), &store);
+    look_at_calls(&rt, rt.alloc());
 }
 
 #[test]
-fn a_fold_ends_where_its_test_holds(rt: HostRuntime) -> Result<(), Fail> {
+fn a_fold_ends_where_its_test_holds(rt: HostRuntime) {
     let node = Node::new(BLOCK);
     let first = settle(Fold::First, node, &Value::Bool(true));
     assert!(rt; matches!(first, Ok(Next::End(Value::Ref(Some(it)))) if it == node));
@@ -202,5 +184,4 @@ fn a_fold_ends_where_its_test_holds(rt: HostRuntime) -> Result<(), Fail> {
     assert!(rt; matches!(sum, Ok(Next::On(Fold::Sum(-2147483648)))));
     let other = settle(Fold::Exists, node, &Value::Int(1));
     assert!(rt; matches!(other, Err(Stop::GivesUp)));
-    Ok(())
 }

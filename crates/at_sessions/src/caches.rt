@@ -7,7 +7,7 @@ use at_cache::{KeepAtMost, KeepNone, KeepRecorded, KeepUntilEdit, Keeper, Order}
 use at_rules::AttrId;
 use at_store::{Loc, Node};
 use std::alloc::{AllocError, Global};
-use std::test::Fail;
+use std::process::Abort;
 
 /// The node of that number.
 fn numbered(number: usize) -> Node {
@@ -25,12 +25,12 @@ pub fn own(node: usize) -> Loc {
 }
 
 /// The instances of these nodes.
-pub fn insts(alloc: Global, nodes: &[usize]) -> Result<Vec<Inst>, AllocError> {
+pub fn insts(rt: &impl Abort, alloc: Global, nodes: &[usize]) -> Vec<Inst> {
     let mut all = Vec::new(alloc);
     for node in nodes {
-        all.push(inst(*node))?;
+        all.push(inst(*node)).ok().expect(rt, "memory");
     }
-    Ok(all)
+    all
 }
 
 /// Puts an entry for an instance that has none, which uses entries that are there.
@@ -55,10 +55,10 @@ pub fn put_new<K: Keeper>(
 }
 
 /// A keeper with an entry for each node in order, which reads its own location and uses those of the listed nodes.
-fn recorded(alloc: Global, graph: &[&[usize]]) -> Result<KeepRecorded, AllocError> {
+fn recorded(rt: &impl Abort, alloc: Global, graph: &[&[usize]]) -> KeepRecorded {
     let mut keeper = KeepRecorded::new(alloc);
     for (node, uses) in graph.iter().enumerate() {
-        let uses = insts(alloc, uses)?;
+        let uses = insts(rt, alloc, uses);
         put_new(
             &mut keeper,
             inst(node),
@@ -66,9 +66,10 @@ fn recorded(alloc: Global, graph: &[&[usize]]) -> Result<KeepRecorded, AllocErro
             &[own(node)],
             uses.as_slice(),
             Order::Any,
-        )?;
+        )
+        .expect(rt, "memory");
     }
-    Ok(keeper)
+    keeper
 }
 
 /// Flushes what rests on that node's location.
@@ -82,14 +83,14 @@ fn has<K: Keeper>(keeper: &K, node: usize) -> bool {
 }
 
 /// How many entries a flush of that node's location leaves.
-fn left_of(alloc: Global, graph: &[&[usize]], touched: usize) -> Result<usize, AllocError> {
-    let mut keeper = recorded(alloc, graph)?;
+fn left_of(rt: &impl Abort, alloc: Global, graph: &[&[usize]], touched: usize) -> usize {
+    let mut keeper = recorded(rt, alloc, graph);
     flush(&mut keeper, touched);
     let mut left: usize = 0;
     for node in 0..graph.len() {
         left = left.saturating_add(usize::from(has(&keeper, node)));
     }
-    Ok(left)
+    left
 }
 
 /// Whether the keeper has so many entries, and stores so many locations for them.
@@ -115,23 +116,18 @@ const GRAPHS: &[Graph] = &[
 ];
 
 #[test]
-fn what_uses_an_entry_goes_with_it(rt: HostRuntime) -> Result<(), Fail> {
+fn what_uses_an_entry_goes_with_it(rt: HostRuntime) {
     for graph in GRAPHS {
-        let keeper = recorded(rt.alloc(), graph.uses)?;
+        let keeper = recorded(&rt, rt.alloc(), graph.uses);
         assert!(rt; has_counts(&keeper, graph.uses.len(), graph.uses.len()));
         for (touched, left) in graph.left.iter().enumerate() {
-            assert_eq!(rt; left_of(rt.alloc(), graph.uses, touched)?, *left);
+            assert!(rt; left_of(&rt, rt.alloc(), graph.uses, touched) == *left);
         }
     }
-    Ok(())
 }
 
 /// How many locations are stored for an entry that reads these, and whether it stays where that one is touched.
-fn stored_and_stays(
-    alloc: Global,
-    reads: &[Loc],
-    touched: Loc,
-) -> Result<(usize, bool), AllocError> {
+fn stored_and_stays(rt: &impl Abort, alloc: Global, reads: &[Loc], touched: Loc) -> (usize, bool) {
     let mut keeper = KeepRecorded::new(alloc);
     put_new(
         &mut keeper,
@@ -140,43 +136,44 @@ fn stored_and_stays(
         reads,
         &[],
         Order::Any,
-    )?;
+    )
+    .expect(rt, "memory");
     let stored = keeper.stored();
     keeper.flush(&|location: Loc| location == touched);
-    Ok((stored, has(&keeper, 0)))
+    (stored, has(&keeper, 0))
 }
 
-#[test]
-fn a_class_and_what_is_read_next_are_two_locations(rt: HostRuntime) -> Result<(), Fail> {
+/// Of an entry that reads these three locations are stored for it, and it stays so where that one is touched.
+fn assert_stays(rt: &impl Abort, alloc: Global, reads: &[Loc], touched: &Loc, stays: bool) {
+    assert!(rt; stored_and_stays(rt, alloc, reads, *touched) == (3, stays));
+}
+
+/// A node's class, read twice, what is read next, and a token rest on themselves alone.
+fn assert_apart(rt: &impl Abort, alloc: Global, next: &Loc) {
     let node = numbered(0);
-    let class = Loc::Is(node);
-    for next in [
-        Loc::Tok(node, 0),
-        Loc::Slot(node, 0),
-        Loc::Up(node),
-        Loc::Idx(node),
-    ] {
-        let reads = [class, class, next, Loc::Tok(node, 2)];
-        for (touched, stays) in [
-            (class, false),
-            (next, false),
-            (Loc::Tok(node, 2), false),
-            (Loc::Tok(node, 1), true),
-            (Loc::Is(numbered(1)), true),
-        ] {
-            assert!(rt; stored_and_stays(rt.alloc(), &reads, touched)? == (3, stays));
-        }
-    }
-    Ok(())
+    let reads = [Loc::Is(node), Loc::Is(node), *next, Loc::Tok(node, 2)];
+    assert_stays(rt, alloc, &reads, &Loc::Is(node), false);
+    assert_stays(rt, alloc, &reads, next, false);
+    assert_stays(rt, alloc, &reads, &Loc::Tok(node, 2), false);
+    assert_stays(rt, alloc, &reads, &Loc::Tok(node, 1), true);
+    assert_stays(rt, alloc, &reads, &Loc::Is(numbered(1)), true);
 }
 
 #[test]
-fn links_follow_their_entries(rt: HostRuntime) -> Result<(), Fail> {
-    let alloc = rt.alloc();
-    let mut keeper = recorded(alloc, &[&[], &[0], &[], &[2]])?;
+fn a_class_and_what_is_read_next_are_two_locations(rt: HostRuntime) {
+    let node = numbered(0);
+    assert_apart(&rt, rt.alloc(), &Loc::Tok(node, 0));
+    assert_apart(&rt, rt.alloc(), &Loc::Slot(node, 0));
+    assert_apart(&rt, rt.alloc(), &Loc::Up(node));
+    assert_apart(&rt, rt.alloc(), &Loc::Idx(node));
+}
+
+#[test]
+fn links_follow_their_entries(rt: HostRuntime) {
+    let mut keeper = recorded(&rt, rt.alloc(), &[&[], &[0], &[], &[2]]);
     flush(&mut keeper, 0);
     assert!(rt; has_counts(&keeper, 2, 2));
-    let used = insts(alloc, &[3])?;
+    let used = insts(&rt, rt.alloc(), &[3]);
     put_new(
         &mut keeper,
         inst(4),
@@ -184,32 +181,26 @@ fn links_follow_their_entries(rt: HostRuntime) -> Result<(), Fail> {
         &[],
         &used,
         Order::Any,
-    )?;
+    )
+    .expect(&rt, "memory");
     assert!(rt; has_counts(&keeper, 3, 2));
     flush(&mut keeper, 0);
     assert!(rt; keeper.get(&inst(4)) == Some(&Value::Int(7)));
     flush(&mut keeper, 2);
     assert!(rt; !has(&keeper, 4));
     assert!(rt; has_counts(&keeper, 0, 0));
-    Ok(())
 }
 
 /// Puts entries of nodes 0 and 1 without a value, and of 2 and 3 with one, of which the one uses 0 and the other 1.
-fn put_pairs<K: Keeper>(alloc: Global, keeper: &mut K) -> Result<(), AllocError> {
+fn put_pairs<K: Keeper>(rt: &impl Abort, alloc: Global, keeper: &mut K) {
     for node in 0..2 {
-        put_new(keeper, inst(node), None, &[own(node)], &[], Order::Any)?;
+        put_new(keeper, inst(node), None, &[own(node)], &[], Order::Any).expect(rt, "memory");
     }
     for node in 2..4 {
-        put_new(
-            keeper,
-            inst(node),
-            Some(Value::Int(7)),
-            &[own(node)],
-            &insts(alloc, &[node - 2])?,
-            Order::Any,
-        )?;
+        let uses = insts(rt, alloc, &[node - 2]);
+        let value = Some(Value::Int(7));
+        put_new(keeper, inst(node), value, &[own(node)], &uses, Order::Any).expect(rt, "memory");
     }
-    Ok(())
 }
 
 /// What is seen of a node.
@@ -263,32 +254,31 @@ fn shows<K: Keeper>(keeper: &K, nodes: &[Sight]) -> bool {
 }
 
 /// Whether entries without a value stand, and go with those that use them, and with none beside these.
-fn goes_with_its_users<K: Keeper>(alloc: Global, mut keeper: K) -> Result<bool, AllocError> {
-    put_pairs(alloc, &mut keeper)?;
+fn goes_with_its_users<K: Keeper>(rt: &impl Abort, alloc: Global, mut keeper: K) -> bool {
+    put_pairs(rt, alloc, &mut keeper);
     for step in STEPS {
         flush(&mut keeper, step.touched);
         if !shows(&keeper, step.left) {
-            return Ok(false);
+            return false;
         }
     }
-    Ok(true)
+    true
 }
 
 #[test]
-fn an_entry_without_a_value_is_never_told(rt: HostRuntime) -> Result<(), Fail> {
+fn an_entry_without_a_value_is_never_told(rt: HostRuntime) {
     let alloc = rt.alloc();
-    assert!(rt; goes_with_its_users(alloc, KeepRecorded::new(alloc))?);
-    assert!(rt; goes_with_its_users(alloc, KeepAtMost::new(alloc, 4))?);
-    assert!(rt; goes_with_its_users(alloc, KeepCompared::new(alloc, usize::MAX))?);
+    assert!(rt; goes_with_its_users(&rt, rt.alloc(), KeepRecorded::new(alloc)));
+    assert!(rt; goes_with_its_users(&rt, rt.alloc(), KeepAtMost::new(alloc, 4)));
+    assert!(rt; goes_with_its_users(&rt, rt.alloc(), KeepCompared::new(alloc, usize::MAX)));
     // what stands for everything needs no such entry
     let mut keeper = KeepUntilEdit::new(alloc);
-    put_pairs(alloc, &mut keeper)?;
+    put_pairs(&rt, rt.alloc(), &mut keeper);
     assert!(rt; shows(&keeper, &[Sight::Nothing; 4]));
-    Ok(())
 }
 
 /// Puts an entry for each node in order, which reads its own location and uses the one before it.
-fn put_chain<K: Keeper>(alloc: Global, keeper: &mut K, count: usize) -> Result<(), AllocError> {
+fn put_chain<K: Keeper>(rt: &impl Abort, alloc: Global, keeper: &mut K, count: usize) {
     let mut uses = Vec::new(alloc);
     for node in 0..count {
         put_new(
@@ -298,25 +288,25 @@ fn put_chain<K: Keeper>(alloc: Global, keeper: &mut K, count: usize) -> Result<(
             &[own(node)],
             uses.as_slice(),
             Order::Any,
-        )?;
+        )
+        .expect(rt, "memory");
         uses.clear();
-        uses.push(inst(node))?;
+        uses.push(inst(node)).ok().expect(rt, "memory");
     }
-    Ok(())
 }
 
 /// The nodes of a chain of eight of which a value is left, where four entries at most are kept and that node's location is touched.
-fn left_of_chain(alloc: Global, touched: usize) -> Result<Vec<usize>, AllocError> {
+fn left_of_chain(rt: &impl Abort, alloc: Global, touched: usize) -> Vec<usize> {
     let mut keeper = KeepAtMost::new(alloc, 4);
-    put_chain(alloc, &mut keeper, 8)?;
+    put_chain(rt, alloc, &mut keeper, 8);
     flush(&mut keeper, touched);
     let mut left = Vec::new(alloc);
     for node in 0..8 {
         if has(&keeper, node) {
-            left.push(node)?;
+            left.push(node).expect(rt, "memory");
         }
     }
-    Ok(left)
+    left
 }
 
 /// What is touched of the chain, and which of it is left.
@@ -341,14 +331,11 @@ const FOLDED: &[Folded] = &[
 ];
 
 #[test]
-fn what_entries_are_folded_into_goes_with_what_these_looked_at(
-    rt: HostRuntime,
-) -> Result<(), Fail> {
+fn what_entries_are_folded_into_goes_with_what_these_looked_at(rt: HostRuntime) {
     for row in FOLDED {
-        let left = left_of_chain(rt.alloc(), row.touched)?;
-        assert_eq!(rt; left.as_slice(), row.left);
+        let left = left_of_chain(&rt, rt.alloc(), row.touched);
+        assert!(rt; left.as_slice() == row.left);
     }
-    Ok(())
 }
 
 const NODES: usize = 9;
@@ -375,17 +362,13 @@ fn value_by_chance(chance: &mut Chance, node: usize) -> Option<Value> {
 }
 
 /// Puts an entry of a node, where it has none, with or without a value, with reads and uses by chance.
-fn put_by_chance(
-    alloc: Global,
-    keeper: &mut KeepCompared,
-    chance: &mut Chance,
-) -> Result<(), AllocError> {
+fn put_by_chance(rt: &impl Abort, alloc: Global, keeper: &mut KeepCompared, chance: &mut Chance) {
     let node = chance.below(NODES);
     let mut reads = Vec::new(alloc);
     for _ in 0..chance.below(3) + 1 {
-        reads.push(location(chance))?;
+        reads.push(location(chance)).expect(rt, "memory");
     }
-    let uses = used(alloc, keeper, chance)?;
+    let uses = used(rt, alloc, keeper, chance);
     let value = value_by_chance(chance, node);
     put_new(
         keeper,
@@ -395,39 +378,34 @@ fn put_by_chance(
         uses.as_slice(),
         Order::Any,
     )
+    .expect(rt, "memory");
 }
 
 /// The instances of some of the nodes that have an entry.
-fn used(
-    alloc: Global,
-    keeper: &KeepCompared,
-    chance: &mut Chance,
-) -> Result<Vec<Inst>, AllocError> {
+fn used(rt: &impl Abort, alloc: Global, keeper: &KeepCompared, chance: &mut Chance) -> Vec<Inst> {
     let mut uses = Vec::new(alloc);
     for node in 0..NODES {
         if chance.below(3) == 0 && keeper.stands(&inst(node)) {
-            uses.push(inst(node))?;
+            uses.push(inst(node)).ok().expect(rt, "memory");
         }
     }
-    Ok(uses)
+    uses
 }
 
 #[test]
-fn the_index_forgets_what_plain_models_forget(rt: HostRuntime) -> Result<(), Fail> {
+fn the_index_forgets_what_plain_models_forget(rt: HostRuntime) {
     let alloc = rt.alloc();
     let mut chance = Chance::from_seed(1975);
     let mut keeper = KeepCompared::new(alloc, usize::MAX);
     for _ in 0..6_000 {
-        put_by_chance(alloc, &mut keeper, &mut chance)?;
+        put_by_chance(&rt, rt.alloc(), &mut keeper, &mut chance);
         if chance.below(4) == 0 {
             let touched = location(&mut chance);
             keeper.flush(&|location: Loc| location == touched);
         }
         assert!(rt; !keeper.models.differs);
     }
-    let gone = keeper.models.gone;
-    assert!(rt; gone > 800, "{gone} entries are gone");
-    Ok(())
+    assert!(rt; keeper.models.gone > 800);
 }
 
 /// Whether the keeper takes an entry, or not; whether it keeps what it took; and whether it forgets it with any flush.
@@ -448,10 +426,9 @@ fn is_as_told<K: Keeper>(mut keeper: K, takes: bool, keeps: bool) -> bool {
 }
 
 #[test]
-fn what_records_nothing_keeps_until_an_edit_at_most(rt: HostRuntime) -> Result<(), Fail> {
+fn what_records_nothing_keeps_until_an_edit_at_most(rt: HostRuntime) {
     let alloc = rt.alloc();
     assert!(rt; is_as_told(KeepUntilEdit::new(alloc), true, true));
     assert!(rt; is_as_told(KeepNone::new(alloc), true, false));
     assert!(rt; is_as_told(KeepCompared::new(alloc, 0), false, false));
-    Ok(())
 }

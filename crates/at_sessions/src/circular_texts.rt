@@ -1,9 +1,10 @@
 //! Circular attributes, with their form read and without: what their start is, and where a text is refused.
 
+use crate::rows::holds_for;
 use at_jrag::{Aspect, DeclForm, Forms, JragCode, parse_jrag};
 use at_text::fault::Fault;
 use std::alloc::Global;
-use std::test::Fail;
+use std::process::Abort;
 
 /// What a text comes to.
 #[derive(Clone, Copy, PartialEq, Eq)]
@@ -29,11 +30,11 @@ fn first_start(aspects: &[Aspect]) -> Option<bool> {
 }
 
 /// What the text comes to.
-fn comes_to(alloc: Global, text: &str, forms: Forms) -> Result<Told, Fail> {
+fn comes_to(rt: &impl Abort, alloc: Global, text: &str, forms: Forms) -> Told {
     match parse_jrag(alloc, text, forms) {
-        Ok(aspects) => Ok(Told::Start(first_start(&aspects))),
-        Err(Fault::Refused { code, at }) => Ok(Told::At(code, at.column)),
-        Err(Fault::Memory) => Err(Fail::from("want of memory")),
+        Ok(aspects) => Told::Start(first_start(&aspects)),
+        Err(Fault::Refused { code, at }) => Told::At(code, at.column),
+        Err(Fault::Memory) => panic!(rt; "want of memory"),
     }
 }
 
@@ -171,7 +172,7 @@ const ROWS: &[(&str, Told, u32)] = &[
 ];
 
 #[test]
-fn circular_attributes_are_read_where_that_is_asked_for(rt: HostRuntime) -> Result<(), Fail> {
+fn circular_attributes_are_read_where_that_is_asked_for(rt: HostRuntime) {
     let read = Forms { circular: true };
     for (text, with, column) in ROWS {
         let without = if *column == 0 {
@@ -179,11 +180,11 @@ fn circular_attributes_are_read_where_that_is_asked_for(rt: HostRuntime) -> Resu
         } else {
             Told::At(JragCode::LeftOut, *column)
         };
-        assert!(rt; comes_to(rt.alloc(), text, read)? == *with, "{text}");
-        assert!(rt;
-            comes_to(rt.alloc(), text, Forms::NONE)? == without,
-            "{text}"
+        holds_for(&rt, text, comes_to(&rt, rt.alloc(), text, read) == *with);
+        holds_for(
+            &rt,
+            text,
+            comes_to(&rt, rt.alloc(), text, Forms::NONE) == without,
         );
     }
-    Ok(())
 }

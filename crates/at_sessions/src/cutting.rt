@@ -2,11 +2,10 @@
 
 use at_text::scan::scan;
 use at_text::token::{Token, TokenKind};
-use std::test::Fail;
 
 #[test]
-fn tokens_have_both_ends(rt: HostRuntime) -> Result<(), Fail> {
-    let found = scan(rt.alloc(), " é::=\"\"0")?;
+fn tokens_have_both_ends(rt: HostRuntime) {
+    let found = scan(rt.alloc(), " é::=\"\"0").ok().expect(&rt, "tokens");
     let wanted = [
         Token {
             kind: TokenKind::Word,
@@ -29,7 +28,11 @@ fn tokens_have_both_ends(rt: HostRuntime) -> Result<(), Fail> {
             end: 9,
         },
     ];
-    assert_eq!(rt; found.as_slice(), wanted.as_slice());
-    assert_eq!(rt; scan(rt.alloc(), "")?.len(), 0);
-    Ok(())
+    assert!(rt; found.as_slice() == wanted.as_slice());
+    assert!(rt;
+        scan(rt.alloc(), "")
+            .ok()
+            .expect(&rt, "no tokens")
+            .is_empty()
+    );
 }

@@ -3,10 +3,11 @@
 mod ends;
 
 use crate::hearing::calculator;
+use crate::rows::holds_at;
 use at_engine::{RunFault, Watched, run, run_for};
 use ends::{FailingReader, FailingWriter, Refused, first_lines};
 use std::alloc::Global;
-use std::test::Fail;
+use std::process::Abort;
 
 /// Lines, and a reply to each.
 struct Session {
@@ -89,22 +90,21 @@ const ALL: Calls = Calls {
 
 /// Whether the run of a fresh engine ends by this fault, or by none, behind these replies, and no other call fails.
 fn has_ended(
+    rt: &impl Abort,
     alloc: Global,
     lines: &'static str,
     calls: Calls,
     told: &[u8],
     fault: Option<RunFault>,
-) -> Result<bool, Fail> {
-    let mut engine = calculator(alloc)?;
+) -> bool {
+    let mut engine = calculator(rt, alloc);
     let mut reader = Watched::new(reader_of(lines, calls));
     let mut writer = Watched::new(writer_of(alloc, calls));
     let ended = run_for(&mut engine, &mut reader, &mut writer, calls.limit).err();
-    Ok(
-        ended == fault
-            && writer.stream.told.as_slice() == told
-            && reader.failed() == (fault == Some(RunFault::Read))
-            && writer.failed() == (fault == Some(RunFault::Write)),
-    )
+    ended == fault
+        && writer.stream.told.as_slice() == told
+        && reader.failed() == (fault == Some(RunFault::Read))
+        && writer.failed() == (fault == Some(RunFault::Write))
 }
 
 /// The lines, as they are read by these calls.
@@ -127,7 +127,7 @@ fn writer_of(alloc: Global, calls: Calls) -> FailingWriter {
 }
 
 #[test]
-fn a_failed_read_leaves_whole_lines(rt: HostRuntime) -> Result<(), Fail> {
+fn a_failed_read_leaves_whole_lines(rt: HostRuntime) {
     for session in SESSIONS {
         let bytes = session.lines.as_bytes();
         let mut lines: usize = 0;
@@ -139,20 +139,20 @@ fn a_failed_read_leaves_whole_lines(rt: HostRuntime) -> Result<(), Fail> {
             };
             let told = first_lines(session.replies.as_bytes(), lines);
             let fault = Some(RunFault::Read);
-            assert!(rt;
-                has_ended(rt.alloc(), session.lines, calls, told, fault)?,
-                "{reads}"
+            holds_at(
+                &rt,
+                reads,
+                has_ended(&rt, rt.alloc(), session.lines, calls, told, fault),
             );
             if bytes.get(reads) == Some(&b'\n') {
                 lines = lines.saturating_add(1);
             }
         }
     }
-    Ok(())
 }
 
 /// Whether the run ends behind the first replies where so many writes succeed, and the next one fails or takes nothing.
-fn leaves_front(alloc: Global, session: &Session, writes: usize) -> Result<bool, Fail> {
+fn leaves_front(rt: &impl Abort, alloc: Global, session: &Session, writes: usize) -> bool {
     let told = session
         .replies
         .as_bytes()
@@ -164,53 +164,51 @@ fn leaves_front(alloc: Global, session: &Session, writes: usize) -> Result<bool,
             refused,
             ..ALL
         };
-        if !has_ended(alloc, session.lines, calls, told, Some(RunFault::Write))? {
-            return Ok(false);
+        if !has_ended(rt, alloc, session.lines, calls, told, Some(RunFault::Write)) {
+            return false;
         }
     }
-    Ok(true)
+    true
 }
 
 #[test]
-fn a_failed_write_leaves_a_front(rt: HostRuntime) -> Result<(), Fail> {
+fn a_failed_write_leaves_a_front(rt: HostRuntime) {
     for session in SESSIONS {
         for writes in 0..session.replies.len() {
-            assert!(rt; leaves_front(rt.alloc(), session, writes)?, "{writes}");
+            holds_at(&rt, writes, leaves_front(&rt, rt.alloc(), session, writes));
         }
     }
-    Ok(())
 }
 
 #[test]
-fn a_failed_flush_leaves_what_was_written(rt: HostRuntime) -> Result<(), Fail> {
+fn a_failed_flush_leaves_what_was_written(rt: HostRuntime) {
     for session in SESSIONS {
         for flushes in 0..session.replies.lines().count() {
             let calls = Calls { flushes, ..ALL };
             let told = first_lines(session.replies.as_bytes(), flushes.saturating_add(1));
             let fault = Some(RunFault::Write);
-            assert!(rt;
-                has_ended(rt.alloc(), session.lines, calls, told, fault)?,
-                "{flushes}"
+            holds_at(
+                &rt,
+                flushes,
+                has_ended(&rt, rt.alloc(), session.lines, calls, told, fault),
             );
         }
     }
-    Ok(())
 }
 
 #[test]
-fn without_a_failure_all_is_told(rt: HostRuntime) -> Result<(), Fail> {
+fn without_a_failure_all_is_told(rt: HostRuntime) {
     for session in SESSIONS {
         let told = session.replies.as_bytes();
         let read = Calls { size: 1, ..ALL };
-        assert!(rt; has_ended(rt.alloc(), session.lines, read, told, None)?);
+        assert!(rt; has_ended(&rt, rt.alloc(), session.lines, read, told, None));
         let written = Calls {
             writes: told.len(),
             flushes: session.replies.lines().count(),
             ..ALL
         };
-        assert!(rt; has_ended(rt.alloc(), session.lines, written, told, None)?);
+        assert!(rt; has_ended(&rt, rt.alloc(), session.lines, written, told, None));
     }
-    Ok(())
 }
 
 /// How many bytes a read brings, how many reads a run may make for one line of ten bytes, the replies then, and the fault.
@@ -228,19 +226,19 @@ const LIMITS: &[(usize, u64, &[u8], Option<RunFault>)] = &[
 ];
 
 #[test]
-fn reads_are_counted(rt: HostRuntime) -> Result<(), Fail> {
-    for (size, limit, told, fault) in LIMITS {
+fn reads_are_counted(rt: HostRuntime) {
+    for (row, (size, limit, told, fault)) in LIMITS.iter().enumerate() {
         let calls = Calls {
             size: *size,
             limit: *limit,
             ..ALL
         };
-        assert!(rt;
-            has_ended(rt.alloc(), "0 version\n", calls, told, *fault)?,
-            "{size} {limit}"
+        holds_at(
+            &rt,
+            row,
+            has_ended(&rt, rt.alloc(), "0 version\n", calls, told, *fault),
         );
     }
-    Ok(())
 }
 
 /// How many reads of one byte and writes of one byte succeed, and what the next run over the same engine tells, which has no
@@ -263,8 +261,8 @@ const BROKEN: &[(usize, usize, &str)] = &[
 ];
 
 /// What the second run tells.
-fn told_then(alloc: Global, reads: usize, writes: usize) -> Result<Vec<u8>, Fail> {
-    let mut engine = calculator(alloc)?;
+fn told_then(rt: &impl Abort, alloc: Global, reads: usize, writes: usize) -> Vec<u8> {
+    let mut engine = calculator(rt, alloc);
     let size = 1;
     let calls = Calls {
         size,
@@ -277,15 +275,16 @@ fn told_then(alloc: Global, reads: usize, writes: usize) -> Result<Vec<u8>, Fail
     let _ = run(&mut engine, &mut reader, &mut writer);
     let mut nothing: &[u8] = b"";
     let mut then = Vec::new(alloc);
-    run(&mut engine, &mut nothing, &mut then)?;
-    Ok(then)
+    run(&mut engine, &mut nothing, &mut then)
+        .ok()
+        .expect(rt, "a whole run");
+    then
 }
 
 #[test]
-fn the_next_run_goes_on_with_open_questions(rt: HostRuntime) -> Result<(), Fail> {
-    for (reads, writes, then) in BROKEN {
-        let told = told_then(rt.alloc(), *reads, *writes)?;
-        assert!(rt; told.as_slice() == then.as_bytes(), "{reads} {writes}");
+fn the_next_run_goes_on_with_open_questions(rt: HostRuntime) {
+    for (row, (reads, writes, then)) in BROKEN.iter().enumerate() {
+        let told = told_then(&rt, rt.alloc(), *reads, *writes);
+        holds_at(&rt, row, told.as_slice() == then.as_bytes());
     }
-    Ok(())
 }

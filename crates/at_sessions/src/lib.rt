@@ -1,9 +1,10 @@
-//! Tests of what no session of the program shows: lines and turns one by one, readers and writers that fail, lines by
-//! chance with each keeper, aspects as they are read, a store; keepers by themselves, beside plain models; what is
-//! derived, components, and searches over formulas, found by hand.
+//! Tests of what no session of the program shows: lines and turns one by one, readers and writers that fail, aspects as
+//! they are read, a store; keepers by themselves, and beside plain models, also over lines by chance; what is derived,
+//! components, and searches over formulas, found by hand.
 //!
 //! **Where to begin:** `turns.rt` has lines and turns as rows of a table. A test that a page can show stands on a page,
 //! and one that the program shows, such as a whole session with its work, in tools/of_the_program (docs/TESTING.md).
+//! Want of memory, or a file that isn't read, ends a test by `expect`: an exit by `?` would be proved with all that it lets go.
 #![tactic(auto)]
 
 #[cfg(test)]
@@ -20,6 +21,8 @@ mod failing;
 mod hearing;
 #[cfg(test)]
 mod keepers;
+#[cfg(test)]
+mod rows;
 #[cfg(test)]
 mod samples;
 #[cfg(test)]

@@ -1,7 +1,8 @@
 //! The calculator sample, and the files of samples.
 
 use at_start::{Files, Source, USUAL_NODES};
-use std::alloc::{AllocError, Global};
+use std::alloc::Global;
+use std::process::Abort;
 
 /// What stands in files.
 #[derive(Drop)]
@@ -73,23 +74,24 @@ pub fn over(tree: &str) -> Sample {
 }
 
 /// The files of a sample.
-pub fn files(alloc: Global, sample: &Sample) -> Result<Files, AllocError> {
+pub fn files(rt: &impl Abort, alloc: Global, sample: &Sample) -> Files {
     let mut aspects = Vec::new(alloc);
     for bytes in sample.aspects {
-        aspects.push(source(alloc, "aspects", bytes)?)?;
+        let source = source(rt, alloc, "aspects", bytes);
+        aspects.push(source).ok().expect(rt, "memory");
     }
-    Ok(Files {
-        grammar: source(alloc, "grammar", sample.grammar)?,
-        tree: source(alloc, "tree", sample.tree)?,
+    Files {
+        grammar: source(rt, alloc, "grammar", sample.grammar),
+        tree: source(rt, alloc, "tree", sample.tree),
         aspects,
         nodes: USUAL_NODES,
-    })
+    }
 }
 
 /// The file of that name.
-fn source(alloc: Global, name: &str, bytes: &[u8]) -> Result<Source, AllocError> {
-    Ok(Source {
-        name: String::from_str(alloc, name)?,
-        bytes: Vec::from_slice(alloc, bytes)?,
-    })
+fn source(rt: &impl Abort, alloc: Global, name: &str, bytes: &[u8]) -> Source {
+    Source {
+        name: String::from_str(alloc, name).expect(rt, "memory"),
+        bytes: Vec::from_slice(alloc, bytes).expect(rt, "memory"),
+    }
 }

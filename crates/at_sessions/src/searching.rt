@@ -8,14 +8,13 @@ ghost use Rattle.std.specs.Map.{lookup};
 ghost use Rattle.at_body.specs.Same.{same_instance};
 ghost use Rattle.at_body.specs.Values.{value_view};
 
+use crate::rows::holds_at;
 use at_body::{Arguments, FaultKind, Formula, Inst, Known, Piece, Value};
 use at_rules::AttrId;
 use at_search::{Ended, Ending, Fault, Formed, Solved, closure, first_fault, put, solve};
 use at_store::Node;
 use indexmap::IndexMap;
-use std::alloc::{AllocError, Global};
 use std::slice::from_ref;
-use std::test::Fail;
 
 /// A piece of a formula, instances by their numbers.
 #[derive(Clone, Copy)]
@@ -37,6 +36,8 @@ enum Equation {
 
 use Equation::{Fails, Forms, Knows, Waits};
 use Part::{And, Is, Of, Or};
+use std::alloc::Global;
+use std::process::Abort;
 
 /// The value from which the instances start, their equations by their numbers, and their values by a search from the first one; no list
 /// where that comes to an equation that hasn't ended.
@@ -195,60 +196,59 @@ fn numbered(number: usize) -> Inst {
 }
 
 /// The formula of these pieces.
-fn formula(alloc: Global, parts: &[Part]) -> Result<Formula, Fail> {
+fn formula(rt: &impl Abort, alloc: Global, parts: &[Part]) -> Formula {
     let mut pieces = Vec::new(alloc);
     for part in parts {
-        pieces.push(match part {
+        let piece = match part {
             Part::Is(value) => Piece::Known(*value),
             Part::Of(number) => Piece::Asks(numbered(*number)),
             Part::And => Piece::Both,
             Part::Or => Piece::Either,
-        })?;
+        };
+        pieces.push(piece).ok().expect(rt, "memory");
     }
-    match Formula::of(pieces) {
-        Some(formula) => Ok(formula),
-        None => Err(Fail::new("no formula")),
-    }
+    Formula::of(pieces).expect(rt, "a formula")
 }
 
 /// The ending of an equation; none where it hasn't ended, or the value is known.
-fn ending(alloc: Global, number: usize, equation: &Equation) -> Result<Option<Ending>, Fail> {
+fn ending(rt: &impl Abort, alloc: Global, number: usize, equation: &Equation) -> Option<Ending> {
     match equation {
-        Equation::Forms(parts) => Ok(Some(Ending::Formed(Formed {
-            formula: formula(alloc, parts)?,
+        Equation::Forms(parts) => Some(Ending::Formed(Formed {
+            formula: formula(rt, alloc, parts),
             reads: Vec::new(alloc),
             kept: Vec::new(alloc),
             finds: Vec::new(alloc),
-        }))),
-        Equation::Fails(kind) => Ok(Some(Ending::Spoilt(Fault {
+        })),
+        Equation::Fails(kind) => Some(Ending::Spoilt(Fault {
             kind: *kind,
             at: numbered(number),
-        }))),
-        Equation::Knows(_) | Equation::Waits => Ok(None),
+        })),
+        Equation::Knows(_) | Equation::Waits => None,
     }
 }
 
 /// How the equations ended.
-fn ended(alloc: Global, equations: &[Equation]) -> Result<IndexMap<Inst, Ended>, Fail> {
+fn ended(rt: &impl Abort, alloc: Global, equations: &[Equation]) -> IndexMap<Inst, Ended> {
     let mut all = IndexMap::new(alloc);
     for (number, equation) in equations.iter().enumerate() {
-        if let Some(ending) = ending(alloc, number, equation)? {
+        if let Some(ending) = ending(rt, alloc, number, equation) {
             let is_whole = false;
-            put(&mut all, numbered(number), Ended { ending, is_whole })?;
+            let ended = Ended { ending, is_whole };
+            put(&mut all, numbered(number), ended).expect(rt, "memory");
         }
     }
-    Ok(all)
+    all
 }
 
 /// The values that are known of them.
-fn known_of(alloc: Global, equations: &[Equation]) -> Result<Kept, AllocError> {
+fn known_of(rt: &impl Abort, alloc: Global, equations: &[Equation]) -> Kept {
     let mut values = IndexMap::new(alloc);
     for (number, equation) in equations.iter().enumerate() {
         if let Equation::Knows(value) = equation {
-            put(&mut values, numbered(number), Value::Bool(*value))?;
+            put(&mut values, numbered(number), Value::Bool(*value)).expect(rt, "memory");
         }
     }
-    Ok(Kept { values })
+    Kept { values }
 }
 
 /// The value that the instance is told in one of the groups.
@@ -266,28 +266,32 @@ fn told(groups: &[Vec<Solved>], seen: &IndexMap<Inst, ()>, inst: &Inst) -> Optio
 
 /// What the instances are told by a search from the first one, by their numbers; no list where that comes to what hasn't ended.
 fn values(
+    rt: &impl Abort,
     alloc: Global,
     start: bool,
     equations: &[Equation],
-) -> Result<Option<Vec<Option<bool>>>, Fail> {
-    let ended = ended(alloc, equations)?;
-    let known = known_of(alloc, equations)?;
-    let Some(seen) = closure(alloc, &ended, &known, &numbered(0))? else {
-        return Ok(None);
-    };
-    let groups = solve(alloc, start, &ended, &known, &seen)?;
+) -> Option<Vec<Option<bool>>> {
+    let ended = ended(rt, alloc, equations);
+    let known = known_of(rt, alloc, equations);
+    let seen = closure(alloc, &ended, &known, &numbered(0)).expect(rt, "memory")?;
+    let groups = solve(alloc, start, &ended, &known, &seen)
+        .ok()
+        .expect(rt, "memory");
     let mut values = Vec::new(alloc);
     for number in 0..equations.len() {
-        values.push(told(groups.as_slice(), &seen, &numbered(number)))?;
+        let value = told(groups.as_slice(), &seen, &numbered(number));
+        values.push(value).expect(rt, "memory");
     }
-    Ok(Some(values))
+    Some(values)
 }
 
 /// The fault that a search from the first one meets first.
-fn met(alloc: Global, equations: &[Equation]) -> Result<Option<Fault>, Fail> {
-    let ended = ended(alloc, equations)?;
-    let known = known_of(alloc, equations)?;
-    Ok(first_fault(alloc, &ended, &known, &numbered(0))?)
+fn met(rt: &impl Abort, alloc: Global, equations: &[Equation]) -> Option<Fault> {
+    let ended = ended(rt, alloc, equations);
+    let known = known_of(rt, alloc, equations);
+    first_fault(alloc, &ended, &known, &numbered(0))
+        .ok()
+        .expect(rt, "memory")
 }
 
 /// Whether these are the values of the row.
@@ -311,43 +315,40 @@ fn is_fault(found: &Option<Fault>, wanted: &Option<(FaultKind, usize)>) -> bool 
 }
 
 #[test]
-fn what_is_solved_has_the_value_of_the_fixpoint(rt: HostRuntime) -> Result<(), Fail> {
+fn what_is_solved_has_the_value_of_the_fixpoint(rt: HostRuntime) {
     for (at, (start, equations, wanted)) in ROWS.iter().enumerate() {
-        let found = values(rt.alloc(), *start, equations)?;
-        assert!(rt; are(&found, wanted), "row {at}");
+        let found = values(&rt, rt.alloc(), *start, equations);
+        holds_at(&rt, at, are(&found, wanted));
     }
-    Ok(())
 }
 
 #[test]
-fn the_first_fault_is_met_depth_first(rt: HostRuntime) -> Result<(), Fail> {
+fn the_first_fault_is_met_depth_first(rt: HostRuntime) {
     for (at, (equations, wanted)) in FAULTS.iter().enumerate() {
-        let found = met(rt.alloc(), equations)?;
-        assert!(rt; is_fault(&found, wanted), "row {at}");
+        let found = met(&rt, rt.alloc(), equations);
+        holds_at(&rt, at, is_fault(&found, wanted));
     }
-    Ok(())
 }
 
 #[test]
-fn a_ring_is_solved_behind_the_one_to_which_it_leads(rt: HostRuntime) -> Result<(), Fail> {
-    let alloc = rt.alloc();
+fn a_ring_is_solved_behind_the_one_to_which_it_leads(rt: HostRuntime) {
     let rings = &[
         Forms(&[Of(1), Of(2), Or]),
         Forms(&[Of(0)]),
         Forms(&[Of(3)]),
         Forms(&[Of(2)]),
     ];
-    let ended = ended(alloc, rings)?;
-    let known = known_of(alloc, rings)?;
-    let Some(seen) = closure(alloc, &ended, &known, &numbered(0))? else {
-        return Err(Fail::new("an equation hasn't ended"));
-    };
-    let groups = solve(alloc, false, &ended, &known, &seen)?;
+    let ended = ended(&rt, rt.alloc(), rings);
+    let known = known_of(&rt, rt.alloc(), rings);
+    let seen = closure(rt.alloc(), &ended, &known, &numbered(0)).expect(&rt, "memory");
+    let seen = seen.expect(&rt, "equations that ended");
+    let groups = solve(rt.alloc(), false, &ended, &known, &seen)
+        .ok()
+        .expect(&rt, "memory");
     let [first, second] = groups.as_slice() else {
-        return Err(Fail::new("not two groups"));
+        panic!(rt; "not two groups");
     };
     assert!(rt; told(from_ref(first), &seen, &numbered(3)).is_some());
     assert!(rt; told(from_ref(second), &seen, &numbered(1)).is_some());
-    assert_eq!(rt; (first.len(), second.len()), (2, 2));
-    Ok(())
+    assert!(rt; first.len() == 2 && second.len() == 2);
 }

@@ -4,8 +4,8 @@ use crate::caches::{inst, insts, own, put_new};
 use at_body::{Inst, Value};
 use at_cache::{KeepCutOff, Keeper, Order};
 use at_store::Loc;
-use std::alloc::{AllocError, Global};
-use std::test::Fail;
+use std::alloc::Global;
+use std::process::Abort;
 
 /// What is done to a keeper.
 enum Act {
@@ -18,11 +18,11 @@ enum Act {
 }
 
 /// Does so, and tells how much work was done.
-fn done<K: Keeper>(alloc: Global, keeper: &mut K, act: &Act, work: u64) -> Result<u64, AllocError> {
+fn done<K: Keeper>(rt: &impl Abort, alloc: Global, keeper: &mut K, act: &Act, work: u64) -> u64 {
     match act {
         Act::Put(node, value, uses) => {
             let value = Some(Value::Int(*value));
-            let uses = insts(alloc, uses)?;
+            let uses = insts(rt, alloc, uses);
             put_new(
                 keeper,
                 inst(*node),
@@ -30,15 +30,16 @@ fn done<K: Keeper>(alloc: Global, keeper: &mut K, act: &Act, work: u64) -> Resul
                 &[own(*node)],
                 &uses,
                 Order::AsTaken,
-            )?;
-            Ok(work)
+            )
+            .expect(rt, "memory");
+            work
         }
         Act::Touch(node) => {
             let touched = own(*node);
             keeper.flush(&|location: Loc| location == touched);
-            Ok(work)
+            work
         }
-        Act::Settle(node) => Ok(keeper.settle(&inst(*node), work)),
+        Act::Settle(node) => keeper.settle(&inst(*node), work),
     }
 }
 
@@ -161,21 +162,19 @@ const ROWS: &[Row] = &[
 ];
 
 #[test]
-fn what_can_be_kept_again_is_settled(rt: HostRuntime) -> Result<(), Fail> {
-    let alloc = rt.alloc();
+fn what_can_be_kept_again_is_settled(rt: HostRuntime) {
     for row in ROWS {
-        let mut keeper = KeepCutOff::new(alloc);
+        let mut keeper = KeepCutOff::new(rt.alloc());
         let mut work: u64 = 0;
         for one in row.acts {
-            work = done(alloc, &mut keeper, one, work)?;
+            work = done(&rt, rt.alloc(), &mut keeper, one, work);
         }
-        assert_eq!(rt; work, row.work);
+        assert!(rt; work == row.work);
         for (node, kept) in row.kept.iter().enumerate() {
-            assert_eq!(rt; keeper.get(&inst(node)).is_some(), *kept);
+            assert!(rt; keeper.get(&inst(node)).is_some() == *kept);
         }
         let asked = inst(row.kept.len().saturating_sub(1));
         let found = is_node(keeper.blocker(&asked), row.in_the_way);
         assert!(rt; found);
     }
-    Ok(())
 }

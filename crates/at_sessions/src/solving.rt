@@ -1,8 +1,8 @@
 //! What is derived of conditions, and the components of graphs. What is expected was found by hand.
 
 use at_solve::{Condition, components_of, derived};
-use std::alloc::{AllocError, Global};
-use std::test::Fail;
+use std::alloc::Global;
+use std::process::Abort;
 
 /// The condition with what is derived and what isn't exchanged.
 fn turned(condition: Condition) -> Condition {
@@ -16,17 +16,20 @@ fn turned(condition: Condition) -> Condition {
 }
 
 /// The greatest fixpoint of the conditions: what doesn't leave `true`.
-fn greatest(alloc: Global, system: &[Condition]) -> Result<Vec<bool>, AllocError> {
+fn greatest(rt: &impl Abort, alloc: Global, system: &[Condition]) -> Vec<bool> {
     let mut conditions = Vec::new(alloc);
     for condition in system {
-        conditions.push(turned(*condition))?;
+        conditions
+            .push(turned(*condition))
+            .ok()
+            .expect(rt, "memory");
     }
-    let left = derived(alloc, &conditions)?;
+    let left = derived(alloc, &conditions).expect(rt, "memory");
     let mut stays = Vec::new(alloc);
     for has_left in &left {
-        stays.push(!*has_left)?;
+        stays.push(!*has_left).expect(rt, "memory");
     }
-    Ok(stays)
+    stays
 }
 
 /// What is derived of conditions, and their greatest fixpoint, where it is told.
@@ -119,23 +122,21 @@ const SYSTEMS: &[System] = &[
 ];
 
 #[test]
-fn what_is_derived_is_the_least_fixpoint(rt: HostRuntime) -> Result<(), Fail> {
+fn what_is_derived_is_the_least_fixpoint(rt: HostRuntime) {
     for system in SYSTEMS {
-        let least = derived(rt.alloc(), system.conditions)?;
+        let least = derived(rt.alloc(), system.conditions).expect(&rt, "memory");
         assert!(rt; least.as_slice() == system.least);
     }
-    Ok(())
 }
 
 #[test]
-fn what_does_not_leave_true_is_the_greatest_fixpoint(rt: HostRuntime) -> Result<(), Fail> {
+fn what_does_not_leave_true_is_the_greatest_fixpoint(rt: HostRuntime) {
     for system in SYSTEMS {
         if let Some(wanted) = system.greatest {
-            let greatest = greatest(rt.alloc(), system.conditions)?;
+            let greatest = greatest(&rt, rt.alloc(), system.conditions);
             assert!(rt; greatest.as_slice() == wanted);
         }
     }
-    Ok(())
 }
 
 /// The nodes to which each node of a graph leads, and the components in the order in which they are listed.
@@ -181,20 +182,20 @@ const GRAPHS: &[Graph] = &[
 ];
 
 /// The rows, each as a list.
-fn lists_of(alloc: Global, rows: &[&[usize]]) -> Result<Vec<Vec<usize>>, AllocError> {
+fn lists_of(rt: &impl Abort, alloc: Global, rows: &[&[usize]]) -> Vec<Vec<usize>> {
     let mut lists = Vec::new(alloc);
     for row in rows {
-        lists.push(Vec::from_slice(alloc, row)?)?;
+        let list = Vec::from_slice(alloc, row).expect(rt, "memory");
+        lists.push(list).ok().expect(rt, "memory");
     }
-    Ok(lists)
+    lists
 }
 
 #[test]
-fn components_are_listed_behind_those_to_which_they_lead(rt: HostRuntime) -> Result<(), Fail> {
+fn components_are_listed_behind_those_to_which_they_lead(rt: HostRuntime) {
     for graph in GRAPHS {
-        let edges = lists_of(rt.alloc(), graph.edges)?;
-        let components = components_of(rt.alloc(), &edges)?;
-        assert_eq!(rt; components, lists_of(rt.alloc(), graph.components)?);
+        let edges = lists_of(&rt, rt.alloc(), graph.edges);
+        let components = components_of(rt.alloc(), &edges).expect(&rt, "memory");
+        assert!(rt; components == lists_of(&rt, rt.alloc(), graph.components));
     }
-    Ok(())
 }

@@ -1,10 +1,11 @@
 //! A store by itself: edits that are refused, done and given up, what they touch, and the numbers of nodes behind them.
 
-ghost use Rattle.std.specs.Prelude.{◌≡◌, IfOk, is_some, true};
+ghost use Rattle.std.specs.Prelude.{◌≡◌, is_some, true};
 ghost use Rattle.at_model.specs.Trees.{conforms};
 ghost use Rattle.at_store.specs.Refusing.{node_of, target_of};
 ghost use Rattle.at_store.specs.Shown.{IsIdle, path as path_shown, tree as tree_shown};
 
+use crate::rows::holds_at;
 use crate::samples::{GRAMMAR, TREE};
 use at_class::{ClassTable, are_named};
 use at_grammar::parse_ast;
@@ -12,8 +13,8 @@ use at_store::{Edit, Loc, Node, Ready, Refusal, Store, USUAL_NODES};
 use at_tree::path::{read_path, write_path};
 use at_tree::tree::read_tree;
 use std::alloc::{AllocError, Global};
+use std::process::Abort;
 use std::str::from_utf8;
-use std::test::Fail;
 
 /// More than the nodes of the tree.
 const NUMBERS: u32 = 12;
@@ -25,64 +26,61 @@ enum End {
     GivenUp,
 }
 
-pub fn classes(alloc: Global) -> Result<ClassTable, Fail> {
-    let Ok(text) = from_utf8(GRAMMAR) else {
-        return Err(Fail::new("no text"));
-    };
+pub fn classes(rt: &impl Abort, alloc: Global) -> ClassTable {
+    let text = from_utf8(GRAMMAR).expect(rt, "a text");
     let Ok(grammar) = parse_ast(alloc, text) else {
-        return Err(Fail::new("no grammar"));
+        panic!(rt; "no grammar");
     };
-    if !are_named(&grammar) {
-        return Err(Fail::new("a class without a name"));
-    }
-    match ClassTable::build(alloc, &grammar) {
-        Ok(classes) => Ok(classes),
-        Err(_) => Err(Fail::new("no classes")),
-    }
+    assert!(rt; are_named(&grammar), "a class without a name");
+    let Ok(classes) = ClassTable::build(alloc, &grammar) else {
+        panic!(rt; "no classes");
+    };
+    classes
 }
 
 /// The store of the calculator's tree.
-pub fn loaded(alloc: Global, classes: &ClassTable) -> Result<Store, Fail>
-    ensures idle { IfOk result (λ s. IsIdle s) }
-    ensures conforming { IfOk result (λ s. conforms classes.now (tree_shown s) 0 ≡ true) }
+pub fn loaded(rt: &impl Abort, alloc: Global, classes: &ClassTable) -> Store
+    ensures idle { IsIdle result }
+    ensures conforming { conforms classes.now (tree_shown result) 0 ≡ true }
 {
     let Ok(tree) = read_tree(alloc, classes, TREE, classes.start()) else {
-        return Err(Fail::new("no tree"));
+        panic!(rt; "no tree");
     };
-    match Store::load(alloc, classes, tree, USUAL_NODES as usize) {
-        Ok(store) => Ok(store),
-        Err(_) => Err(Fail::new("no store")),
-    }
+    Store::load(alloc, classes, tree, USUAL_NODES as usize).expect(rt, "a store")
 }
 
 /// The node of that path.
-fn node_at(alloc: Global, classes: &ClassTable, store: &Store, text: &str) -> Result<Node, Fail>
+fn node_at(rt: &impl Abort, alloc: Global, classes: &ClassTable, store: &Store, text: &str) -> Node
     requires idle { IsIdle store.now }
-    ensures { IfOk result (λ n. is_some (path_shown store.now n) ≡ true) }
+    ensures { is_some (path_shown store.now result) ≡ true }
 {
     let Ok(path) = read_path(alloc, text) else {
-        return Err(Fail::new("no path"));
+        panic!(rt; "no path");
     };
-    match store.resolve(classes, store.root(), path.steps.as_slice()) {
-        Some(node) if store.live(node) => Ok(node),
-        _ => Err(Fail::new("no node")),
-    }
+    let node = store.resolve(classes, store.root(), path.steps.as_slice());
+    let node = node.expect(rt, "a node");
+    assert!(rt; store.live(node));
+    node
 }
 
 /// The term of the root, and each node's number with its path.
-fn shown(alloc: Global, classes: &ClassTable, store: &Store) -> Result<Vec<u8>, AllocError>
+fn shown(rt: &impl Abort, alloc: Global, classes: &ClassTable, store: &Store) -> Vec<u8>
     requires { IsIdle store.now }
 {
     let mut text = Vec::new(alloc);
-    store.write_term(classes, store.root(), &mut text)?;
+    store
+        .write_term(classes, store.root(), &mut text)
+        .expect(rt, "memory");
     for number in 0..NUMBERS {
         if store.live(Node::new(number)) {
-            text.push(number as u8)?;
-            let path = store.path_of(alloc, classes, Node::new(number))?;
-            write_path(&path, &mut text)?;
+            text.push(number as u8).expect(rt, "memory");
+            let path = store
+                .path_of(alloc, classes, Node::new(number))
+                .expect(rt, "memory");
+            write_path(&path, &mut text).expect(rt, "memory");
         }
     }
-    Ok(text)
+    text
 }
 
 /// Which of the locations the edit touches.
@@ -126,24 +124,23 @@ fn tried(
 
 /// Why the store refuses the edit, which leaves the tree and all numbers as they were.
 fn reason(
+    rt: &impl Abort,
     alloc: Global,
     classes: &ClassTable,
     store: &mut Store,
     edit: Edit,
-) -> Result<Refusal, Fail>
+) -> Refusal
     requires idle { IsIdle store.old }
     requires conforming { conforms classes.now (tree_shown store.old) 0 ≡ true }
     requires there { is_some (path_shown store.old (node_of edit)) ≡ true }
     requires target { is_some (path_shown store.old (target_of edit)) ≡ true }
 {
-    let before = shown(alloc, classes, store)?;
-    let Err(reason) = tried(alloc, classes, store, edit, &[], End::Done) else {
-        return Err(Fail::new("the edit isn't refused"));
-    };
-    if shown(alloc, classes, store)? != before {
-        return Err(Fail::new("a refusal leaves a trace"));
-    }
-    Ok(reason)
+    let before = shown(rt, alloc, classes, store);
+    let reason = tried(alloc, classes, store, edit, &[], End::Done);
+    let reason = reason.expect_err(rt, "a refusal");
+    let behind = shown(rt, alloc, classes, store);
+    assert!(rt; behind == before, "a refusal leaves a trace");
+    reason
 }
 
 /// An edit with a copy of what stands elsewhere in the tree.
@@ -175,12 +172,12 @@ const REFUSED: &[(&str, &str, Asked, Refusal)] = &[
 ];
 
 /// Why the edit at that place is refused.
-fn refused(alloc: Global, place: &str, source: &str, asked: &Asked) -> Result<Refusal, Fail> {
-    let classes = classes(alloc)?;
-    let mut store = loaded(alloc, &classes)?;
-    let node = node_at(alloc, &classes, &store, place)?;
-    let source = node_at(alloc, &classes, &store, source)?;
-    let tree = store.tree_of(alloc, source)?;
+fn refused(rt: &impl Abort, alloc: Global, place: &str, source: &str, asked: &Asked) -> Refusal {
+    let classes = classes(rt, alloc);
+    let mut store = loaded(rt, alloc, &classes);
+    let node = node_at(rt, alloc, &classes, &store, place);
+    let source = node_at(rt, alloc, &classes, &store, source);
+    let tree = store.tree_of(alloc, source).expect(rt, "memory");
     let edit = match asked {
         Asked::Insert(index) => Edit::Insert {
             node,
@@ -195,15 +192,15 @@ fn refused(alloc: Global, place: &str, source: &str, asked: &Asked) -> Result<Re
         },
         Asked::Drop => Edit::Drop { node },
     };
-    reason(alloc, &classes, &mut store, edit)
+    reason(rt, alloc, &classes, &mut store, edit)
 }
 
 #[test]
-fn the_store_refuses_edits_and_stays_as_it_was(rt: HostRuntime) -> Result<(), Fail> {
-    for (place, source, asked, wanted) in REFUSED {
-        assert_eq!(rt; refused(rt.alloc(), place, source, asked)?, *wanted);
+fn the_store_refuses_edits_and_stays_as_it_was(rt: HostRuntime) {
+    for (row, (place, source, asked, wanted)) in REFUSED.iter().enumerate() {
+        let reason = refused(&rt, rt.alloc(), place, source, asked);
+        holds_at(&rt, row, reason == *wanted);
     }
-    Ok(())
 }
 
 /// A drop of the first statement: what it touched, and what the store shows before and behind it.
@@ -219,14 +216,14 @@ struct Dropped {
 
 /// Drops the declaration, or gives that up. Where it is dropped, the children of the block, the indexes of its elements, and all of
 /// the declaration and its number is touched; and the other statement's class and parent aren't.
-fn drop_declaration(alloc: Global, end: End) -> Result<Dropped, Fail> {
-    let classes = classes(alloc)?;
-    let mut store = loaded(alloc, &classes)?;
-    let before = shown(alloc, &classes, &store)?;
-    let block = node_at(alloc, &classes, &store, "/Block")?;
-    let number = node_at(alloc, &classes, &store, "/Block/Stmt:0/Init")?;
-    let other = node_at(alloc, &classes, &store, "/Block/Stmt:1")?;
-    let node = node_at(alloc, &classes, &store, "/Block/Stmt:0")?;
+fn drop_declaration(rt: &impl Abort, alloc: Global, end: End) -> Dropped {
+    let classes = classes(rt, alloc);
+    let mut store = loaded(rt, alloc, &classes);
+    let before = shown(rt, alloc, &classes, &store);
+    let block = node_at(rt, alloc, &classes, &store, "/Block");
+    let number = node_at(rt, alloc, &classes, &store, "/Block/Stmt:0/Init");
+    let other = node_at(rt, alloc, &classes, &store, "/Block/Stmt:1");
+    let node = node_at(rt, alloc, &classes, &store, "/Block/Stmt:0");
     let locations = [
         Loc::Slot(block, 0),
         Loc::Idx(node),
@@ -249,17 +246,17 @@ fn drop_declaration(alloc: Global, end: End) -> Result<Dropped, Fail> {
         &locations,
         end,
     ) else {
-        return Err(Fail::new("the drop is refused"));
+        panic!(rt; "the drop is refused");
     };
-    let behind = shown(alloc, &classes, &store)?;
-    let first = node_at(alloc, &classes, &store, "/Block/Stmt:0")?;
-    Ok(Dropped {
+    let behind = shown(rt, alloc, &classes, &store);
+    let first = node_at(rt, alloc, &classes, &store, "/Block/Stmt:0");
+    Dropped {
         touched,
         before,
         behind,
         other,
         first,
-    })
+    }
 }
 
 /// What a drop of the declaration touches of these locations.
@@ -268,16 +265,15 @@ const TOUCHED: &[bool] = &[
 ];
 
 #[test]
-fn a_drop_leaves_the_numbers_of_the_others(rt: HostRuntime) -> Result<(), Fail> {
-    let done = drop_declaration(rt.alloc(), End::Done)?;
-    assert_eq!(rt; done.touched.as_slice(), TOUCHED);
-    assert_eq!(rt; done.first, done.other);
+fn a_drop_leaves_the_numbers_of_the_others(rt: HostRuntime) {
+    let done = drop_declaration(&rt, rt.alloc(), End::Done);
+    assert!(rt; done.touched.as_slice() == TOUCHED);
+    assert!(rt; done.first == done.other);
     assert!(rt;
         done.behind
             .starts_with(b"Program(Block([Print(Add(Use(\"x\"),Num(2)))]))")
     );
-    let given_up = drop_declaration(rt.alloc(), End::GivenUp)?;
-    assert_eq!(rt; given_up.touched.as_slice(), TOUCHED);
-    assert_eq!(rt; given_up.before, given_up.behind);
-    Ok(())
+    let given_up = drop_declaration(&rt, rt.alloc(), End::GivenUp);
+    assert!(rt; given_up.touched.as_slice() == TOUCHED);
+    assert!(rt; given_up.before == given_up.behind);
 }

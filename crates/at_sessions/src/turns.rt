@@ -1,14 +1,14 @@
-//! Lines and turns one by one: questions in turns, the tree between lines, and a question that is given no turns.
+//! Lines and turns one by one: questions in turns, and the tree between lines.
 
 ghost use Rattle.at_start.specs.Starts.{IsReady};
 
-use crate::hearing::{calculator, played};
-use crate::samples::{TREE, over};
+use crate::hearing::calculator;
+use crate::rows::holds_for;
 use at_cache::KeepRecorded;
 use at_engine::Engine;
 use at_tree::tree::{depth, nodes};
-use std::alloc::{AllocError, Global};
-use std::test::Fail;
+use std::alloc::Global;
+use std::process::Abort;
 
 /// What is done with an engine, and what comes of it.
 enum Step {
@@ -216,94 +216,79 @@ const MARK: Step = Step::Line("0 mark u /Block/Stmt:1/Expr/Left", "0 ok 0\n");
 
 /// Whether the step is taken as it says; what has to be appended is noted.
 fn is_taken(
+    rt: &impl Abort,
     alloc: Global,
     engine: &mut Engine<KeepRecorded>,
     step: &Step,
     out: &mut Vec<u8>,
     told: &mut String,
-) -> Result<bool, AllocError>
+) -> bool
     requires { IsReady engine.old }
     ensures { IsReady engine.new }
 {
     match step {
         Step::Line(line, reply) => {
-            engine.line(line.as_bytes(), out)?;
-            told.push_str(reply)?;
-            Ok(true)
+            engine.line(line.as_bytes(), out).expect(rt, "memory");
+            told.push_str(reply).expect(rt, "memory");
+            true
         }
         Step::Turn(is_open, reply) => {
-            told.push_str(reply)?;
-            Ok(engine.turn(out)? == *is_open)
+            told.push_str(reply).expect(rt, "memory");
+            engine.turn(out).expect(rt, "memory") == *is_open
         }
         Step::Posts(posts) => {
-            post(engine, *posts, out, told)?;
-            Ok(true)
+            post(rt, engine, *posts, out, told);
+            true
         }
-        Step::Given(number, turns) => Ok(engine.turns(*number) == *turns),
-        Step::Tree(nodes, levels) => Ok(size(alloc, engine)? == (*nodes, *levels)),
+        Step::Given(number, turns) => engine.turns(*number) == *turns,
+        Step::Tree(nodes, levels) => size(rt, alloc, engine) == (*nodes, *levels),
     }
 }
 
 /// How many nodes and levels a copy of the engine's tree has.
-fn size(alloc: Global, engine: &Engine<KeepRecorded>) -> Result<(usize, usize), AllocError>
+fn size(rt: &impl Abort, alloc: Global, engine: &Engine<KeepRecorded>) -> (usize, usize)
     requires { IsReady engine.now }
 {
     let store = engine.tree();
-    let tree = store.tree_of(alloc, store.root())?;
-    Ok((nodes(&tree), depth(&tree)))
+    let tree = store.tree_of(alloc, store.root()).expect(rt, "memory");
+    (nodes(&tree), depth(&tree))
 }
 
 /// Posts so many questions of session 0.
 fn post(
+    rt: &impl Abort,
     engine: &mut Engine<KeepRecorded>,
     posts: u32,
     out: &mut Vec<u8>,
     told: &mut String,
-) -> Result<(), AllocError>
+)
     requires { IsReady engine.old }
     ensures { IsReady engine.new }
 {
     for i in 1..=posts {
-        engine.line(b"0 post / circ()", out)?;
-        write!(told, "0 open {i}\n")?;
+        engine.line(b"0 post / circ()", out).expect(rt, "memory");
+        write!(told, "0 open {i}\n").expect(rt, "memory");
     }
-    Ok(())
 }
 
 /// The first step that a fresh engine doesn't take as it says, where there is one. All that is appended stands in one output.
-fn first_wrong(alloc: Global, steps: &[Step]) -> Result<Option<usize>, Fail> {
-    let mut engine = calculator(alloc)?;
+fn first_wrong(rt: &impl Abort, alloc: Global, steps: &[Step]) -> Option<usize> {
+    let mut engine = calculator(rt, alloc);
     let mut out = Vec::new(alloc);
     let mut told = String::new(alloc);
     for (at, step) in steps.iter().enumerate() {
-        let is_taken = is_taken(alloc, &mut engine, step, &mut out, &mut told)?;
+        let is_taken = is_taken(rt, alloc, &mut engine, step, &mut out, &mut told);
         if !is_taken || out.as_slice() != told.as_bytes() {
-            return Ok(Some(at));
+            return Some(at);
         }
     }
-    Ok(None)
+    None
 }
 
 #[test]
-fn lines_and_turns_are_taken_one_by_one(rt: HostRuntime) -> Result<(), Fail> {
+fn lines_and_turns_are_taken_one_by_one(rt: HostRuntime) {
     for script in SCRIPTS {
-        let wrong = first_wrong(rt.alloc(), script.steps)?;
-        assert_eq!(rt; wrong, None, "{}", script.name);
+        let wrong = first_wrong(&rt, rt.alloc(), script.steps);
+        holds_for(&rt, script.name, wrong.is_none());
     }
-    Ok(())
-}
-
-#[test]
-fn without_turns_a_question_is_answered_at_the_end(rt: HostRuntime) -> Result<(), Fail> {
-    let lines = "0 post /Block/Stmt:1/Expr value()
-0 version
-0 version
-";
-    let replies = b"0 open 1
-0 ok 0
-0 ok 0
-0 done 1 0 = 3
-";
-    played(rt.alloc(), &over(TREE), 0, lines, replies)?;
-    Ok(())
 }
