@@ -15,7 +15,10 @@ pub fn calculator(rt: &impl Abort, alloc: Global) -> Engine<KeepRecorded>
     ensures { IsReady result }
 {
     let mut files = files(rt, alloc, &over(TREE));
-    start(alloc, &mut files).ok().expect(rt, "an engine")
+    match start(alloc, &mut files) {
+        Ok(engine) => engine,
+        Err(_) => panic!(rt; "no engine"),
+    }
 }
 
 /// What a fresh engine over an empty keeper writes for the lines, each of which a turn follows, and what its run
@@ -30,8 +33,10 @@ pub fn heard<K: Keeper>(
     requires { KeepsNothing K.contents K.memories keeper }
 {
     let mut files = files(rt, alloc, sample);
-    let engine = start_with(alloc, &mut files, keeper);
-    let mut engine = engine.ok().expect(rt, "an engine");
+    let mut engine = match start_with(alloc, &mut files, keeper) {
+        Ok(engine) => engine,
+        Err(_) => panic!(rt; "no engine"),
+    };
     let mut reader = lines.as_bytes();
     let mut out = Vec::new(alloc);
     let report = run(&mut engine, &mut reader, &mut out)
