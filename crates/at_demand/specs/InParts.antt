@@ -1,5 +1,5 @@
 -- Evaluations in one go, part by part: what an expression comes to, and what comes to what is kept meanwhile.
-use Rattle.std.specs.Prelude.{◌≡◌, ℕ, Bool, List, ◌++◌, [], Option, None, Some, false, true, IsSome, IsTrue, IfNone, IfOk, OnOk, Result}
+use Rattle.std.specs.Prelude.{◌≡◌, ◌⊎◌, ⊤, ℕ, Bool, List, ◌++◌, [], Option, None, Some, false, true, IsSome, IsTrue, IfNone, IfOk, OnOk, Result}
 use Rattle.at_model.specs.Run.{Value, Instance, Location, Contents, Known, Run, Gives, Demands}
 use Rattle.at_model.specs.Classes.{Classes}
 use Rattle.at_model.specs.Rules.{Rules, is_inherited, is_lazy}
@@ -11,8 +11,11 @@ use Rattle.at_rules.specs.declared.body.Body.{Body}
 use Rattle.at_body.specs.Rest.{ev}
 use Rattle.at_body.specs.Standing.{Place}
 use Rattle.at_body.specs.Values.{value_view}
+use Rattle.at_body.specs.declared.todo.Fold.{Fold}
+use Rattle.at_body.specs.declared.todo.Fold.TheVariants as fold
 use Rattle.at_body.specs.declared.value.Value.{Value as ValueCode}
 use Rattle.at_apply.specs.Near.{AsksEach, asked}
+use Rattle.at_apply.specs.Passing.{ArePassedBy}
 use Rattle.at_cache.specs.Kept.{Entries}
 use Rattle.at_cache.specs.Traced.{Memories}
 use Rattle.at_demand.specs.declared.direct.Direct.{Direct}
@@ -89,6 +92,24 @@ Demanded rules look r m = Reaches look (HasValue look (meaning rules)) r m
 -- each instance that it demands so is one of the tree
 abbrev pub AreDemandedThere : {A : Type 0} → Rules → Shown → Run ℕ A → Type 0
 AreDemandedThere rules s r = (m : Instance ℕ) → Demanded rules (contents s) r m → IsThere s m
+
+-- a fold that goes on as it was where its expression comes to false
+abbrev pub Seeks : Fold → Type 0
+Seeks (fold.Sum total) = ⊥
+Seeks f = ⊤
+
+-- A fold at that place, which seeks, asks each element for the attribute; those in front of the rest came to false, and nothing was taken.
+pub record HasPassedBy (rules : Rules) (look : Contents ℕ) (p : Place) (f : Fold) (b : Body) (attribute : ℕ) (old new : Level)
+    (nodes rest : List ℕ) : Type 0 where
+  pub seeks : Seeks f
+  pub asks : AsksEachInner rules p b attribute
+  pub passed : ArePassedBy rules look attribute p.passed old.reads new.reads nodes rest
+  pub uses : new ≡ record old { reads = new.reads }
+
+-- so it is, or nothing has changed
+abbrev pub MayHavePassedBy : Rules → Contents ℕ → Place → Fold → Body → (old new : Level) → (nodes rest : List ℕ) → Type 0
+MayHavePassedBy rules look p f b old new nodes rest =
+    ((rest ≡ nodes) × (new ≡ old)) ⊎ ((attribute : ℕ) × HasPassedBy rules look p f b attribute old new nodes rest)
 
 -- What was held stays; what came to be kept is worth keeping for an instance that the evaluation demands, and the work counts it; all is
 -- right still and, by an exact keeper, spare.

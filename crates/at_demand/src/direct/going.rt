@@ -12,7 +12,7 @@ ghost use Rattle.at_apply.specs.Parts.{beside_text, call_of, either_of, fold_of,
 ghost use Rattle.at_apply.specs.Place.{place_at};
 ghost use Rattle.at_demand.specs.Known.{meaning};
 ghost use Rattle.at_demand.specs.InParts.{EndsEvaluated, EndsRecalled, EndsTold, EvaluatesTo, GivesLevel, HasGrown, IsEmptied, IsHeld, IsHeldAfresh, IsHeldFor, held_by};
-ghost use Rattle.at_demand.specs.InParts.{AsksEachInner, AsksInner, MayHaveCome};
+ghost use Rattle.at_demand.specs.InParts.{AsksEachInner, AsksInner, MayHaveCome, MayHavePassedBy, Seeks};
 ghost use Rattle.at_demand.specs.Sparing.{AreSpare, HasWorthy};
 
 use super::keeping::{few_of, is_small};
@@ -21,7 +21,7 @@ use super::{Direct, Level};
 use crate::basis::Basis;
 use at_apply::{
     Form, Here, Next, Stop, asked_of_each, begin, chosen, compare, compare_with, form_of, lent,
-    node_of, plain_value, settle, truth_in, with_one, with_two,
+    node_of, pass_by, plain_value, settle, truth_in, with_one, with_two,
 };
 use at_body::{Arguments, Binary, Fold, Inst, Reads, Unary, Value, come_to};
 use at_cache::Keeper;
@@ -554,7 +554,7 @@ impl Direct {
         let asked = inner_of_each(basis, here, body);
         let mut inside = here.copy()?;
         let mut going = fold;
-        let mut rest = nodes;
+        let mut rest = behind(basis, level, here, &going, body, &asked, nodes)?;
         while let Some((node, others)) = rest.split_first() {
             inside.bound.push(*node)?;
             let asked_here = asked_inside(basis, here, &inside, body, *node, &asked);
@@ -574,7 +574,7 @@ impl Direct {
                 Next::On(further) => going = further,
                 Next::End(value) => return Ok(value),
             }
-            rest = others;
+            rest = behind(basis, level, here, &going, body, &asked, others)?;
         }
         Ok(come_to(&going))
     }
@@ -618,6 +618,48 @@ fn inner_of_each(basis: &Basis<'_>, here: &Here, body: &Body) -> Option<AttrId>
         return None;
     }
     Some(attribute)
+}
+
+// The nodes behind those at the front that the fold passes by at once, where it seeks one and asks each for the attribute.
+#[inline(always)]
+fn behind<'n>(
+    basis: &Basis<'_>,
+    level: &mut Level,
+    here: &Here,
+    fold: &Fold,
+    body: &Body,
+    asked: &Option<AttrId>,
+    nodes: &'n [Node],
+) -> Result<&'n [Node], Stop>
+    requires { IfSome asked.now (AsksEachInner basis.now.rules.now (place_at here.now) body.now) }
+    ensures { IfOk result (λ rest. MayHavePassedBy basis.now.rules.now (contents basis.now.store.now) (place_at here.now) fold.now body.now
+        level.old level.new nodes.now rest.now) }
+{
+    let Some(attribute) = asked else {
+        return Ok(nodes);
+    };
+    if !seeks(fold) {
+        return Ok(nodes);
+    }
+    pass_by(
+        basis.rules,
+        basis.store,
+        &mut level.reads,
+        here.arguments.as_slice(),
+        *attribute,
+        nodes,
+    )
+}
+
+// Whether the fold is what it was behind an element at which its expression comes to `false`.
+#[inline(always)]
+fn seeks(fold: &Fold) -> bool
+    ensures { IsTrue result → Seeks fold.now }
+{
+    match fold {
+        Fold::Exists | Fold::First => true,
+        Fold::Sum(_) => false,
+    }
 }
 
 // The same attribute, at an element within the fold.

@@ -20,6 +20,7 @@ use Rattle.at_apply.specs.Place.{place_at}
 use Rattle.at_demand.specs.Traces.{StayJustified}
 use Rattle.at_demand.proofs.of_parts.Directly.{come_begun, come_gives, come_looked, gains_begun, nothing_gained}
 use Rattle.at_demand.proofs.of_parts.ByForm.{beside_come, beside_gains, call_come, call_gains, call_gains_first, call_gains_second, either_come, either_gains, either_gains_test, fold_come, fold_gains, fold_gains_first, one_come, one_gains, two_come, two_gains, two_gains_first}
+use Rattle.at_demand.proofs.of_parts.PassedBy.{goes_past}
 use Rattle.at_demand.proofs.of_parts.Looping.{bound_at, each_all, each_ends, each_gains, each_on, gains_so_far, passed_all, passed_gains, passed_on, starts, unbound_at}
 use Rattle.at_demand.proofs.direct.Direct.+direct.Goals as goal
 use Rattle.at_body.specs.declared.value.Value.TheVariants as value
@@ -693,6 +694,21 @@ each-asked_inside-asked_here-requires g n c = (
   c.inner_of_each-asked.ensures,
 )
 
+pub each-behind-requires : goal.each-behind-requires
+each-behind-requires g n c = c.inner_of_each-asked.ensures
+
+pub each-behind-requires-in-Some : goal.each-behind-requires-in-Some
+each-behind-requires-in-Some g n c = c.inner_of_each-asked.ensures
+
+pub each-returns-in_err-rest : goal.each-returns-in_err-rest
+each-returns-in_err-rest g n c = record {
+  come = search rules;
+  gains =
+      nothing_gained c.args.basis.now.rules.now c.args.basis.now.store.now g.K.Keeper.exact (over
+      c.args.basis.now.rules.now.classes c.args.fold (body_view c.args.body.now) (place_at c.args.here.now)
+      c.args.nodes.now) _ c.args.self.now.few c.requires;
+}
+
 pub each-returns-in_err-inside : goal.each-returns-in_err-inside
 each-returns-in_err-inside g n c = record {
   come = search rules;
@@ -704,11 +720,15 @@ each-returns-in_err-inside g n c = record {
 
 pub each-loop-node-init : goal.each-loop-node-init
 each-loop-node-init g n c =
+    let rules = c.args.basis.now.rules.now in
+    let s = c.args.basis.now.store.now in
+    let p = place_at c.args.here.now in
+    let whole = over rules.classes c.args.fold (body_view c.args.body.now) p c.args.nodes.now in
     record {
       place = c.in_ok-inside.ensures;
-      goes = starts c.args.basis.now.rules.now c.args.basis.now.store.now g.K.Keeper.exact _
-          c.args.level.now (over c.args.basis.now.rules.now.classes c.args.fold (body_view c.args.body.now) (place_at
-          c.args.here.now) c.args.nodes.now) (λ v. v) (λ v. refl) c.requires;
+      goes = goes_past rules s g.K.Keeper.exact p c.args.fold c.args.body.now whole _ _ c.args.level.now c.args.level.now c.behind.new.level
+          c.args.nodes.now c.in_ok-rest.rest.now c.args.self.now.few c.in_ok-rest.ensures
+          (starts rules s g.K.Keeper.exact _ c.args.level.now whole (λ v. v) (λ v. refl) c.requires);
     }
 
 pub each-returns-in_err-push : goal.each-returns-in_err-push
@@ -735,6 +755,19 @@ each-returns-in_err-value g n c = record {
 
 pub each-returns-in_err-next : goal.each-returns-in_err-next
 each-returns-in_err-next g n c = record {
+  come = search rules;
+  gains =
+      each_gains c.args.basis.now.rules.now c.args.basis.now.store.now g.K.Keeper.exact (place_at c.args.here.now) (over
+      c.args.basis.now.rules.now.classes c.args.fold (body_view c.args.body.now) (place_at c.args.here.now)
+      c.args.nodes.now) _ _ _ _ _ c.element.new.level c.loop-node.going c.args.body.now c.in-Some.node.now
+      c.in-Some.others.now c.loop-node.rest.now c.in-Some.ensures.cases.0 (place_at
+      (record c.loop-node.inside { bound = c.push.new.self })) (bound_at (place_at c.loop-node.inside) (place_at
+      c.args.here.now) c.in-Some.node.now c.push.new.self c.loop-node.invariant.place c.in_ok-push.ensures)
+      c.loop-node.invariant.goes c.element.ensures.gains;
+}
+
+pub each-returns-in_err-rest-2 : goal.each-returns-in_err-rest-2
+each-returns-in_err-rest-2 g n c = record {
   come = search rules;
   gains =
       each_gains c.args.basis.now.rules.now c.args.basis.now.store.now g.K.Keeper.exact (place_at c.args.here.now) (over
@@ -774,7 +807,11 @@ each-loop-node-preserved g n c =
     record {
       place = unbound_at (place_at c.loop-node.inside) (place_at c.args.here.now) c.in-Some.node.now
           c.push.new.self c.pop.new.self c.loop-node.invariant.place c.in_ok-push.ensures c.pop.ensures.left;
-      goes = each_on
+      goes = goes_past c.args.basis.now.rules.now c.args.basis.now.store.now g.K.Keeper.exact (place_at c.args.here.now) c.in-On.further
+          c.args.body.now (over c.args.basis.now.rules.now.classes c.args.fold (body_view c.args.body.now) (place_at
+          c.args.here.now) c.args.nodes.now) _ _ _ c.element.new.level c.behind-in-Some.new.level c.in-Some.others.now c.in_ok-rest-2.rest.now
+          c.element.new.self.few c.in_ok-rest-2.ensures
+          (each_on
           c.args.basis.now.rules.now c.args.basis.now.store.now g.K.Keeper.exact (place_at c.args.here.now) (over
           c.args.basis.now.rules.now.classes c.args.fold (body_view c.args.body.now) (place_at c.args.here.now)
           c.args.nodes.now) _ _ _ _ _ c.element.new.level c.loop-node.going c.args.body.now c.in-Some.node.now
@@ -784,15 +821,19 @@ each-loop-node-preserved g n c =
           c.loop-node.invariant.goes c.element.ensures.gains (value_view c.in_ok-value.value) c.in_ok-value.ensures.come
           c.in-On.further (c.in_ok-next.ensures c.args.basis.now.rules.now.classes (body_view c.args.body.now) (place_at
           c.args.here.now) c.in-Some.others.now ∙ ap (next_of c.args.basis.now.rules.now.classes (body_view
-          c.args.body.now) (place_at c.args.here.now) c.in-Some.others.now) c.in-On.is);
+          c.args.body.now) (place_at c.args.here.now) c.in-Some.others.now) c.in-On.is));
     }
 
-pub each-loop-node-preserved-in-On : goal.each-loop-node-preserved-in-On
-each-loop-node-preserved-in-On g n c =
+pub each-loop-node-preserved-in_ok-rest-2 : goal.each-loop-node-preserved-in_ok-rest-2
+each-loop-node-preserved-in_ok-rest-2 g n c =
     record {
       place = unbound_at (place_at c.loop-node.inside) (place_at c.args.here.now) c.in-Some.node.now
           c.push.new.self c.pop.new.self c.loop-node.invariant.place c.in_ok-push.ensures c.pop.ensures.left;
-      goes = each_on
+      goes = goes_past c.args.basis.now.rules.now c.args.basis.now.store.now g.K.Keeper.exact (place_at c.args.here.now) c.in-On.further
+          c.args.body.now (over c.args.basis.now.rules.now.classes c.args.fold (body_view c.args.body.now) (place_at
+          c.args.here.now) c.args.nodes.now) _ _ _ c.element.new.level c.behind-in-Some.new.level c.in-Some.others.now c.in_ok-rest-2.rest.now
+          c.element.new.self.few c.in_ok-rest-2.ensures
+          (each_on
           c.args.basis.now.rules.now c.args.basis.now.store.now g.K.Keeper.exact (place_at c.args.here.now) (over
           c.args.basis.now.rules.now.classes c.args.fold (body_view c.args.body.now) (place_at c.args.here.now)
           c.args.nodes.now) _ _ _ _ _ c.element.new.level c.loop-node.going c.args.body.now c.in-Some.node.now
@@ -802,7 +843,7 @@ each-loop-node-preserved-in-On g n c =
           c.loop-node.invariant.goes c.element.ensures.gains (value_view c.in_ok-value.value) c.in_ok-value.ensures.come
           c.in-On.further (c.in_ok-next.ensures c.args.basis.now.rules.now.classes (body_view c.args.body.now) (place_at
           c.args.here.now) c.in-Some.others.now ∙ ap (next_of c.args.basis.now.rules.now.classes (body_view
-          c.args.body.now) (place_at c.args.here.now) c.in-Some.others.now) c.in-On.is);
+          c.args.body.now) (place_at c.args.here.now) c.in-Some.others.now) c.in-On.is));
     }
 
 pub each-returns : goal.each-returns
