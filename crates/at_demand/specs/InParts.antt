@@ -2,8 +2,9 @@
 use Rattle.std.specs.Prelude.{◌≡◌, ◌⊎◌, ⊤, ℕ, Bool, List, ◌++◌, [], Option, None, Some, false, true, IsSome, IsTrue, IfNone, IfOk, OnOk, Result}
 use Rattle.at_model.specs.Run.{Value, Instance, Location, Contents, Known, Run, Gives, Demands}
 use Rattle.at_model.specs.Classes.{Classes}
-use Rattle.at_model.specs.Rules.{Rules, is_inherited, is_lazy}
-use Rattle.at_model.specs.Meaning.{HasValue, Reaches}
+use Rattle.at_model.specs.Rules.{Rules, is_inherited, is_lazy, start_of}
+use Rattle.at_model.specs.Meaning.{Reaches}
+use Rattle.at_model.specs.of_fixpoints.Fixpoints.{HasValue}
 use Rattle.at_model.specs.Nested.{Evaluates}
 use Rattle.at_store.specs.Shown.{Shown, contents}
 use Rattle.at_rules.specs.Bodies.{body_view}
@@ -20,7 +21,7 @@ use Rattle.at_cache.specs.Kept.{Entries}
 use Rattle.at_cache.specs.Traced.{Memories}
 use Rattle.at_demand.specs.declared.direct.Direct.{Direct}
 use Rattle.at_demand.specs.declared.direct.Level.{Level}
-use Rattle.at_demand.specs.Known.{meaning, kept_values, IsKept, KeepsEntries}
+use Rattle.at_demand.specs.Known.{equations, meaning, kept_values, IsKept, KeepsEntries}
 use Rattle.at_demand.specs.Inner.{AreKnown, Gains, HasRecalled, HasTold, IsEvaluated, StayRemembered, is_inner, known_by}
 use Rattle.at_demand.specs.Right.{AreRight, IsThere}
 use Rattle.at_demand.specs.Sparing.{AreSpare, Counts, IsWorthKeeping}
@@ -63,7 +64,7 @@ pub record HasCome {A : Type 0} (rules : Rules) (look : Contents ℕ) (h : Held)
   pub depth : ℕ
   pub looks : List (Location ℕ)
   pub takes : List (Instance ℕ)
-  pub evaluates : Evaluates look (meaning rules) (values_in h) (is_inner rules) depth r a looks takes
+  pub evaluates : Evaluates look (equations rules) (values_in h) (is_inner rules) depth r a looks takes
   pub reads : new.reads ≡ old.reads ++ looks
   pub uses : new.uses.items ≡ old.uses.items ++ takes
 
@@ -130,20 +131,28 @@ pub record HasGrown (rules : Rules) (s : Shown) (exact : Bool) (i : Instance ℕ
   pub gains : Gains rules s exact i old.entries new.entries old.found new.found old.work new.work
   pub traces : StayJustified rules s i old.memories new.memories
 
--- all is right, for an instance whose attribute is lazy, or isn't
+-- all is right, for an instance whose attribute is lazy, or isn't, and isn't circular
 pub record IsHeldFor (rules : Rules) (look : Contents ℕ) (h : Held) (lazily : Bool) (i : Instance ℕ) : Type 0 where
   pub lazy : is_lazy rules i.attribute ≡ lazily
+  pub own : start_of rules i.attribute ≡ None
   pub held : IsHeld rules look h
 
--- all is right, for a lazy instance of which no value is kept
+-- so it is for one whose attribute isn't circular
+pub record IsHeldFrom (rules : Rules) (look : Contents ℕ) (h : Held) (i : Instance ℕ) : Type 0 where
+  pub own : start_of rules i.attribute ≡ None
+  pub held : IsHeld rules look h
+
+-- all is right, for a lazy instance that isn't circular, and of which no value is kept
 pub record IsHeldAfresh (rules : Rules) (look : Contents ℕ) (h : Held) (i : Instance ℕ) : Type 0 where
   pub lazy : is_lazy rules i.attribute ≡ true
+  pub own : start_of rules i.attribute ≡ None
   pub unkept : IsUnkept h i
   pub held : IsHeld rules look h
 
 -- and its evaluation has come to v, with what stands with the level
 pub record IsEvaluatedFor (rules : Rules) (look : Contents ℕ) (h : Held) (lazily : Bool) (i : Instance ℕ) (v : Value ℕ) (below : Level) : Type 0 where
   pub lazy : is_lazy rules i.attribute ≡ lazily
+  pub own : start_of rules i.attribute ≡ None
   pub held : IsHeld rules look h
   pub come : IsEvaluated rules look (values_in h) i v below.reads below.uses.items
 
@@ -175,7 +184,7 @@ pub record EndsRecalled {E : Type 0} (rules : Rules) (s : Shown) (exact : Bool) 
 -- of the instance itself.
 pub record EndsEvaluated {E : Type 0} (rules : Rules) (s : Shown) (exact : Bool) (i : Instance ℕ) (old new : Held) (before after : Level)
     (r : Result ValueCode E) : Type 0 where
-  pub come : IfOk r (λ v. HasCome rules (contents s) new before after (meaning rules i) (value_view v))
+  pub come : IfOk r (λ v. HasCome rules (contents s) new before after (equations rules i) (value_view v))
   pub unkept : OnOk r (IsUnkept old i → IsUnkept new i)
   pub grown : HasGrown rules s exact i old new
 

@@ -1,7 +1,7 @@
 //! The recursion of an evaluation in one go: over the parts of expressions, and through the instances that they demand.
 
 ghost use Rattle.std.specs.Prelude.{◌≡◌, ◌≤◌, IfOk, IfSome, OnOk, IsTrue, drop, false, length, map, take, true};
-ghost use Rattle.at_model.specs.Meaning.{HasValue};
+ghost use Rattle.at_model.specs.of_fixpoints.Fixpoints.{HasValue};
 ghost use Rattle.at_store.specs.Shown.{contents};
 ghost use Rattle.at_rules.specs.Bodies.{bodies_view, body_view};
 ghost use Rattle.at_body.specs.Comparing.{IsComparison};
@@ -11,11 +11,11 @@ ghost use Rattle.at_body.specs.Values.{value_view};
 ghost use Rattle.at_apply.specs.Parts.{beside_text, call_of, either_of, fold_of, one_of, two_of};
 ghost use Rattle.at_apply.specs.Place.{place_at};
 ghost use Rattle.at_demand.specs.Known.{meaning};
-ghost use Rattle.at_demand.specs.InParts.{EndsEvaluated, EndsRecalled, EndsTold, EvaluatesTo, GivesLevel, HasGrown, IsEmptied, IsHeld, IsHeldAfresh, IsHeldFor, held_by};
+ghost use Rattle.at_demand.specs.InParts.{EndsEvaluated, EndsRecalled, EndsTold, EvaluatesTo, GivesLevel, HasGrown, IsEmptied, IsHeld, IsHeldAfresh, IsHeldFor, IsHeldFrom, held_by};
 ghost use Rattle.at_demand.specs.InParts.{AsksEachInner, AsksInner, MayHaveCome, MayHavePassedBy, Seeks};
 ghost use Rattle.at_demand.specs.Sparing.{AreSpare, HasWorthy};
 
-use super::keeping::{few_of, is_small};
+use super::keeping::{few_of, is_circular, is_inner, is_small};
 use super::operands::value_at_once;
 use super::{Direct, Level};
 use crate::basis::Basis;
@@ -114,8 +114,11 @@ impl Direct {
         if let Some(value) = recalled {
             return Ok(value);
         }
-        if !basis.rules.is_lazy(needed.attribute()) {
+        if is_inner(basis.rules, needed.attribute()) {
             return self.inner(keeper, basis, level, needed, above);
+        }
+        if is_circular(basis.rules, needed.attribute()) {
+            return Err(Stop::GivesUp);
         }
         let verified = self.verify(keeper, basis, level, &needed, above)?;
         match verified {
@@ -211,7 +214,7 @@ impl Direct {
         inst: &Inst,
         above: usize,
     ) -> Result<Value, Stop>
-        requires { IsHeld basis.now.rules.now (contents basis.now.store.now) (held_by K.contents K.memories keeper.old self.old) }
+        requires { IsHeldFrom basis.now.rules.now (contents basis.now.store.now) (held_by K.contents K.memories keeper.old self.old) inst.now }
         ensures { EndsEvaluated basis.now.rules.now basis.now.store.now K.exact inst.now (held_by K.contents K.memories keeper.old self.old)
             (held_by K.contents K.memories keeper.new self.new) level.old level.new result }
     {

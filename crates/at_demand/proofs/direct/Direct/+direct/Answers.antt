@@ -1,4 +1,5 @@
-use Rattle.std.proofs.Common.{◌≡◌, ℕ, List, true, drop, take, length, Option, None, IfNone, refl, sym, ap, ◌+◌, ◌∙◌, subst, arith, ◌++◌, Ok, IfOk, map, rules}
+use Rattle.std.proofs.Common.{◌≡◌, ℕ, List, true, drop, take, length, Option, None, IfNone, Result, refl, sym, ap, ◌+◌, ◌∙◌, subst, arith, ◌++◌, Ok, Err, IfOk, map, rules}
+use Rattle.std.specs.Prelude.{IsErrAnd}
 use Rattle.std.proofs.lemmas.Result.{IfOk-weaker}
 use Rattle.at_model.specs.Run.{Instance, Location, Gives, Run, Truth, Value, ◌>>=◌}
 use Rattle.at_store.specs.Shown.{contents}
@@ -7,7 +8,7 @@ use Rattle.at_body.specs.declared.value.Value.{Value as ValueCode}
 use Rattle.at_demand.specs.declared.direct.Level.{Level}
 use Rattle.at_demand.specs.Inner.{Gains, HasRecalled, HasTold, IsEvaluated, known_by}
 use Rattle.at_demand.specs.InParts.{EvaluatesTo, HasCome, HasGained, MayHaveCome, held_by, values_in}
-use Rattle.at_demand.specs.Known.{kept_values, meaning}
+use Rattle.at_demand.specs.Known.{equations, kept_values}
 use Rattle.at_demand.proofs.Entered.{absent}
 use Rattle.at_demand.proofs.of_nesting.Asked.{evaluated_behind, evaluated_in, inner_told, reads_before, reads_longer, told_alike, unkept_result, uses_before, uses_longer}
 use Rattle.at_demand.proofs.of_nesting.Grown.{grown_aside, grown_evaluated, grown_from, grown_none, grown_then, held_after, unkept_aside}
@@ -25,8 +26,16 @@ use Rattle.at_demand.proofs.of_parts.Looping.{bound_at, each_all, each_ends, eac
 use Rattle.at_demand.proofs.direct.Direct.+direct.Goals as goal
 use Rattle.at_body.specs.declared.value.Value.TheVariants as value
 
+-- an exit with an error has no value
+no_ok : {T E : Type 0} (r : Result T E) (Q : E → Type 0) (P : T → Type 0) → IsErrAnd r Q → IfOk r P
+no_ok (Ok x) Q P h = absurd h
+no_ok (Err e) Q P h = tt
+
 pub told-recall-requires : goal.told-recall-requires
 told-recall-requires g n c = c.requires.known
+
+pub told-is_inner-requires : goal.told-is_inner-requires
+told-is_inner-requires g n c = c.requires.known.circular
 
 pub afresh-keep-requires : goal.afresh-keep-requires
 afresh-keep-requires g n c = record {
@@ -35,6 +44,7 @@ afresh-keep-requires g n c = record {
       (c.in_ok-value.ensures.unkept c.requires.unkept);
   evaluated = record {
     lazy = c.requires.lazy;
+    own = c.requires.own;
     held = held_after c.evaluate.ensures.grown;
     come =
         let h = held_by g.K.Keeper.contents g.K.Keeper.memories c.evaluate.new.keeper c.evaluate.new.self in
@@ -47,6 +57,7 @@ afresh-keep-requires g n c = record {
 pub inner-remember-requires : goal.inner-remember-requires
 inner-remember-requires g n c = record {
   lazy = c.requires.lazy;
+  own = c.requires.own;
   held = held_after c.evaluate.ensures.grown;
   come =
       let rules = c.args.basis.now.rules.now in
@@ -89,6 +100,7 @@ verify-loop-init g n c = record {
 pub verify-keep_again-requires : goal.verify-keep_again-requires
 verify-keep_again-requires g n c = record {
   lazy = c.requires.lazy;
+  own = c.requires.own;
   unkept = c.loop.invariant.unkept;
   held = held_after c.loop.invariant.grown;
 }
@@ -149,8 +161,8 @@ verify-loop-preserved g n c = record {
       (g.K.Keeper.contents c.keep_again.new.keeper) c.keep_again.new.self.found.entries) c.loop.level
       c.keep_again.new.level c.args.needed.now o) c.in_default.is c.in_ok-again.ensures.recalled ∙
       c.loop.invariant.level;
-  unkept = unkept_aside c.args.needed.now c.in-Some-2.is c.in_ok-other.ensures.led c.in_ok-other.ensures.other
-      c.afresh.ensures.grown
+  unkept = unkept_aside c.args.needed.now c.requires.own c.in-Some-2.is c.in_ok-other.ensures.led
+      c.in_ok-other.ensures.other c.afresh.ensures.grown
       (subst (λ (o : Option ValueCode). IfNone o (kept_values (g.K.Keeper.contents c.keep_again.new.keeper)
       c.args.needed.now ≡ None)) c.in_default.is c.in_ok-again.ensures.unkept);
 }
@@ -268,10 +280,10 @@ evaluate-returns-in_err-begun g n c = record {
   grown =
       grown_evaluated c.args.basis.now.rules.now c.args.basis.now.store.now g.K.Keeper.exact c.args.basis.now.idle
       c.args.inst.now (held_by g.K.Keeper.contents g.K.Keeper.memories c.args.keeper.now c.args.self.now) (held_by
-      g.K.Keeper.contents g.K.Keeper.memories c.args.keeper.now c.args.self.now) (nothing_gained
-      c.args.basis.now.rules.now c.args.basis.now.store.now g.K.Keeper.exact (meaning c.args.basis.now.rules.now
+      g.K.Keeper.contents g.K.Keeper.memories c.args.keeper.now c.args.self.now) c.requires.own (nothing_gained
+      c.args.basis.now.rules.now c.args.basis.now.store.now g.K.Keeper.exact (equations c.args.basis.now.rules.now
       c.args.inst.now) (held_by g.K.Keeper.contents g.K.Keeper.memories c.args.keeper.now c.args.self.now)
-      c.args.self.now.few c.requires);
+      c.args.self.now.few c.requires.held);
 }
 
 pub evaluate-returns : goal.evaluate-returns
@@ -282,19 +294,19 @@ evaluate-returns g n c =
     let old = held_by g.K.Keeper.contents g.K.Keeper.memories c.args.keeper.now c.args.self.now in
     let new = held_by g.K.Keeper.contents g.K.Keeper.memories c.operand.new.keeper c.operand.new.self in
     let run = ev rules.classes (body_view c.in_ok-begun.begun.1.now) (place_at c.in_ok-begun.begun.0) in
-    let gained : HasGained rules s g.K.Keeper.exact (meaning rules i) old new =
-    gains_begun rules s g.K.Keeper.exact old new c.args.level.now.reads c.begin.new.reads (meaning rules i) run
+    let gained : HasGained rules s g.K.Keeper.exact (equations rules i) old new =
+    gains_begun rules s g.K.Keeper.exact old new c.args.level.now.reads c.begin.new.reads (equations rules i) run
     c.in_ok-begun.ensures c.operand.ensures.gains in
     let come : IfOk c.operand.result (λ v. HasCome rules (contents s) new c.args.level.now c.operand.new.level
-    (meaning rules i) (value_view v)) =
+    (equations rules i) (value_view v)) =
     IfOk-weaker c.operand.result _ _ (λ v h. come_begun rules s new c.args.level.now
-    (record { reads = c.begin.new.reads; uses = c.args.level.now.uses }) c.operand.new.level (meaning rules i) run
+    (record { reads = c.begin.new.reads; uses = c.args.level.now.uses }) c.operand.new.level (equations rules i) run
     (value_view v) refl c.in_ok-begun.ensures h) c.operand.ensures.come in
     record {
       come = come;
-      unkept = unkept_result rules s g.K.Keeper.exact c.operand.result i old new c.args.level.now c.operand.new.level gained
-          come;
-      grown = grown_evaluated rules s g.K.Keeper.exact c.args.basis.now.idle i old new gained;
+      unkept = unkept_result rules s g.K.Keeper.exact c.operand.result i old new c.args.level.now c.operand.new.level
+          c.requires.own gained come;
+      grown = grown_evaluated rules s g.K.Keeper.exact c.args.basis.now.idle i old new c.requires.own gained;
     }
 
 pub operand-returns-in_err-at_once : goal.operand-returns-in_err-at_once
@@ -635,7 +647,7 @@ passed-loop-argument-init g n c =
 
 pub passed-returns-in_err-value : goal.passed-returns-in_err-value
 passed-returns-in_err-value g n c = record {
-  come = search rules;
+  come = no_ok c.from_residual.result _ _ c.from_residual.ensures.1;
   gains =
       passed_gains c.args.basis.now.rules.now c.args.basis.now.store.now g.K.Keeper.exact (place_at c.args.here.now)
       (ev_all c.args.basis.now.rules.now.classes (bodies_view c.args.passed.now) (place_at c.args.here.now)) _ _ _ _ _
