@@ -195,14 +195,14 @@ def strokes(path: str, begin: int, count: int) -> str:
     return "".join(f'0 token {path} ID "x{k}"\n0 ask {path} decl()\n' for k in range(begin, begin + count))
 
 
-def keystrokes(bounds: Bounds, program: str, folder: str) -> None:
+def keystrokes(bounds: Bounds, program: str, folder: str, options: Sequence[str]) -> None:
     """20,000 keystrokes at one name: the memory and the time of an edit stay level from the 5,000th on."""
-    samples = ROOT / "samples" / "calculator"
+    samples, told = ROOT / "samples" / "calculator", " ".join(options)
     term, path = nested_use()
     (Path(folder) / "strokes.txt").write_text(term)
-    words = ["--keep", "10000", str(samples / "calc.ast"), "strokes.txt", str(samples / "calc.jrag")]
+    words = [*options, str(samples / "calc.ast"), "strokes.txt", str(samples / "calc.jrag")]
     if subprocess.run([program, *words], cwd=folder, stdin=subprocess.DEVNULL, capture_output=True).returncode:
-        print("no row of keystrokes: the program has no option --keep")
+        print(f"no row of keystrokes: the program doesn't take {told}")
         return
     run, quarter = Served(program, folder, words), STROKES // 4
     spent: List[float] = []
@@ -211,9 +211,9 @@ def keystrokes(bounds: Bounds, program: str, folder: str) -> None:
         spent.append(run.spent(strokes(path, begin, quarter)))
         peaks.append(run.peak())
     run.end()
-    time = bounds.at_most("time of keystrokes", spent[3] / spent[1], 1.25)
-    memory = bounds.at_most("memory of keystrokes", peaks[3] / peaks[0], 1.1)
-    print(f"{STROKES:,} keystrokes at one name with --keep 10000: {sum(spent) / STROKES * 1e6:.1f} us each; the last {quarter:,} against the second ones: {time}; "
+    time = bounds.at_most(f"time of keystrokes with {told}", spent[3] / spent[1], 1.25)
+    memory = bounds.at_most(f"memory of keystrokes with {told}", peaks[3] / peaks[0], 1.1)
+    print(f"{STROKES:,} keystrokes at one name with {told}: {sum(spent) / STROKES * 1e6:.1f} us each; the last {quarter:,} against the second ones: {time}; "
           f"at most {peaks[3]:,} KiB, against the first ones: {memory}")
 
 
@@ -244,7 +244,8 @@ def main() -> None:
         lists(bounds, program, folder, turns)
         filling(bounds, program, folder)
         marks(bounds, program, folder)
-        keystrokes(bounds, program, folder)
+        keystrokes(bounds, program, folder, ["--keep", "10000"])
+        keystrokes(bounds, program, folder, ["--cut-off", "--keep", "10000"])
     if bounds.broken:
         sys.exit(bounds.told())
     print(bounds.told())

@@ -8,7 +8,7 @@ PROGRAM is ./attrd where none is given; the programs have 1,000, 10,000 and 60,0
 the form that JastAdd2 generates, forgets all at each edit, and is warm, in one process; where there is no `javac`, attrd is measured
 alone. All answers of the two are compared. Times are processor times, the least of several rounds by turns; values are those of lazy
 attributes that --work counts; instructions are counted where there is `valgrind`, of keystrokes only with --instructions, which takes
-minutes. --row measures the rows whose names have that in them; --cut-off and --keep give the program that option. With --quarter the
+minutes. --row measures the rows whose names have that in them; --cut-off and --keep give the program these options. With --quarter the
 rows are measured with --keep, too, for a quarter of the values that the first question evaluates, foldings with them. What is wanted is
 told beside what was measured, for the programs of the first seed; with --hold the status is 1 where it isn't reached. It takes ten
 minutes.
@@ -117,7 +117,7 @@ class Bench:
     def __init__(self, program: str, folder: str, nodes: int, arguments: argparse.Namespace) -> None:
         self.program, self.folder, self.nodes = program, folder, nodes
         self.is_known = arguments.seed == SEED and not arguments.keep
-        self.options = ["--cut-off"] if arguments.cut_off else ["--keep", str(arguments.keep)] if arguments.keep else []
+        self.options = [*(["--cut-off"] if arguments.cut_off else []), *(["--keep", str(arguments.keep)] if arguments.keep else [])]
         grammar = Grammar.load(GRAMMAR)
         tree = written(nodes, arguments.seed)
         self.size, self.file = tree.size, f"program{nodes}.txt"

@@ -23,7 +23,7 @@ from typing import Dict, Optional, Sequence, Tuple
 
 FILES = [str(Path(__file__).resolve().parent.parent / "crates/attrd/data" / it) for it in ("calc.ast", "tree.txt", "calc.jrag")]
 # How values are kept, as `starve` names it.
-KEEPERS = ("nothing", "until-edit", "over-edits", "few", "cut-off")
+KEEPERS = ("nothing", "until-edit", "over-edits", "few", "cut-off", "few-cut-off")
 # Lines, and the replies to them where no memory is refused.
 Session = Tuple[str, str]
 # A question, each edit but a move, and a mark, and the question again; and another one twice where it was asked last. At the end the

@@ -7,8 +7,8 @@ from typing import Dict, List, Tuple
 from tools.of_the_program.runs import NOTHING, SECONDS, ProgramTest
 from tools.of_the_program.sessions import Sample
 
-# All that is kept over edits; so few entries that an edit folds some; and what is kept again.
-OPTIONS: Dict[str, List[str]] = {"over-edits": [], "few": ["--keep", "4"], "cut-off": ["--cut-off"]}
+# All that is kept over edits; so few entries that an edit folds some; what is kept again; and of so few entries.
+OPTIONS: Dict[str, List[str]] = {"over-edits": [], "few": ["--keep", "4"], "cut-off": ["--cut-off"], "few-cut-off": ["--cut-off", "--keep", "4"]}
 # Nothing is kept, and all until an edit.
 OTHERS = ("nothing", "until-edit")
 

@@ -24,6 +24,9 @@ KEPT, KEPT_A_NODE = 400_000, 6
 HELP_SECONDS = 30.0
 _VERSION = re.compile(r"attrd (\S+)\s*\Z")
 _OPTION = re.compile(r"--[a-z]+(?:-[a-z]+)*")
+# Programs of before refuse one of these beside the other: the help says where they don't.
+TOGETHER = "--cut-off --keep"
+_TOGETHER = re.compile(r"^ *--cut-off .*--keep", re.MULTILINE)
 _REFUSED = re.compile(r"(?P<file>.*): (?P<code>[GJF][0-9]+) (?P<name>.*?)(?: at (?P<line>[0-9]+):(?P<column>[0-9]+))?\Z")
 
 
@@ -96,8 +99,10 @@ def start(grammar: Source, tree: Union[Source, Node], *aspects: Source, program:
 
 
 def known_options(program: Union[str, "os.PathLike[str]"]) -> FrozenSet[str]:
-    """The options that the program's `--help` names, as `--slice`. Raises AttrdError where it can't be started."""
-    return frozenset(_OPTION.findall(_told(_path(program), "--help")))
+    """The options that the program's `--help` names, as `--slice`; with them TOGETHER, where it takes these two together. Raises AttrdError
+    where it can't be started."""
+    told = _told(_path(program), "--help")
+    return frozenset([*_OPTION.findall(told), *([TOGETHER] if _TOGETHER.search(told) else [])])
 
 
 def program_version(program: Union[str, "os.PathLike[str]"]) -> str:
@@ -149,8 +154,9 @@ def kept_for(nodes: int) -> int:
 
 
 def lasting_options(known: FrozenSet[str], values: int = KEPT) -> List[str]:
-    """The option by which a program that runs long keeps at most about so many values, where it knows one."""
-    return ["--keep", str(values)] if "--keep" in known else []
+    """The options by which a program that runs long keeps at most about so many values, with those that an edit may have changed, where it
+    knows them."""
+    return [*(["--cut-off"] if TOGETHER in known else []), *(["--keep", str(values)] if "--keep" in known else [])]
 
 
 def _run(words: List[str]) -> Program:

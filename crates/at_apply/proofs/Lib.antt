@@ -1,3 +1,4 @@
 mod Begun
 mod Compared
 mod Nearby
+mod Passed

@@ -3,3 +3,4 @@ pub mod Place
 pub mod Parts
 pub mod Forms
 pub mod Near
+pub mod Passing

@@ -154,7 +154,7 @@ fn compared(
 
 // Notes the class of the node, and those of the nodes among the arguments.
 #[inline(always)]
-fn enter(reads: &mut Reads, node: Node, arguments: &[Value]) -> Result<(), Stop>
+pub(crate) fn enter(reads: &mut Reads, node: Node, arguments: &[Value]) -> Result<(), Stop>
     ensures { OnOk result (reads.new ≡ entered reads.old node arguments.now) }
 {
     reads.push(Loc::Is(node))?;
@@ -163,7 +163,7 @@ fn enter(reads: &mut Reads, node: Node, arguments: &[Value]) -> Result<(), Stop>
 }
 
 // The component of a token of `this`.
-fn own_token(body: &Body) -> Option<usize>
+pub(crate) fn own_token(body: &Body) -> Option<usize>
     ensures { IfSome result (λ part. body_view body.now ≡ TokenOf This part) }
 {
     match body {
@@ -183,7 +183,7 @@ fn token_of_this(node: &Body, part: usize) -> Option<usize>
 }
 
 // The text of a literal, or of an argument outside of all folds.
-fn lent<'s>(arguments: &'s [Value], body: &'s Body) -> Option<&'s str>
+pub(crate) fn lent<'s>(arguments: &'s [Value], body: &'s Body) -> Option<&'s str>
     ensures { IfSome result (λ text. (classes : Classes) (node : ℕ)
         → ev classes (body_view body.now) (own_place node arguments.now) ≡ Gives (Text text.now)) }
 {

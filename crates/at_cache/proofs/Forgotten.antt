@@ -2,10 +2,14 @@
 use Rattle.std.proofs.Common.{◌≡◌, ℕ, Bool, None, Some, sym, ◌∙◌, subst}
 use Rattle.std.proofs.lemmas.Option.{none-some}
 use Rattle.at_model.specs.Run.{Location}
+use Rattle.at_cache.specs.declared.keep_cut_off.KeepCutOff.{KeepCutOff}
 use Rattle.at_cache.specs.declared.keep_recorded.KeepRecorded.{KeepRecorded}
+use Rattle.at_cache.specs.Finding.{edges_to}
 use Rattle.at_cache.specs.Folding.{LeavesKept}
 use Rattle.at_cache.specs.Keeping.{recorded_by}
 use Rattle.at_cache.specs.Kept.{Entries, KeepsAll, LeavesUntouched, LosesTouched}
+use Rattle.at_cache.specs.Standings.{kept_held, remembered}
+use Rattle.at_cache.specs.Traced.{Memories, StayTraced}
 
 -- what keeps nothing leaves what was kept
 pub leaves_nothing : (old new : Entries) → KeepsAll (λ i. None) new → LeavesKept old new
@@ -18,3 +22,21 @@ flush_leaves says old mid new kept leaves i k h = let (was, untouched) = leaves 
 -- where nothing was folded just what is touched goes
 pub flush_loses : (says : Location ℕ → Bool → Type 0) (old mid : KeepRecorded) (new : Entries) → mid ≡ old → LosesTouched says (recorded_by mid) new → LosesTouched says (recorded_by old) new
 flush_loses says old mid new same = subst (λ (k : KeepRecorded). LosesTouched says (recorded_by k) new) same
+
+-- of the one with cut-off: what it keeps, and what it remembers
+abbrev pub cut_kept : KeepCutOff → Entries
+cut_kept k = kept_held (edges_to k.readers) k.cut.entries k.cut.standings.items k.puts
+
+abbrev pub cut_memories : KeepCutOff → Memories
+cut_memories k = remembered (edges_to k.readers) k.cut.entries k.cut.standings.items
+
+-- where none went just what is touched goes
+pub loses_cut : (says : Location ℕ → Bool → Type 0) (old mid : KeepCutOff) (new : Entries) → mid ≡ old → LosesTouched says (cut_kept mid) new → LosesTouched says (cut_kept old) new
+loses_cut says old mid new same = subst (λ (k : KeepCutOff). LosesTouched says (cut_kept k) new) same
+
+-- what is left of the one in the place is left of it
+pub leaves_cut : (old mid : KeepCutOff) (new : Entries) → mid ≡ old → LeavesKept (cut_kept mid) new → LeavesKept (cut_kept old) new
+leaves_cut old mid new same = subst (λ (k : KeepCutOff). LeavesKept (cut_kept k) new) same
+
+pub stays_cut : (old mid : KeepCutOff) (new : Memories) → mid ≡ old → StayTraced (cut_memories mid) new → StayTraced (cut_memories old) new
+stays_cut old mid new same = subst (λ (k : KeepCutOff). StayTraced (cut_memories k) new) same

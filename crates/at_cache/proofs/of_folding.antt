@@ -6,6 +6,7 @@ pub mod Linking
 pub mod Made
 pub mod Nodes
 pub mod Places
+pub mod Reheld
 pub mod Relinking
 pub mod Rerun
 pub mod Walking

@@ -22,6 +22,7 @@ pub mod Traced
 pub mod Standings
 pub mod Marking
 pub mod Settling
+pub mod Shedding
 pub mod Renewing
 pub mod Rerunning
 pub mod Theirs

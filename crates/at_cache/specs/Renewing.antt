@@ -1,15 +1,18 @@
 -- What a put takes away beside.
 use Rattle.std.specs.Prelude.{◌≡◌, ◌⊎◌, ℕ, List, length, true, false, Option, None, Some, Contains}
 use Rattle.std.specs.Map.{lookup}
-use Rattle.at_model.specs.Run.{Instance, Value}
+use Rattle.at_model.specs.Run.{Instance, Location, Value}
 use Rattle.at_body.specs.Same.{same_instance}
 use Rattle.at_cache.specs.declared.cut.Pass.TheVariants as pass
 use Rattle.at_cache.specs.declared.edge.Edge.{Edge}
 use Rattle.at_cache.specs.declared.standing.Standing.{Standing}
 use Rattle.at_cache.specs.declared.table.Table.{Table}
-use Rattle.at_cache.specs.Info.{Info, Memory}
+use Rattle.at_cache.specs.Info.{Info, Memory, memory_of}
 use Rattle.at_cache.specs.Putting.{users_at}
-use Rattle.at_cache.specs.Standings.{but_for, standing_of}
+use Rattle.at_cache.specs.Kept.{KeepsAll}
+use Rattle.at_cache.specs.Recorded.{IsIndexed}
+use Rattle.at_cache.specs.Standings.{AreValued, IsTied, but_for, held, kept_held, remembered, standing_of}
+use Rattle.at_cache.specs.Traced.{StayTraced}
 
 -- All stays as it is but that no entry is traced that an edge to those that used the one in the slot tells of.
 pub record LosesUsers (slot : ℕ) (standings : List Standing) (m : Memory) (later : List Standing) (n : Memory) : Type 0 where
@@ -31,6 +34,23 @@ pub record Compares (slot : ℕ) (value : Option (Value ℕ)) (standings : List 
 -- the slot is that of the instance's entry, or the next one
 abbrev pub IsSlotFor : Table → Instance ℕ → (slot : ℕ) → Type 0
 IsSlotFor t i slot = elim (lookup (same_instance i) t.entries.entries) as (λ _. Type 0) [ None ↦ slot ≡ t.places.vacant_key | Some e ↦ slot ≡ e.slot ]
+
+-- What is kept is found, and so is all that is in memory; and the instance isn't kept, of which that is the slot.
+pub record IsAwaited (lists : Location ℕ → List Edge) (t : Table) (standings : List Standing) (puts : ℕ)
+    (i : Instance ℕ) (slot : ℕ) : Type 0 where
+  pub indexed : IsIndexed lists puts (held standings (memory_of t))
+  pub tied : IsTied lists puts (memory_of t)
+  pub valued : AreValued standings (memory_of t)
+  pub absent : kept_held lists t standings puts i ≡ None
+  pub place : IsSlotFor t i slot
+  pub its : (e : Info) → memory_of t slot ≡ Some e → e.instance ≡ i
+
+-- It still isn't. All that is kept stays so, and each trace was there, over the same last values.
+pub record StaysAwaited (lists : Location ℕ → List Edge) (t : Table) (standings : List Standing) (puts : ℕ)
+    (n : Table) (later : List Standing) (next : ℕ) (i : Instance ℕ) (slot : ℕ) : Type 0 where
+  pub awaited : IsAwaited lists n later next i slot
+  pub keeps : KeepsAll (kept_held lists t standings puts) (kept_held lists n later next)
+  pub traced : StayTraced (remembered lists t standings) (remembered lists n later)
 
 -- An entry with these comes into the slot, or in place of what is there; with the users of that. The others stay, and what used what
 -- was there isn't traced, if that had another value.

@@ -24,12 +24,19 @@ with_list users e = record e { users = users }
 abbrev pub with_entry : Option Value → SmallVec ℕ → ℕ → Entry → Entry
 with_entry value links stamp e = record e { value = value; links = links; stamp = stamp }
 
+abbrev pub with_number : SmallVec ℕ → ℕ → Entry → Entry
+with_number links stamp e = record e { links = links; stamp = stamp }
+
 abbrev pub with_rest : SmallVec ℕ → Edges → Entry → Entry
 with_rest links users e = record e { links = links; users = users }
 
 -- an entry that is put anew
 abbrev pub renewed : Option (run.Value ℕ) → (links : List ℕ) → (stamp : ℕ) → Info → Info
 renewed value links stamp e = record e { value = value; links = links; stamp = stamp; since = stamp }
+
+-- an entry with another number, so that no edge tells of it
+abbrev pub outdated : (links : List ℕ) (stamp : ℕ) → Info → Info
+outdated links stamp e = record e { links = links; stamp = stamp; since = stamp }
 
 -- the entry at the place is changed so
 abbrev pub HasWritten : (Entry → Entry) → ℕ → (old new : List (Instance ℕ × Entry)) → Type 0

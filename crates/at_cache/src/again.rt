@@ -79,21 +79,21 @@ fn next_place(known: &[Slot], place: usize, slot: Slot) -> usize {
     place
 }
 
-/// The slots of these instances. What the entry in the slot used, if there is one, is looked at first.
+/// The slots of these instances, which may be these, in this order, if there are any.
 pub fn slots_again(
     alloc: Global,
     entries: &Table,
     uses: &[Inst],
-    slot: Slot,
+    known: &Option<Links>,
 ) -> Result<Links, AllocError>
     ensures taken { IfOk result (λ slots. AreTaken (memory_of entries.now) slots.items) }
     ensures covers { IfOk result (λ slots. AreOf entries.now uses.now slots.items) }
     ensures theirs { IfOk result (λ slots. AreTheirs entries.now uses.now slots.items) }
 {
-    let Some((_, entry)) = entries.pair(slot) else {
-        return slots_of(alloc, entries, uses);
-    };
-    slots_near(alloc, entries, uses, entry.links.as_slice())
+    match known {
+        Some(known) => slots_near(alloc, entries, uses, known.as_slice()),
+        None => slots_of(alloc, entries, uses),
+    }
 }
 
 // The slots of these instances, which may be these, in this order.

@@ -4,7 +4,7 @@ ghost use Rattle.std.specs.Prelude.{◌≡◌, ◌≢◌, ◌<◌, ◌≤◌, le
 ghost use Rattle.at_cache.specs.declared.edge.Edge.{Edge};
 ghost use Rattle.at_cache.specs.Asking.{AreNoted};
 ghost use Rattle.at_cache.specs.Flushing.{IsIdle, Work};
-ghost use Rattle.at_cache.specs.Info.{Memory, memory_of};
+ghost use Rattle.at_cache.specs.Info.{Memory, memory_of, table_len};
 ghost use Rattle.at_cache.specs.Kept.{Answers, AreNamed};
 ghost use Rattle.at_cache.specs.Marking.{HasMark, IsPast, TakesAway, aside_cut, seen_among, seen_by, seen_count};
 ghost use Rattle.at_cache.specs.Putting.{users_at};
@@ -57,6 +57,7 @@ fn hide(cut: &mut Cut, slot: Slot) -> Option<Mark>
     ensures past { IsPast cut.old cut.new }
     ensures fewer { OnSome result (seen_count cut.new + 1 ≡ seen_count cut.old) }
     ensures same { IfNone result (seen_count cut.new ≡ seen_count cut.old) }
+    ensures len { table_len cut.new.entries ≡ table_len cut.old.entries }
 {
     if !cut.sees(slot) {
         return None;
@@ -74,6 +75,7 @@ pub fn doom_users(cut: &mut Cut, slot: Slot, first: Option<Slot>) -> Option<Slot
         → Work old start [] result (seen_by cut.new) }
     ensures past { IsPast cut.old cut.new }
     ensures count { seen_count cut.new ≡ seen_count cut.old }
+    ensures len { table_len cut.new.entries ≡ table_len cut.old.entries }
 {
     if let Some(row) = cut.entries.users_row(slot) {
         return doom_row(cut, first, &row);
@@ -89,6 +91,7 @@ fn forget(cut: &mut Cut, slot: Slot) -> Option<Slot>
     ensures works { (old : Memory) (start : List Edge) → Work old start [] (Some slot) (seen_by cut.old) → Work old start [] result (seen_by cut.new) }
     ensures past { IsPast cut.old cut.new }
     ensures fewer { (seen_count cut.new < seen_count cut.old) ⊎ ((result ≡ None) × (seen_count cut.new ≡ seen_count cut.old)) }
+    ensures len { table_len cut.new.entries ≡ table_len cut.old.entries }
 {
     let mark = hide(cut, slot)?;
     match cut.pass {
@@ -101,6 +104,7 @@ fn forget(cut: &mut Cut, slot: Slot) -> Option<Slot>
 pub fn forget_all(cut: &mut Cut, first: Option<Slot>)
     ensures works { (old : Memory) (start : List Edge) → Work old start [] first (seen_by cut.old) → Work old start [] None (seen_by cut.new) }
     ensures past { IsPast cut.old cut.new }
+    ensures len { table_len cut.new.entries ≡ table_len cut.old.entries }
 {
     let mut first = first;
     while let Some(slot) = first {
@@ -112,8 +116,9 @@ pub fn forget_all(cut: &mut Cut, first: Option<Slot>)
 pub fn take_away<F: Fn(Loc) -> bool>(cut: &mut Cut, pass: Pass, readers: &AllReaders, touched: &F)
     requires callable { F.IsAlwaysCallable touched.now }
     requires idle { IsIdle (memory_of cut.old.entries) }
-    ensures { TakesAway pass (Answers (F.post touched.now)) (edges_to readers.now) cut.old.standings.items (memory_of cut.old.entries)
+    ensures takes { TakesAway pass (Answers (F.post touched.now)) (edges_to readers.now) cut.old.standings.items (memory_of cut.old.entries)
         cut.new.standings.items (memory_of cut.new.entries) }
+    ensures len { table_len cut.new.entries ≡ table_len cut.old.entries }
 {
     cut.pass = pass;
     let first = begin(cut, readers, touched);
@@ -133,8 +138,9 @@ pub fn take_away_at<F: Fn(Loc) -> bool>(
     requires named { AreNamed places.now (F.post touched.now) }
     requires noted { AreNoted (edges_to readers.now) index_read.now }
     requires idle { IsIdle (memory_of cut.old.entries) }
-    ensures { TakesAway pass (Answers (F.post touched.now)) (edges_to readers.now) cut.old.standings.items (memory_of cut.old.entries)
+    ensures takes { TakesAway pass (Answers (F.post touched.now)) (edges_to readers.now) cut.old.standings.items (memory_of cut.old.entries)
         cut.new.standings.items (memory_of cut.new.entries) }
+    ensures len { table_len cut.new.entries ≡ table_len cut.old.entries }
 {
     cut.pass = pass;
     let first = begin_named(cut, readers, index_read, places, touched);

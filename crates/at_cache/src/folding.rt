@@ -10,6 +10,9 @@ ghost use Rattle.at_cache.specs.Finding.{edges_to};
 ghost use Rattle.at_cache.specs.Folding.{LeavesKept, slots_at};
 ghost use Rattle.at_cache.specs.Info.{memory_of};
 ghost use Rattle.at_cache.specs.Recorded.{IsIndexed, kept_in};
+ghost use Rattle.at_cache.specs.Shedding.{AreHeld, FoldsHeld};
+ghost use Rattle.at_cache.specs.Standings.{held};
+ghost use Rattle.at_cache.specs.declared.standing.Standing.{Standing};
 
 use crate::checking::is_sound;
 use crate::edge::Slot;
@@ -73,6 +76,9 @@ pub fn fold(
         → OnOk result (IsIndexed (edges_to readers.new) puts (memory_of entries.new)) }
     ensures kept { (puts : ℕ) → IsIndexed (edges_to readers.old) puts (memory_of entries.old)
         → OnOk result (LeavesKept (kept_in (edges_to readers.old) entries.old puts) (kept_in (edges_to readers.new) entries.new puts)) }
+    ensures held { (standings : List Standing) (puts : ℕ) → AreHeld standings (memory_of entries.old)
+        → IsIndexed (edges_to readers.old) puts (held standings (memory_of entries.old))
+        → OnOk result (FoldsHeld standings puts (edges_to readers.old) entries.old (edges_to readers.new) entries.new) }
     ensures noted { (nodes : List ℕ) → AreNoted (edges_to readers.old) nodes → OnOk result (AreNoted (edges_to readers.new) nodes) }
 {
     if !is_sound(entries, plan) {

@@ -230,8 +230,8 @@ pub fn begin_node<W: Marked, F: Fn(Loc) -> bool>(
     begin_over(entries, own, node, readers, scope, touched)
 }
 
-// How many nodes were looked at, by the greatest number of one.
-fn count_of(readers: &AllReaders) -> usize
+/// How many nodes were looked at, by the greatest number of one.
+pub fn count_of(readers: &AllReaders) -> usize
     ensures own { length readers.now.own.items ≤ result }
     ensures seats { length readers.now.seats.items ≤ result }
     ensures short { result ≤ 2 ^ 32 }

@@ -1,24 +1,29 @@
 //! The keeper that takes what an edit may have changed as changed only where it did.
 
-ghost use Rattle.std.specs.Prelude.{◌≡◌, ◌≤◌, ◌^◌, IfSome, length, None, true};
+ghost use Rattle.std.specs.Prelude.{◌≡◌, ◌≤◌, ◌^◌, IfOk, IfSome, length, None, true};
 ghost use Rattle.at_cache.specs.Asking.{AreNoted};
 ghost use Rattle.at_cache.specs.Info.{memory_of, table_len};
-ghost use Rattle.at_cache.specs.Kept.{KeepsAll};
+ghost use Rattle.at_cache.specs.Kept.{Answers, AreNamed, KeepsAll, LeavesUntouched, LosesTouched};
 ghost use Rattle.at_cache.specs.Finding.{edges_to};
 ghost use Rattle.at_cache.specs.Recorded.{IsIndexed};
+ghost use Rattle.at_cache.specs.Shedding.{AreHeld, Shrinks, kept_cut, remembered_cut};
 ghost use Rattle.at_cache.specs.Standings.{AreValued, IsTied, held, kept_held, last_is, remembered};
 ghost use Rattle.at_cache.specs.Theirs.{HasSlot};
-ghost use Rattle.at_cache.specs.Traced.{TracesNothing};
+ghost use Rattle.at_cache.specs.Traced.{FlushesTraces, TracesNothing};
 
 use crate::again::is_its;
 use crate::blocking::blocking;
+use crate::choosing::choose;
 use crate::cut::{Cut, Pass};
 use crate::cutting::{take_away, take_away_at};
-use crate::edge::Slot;
+use crate::edge::{Edge, Slot};
+use crate::entry::Links;
+use crate::folding::fold;
 use crate::keeper::{Keeper, Order, Put};
-use crate::renewing::enter_held;
+use crate::renewing::{enter_held, outdate, slot_for};
 use crate::run::AllReaders;
 use crate::settling::{Counts, LEVELS, settle_at};
+use crate::shedding::{lose_traces, shed};
 use crate::table::Table;
 use at_body::{Inst, Value};
 use at_store::{Loc, Node, Places};
@@ -36,7 +41,7 @@ pub struct KeepCutOff {
     readers: AllReaders,
     // The nodes of which the index was ever read.
     index_read: Vec<Node>,
-    // How many numbers were given, by `put` and where an entry was kept again.
+    // How many numbers were given: by `put` one, or two where the instance has an entry, and one where an entry was kept again.
     puts: u64,
     // Where the entry may be that is asked for next: the last one that was to be kept again. Nothing rests on it.
     near: Slot,
@@ -68,6 +73,7 @@ impl KeepCutOff {
     pub fn new(alloc: Global) -> KeepCutOff
         ensures nothing { KeepsAll (λ _. None) (kept_held (edges_to result.readers) result.cut.entries result.cut.standings.items result.puts) }
         ensures traces { TracesNothing (remembered (edges_to result.readers) result.cut.entries result.cut.standings.items) }
+        ensures len { table_len result.cut.entries ≡ 0 }
     {
         KeepCutOff {
             alloc,
@@ -97,6 +103,100 @@ impl KeepCutOff {
         }
         let entry = self.cut.entries.get(inst)?;
         Some(entry.slot)
+    }
+
+    /// How many numbers were given.
+    pub fn puts(&self) -> u64 {
+        self.puts
+    }
+
+    /// The same with no more in memory than what is kept; and where that is hardly fewer than so many, with entries folded into those that used
+    /// them, so that about three quarters of that number are left, or fewer, of which none is traced. With the limit on what is folded into one;
+    /// that is to be the last one. What nothing uses goes whole, where it came to be kept before that number. An error where memory is wanting.
+    pub fn shrunk(
+        self,
+        most: usize,
+        since: u64,
+        limit: u32,
+    ) -> Result<(KeepCutOff, u32), AllocError>
+        ensures { IfOk result (λ r. Shrinks (edges_to self.readers) self.cut self.puts (edges_to r.0.readers) r.0.cut r.0.puts) }
+    {
+        let keeper = self.shed()?;
+        if keeper.len() <= most - most / 16 {
+            return Ok((keeper, limit));
+        }
+        keeper.folded(most - most / 4, since, limit)
+    }
+
+    // The same with nothing in memory but what is kept.
+    fn shed(self) -> Result<KeepCutOff, AllocError>
+        ensures held { IfOk result (λ k. AreHeld k.cut.standings.items (memory_of k.cut.entries)) }
+        ensures shrinks { IfOk result (λ k. Shrinks (edges_to self.readers) self.cut self.puts (edges_to k.readers) k.cut k.puts) }
+    {
+        let KeepCutOff {
+            alloc,
+            mut cut,
+            readers,
+            index_read,
+            puts,
+            near,
+            doubtful,
+        } = self;
+        shed(&mut cut.entries, cut.standings.as_slice())?;
+        Ok(KeepCutOff {
+            alloc,
+            cut,
+            readers,
+            index_read,
+            puts,
+            near,
+            doubtful,
+        })
+    }
+
+    // The same with entries folded into those that used them, all of which are kept. None is traced.
+    fn folded(self, target: usize, since: u64, limit: u32) -> Result<(KeepCutOff, u32), AllocError>
+        requires { AreHeld self.cut.standings.items (memory_of self.cut.entries) }
+        ensures { IfOk result (λ r. Shrinks (edges_to self.readers) self.cut self.puts (edges_to r.0.readers) r.0.cut r.0.puts) }
+    {
+        let (plan, limit) = choose(
+            self.alloc,
+            &self.cut.entries,
+            self.cut.standings.as_slice(),
+            &self.readers,
+            target,
+            since,
+            limit,
+        )?;
+        let keeper = self.folded_by(plan.as_slice())?;
+        Ok((keeper, limit))
+    }
+
+    // The same folded by that plan.
+    fn folded_by(self, plan: &[Links]) -> Result<KeepCutOff, AllocError>
+        requires { AreHeld self.cut.standings.items (memory_of self.cut.entries) }
+        ensures { IfOk result (λ k. Shrinks (edges_to self.readers) self.cut self.puts (edges_to k.readers) k.cut k.puts) }
+    {
+        let KeepCutOff {
+            alloc,
+            mut cut,
+            mut readers,
+            index_read,
+            puts,
+            near,
+            doubtful,
+        } = self;
+        fold(alloc, &mut cut.entries, &mut readers, plan)?;
+        lose_traces(&mut cut.standings)?;
+        Ok(KeepCutOff {
+            alloc,
+            cut,
+            readers,
+            index_read,
+            puts,
+            near,
+            doubtful,
+        })
     }
 
     /// How many entries are in memory, kept or not.
@@ -133,6 +233,8 @@ impl Keeper for KeepCutOff {
         uses: &[Inst],
         order: Order,
     ) -> Result<Put, AllocError> {
+        let slot = slot_for(&self.cut.entries, &inst)?;
+        let known = outdate(self.alloc, &mut self.cut, &mut self.puts, slot);
         let stamp = self.puts;
         if stamp == u64::MAX {
             return Err(AllocError);
@@ -143,7 +245,8 @@ impl Keeper for KeepCutOff {
             &mut self.cut,
             &mut self.readers,
             &mut self.index_read,
-            stamp,
+            Edge { slot, stamp },
+            &known,
             inst,
             value,
             reads,
@@ -193,14 +296,33 @@ impl Keeper for KeepCutOff {
         true
     }
 
-    fn flush<F: Fn(Loc) -> bool>(&mut self, touched: &F) {
+    fn flush<F: Fn(Loc) -> bool>(&mut self, touched: &F)
+        requires { F.IsAlwaysCallable touched.now }
+        ensures leaves { LeavesUntouched (Answers (F.post touched.now)) (kept_cut (edges_to self.old.readers) self.old.cut self.old.puts)
+            (kept_cut (edges_to self.new.readers) self.new.cut self.new.puts) }
+        ensures loses { LosesTouched (Answers (F.post touched.now)) (kept_cut (edges_to self.old.readers) self.old.cut self.old.puts)
+            (kept_cut (edges_to self.new.readers) self.new.cut self.new.puts) }
+        ensures traces { FlushesTraces (Answers (F.post touched.now)) (remembered_cut (edges_to self.old.readers) self.old.cut)
+            (remembered_cut (edges_to self.new.readers) self.new.cut) }
+        ensures len { table_len self.new.cut.entries ≡ table_len self.old.cut.entries }
+    {
         self.doubtful = true;
         let readers = &self.readers;
         take_away(&mut self.cut, Pass::Traces, readers, touched);
         take_away(&mut self.cut, Pass::Values, readers, touched);
     }
 
-    fn flush_at<F: Fn(Loc) -> bool>(&mut self, places: &Places<'_>, touched: &F) {
+    fn flush_at<F: Fn(Loc) -> bool>(&mut self, places: &Places<'_>, touched: &F)
+        requires callable { F.IsAlwaysCallable touched.now }
+        requires named { AreNamed places.now (F.post touched.now) }
+        ensures leaves { LeavesUntouched (Answers (F.post touched.now)) (kept_cut (edges_to self.old.readers) self.old.cut self.old.puts)
+            (kept_cut (edges_to self.new.readers) self.new.cut self.new.puts) }
+        ensures loses { LosesTouched (Answers (F.post touched.now)) (kept_cut (edges_to self.old.readers) self.old.cut self.old.puts)
+            (kept_cut (edges_to self.new.readers) self.new.cut self.new.puts) }
+        ensures traces { FlushesTraces (Answers (F.post touched.now)) (remembered_cut (edges_to self.old.readers) self.old.cut)
+            (remembered_cut (edges_to self.new.readers) self.new.cut) }
+        ensures len { table_len self.new.cut.entries ≡ table_len self.old.cut.entries }
+    {
         self.doubtful = true;
         let readers = &self.readers;
         let index_read = self.index_read.as_slice();

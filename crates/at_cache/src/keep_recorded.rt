@@ -104,6 +104,7 @@ impl KeepRecorded {
         let (plan, limit) = choose(
             self.alloc,
             &self.entries,
+            &[],
             &self.readers,
             target,
             since,

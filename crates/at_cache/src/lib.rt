@@ -9,7 +9,7 @@
 //! read. `Folding` is what becomes of entries that are folded into those that used them, `Rerunning` of edges of runs that tell of such. `UntilEdit` is the keeper that forgets all at an
 //! edit. Of the one that keeps again what didn't change, `Traced` is what it remembers, `Standings` what is kept
 //! and traced of the entries in memory, `Marking` a pass over them at an edit, `Renewing` and `Theirs` a put over one,
-//! `Settling` what is kept again, and `Blocking` what stands in its way.
+//! `Settling` what is kept again, `Blocking` what stands in its way, and `Shedding` what leaves memory beyond a bound.
 //!
 //! **Where to begin:** the trait in `keeper.rt`, then `keep_recorded.rt`: `table.rt` holds the entries,
 //! `row.rt` and `linking.rt` the edges; `run.rt` has runs, of which one edge tells of many locations: `seating.rt` makes them, and
@@ -18,7 +18,8 @@
 //! tested (`checking.rt`); `lone.rt` tells which lists stay, `rewriting.rt` has their edges, `rerunning.rt` those of runs, `relinking.rt` the entries.
 //! `keep_cut_off.rt` is one whose entries stay in memory: `cut.rt` and `standing.rt` have them,
 //! `cutting.rt` is its flush over what `forgetting.rt` marks (`marked.rt`), `renewing.rt` its `put`, `settling.rt`
-//! and `blocking.rt` what a question keeps again.
+//! and `blocking.rt` what a question keeps again. `keep_cut_off_at_most.rt` is that one with a bound: beyond it what isn't kept goes (`shedding.rt`),
+//! and the others are folded.
 //!
 //! **What it keeps true:** what an entry read is said by the edges of locations alone; each entry is found from those
 //! that it used, and what is found so used them. An edge whose entry is gone means nothing: its `put`'s number is no other
@@ -40,6 +41,7 @@ mod folding;
 mod forgetting;
 mod keep_at_most;
 mod keep_cut_off;
+mod keep_cut_off_at_most;
 mod keep_none;
 mod keep_recorded;
 mod keep_until_edit;
@@ -60,6 +62,7 @@ mod run;
 mod scope;
 mod seating;
 mod settling;
+mod shedding;
 mod slots;
 mod standing;
 mod stored;
@@ -68,6 +71,7 @@ mod table;
 
 pub use keep_at_most::KeepAtMost;
 pub use keep_cut_off::KeepCutOff;
+pub use keep_cut_off_at_most::KeepCutOffAtMost;
 pub use keep_none::KeepNone;
 pub use keep_recorded::KeepRecorded;
 pub use keep_until_edit::KeepUntilEdit;

@@ -11,7 +11,7 @@ ghost use Rattle.at_cache.specs.Finding.{edges_to};
 ghost use Rattle.at_cache.specs.Recorded.{IsIndexed, kept_in};
 
 use crate::edge::Slot;
-use crate::forgetting::{begin_node, forget_all};
+use crate::forgetting::{begin_node, count_of, forget_all};
 use crate::marked::Marked;
 use crate::run::AllReaders;
 use crate::scope::Scope;
@@ -120,6 +120,9 @@ pub fn begin_named<W: Marked, F: Fn(Loc) -> bool>(
         (W.memory entries.old) result (W.memory entries.new) }
     ensures aside { W.aside entries.new ≡ W.aside entries.old }
 {
+    if count_of(readers) == 0 {
+        return None;
+    }
     let left = begin_nodes(entries, None, readers, places.leaving, Scope::All, touched);
     let moved = begin_moved(entries, left, readers, places.moved, touched);
     let come = begin_around(entries, moved, readers, index_read, &places.target, touched);

@@ -1,8 +1,10 @@
 //! An entry comes that stays in memory, or is put anew.
 
-ghost use Rattle.std.specs.Prelude.{◌≡◌, ◌≤◌, ◌+◌, ◌^◌, ℕ, true, None, Some, Contains, IfOk, IsSome, IsTrue, OnErr, OnOk, length, map, option_map};
+ghost use Rattle.std.specs.Prelude.{◌≡◌, ◌≤◌, ◌+◌, ◌^◌, ℕ, List, true, None, Some, Contains, IfOk, IsSome, IsTrue, OnErr, OnOk, length, map, option_map};
+ghost use Rattle.at_model.specs.Run.{Instance, Location};
 ghost use Rattle.at_body.specs.Values.{value_view};
 ghost use Rattle.at_store.specs.Located.{loc_view};
+ghost use Rattle.at_cache.specs.declared.edge.Edge.{Edge};
 ghost use Rattle.at_cache.specs.declared.keeper.Order.TheVariants as orders;
 ghost use Rattle.at_cache.specs.Asking.{AreNoted};
 ghost use Rattle.at_cache.specs.Flushing.{IsIdle};
@@ -11,7 +13,7 @@ ghost use Rattle.at_cache.specs.Kept.{AreKept, HasPut, KeepsAll};
 ghost use Rattle.at_cache.specs.Putting.{fresh_entry};
 ghost use Rattle.at_cache.specs.Finding.{edges_to};
 ghost use Rattle.at_cache.specs.Recorded.{IsIndexed};
-ghost use Rattle.at_cache.specs.Renewing.{Compares, IsSlotFor, LosesUsers, PutsIn};
+ghost use Rattle.at_cache.specs.Renewing.{Compares, IsAwaited, IsSlotFor, LosesUsers, PutsIn, StaysAwaited};
 ghost use Rattle.at_cache.specs.Standings.{AreValued, IsTied, held, kept_held, remembered};
 ghost use Rattle.at_cache.specs.Traced.{PutsTrace};
 
@@ -19,7 +21,7 @@ use crate::again::slots_again;
 use crate::cut::{Cut, Pass};
 use crate::cutting::{doom_users, forget_all, take_from};
 use crate::edge::{Edge, Slot};
-use crate::entry::Entry;
+use crate::entry::{Entry, Links};
 use crate::keeper::{Order, Put};
 use crate::linking::{add_readers, add_users};
 use crate::putting::fresh;
@@ -40,8 +42,8 @@ fn is_traced(value: &Option<Value>, order: Order) -> bool
     }
 }
 
-// The slot of the instance's entry, or that of the next one.
-fn slot_for(entries: &Table, inst: &Inst) -> Result<Slot, AllocError>
+/// The slot of the instance's entry, or that of the next one.
+pub fn slot_for(entries: &Table, inst: &Inst) -> Result<Slot, AllocError>
     ensures slot { IfOk result (λ slot. IsSlotFor entries.now inst.now slot) }
     ensures its { IfOk result (λ slot. (e : Info) → memory_of entries.now slot ≡ Some e → e.instance ≡ inst.now) }
 {
@@ -89,6 +91,7 @@ fn renew(cut: &mut Cut, inst: &Inst, entry: Entry)
 }
 
 // The entry comes, or comes in place of one of its instance.
+#[inline(always)]
 fn put_in(cut: &mut Cut, inst: Inst, entry: Entry) -> Result<(), AllocError>
     requires slot { IsSlotFor cut.old.entries inst entry.slot }
     requires idle { IsIdle (memory_of cut.old.entries) }
@@ -104,49 +107,66 @@ fn put_in(cut: &mut Cut, inst: Inst, entry: Entry) -> Result<(), AllocError>
     cut.entries.enter(inst, entry)
 }
 
-/// An entry that is kept from now on, of that number, which no entry had.
+/// The entry in the slot, if there is one, isn't told of by any edge from now on, and has no trace: it is to be put anew. The slots of
+/// those that it used; none where there is no entry, or no number left.
+#[inline(always)]
+pub fn outdate(alloc: Global, cut: &mut Cut, puts: &mut u64, slot: Slot) -> Option<Links>
+    ensures { (lists : Location ℕ → List Edge) (i : Instance ℕ) → IsAwaited lists cut.old.entries cut.old.standings.items puts.old i slot
+        → StaysAwaited lists cut.old.entries cut.old.standings.items puts.old cut.new.entries cut.new.standings.items puts.new i slot }
+{
+    let stamp = *puts;
+    if stamp == u64::MAX {
+        return None;
+    }
+    if !cut.entries.is_taken(slot) {
+        return None;
+    }
+    *puts = stamp + 1;
+    take_from(&mut cut.standings, Pass::Traces, slot);
+    Some(cut.entries.outdate(slot, Links::new(alloc), stamp))
+}
+
+/// An entry that is kept from now on, of an instance that isn't, in its slot, by a number that no entry had. What it used may be in these
+/// slots, in this order.
+#[inline(always)]
 pub fn enter_held(
     alloc: Global,
     cut: &mut Cut,
     readers: &mut AllReaders,
     index_read: &mut Vec<Node>,
-    stamp: u64,
+    edge: Edge,
+    known: &Option<Links>,
     inst: Inst,
     value: Option<Value>,
     reads: &[Loc],
     uses: &[Inst],
     order: Order,
 ) -> Result<Put, AllocError>
-    requires absent { kept_held (edges_to readers.old) cut.old.entries cut.old.standings.items stamp inst ≡ None }
-    requires present { AreKept (kept_held (edges_to readers.old) cut.old.entries cut.old.standings.items stamp) uses.now }
-    requires indexed { IsIndexed (edges_to readers.old) stamp (held cut.old.standings.items (memory_of cut.old.entries)) }
-    requires tied { IsTied (edges_to readers.old) stamp (memory_of cut.old.entries) }
-    requires valued { AreValued cut.old.standings.items (memory_of cut.old.entries) }
-    ensures indexed { IsIndexed (edges_to readers.new) (stamp + 1) (held cut.new.standings.items (memory_of cut.new.entries)) }
-    ensures tied { IsTied (edges_to readers.new) (stamp + 1) (memory_of cut.new.entries) }
+    requires awaited { IsAwaited (edges_to readers.old) cut.old.entries cut.old.standings.items edge.stamp inst edge.slot }
+    requires present { AreKept (kept_held (edges_to readers.old) cut.old.entries cut.old.standings.items edge.stamp) uses.now }
+    ensures indexed { IsIndexed (edges_to readers.new) (edge.stamp + 1) (held cut.new.standings.items (memory_of cut.new.entries)) }
+    ensures tied { IsTied (edges_to readers.new) (edge.stamp + 1) (memory_of cut.new.entries) }
     ensures valued { AreValued cut.new.standings.items (memory_of cut.new.entries) }
     ensures noted { AreNoted (edges_to readers.old) index_read.old.items → AreNoted (edges_to readers.new) index_read.new.items }
-    ensures puts { IfOk result (HasPut true (kept_held (edges_to readers.old) cut.old.entries cut.old.standings.items stamp) inst
+    ensures puts { IfOk result (HasPut true (kept_held (edges_to readers.old) cut.old.entries cut.old.standings.items edge.stamp) inst
         (option_map value_view value) (map loc_view reads.now) uses.now
-        (kept_held (edges_to readers.new) cut.new.entries cut.new.standings.items (stamp + 1))) }
-    ensures err { OnErr result (KeepsAll (kept_held (edges_to readers.old) cut.old.entries cut.old.standings.items stamp)
-        (kept_held (edges_to readers.new) cut.new.entries cut.new.standings.items (stamp + 1))) }
+        (kept_held (edges_to readers.new) cut.new.entries cut.new.standings.items (edge.stamp + 1))) }
+    ensures err { OnErr result (KeepsAll (kept_held (edges_to readers.old) cut.old.entries cut.old.standings.items edge.stamp)
+        (kept_held (edges_to readers.new) cut.new.entries cut.new.standings.items (edge.stamp + 1))) }
     ensures traces { PutsTrace inst (option_map value_view value) (map loc_view reads.now) uses.now order
         (remembered (edges_to readers.old) cut.old.entries cut.old.standings.items)
         (remembered (edges_to readers.new) cut.new.entries cut.new.standings.items) }
 {
-    let slot = slot_for(&cut.entries, &inst)?;
-    let links = slots_again(alloc, &cut.entries, uses, slot)?;
-    make_standing(&mut cut.standings, slot)?;
-    let edge = Edge { slot, stamp };
+    let links = slots_again(alloc, &cut.entries, uses, known)?;
+    make_standing(&mut cut.standings, edge.slot)?;
     add_readers(alloc, &cut.entries, readers, index_read, reads, edge)?;
     add_users(alloc, &mut cut.entries, links.as_slice(), edge)?;
     let standing = Standing {
-        since: stamp,
+        since: edge.stamp,
         holds: true,
         traced: is_traced(&value, order),
     };
     put_in(cut, inst, fresh(value, links, edge))?;
-    set_standing(&mut cut.standings, slot, standing);
+    set_standing(&mut cut.standings, edge.slot, standing);
     Ok(Put::Kept)
 }

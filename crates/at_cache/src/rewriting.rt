@@ -193,7 +193,7 @@ fn rewrite_node(
     Ok(())
 }
 
-/// So do all edges of locations.
+/// So do all edges of locations. Room that no node takes is given back.
 pub fn rewrite(
     alloc: Global,
     entries: &Table,
@@ -211,5 +211,6 @@ pub fn rewrite(
         let list = &mut readers[number];
         rewrite_node(alloc, entries, plan, lone, &mut slots, list)?;
     }
+    readers.shrink_to_fit();
     Ok(())
 }

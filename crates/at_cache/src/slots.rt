@@ -13,7 +13,7 @@ ghost use Rattle.at_cache.specs.Info.{Info, info, is_going, memory_of, table_len
 ghost use Rattle.at_cache.specs.Placed.{IsMoved, IsPlaced, at};
 ghost use Rattle.at_cache.specs.Marking.{HasMark, aside_table, unmarked};
 ghost use Rattle.at_cache.specs.Putting.{Enters, is_current, reused, users_at};
-ghost use Rattle.at_cache.specs.Slots.{HasWritten, renewed, with_entry, with_list, with_mark, with_rest};
+ghost use Rattle.at_cache.specs.Slots.{HasWritten, renewed, outdated, with_entry, with_list, with_mark, with_number, with_rest};
 ghost use Rattle.at_cache.specs.Folding.{relinked};
 
 use crate::attributes::{has_come, note_attribute};
@@ -119,6 +119,7 @@ impl Table {
         ensures written { (k : ℕ) → memory_of self.new k ≡ reused slot (edges_in users) (memory_of self.old) k }
         ensures was { edges_in result ≡ users_at (memory_of self.old) slot }
         ensures key { self.new.places.vacant_key ≡ self.old.places.vacant_key }
+        ensures len { table_len self.new ≡ table_len self.old }
         ensures absent { (i : Instance ℕ) → lookup (same_instance i) self.old.entries.entries ≡ None
             → lookup (same_instance i) self.new.entries.entries ≡ None }
     {
@@ -173,6 +174,18 @@ impl Table {
     {
         if let Some(place) = self.places.get(slot as usize) {
             write_entry(&mut self.entries, *place, value, links, stamp);
+        }
+    }
+
+    /// The entry in the slot has that number and these links; those that it had, or these where there is none.
+    pub fn outdate(&mut self, slot: Slot, links: Links, stamp: u64) -> Links
+        requires there { IsSome (memory_of self.old slot) }
+        ensures { (k : ℕ) → memory_of self.new k
+            ≡ (if nat_eq k slot then option_map (outdated links.items stamp) (memory_of self.old k) else memory_of self.old k) }
+    {
+        match self.places.get(slot as usize) {
+            Some(place) => write_number(&mut self.entries, *place, links, stamp),
+            None => links,
         }
     }
 
@@ -266,6 +279,21 @@ fn write_entry(
     entry.value = value;
     entry.links = links;
     entry.stamp = stamp;
+}
+
+// The links of the entry at that place, which has these and that number then.
+fn write_number(
+    entries: &mut IndexMap<Inst, Entry>,
+    place: usize,
+    links: Links,
+    stamp: u64,
+) -> Links
+    requires { place < index_map_len entries.old }
+    ensures { HasWritten (with_number links stamp) place entries.old.entries entries.new.entries }
+{
+    let (_, entry) = entries.pair_mut(place);
+    entry.stamp = stamp;
+    mem::replace(&mut entry.links, links)
 }
 
 // The entry at that place has these then.

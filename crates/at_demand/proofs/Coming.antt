@@ -1,9 +1,12 @@
 -- What an evaluation under way tells, once it is past values that hold: what it comes to, and its outcome at its end.
-use Rattle.std.proofs.Common.{◌≡◌, ℕ, suc, ◌+◌, List, [], ◌∷◌, ◌++◌, Some, None, inl, inr, refl, sym, ◌∙◌, subst, append_assoc, append-nil, arith}
-use Rattle.at_model.specs.Run.{Value, Location, Run, Gives, Fails, Looks, Demands, Needs, Instance, Contents, FaultKind, tried}
+use Rattle.std.proofs.Common.{◌≡◌, ℕ, suc, ◌+◌, List, [], ◌∷◌, ◌++◌, None, inl, inr, refl, sym, ◌∙◌, subst, append_assoc, append-nil, arith}
+use Rattle.at_model.specs.Run.{Value, Location, Run, Gives, Fails, Looks, Demands, Instance, Contents, FaultKind}
 use Rattle.at_model.specs.Follow.{Reached, follow, Past, here, looked, told}
-use Rattle.at_model.specs.Meaning.{Outcome, Finds, Faults, value_in, Equations, settled, outcome_at, Holds, HasValue, Reaches}
-use Rattle.at_model.proofs.Outcomes.{settled_more, higher}
+use Rattle.at_model.specs.Meaning.{Finds, Faults, Reaches, Among}
+use Rattle.at_model.specs.of_fixpoints.Formulas.{Formula, Known, Forms, atoms}
+use Rattle.at_model.specs.of_fixpoints.Fixpoints.{End, Made, Spoilt, Ends, LeadsOver, stays, goes, spoilt, HoldsOver, HoldsAt, EndsAt, EndsSo, Holds, HasValue}
+use Rattle.at_model.proofs.of_formulas.Heights.{higher, ends_more}
+use Rattle.at_model.proofs.of_formulas.UniqueOutcomes.{ends_at}
 use Rattle.at_demand.specs.UnderWay.{left_of}
 
 -- it comes there by looks alone
@@ -44,25 +47,45 @@ comes tree has r j k js ls s e (here _) = rw e (inl refl)
 comes tree has r j k js ls s e (looked l h p) = comes tree has _ j k _ _ s e p
 comes tree has r j k js ls s e (told i h v is p) = inr (v, is, comes tree has _ j k _ _ s e p)
 
-module _ {N : Type 0} (look : Contents N) (equation : Equations N) where
-  abbrev Settled : Instance N → Outcome N → Run N (Value N) → Type 0
-  Settled i o r = (n : ℕ) × (settled (outcome_at look equation n) i (tried look (λ m. value_in (outcome_at look equation n m)) r) ≡ Some o)
+module _ {N : Type 0} (look : Contents N) (forms : Forms N) where
+  -- the evaluation ends so, by demands that nest so deep
+  abbrev pub EndsIn : {A : Type 0} → Instance N → Run N A → End N A → Type 0
+  EndsIn i r e = (n : ℕ) × Ends look (HoldsAt look forms n) i r e
 
-  -- the outcome of what is left is the outcome of the whole
-  settles : (i : Instance N) (o : Outcome N) (r s : Run N (Value N)) (js : List (Instance N)) (ls : List (Location N)) → Past look (HasValue look equation) r js ls s → Settled i o s → Settled i o r
-  settles i o r s js ls (here _) h = h
-  settles i o r s js ls (looked l k p) h = settles i o (k (look l)) s _ _ p h
-  settles i o r s js ls (told j k v (a, e) p) h =
-      let (b, g) = settles i o (k v) s _ _ p h in
-      let there : outcome_at look equation (a + b) j ≡ Some (Finds v) = higher look equation a b j (Finds v) e in
-      let q : b + a ≡ a + b = omega arith in
-      let x = higher look equation b a in
-      let x' = rw q at x in
-      let z = settled_more look (outcome_at look equation b) (outcome_at look equation (a + b)) x' i (k v) o g in
-      (a + b, subst (λ p. settled (outcome_at look equation (a + b)) i (elim (value_in p) [ None ↦ Needs j | Some v ↦ tried look (λ m. value_in (outcome_at look equation (a + b) m)) (k v) ]) ≡ Some o) (sym there) z)
+  -- what is left ends as the whole
+  pub ends_past : {A : Type 0} (i : Instance N) (e : End N A) (r s : Run N A) (js : List (Instance N)) (ls : List (Location N)) → Past look (HasValue look forms) r js ls s → EndsIn i s e → EndsIn i r e
+  ends_past i e r s js ls (here _) h = h
+  ends_past i e r s js ls (looked l k p) h = ends_past i e (k (look l)) s _ _ p h
+  ends_past i e r s js ls (told j k v (d, g) p) h =
+      let (n, y) = ends_past i e (k v) s _ _ p h in
+      let q : n + d ≡ d + n = omega arith in (
+        d + n,
+        inl (
+          v,
+          higher look forms d n j (Finds v) g,
+          subst (λ z. Ends look (HoldsAt look forms z) i (k v) e) q
+              (ends_more look (HoldsAt look forms n) (HoldsAt look forms (n + d)) (λ m o z. higher look forms n d m o z) i (k v) e y),
+        ),
+      )
 
-  pub has_value : (i : Instance N) (v : Value N) (js : List (Instance N)) (ls : List (Location N)) → Past look (HasValue look equation) (equation i) js ls (Gives v) → HasValue look equation i v
-  has_value i v js ls p = let (n, e) = settles i (Finds v) (equation i) (Gives v) js ls p (0, refl) in (suc n, e)
+  -- what ends by a value, or a fault, leads to nothing else
+  formed_alone : (n : ℕ) (i j : Instance N) (v : Value N) → EndsAt look forms n i (Made (Known v)) → LeadsOver (EndsAt look forms n) i j → (f : Formula N) × EndsAt look forms n j (Made f)
+  formed_alone n _ _ v h (stays i) = (Known v, h)
+  formed_alone n _ j v h (goes i m _ f x a l) =
+      let q : Made (Known v) ≡ Made f = ends_at look forms n n i (Made (Known v)) (Made f) h x in
+      let p : Known v ≡ f = cc in
+      absurd (subst (λ z. Among m (atoms z)) (sym p) a)
 
-  pub has_fault : (i : Instance N) (f : FaultKind) (js : List (Instance N)) (ls : List (Location N)) → Past look (HasValue look equation) (equation i) js ls (Fails f) → Holds look equation i (Faults f i)
-  has_fault i f js ls p = let (n, e) = settles i (Faults f i) (equation i) (Fails f) js ls p (0, refl) in (suc n, e)
+  ended_alone : (n : ℕ) (i j : Instance N) (k : FaultKind) (at : Instance N) → EndsAt look forms n i (Spoilt k at) → LeadsOver (EndsAt look forms n) i j → (e : End N (Formula N)) × EndsAt look forms n j e
+  ended_alone n _ _ k at h (stays i) = (Spoilt k at, h)
+  ended_alone n _ j k at h (goes i m _ f x a l) =
+      let q : Spoilt k at ≡ Made f = ends_at look forms n n i (Spoilt k at) (Made f) h x in absurd cc
+
+  -- the value of one that isn't circular is that by which its equation ends
+  pub value_by_end : (i : Instance N) (v : Value N) → forms.starts i.attribute ≡ None → EndsSo look forms i (Made (Known v)) → HasValue look forms i v
+  value_by_end i v none (n, h) =
+      (suc n, subst (λ z. HoldsOver (EndsAt look forms n) z i (Finds v)) (sym none) ((λ j l. formed_alone n i j v h l), h))
+
+  -- and so is the fault of any one
+  pub fault_by_end : (i : Instance N) (k : FaultKind) (at : Instance N) → EndsSo look forms i (Spoilt k at) → Holds look forms i (Faults k at)
+  fault_by_end i k at (n, h) = (suc n, ((λ j l. ended_alone n i j k at h l), spoilt i (λ a. a) h))

@@ -1,9 +1,13 @@
 -- What a question adds: each lazy instance that has a value and to which the question leads, and no other.
-use Rattle.std.proofs.Common.{◌≡◌, ◌⊎◌, ℕ, Bool, true, List, [], ◌∷◌, ◌++◌, slice_get, Some, inl, inr, refl, sym, ap, ◌∙◌, subst}
+use Rattle.std.proofs.Common.{◌≡◌, ◌⊎◌, ℕ, Bool, true, false, true≢false, List, [], ◌∷◌, ◌++◌, slice_get, Option, Some, None, inl, inr, refl, sym, ap, ◌∙◌, subst}
 use Rattle.std.specs.Prelude.{IsSome}
-use Rattle.at_model.specs.Run.{Instance, Contents, Fails}
-use Rattle.at_model.specs.Rules.{Rules, is_lazy}
-use Rattle.at_model.specs.Meaning.{HasValue, Among, Comes, Leads}
+use Rattle.at_model.specs.Run.{Instance, Contents, Run, Fails}
+use Rattle.at_model.specs.Rules.{Rules, is_lazy, start_of}
+use Rattle.at_model.specs.Meaning.{Among}
+use Rattle.at_model.specs.of_fixpoints.Fixpoints.{HasValue}
+use Rattle.at_model.specs.of_fixpoints.Formulas.{Formula}
+use Rattle.at_model.specs.of_fixpoints.Resting.{Comes, Leads, goes, stays}
+use Rattle.at_rules.specs.Circular.{AreCircularLazy}
 use Rattle.at_body.specs.Values.{FaultCode, fault_view}
 use Rattle.at_body.specs.declared.trial.Step.TheVariants as step
 use Rattle.at_cache.specs.Kept.{Kept, Entries}
@@ -12,12 +16,13 @@ use Rattle.at_demand.specs.declared.evaluation.Demanded.{Demanded}
 use Rattle.at_demand.specs.declared.evaluation.Find.{Find}
 use Rattle.at_demand.specs.declared.evaluation.Frame.{Frame}
 use Rattle.at_demand.specs.Known.{meaning, kept_values, AreValued, IsFound, IsKept}
-use Rattle.at_demand.specs.Covering.{IsDemanded, IsTold, HasPassedTo, AreWhole, IsWhole}
+use Rattle.at_demand.specs.Covering.{AreWhole, AreWholeIn, HasPassedTo, IsDemanded, IsTold, IsWhole, alone, by_first, in_group}
 use Rattle.at_demand.specs.Sparing.{IsDeep, IsWorthKeeping, AddsWorthy, HasWorthy, MayGain, IsSettled, AreSettled}
 use Rattle.at_demand.proofs.Entered.{entered, entered_on, kept_on, not_none}
-use Rattle.at_demand.proofs.Gathered.{among_at}
+use Rattle.at_demand.proofs.Extending.{among_at}
+use Rattle.at_demand.proofs.of_levels.Plain.{comes_by_demand, past_formula}
 use Rattle.at_demand.proofs.Passing.{past_more, past_has}
-use Rattle.at_demand.proofs.Leading.{led_now, comes_failed}
+use Rattle.at_demand.proofs.Seeing.{comes_failed}
 
 -- what the rules say of the instance's attribute
 pub told_lazy : (rules : Rules) (said is : Bool) (attribute at : ℕ) → said ≡ is_lazy rules attribute → attribute ≡ at → said ≡ is → is_lazy rules at ≡ is
@@ -37,6 +42,17 @@ came P rules old new i found grows before last finds j k at = elim (grows.comes 
     | inr f ↦ finds j f
   ]
 ]
+
+-- one that isn't lazy isn't circular
+not_circular : (rules : Rules) → AreCircularLazy rules → (i : Instance ℕ) → is_lazy rules i.attribute ≡ false → (o : Option Bool) → start_of rules i.attribute ≡ o → IsSome (start_of rules i.attribute) → ⊥
+not_circular rules well i off None e c = let c' = rw e at c in true≢false (sym c')
+not_circular rules well i off (Some b) e c = true≢false (sym (well i.attribute b e) ∙ off)
+
+-- of one that isn't lazy the find is that of itself alone
+pub whole_alone : (rules : Rules) (look : Contents ℕ) (found : List (Instance ℕ × Find)) → AreCircularLazy rules → (i : Instance ℕ) (f : Find) → is_lazy rules i.attribute ≡ false → IsWhole rules look found i f → AreWholeIn rules look found (i ∷ []) f
+whole_alone rules look found well i f off (alone w) = w
+whole_alone rules look found well i f off (in_group these c a w) = absurd (not_circular rules well i off (start_of rules i.attribute) refl c)
+whole_alone rules look found well i f off (by_first j c d l) = absurd (not_circular rules well i off (start_of rules i.attribute) refl c)
 
 module _ (rules : Rules) (look : Contents ℕ) where
   abbrev pub IsLazy : Instance ℕ → Type 0
@@ -69,24 +85,44 @@ module _ (rules : Rules) (look : Contents ℕ) where
       ];
     }
 
-    module _ (d : Find) (whole : AreWhole rules look found) (one : IsWhole rules look found i d) (settled : AreSettled rules old found)
-        (took : (u : Instance ℕ) → Among u d.demanded.kept.items → IsSome (old u)) (deep : IsDeep rules look old old) where
-      -- it was found with all that it took, and is kept now where it is lazy
+    module _ (d : Find) (well : AreCircularLazy rules) (whole : AreWhole rules look found) (one : AreWholeIn rules look found (i ∷ []) d)
+        (settled : AreSettled rules old found) (took : (u : Instance ℕ) → Among u d.demanded.kept.items → IsSome (old u)) (deep : IsDeep rules look old old) where
+      -- it was found by itself with all that it took, and is kept now where it is lazy
       pub record IsDone (j : Instance ℕ) : Type 0 where
         pub find : Find
-        pub rests : IsWhole rules look found j find
+        pub rests : AreWholeIn rules look found (j ∷ []) find
         pub now : IsLazy j → IsKept new j
         pub taken : (u : Instance ℕ) → Among u find.demanded.kept.items → IsSome (old u)
 
-      done_at : (p : ℕ) (j : Instance ℕ) (g : Find) → slice_get found p ≡ Some (j, g) → IsDone j
-      done_at p j g at = let s = settled p j g at in record { find = g; rests = whole p j g at; now = λ l. still j (s.lazy l); taken = s.took }
+      -- what was found is kept, or was found by itself, since it isn't lazy
+      done_at : (p : ℕ) (j : Instance ℕ) (g : Find) → slice_get found p ≡ Some (j, g) → IsSome (old j) ⊎ IsDone j
+      done_at p j g at = by (is_lazy rules j.attribute) refl
+        where
+          s : IsSettled rules old j g
+          s = settled p j g at
+
+          by : (b : Bool) → is_lazy rules j.attribute ≡ b → IsSome (old j) ⊎ IsDone j
+          by true lazy = inl (entered old j (s.lazy lazy))
+          by false off = inr (record {
+            find = g;
+            rests = whole_alone rules look found well j g off (whole p j g at);
+            now = λ l. still j (s.lazy l);
+            taken = s.took;
+          })
 
       next : (j m : Instance ℕ) → IsDone j → Comes look (meaning rules) j m → IsSome (old m) ⊎ IsDone m
-      next j m w c = elim (w.rests.demands m c) [ inl k ↦ inl (w.taken m k) | inr (p, h, at, is) ↦ inr (done_at p m h is) ]
+      next j m w c = elim (w.rests.demands j m (inl refl) c) [
+        | inl h ↦ elim h [ inl e ↦ inr (subst IsDone (sym e) w) | inr z ↦ absurd z ]
+        | inr h ↦ elim h [ inl k ↦ inl (w.taken m k) | inr (p, g, at, is) ↦ done_at p m g is ]
+      ]
 
       -- all lazy ones below what was found are kept now
       pub below_found : (j m : Instance ℕ) → IsDone j → Leads look (meaning rules) j m → IsLazy m → IsKept new m
-      below_found = led_now look (meaning rules) IsDone (λ j. IsSome (old j)) IsLazy (IsKept new) next (λ j w. w.now) (λ j m some led lazy. still m (deep j m some led lazy))
+      below_found _ _ w (stays j) lazy = w.now lazy
+      below_found _ m w (goes j k _ c more) lazy = elim (next j k w c) [
+        | inl some ↦ still m (deep k m some more lazy)
+        | inr done ↦ below_found k m done more lazy
+      ]
 
       pub all_below : (IsLazy i → IsKept new i) → (j : Instance ℕ) → Leads look (meaning rules) i j → IsLazy j → IsKept new j
       all_below kept j = below_found i j (record { find = d; rests = one; now = kept; taken = took })
@@ -96,7 +132,10 @@ module _ (rules : Rules) (look : Contents ℕ) where
         | inl was ↦ still m (deep j m was led lazy)
         | inr more ↦ elim more [
           | inl p ↦ (let (same, kept) = p in all_below (λ l. subst (IsKept new) (sym same) kept) m (subst (λ x. Leads look (meaning rules) x m) (sym same) led) lazy)
-          | inr p ↦ (let (n, g, at) = p in below_found j m (done_at n j g at) led lazy)
+          | inr p ↦ (let (n, g, at) = p in elim (done_at n j g at) [
+            | inl was ↦ still m (deep j m was led lazy)
+            | inr done ↦ below_found j m done led lazy
+          ])
         ]
       ]
 
@@ -111,7 +150,8 @@ module _ (rules : Rules) (look : Contents ℕ) where
   asked_kept asked entries kept deep i w = deep asked i (entered entries asked kept) w.reached w.lazy
 
   -- a question that ends with no value
-  module _ (entries : Entries) (found : List (Instance ℕ × Find)) (whole : AreWhole rules look found) (settled : AreSettled rules entries found) (deep : IsDeep rules look entries entries) where
+  module _ (entries : Entries) (found : List (Instance ℕ × Find)) (well : AreCircularLazy rules) (whole : AreWhole rules look found) (settled : AreSettled rules entries found)
+      (deep : IsDeep rules look entries entries) where
     -- with an entry, or found
     abbrev pub IsKnown : Instance ℕ → Type 0
     IsKnown j = IsSome (entries j) ⊎ ((p : ℕ) × (f : Find) × (slice_get found p ≡ Some (j, f)))
@@ -122,15 +162,23 @@ module _ (rules : Rules) (look : Contents ℕ) where
 
     pub known_below : (i j : Instance ℕ) → IsKnown i → Leads look (meaning rules) i j → IsLazy j → IsKept entries j
     known_below i j (inl some) led lazy = deep i j some led lazy
-    known_below i j (inr (p, f, is)) led lazy =
-        let s = settled p i f is in
-        all_below entries entries i found (gain_none found entries i) f whole (whole p i f is) settled s.took deep s.lazy j led lazy
+    known_below i j (inr (p, f, is)) led lazy = by (is_lazy rules i.attribute) refl
+      where
+        s : IsSettled rules entries i f
+        s = settled p i f is
 
-    -- an evaluation that fails has come to what is known alone
-    pub failed_known : (i : Instance ℕ) (f : Frame) (k : FaultCode) → HasPassedTo rules look found i f (step.Fault k) → AreValued entries f.demanded.kept.items → (m : Instance ℕ) → Comes look (meaning rules) i m → IsKnown m
-    failed_known i f k (js, past) kept m comes =
+        by : (b : Bool) → is_lazy rules i.attribute ≡ b → IsKept entries j
+        by true l = deep i j (entered entries i (s.lazy l)) led lazy
+        by false off = all_below entries entries i found (gain_none found entries i) f well whole (whole_alone rules look found well i f off (whole p i f is)) settled s.took deep s.lazy j led lazy
+
+    -- an evaluation that fails has come to what is known alone, where the attribute isn't circular
+    pub failed_known : (i : Instance ℕ) (f : Frame) (k : FaultCode) → start_of rules i.attribute ≡ None → HasPassedTo rules look found i f (step.Fault k) → AreValued entries f.demanded.kept.items → (m : Instance ℕ) → Comes look (meaning rules) i m → IsKnown m
+    failed_known i f k none (js, past) kept m comes =
         let has = IsTold rules look found f.demanded in
-        let plain = past_more look has (HasValue look (meaning rules)) (λ x w t. t.0) (meaning rules i) (Fails (fault_view k)) js f.trial.reads past in
-        let a = comes_failed look (meaning rules) (meaning rules i) (Fails (fault_view k)) (fault_view k) js f.trial.reads m refl plain comes in
-        let (w, t) = past_has look has (meaning rules i) (Fails (fault_view k)) js f.trial.reads m past a in
+        let run = (meaning rules).formula i in
+        let end : Run ℕ (Formula ℕ) = Fails (fault_view k) in
+        let formed = past_formula rules look i none has (Fails (fault_view k)) js f.trial.reads past in
+        let holds = past_more look has (HasValue look (meaning rules)) (λ x w t. t.0) run end js f.trial.reads formed in
+        let a = comes_failed look (meaning rules) run end (fault_view k) js f.trial.reads m refl holds (comes_by_demand rules look i none m comes) in
+        let (w, t) = past_has look has run end js f.trial.reads m formed a in
         known_demanded f.demanded m kept t.1

@@ -7,8 +7,10 @@ use Rattle.std.proofs.lemmas.Option.{none-some, same_Some}
 use Rattle.indexmap.specs.IndexSet.{insert_key}
 use Rattle.at_model.specs.Run.{Value, Instance, Location, Contents}
 use Rattle.at_model.specs.Rules.{Rules}
-use Rattle.at_model.specs.Meaning.{HasValue, Among, Comes}
-use Rattle.at_model.specs.Support.{Sees, Supports}
+use Rattle.at_model.specs.Meaning.{Among}
+use Rattle.at_model.specs.Support.{Sees}
+use Rattle.at_model.specs.of_fixpoints.Fixpoints.{HasValue}
+use Rattle.at_model.specs.of_fixpoints.Resting.{Comes, Leads, Supports}
 use Rattle.at_model.proofs.Listed.{among_left, among_map, among_right}
 use Rattle.at_model.proofs.Options.{or_right}
 use Rattle.at_store.specs.Located.{loc_view}
@@ -19,49 +21,15 @@ use Rattle.at_cache.proofs.Locations.{same_location-itself}
 use Rattle.at_demand.specs.declared.evaluation.Find.{Find}
 use Rattle.at_demand.specs.declared.gathering.Sources.{Sources}
 use Rattle.at_demand.specs.Known.{meaning}
-use Rattle.at_demand.specs.Covering.{IsWhole, AreWhole, AreCovered, Extends, IsAdded, IsGathered, Visits, Adds, AddsAt, AreGathered}
+use Rattle.at_demand.specs.Covering.{IsWhole, alone, by_first, in_group, AreWhole, AreWholeIn, IsWholeIn, AreCovered, Extends, IsAdded, IsGathered, Visits, Adds, AddsAt, AreGathered}
+use Rattle.at_demand.proofs.Leading.{leads_next}
 use Rattle.at_demand.proofs.Sameness.{same_true}
 use Rattle.at_demand.proofs.Supported.{supported}
+pub use Rattle.at_demand.proofs.Extending.{among_more, extends_self, extends_on, get_more, get_back, among_at, any_among, map_among}
 
 or_left : (a b : Bool) → a ≡ true → (a || b) ≡ true
 or_left true b e = refl
 or_left false b e = absurd (true≢false (sym e))
-
-module _ {A : Type 0} where
-  pub among_more : (a : A) (xs ys : List A) → Extends xs ys → Among a xs → Among a ys
-  among_more a xs ys (zs, e) h = subst (Among a) (sym e) (among_left a xs zs h)
-
-  pub extends_self : (xs : List A) → Extends xs xs
-  extends_self xs = ([], sym (append-nil xs))
-
-  pub extends_on : (xs ys zs : List A) → Extends xs ys → Extends ys zs → Extends xs zs
-  extends_on xs ys zs (a, e) (b, f) = (a ++ b, f ∙ ap (λ l. l ++ b) e ∙ append_assoc xs a b)
-
-  pub get_more : (xs ys : List A) (n : ℕ) (a : A) → Extends xs ys → slice_get xs n ≡ Some a → slice_get ys n ≡ Some a
-  get_more xs ys n a (zs, e) g = subst (λ l. slice_get l n ≡ Some a) (sym e) (get_left xs zs n a g)
-
-  back : (xs zs : List A) (n : ℕ) (a : A) → n < length xs → slice_get (xs ++ zs) n ≡ Some a → slice_get xs n ≡ Some a
-  back [] zs n a less g = absurd (omega arith)
-  back (x ∷ xs) zs zero a less g = g
-  back (x ∷ xs) zs (suc n) a less g = back xs zs n a (omega arith) g
-
-  pub get_back : (xs ys : List A) (n : ℕ) (a : A) → Extends xs ys → n < length xs → slice_get ys n ≡ Some a → slice_get xs n ≡ Some a
-  get_back xs ys n a (zs, e) less g = back xs zs n a less (subst (λ l. slice_get l n ≡ Some a) e g)
-
-  pub among_at : (a : A) (xs : List A) → Among a xs → (n : ℕ) × (n < length xs) × (slice_get xs n ≡ Some a)
-  among_at a [] h = absurd h
-  among_at a (x ∷ xs) (inl e) = (0, omega arith, ap Some (sym e))
-  among_at a (x ∷ xs) (inr h) = let (n, less, g) = among_at a xs h in (suc n, omega arith, g)
-
-  pub any_among : (p : A → Bool) (a : A) (xs : List A) → Among a xs → p a ≡ true → list_any p xs ≡ true
-  any_among p a [] h e = absurd h
-  any_among p a (x ∷ xs) (inl same) e = rw (ap p (sym same) ∙ e) refl
-  any_among p a (x ∷ xs) (inr h) e = or_right (p x) (list_any p xs) (any_among p a xs h e)
-
-pub map_among : {A B : Type 0} (f : A → B) (b : B) (xs : List A) → Among b (map f xs) → (a : A) × Among a xs × (f a ≡ b)
-map_among f b [] h = absurd h
-map_among f b (x ∷ xs) (inl e) = (x, inl refl, sym e)
-map_among f b (x ∷ xs) (inr h) = let (a, m, e) = map_among f b xs h in (a, inr m, e)
 
 -- a position that is inserted stands among those that are visited
 already : (ks : List ℕ) (k : ℕ) → list_any (nat_eq k) ks ≡ true → Among k ks
@@ -200,20 +168,35 @@ module _ (rules : Rules) (look : Contents ℕ) (entries : Entries) (found : List
   abbrev pub reads : List (Location ℕ)
   reads = map loc_view s.reads.items
 
+  -- all that it rests on stands with a find that was gathered, or an instance that the sources use leads to it
+  abbrev InFind : Instance ℕ → Type 0
+  InFind i = (g : Find) × (these : List (Instance ℕ)) × Among i these × AreWholeIn rules look found these g × IsAdded s gathered.positions g
+
+  abbrev BelowUsed : Instance ℕ → Type 0
+  BelowUsed i = (j : Instance ℕ) × Among j s.kept.items × Leads look (meaning rules) j i
+
   abbrev Within : Instance ℕ → Type 0
-  Within i = (g : Find) × IsWhole rules look found i g × IsAdded s gathered.positions g
+  Within i = InFind i ⊎ BelowUsed i
+
+  within : (i : Instance ℕ) (g : Find) → IsWhole rules look found i g → IsAdded s gathered.positions g → Within i
+  within i g (alone w) added = inl (g, i ∷ [], inl refl, w, added)
+  within i g (in_group these c a w) added = inl (g, these, a, w, added)
+  within i g (by_first j c (inl k) l) added = inr (j, added.kept j k, l)
+  within i g (by_first j c (inr (p, h, at, is, so)) l) added = by_find so (gathered.others p j h (added.finds p at) is)
+    where
+      by_find : IsWholeIn rules look found i h → IsGathered s gathered.positions j h → Within i
+      by_find (these, a, w) (inl more) = inl (h, these, a, w, more)
+      by_find (these, a, w) (inr used) = inr (j, used, l)
 
   next : (i j : Instance ℕ) → Within i → Comes look (meaning rules) i j → Among j s.kept.items ⊎ Within j
-  next i j (g, w, a) c = elim (w.demands j c) [
-    | inl k ↦ inl (a.kept j k)
-    | inr (p, h, at, is) ↦ elim (gathered.others p j h (a.finds p at) is) [ inl added ↦ inr (h, whole p j h is, added) | inr used ↦ inl used ]
+  next i j (inl (g, these, a, w, added)) c = elim (w.demands i j a c) [
+    | inl b ↦ inr (inl (g, these, b, w, added))
+    | inr d ↦ elim d [
+      | inl k ↦ inl (added.kept j k)
+      | inr (p, h, at, is) ↦ elim (gathered.others p j h (added.finds p at) is) [ inl more ↦ inr (within j h (whole p j h is) more) | inr used ↦ inl used ]
+    ]
   ]
-
-  seen : (i : Instance ℕ) (l : Location ℕ) → Within i → Sees look (HasValue look (meaning rules)) (meaning rules i) l → covered entries reads s.kept.items l ≡ true
-  seen i l (g, w, a) h =
-      let (x, among, is) = map_among loc_view l g.reads.items (w.reads l h) in
-      let there : Among l reads = subst (λ m. Among m reads) is (among_map loc_view x s.reads.items (a.reads x among)) in
-      or_left _ _ (any_among (same_location l) l reads there (same_location-itself l))
+  next i j (inr (m, used, l)) c = inr (inr (m, used, leads_next look (meaning rules) m i j l c))
 
   below : (i : Instance ℕ) (l : Location ℕ) → Among i s.kept.items → Supports look (meaning rules) l i → covered entries reads s.kept.items l ≡ true
   below i l among h =
@@ -224,9 +207,16 @@ module _ (rules : Rules) (look : Contents ℕ) (entries : Entries) (found : List
       by None e some = absurd (true≢false (sym some))
       by (Some k) e some = covers i k e l h
 
+  seen : (i : Instance ℕ) (l : Location ℕ) → Within i → Sees look (HasValue look (meaning rules)) ((meaning rules).formula i) l → covered entries reads s.kept.items l ≡ true
+  seen i l (inl (g, these, a, w, added)) h =
+      let (x, among, is) = map_among loc_view l g.reads.items (w.reads i l a h) in
+      let there : Among l reads = subst (λ m. Among m reads) is (among_map loc_view x s.reads.items (added.reads x among)) in
+      or_left _ _ (any_among (same_location l) l reads there (same_location-itself l))
+  seen i l (inr (j, used, led)) h = below j l used (i, led, h)
+
   -- the sources cover all that supports the instance
   pub all_covered : (i : Instance ℕ) (l : Location ℕ) → IsWhole rules look found i f → Supports look (meaning rules) l i → covered entries reads s.kept.items l ≡ true
-  all_covered i l w h = supported look (meaning rules) Within (λ u. Among u s.kept.items) (λ m. covered entries reads s.kept.items m ≡ true) next seen below i l (f, w, gathered.first) h
+  all_covered i l w h = supported look (meaning rules) Within (λ u. Among u s.kept.items) (λ m. covered entries reads s.kept.items m ≡ true) next seen below i l (within i f w gathered.first) h
 
   -- and so what is put
   pub put_covers : (exact : Bool) (new : Entries) (i : Instance ℕ) (v : Option (Value ℕ)) → IsWhole rules look found i f → Puts exact entries i v reads s.kept.items new → AreCovered rules look new
@@ -241,8 +231,8 @@ module _ (rules : Rules) (look : Contents ℕ) (entries : Entries) (found : List
 
 -- a find below which no other one stands is gathered by itself
 pub gathered_alone : (found : List (Instance ℕ × Find)) (f : Find) → f.demanded.finds.items ≡ [] → AreGathered found f (record { reads = f.reads; kept = f.demanded.kept })
-gathered_alone found f alone = record {
+gathered_alone found f none = record {
   positions = [];
-  first = record { reads = λ x h. h; kept = λ u h. h; finds = λ p h. subst (Among p) alone h };
+  first = record { reads = λ x h. h; kept = λ u h. h; finds = λ p h. subst (Among p) none h };
   others = λ p i g among is. absurd among;
 }

@@ -29,3 +29,10 @@ mod Putting
 mod of_nesting
 mod of_parts
 pub mod of_traces
+pub mod Extending
+mod Questioned
+mod Marking
+mod Grouped
+mod of_groups
+mod of_searches
+mod of_levels

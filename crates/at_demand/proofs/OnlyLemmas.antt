@@ -6,10 +6,12 @@ use Rattle.std.specs.List.{list_any}
 use Rattle.std.proofs.lemmas.Option.{none-some, same_Some}
 use Rattle.indexmap.specs.IndexSet.{insert_key}
 use Rattle.std.proofs.Common.{nat_eq}
-use Rattle.at_model.specs.Run.{Value, Instance, Location, Contents, Gives}
-use Rattle.at_model.specs.Rules.{Rules}
-use Rattle.at_model.specs.Meaning.{HasValue, Among, Comes, Leads}
-use Rattle.at_model.specs.Support.{Supports}
+use Rattle.at_model.specs.Run.{Value, Instance, Location, Contents, Gives, Demands}
+use Rattle.at_model.specs.Rules.{Rules, start_of}
+use Rattle.at_model.specs.Meaning.{Among, Reaches}
+use Rattle.at_model.specs.of_fixpoints.Fixpoints.{HasValue}
+use Rattle.at_model.specs.of_fixpoints.Resting.{Leads, Supports, goes, stays}
+use Rattle.at_model.proofs.of_searching.Turned.{leads_by}
 use Rattle.at_model.proofs.Listed.{among_map}
 use Rattle.at_store.specs.Located.{loc_view}
 use Rattle.at_body.specs.Same.{same_instance}
@@ -32,10 +34,11 @@ use Rattle.at_demand.specs.Only.{TakesOnly, IsLean, AreLean, LeadsTo, itself, fu
 use Rattle.at_demand.proofs.Sameness.{same_true}
 use Rattle.at_demand.proofs.Coming.{comes}
 use Rattle.at_demand.proofs.Seeing.{read_seen}
-use Rattle.at_demand.proofs.Gathered.{map_among, get_more}
-use Rattle.at_demand.proofs.Leading.{leads_next, supports_on}
+use Rattle.at_demand.proofs.Extending.{get_more, map_among}
+use Rattle.at_model.proofs.of_formulas.PlainRules.{plain}
+use Rattle.at_demand.proofs.of_levels.Plain.{past_formula}
 
-get_among : {A : Type 0} (xs : List A) (n : ℕ) (a : A) → slice_get xs n ≡ Some a → Among a xs
+pub get_among : {A : Type 0} (xs : List A) (n : ℕ) (a : A) → slice_get xs n ≡ Some a → Among a xs
 get_among [] n a e = absurd (none-some a e)
 get_among (x ∷ xs) zero a e = inl (sym (same_Some x a e))
 get_among (x ∷ xs) (suc n) a e = inr (get_among xs n a e)
@@ -152,13 +155,13 @@ module _ (rules : Rules) (look : Contents ℕ) where
     finds = λ p h. let (j, g, is, c) = t.finds p h in (j, g, get_more found more p (j, g) grows is, c);
   }
 
-  pub takes_one : (found : List (Instance ℕ × Find)) (i j : Instance ℕ) (old new : Demanded) → Comes look (meaning rules) i j →
+  pub takes_one : (found : List (Instance ℕ × Find)) (i j : Instance ℕ) (old new : Demanded) → Leads look (meaning rules) i j →
       ((new.kept.items ≡ old.kept.items ++ j ∷ []) × (new.finds.items ≡ old.finds.items)) ⊎ ((p : ℕ) × (f : Find) × (slice_get found p ≡ Some (j, f)) × (new.kept.items ≡ old.kept.items) × (new.finds.items ≡ old.finds.items ++ p ∷ [])) →
       TakesOnly rules look found i old → TakesOnly rules look found i new
   takes_one found i j old new c (inl (kept, finds)) t = record {
     kept = λ k h. elim (parts old.kept.items (j ∷ []) k (subst (Among k) kept h)) [
       | inl a ↦ t.kept k a
-      | inr b ↦ elim b [ inl s ↦ subst (Comes look (meaning rules) i) (sym s) c | inr z ↦ absurd z ]
+      | inr b ↦ elim b [ inl s ↦ subst (Leads look (meaning rules) i) (sym s) c | inr z ↦ absurd z ]
     ];
     finds = λ p h. t.finds p (subst (Among p) finds h);
   }
@@ -170,14 +173,18 @@ module _ (rules : Rules) (look : Contents ℕ) where
     ];
   }
 
-  -- an evaluation that needs j comes to it
-  pub needs_comes : (i j : Instance ℕ) (t : Trial) → HasStepped rules look i t (step.Need j) → Comes look (meaning rules) i j
-  needs_comes i j t (js, past) = comes look (HasValue look (meaning rules)) (meaning rules i) j (resumed rules.classes t) js t.reads _ refl past
+  -- an evaluation that needs j demands it, where the attribute isn't circular
+  pub needs_reaches : (i j : Instance ℕ) (t : Trial) → start_of rules i.attribute ≡ None → HasStepped rules look i t (step.Need j) → Reaches look (HasValue look (meaning rules)) ((meaning rules).formula i) j
+  needs_reaches i j t none (js, past) = comes look (HasValue look (meaning rules)) ((meaning rules).formula i) j (λ v. plain (resumed rules.classes t v)) js t.reads _ refl
+      (past_formula rules look i none (HasValue look (meaning rules)) (Demands j (resumed rules.classes t)) js t.reads past)
+
+  pub needs_leads : (i j : Instance ℕ) (t : Trial) → start_of rules i.attribute ≡ None → HasStepped rules look i t (step.Need j) → Leads look (meaning rules) i j
+  needs_leads i j t none stepped = goes i j j (inl (needs_reaches i j t none stepped)) (stays j)
 
   -- at its end
-  pub lean : (found : List (Instance ℕ × Find)) (i : Instance ℕ) (f : Frame) (v : ValueCode) (d : Find) → HasStepped rules look i f.trial (step.Value v) → TakesOnly rules look found i f.demanded → map loc_view d.reads.items ≡ f.trial.reads → d.demanded ≡ f.demanded → IsLean rules look found i d
-  lean found i f v d (js, past) takes reads demanded = record {
-    reads = λ l h. read_seen look (meaning rules) (meaning rules i) (Gives (value_view v)) js f.trial.reads l past (subst (Among l) reads h);
+  pub lean : (found : List (Instance ℕ × Find)) (i : Instance ℕ) (f : Frame) (v : ValueCode) (d : Find) → start_of rules i.attribute ≡ None → HasStepped rules look i f.trial (step.Value v) → TakesOnly rules look found i f.demanded → map loc_view d.reads.items ≡ f.trial.reads → d.demanded ≡ f.demanded → IsLean rules look found i d
+  lean found i f v d none (js, past) takes reads demanded = record {
+    reads = λ l h. (i, stays i, read_seen look (meaning rules) ((meaning rules).formula i) (plain (Gives (value_view v))) js f.trial.reads l (past_formula rules look i none (HasValue look (meaning rules)) (Gives (value_view v)) js f.trial.reads past) (subst (Among l) reads h));
     takes = subst (TakesOnly rules look found i) (sym demanded) takes;
   }
 
@@ -190,6 +197,10 @@ module _ (rules : Rules) (look : Contents ℕ) where
     | inr e ↦ subst (λ (x : Instance ℕ × Find). IsLean rules look (found ++ (i, d) ∷ []) x.0 x.1) e.1 (lean_more found (found ++ (i, d) ∷ []) i d ((i, d) ∷ [], refl) one)
   ]
 
+  -- what supports one to which it leads supports it
+  pub supports_on : (i j : Instance ℕ) (l : Location ℕ) → Leads look (meaning rules) i j → Supports look (meaning rules) l j → Supports look (meaning rules) l i
+  supports_on i j l led (k, more, sees) = (k, leads_by look (meaning rules) i j k led more, sees)
+
   -- what stands with a find stands for nothing but what supports its instance
   module _ (found : List (Instance ℕ × Find)) (f : Find) (i : Instance ℕ) (all : AreLean rules look found) (one : IsLean rules look found i f) where
     -- it is that of an instance to which i leads
@@ -197,13 +208,13 @@ module _ (rules : Rules) (look : Contents ℕ) where
     IsLed g = (j : Instance ℕ) × Leads look (meaning rules) i j × IsLean rules look found j g
 
     led : (g : Find) → LeadsTo found f g → IsLed g
-    led _ itself = (i, inl refl, one)
+    led _ itself = (i, stays i, one)
     led _ (further g h p k way among is) =
         let (j, leads, lean) = led g way in
         let (m, d, at, c) = lean.takes.finds p among in
         let same : (m, d) ≡ (k, h) = same_Some (m, d) (k, h) (sym at ∙ is) in
         let P : Instance ℕ × Find → Type 0 = λ x. IsLed x.1 in
-        subst P same (m, leads_next look (meaning rules) i j m leads c, all p m d at)
+        subst P same (m, leads_by look (meaning rules) i j m leads c, all p m d at)
 
     module _ (entries : Entries) (s : Sources) (from : AreFrom found f s)
         (only : (u : Instance ℕ) (k : Kept) → entries u ≡ Some k → (l : Location ℕ) → k.covers l ≡ true → Supports look (meaning rules) l u) where
@@ -212,19 +223,19 @@ module _ (rules : Rules) (look : Contents ℕ) where
           let (x, among, is) = map_among loc_view l s.reads.items h in
           let (g, way, has) = from.1.reads x among in
           let (j, leads, lean) = led g way in
-          (j, leads, lean.reads l (subst (λ m. Among m (map loc_view g.reads.items)) is (among_map loc_view x g.reads.items has)))
+          supports_on i j l leads (lean.reads l (subst (λ m. Among m (map loc_view g.reads.items)) is (among_map loc_view x g.reads.items has)))
 
       kept_supports : (u : Instance ℕ) (l : Location ℕ) → Among u s.kept.items → covers_at (entries u) l ≡ true → Supports look (meaning rules) l i
       kept_supports u l h at =
           let (g, way, has) = from.1.kept u h in
           let (j, leads, lean) = led g way in
-          supports_on look (meaning rules) i u l (leads_next look (meaning rules) i j u leads (comes_to j g lean has)) (by (entries u) refl at)
+          supports_on i u l (leads_by look (meaning rules) i j u leads (comes_to j g lean has)) (by (entries u) refl at)
         where
-          comes_to : (j : Instance ℕ) (g : Find) → IsLean rules look found j g → IsDemanded found g.demanded u → Comes look (meaning rules) j u
+          comes_to : (j : Instance ℕ) (g : Find) → IsLean rules look found j g → IsDemanded found g.demanded u → Leads look (meaning rules) j u
           comes_to j g lean (inl a) = lean.takes.kept u a
           comes_to j g lean (inr (p, h, among, is)) =
               let (m, d, at, c) = lean.takes.finds p among in
-              subst (Comes look (meaning rules) j) (ap (λ (x : Instance ℕ × Find). x.0) (same_Some (m, d) (u, h) (sym at ∙ is))) c
+              subst (Leads look (meaning rules) j) (ap (λ (x : Instance ℕ × Find). x.0) (same_Some (m, d) (u, h) (sym at ∙ is))) c
 
           by : (o : Option Kept) → entries u ≡ o → covers_at o l ≡ true → Supports look (meaning rules) l u
           by None is c = absurd (true≢false (sym c))

@@ -5,10 +5,13 @@ use Rattle.std.proofs.lemmas.Option.{none-some, same_Some}
 use Rattle.at_model.specs.Paths.{node_eq}
 use Rattle.at_model.specs.Run.{Instance}
 use Rattle.at_model.specs.Rules.{Rules}
-use Rattle.at_model.specs.Meaning.{Leads, content, equations}
+use Rattle.at_model.specs.Meaning.{content}
+use Rattle.at_model.specs.of_fixpoints.Evaluations.{forms}
+use Rattle.at_model.specs.of_fixpoints.Resting.{Leads}
 use Rattle.at_model.proofs.Nodes.{same_like, nat_eq-is, node_eq-is}
-use Rattle.at_model.proofs.of_likeness.EquationsAlike.{evaluation-like}
-use Rattle.at_model.proofs.of_likeness.CarryingSupport.{leads_there}
+use Rattle.at_model.proofs.of_likeness.CarryingCircles.{names_agree}
+use Rattle.at_model.proofs.of_formulas.CarriedByFormulas.{leads_there}
+use Rattle.at_model.proofs.of_formulas.FormulasAlike.{evaluation-like}
 use Rattle.at_store.specs.Shown.{Shown, IsIdle, contents, numbers, path, tree}
 use Rattle.at_store.specs.Memory.{class_in}
 use Rattle.at_store.specs.View.{memory_of}
@@ -42,5 +45,7 @@ module _ (rules : Rules) (s : Shown) (idle : IsIdle s) where
   pub led_there : (i j : Instance ℕ) → IsThere s i → Leads (contents s) (meaning rules) i j → IsThere s j
   led_there i j (n, like) led =
       let alike = evaluation-like rules nat_eq node_eq (same_like nat_eq node_eq nat_eq-is node_eq-is (path s) (path_injective (numbers s))) in
-      let (m, there, more) = leads_there (contents s) (content (tree s)) (meaning rules) (equations rules) alike i n j like (λ l h. contents_alike (class_in (memory_of s.slab)) (numbers s) idle.keeps.apart l) led in
+      let agree = names_agree (path s) (path_injective (numbers s)) in
+      let (m, (there, more), l) = leads_there agree (contents s) (content (tree s)) (meaning rules) (forms rules) alike i j n
+      (like, λ l h. contents_alike (class_in (memory_of s.slab)) (numbers s) idle.keeps.apart l) led in
       (m, there)

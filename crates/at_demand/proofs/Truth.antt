@@ -2,8 +2,8 @@
 use Rattle.std.proofs.Common.{◌≡◌, ℕ, List, [], nat_eq, Option, Some, None, refl, ◌∙◌}
 use Rattle.at_model.specs.Run.{Value, Instance, Contents, Known}
 use Rattle.at_model.specs.Follow.{follow}
-use Rattle.at_model.specs.Rules.{Rules, evaluation}
-use Rattle.at_model.specs.Meaning.{HasValue, Right}
+use Rattle.at_model.specs.Rules.{Rules, evaluation, start_of}
+use Rattle.at_model.specs.of_fixpoints.Fixpoints.{HasValue}
 use Rattle.at_body.specs.Values.{value_view}
 use Rattle.at_body.specs.Rest.{reached, resumed}
 use Rattle.at_body.specs.declared.value.Value.{Value as ValueCode}
@@ -12,9 +12,11 @@ use Rattle.at_body.specs.declared.trial.Step.TheVariants as step
 use Rattle.at_body.specs.declared.trial.Trial.{Trial}
 use Rattle.at_cache.specs.Kept.{Entries}
 use Rattle.at_demand.specs.declared.evaluation.Find.{Find}
-use Rattle.at_demand.specs.Known.{meaning, kept_values, found_values, known_in}
+use Rattle.at_demand.specs.Known.{equations, meaning, kept_values, found_values, known_in}
+use Rattle.at_demand.specs.Meant.{AreRightValues}
 use Rattle.at_demand.specs.UnderWay.{HasStepped, IsOpen}
-use Rattle.at_demand.proofs.Coming.{begins, goes_on, has_value}
+use Rattle.at_demand.proofs.Coming.{begins, goes_on}
+use Rattle.at_demand.proofs.of_levels.Plain.{has_value}
 
 -- an evaluation at its end needs nothing
 pub open_end : (known : Known ℕ) (s : Step) → ((j : Instance ℕ) → s ≡ step.Need j → ⊥) → IsOpen known s
@@ -24,18 +26,18 @@ open_end known (step.Need j) h = absurd (h j refl)
 
 module _ (rules : Rules) (look : Contents ℕ) where
   pub started : (i : Instance ℕ) (t : Trial) (s : Step) → follow look [] (evaluation rules nat_eq i) ≡ (reached rules.classes s t, t.reads) → HasStepped rules look i t s
-  started i t s e = begins look (HasValue look (meaning rules)) (meaning rules i) (reached rules.classes s t) t.reads e
+  started i t s e = begins look (HasValue look (meaning rules)) (equations rules i) (reached rules.classes s t) t.reads e
 
   pub resumed_step : (i j : Instance ℕ) (t u : Trial) (v : Value ℕ) (s : Step) → HasStepped rules look i t (step.Need j) → HasValue look (meaning rules) j v → follow look t.reads (resumed rules.classes t v) ≡ (reached rules.classes s u, u.reads) → HasStepped rules look i u s
-  resumed_step i j t u v s (js, past) h e = goes_on look (HasValue look (meaning rules)) (meaning rules i) j (resumed rules.classes t) v js t.reads u.reads (reached rules.classes s u) past h e
+  resumed_step i j t u v s (js, past) h e = goes_on look (HasValue look (meaning rules)) (equations rules i) j (resumed rules.classes t) v js t.reads u.reads (reached rules.classes s u) past h e
 
   -- what is kept and what was found
-  pub right_known : (entries : Entries) (found : List (Instance ℕ × Find)) → Right look (meaning rules) (kept_values entries) → Right look (meaning rules) (found_values found) → Right look (meaning rules) (known_in entries found)
+  pub right_known : (entries : Entries) (found : List (Instance ℕ × Find)) → AreRightValues look (meaning rules) (kept_values entries) → AreRightValues look (meaning rules) (found_values found) → AreRightValues look (meaning rules) (known_in entries found)
   right_known entries found kept also j v e = by (kept_values entries j) refl e
     where
       by : (o : Option (Value ℕ)) → kept_values entries j ≡ o → ◌≡◌ {A = Option (Value ℕ)} (elim o [ Some w ↦ Some w | None ↦ found_values found j ]) (Some v) → HasValue look (meaning rules) j v
       by None is f = also j v f
       by (Some w) is f = kept j v (is ∙ f)
 
-  pub value_of : (i : Instance ℕ) (t : Trial) (v : ValueCode) → HasStepped rules look i t (step.Value v) → HasValue look (meaning rules) i (value_view v)
-  value_of i t v (js, past) = has_value look (meaning rules) i (value_view v) js t.reads past
+  pub value_of : (i : Instance ℕ) (t : Trial) (v : ValueCode) → start_of rules i.attribute ≡ None → HasStepped rules look i t (step.Value v) → HasValue look (meaning rules) i (value_view v)
+  value_of i t v none (js, past) = has_value rules look i none (value_view v) js t.reads past

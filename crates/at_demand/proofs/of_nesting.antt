@@ -1,3 +1,4 @@
+pub mod Ground
 pub mod Remembered
 pub mod InnerPuts
 pub mod InnerGains

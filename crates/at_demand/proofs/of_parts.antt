@@ -4,3 +4,4 @@ pub mod Directly
 pub mod ByForm
 pub mod Looping
 pub mod AtOnce
+pub mod PassedBy

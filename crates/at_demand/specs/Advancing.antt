@@ -1,7 +1,7 @@
 -- What the steps of an evaluation come to.
-use Rattle.std.specs.Prelude.{◌≡◌, ℕ, List, []}
+use Rattle.std.specs.Prelude.{◌≡◌, ℕ, List, [], None}
 use Rattle.at_model.specs.Run.{Instance}
-use Rattle.at_model.specs.Rules.{Rules}
+use Rattle.at_model.specs.Rules.{Rules, start_of}
 use Rattle.at_store.specs.Shown.{Shown, contents}
 use Rattle.at_body.specs.Typed.{IsTypedStep, class_shown}
 use Rattle.at_body.specs.declared.trial.Step.{Step}
@@ -20,8 +20,8 @@ pub record HasGoneOn (rules : Rules) (s : Shown) (entries : Entries) (found : Li
   pub kept : AreValued entries new.demanded.kept.items
   pub stepped : (i : Instance ℕ) → HasStepped rules (contents s) i old.trial before → HasStepped rules (contents s) i new.trial after
   pub passed : (i : Instance ℕ) → HasPassedTo rules (contents s) found i old before → HasPassedTo rules (contents s) found i new after
-  pub only : (i : Instance ℕ) → HasStepped rules (contents s) i old.trial before → TakesOnly rules (contents s) found i old.demanded
-      → TakesOnly rules (contents s) found i new.demanded
+  pub only : (i : Instance ℕ) → start_of rules i.attribute ≡ None → HasStepped rules (contents s) i old.trial before
+      → TakesOnly rules (contents s) found i old.demanded → TakesOnly rules (contents s) found i new.demanded
   pub typed : IsTypedStep rules (class_shown s) after new.trial
   pub unknown : IsOpen (known_in entries found) after
 

@@ -1,100 +1,162 @@
 -- What a question is answered, and what becomes of what is kept.
-use Rattle.std.specs.Prelude.{◌≡◌, ℕ, Bool, Option, IsTrue, IfOk, IfSome, OnErr, Result}
+use Rattle.std.specs.Prelude.{◌≡◌, ◌+◌, ℕ, Bool, Option, Some, None, IsTrue, IfNone, IfOk, IfSome, OnErr, Result}
 use Rattle.std.specs.Option.{option_map}
-use Rattle.at_model.specs.Run.{Instance, Location}
+use Rattle.at_model.specs.Run.{Contents, Instance, Location}
 use Rattle.at_model.specs.Rules.{Rules}
-use Rattle.at_model.specs.Meaning.{Answers, Right}
-use Rattle.at_model.specs.Turning.{Turned, asked}
+use Rattle.at_model.specs.Meaning.{Answer, Circle, Outcomes}
+use Rattle.at_model.specs.of_fixpoints.Circles.{Answers}
+use Rattle.at_model.specs.of_fixpoints.Searching.{Search}
+use Rattle.at_rules.specs.Circular.{HasNoneCircular}
+use Rattle.at_demand.specs.Meant.{AreRightValues}
 use Rattle.at_store.specs.Shown.{Shown, contents}
 use Rattle.at_cache.specs.Kept.{Entries, LeavesUntouched, LosesTouched}
 use Rattle.at_cache.specs.Traced.{FlushesTraces, Memories, StayTraced}
-use Rattle.at_demand.specs.declared.answer.Answer.{Answer}
+use Rattle.at_demand.specs.declared.answer.Answer.{Answer as AnswerCode}
 use Rattle.at_demand.specs.declared.question.Question.{Question}
 use Rattle.at_demand.specs.declared.trials.Trials.{Trials}
-use Rattle.at_demand.specs.Known.{meaning, kept_values, ArePlain, answer_view}
+use Rattle.at_demand.specs.Known.{equations, meaning, kept_values, ArePlain, answer_view}
 use Rattle.at_demand.specs.Right.{AreRight, IsThere}
 use Rattle.at_demand.specs.Sparing.{AddsWorthy, AreSpare, Counts, HasWorthy, IsWork}
 use Rattle.at_demand.specs.KeptTrials.{FitAfter}
 use Rattle.at_demand.specs.Traces.{StayJustified}
-use Rattle.at_demand.specs.Turns.{AreTurns, BreaksOff, GainsInTurn, HasGiven, IsSparingTurns, IsStanding, under_way}
+use Rattle.at_demand.specs.Groups.{KeepsGroups}
+use Rattle.at_demand.specs.Levels.{StandsFor, asked_by}
+use Rattle.at_demand.specs.Turns.{
+  AreTurns,
+  AreTurnsOfChain,
+  BreaksOff,
+  BreaksOffChain,
+  GainsInChain,
+  GainsInTurn,
+  HasGiven,
+  HasGivenBy,
+  HasTurnedBy,
+  IsSparingTurns,
+  IsStanding,
+  under_way,
+}
 
--- The instance has its answer. What is kept stays right; with an exact keeper it stays spare, has all that is worth keeping, and the
--- work counts that.
+-- All that is worth keeping is kept for the answer. Where that is a circle, it is so where no attribute is circular.
+abbrev pub HasWorthyFor : Rules → Contents ℕ → Instance ℕ → Answer ℕ → Entries → Type 0
+HasWorthyFor rules look q (Outcomes o) entries = HasWorthy rules look q entries
+HasWorthyFor rules look q (Circle j) entries = HasNoneCircular rules → HasWorthy rules look q entries
+
+-- it is no circle, or no attribute is circular
+abbrev pub EndsByOutcome : Rules → Answer ℕ → Type 0
+EndsByOutcome rules (Outcomes o) = Unit {0}
+EndsByOutcome rules (Circle j) = HasNoneCircular rules
+
+-- so it is where the question isn't answered; where no attribute is circular, it is so then, too
+abbrev pub IsOfUse : Rules → Option AnswerCode → Type 0 → Type 0
+IsOfUse rules None P = P
+IsOfUse rules (Some a) P = HasNoneCircular rules → P
+
+-- what a turn of the question lets come to what is kept: no more than one of the search for which it stands may, or of its chain
+pub record GainsBy (rules : Rules) (s : Shown) (before after : Entries) (q : Question) : Type 0 where
+  pub plainly : HasNoneCircular rules → GainsInChain rules before after (under_way q)
+  pub searched : (u : Search ℕ) → StandsFor rules s before q u → GainsInTurn rules before after u
+
+-- where no attribute is circular, turns of the question's chain were given
+pub record HasGivenPlainly {E : Type 0} (rules : Rules) (s : Shown) (before after : Entries) (limit : ℕ) (old new : Question)
+    (r : Result (ℕ × Option AnswerCode) E) : Type 0 where
+  pub given : IfOk r (λ g. HasGiven (contents s) (equations rules) limit g.0 (under_way old) (under_way new) (option_map answer_view g.1))
+  pub each : IfOk r (λ g. AreTurnsOfChain rules s g.0 before (under_way old) after (under_way new) (option_map answer_view g.1))
+  pub broke : OnErr r (BreaksOffChain rules s limit before (under_way old) after)
+
+-- The instance has its answer. What is kept stays right; with an exact keeper it stays spare, where groups are kept whole, has all that is worth
+-- keeping, and the work counts that.
 pub record HasAnswered {E : Type 0} (rules : Rules) (s : Shown) (exact : Bool) (before after : Entries) (earlier later : ℕ) (i : Instance ℕ)
-    (r : Result Answer E) : Type 0 where
+    (r : Result AnswerCode E) : Type 0 where
   pub answers : IfOk r (λ a. Answers (contents s) (meaning rules) i (answer_view a))
   pub worthy : AddsWorthy rules (contents s) i before after
-  pub spare : IsTrue exact → AreSpare rules (contents s) before → AreSpare rules (contents s) after
-  pub all : IsTrue exact → AreSpare rules (contents s) before → IfOk r (λ a. HasWorthy rules (contents s) i after)
+  pub spare : KeepsGroups rules r → IsTrue exact → AreSpare rules (contents s) before → AreSpare rules (contents s) after
+  pub all : IsTrue exact → AreSpare rules (contents s) before → IfOk r (λ a. HasWorthyFor rules (contents s) i (answer_view a) after)
   pub counts : IsTrue exact → Counts before after earlier later
-  pub work : IsTrue exact → AreSpare rules (contents s) before → IfOk r (λ a. IsWork rules (contents s) i before earlier later)
+  pub work : IsTrue exact → AreSpare rules (contents s) before
+      → IfOk r (λ a. EndsByOutcome rules (answer_view a) → IsWork rules (contents s) i before earlier later)
   pub right : IsThere s i → AreRight rules s before → AreRight rules s after
   pub plain : ArePlain rules after
 
--- A turn of the question lets at most its last instance come to what is kept, and entries without a value of what it had found. That
--- stays right and, with an exact keeper, spare; the work counts the value.
-pub record GainsAtMost (rules : Rules) (s : Shown) (exact : Bool) (before after : Entries) (earlier later : ℕ) (q : Question) : Type 0 where
-  pub right : Right (contents s) (meaning rules) (kept_values after)
-  pub stays : IsThere s (asked (under_way q)) → AreRight rules s before → AreRight rules s after
+-- A turn of the question lets at most its last instance, and what levels under way have seen, come to what is kept, and entries without a
+-- value of what it had found. That stays right and, with an exact keeper, spare, where groups are kept whole; the work counts the value.
+pub record GainsAtMost (rules : Rules) (s : Shown) (exact : Bool) (before after : Entries) (earlier later : ℕ) (q : Question) (Whole : Type 0)
+    : Type 0 where
+  pub right : AreRightValues (contents s) (meaning rules) (kept_values after)
+  pub stays : IsThere s (asked_by q) → AreRight rules s before → AreRight rules s after
   pub plain : ArePlain rules after
-  pub last : GainsInTurn rules before after (under_way q)
-  pub worthy : AddsWorthy rules (contents s) (asked (under_way q)) before after
-  pub spare : IsTrue exact → AreSpare rules (contents s) before → IsSparingTurns rules (contents s) before q → AreSpare rules (contents s) after
+  pub last : GainsBy rules s before after q
+  pub worthy : AddsWorthy rules (contents s) (asked_by q) before after
+  pub spare : Whole → IsTrue exact → AreSpare rules (contents s) before → IsSparingTurns rules (contents s) before q → AreSpare rules (contents s) after
   pub counts : IsTrue exact → Counts before after earlier later
 
 -- It was given a turn so; where that doesn't answer it, it stands, and its trials are those of its chain.
 pub record HasTurnedWith {E : Type 0} (rules : Rules) (s : Shown) (exact : Bool) (before after : Entries) (earlier later : ℕ)
-    (old new : Question) (t : Trials) (r : Result (Option Answer) E) : Type 0 where
-  pub turned : IfOk r (λ o. Turned (contents s) (meaning rules) (kept_values before) (under_way old) (under_way new) (option_map answer_view o))
-  pub standing : IfOk r (λ o. IsStanding rules s after new)
+    (old new : Question) (t : Trials) (r : Result (Option AnswerCode) E) : Type 0 where
+  pub turned : HasTurnedBy rules s before after old new r
+  pub standing : IfOk r (λ o. IsOfUse rules o (IsStanding rules s after new))
   pub fit : IfOk r (FitAfter rules s after new t)
   pub all : IsTrue exact → AreSpare rules (contents s) before → IsSparingTurns rules (contents s) before old
-      → IfOk r (λ o. IfSome o (λ a. HasWorthy rules (contents s) (asked (under_way old)) after))
+      → IfOk r (λ o. IfSome o (λ a. HasWorthyFor rules (contents s) (asked_by old) (answer_view a) after))
   pub sparing : IsTrue exact → AreSpare rules (contents s) before → IsSparingTurns rules (contents s) before old
-      → IfOk r (λ o. IsSparingTurns rules (contents s) after new)
-  pub gains : GainsAtMost rules s exact before after earlier later old
+      → IfOk r (λ o. IsOfUse rules o (IsSparingTurns rules (contents s) after new))
+  pub gains : GainsAtMost rules s exact before after earlier later old (KeepsGroups rules r)
+
+-- one turn is counted, and all else stays
+abbrev pub IsCounted : (old new : Question) → Type 0
+IsCounted old new = (new.turns ≡ old.turns + 1) × (new ≡ record old { turns = new.turns })
+
+-- so it was, where the turn isn't counted yet: counted, it stands, where it isn't answered
+pub record HasTurnedOn {E : Type 0} (rules : Rules) (s : Shown) (exact : Bool) (before after : Entries) (earlier later : ℕ)
+    (old new : Question) (t : Trials) (r : Result (Option AnswerCode) E) : Type 0 where
+  pub counted : IfOk r (λ o. IfNone o ((q : Question) → IsCounted new q → HasTurnedWith rules s exact before after earlier later old q t r))
+  pub answered : IfOk r (λ o. IfSome o (λ a. HasTurnedWith rules s exact before after earlier later old new t r))
+  pub gains : GainsAtMost rules s exact before after earlier later old (KeepsGroups rules r)
 
 -- The question was given a turn, and what answers it is right; where none does, it stands. At most its last instance came to what is
 -- kept, which stays right and, with an exact keeper, spare.
 pub record HasTurned {E : Type 0} (rules : Rules) (s : Shown) (exact : Bool) (before after : Entries) (earlier later : ℕ)
-    (old new : Question) (r : Result (Option Answer) E) : Type 0 where
-  pub turned : IfOk r (λ o. Turned (contents s) (meaning rules) (kept_values before) (under_way old) (under_way new) (option_map answer_view o))
-  pub answers : IfOk r (λ o. IfSome o (λ a. Answers (contents s) (meaning rules) (asked (under_way old)) (answer_view a)))
-  pub standing : IfOk r (λ o. IsStanding rules s after new)
-  pub right : Right (contents s) (meaning rules) (kept_values after)
-  pub stays : IsThere s (asked (under_way old)) → AreRight rules s before → AreRight rules s after
+    (old new : Question) (r : Result (Option AnswerCode) E) : Type 0 where
+  pub turned : HasTurnedBy rules s before after old new r
+  pub answers : IfOk r (λ o. IfSome o (λ a. Answers (contents s) (meaning rules) (asked_by old) (answer_view a)))
+  pub standing : IfOk r (λ o. IsOfUse rules o (IsStanding rules s after new))
+  pub right : AreRightValues (contents s) (meaning rules) (kept_values after)
+  pub stays : IsThere s (asked_by old) → AreRight rules s before → AreRight rules s after
   pub plain : ArePlain rules after
-  pub last : GainsInTurn rules before after (under_way old)
-  pub worthy : AddsWorthy rules (contents s) (asked (under_way old)) before after
+  pub last : GainsBy rules s before after old
+  pub worthy : AddsWorthy rules (contents s) (asked_by old) before after
   pub all : IsTrue exact → AreSpare rules (contents s) before → IsSparingTurns rules (contents s) before old
-      → IfOk r (λ o. IfSome o (λ a. HasWorthy rules (contents s) (asked (under_way old)) after))
+      → IfOk r (λ o. IfSome o (λ a. HasWorthyFor rules (contents s) (asked_by old) (answer_view a) after))
   pub sparing : IsTrue exact → AreSpare rules (contents s) before → IsSparingTurns rules (contents s) before old
-      → IfOk r (λ o. IsSparingTurns rules (contents s) after new)
-  pub spare : IsTrue exact → AreSpare rules (contents s) before → IsSparingTurns rules (contents s) before old → AreSpare rules (contents s) after
+      → IfOk r (λ o. IsOfUse rules o (IsSparingTurns rules (contents s) after new))
+  pub spare : KeepsGroups rules r → IsTrue exact → AreSpare rules (contents s) before → IsSparingTurns rules (contents s) before old
+      → AreSpare rules (contents s) after
   pub counts : IsTrue exact → Counts before after earlier later
 
 -- It was given as many turns as it may be, or fewer where one of them answered it; so it is then, too.
 pub record HasTurnedOften {E : Type 0} (rules : Rules) (s : Shown) (exact : Bool) (before after : Entries) (earlier later limit : ℕ)
-    (old new : Question) (r : Result (ℕ × Option Answer) E) : Type 0 where
-  pub given : IfOk r (λ g. HasGiven (contents s) (meaning rules) limit g.0 (under_way old) (under_way new) (option_map answer_view g.1))
-  pub each : IfOk r (λ g. AreTurns rules s g.0 before (under_way old) after (under_way new) (option_map answer_view g.1))
-  pub broke : OnErr r (BreaksOff rules s limit before (under_way old) after)
+    (old new : Question) (r : Result (ℕ × Option AnswerCode) E) : Type 0 where
+  pub plainly : HasNoneCircular rules → HasGivenPlainly rules s before after limit old new r
+  pub given : (u : Search ℕ) → StandsFor rules s before old u → IfOk r (λ g. (v : Search ℕ)
+      × HasGivenBy (contents s) (meaning rules) limit g.0 u v (option_map answer_view g.1)
+      × AreTurns rules s g.0 before u after v (option_map answer_view g.1) × (g.1 ≡ None → StandsFor rules s after new v))
+  pub broke : (u : Search ℕ) → StandsFor rules s before old u → OnErr r (BreaksOff rules s limit before u after)
   pub all : IsTrue exact → AreSpare rules (contents s) before → IsSparingTurns rules (contents s) before old
-      → IfOk r (λ g. IfSome g.1 (λ a. HasWorthy rules (contents s) (asked (under_way old)) after))
-  pub answers : IfOk r (λ g. IfSome g.1 (λ a. Answers (contents s) (meaning rules) (asked (under_way old)) (answer_view a)))
-  pub standing : IfOk r (λ g. IsStanding rules s after new)
-  pub right : Right (contents s) (meaning rules) (kept_values after)
-  pub worthy : AddsWorthy rules (contents s) (asked (under_way old)) before after
-  pub stays : IsThere s (asked (under_way old)) → AreRight rules s before → AreRight rules s after
+      → IfOk r (λ g. IfSome g.1 (λ a. HasWorthyFor rules (contents s) (asked_by old) (answer_view a) after))
+  pub answers : IfOk r (λ g. IfSome g.1 (λ a. Answers (contents s) (meaning rules) (asked_by old) (answer_view a)))
+  pub standing : IfOk r (λ g. IsOfUse rules g.1 (IsStanding rules s after new))
+  pub right : AreRightValues (contents s) (meaning rules) (kept_values after)
+  pub worthy : AddsWorthy rules (contents s) (asked_by old) before after
+  pub stays : IsThere s (asked_by old) → AreRight rules s before → AreRight rules s after
   pub plain : ArePlain rules after
-  pub spare : IsTrue exact → AreSpare rules (contents s) before → IsSparingTurns rules (contents s) before old → AreSpare rules (contents s) after
+  pub spare : KeepsGroups rules r → IsTrue exact → AreSpare rules (contents s) before → IsSparingTurns rules (contents s) before old
+      → AreSpare rules (contents s) after
   pub sparing : IsTrue exact → AreSpare rules (contents s) before → IsSparingTurns rules (contents s) before old
-      → IfOk r (λ g. IsSparingTurns rules (contents s) after new)
+      → IfOk r (λ g. IsOfUse rules g.1 (IsSparingTurns rules (contents s) after new))
   pub counts : IsTrue exact → Counts before after earlier later
 
 -- The instance has its answer; what can be kept again is right still, and of the tree.
 pub record IsAnswered {E : Type 0} (rules : Rules) (s : Shown) (exact : Bool) (before after : Entries) (former latter : Memories)
-    (earlier later : ℕ) (i : Instance ℕ) (r : Result Answer E) : Type 0 where
+    (earlier later : ℕ) (i : Instance ℕ) (r : Result AnswerCode E) : Type 0 where
   pub answered : HasAnswered rules s exact before after earlier later i r
   pub traces : StayJustified rules s i former latter
 

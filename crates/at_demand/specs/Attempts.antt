@@ -1,24 +1,33 @@
 -- What one try of an instance comes to.
-use Rattle.std.specs.Prelude.{◌≡◌, ℕ, Bool, List, [], ◌∷◌, ◌++◌, Some, None, IsTrue, IfOk, Result}
+use Rattle.std.specs.Prelude.{◌≡◌, ℕ, Bool, List, [], ◌∷◌, ◌++◌, Some, None, IsSome, IsTrue, IfOk, Result}
 use Rattle.std.specs.Map.{lookup}
 use Rattle.at_model.specs.Run.{Instance, Contents}
-use Rattle.at_model.specs.Rules.{Rules}
+use Rattle.at_model.specs.Rules.{Rules, start_of}
 use Rattle.at_model.specs.Instances.{AnyText}
-use Rattle.at_model.specs.Meaning.{HasValue, Holds, Faults, Comes, Right}
+use Rattle.at_model.specs.Meaning.{Faults}
+use Rattle.at_model.specs.of_fixpoints.Fixpoints.{HasValue, Holds}
+use Rattle.at_model.specs.of_fixpoints.Resting.{Comes}
+use Rattle.at_demand.specs.Meant.{AreRightValues}
 use Rattle.at_model.specs.TypedRuns.{ClassAt, IsWellTyped}
 use Rattle.at_body.specs.Same.{same_instance}
 use Rattle.at_store.specs.Shown.{Shown, contents}
 use Rattle.at_body.specs.Typed.{IsTypedStep, class_shown}
 use Rattle.at_body.specs.Values.{value_view, fault_view}
+use Rattle.at_body.specs.TypedForms.{IsTypedProgress}
+use Rattle.at_body.specs.declared.forming.Progress.{Progress}
 use Rattle.at_body.specs.declared.trial.Step.{Step}
 use Rattle.at_body.specs.declared.trial.Step.TheVariants as step
 use Rattle.at_cache.specs.Kept.{Entries}
 use Rattle.at_demand.specs.declared.evaluation.Find.{Find}
 use Rattle.at_demand.specs.declared.evaluation.Frame.{Frame}
+use Rattle.at_demand.specs.declared.formation.Formation.{Formation}
+use Rattle.at_demand.specs.declared.trying.Going.{Going}
+use Rattle.at_demand.specs.declared.trying.Going.TheVariants as going
 use Rattle.at_demand.specs.declared.trials.Attempt.{Attempt}
 use Rattle.at_demand.specs.declared.trials.Attempt.TheVariants as attempt
 use Rattle.at_demand.specs.Known.{kept_values, meaning, ArePlain, AreValued}
 use Rattle.at_demand.specs.UnderWay.{HasStepped}
+use Rattle.at_demand.specs.Forming.{HasPassedToForm}
 use Rattle.at_demand.specs.Covering.{HasPassedTo, IsWhole}
 use Rattle.at_demand.specs.Only.{AreLean, IsLean, TakesOnly}
 use Rattle.at_demand.specs.Right.{AreRight, AreThere, IsThere}
@@ -33,6 +42,20 @@ pub record HasComeTo (rules : Rules) (at : ClassAt ℕ) (look : Contents ℕ) (e
   pub takes : TakesOnly rules look found i f.demanded
   pub typed : IsTypedStep rules at s f.trial
   pub kept : AreValued entries f.demanded.kept.items
+
+-- The evaluation of a circular attribute has come so far, past values that hold; what it looked at and took is what it sees and comes to,
+-- all is of its kinds, and what it took of what is kept is kept.
+pub record HasFormedTo (rules : Rules) (at : ClassAt ℕ) (look : Contents ℕ) (entries : Entries) (found : List (Instance ℕ × Find)) (i : Instance ℕ)
+    (f : Formation) (p : Progress) : Type 0 where
+  pub passed : HasPassedToForm rules look found i f p
+  pub takes : TakesOnly rules look found i f.demanded
+  pub typed : IsTypedProgress rules at look p f.forming
+  pub kept : AreValued entries f.demanded.kept.items
+
+-- so has a try, for a value where the attribute isn't circular
+abbrev pub IsGoing : Rules → ClassAt ℕ → Contents ℕ → Entries → List (Instance ℕ × Find) → Instance ℕ → Going → Type 0
+IsGoing rules at look entries found i (going.Value f s) = (start_of rules i.attribute ≡ None) × HasComeTo rules at look entries found i f.value s
+IsGoing rules at look entries found i (going.Formula b p) = IsSome (start_of rules i.attribute) × HasFormedTo rules at look entries found i b.value p
 
 -- where it needs another instance, its trial waits for that, and where it fails it has come to that
 abbrev pub Awaits : Rules → ClassAt ℕ → Contents ℕ → Entries → List (Instance ℕ × Find) → Instance ℕ → Frame → Attempt → Type 0
@@ -77,12 +100,19 @@ IsKeptAs entries i (attempt.Found f) = Unit {0}
 IsKeptAs entries i (attempt.Fails kind) = Unit {0}
 IsKeptAs entries i (attempt.Needs j) = Unit {0}
 
+-- nothing is kept where no value was found
+abbrev pub IsIdleBy : (before after : Entries) → (earlier later : ℕ) → Attempt → Type 0
+IsIdleBy before after earlier later (attempt.Kept v) = Unit {0}
+IsIdleBy before after earlier later (attempt.Found f) = Unit {0}
+IsIdleBy before after earlier later (attempt.Fails kind) = (after ≡ before) × (later ≡ earlier)
+IsIdleBy before after earlier later (attempt.Needs j) = (after ≡ before) × (later ≡ earlier)
+
 -- One try of an instance has come to this. What is kept stays right; with an exact keeper it stays spare, and the work counts what
 -- is added.
 pub record HasAttempted {E : Type 0} (rules : Rules) (s : Shown) (exact : Bool) (before after : Entries) (earlier later : ℕ)
     (found : List (Instance ℕ × Find)) (i : Instance ℕ) (f : Frame) (r : Result Attempt E) : Type 0 where
   pub tried : IfOk r (HasTried rules (class_shown s) (contents s) before found i)
-  pub right : Right (contents s) (meaning rules) (kept_values after)
+  pub right : AreRightValues (contents s) (meaning rules) (kept_values after)
   pub stays : IsThere s i → AreThere rules s found → AreRight rules s before → AreRight rules s after
   pub plain : ArePlain rules after
   pub gains : MayGain rules found before after i
@@ -93,3 +123,4 @@ pub record HasAttempted {E : Type 0} (rules : Rules) (s : Shown) (exact : Bool) 
   pub counts : IsTrue exact → Counts before after earlier later
   pub keeps : IfOk r (IsKeptAs after i)
   pub waits : IfOk r (Awaits rules (class_shown s) (contents s) before found i f)
+  pub idle : IfOk r (IsIdleBy before after earlier later)

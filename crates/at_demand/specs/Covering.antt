@@ -1,10 +1,13 @@
 -- That what a question finds rests on the locations and the instances that stand with it, and nothing else.
-use Rattle.std.specs.Prelude.{◌≡◌, ◌⊎◌, ℕ, true, List, ◌++◌, map, slice_get, Some}
+use Rattle.std.specs.Prelude.{◌≡◌, ◌⊎◌, ℕ, true, List, [], ◌∷◌, ◌++◌, map, slice_get, Some, IsSome}
 use Rattle.at_model.specs.Run.{Value, Instance, Location, Contents, Run}
 use Rattle.at_model.specs.Follow.{Past}
-use Rattle.at_model.specs.Rules.{Rules}
-use Rattle.at_model.specs.Meaning.{HasValue, Among, Comes}
-use Rattle.at_model.specs.Support.{Sees, Supports}
+use Rattle.at_model.specs.Rules.{Rules, start_of}
+use Rattle.at_model.specs.Meaning.{Among}
+use Rattle.at_model.specs.of_fixpoints.Fixpoints.{HasValue}
+use Rattle.at_model.specs.of_fixpoints.Resting.{Comes, Leads}
+use Rattle.at_model.specs.Support.{Sees}
+use Rattle.at_model.specs.of_fixpoints.Resting.{Supports}
 use Rattle.at_store.specs.declared.node.Loc.{Loc}
 use Rattle.at_store.specs.Located.{loc_view}
 use Rattle.at_body.specs.Rest.{reached}
@@ -16,7 +19,7 @@ use Rattle.at_demand.specs.declared.evaluation.Frame.{Frame}
 use Rattle.at_demand.specs.declared.evaluation.Recalled.{Recalled}
 use Rattle.at_demand.specs.declared.evaluation.Recalled.TheVariants as recalled
 use Rattle.at_demand.specs.declared.gathering.Sources.{Sources}
-use Rattle.at_demand.specs.Known.{meaning}
+use Rattle.at_demand.specs.Known.{equations, meaning}
 use Rattle.at_demand.specs.UnderWay.{left_of}
 
 -- the instance is one of the kept ones, or was found at one of the positions
@@ -29,7 +32,7 @@ IsTold rules look found d j v = HasValue look (meaning rules) j v × IsDemanded 
 
 -- the evaluation of i has come to where this is left, past values of what its frame demanded
 abbrev pub HasPassed : Rules → Contents ℕ → List (Instance ℕ × Find) → Instance ℕ → Frame → Run ℕ (Value ℕ) → Type 0
-HasPassed rules look found i f r = (js : List (Instance ℕ)) × Past look (IsTold rules look found f.demanded) (meaning rules i) js f.trial.reads r
+HasPassed rules look found i f r = (js : List (Instance ℕ)) × Past look (IsTold rules look found f.demanded) (equations rules i) js f.trial.reads r
 
 -- it has come to this step
 abbrev pub HasPassedTo : Rules → Contents ℕ → List (Instance ℕ × Find) → Instance ℕ → Frame → Step → Type 0
@@ -40,10 +43,29 @@ abbrev pub Takes : List (Instance ℕ × Find) → (old new : Demanded) → Inst
 Takes found old new i (recalled.Value v) = ((j : Instance ℕ) → IsDemanded found old j → IsDemanded found new j) × IsDemanded found new i
 Takes found old new i (recalled.Unknown j) = new ≡ old
 
--- The evaluation of i sees no other locations than the find's reads, and comes to no other instances than it demanded.
-pub record IsWhole (rules : Rules) (look : Contents ℕ) (found : List (Instance ℕ × Find)) (i : Instance ℕ) (f : Find) : Type 0 where
-  pub reads : (l : Location ℕ) → Sees look (HasValue look (meaning rules)) (meaning rules i) l → Among l (map loc_view f.reads.items)
-  pub demands : (j : Instance ℕ) → Comes look (meaning rules) i j → IsDemanded found f.demanded j
+-- The equations of these see no other locations than the find's reads, and come to no other instances than these and what it demanded.
+pub record AreWholeIn (rules : Rules) (look : Contents ℕ) (found : List (Instance ℕ × Find)) (these : List (Instance ℕ)) (f : Find) : Type 0 where
+  pub reads : (i : Instance ℕ) (l : Location ℕ) → Among i these → Sees look (HasValue look (meaning rules)) ((meaning rules).formula i) l
+      → Among l (map loc_view f.reads.items)
+  pub demands : (i j : Instance ℕ) → Among i these → Comes look (meaning rules) i j → Among j these ⊎ IsDemanded found f.demanded j
+
+-- all that i rests on stands with the find, as of one of these
+abbrev pub IsWholeIn : Rules → Contents ℕ → List (Instance ℕ × Find) → Instance ℕ → Find → Type 0
+IsWholeIn rules look found i f = (these : List (Instance ℕ)) × Among i these × AreWholeIn rules look found these f
+
+-- j was taken of what is kept; or of what was found, and with its find all that i rests on stands, too
+abbrev pub IsFirst : Rules → Contents ℕ → List (Instance ℕ × Find) → Demanded → (i j : Instance ℕ) → Type 0
+IsFirst rules look found d i j = Among j d.kept.items
+    ⊎ ((p : ℕ) × (g : Find) × Among p d.finds.items × (slice_get found p ≡ Some (j, g)) × IsWholeIn rules look found i g)
+
+-- All that i rests on stands with the find: it is that of i alone; or, where its attribute is circular, that of a group that i is in, or one that
+-- took the first of that group, which leads to i.
+pub data IsWhole (rules : Rules) (look : Contents ℕ) (found : List (Instance ℕ × Find)) (i : Instance ℕ) (f : Find) : Type 0 where
+  alone : AreWholeIn rules look found (i ∷ []) f → IsWhole rules look found i f
+  in_group : (these : List (Instance ℕ)) → IsSome (start_of rules i.attribute) → Among i these → AreWholeIn rules look found these f
+      → IsWhole rules look found i f
+  by_first : (j : Instance ℕ) → IsSome (start_of rules i.attribute) → IsFirst rules look found f.demanded i j → Leads look (meaning rules) j i
+      → IsWhole rules look found i f
 
 -- so it is of all that was found
 abbrev pub AreWhole : Rules → Contents ℕ → List (Instance ℕ × Find) → Type 0

@@ -1,9 +1,10 @@
 -- Evaluations in one go, part by part: what an expression comes to, and what comes to what is kept meanwhile.
-use Rattle.std.specs.Prelude.{◌≡◌, ℕ, Bool, List, ◌++◌, [], Option, None, Some, false, true, IsSome, IsTrue, IfNone, IfOk, OnOk, Result}
+use Rattle.std.specs.Prelude.{◌≡◌, ◌⊎◌, ⊤, ℕ, Bool, List, ◌++◌, [], Option, None, Some, false, true, IsSome, IsTrue, IfNone, IfOk, OnOk, Result}
 use Rattle.at_model.specs.Run.{Value, Instance, Location, Contents, Known, Run, Gives, Demands}
 use Rattle.at_model.specs.Classes.{Classes}
-use Rattle.at_model.specs.Rules.{Rules, is_inherited, is_lazy}
-use Rattle.at_model.specs.Meaning.{HasValue, Reaches}
+use Rattle.at_model.specs.Rules.{Rules, is_inherited, is_lazy, start_of}
+use Rattle.at_model.specs.Meaning.{Reaches}
+use Rattle.at_model.specs.of_fixpoints.Fixpoints.{HasValue}
 use Rattle.at_model.specs.Nested.{Evaluates}
 use Rattle.at_store.specs.Shown.{Shown, contents}
 use Rattle.at_rules.specs.Bodies.{body_view}
@@ -11,13 +12,16 @@ use Rattle.at_rules.specs.declared.body.Body.{Body}
 use Rattle.at_body.specs.Rest.{ev}
 use Rattle.at_body.specs.Standing.{Place}
 use Rattle.at_body.specs.Values.{value_view}
+use Rattle.at_body.specs.declared.todo.Fold.{Fold}
+use Rattle.at_body.specs.declared.todo.Fold.TheVariants as fold
 use Rattle.at_body.specs.declared.value.Value.{Value as ValueCode}
 use Rattle.at_apply.specs.Near.{AsksEach, asked}
+use Rattle.at_apply.specs.Passing.{ArePassedBy}
 use Rattle.at_cache.specs.Kept.{Entries}
 use Rattle.at_cache.specs.Traced.{Memories}
 use Rattle.at_demand.specs.declared.direct.Direct.{Direct}
 use Rattle.at_demand.specs.declared.direct.Level.{Level}
-use Rattle.at_demand.specs.Known.{meaning, kept_values, IsKept, KeepsEntries}
+use Rattle.at_demand.specs.Known.{equations, meaning, kept_values, IsKept, KeepsEntries}
 use Rattle.at_demand.specs.Inner.{AreKnown, Gains, HasRecalled, HasTold, IsEvaluated, StayRemembered, is_inner, known_by}
 use Rattle.at_demand.specs.Right.{AreRight, IsThere}
 use Rattle.at_demand.specs.Sparing.{AreSpare, Counts, IsWorthKeeping}
@@ -60,7 +64,7 @@ pub record HasCome {A : Type 0} (rules : Rules) (look : Contents ℕ) (h : Held)
   pub depth : ℕ
   pub looks : List (Location ℕ)
   pub takes : List (Instance ℕ)
-  pub evaluates : Evaluates look (meaning rules) (values_in h) (is_inner rules) depth r a looks takes
+  pub evaluates : Evaluates look (equations rules) (values_in h) (is_inner rules) depth r a looks takes
   pub reads : new.reads ≡ old.reads ++ looks
   pub uses : new.uses.items ≡ old.uses.items ++ takes
 
@@ -90,6 +94,24 @@ Demanded rules look r m = Reaches look (HasValue look (meaning rules)) r m
 abbrev pub AreDemandedThere : {A : Type 0} → Rules → Shown → Run ℕ A → Type 0
 AreDemandedThere rules s r = (m : Instance ℕ) → Demanded rules (contents s) r m → IsThere s m
 
+-- a fold that goes on as it was where its expression comes to false
+abbrev pub Seeks : Fold → Type 0
+Seeks (fold.Sum total) = ⊥
+Seeks f = ⊤
+
+-- A fold at that place, which seeks, asks each element for the attribute; those in front of the rest came to false, and nothing was taken.
+pub record HasPassedBy (rules : Rules) (look : Contents ℕ) (p : Place) (f : Fold) (b : Body) (attribute : ℕ) (old new : Level)
+    (nodes rest : List ℕ) : Type 0 where
+  pub seeks : Seeks f
+  pub asks : AsksEachInner rules p b attribute
+  pub passed : ArePassedBy rules look attribute p.passed old.reads new.reads nodes rest
+  pub uses : new ≡ record old { reads = new.reads }
+
+-- so it is, or nothing has changed
+abbrev pub MayHavePassedBy : Rules → Contents ℕ → Place → Fold → Body → (old new : Level) → (nodes rest : List ℕ) → Type 0
+MayHavePassedBy rules look p f b old new nodes rest =
+    ((rest ≡ nodes) × (new ≡ old)) ⊎ ((attribute : ℕ) × HasPassedBy rules look p f b attribute old new nodes rest)
+
 -- What was held stays; what came to be kept is worth keeping for an instance that the evaluation demands, and the work counts it; all is
 -- right still and, by an exact keeper, spare.
 pub record HasGained {A : Type 0} (rules : Rules) (s : Shown) (exact : Bool) (r : Run ℕ A) (old new : Held) : Type 0 where
@@ -109,20 +131,28 @@ pub record HasGrown (rules : Rules) (s : Shown) (exact : Bool) (i : Instance ℕ
   pub gains : Gains rules s exact i old.entries new.entries old.found new.found old.work new.work
   pub traces : StayJustified rules s i old.memories new.memories
 
--- all is right, for an instance whose attribute is lazy, or isn't
+-- all is right, for an instance whose attribute is lazy, or isn't, and isn't circular
 pub record IsHeldFor (rules : Rules) (look : Contents ℕ) (h : Held) (lazily : Bool) (i : Instance ℕ) : Type 0 where
   pub lazy : is_lazy rules i.attribute ≡ lazily
+  pub own : start_of rules i.attribute ≡ None
   pub held : IsHeld rules look h
 
--- all is right, for a lazy instance of which no value is kept
+-- so it is for one whose attribute isn't circular
+pub record IsHeldFrom (rules : Rules) (look : Contents ℕ) (h : Held) (i : Instance ℕ) : Type 0 where
+  pub own : start_of rules i.attribute ≡ None
+  pub held : IsHeld rules look h
+
+-- all is right, for a lazy instance that isn't circular, and of which no value is kept
 pub record IsHeldAfresh (rules : Rules) (look : Contents ℕ) (h : Held) (i : Instance ℕ) : Type 0 where
   pub lazy : is_lazy rules i.attribute ≡ true
+  pub own : start_of rules i.attribute ≡ None
   pub unkept : IsUnkept h i
   pub held : IsHeld rules look h
 
 -- and its evaluation has come to v, with what stands with the level
 pub record IsEvaluatedFor (rules : Rules) (look : Contents ℕ) (h : Held) (lazily : Bool) (i : Instance ℕ) (v : Value ℕ) (below : Level) : Type 0 where
   pub lazy : is_lazy rules i.attribute ≡ lazily
+  pub own : start_of rules i.attribute ≡ None
   pub held : IsHeld rules look h
   pub come : IsEvaluated rules look (values_in h) i v below.reads below.uses.items
 
@@ -154,7 +184,7 @@ pub record EndsRecalled {E : Type 0} (rules : Rules) (s : Shown) (exact : Bool) 
 -- of the instance itself.
 pub record EndsEvaluated {E : Type 0} (rules : Rules) (s : Shown) (exact : Bool) (i : Instance ℕ) (old new : Held) (before after : Level)
     (r : Result ValueCode E) : Type 0 where
-  pub come : IfOk r (λ v. HasCome rules (contents s) new before after (meaning rules i) (value_view v))
+  pub come : IfOk r (λ v. HasCome rules (contents s) new before after (equations rules i) (value_view v))
   pub unkept : OnOk r (IsUnkept old i → IsUnkept new i)
   pub grown : HasGrown rules s exact i old new
 

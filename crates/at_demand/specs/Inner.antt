@@ -4,7 +4,7 @@ use Rattle.std.specs.Map.{lookup}
 use Rattle.std.specs.Option.{option_map}
 use Rattle.at_model.specs.Run.{Value, Instance, Location, Contents, Known}
 use Rattle.at_model.specs.Rules.{Rules, is_lazy}
-use Rattle.at_model.specs.Meaning.{Right}
+use Rattle.at_demand.specs.Meant.{AreCircularWell, AreRightValues}
 use Rattle.at_model.specs.Nested.{Evaluates, Tells}
 use Rattle.at_store.specs.Shown.{Shown, contents}
 use Rattle.at_body.specs.Same.{same_instance}
@@ -12,7 +12,7 @@ use Rattle.at_body.specs.Values.{value_view}
 use Rattle.at_body.specs.declared.value.Value.{Value as ValueCode}
 use Rattle.at_cache.specs.Kept.{Entries}
 use Rattle.at_demand.specs.declared.direct.Level.{Level}
-use Rattle.at_demand.specs.Known.{meaning, kept_values, ArePlain}
+use Rattle.at_demand.specs.Known.{equations, meaning, kept_values, ArePlain}
 use Rattle.at_demand.specs.Right.{AreRight, IsThere}
 use Rattle.at_demand.specs.Sparing.{AddsWorthy, AreSpare, Counts}
 
@@ -29,11 +29,12 @@ abbrev pub known_by : Entries → List (Instance ℕ × ValueCode) → Known ℕ
 known_by entries found i = elim (kept_values entries i) [ Some v ↦ Some v | None ↦ remembered found i ]
 
 -- What is kept and what is remembered holds, and all of it has entries; one without a value is of an attribute that isn't lazy, and so
--- is what is remembered.
+-- is what is remembered. Circular attributes are lazy.
 pub record AreKnown (rules : Rules) (look : Contents ℕ) (entries : Entries) (found : List (Instance ℕ × ValueCode)) : Type 0 where
-  pub right : Right look (meaning rules) (kept_values entries)
+  pub circular : AreCircularWell rules
+  pub right : AreRightValues look (meaning rules) (kept_values entries)
   pub plain : ArePlain rules entries
-  pub finds : Right look (meaning rules) (remembered found)
+  pub finds : AreRightValues look (meaning rules) (remembered found)
   pub stands : (i : Instance ℕ) (v : Value ℕ) → remembered found i ≡ Some v → IsSome (entries i)
   pub inner : (i : Instance ℕ) (v : Value ℕ) → remembered found i ≡ Some v → is_lazy rules i.attribute ≡ false
 
@@ -43,12 +44,12 @@ StayRemembered old new = (i : Instance ℕ) (v : Value ℕ) → remembered old i
 
 -- the evaluation of i comes to v with inner ones; they and it look at the locations ls and take us of what is known
 abbrev pub IsEvaluated : Rules → Contents ℕ → Known ℕ → Instance ℕ → Value ℕ → List (Location ℕ) → List (Instance ℕ) → Type 0
-IsEvaluated rules look known i v ls us = (depth : ℕ) × Evaluates look (meaning rules) known (is_inner rules) depth (meaning rules i) v ls us
+IsEvaluated rules look known i v ls us = (depth : ℕ) × Evaluates look (equations rules) known (is_inner rules) depth (equations rules i) v ls us
 
 -- the demand of j is told v: the known value, for which j itself is taken, or that of its evaluation as an inner one, with what
 -- this looks at and takes
 abbrev pub IsGiven : Rules → Contents ℕ → Known ℕ → Instance ℕ → Value ℕ → List (Location ℕ) → List (Instance ℕ) → Type 0
-IsGiven rules look known j v ls us = (depth : ℕ) × Tells look (meaning rules) known (is_inner rules) depth j v ls us
+IsGiven rules look known j v ls us = (depth : ℕ) × Tells look (equations rules) known (is_inner rules) depth j v ls us
 
 -- The evaluation of a level is told v of j: what was looked at and taken for that stands with it now, behind what stood there.
 pub record HasTold (rules : Rules) (look : Contents ℕ) (known : Known ℕ) (old new : Level) (j : Instance ℕ) (v : Value ℕ) : Type 0 where

@@ -4,6 +4,8 @@ use Rattle.std.specs.Option.{option_map}
 use Rattle.std.specs.Map.{lookup}
 use Rattle.at_model.specs.Run.{Value, Instance, Known}
 use Rattle.at_model.specs.Rules.{Rules, evaluation, is_lazy}
+use Rattle.at_model.specs.of_fixpoints.Evaluations.{evaluation as formulas}
+use Rattle.at_model.specs.of_fixpoints.Formulas.{Forms}
 use Rattle.at_model.specs.Meaning.{Equations, Answer, Outcomes, Circle, Finds, Faults}
 use Rattle.at_body.specs.Same.{same_instance}
 use Rattle.at_body.specs.Values.{value_view, fault_view}
@@ -14,9 +16,13 @@ use Rattle.at_demand.specs.declared.evaluation.Recalled.TheVariants as recalled
 use Rattle.at_demand.specs.declared.answer.Answer.{Answer as AnswerCode}
 use Rattle.at_demand.specs.declared.answer.Answer.TheVariants as code
 
--- how the instances of a store are evaluated
-abbrev pub meaning : Rules → Equations ℕ
-meaning rules i = evaluation rules nat_eq i
+-- what the instances of a store come to: by their formulas
+abbrev pub meaning : Rules → Forms ℕ
+meaning rules = formulas rules nat_eq
+
+-- how one is evaluated whose attribute isn't circular
+abbrev pub equations : Rules → Equations ℕ
+equations rules i = evaluation rules nat_eq i
 
 -- the values that are kept
 abbrev pub kept_values : Entries → Known ℕ

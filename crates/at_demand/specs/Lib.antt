@@ -1,4 +1,6 @@
 pub mod Known
+pub mod Meant
+pub mod Sound
 pub mod UnderWay
 pub mod Right
 pub mod Touched
@@ -8,10 +10,16 @@ pub mod Sparing
 pub mod Advancing
 pub mod Spared
 pub mod Called
+pub mod Levels
+pub mod Forming
+pub mod Tries
+pub mod Groups
+pub mod Searches
 pub mod Turns
 pub mod ChainSteps
 pub mod Attempts
 pub mod KeptTrials
+pub mod LastTried
 pub mod Answered
 pub mod Keeping
 pub mod Inner

@@ -1,9 +1,9 @@
--- That nothing else stands with a find than what its evaluation sees and comes to: the other direction of `Covering`.
+-- That nothing else stands with a find than what its instance rests on and leads to: the other direction of `Covering`.
 use Rattle.std.specs.Prelude.{◌≡◌, ◌⊎◌, ℕ, List, [], ◌∷◌, ◌++◌, map, slice_get, Some}
 use Rattle.at_model.specs.Run.{Instance, Location, Contents}
 use Rattle.at_model.specs.Rules.{Rules}
-use Rattle.at_model.specs.Meaning.{HasValue, Among, Comes}
-use Rattle.at_model.specs.Support.{Sees}
+use Rattle.at_model.specs.Meaning.{Among}
+use Rattle.at_model.specs.of_fixpoints.Resting.{Leads, Supports}
 use Rattle.at_store.specs.declared.node.Loc.{Loc}
 use Rattle.at_store.specs.Located.{loc_view}
 use Rattle.at_demand.specs.declared.evaluation.Demanded.{Demanded}
@@ -14,14 +14,14 @@ use Rattle.at_demand.specs.declared.gathering.Sources.{Sources}
 use Rattle.at_demand.specs.Known.{meaning}
 use Rattle.at_demand.specs.Covering.{IsDemanded}
 
--- The evaluation of i comes to each instance that was taken, and each position is that of a find.
+-- i leads to each instance that was taken, and each position is that of a find.
 pub record TakesOnly (rules : Rules) (look : Contents ℕ) (found : List (Instance ℕ × Find)) (i : Instance ℕ) (d : Demanded) : Type 0 where
-  pub kept : (j : Instance ℕ) → Among j d.kept.items → Comes look (meaning rules) i j
-  pub finds : (p : ℕ) → Among p d.finds.items → (j : Instance ℕ) × (g : Find) × (slice_get found p ≡ Some (j, g)) × Comes look (meaning rules) i j
+  pub kept : (j : Instance ℕ) → Among j d.kept.items → Leads look (meaning rules) i j
+  pub finds : (p : ℕ) → Among p d.finds.items → (j : Instance ℕ) × (g : Find) × (slice_get found p ≡ Some (j, g)) × Leads look (meaning rules) i j
 
--- The evaluation of i sees each of the find's reads, and comes to each instance that was taken.
+-- Each of the find's reads supports i, which leads to each instance that was taken.
 pub record IsLean (rules : Rules) (look : Contents ℕ) (found : List (Instance ℕ × Find)) (i : Instance ℕ) (f : Find) : Type 0 where
-  pub reads : (l : Location ℕ) → Among l (map loc_view f.reads.items) → Sees look (HasValue look (meaning rules)) (meaning rules i) l
+  pub reads : (l : Location ℕ) → Among l (map loc_view f.reads.items) → Supports look (meaning rules) l i
   pub takes : TakesOnly rules look found i f.demanded
 
 -- so it is of all that was found

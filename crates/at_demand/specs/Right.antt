@@ -3,8 +3,9 @@ use Rattle.std.specs.Prelude.{◌≡◌, ℕ, true, List, Some}
 use Rattle.at_model.specs.Paths.{Node}
 use Rattle.at_model.specs.Run.{Value, Instance, Location}
 use Rattle.at_model.specs.Rules.{Rules}
-use Rattle.at_model.specs.Meaning.{HasValue, Right}
-use Rattle.at_model.specs.Support.{Supports}
+use Rattle.at_model.specs.of_fixpoints.Fixpoints.{HasValue}
+use Rattle.at_demand.specs.Meant.{AreRightValues}
+use Rattle.at_model.specs.of_fixpoints.Resting.{Supports}
 use Rattle.at_model.specs.Alike.{InstanceLike, Names}
 use Rattle.at_store.specs.Shown.{Shown, contents, path}
 use Rattle.at_cache.specs.Kept.{Kept, Entries}
@@ -26,7 +27,7 @@ AreThere rules s found = (i : Instance ℕ) → IsFound found i → IsThere s i 
 -- Each kept value is its instance's; each entry is of an instance of the tree that has a value, and stands for all that supports it;
 -- and it is without a value only where the attribute isn't lazy.
 pub record AreRight (rules : Rules) (s : Shown) (entries : Entries) : Type 0 where
-  pub values : Right (contents s) (meaning rules) (kept_values entries)
+  pub values : AreRightValues (contents s) (meaning rules) (kept_values entries)
   pub valued : (i : Instance ℕ) (k : Kept) → entries i ≡ Some k → IsValued rules s i
   pub there : (i : Instance ℕ) (k : Kept) → entries i ≡ Some k → IsThere s i
   pub covers : (i : Instance ℕ) (k : Kept) → entries i ≡ Some k → (l : Location ℕ) → Supports (contents s) (meaning rules) l i → k.covers l ≡ true

@@ -3,8 +3,10 @@
 use Rattle.std.specs.Prelude.{◌≡◌, ◌⊎◌, ◌↔◌, ℕ, ◌+◌, ◌-◌, ◌^◌, min, true, List, length, slice_get, Some, None, IsSome}
 use Rattle.at_model.specs.Run.{Value, Instance, Location, Contents}
 use Rattle.at_model.specs.Rules.{Rules, is_lazy}
-use Rattle.at_model.specs.Meaning.{HasValue, Leads, Among, Distinct}
-use Rattle.at_model.specs.Support.{Supports}
+use Rattle.at_model.specs.Meaning.{Among, Distinct}
+use Rattle.at_model.specs.of_fixpoints.Fixpoints.{HasValue}
+use Rattle.at_model.specs.of_fixpoints.Resting.{Leads}
+use Rattle.at_model.specs.of_fixpoints.Resting.{Supports}
 use Rattle.at_cache.specs.Kept.{Kept, Entries}
 use Rattle.at_demand.specs.declared.evaluation.Find.{Find}
 use Rattle.at_demand.specs.Known.{meaning, kept_values, IsFound, IsKept, KeepsEntries}

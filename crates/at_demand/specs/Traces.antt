@@ -1,14 +1,14 @@
 -- When what can be kept again is right: its evaluation would go the same way.
-use Rattle.std.specs.Prelude.{◌≡◌, ℕ, List, Bool, true, Some}
+use Rattle.std.specs.Prelude.{◌≡◌, ℕ, List, Bool, true, None, Some}
 use Rattle.at_model.specs.Run.{Instance, Location, Contents, Known}
 use Rattle.at_model.specs.Paths.{Node}
-use Rattle.at_model.specs.Rules.{Rules, is_lazy}
+use Rattle.at_model.specs.Rules.{Rules, is_lazy, start_of}
 use Rattle.at_model.specs.Meaning.{Among, Equations}
 use Rattle.at_model.specs.Nested.{Evaluates}
 use Rattle.at_model.specs.Touches.{node_of}
 use Rattle.at_store.specs.Shown.{Shown, contents, path}
 use Rattle.at_cache.specs.Traced.{Memories, StayTraced, Trace}
-use Rattle.at_demand.specs.Known.{meaning}
+use Rattle.at_demand.specs.Known.{equations}
 use Rattle.at_demand.specs.Inner.{is_inner}
 use Rattle.at_demand.specs.Right.{IsThere}
 
@@ -22,11 +22,12 @@ pub record IsJustified (look : Contents ℕ) (equation : Equations ℕ) (last : 
   pub reads : (l : Location ℕ) → Among l looks → t.reads l ≡ true
   pub looked : (l : Location ℕ) → t.reads l ≡ true → Among l looks
 
--- Each trace is of a lazy attribute, has its value last, and is justified on the tree as it is.
+-- Each trace is of a lazy attribute that isn't circular, has its value last, and is justified on the tree as it is.
 pub record AreJustified (rules : Rules) (look : Contents ℕ) (m : Memories) : Type 0 where
   pub lazily : (i : Instance ℕ) (t : Trace) → m.traced i ≡ Some t → is_lazy rules i.attribute ≡ true
+  pub own : (i : Instance ℕ) (t : Trace) → m.traced i ≡ Some t → start_of rules i.attribute ≡ None
   pub value : (i : Instance ℕ) (t : Trace) → m.traced i ≡ Some t → m.last i ≡ Some t.value
-  pub justified : (i : Instance ℕ) (t : Trace) → m.traced i ≡ Some t → IsJustified look (meaning rules) m.last (is_inner rules) i t
+  pub justified : (i : Instance ℕ) (t : Trace) → m.traced i ≡ Some t → IsJustified look (equations rules) m.last (is_inner rules) i t
 
 -- each location that was looked at for a trace is one of a node of the tree
 abbrev pub AreOfTree : Shown → Memories → Type 0

@@ -1,7 +1,7 @@
 //! Questions for the values of instances.
 
 ghost use Rattle.std.specs.Prelude.{◌≡◌, ◌<◌, ◌^◌, [], is_some, map, IfOk, IfSome, IsTrue, None};
-ghost use Rattle.at_model.specs.Meaning.{HasValue};
+ghost use Rattle.at_model.specs.of_fixpoints.Fixpoints.{HasValue};
 ghost use Rattle.at_store.specs.Located.{loc_view};
 ghost use Rattle.at_store.specs.Shown.{IsIdle, contents};
 ghost use Rattle.at_body.specs.Values.{value_view};
@@ -15,7 +15,10 @@ ghost use Rattle.at_demand.specs.Inner.{Gains};
 ghost use Rattle.at_demand.specs.InParts.{IsHeld, held};
 ghost use Rattle.at_demand.specs.Traces.{StayJustified};
 
+mod recalling;
+mod searching;
 mod shared;
+mod solving;
 mod turning;
 
 use crate::answer::Answer;
@@ -187,16 +190,7 @@ impl<K: Keeper> Demand<K> {
         Ok(waiting.saturating_add(AHEAD))
     }
 
-    /// Forgets what an edit touches: called once the edit is decided, and before it is made.
-    pub fn after_edit<F: Fn(Loc) -> bool>(&mut self, touched: &F)
-        requires { F.IsAlwaysCallable touched.now }
-        ensures { Forgets (Says (F.post touched.now)) K.exact (K.contents self.old.keeper) (K.contents self.new.keeper)
-            (K.memories self.old.keeper) (K.memories self.new.keeper) self.old.work self.new.work }
-    {
-        self.keeper.flush(touched);
-    }
-
-    /// The same, where the places name all that the edit touches.
+    /// Forgets what an edit touches, all of which the places name: called once the edit is decided, and before it is made.
     pub fn after_edit_at<F: Fn(Loc) -> bool>(&mut self, places: &Places<'_>, touched: &F)
         requires callable { F.IsAlwaysCallable touched.now }
         requires named { AreNamed places.now (F.post touched.now) }
@@ -214,6 +208,7 @@ impl<K: Keeper> Demand<K> {
     }
 
     // Keeps the value that was found of the instance, if its attribute is lazy, and says whether it is kept.
+    #[inline(always)]
     fn keep(
         &mut self,
         rules: &Rules,

@@ -1,15 +1,12 @@
 //! Evaluations under way, and what they find.
 
-ghost use Rattle.std.specs.Prelude.{◌≡◌, [], map, IfOk, OnOk, MatchBool};
-ghost use Rattle.std.specs.Map.{keys_of};
-ghost use Rattle.at_model.specs.Meaning.{Among, Right};
+ghost use Rattle.std.specs.Prelude.{◌≡◌, ◌++◌, [], map, IfOk, OnOk};
 ghost use Rattle.at_store.specs.Located.{loc_view};
 ghost use Rattle.at_store.specs.Shown.{contents};
-ghost use Rattle.at_body.specs.Same.{same_instance};
 ghost use Rattle.at_body.specs.Typed.{IsTypedStep, class_shown};
-ghost use Rattle.indexmap.specs.IndexMap.{insert_entry};
 ghost use Rattle.at_demand.specs.Answerable.{CanBegin, IsBasis};
 ghost use Rattle.at_demand.specs.Known.{meaning, known_in, AreValued, IsRecalled};
+ghost use Rattle.at_demand.specs.Meant.{AreRightValues};
 ghost use Rattle.at_demand.specs.Advancing.{HasBegun, HasGoneOn};
 ghost use Rattle.at_demand.specs.Covering.{Takes};
 ghost use Rattle.at_demand.specs.Only.{TakesOne};
@@ -22,9 +19,6 @@ use at_store::Store;
 use indexmap::IndexMap;
 use std::alloc::{AllocError, Global};
 use std::mem;
-
-// How many keys are looked through one by one, at most.
-const FEW: usize = 4;
 
 // The instances whose values an evaluation took: the kept ones, and the positions of the others among the finds.
 pub struct Demanded {
@@ -80,30 +74,6 @@ pub enum Recalled {
     Unknown(Inst),
 }
 
-// Whether the instance is among the keys. Each of a few is compared with it, since that takes less than a hash does.
-pub fn holds<V>(map: &IndexMap<Inst, V>, inst: &Inst) -> bool
-    ensures { MatchBool result (Among inst.now (keys_of map.now.entries)) (Among inst.now (keys_of map.now.entries) → ⊥) }
-{
-    if FEW < map.len() {
-        return map.contains_key(inst);
-    }
-    let keys = map.keys().as_slice();
-    for key in keys {
-        if *key == *inst {
-            return true;
-        }
-    }
-    false
-}
-
-// Puts the value by the instance, or finds memory wanting.
-pub fn put<V: Drop>(map: &mut IndexMap<Inst, V>, inst: Inst, value: V) -> Result<(), AllocError>
-    ensures { OnOk result (map.new.entries ≡ insert_entry same_instance map.old.entries inst value) }
-{
-    map.insert(inst, value)?;
-    Ok(())
-}
-
 impl<'a> Frame<'a> {
     // The evaluation of an instance, and what it came to by itself.
     pub fn start(
@@ -134,7 +104,7 @@ impl<'a> Frame<'a> {
         step: Step,
     ) -> Result<Step, AllocError>
         requires basis { IsBasis rules.now store.now }
-        requires right { Right (contents store.now) (meaning rules.now) (known_in (K.contents keeper.now) found.now.entries) }
+        requires right { AreRightValues (contents store.now) (meaning rules.now) (known_in (K.contents keeper.now) found.now.entries) }
         requires typed { IsTypedStep rules.now (class_shown store.now) step self.old.trial }
         requires kept { AreValued (K.contents keeper.now) self.old.demanded.kept.items }
         ensures { IfOk result (HasGoneOn rules.now store.now (K.contents keeper.now) found.now.entries self.old step self.new) }
@@ -184,7 +154,8 @@ impl Find {
 }
 
 impl Demanded {
-    fn new(alloc: Global) -> Demanded
+    // None yet.
+    pub fn new(alloc: Global) -> Demanded
         ensures kept { result.kept.items ≡ [] }
         ensures finds { result.finds.items ≡ [] }
     {
@@ -194,8 +165,30 @@ impl Demanded {
         }
     }
 
+    // The kept ones, and the positions of the others.
+    pub fn into_parts(self) -> (Vec<Inst>, Vec<usize>)
+        ensures kept { result.0 ≡ self.kept }
+        ensures finds { result.1 ≡ self.finds }
+    {
+        let Demanded { kept, finds } = self;
+        (kept, finds)
+    }
+
+    // Adds what another evaluation took.
+    pub fn add(&mut self, alloc: Global, kept: &[Inst], finds: &[usize]) -> Result<(), AllocError>
+        ensures kept { OnOk result (self.new.kept.items ≡ self.old.kept.items ++ kept.now) }
+        ensures finds { OnOk result (self.new.finds.items ≡ self.old.finds.items ++ finds.now) }
+    {
+        for inst in kept {
+            self.kept.push(inst.copy(alloc)?)?;
+        }
+        self.finds.extend_from_slice(finds)?;
+        Ok(())
+    }
+
     // Takes the value of an instance, where it is known.
-    fn recall<K: Keeper>(
+    #[inline(always)]
+    pub fn recall<K: Keeper>(
         &mut self,
         keeper: &K,
         found: &IndexMap<Inst, Find>,

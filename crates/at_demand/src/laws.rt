@@ -1,9 +1,17 @@
 //! Laws over the definitions: each is the contract of a function that does nothing.
 
-ghost use Rattle.std.specs.Prelude.{◌≡◌, ℕ, Ok, true};
+ghost use Rattle.std.specs.Prelude.{◌≡◌, ◌↔◌, ℕ, Ok, true};
 ghost use Rattle.at_model.specs.Trees.{Tree, conforms};
 ghost use Rattle.at_model.specs.Paths.{Node};
-ghost use Rattle.at_model.specs.Run.{Instance};
+ghost use Rattle.at_model.specs.Run.{Contents, Instance, Location};
+ghost use Rattle.at_model.specs.Meaning.{Answer, Outcome};
+ghost use Rattle.at_model.specs.Meaning as plain;
+ghost use Rattle.at_model.specs.Support as support;
+ghost use Rattle.at_model.specs.of_fixpoints.Circles.{Answers};
+ghost use Rattle.at_model.specs.of_fixpoints.Fixpoints.{Holds};
+ghost use Rattle.at_model.specs.of_fixpoints.Resting.{Leads, Supports};
+ghost use Rattle.at_rules.specs.Circular.{HasNoneCircular};
+ghost use Rattle.at_demand.specs.Known.{equations, meaning};
 ghost use Rattle.at_model.specs.Rules.{Rules};
 ghost use Rattle.at_model.specs.Alike.{InstanceLike, Names};
 ghost use Rattle.at_model.specs.Machine.{Asks, Edits, State};
@@ -72,4 +80,17 @@ pub fn what_stays_traced_is_right()
     ensures justified { (rules : Rules) (s : Shown) (before later : Memories) → StayTraced before later → AreJustified rules (contents s) before
         → AreJustified rules (contents s) later }
     ensures there { (s : Shown) (before later : Memories) → StayTraced before later → AreOfTree s before → AreOfTree s later }
+{}
+
+/// Where no attribute is circular, what is said by formulas is what equations alone say: outcomes and answers, what an instance leads to, and
+/// what it rests on.
+pub fn by_equations_where_none_is_circular()
+    ensures outcomes { (rules : Rules) → HasNoneCircular rules → (look : Contents ℕ) (i : Instance ℕ) (o : Outcome ℕ)
+        → (plain.Holds look (equations rules) i o ↔ Holds look (meaning rules) i o) }
+    ensures answers { (rules : Rules) → HasNoneCircular rules → (look : Contents ℕ) (i : Instance ℕ) (a : Answer ℕ)
+        → (plain.Answers look (equations rules) i a ↔ Answers look (meaning rules) i a) }
+    ensures demands { (rules : Rules) → HasNoneCircular rules → (look : Contents ℕ) (i j : Instance ℕ)
+        → (plain.Leads look (equations rules) i j ↔ Leads look (meaning rules) i j) }
+    ensures support { (rules : Rules) → HasNoneCircular rules → (look : Contents ℕ) (l : Location ℕ) (i : Instance ℕ)
+        → (support.Supports look (equations rules) l i ↔ Supports look (meaning rules) l i) }
 {}

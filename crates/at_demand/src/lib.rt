@@ -7,12 +7,15 @@
 //! `Called` the same by paths. `Inner` is what instances are told that are evaluated in one go, and what comes of it, `InParts` the same of an
 //! expression, part by part, and how each function of it ends, and `Traces` when what can be kept again with no evaluation is right. What a value may carry: `OneProof`. Of questions in turns, `Turns` shows one in the words of `at_model`, `Attempts` is what
 //! one try comes to, `ChainSteps` what that does to the chain, `KeptTrials` the trials that stay while turns follow
-//! each other. `Answerable` says once on which conditions all of that is asked for.
+//! each other. `Answerable` says once on which conditions all of that is asked for. Where attributes are circular a question goes level by
+//! level: `Meant` and `Levels` say what stands between turns, `Forming` and `Tries` what a try comes to, `Groups` what becomes of instances
+//! that are solved together, `Searches` how a search goes on between two tries.
 //!
 //! **Where to begin:** `Demand::answer` in `demand.rt`: a question is answered in one go by `direct.rt`, a recursion to which rules and tree are
 //! lent as one (`basis.rt`), or where that gives up by all turns of a question, which is `question.rt` and `demand/turning.rt`, with evaluations of `evaluation.rt`;
 //! the last instance of a long chain is evaluated in one go before its turn. It holds nothing of
-//! rules or tree between turns. What many kept values rest on is gathered in `gathering.rt` and stands once by `demand/shared.rt`.
+//! rules or tree between turns. Once an equation ends by a formula its level is a search: `demand/searching.rt` goes on with it over what
+//! `at_search` says, and `demand/solving.rt` keeps what is solved. What many kept values rest on is gathered in `gathering.rt` and stands once by `demand/shared.rt`.
 //!
 //! **What it keeps true:** what is kept is right, and, with an exact keeper, spare; `laws.rt` and `turning_laws.rt`
 //! say that it stays so over questions and edits.
@@ -23,20 +26,26 @@ mod basis;
 mod demand;
 mod direct;
 mod evaluation;
+mod formation;
 mod gathering;
+mod knowing;
 mod laws;
 mod locations;
 mod question;
 mod sharing;
 mod trials;
+mod trying;
 mod turning_laws;
 
 pub use answer::Answer;
 pub use demand::Demand;
 pub use laws::{
     a_question_adds_what_is_worth_keeping, an_edit_leaves_what_it_does_not_touch,
-    what_can_be_kept_again_stays_right, what_is_kept_spare_is_well_kept, what_is_kept_stays_right,
-    what_is_kept_stays_spare, what_stays_traced_is_right,
+    by_equations_where_none_is_circular, what_can_be_kept_again_stays_right,
+    what_is_kept_spare_is_well_kept, what_is_kept_stays_right, what_is_kept_stays_spare,
+    what_stays_traced_is_right,
 };
 pub use question::Question;
-pub use turning_laws::{a_question_has_few_turns, a_question_stands_while_more_is_kept};
+pub use turning_laws::{
+    a_question_has_few_turns, a_question_stands_while_more_is_kept, a_search_has_few_turns,
+};

@@ -1,14 +1,16 @@
 //! The trials that are kept beside a question while its turns follow each other, and what one try comes to.
 
 ghost use Rattle.std.specs.Prelude.{◌≡◌, ◌++◌, ◌∷◌, [], OnOk, None};
-ghost use Rattle.at_demand.specs.KeptTrials.{HasLast};
+ghost use Rattle.at_demand.specs.KeptTrials.{HasDropped, HasLast};
 
-use crate::evaluation::{Find, Frame};
+use crate::evaluation::Find;
+use crate::trying::Trying;
 use at_body::{FaultKind, Inst, Value};
 use std::alloc::{AllocError, Global};
 use std::mem;
 
-// What one try of an instance comes to: its value, which is kept or found, its fault, or another instance, whose value isn't known.
+// What one try comes to of an instance whose attribute isn't circular: its value, which is kept or found, its fault, or another instance, whose
+// value isn't known.
 #[derive(Drop)]
 pub enum Attempt {
     Kept(Value),
@@ -20,7 +22,7 @@ pub enum Attempt {
 // The trials of the last ones of a chain, in order, each of which waits for the next. Where `awaited` stands, the last of them is
 // that of the chain's last instance, and waits for it; else that instance has none yet.
 pub struct Trials<'a> {
-    pub frames: Vec<Frame<'a>>,
+    pub frames: Vec<Trying<'a>>,
     pub awaited: Option<Inst>,
 }
 
@@ -47,7 +49,7 @@ impl<'a> Trials<'a> {
     }
 
     // The trial of the last instance, where there is one, and what it waits for.
-    pub fn last(&mut self) -> Option<(Frame<'a>, Inst)>
+    pub fn last(&mut self) -> Option<(Trying<'a>, Inst)>
         ensures { HasLast self.old self.new result }
     {
         let Some(needed) = mem::replace(&mut self.awaited, None) else {
@@ -57,6 +59,14 @@ impl<'a> Trials<'a> {
             return None;
         };
         Some((frame, needed))
+    }
+
+    // The trial of the last instance goes, since its equation has ended.
+    pub fn drop_last(&mut self)
+        ensures { HasDropped self.old self.new }
+    {
+        let _ = self.frames.pop();
+        self.awaited = None;
     }
 
     // Lets all of them go.
@@ -69,7 +79,7 @@ impl<'a> Trials<'a> {
     }
 
     // The last instance has this trial.
-    pub fn push(&mut self, frame: Frame<'a>) -> Result<(), AllocError>
+    pub fn push(&mut self, frame: Trying<'a>) -> Result<(), AllocError>
         ensures frames { OnOk result (self.new.frames.items ≡ self.old.frames.items ++ frame.entry ∷ []) }
         ensures awaited { self.new.awaited ≡ self.old.awaited }
     {

@@ -13,3 +13,4 @@ pub mod Bounding
 pub mod Awaiting
 pub mod Settling
 pub mod Waiting
+pub mod Plainly

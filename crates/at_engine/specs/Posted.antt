@@ -8,7 +8,7 @@ use Rattle.at_model.specs.Lines.{Argument, Text, Ref, Null}
 use Rattle.at_model.specs.Machine.{Posted as PostedOf}
 use Rattle.at_model.specs.Rules.{Rules}
 use Rattle.at_model.specs.Trees.{Tree}
-use Rattle.at_model.specs.Turning.{UnderWay, posted, turns_of}
+use Rattle.at_model.specs.Turning.{UnderWay, posted}
 use Rattle.at_protocol.specs.LineView.{arguments_view, place_view}
 use Rattle.at_demand.specs.Turns.{under_way}
 use Rattle.at_demand.specs.declared.question.Question.{Question}
@@ -27,7 +27,7 @@ came_to (Some q) i = under_way q
 -- how many turns that were
 abbrev pub turns_given : Option Question → ℕ
 turns_given None = 0
-turns_given (Some q) = turns_of (under_way q)
+turns_given (Some q) = q.turns
 
 -- the question, of marks whose numbers have these paths
 abbrev pub posted_view : (ℕ → Option Node) → Posted → PostedOf

@@ -6,7 +6,7 @@ use Rattle.at_model.specs.Alike.{AnswerLike, InstanceLike, Names}
 use Rattle.at_model.specs.Asking.{IsWellFormed}
 use Rattle.at_model.specs.Lines.{Command}
 use Rattle.at_model.specs.Machine.{State, Asks, Refuses, Waits, answer_form, obeyed}
-use Rattle.at_model.specs.Meaning.{Answer, Right}
+use Rattle.at_model.specs.Meaning.{Answer}
 use Rattle.at_model.specs.Paths.{Node}
 use Rattle.at_model.specs.Replies.{Code, Form as FormOf, Reply}
 use Rattle.at_model.specs.Rules.{Rules}
@@ -14,14 +14,16 @@ use Rattle.at_model.specs.Run.{Contents, Instance}
 use Rattle.at_model.specs.Turning.{UnderWay, asked}
 use Rattle.at_protocol.specs.ReplyView.{code_view}
 use Rattle.at_protocol.specs.declared.reply.Form.{Form}
+use Rattle.at_rules.specs.Circular.{HasNoneCircular}
 use Rattle.at_store.specs.Shown.{Shown, contents, path, tree}
 use Rattle.at_cache.specs.Kept.{Entries}
 use Rattle.at_cache.specs.Traced.{Memories, StayTraced}
 use Rattle.at_demand.specs.Answerable.{CanTurn as CanBeTurned}
 use Rattle.at_demand.specs.Known.{answer_view, kept_values, meaning, ArePlain}
+use Rattle.at_demand.specs.Meant.{AreRightValues}
 use Rattle.at_demand.specs.Right.{AreRight, IsThere}
 use Rattle.at_demand.specs.Sparing.{AddsWorthy, AreSpare, HasWorthy}
-use Rattle.at_demand.specs.Turns.{AreTurns, BreaksOff, IsSparingTurns, IsStanding, under_way}
+use Rattle.at_demand.specs.Turns.{AreTurnsOfChain as AreTurns, BreaksOffChain as BreaksOff, IsSparingTurns, IsStanding, under_way}
 use Rattle.at_demand.specs.declared.answer.Answer.{Answer as AnswerCode}
 use Rattle.at_demand.specs.declared.demand.Demand.{Demand}
 use Rattle.at_demand.specs.declared.question.Question.{Question}
@@ -222,9 +224,10 @@ pub record TakesOff {K : Type 0} (exact : Bool) (entries : K → Entries) (memor
   pub spare : IsTrue exact → IsSpare entries old → IsSpare entries new
   pub sound : IsHeld entries memories new
 
--- what is done for the question stands on the tree, and its answer can be found
+-- what is done for the question stands on the tree, and its answer can be found, by equations alone
 pub record CanAnswer (rules : Rules) (s : Shown) (entries : Entries) (q : Question) : Type 0 where
   pub turns : CanBeTurned rules s entries q
+  pub plainly : HasNoneCircular rules
   pub named : IsAskedOf rules s (asked (under_way q))
 
 -- It was given turns: so many, or fewer where one of them answers it, or, without a limit, until one does. What is kept is right still,
@@ -237,7 +240,7 @@ pub record HasTurnedUpTo {E : Type 0} (exact : Bool) (rules : Rules) (s : Shown)
   pub all : IsTrue exact → AreSpare rules (contents s) before → IsSparingTurns rules (contents s) before old
       → IfOk r (λ g. IfSome g.1 (λ a. HasWorthy rules (contents s) (asked (under_way old)) after))
   pub standing : IfOk r (λ g. IsStanding rules s after new)
-  pub right : Right (contents s) (meaning rules) (kept_values after)
+  pub right : AreRightValues (contents s) (meaning rules) (kept_values after)
   pub worthy : AddsWorthy rules (contents s) (asked (under_way old)) before after
   pub stays : IsThere s (asked (under_way old)) → AreRight rules s before → AreRight rules s after
   pub plain : ArePlain rules after

@@ -12,14 +12,19 @@ use Rattle.at_model.specs.Trees.{Tree}
 use Rattle.at_model.specs.Paths.{Node, node_eq}
 use Rattle.at_model.specs.Run.{Value, Int, Truth, Text, Ref, Instance, Location, Known, reads}
 use Rattle.at_model.specs.Bodies.{bool_eq, ref_eq}
-use Rattle.at_model.specs.Rules.{Rules, is_lazy}
-use Rattle.at_model.specs.Meaning.{Outcome, Finds, Faults, value_in, outcome_at, Among, Distinct, Right, content, equations}
+use Rattle.at_model.specs.Rules.{Rules, is_lazy, start_of}
+use Rattle.at_model.specs.Meaning.{Outcome, Finds, Faults, value_in, outcome_at, HasValue, Among, Distinct, Right, content, equations}
 use Rattle.at_model.specs.Alike.{neither, both, ListLike, end, more, ValueLike, int, truth, text, ref, InstanceLike, Names}
 use Rattle.at_model.specs.Edits.{Edit, carried}
 use Rattle.at_model.specs.Touches.{touches}
 use Rattle.at_model.specs.Lines.{Line, Spells, line_text}
 use Rattle.at_model.specs.Machine.{State, Verdict, Refuses, Tells, Leaves, Edits, Asks, Posts, Waits, after}
-use Rattle.at_model.specs.Sparing.{IsWorthKeeping, IsUntouched, KeptAfter, AreAdded, IsWork}
+use Rattle.at_model.specs.Sparing.{IsWorthKeeping, KeptAfter, AreAdded, IsWork}
+use Rattle.at_model.specs.of_fixpoints.Evaluations.{forms}
+use Rattle.at_model.specs.of_fixpoints.Formulas.{Forms}
+use Rattle.at_model.specs.of_fixpoints.Resting.{IsUntouched, Supports}
+use Rattle.at_model.specs.of_fixpoints.Sets.{plain_forms}
+use Rattle.at_model.specs.Support as support
 use Rattle.at_model.specs.Keeping.{heard, AreWorks, NothingKept}
 use Rattle.at_model.specs.Working.{Effort, AreHeard, Works}
 use Rattle.at_model.proofs.of_texts.PlainLines.{is_plain_line, spelled}
@@ -27,6 +32,10 @@ use Rattle.at_model.proofs.Options.{led, mapped, both as both_of, and_true}
 use Rattle.at_model.proofs.Nodes.{node_eq-is, nat_eq-is}
 use Rattle.at_model.proofs.Outcomes.{once}
 use Rattle.at_model.proofs.FaultPlaces.{below_right}
+use Rattle.at_model.proofs.of_formulas.PlainAnswers.{supports_on, supports_off}
+use Rattle.at_model.proofs.of_formulas.PlainAnswered.{all_plain, plain_starts}
+use Rattle.at_model.proofs.of_formulas.PlainRules.{rules_plain}
+use Rattle.at_model.proofs.of_formulas.WorthKeeping.{worth_by_equations}
 use Rattle.at_model.proofs.Reached.{AreLost, reached, leads_in, in_leads, sees_in, in_sees, each_demands, either_among, front_among, back_among}
 
 -- tests that decide --------------------------------------------------------------------------------------------------
@@ -233,7 +242,21 @@ some_is a b e = cc
 abbrev pub Exactly : (Instance Node → Type 0) → List (Instance Node) → Type 0
 Exactly Kept ks = (i : Instance Node) → Kept i ↔ Among i ks
 
-module _ (rules : Rules) (height : ℕ) where
+module _ (rules : Rules) (height : ℕ) (plain : all_plain rules.attributes ≡ true) where
+  has_none : (attribute : ℕ) → start_of rules attribute ≡ None
+  has_none = plain_starts rules plain
+
+  -- what supports an instance, by equations
+  supported : (t : Tree) (i : Instance Node) (l : Location Node) → Supports (content t) (forms rules) l i →
+      support.Supports (content t) (equations rules) l i
+  supported t i l s = supports_off (content t) (equations rules) l i
+      (subst (λ (z : Forms Node). Supports (content t) z l i) (rules_plain rules node_eq has_none) s)
+
+  supporting : (t : Tree) (i : Instance Node) (l : Location Node) → support.Supports (content t) (equations rules) l i →
+      Supports (content t) (forms rules) l i
+  supporting t i l s = subst (λ (z : Forms Node). Supports (content t) z l i) (sym (rules_plain rules node_eq has_none))
+      (supports_on (content t) (equations rules) l i s)
+
   abbrev values : Tree → Known Node
   values t i = value_in (outcome_at (content t) (equations rules) height i)
 
@@ -332,19 +355,21 @@ module _ (rules : Rules) (height : ℕ) where
     worth_of a m w =
         let (lazy, known) = both_of (is_lazy rules a.attribute) (is_some (values t a)) w in
         let (v, e) = some_value (values t a) known in
-        record { reached = in_leads (content t) (equations rules) (values t) (lost t) (right t) (are_lost t) height q a rs is m; lazy = lazy; value = v; has = right t a v e }
+        (worth_by_equations rules t q a has_none).1
+        (in_leads (content t) (equations rules) (values t) (lost t) (right t) (are_lost t) height q a rs is m, lazy, (v, right t a v e))
 
     of_worth : (a : Instance Node) → IsWorthKeeping rules t q a → Among a rs × (is_worth t a ≡ true)
     of_worth a w =
-        let m : Among a rs = leads_in (content t) (equations rules) (values t) (lost t) (right t) (are_lost t) height q a rs is w.reached in
-        (m, by_lazy (is_lazy rules a.attribute) (outcome_at (content t) (equations rules) height a) refl w.lazy (passed (is_told t) rs told a m))
+        let (reached, lazy, (v, has)) = (worth_by_equations rules t q a has_none).0 w in
+        let m : Among a rs = leads_in (content t) (equations rules) (values t) (lost t) (right t) (are_lost t) height q a rs is reached in
+        (m, by_lazy v has (is_lazy rules a.attribute) (outcome_at (content t) (equations rules) height a) refl lazy (passed (is_told t) rs told a m))
       where
-        by_lazy : (b : Bool) (o : Option (Outcome Node)) → outcome_at (content t) (equations rules) height a ≡ o → b ≡ true → (not b || is_some o) ≡ true → (b && is_some (value_in o)) ≡ true
-        by_lazy true (Some o) is e f =
-            let found : Finds w.value ≡ o = once (content t) (equations rules) a (Finds w.value) o w.has (height, is) in
+        by_lazy : (v : Value Node) → HasValue (content t) (equations rules) a v → (b : Bool) (o : Option (Outcome Node)) → outcome_at (content t) (equations rules) height a ≡ o → b ≡ true → (not b || is_some o) ≡ true → (b && is_some (value_in o)) ≡ true
+        by_lazy v has true (Some o) is e f =
+            let found : Finds v ≡ o = once (content t) (equations rules) a (Finds v) o has (height, is) in
             subst (λ (x : Outcome Node). is_some (value_in (Some x)) ≡ true) found refl
-        by_lazy true None is e f = absurd cc
-        by_lazy false o is e f = absurd cc
+        by_lazy v has true None is e f = absurd cc
+        by_lazy v has false o is e f = absurd cc
 
     are_added : (Kept : Instance Node → Type 0) (ks : List (Instance Node)) → Exactly Kept ks → AreAdded rules t q Kept (added t ks rs)
     are_added Kept ks just = record {
@@ -392,7 +417,8 @@ module _ (rules : Rules) (height : ℕ) where
   spared t e (k ∷ ks) = option_and_then (λ rs. option_map (λ js. cond (is_touched t e rs) js (and_more (carried_instance e k) js)) (spared t e ks)) (reach t k)
 
   untouched : (t : Tree) (e : Edit) (i : Instance Node) (rs : List (Instance Node)) → reach t i ≡ Some rs → is_touched t e rs ≡ false → IsUntouched rules t e i
-  untouched t e i rs is none l s =
+  untouched t e i rs is free l rests =
+      let s = supported t i l rests in
       let among = leads_in (content t) (equations rules) (values t) (lost t) (right t) (are_lost t) height i s.0 rs is s.1 in
       let d = each_demands (content t) (equations rules) (values t) (lost t) height i s.0 rs is among in
       let seen = sees_in (content t) (equations rules) (values t) (lost t) (right t) (are_lost t) (equations rules s.0) l d.0 d.1 s.2 in
@@ -403,14 +429,14 @@ module _ (rules : Rules) (height : ℕ) where
       by_test true f h = let g : is_touched t e rs ≡ true = one_passes (touches e) (flat_map (reads_of t) rs) l h f in absurd cc
 
   touched : (t : Tree) (e : Edit) (i : Instance Node) (rs : List (Instance Node)) → reach t i ≡ Some rs → is_touched t e rs ≡ true → IsUntouched rules t e i → ⊥
-  touched t e i rs is some none =
+  touched t e i rs is some free =
       let (l, m, f) = passing_one (touches e) (flat_map (reads_of t) rs) some in
       let (j, n, seen) = in_flat (reads_of t) rs l m in
-      let g : touches e l ≡ false = none l (
+      let g : touches e l ≡ false = free l (supporting t i l (
         j,
         in_leads (content t) (equations rules) (values t) (lost t) (right t) (are_lost t) height i j rs is n,
         in_sees (content t) (equations rules) (values t) (right t) (equations rules j) l seen,
-      ) in cc
+      )) in cc
 
   -- kept among these, not touched, and then called this
   abbrev Stays : Tree → Edit → List (Instance Node) → Instance Node → Type 0

@@ -65,14 +65,14 @@ parent_within t n h = elim (snoc n) [
       subst (λ z. UpLike t (option_map (λ p. (p.0, p.1.0)) z) (option_map (λ p. (p.0, p.1.0)) z)) (sym k) (both ((refl, some_there (tree_at t m) w g), refl))
 ]
 
-alike_within : (t : Tree) (l : Location Node) → AlikeAt (Within t) (content t) (content t) l
+pub alike_within : (t : Tree) (l : Location Node) → AlikeAt (Within t) (content t) (content t) l
 alike_within t _ _ (is r) = ap (λ z. content t (Is z)) r.0
 alike_within t _ _ (tok part r) = ap (λ z. content t (Tok z part)) r.0
 alike_within t _ _ (slot {n = n} part r) = subst (λ z. ListLike (Within t) (content t (Slot n part)) (content t (Slot z part))) r.0 (children_within t n part (tree_at t n) refl)
 alike_within t _ _ (up {n = n} r) = subst (λ z. UpLike t (content t (Up n)) (content t (Up z))) r.0 (parent_within t n r.1)
 alike_within t _ _ (idx r) = ap (λ z. content t (Idx z)) r.0
 
-same_within : (t : Tree) → SameLike (Within t) node_eq node_eq
+pub same_within : (t : Tree) → SameLike (Within t) node_eq node_eq
 same_within t a b c d r s = ap (λ z. node_eq z b) r.0 ∙ ap (λ z. node_eq c z) s.0
 
 equations_within : (rules : Rules) (t : Tree) → EquationsLike (Within t) (equations rules) (equations rules)
@@ -89,7 +89,7 @@ values_within : (t : Tree) (vs : List (Value Node)) → AllByRecursion (IsValueT
 values_within t [] h = end
 values_within t (v ∷ vs) (h, hs) = more (value_within t v h) (values_within t vs hs)
 
-instance_within : (t : Tree) (i : Instance Node) → IsInstanceThere t i → InstanceLike (Within t) i i
+pub instance_within : (t : Tree) (i : Instance Node) → IsInstanceThere t i → InstanceLike (Within t) i i
 instance_within t i h = record { node = (refl, h.node); attribute = refl; arguments = values_within t i.arguments h.arguments }
 
 ref_there : (t : Tree) {n m : Option Node} → OptionLike (Within t) n m → IfSome n (IsThere t)
@@ -102,7 +102,7 @@ value_there t (truth b) = tt
 value_there t (text bytes) = tt
 value_there t (ref r) = ref_there t r
 
-values_there : (t : Tree) {vs ws : List (Value Node)} → ListLike (ValueLike (Within t)) vs ws → AllByRecursion (IsValueThere t) vs
+pub values_there : (t : Tree) {vs ws : List (Value Node)} → ListLike (ValueLike (Within t)) vs ws → AllByRecursion (IsValueThere t) vs
 values_there t end = tt
 values_there t (more v vs) = (value_there t v, values_there t vs)
 

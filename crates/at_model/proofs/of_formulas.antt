@@ -20,3 +20,6 @@ pub mod Solved
 pub mod Closure
 pub mod FormulasTogether
 pub mod PlainAnswered
+pub mod Untouched
+pub mod Spreading
+pub mod WorthKeeping

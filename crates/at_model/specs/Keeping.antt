@@ -6,7 +6,7 @@ use Rattle.at_model.specs.Rules.{Rules}
 use Rattle.at_model.specs.Lines.{Line, Spells}
 use Rattle.at_model.specs.Replies as code
 use Rattle.at_model.specs.Machine.{State, Verdict, Refuses, after, verdict}
-use Rattle.at_model.specs.Sparing.{KeptAfter, IsWork}
+use Rattle.at_model.specs.Sparing.{KeptAfter, IsWork, SpreadsValues}
 
 -- the bytes spell the line, or none
 abbrev pub IsHeard : List ℕ → Option Line → Type 0
@@ -22,6 +22,11 @@ heard rules s (Some l) = verdict rules s l
 abbrev pub state_after : Rules → State → List (Option Line) → State
 state_after rules s [] = s
 state_after rules s (l ∷ ls) = state_after rules (after s (heard rules s l)) ls
+
+-- values spread in each state to which the lines lead
+abbrev pub AreSpreading : Rules → State → List (Option Line) → Type 0
+AreSpreading rules s [] = SpreadsValues rules s.tree
+AreSpreading rules s (l ∷ ls) = SpreadsValues rules s.tree × AreSpreading rules (after s (heard rules s l)) ls
 
 -- what is kept after the lines, where those of `Kept` were kept before
 abbrev pub KeptOver : Rules → State → List (Option Line) → (Instance Node → Type 0) → Instance Node → Type 0

@@ -1,26 +1,29 @@
 -- What is kept of the values of attributes that are declared lazy (JastAdd2 reference manual, "Caching"), and how much of it a question adds.
-use Rattle.std.specs.Prelude.{◌≡◌, ◌⊎◌, ◌↔◌, ℕ, true, false, List, length}
+use Rattle.std.specs.Prelude.{◌≡◌, ◌⊎◌, ◌↔◌, ℕ, true, List, length, None}
 use Rattle.at_model.specs.Trees.{Tree}
 use Rattle.at_model.specs.Paths.{Node}
-use Rattle.at_model.specs.Run.{Value, Instance, Location}
-use Rattle.at_model.specs.Rules.{Rules, is_lazy}
-use Rattle.at_model.specs.Meaning.{HasValue, Leads, Among, Distinct, content, equations}
-use Rattle.at_model.specs.Support.{Supports}
+use Rattle.at_model.specs.Run.{Value, Instance}
+use Rattle.at_model.specs.Rules.{Rules, is_lazy, start_of}
+use Rattle.at_model.specs.Meaning.{Among, Distinct, content}
 use Rattle.at_model.specs.Alike.{InstanceLike, Names}
 use Rattle.at_model.specs.Edits.{Edit, carried}
-use Rattle.at_model.specs.Touches.{touches}
 use Rattle.at_model.specs.Machine.{State, Verdict, Refuses, Tells, Leaves, Edits, Asks, Posts, Waits}
+use Rattle.at_model.specs.Enduring.{AreTokens}
+use Rattle.at_model.specs.WellFormed.{AreWellFormed}
+use Rattle.at_model.specs.of_fixpoints.Evaluations.{forms}
+use Rattle.at_model.specs.of_fixpoints.Fixpoints.{HasValue}
+use Rattle.at_model.specs.of_fixpoints.Resting.{IsUntouched, Leads}
 
 -- the question leads to the instance, which is lazy and has a value
 pub record IsWorthKeeping (rules : Rules) (t : Tree) (q i : Instance Node) : Type 0 where
-  pub reached : Leads (content t) (equations rules) q i
+  pub reached : Leads (content t) (forms rules) q i
   pub lazy : is_lazy rules i.attribute ≡ true
   pub value : Value Node
-  pub has : HasValue (content t) (equations rules) i value
+  pub has : HasValue (content t) (forms rules) i value
 
--- the edit touches nothing that supports the instance
-abbrev pub IsUntouched : Rules → Tree → Edit → Instance Node → Type 0
-IsUntouched rules t e i = (l : Location Node) → Supports (content t) (equations rules) l i → touches e l ≡ false
+-- What has a value leads to what has values: no attribute is circular, or the rules are well formed and tokens can be written.
+abbrev pub SpreadsValues : Rules → Tree → Type 0
+SpreadsValues rules t = ((attribute : ℕ) → start_of rules attribute ≡ None) ⊎ (AreWellFormed rules × AreTokens t)
 
 -- The instances that are kept after a line, where those of `Kept` were kept before: a question adds what is worth keeping;
 -- of an edit remains what it doesn't touch, under the paths to which the nodes are carried. With each stands what supports it.
@@ -37,8 +40,8 @@ KeptAfter rules s (Waits number) Kept j = Kept j
 -- what is kept is lazy and has a value, and with each instance all lazy instances to which it leads are kept
 pub record AreWellKept (rules : Rules) (t : Tree) (Kept : Instance Node → Type 0) : Type 0 where
   pub lazy : (i : Instance Node) → Kept i → is_lazy rules i.attribute ≡ true
-  pub valued : (i : Instance Node) → Kept i → (v : Value Node) × HasValue (content t) (equations rules) i v
-  pub deep : (i j : Instance Node) → Kept i → Leads (content t) (equations rules) i j → is_lazy rules j.attribute ≡ true → Kept j
+  pub valued : (i : Instance Node) → Kept i → (v : Value Node) × HasValue (content t) (forms rules) i v
+  pub deep : (i j : Instance Node) → Kept i → Leads (content t) (forms rules) i j → is_lazy rules j.attribute ≡ true → Kept j
 
 -- the list has each instance once that is worth keeping and was not kept
 pub record AreAdded (rules : Rules) (t : Tree) (q : Instance Node) (Kept : Instance Node → Type 0) (added : List (Instance Node)) : Type 0 where

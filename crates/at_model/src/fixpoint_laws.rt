@@ -4,7 +4,7 @@ ghost use Rattle.std.specs.Prelude.{Bool, List, None, Ok, Option, Some, false, n
 ghost use Rattle.at_model.specs.Trees.{Tree, conforms};
 ghost use Rattle.at_model.specs.Paths.{Node};
 ghost use Rattle.at_model.specs.Run.{Contents, Instance, Location, Truth, Value};
-ghost use Rattle.at_model.specs.Rules.{Rules, start_of};
+ghost use Rattle.at_model.specs.Rules.{Rules, evaluation as evaluation_of, start_of};
 ghost use Rattle.at_model.specs.Meaning.{Among, Answer, Equations, Outcome, content, equations};
 ghost use Rattle.at_model.specs.Meaning as meaning;
 ghost use Rattle.at_model.specs.Support as support;
@@ -104,9 +104,11 @@ pub fn formulas_are_of_one_start()
     ensures { (look : Contents Node) (rules : Rules) → AreOfOneStart look (forms rules) }
 {}
 
-/// Where no attribute of the rules is circular, their formulas are their equations.
+/// Where no attribute of the rules is circular, their formulas are their equations; so is that of each instance which isn't circular.
 pub fn rules_without_circular_attributes()
-    ensures { (rules : Rules) → ((attribute : ℕ) → start_of rules attribute ≡ None) → forms rules ≡ plain_forms (equations rules) }
+    ensures all { (rules : Rules) → ((attribute : ℕ) → start_of rules attribute ≡ None) → forms rules ≡ plain_forms (equations rules) }
+    ensures each { (rules : Rules) (i : Instance ℕ) → start_of rules i.attribute ≡ None
+        → (evaluation rules nat_eq).formula i ≡ (plain_forms (λ j. evaluation_of rules nat_eq j)).formula i }
 {}
 
 /// Where two trees are alike at all that supports an instance, the instance that it is carried to has the outcome that its

@@ -1,10 +1,10 @@
 -- What is seen by a search that stops at what is settled, step by step.
 use Rattle.std.proofs.Common.{◌≡◌, ◌⊎◌, ℕ, List, [], ◌∷◌, ◌++◌, None, inl, inr, refl, sym, subst}
 use Rattle.std.specs.Map.{lookup}
-use Rattle.at_model.specs.Run.{Instance, Known}
+use Rattle.at_model.specs.Run.{Instance}
 use Rattle.at_model.specs.Meaning.{Among}
 use Rattle.at_model.specs.of_fixpoints.Formulas.{Formula}
-use Rattle.at_model.specs.of_fixpoints.Fixpoints.{End, Made, Spoilt, LeadsOver, stays}
+use Rattle.at_model.specs.of_fixpoints.Fixpoints.{End, Made, Spoilt, LeadsOver, stays, goes}
 use Rattle.at_model.specs.of_fixpoints.Searching.{asked_in}
 use Rattle.at_model.specs.of_fixpoints.Searched.{EndsWell}
 use Rattle.at_model.proofs.Reached.{front_among, back_among, either_among}
@@ -12,7 +12,7 @@ use Rattle.at_model.proofs.of_formulas.UniqueOutcomes.{one_further}
 use Rattle.at_body.specs.Same.{same_instance}
 use Rattle.at_search.specs.declared.ended.Ended.{Ended}
 use Rattle.at_search.specs.Recorded.{Recorded}
-use Rattle.at_search.specs.LedTo.{IsSearching, IsMet, LeadsOut}
+use Rattle.at_search.specs.LedTo.{IsSearching, IsMet, LeadsOut, RecordedOpen}
 
 module _ (Settled : Instance ℕ → Type 0) (Good : End ℕ (Formula ℕ) → Type 0) (ended : List (Instance ℕ × Ended)) (i : Instance ℕ) where
   abbrev Coming : (seen todo : List (Instance ℕ)) → Type 0
@@ -28,7 +28,7 @@ module _ (Settled : Instance ℕ → Type 0) (Good : End ℕ (Formula ℕ) → T
     closed = λ j h. absurd h;
     led = λ j h. elim h [
       | inl a ↦ absurd a
-      | inr b ↦ elim b [ inl e ↦ subst (λ z. LeadsOver (Recorded ended) i z) (sym e) (stays i) | inr u ↦ absurd u ]
+      | inr b ↦ elim b [ inl e ↦ subst (λ z. LeadsOver (RecordedOpen Settled ended) i z) (sym e) (stays i) | inr u ↦ absurd u ]
     ];
     unsettled = λ j h. absurd h;
   }
@@ -64,7 +64,7 @@ module _ (Settled : Instance ℕ → Type 0) (Good : End ℕ (Formula ℕ) → T
     ];
     led = λ j h. elim h [
       | inl a ↦ elim a [
-        | inl q ↦ subst (λ z. LeadsOver (Recorded ended) i z) (sym q) to_next
+        | inl q ↦ subst (λ z. LeadsOver (RecordedOpen Settled ended) i z) (sym q) to_next
         | inr b ↦ g.led j (inl b)
       ]
       | inr b ↦ elim (either_among j (asked_in e) todo b) [ inl a ↦ led_on e x j a | inr r ↦ g.led j (inr (inr r)) ]
@@ -81,11 +81,11 @@ module _ (Settled : Instance ℕ → Type 0) (Good : End ℕ (Formula ℕ) → T
       met m (inr (inr (inl q))) = inl (inl q)
       met m (inr (inr (inr r))) = inr (inr (back_among m (asked_in e) todo r))
 
-      to_next : LeadsOver (Recorded ended) i k
+      to_next : LeadsOver (RecordedOpen Settled ended) i k
       to_next = g.led k (inr (inl refl))
 
-      led_on : (d : End ℕ (Formula ℕ)) → Recorded ended k d → (j : Instance ℕ) → Among j (asked_in d) → LeadsOver (Recorded ended) i j
-      led_on (Made f) y j a = one_further (Recorded ended) i k j f y a to_next
+      led_on : (d : End ℕ (Formula ℕ)) → Recorded ended k d → (j : Instance ℕ) → Among j (asked_in d) → LeadsOver (RecordedOpen Settled ended) i j
+      led_on (Made f) y j a = one_further (RecordedOpen Settled ended) i k j f (unsettled, y) a to_next
       led_on (Spoilt kind at) y j a = absurd a
 
   -- as it begins, where the lists are so
@@ -104,7 +104,13 @@ module _ (Settled : Instance ℕ → Type 0) (Good : End ℕ (Formula ℕ) → T
       subst (λ z. Coming z todo') (sym es) (subst (λ z. Coming (k ∷ seen) z) (sym et) (sees seen todo k e g unsettled x good))
 
   -- nothing is recorded of the next one
-  pub leads_out : (known : Known ℕ) (seen todo : List (Instance ℕ)) (k : Instance ℕ) → Coming seen (k ∷ todo) → known k ≡ None →
-      lookup (same_instance k) ended ≡ None → LeadsOut known ended i
-  leads_out known seen todo k g unknown unrecorded =
-      record { to = k; led = g.led k (inr (inl refl)); unknown = unknown; unrecorded = unrecorded }
+  pub leads_out : (seen todo : List (Instance ℕ)) (k : Instance ℕ) → Coming seen (k ∷ todo) → (¬ (Settled k)) →
+      lookup (same_instance k) ended ≡ None → LeadsOut Settled ended i
+  leads_out seen todo k g unsettled unrecorded =
+      record { to = k; led = g.led k (inr (inl refl)); unsettled = unsettled; unrecorded = unrecorded }
+
+-- what leads over none that is settled leads
+pub led_openly : (Settled : Instance ℕ → Type 0) (ended : List (Instance ℕ × Ended)) (i j : Instance ℕ) →
+    LeadsOver (RecordedOpen Settled ended) i j → LeadsOver (Recorded ended) i j
+led_openly Settled ended _ j (stays _) = stays j
+led_openly Settled ended _ j (goes i m _ f (n, r) a l) = goes i m j f r a (led_openly Settled ended m j l)

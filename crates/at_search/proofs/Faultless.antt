@@ -19,7 +19,7 @@ use Rattle.at_search.specs.declared.ended.Fault.{Fault}
 use Rattle.at_search.specs.declared.search.Search.{Search}
 use Rattle.at_search.specs.Recorded.{AreFacts, AreWhole, HasMetFirst, HasMetIn, end_of, seen_by, todo_of}
 use Rattle.at_search.specs.LedTo.{HasLookedOn, IsFaultless, LeadsOut}
-use Rattle.at_search.proofs.Coming.{sees_to as comes_to}
+use Rattle.at_search.proofs.Coming.{leads_out, sees_to as comes_to}
 use Rattle.at_search.proofs.Gathering.{no_value}
 
 -- a fault that is met is there
@@ -44,6 +44,12 @@ module _ (known : Known ℕ) (ended : List (Instance ℕ × Ended)) (i : Instanc
       comes_to (λ j. IsSome (known j)) IsMade ended i seen todo seen' todo' k (end_of x.ending) g (no_value (known k) none)
       (x, sym found, refl) (made x.ending old new met no_fault) es et
 
+  -- nothing is recorded of the next one, which isn't known
+  pub looks_out : (seen todo : List (Instance ℕ)) (k : Instance ℕ) → Faultless seen (k ∷ todo) → None ≡ known k → None ≡ lookup (same_instance k) ended →
+      LeadsOut (λ j. IsSome (known j)) ended i
+  looks_out seen todo k g none unrecorded =
+      leads_out (λ j. IsSome (known j)) IsMade ended i seen todo k g (no_value (known k) none) (sym unrecorded)
+
   no_fault_in : (o : Option Fault) → is_some o ≡ false → o ≡ None
   no_fault_in None e = refl
   no_fault_in (Some f) e = absurd (true≢false e)
@@ -55,7 +61,7 @@ module _ (known : Known ℕ) (ended : List (Instance ℕ × Ended)) (i : Instanc
   gone_on s false has e is off h = absurd (true≢false (sym e))
 
   -- or it has come to what isn't recorded
-  pub led_out : (s : Search) (b : Bool) → b ≡ false → HasLookedOn known ended i s b → LeadsOut known ended i
+  pub led_out : (s : Search) (b : Bool) → b ≡ false → HasLookedOn known ended i s b → LeadsOut (λ k. IsSome (known k)) ended i
   led_out s true e h = absurd (true≢false e)
   led_out s false e h = h
 

@@ -5,7 +5,7 @@ use Rattle.at_model.specs.Run.{Value, Instance, Known}
 use Rattle.at_model.specs.Meaning.{Among}
 use Rattle.at_model.specs.of_fixpoints.Searching.{asked_in}
 use Rattle.at_search.proofs.Seeing.{reverse_among, among_reverse}
-use Rattle.at_search.proofs.Coming.{sees_to as comes_to}
+use Rattle.at_search.proofs.Coming.{led_openly, leads_out, sees_to as comes_to}
 use Rattle.at_body.specs.Same.{same_instance}
 use Rattle.at_search.specs.declared.ended.Ended.{Ended}
 use Rattle.at_search.specs.declared.search.Search.{Search}
@@ -25,7 +25,7 @@ module _ (known : Known ℕ) (ended : List (Instance ℕ × Ended)) (i : Instanc
   ends seen g = record {
     first = met i g.first;
     closed = λ j h. let x = g.closed j h in record { end = x.end; ends = x.ends; good = tt; next = λ m a. met m (x.next m a) };
-    led = λ j h. g.led j (inl h);
+    led = λ j h. led_openly (IsSettled known ended) ended i j (g.led j (inl h));
     unsettled = g.unsettled;
   }
     where
@@ -50,13 +50,22 @@ module _ (known : Known ℕ) (ended : List (Instance ℕ × Ended)) (i : Instanc
       comes_to (IsSettled known ended) (λ e. Unit {0}) ended i seen todo seen' todo' k (end_of x.ending) g (not_settled k x none found off)
       (x, sym found, refl) tt es et
 
+  -- nothing is recorded of the next one, which isn't known
+  pub gathers_out : (seen todo : List (Instance ℕ)) (k : Instance ℕ) → Gathering seen (k ∷ todo) → None ≡ known k → None ≡ lookup (same_instance k) ended →
+      LeadsOut (IsSettled known ended) ended i
+  gathers_out seen todo k g none unrecorded = leads_out (IsSettled known ended) (λ e. Unit {0}) ended i seen todo k g off (sym unrecorded)
+    where
+      off : IsSettled known ended k → ⊥
+      off (inl s) = no_value (known k) none s
+      off (inr (y, at, whole)) = let q : None ≡ Some y = unrecorded ∙ at in absurd cc
+
   -- the search has come further
   pub gone_on : (s : Search) (b : Bool) → b ≡ true → HasGathered known ended i s b → Gathering (seen_by s) (todo_of s)
   gone_on s true e h = h
   gone_on s false e h = absurd (true≢false (sym e))
 
   -- or to what isn't recorded
-  pub led_out : (s : Search) (b : Bool) → b ≡ false → HasGathered known ended i s b → LeadsOut known ended i
+  pub led_out : (s : Search) (b : Bool) → b ≡ false → HasGathered known ended i s b → LeadsOut (IsSettled known ended) ended i
   led_out s true e h = absurd (true≢false e)
   led_out s false e h = h
 

@@ -20,7 +20,7 @@ use Rattle.at_search.specs.declared.system.System.{System}
 use Rattle.at_search.specs.LedTo.{AreClosedIn}
 use Rattle.at_search.specs.Recorded.{AreFacts, AreMarksRight, Recorded, end_of}
 use Rattle.at_search.specs.Systems.{IsFormed, IsSystem}
-use Rattle.at_search.specs.Solved.{AreAllTold, AreDerived, AreInOrder, AreRight, AreShut, AreTold, AreToldOrSpoilt, HasOpenedAll, HasSolved, IsSolvedIn}
+use Rattle.at_search.specs.Solved.{AreAllTold, AreDerived, AreGroups, AreInOrder, AreRight, AreShut, AreTold, AreToldOrSpoilt, HasOpenedAll, HasSolved, IsSolvedIn}
 use Rattle.at_search.specs.Solved.{IsSpoilt, IsToldSome, is_open_at, solved_at, value_at}
 use Rattle.at_search.proofs.Derived.{no_value, there_among}
 use Rattle.at_search.proofs.Piecewise.{at_last}
@@ -54,6 +54,9 @@ pub record IsSolving (known : Known ℕ) (ended : List (Instance ℕ × Ended)) 
   pub values : (k : ℕ) (g : Vec Solved Global) (t : Solved) → slice_get solved k ≡ Some g → Among t g.items →
       t.value ≡ value_at first.conditions.start leave t.position
   pub from : (k q : ℕ) → StandsIn solved k q → (l : ℕ) × (l < n) × Among q (listed_at lists l)
+  pub grouped : (k q r : ℕ) → StandsIn solved k q → StandsIn solved k r →
+      (l : ℕ) × Among q (listed_at lists l) × Among r (listed_at lists l)
+  pub alone : (k j q : ℕ) → StandsIn solved k q → StandsIn solved j q → k ≡ j
   pub rest : (l q : ℕ) → l < n → Among q (listed_at lists l) → (is_open_at s.open.items q ≡ true) ⊎ ((k : ℕ) × StandsIn solved k q)
   pub opened : (m : ℕ) (i : Instance ℕ) → is_open_at s.open.items m ≡ true → slice_get insts m ≡ Some i →
       IsSome (known i) ⊎ IsStopped known ended insts i
@@ -74,6 +77,11 @@ place_of : (xs : List (Instance ℕ)) (i : Instance ℕ) → Among i xs → (q :
 place_of [] i h = absurd h
 place_of (x ∷ xs) i (inl e) = (zero, ap (λ (z : Instance ℕ). Some z) (sym e))
 place_of (x ∷ xs) i (inr h) = let (q, e) = place_of xs i h in (suc q, e)
+
+has_place : (xs : List (Instance ℕ)) (q : ℕ) → q < length xs → IsSome (slice_get xs q)
+has_place [] q less = absurd (omega (arith, less))
+has_place (x ∷ xs) zero less = refl
+has_place (x ∷ xs) (suc q) less = has_place xs q (omega (arith, less))
 
 closed_within : (xs : List Bool) (q : ℕ) → is_open_at xs q ≡ false → q < length xs
 closed_within [] q e = absurd (true≢false e)
@@ -193,7 +201,7 @@ leads_then has _ j k (fixpoints.goes i m _ f h a x) y = fixpoints.goes i m k f h
 
 module _ (known : Known ℕ) (ended : List (Instance ℕ × Ended)) (insts : List (Instance ℕ)) where
   -- an equation is recorded to have ended once
-  one_end : (i : Instance ℕ) (d e : End ℕ (Formula ℕ)) → Recorded ended i d → Recorded ended i e → d ≡ e
+  pub one_end : (i : Instance ℕ) (d e : End ℕ (Formula ℕ)) → Recorded ended i d → Recorded ended i e → d ≡ e
   one_end i d e (x, at, is) (y, there, so) =
       let both : Some x ≡ Some y = sym at ∙ there in
       let same : x ≡ y = cc in sym is ∙ ap (λ (z : Ended). end_of z.ending) same ∙ so
@@ -263,6 +271,36 @@ module _ (known : Known ℕ) (ended : List (Instance ℕ × Ended)) (insts : Lis
     led_to _ q i (components.goes n m _ e d) at none =
         let (f, j, r, a, none_j, at_m) = edge_at n m i at e in
         let (k, at_k, none_k, led) = led_to m q j d at_m none_j in (k, at_k, none_k, fixpoints.goes i j k f r a led)
+
+    -- in a group each leads to each; none of it is known, and it is told once
+    module _ (leave : List Bool) (lists : List (Vec ℕ Global)) (n : ℕ) (s : System) (solved : List (Vec Solved Global))
+        (x : Solving leave lists n s solved) where
+      told_unknown : (k : ℕ) (i : Instance ℕ) (b : Bool) → IsSolvedIn insts solved k i b → known i ≡ None
+      told_unknown k i b (g, t, at_g, in_g, at_i, is) =
+          let (f, y, shut) = formed_at t.position i (x.wider t.position (x.closed k t.position (g, t, at_g, in_g, refl))) at_i in y.unknown
+
+      told_once : (k l : ℕ) (i : Instance ℕ) (b c : Bool) → IsSolvedIn insts solved k i b → IsSolvedIn insts solved l i c → k ≡ l
+      told_once k l i b c (g, t, at_g, in_g, at_i, is) (h, u, at_h, in_h, at_j, so) =
+          let e : t.position ≡ u.position = system.apart t.position u.position i at_i at_j in
+          x.alone k l t.position (g, t, at_g, in_g, refl) (h, u, at_h, in_h, sym e)
+
+      told_together : AreComponents first.edges.items (length first.edges.items) lists → (k : ℕ) (i j : Instance ℕ) (b c : Bool) →
+          IsSolvedIn insts solved k i b → IsSolvedIn insts solved k j c → LeadsOver (Recorded ended) i j
+      told_together comps k i j b c (g, t, at_g, in_g, at_i, is) (h, u, at_h, in_h, at_j, so) =
+          let (l, a, d) = x.grouped k t.position u.position (g, t, at_g, in_g, refl) (h, u, at_h, in_h, refl) in
+          let none = told_unknown k i b (g, t, at_g, in_g, at_i, is) in
+          let (m, at_m, none_m, led) = led_to t.position u.position i (comps.joined t.position u.position l a d) at_i none in
+          let both : Some m ≡ Some j = sym at_m ∙ at_j in
+          let same : m ≡ j = cc in
+          subst (λ z. LeadsOver (Recorded ended) i z) same led
+
+      told_placed : (k : ℕ) (g : Vec Solved Global) (t : Solved) → slice_get solved k ≡ Some g → Among t g.items → IsSome (slice_get insts t.position)
+      told_placed k g t at_g in_g =
+          let shut = x.wider t.position (x.closed k t.position (g, t, at_g, in_g, refl)) in
+          has_place insts t.position (subst (λ m. t.position < m) system.all.opens (closed_within first.open.items t.position shut))
+
+      pub all_groups : AreComponents first.edges.items (length first.edges.items) lists → AreGroups known ended insts solved
+      all_groups comps = record { together = told_together comps; unknown = told_unknown; once = told_once; placed = told_placed }
 
     -- what stops one stops those that lead to it
     stops_before : (i j : Instance ℕ) → known j ≡ None → LeadsOver (Recorded ended) i j → IsSome (known j) ⊎ IsStopped known ended insts j →
@@ -380,6 +418,8 @@ module _ (known : Known ℕ) (ended : List (Instance ℕ × Ended)) (insts : Lis
       led = λ k q st p a. absurd (none_in k q st);
       values = λ k g t at a. absurd cc;
       from = λ k q st. absurd (none_in k q st);
+      grouped = λ k q r st also. absurd (none_in k q st);
+      alone = λ k j q st also. absurd (none_in k q st);
       rest = λ l q less a. absurd (omega (arith, less));
       opened = open_first;
     }
@@ -418,6 +458,20 @@ module _ (known : Known ℕ) (ended : List (Instance ℕ × Ended)) (insts : Lis
           | inl old ↦ let (l, less, a) = x.from k q old in (l, omega (arith, less), a)
           | inr (e, a) ↦ (n, omega arith, in_lists q a)
         ];
+        grouped = λ k q r a b. elim (or_last k q a) [
+          | inl old ↦ elim (or_last k r b) [
+            | inl also ↦ x.grouped k q r old also
+            | inr (e, c) ↦ absurd (omega (arith, e, stood_before solved k q old))
+          ]
+          | inr (e, c) ↦ elim (or_last k r b) [
+            | inl also ↦ absurd (omega (arith, e, stood_before solved k r also))
+            | inr (f, d) ↦ (n, in_lists q c, in_lists r d)
+          ]
+        ];
+        alone = λ k j q a b. elim (or_last k q a) [
+          | inl old ↦ elim (or_last j q b) [ inl also ↦ x.alone k j q old also | inr (e, c) ↦ absurd (fresh k q old c) ]
+          | inr (e, c) ↦ elim (or_last j q b) [ inl also ↦ absurd (fresh j q also c) | inr (f, d) ↦ e ∙ sym f ]
+        ];
         rest = λ l q less a. elim (before_or l n less) [
           | inl before ↦ elim (x.rest l q before a) [ inl o ↦ inl o | inr (k, st) ↦ inr (k, still_stands solved v k q st) ]
           | inr e ↦ inr (length solved, stands_last solved v s.conditions.start leave group q is (in_group l q e a))
@@ -427,6 +481,11 @@ module _ (known : Known ℕ) (ended : List (Instance ℕ × Ended)) (insts : Lis
         where
           or_last : (k q : ℕ) → StandsIn (solved ++ v ∷ []) k q → StandsIn solved k q ⊎ ((k ≡ length solved) × Among q group)
           or_last k q st = stood_or_last solved v s.conditions.start leave group k q is st
+
+          fresh : (k q : ℕ) → StandsIn solved k q → Among q group → ⊥
+          fresh k q st a =
+              let (l, less, b) = x.from k q st in
+              let same = comps.once q l n b (in_lists q a) in omega (arith, less, same)
 
           led_last : (q p : ℕ) → Among q group → Among p (listed_at first.edges.items q) →
               (l : ℕ) × (l ≤ length solved) × StandsIn (solved ++ v ∷ []) l p
@@ -460,6 +519,8 @@ module _ (known : Known ℕ) (ended : List (Instance ℕ × Ended)) (insts : Lis
         led = x.led;
         values = x.values;
         from = λ k q st. let (l, less, a) = x.from k q st in (l, omega (arith, less), a);
+        grouped = x.grouped;
+        alone = x.alone;
         rest = λ l q less a. elim (before_or l n less) [
           | inl before ↦ elim (x.rest l q before a) [ inl y ↦ inl (still_open q y) | inr st ↦ inr st ]
           | inr e ↦ inl (o.opened q (in_group l q e a))
@@ -531,8 +592,16 @@ module _ (known : Known ℕ) (ended : List (Instance ℕ × Ended)) (insts : Lis
       told_or_spoilt first (own start first system) leave lists' n s solved
       (subst (λ z. AreComponents z (length z) lists') ee (subst (λ z. AreComponents edges (length edges) z) (sym el) comps)) past x shut
 
+  pub groups_at_end : (start : Bool) (first : System) (leave : List Bool) (lists lists' edges : List (Vec ℕ Global)) (n : ℕ) (s : System)
+      (solved : List (Vec Solved Global)) → IsSystem start known ended insts first → edges ≡ first.edges.items →
+      AreComponents edges (length edges) lists → lists' ≡ lists →
+      IsSolving known ended insts first leave lists' n s solved → AreGroups known ended insts solved
+  groups_at_end start first leave lists lists' edges n s solved system ee comps el x =
+      all_groups first (own start first system) leave lists' n s solved x
+      (subst (λ z. AreComponents z (length z) lists') ee (subst (λ z. AreComponents edges (length edges) z) (sym el) comps))
+
   -- what is recorded leads where formulas do
-  led_so : (look : Contents ℕ) (forms : Forms ℕ) → AreFacts look forms ended → (i j : Instance ℕ) → LeadsOver (Recorded ended) i j →
+  pub led_so : (look : Contents ℕ) (forms : Forms ℕ) → AreFacts look forms ended → (i j : Instance ℕ) → LeadsOver (Recorded ended) i j →
       LeadsOver (EndsSo look forms) i j
   led_so look forms facts _ _ (fixpoints.stays i) = fixpoints.stays i
   led_so look forms facts _ j (fixpoints.goes i m _ f h a y) =

@@ -23,11 +23,15 @@ pub record IsClosure (known : Known ℕ) (ended : List (Instance ℕ × Ended)) 
   pub led : (j : Instance ℕ) → Among j set → LeadsOver (Recorded ended) i j
   pub unsettled : (j : Instance ℕ) → Among j set → ¬ (IsSettled known ended j)
 
--- formulas lead from it to an instance that isn't known, and of whose equation nothing is recorded
-pub record LeadsOut (known : Known ℕ) (ended : List (Instance ℕ × Ended)) (i : Instance ℕ) : Type 0 where
+-- its equation is recorded to have ended so, and it isn't settled
+abbrev pub RecordedOpen : (Settled : Instance ℕ → Type 0) → List (Instance ℕ × Ended) → Instance ℕ → End ℕ (Formula ℕ) → Type 0
+RecordedOpen Settled ended i e = (¬ (Settled i)) × Recorded ended i e
+
+-- formulas lead from it, over none that is settled, to an instance that isn't settled either, and of whose equation nothing is recorded
+pub record LeadsOut (Settled : Instance ℕ → Type 0) (ended : List (Instance ℕ × Ended)) (i : Instance ℕ) : Type 0 where
   pub to : Instance ℕ
-  pub led : LeadsOver (Recorded ended) i to
-  pub unknown : known to ≡ None
+  pub led : LeadsOver (RecordedOpen Settled ended) i to
+  pub unsettled : ¬ (Settled to)
   pub unrecorded : lookup (same_instance to) ended ≡ None
 
 -- it was seen, or nothing is to be looked at there, or it is to be looked at
@@ -35,12 +39,12 @@ abbrev pub IsMet : (Settled : Instance ℕ → Type 0) → (seen todo : List (In
 IsMet Settled seen todo k = Among k seen ⊎ (Settled k ⊎ Among k todo)
 
 -- A search from an instance has come so far: the equations of those that were seen ended in such a way, and formulas lead from them to
--- none but these, what is settled, and those that are to do; to these and those they lead from the first one.
+-- none but these, what is settled, and those that are to do; to these and those they lead from the first one, over none that is settled.
 pub record IsSearching (Settled : Instance ℕ → Type 0) (Good : End ℕ (Formula ℕ) → Type 0) (ended : List (Instance ℕ × Ended)) (i : Instance ℕ)
     (seen todo : List (Instance ℕ)) : Type 0 where
   pub first : IsMet Settled seen todo i
   pub closed : (j : Instance ℕ) → Among j seen → EndsWell (Recorded ended) Good (IsMet Settled seen todo) j
-  pub led : (j : Instance ℕ) → Among j seen ⊎ Among j todo → LeadsOver (Recorded ended) i j
+  pub led : (j : Instance ℕ) → Among j seen ⊎ Among j todo → LeadsOver (RecordedOpen Settled ended) i j
   pub unsettled : (j : Instance ℕ) → Among j seen → ¬ (Settled j)
 
 -- a search for all that formulas lead to, not beyond what is settled
@@ -54,9 +58,9 @@ IsFaultless known ended i seen todo = IsSearching (λ k. IsSome (known k)) IsMad
 -- it has come further, or has come to what isn't recorded
 abbrev pub HasGathered : Known ℕ → List (Instance ℕ × Ended) → Instance ℕ → Search → Bool → Type 0
 HasGathered known ended i s true = IsGathering known ended i (seen_by s) (todo_of s)
-HasGathered known ended i s false = LeadsOut known ended i
+HasGathered known ended i s false = LeadsOut (IsSettled known ended) ended i
 
 -- it has come further, if it has met no fault; or it has come to what isn't recorded
 abbrev pub HasLookedOn : Known ℕ → List (Instance ℕ × Ended) → Instance ℕ → Search → Bool → Type 0
 HasLookedOn known ended i s true = s.fault ≡ None → IsFaultless known ended i (seen_by s) (todo_of s)
-HasLookedOn known ended i s false = LeadsOut known ended i
+HasLookedOn known ended i s false = LeadsOut (λ k. IsSome (known k)) ended i

@@ -13,6 +13,7 @@ use Rattle.at_search.specs.declared.ended.Ended.{Ended}
 use Rattle.at_search.specs.declared.ended.Ending.{Ending}
 use Rattle.at_search.specs.declared.ended.Ending.TheVariants as ending
 use Rattle.at_search.specs.declared.ended.Fault.{Fault}
+use Rattle.at_search.specs.declared.ended.Formed.{Formed}
 use Rattle.at_search.specs.declared.search.Search.{Search}
 
 -- the end that it stands for
@@ -27,6 +28,10 @@ copied_from old new = (new.kind ≡ old.kind) × (new.at ≡ old.at)
 -- the equation of the instance is recorded to have ended so
 abbrev pub Recorded : List (Instance ℕ × Ended) → Instance ℕ → End ℕ (Formula ℕ) → Type 0
 Recorded ended i e = (x : Ended) × (lookup (same_instance i) ended ≡ Some x) × (end_of x.ending ≡ e)
+
+-- it is recorded to have come to that formula, with what it looked at and took
+abbrev pub IsRecordedForm : List (Instance ℕ × Ended) → Instance ℕ → Formed → Type 0
+IsRecordedForm ended i f = (x : Ended) × (lookup (same_instance i) ended ≡ Some x) × (x.ending ≡ ending.Formed f)
 
 -- it is marked whole there
 abbrev pub IsMarked : List (Instance ℕ × Ended) → Instance ℕ → Type 0

@@ -79,6 +79,16 @@ abbrev pub AreInOrder : {Z : Type 0} → Known ℕ → List (Instance ℕ × End
 AreInOrder known ended insts groups = (k : ℕ) (i j : Instance ℕ) (b : Bool) (f : Formula ℕ) → IsSolvedIn insts groups k i b →
     Recorded ended i (Made f) → Among j (atoms f) → IsSome (known j) ⊎ ((l : ℕ) × (c : Bool) × (l ≤ k) × IsSolvedIn insts groups l j c)
 
+-- In a group formulas lead from each to each, and each has a place among the instances. None of those that are told is known, and none is told
+-- in another group, too.
+pub record AreGroups {Z : Type 0} (known : Known ℕ) (ended : List (Instance ℕ × Ended)) (insts : List (Instance ℕ)) (groups : List (Vec Solved Z))
+    : Type 0 where
+  pub together : (k : ℕ) (i j : Instance ℕ) (b c : Bool) → IsSolvedIn insts groups k i b → IsSolvedIn insts groups k j c
+      → LeadsOver (Recorded ended) i j
+  pub unknown : (k : ℕ) (i : Instance ℕ) (b : Bool) → IsSolvedIn insts groups k i b → known i ≡ None
+  pub once : (k l : ℕ) (i : Instance ℕ) (b c : Bool) → IsSolvedIn insts groups k i b → IsSolvedIn insts groups l i c → k ≡ l
+  pub placed : (k : ℕ) (g : Vec Solved Z) (m : Solved) → slice_get groups k ≡ Some g → Among m g.items → IsSome (slice_get insts m.position)
+
 -- it is told some value
 abbrev pub IsToldSome : {Z : Type 0} → List (Instance ℕ) → List (Vec Solved Z) → Instance ℕ → Type 0
 IsToldSome insts groups i = (b : Bool) × IsSolved insts groups i b

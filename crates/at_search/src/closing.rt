@@ -1,13 +1,13 @@
 //! What formulas lead to, over what has ended.
 
-ghost use Rattle.std.specs.Prelude.{◌≡◌, ◌⊎◌, ◌∷◌, [], ◌+◌, ◌≤◌, ℕ, IfNone, IfOk, IfSome, OnOk};
+ghost use Rattle.std.specs.Prelude.{◌≡◌, ◌⊎◌, ◌∷◌, [], ◌+◌, ◌≤◌, ℕ, IfNone, IfOk, IfSome, IsSome, OnOk};
 ghost use Rattle.std.specs.Map.{keys_of};
 ghost use Rattle.at_model.specs.Run.{Contents, Instance};
 ghost use Rattle.at_model.specs.of_fixpoints.Fixpoints.{AreFormed, EndsSo, Meets};
 ghost use Rattle.at_model.specs.of_fixpoints.Formulas.{Forms};
 ghost use Rattle.at_body.specs.Values.{fault_view};
 ghost use Rattle.at_search.specs.LedTo.{HasGathered, HasLookedOn, IsClosure, IsFaultless, IsGathering, LeadsOut};
-ghost use Rattle.at_search.specs.Recorded.{AreFacts, AreWhole, HasLooked, MetFrom, seen_by, todo_of, work_left};
+ghost use Rattle.at_search.specs.Recorded.{AreFacts, AreWhole, HasLooked, IsSettled, MetFrom, seen_by, todo_of, work_left};
 
 use crate::ended::{Ended, Fault};
 use crate::search::Search;
@@ -24,7 +24,7 @@ pub fn closure<K: Known>(
     inst: &Inst,
 ) -> Result<Option<IndexMap<Inst, ()>>, AllocError>
     ensures some { IfOk result (λ o. IfSome o (λ set. IsClosure (K.value_of known.now) ended.now.entries inst.now (keys_of set.entries))) }
-    ensures none { IfOk result (λ o. IfNone o (LeadsOut (K.value_of known.now) ended.now.entries inst.now)) }
+    ensures none { IfOk result (λ o. IfNone o (LeadsOut (IsSettled (K.value_of known.now) ended.now.entries) ended.now.entries inst.now)) }
 {
     let mut search = Search::from(alloc, inst)?;
     while let Some(next) = search.next() {
@@ -38,6 +38,7 @@ pub fn closure<K: Known>(
 
 // Looks at an instance: it is passed over where it was seen, or is known or marked whole, and seen where its equation has ended, and
 // whether one of these is so.
+#[tactic(auto, using(crate::proofs::Gathering::gathers_out))]
 fn gather<K: Known>(
     alloc: Global,
     search: &mut Search,
@@ -77,7 +78,7 @@ pub fn first_fault<K: Known>(
     ensures some { (look : Contents ℕ) (forms : Forms ℕ) → AreFacts look forms ended.now.entries → AreWhole look forms (K.value_of known.now)
         → IfOk result (λ o. IfSome o (λ f. Meets (EndsSo look forms) [] (inst.now ∷ []) (fault_view f.kind) f.at)) }
     ensures none { (look : Contents ℕ) (forms : Forms ℕ) → AreFacts look forms ended.now.entries → AreWhole look forms (K.value_of known.now)
-        → IfOk result (λ o. IfNone o (LeadsOut (K.value_of known.now) ended.now.entries inst.now ⊎ AreFormed (EndsSo look forms) inst.now)) }
+        → IfOk result (λ o. IfNone o (LeadsOut (λ k. IsSome (K.value_of known.now k)) ended.now.entries inst.now ⊎ AreFormed (EndsSo look forms) inst.now)) }
 {
     let mut search = Search::from(alloc, inst)?;
     while let Some(next) = search.next() {
@@ -94,6 +95,7 @@ pub fn first_fault<K: Known>(
 
 // Looks at an instance: it is passed over where it was seen or is known, and seen where its equation has ended, and whether one of
 // these is so.
+#[tactic(auto, using(crate::proofs::Faultless::looks_out))]
 fn look_at<K: Known>(
     alloc: Global,
     search: &mut Search,

@@ -4,7 +4,7 @@ ghost use Rattle.std.specs.Prelude.{◌≡◌, ℕ, [], ◌∷◌, ◌++◌, IfN
 ghost use Rattle.at_model.specs.of_fixpoints.Fixpoints.{Made};
 ghost use Rattle.at_model.specs.of_fixpoints.Formulas.{Formula as Meant};
 ghost use Rattle.at_body.specs.Pieces.{asked};
-ghost use Rattle.at_search.specs.Recorded.{Recorded, copied_from};
+ghost use Rattle.at_search.specs.Recorded.{IsRecordedForm, Recorded, copied_from};
 
 use at_body::{FaultKind, Formula, Inst, Piece};
 use at_store::Loc;
@@ -33,6 +33,15 @@ impl Fault {
             kind: self.kind,
             at: self.at.copy(alloc)?,
         })
+    }
+
+    /// Its kind, and the instance whose own equation has it.
+    pub fn into_parts(self) -> (FaultKind, Inst)
+        ensures kind { result.0 ≡ self.kind }
+        ensures at { result.1 ≡ self.at }
+    {
+        let Fault { kind, at } = self;
+        (kind, at)
     }
 }
 
@@ -84,6 +93,7 @@ impl Drop for Ended {
 /// What the equation of the instance came to, where that is a formula.
 pub fn formed_of<'m>(ended: &'m IndexMap<Inst, Ended>, inst: &Inst) -> Option<&'m Formed>
     ensures some { IfSome result (λ f. Recorded ended.now.entries inst.now (Made f.now.formula)) }
+    ensures is { IfSome result (λ f. IsRecordedForm ended.now.entries inst.now f.now) }
     ensures none { IfNone result ((f : Meant ℕ) → Recorded ended.now.entries inst.now (Made f) → ⊥) }
 {
     match ended.get(inst) {

@@ -6,7 +6,7 @@ ghost use Rattle.at_model.specs.Run.{Contents};
 ghost use Rattle.at_model.specs.of_fixpoints.Formulas.{Forms};
 ghost use Rattle.at_search.specs.LedTo.{AreClosedIn};
 ghost use Rattle.at_search.specs.Recorded.{AreMarksRight};
-ghost use Rattle.at_search.specs.Solved.{AreAllTold, AreInOrder, AreRight, AreTold, AreToldOrSpoilt, HasSolved, solved_at};
+ghost use Rattle.at_search.specs.Solved.{AreAllTold, AreGroups, AreInOrder, AreRight, AreTold, AreToldOrSpoilt, HasSolved, solved_at};
 
 use crate::ended::Ended;
 use crate::system::System;
@@ -42,6 +42,7 @@ pub fn solve<K: Known>(
         → IfOk result (λ groups. AreAllTold look forms (K.value_of known.now) (keys_of seen.now.entries) groups.items) }
     ensures rest { AreClosedIn (K.value_of known.now) ended.now.entries (keys_of seen.now.entries)
         → IfOk result (λ groups. AreToldOrSpoilt (K.value_of known.now) ended.now.entries (keys_of seen.now.entries) groups.items) }
+    ensures groups { IfOk result (λ groups. AreGroups (K.value_of known.now) ended.now.entries (keys_of seen.now.entries) groups.items) }
     ensures order { IfOk result (λ groups. AreInOrder (K.value_of known.now) ended.now.entries (keys_of seen.now.entries) groups.items) }
 {
     let mut system = System::of(alloc, start, ended, known, seen)?;

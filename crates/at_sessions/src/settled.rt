@@ -2,10 +2,15 @@
 
 use crate::caches::{inst, insts, own, put_new};
 use at_body::{Inst, Value};
-use at_cache::{KeepCutOff, Keeper, Order};
+use at_cache::{KeepCutOff, KeepCutOffAtMost, Keeper, Order};
 use at_store::Loc;
 use std::alloc::Global;
 use std::process::Abort;
+
+/// More entries than a row puts, and fewer.
+const MANY: usize = 100;
+
+const FEW: usize = 4;
 
 /// What is done to a keeper.
 enum Act {
@@ -161,20 +166,86 @@ const ROWS: &[Row] = &[
     },
 ];
 
+/// Acts with a keeper that has no more than four entries in memory through an edit.
+const BOUNDED: &[Row] = &[
+    // Of five those go that aren't kept.
+    Row {
+        acts: &[
+            Act::Put(0, 5, &[]),
+            Act::Put(1, 6, &[0]),
+            Act::Touch(0),
+            Act::Put(2, 7, &[]),
+            Act::Put(3, 8, &[]),
+            Act::Put(4, 9, &[]),
+            Act::Touch(5),
+            Act::Put(0, 5, &[]),
+            Act::Settle(1),
+        ],
+        work: 0,
+        kept: &[true, false, true, true, true],
+        in_the_way: None,
+    },
+    // What is kept then is kept again.
+    Row {
+        acts: &[
+            Act::Put(2, 7, &[]),
+            Act::Touch(2),
+            Act::Put(0, 5, &[]),
+            Act::Put(1, 6, &[0]),
+            Act::Put(3, 8, &[]),
+            Act::Put(4, 9, &[]),
+            Act::Touch(0),
+            Act::Put(0, 5, &[]),
+            Act::Settle(1),
+        ],
+        work: 1,
+        kept: &[true, true, false, true, true],
+        in_the_way: None,
+    },
+    // What is left of a folding isn't.
+    Row {
+        acts: &[
+            Act::Put(0, 5, &[]),
+            Act::Put(1, 6, &[0]),
+            Act::Put(2, 7, &[]),
+            Act::Put(3, 8, &[]),
+            Act::Put(4, 9, &[0, 1]),
+            Act::Touch(0),
+            Act::Put(0, 5, &[]),
+            Act::Settle(1),
+            Act::Settle(4),
+        ],
+        work: 0,
+        kept: &[true, false, true, true, false],
+        in_the_way: None,
+    },
+];
+
+/// How much work the acts are, where the keeper keeps again what the row says.
+fn work_of<K: Keeper>(rt: &impl Abort, alloc: Global, mut keeper: K, row: &Row) -> u64 {
+    let mut work: u64 = 0;
+    for one in row.acts {
+        work = done(rt, alloc, &mut keeper, one, work);
+    }
+    for (node, kept) in row.kept.iter().enumerate() {
+        assert!(rt; keeper.get(&inst(node)).is_some() == *kept);
+    }
+    let asked = inst(row.kept.len().saturating_sub(1));
+    let found = is_node(keeper.blocker(&asked), row.in_the_way);
+    assert!(rt; found);
+    work
+}
+
 #[test]
 fn what_can_be_kept_again_is_settled(rt: HostRuntime) {
+    let alloc = rt.alloc();
     for row in ROWS {
-        let mut keeper = KeepCutOff::new(rt.alloc());
-        let mut work: u64 = 0;
-        for one in row.acts {
-            work = done(&rt, rt.alloc(), &mut keeper, one, work);
-        }
-        assert!(rt; work == row.work);
-        for (node, kept) in row.kept.iter().enumerate() {
-            assert!(rt; keeper.get(&inst(node)).is_some() == *kept);
-        }
-        let asked = inst(row.kept.len().saturating_sub(1));
-        let found = is_node(keeper.blocker(&asked), row.in_the_way);
-        assert!(rt; found);
+        assert!(rt; work_of(&rt, alloc, KeepCutOff::new(alloc), row) == row.work);
+        let bounded = KeepCutOffAtMost::new(alloc, MANY);
+        assert!(rt; work_of(&rt, alloc, bounded, row) == row.work);
+    }
+    for row in BOUNDED {
+        let bounded = KeepCutOffAtMost::new(alloc, FEW);
+        assert!(rt; work_of(&rt, alloc, bounded, row) == row.work);
     }
 }

@@ -3,14 +3,16 @@ use Rattle.std.proofs.Common.{◌≡◌, ℕ, suc, ◌+◌, ◌-◌, ◌<◌, �
 use Rattle.std.proofs.Math.Seq.{drop-cons}
 use Rattle.std.proofs.lemmas.List.{drop_all}
 use Rattle.std.proofs.lemmas.Bool.Decides.{nat_tests}
-use Rattle.std.specs.Prelude.{Bool, true, ◌&&◌, max, option_and_then}
+use Rattle.std.specs.Prelude.{Bool, true, ◌&&◌, is_some, max, nat_le, option_and_then}
 use Rattle.at_model.specs.Trees.{Tree, Cell, Node as branch, to_cells, to_trees, cells_nodes, cells_depth, cell_nodes, cell_depth, trees_nodes, trees_depth, nodes, depth}
+use Rattle.at_model.specs.Terms.{max_depth}
 use Rattle.at_model.specs.Edits.{tokens_short, cell_tokens_short, cells_tokens_short, trees_tokens_short}
 use Rattle.at_tree.specs.TreeView.{see_tree, see_cell, tree_view, cell_view}
 use Rattle.at_tree.specs.declared.tree.Tree.{Tree as TreeValue, out-Tree}
 use Rattle.at_tree.specs.declared.tree.Cell.{Cell as CellValue}
 use Rattle.at_tree.specs.declared.tree.Cell.TheFolds.{fold_out-Tree}
 use Rattle.at_store.specs.Spending.{left_of, left_by_tree, left_by_cell, left_by_trees}
+use Rattle.at_store.specs.Told.{room}
 
 pub left_joined : (n m d e : ℕ) (s t : Bool) (r l : ℕ) → left_of (n + m) (max d e) (s && t) r l ≡ option_and_then (λ q. left_of m e t q l) (left_of n d s r l)
 left_joined n m d e s t r l = grind (arith, nat_tests)
@@ -75,3 +77,19 @@ left_by_none t room levels none =
     ∙ left_none (cells_nodes (to_cells (map cell_view (out-Tree t).cells.items)))
     (cells_depth (to_cells (map cell_view (out-Tree t).cells.items)))
     (cells_tokens_short (to_cells (map cell_view (out-Tree t).cells.items))) room levels none
+
+left_beside : (n d others level most deep : ℕ) (s : Bool) → is_some (left_of (1 + n) (1 + d) s (most - others) (deep - level))
+    ≡ (nat_le (others + (1 + n)) most && nat_le (level + (1 + d)) deep && s)
+left_beside n d others level most deep s = grind (arith, nat_tests)
+
+fewer_beside : (n d others level most deep size : ℕ) (s : Bool) → (nat_le (others + n) most && nat_le (level + d) deep && s) ≡ true
+    → (nat_le (others - size + n) most && nat_le (level + d) deep && s) ≡ true
+fewer_beside n d others level most deep size s h = grind (arith, nat_tests, h)
+
+-- where there is room beside some nodes there is beside fewer
+pub room_beside_fewer : (most others size level : ℕ) (t : Tree) → room most others level t ≡ true → room most (others - size) level t ≡ true
+room_beside_fewer most others size level t h = fewer_beside (nodes t) (depth t) others level most max_depth size (tokens_short t) h
+
+-- beside so many nodes and below so many levels anything is left by a tree for which there is room
+pub left_in_room : (most others level : ℕ) (t : Tree) → is_some (left_by_tree t (most - others) (max_depth - level)) ≡ room most others level t
+left_in_room most others level (branch k cells) = left_beside (cells_nodes cells) (cells_depth cells) others level most max_depth (cells_tokens_short cells)

@@ -1,6 +1,6 @@
 //! The limits of a tree.
 ghost use Rattle.std.specs.Prelude.{◌≡◌, ◌≤◌, IfSome, None, Some, cond, is_some, map, not};
-ghost use Rattle.at_model.specs.Edits.{cell_tokens_short, is_short, is_within_nodes, tokens_short, trees_tokens_short};
+ghost use Rattle.at_model.specs.Edits.{is_short, is_within_nodes};
 ghost use Rattle.at_model.specs.Trees.{nodes, to_trees};
 ghost use Rattle.at_tree.specs.Token.{token_view};
 ghost use Rattle.at_tree.specs.TreeView.{cell_view, tree_view};
@@ -41,7 +41,7 @@ pub(crate) fn nodes_within_limits(tree: &Tree, limit: usize) -> Option<usize>
 /// How many more nodes may come after the tree, where so many may come with it, on so many levels; `None` where there
 /// are too many nodes or levels, or a text is too long.
 #[cycle(spending)]
-fn left_after(tree: &Tree, room: usize, levels: usize) -> Option<usize>
+pub(crate) fn left_after(tree: &Tree, room: usize, levels: usize) -> Option<usize>
     ensures { result ≡ left_by_tree (tree_view tree.now) room levels }
 {
     if room == 0 || levels == 0 {
@@ -82,44 +82,6 @@ fn left_after_token(value: &TokVal, room: usize) -> Option<usize>
     ensures { result ≡ cond (is_short (token_view value.now)) (Some room) None }
 {
     if is_long(value) { None } else { Some(room) }
-}
-
-/// Whether a text among the tokens of the tree is too long.
-#[cycle(searching)]
-pub(crate) fn has_long_token(tree: &Tree) -> bool
-    ensures { tokens_short (tree_view tree.now) ≡ not result }
-{
-    for cell in &tree.cells {
-        if cell_has_long_token(cell) {
-            return true;
-        }
-    }
-    false
-}
-
-#[cycle(searching)]
-fn cell_has_long_token(cell: &Cell) -> bool
-    ensures { cell_tokens_short (cell_view cell.now) ≡ not result }
-{
-    match cell {
-        Cell::One(tree) => has_long_token(tree),
-        Cell::Many(trees) => list_has_long_token(trees),
-        Cell::Filled(tree) => has_long_token(tree),
-        Cell::Empty => false,
-        Cell::Tok(value) => is_long(value),
-    }
-}
-
-#[cycle(searching)]
-fn list_has_long_token(trees: &[Tree]) -> bool
-    ensures { trees_tokens_short (to_trees (map tree_view trees.now)) ≡ not result }
-{
-    for tree in trees {
-        if has_long_token(tree) {
-            return true;
-        }
-    }
-    false
 }
 
 /// Whether the value is a text that is too long.

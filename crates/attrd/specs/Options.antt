@@ -1,6 +1,6 @@
 -- What the words of the command line ask for.
 use Rattle.std.specs.Prelude.{◌≡◌, ◌⊎◌, ◌≤◌, ◌<◌, ℕ, Bool, true, false, List, length, map, Option}
-use Rattle.std.specs.Prelude.{◌&&◌, Some, None, IfSome, codes, is_some, option_map}
+use Rattle.std.specs.Prelude.{Some, IfSome, codes, is_some, option_map}
 use Rattle.std.specs.Option.{option_map_or}
 use Rattle.std.specs.Str.{bytes_eq}
 use Rattle.std.specs.Str.Parse.{IsNumeral, digits_value, without_leading_plus}
@@ -41,10 +41,6 @@ IsUsable o = (0 < length o.aspects.items) × IsUpTo max_connections o.connection
 abbrev pub IsSized : Options → Type 0
 IsSized o = IfSome o.nodes (IsUpTo max_nodes_asked)
 
--- no bound is asked for where what an edit may have changed is kept
-abbrev pub IsApart : Options → Type 0
-IsApart o = o.cut_off ≡ true → o.keep ≡ None
-
 -- ---- the values of the words
 
 -- the number that a text spells
@@ -58,10 +54,6 @@ number_asked text = option_map_or number text 1
 -- whether a flag is there: its value is `true` then, and `false` else
 abbrev pub is_set : Option Text → Bool
 is_set text = option_map_or (λ t. bytes_eq t (codes "true")) text false
-
--- whether the words that exclude each other are both there
-abbrev pub are_both : List Row → Bool
-are_both rows = is_set (one_of (codes "cut-off") rows) && is_some (one_of (codes "keep") rows)
 
 -- the options are the values of the words, which stand in rows, one for each name
 pub record HasValues (rows : List Row) (o : Options) : Type 0 where
@@ -77,10 +69,9 @@ pub record HasValues (rows : List Row) (o : Options) : Type 0 where
   pub tree : Some (string_bytes o.tree) ≡ first_of (codes "TREE") rows
   pub aspects : Some (map string_bytes o.aspects.items) ≡ all_of (codes "ASPECT") rows
 
--- the command line takes the words, none of which excludes another, and the options are their values
+-- the command line takes the words, and the options are their values
 pub record Asks (words : List Text) (o : Options) : Type 0 where
   pub taken : takes command_line words ≡ true
-  pub apart : are_both (matches_of command_line words) ≡ false
   pub values : HasValues (matches_of command_line words) o
 
 -- ---- what is known of the words once they are matched

@@ -14,8 +14,9 @@
 ghost use Rattle.std.specs.Prelude.{◌≡◌, None, IfOk, IfSome, option_map};
 ghost use Rattle.std.specs.Option.{unwrap_or};
 ghost use Rattle.at_model.specs.Edits.{usual_nodes};
-ghost use Rattle.at_cache.specs.Bound.{kept_by};
+ghost use Rattle.at_cache.specs.Bound.{bounded_by, kept_by, remembered_by};
 ghost use Rattle.at_cache.specs.Kept.{KeepsAll};
+ghost use Rattle.at_cache.specs.Traced.{TracesNothing};
 ghost use Rattle.at_engine.specs.Engines.{IsSound, KeepsNothing};
 ghost use Rattle.at_start.specs.Starts.{IsFaultOf};
 
@@ -25,7 +26,7 @@ mod options;
 mod serving;
 mod socket;
 
-use at_cache::{KeepAtMost, KeepCutOff, KeepRecorded, Keeper};
+use at_cache::{KeepAtMost, KeepCutOff, KeepCutOffAtMost, KeepRecorded, Keeper};
 use at_engine::{Engine, Output, Watched};
 use at_start::{
     Answered, Files, MAX_FILE, Source, StartFault, USUAL_NODES, answer, start_with, tree_bytes,
@@ -71,8 +72,7 @@ fn serve_words(rt: &HostRuntime, work: &mut Option<u64>) -> Result<(), Failure> 
     let options = asked(rt)?;
     let mut files = read_files(rt, &options)?;
     if options.cut_off {
-        let keeper = KeepCutOff::new(rt.alloc());
-        return serve_over(rt, &options, &mut files, keeper, work);
+        return serve_cutting(rt, &options, &mut files, work);
     }
     match bounded(rt.alloc(), &options) {
         Some(keeper) => serve_over(rt, &options, &mut files, keeper, work),
@@ -86,6 +86,19 @@ fn serve_words(rt: &HostRuntime, work: &mut Option<u64>) -> Result<(), Failure> 
     }
 }
 
+/// Serves what is asked for over an empty keeper with cut-off, and notes the engine's work, where that is asked for, too.
+fn serve_cutting(
+    rt: &HostRuntime,
+    options: &Options,
+    files: &mut Files,
+    work: &mut Option<u64>,
+) -> Result<(), Failure> {
+    match bounded_cutting(rt.alloc(), options) {
+        Some(keeper) => serve_over(rt, options, files, keeper, work),
+        None => serve_over(rt, options, files, KeepCutOff::new(rt.alloc()), work),
+    }
+}
+
 /// An empty keeper with the bound that is asked for, where there is one.
 fn bounded(alloc: Global, options: &Options) -> Option<KeepAtMost>
     ensures bound { option_map (λ k. k.most) result ≡ options.now.keep }
@@ -93,6 +106,18 @@ fn bounded(alloc: Global, options: &Options) -> Option<KeepAtMost>
 {
     match options.keep {
         Some(most) => Some(KeepAtMost::new(alloc, most as usize)),
+        None => None,
+    }
+}
+
+/// The same with cut-off.
+fn bounded_cutting(alloc: Global, options: &Options) -> Option<KeepCutOffAtMost>
+    ensures bound { option_map (λ k. k.most) result ≡ options.now.keep }
+    ensures empty { IfSome result (λ k. KeepsAll (λ _. None) (bounded_by k)) }
+    ensures traces { IfSome result (λ k. TracesNothing (remembered_by k)) }
+{
+    match options.keep {
+        Some(most) => Some(KeepCutOffAtMost::new(alloc, most as usize)),
         None => None,
     }
 }

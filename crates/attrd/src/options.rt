@@ -17,7 +17,7 @@ pub struct Options {
     pub connections: u16,
     /// How many turns are given to open questions behind each line.
     pub slice: u32,
-    /// How many entries an edit may find kept without that some are folded; any number where there is none.
+    /// How many entries an edit may find kept, or with `cut_off` in memory, without that some go; any number where there is none.
     pub keep: Option<u32>,
     /// How many nodes the tree may have: 1 to 16,777,216.
     pub nodes: Option<u32>,

@@ -7,7 +7,9 @@
 
 ghost use Rattle.at_engine.specs.Engines.{KeepsNothing};
 
-use at_cache::{KeepAtMost, KeepCutOff, KeepNone, KeepRecorded, KeepUntilEdit, Keeper};
+use at_cache::{
+    KeepAtMost, KeepCutOff, KeepCutOffAtMost, KeepNone, KeepRecorded, KeepUntilEdit, Keeper,
+};
 use at_engine::{RunFault, Watched};
 use at_start::{Files, MAX_FILE, Source, StartFault, USUAL_NODES, answer};
 use std::alloc::{AllocError, AllocFailed};
@@ -16,7 +18,7 @@ use std::io::{ErrorKind, Read};
 use std::process::ExitCode;
 use std::{env, io};
 
-/// How many entries the keeper with a bound may have from one edit to the next: so few that edits fold what is kept.
+/// How many entries a keeper with a bound may have from one edit to the next: so few that edits fold what is kept.
 const FEW: usize = 4;
 
 /// Why lines weren't answered to their end.
@@ -70,6 +72,12 @@ fn serve(rt: &HostRuntime) -> Result<(), Stop> {
         "over-edits" => serve_with(rt, slice, &mut files, KeepRecorded::new(rt.alloc())),
         "few" => serve_with(rt, slice, &mut files, KeepAtMost::new(rt.alloc(), FEW)),
         "cut-off" => serve_with(rt, slice, &mut files, KeepCutOff::new(rt.alloc())),
+        "few-cut-off" => serve_with(
+            rt,
+            slice,
+            &mut files,
+            KeepCutOffAtMost::new(rt.alloc(), FEW),
+        ),
         _ => Err(Stop::Fault),
     }
 }

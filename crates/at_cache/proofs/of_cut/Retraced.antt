@@ -27,7 +27,7 @@ use Rattle.at_cache.proofs.Ending.{has, is_in, on_right}
 use Rattle.at_cache.proofs.of_cut.HeldSlots.{entry_in, slot_of}
 use Rattle.at_cache.proofs.Taking.{none_in}
 
-abbrev traced_of : (lists : Location ℕ → List Edge) → Memory → (slot : ℕ) → Bool → Info → Option Trace
+abbrev pub traced_of : (lists : Location ℕ → List Edge) → Memory → (slot : ℕ) → Bool → Info → Option Trace
 traced_of lists m s b e = if b then option_map (trace_of lists m s e) e.value else None
 
 -- what is remembered of the entry in a slot
@@ -74,7 +74,7 @@ traced_in lists t st j trace traced = by (lookup (same_instance j) t.entries.ent
         (λ (x : Entry). trace_at lists st (memory_of t) x.slot) o) none) ∙ traced))
     by (Some x) found = let (f, there, is) = slot_of t j x found in (x.slot, f, there, is)
 
-abbrev names : Option Info → List (Instance ℕ)
+abbrev pub names : Option Info → List (Instance ℕ)
 names o = elim o as (λ _. List (Instance ℕ)) [ None ↦ [] | Some e ↦ e.instance ∷ [] ]
 
 -- of which slot an instance is

@@ -178,7 +178,7 @@ module _ {into : ℕ → List ℕ} where
       below k less differs = elim (cases_lt k n) [ inl is ↦ is | inr over ↦ absurd (differs (omega (arith, less, over))) ]
 
 -- an entry's slot is one of those of the slab
-slot_within : (t : Table) (k : ℕ) (f : Info) → memory_of t k ≡ Some f → k < length t.places.slots
+pub slot_within : (t : Table) (k : ℕ) (f : Info) → memory_of t k ≡ Some f → k < length t.places.slots
 slot_within t k f h = elim (cases_lt k (length t.places.slots)) [
   | inl is ↦ is
   | inr over ↦ absurd (none-some f (sym (ap (option_map info) (at_none t.entries.entries (get t.places) k (past t.places.slots k over))) ∙ h))

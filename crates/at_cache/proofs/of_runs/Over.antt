@@ -152,7 +152,23 @@ goes_both {later = later} {o = o} is a b old start w =
     let (rest, ended, then_asked) = b old (start ++ edges) done in
     (edges ++ rest, subst (λ es. Work old es [] later o) (append_assoc start edges rest) ended, asked_both is asked then_asked)
 
+-- there is no edge of a node past all that were looked at
+beyond : (rs : AllReaders) (number : ℕ) → length rs.own.items ≤ number → length rs.seats.items ≤ number → (l : Location ℕ) → number ≤ node_at l
+    → edges_to rs l ≡ []
+beyond rs number own seats l more =
+    let a : length rs.own.items ≤ node_at l = omega (arith, own, more) in
+    let b : length rs.seats.items ≤ node_at l = omega (arith, seats, more) in
+    ap (λ es. es ++ edges_over rs.seats.items rs.runs.items l) (no_edges rs.own.items l (slice_get_past rs.own.items (node_at l) a))
+    ∙ over_none rs.seats.items rs.runs.items l (slice_get_past rs.seats.items (node_at l) b)
+
 module _ {says : Location ℕ → Bool → Type 0} (rs : AllReaders) where
+  -- no node was ever looked at
+  pub goes_unread : (count : ℕ) → length rs.own.items ≤ count → length rs.seats.items ≤ count → count ≡ 0
+      → {seen : Location ℕ → Bool} (first : Option ℕ) (m : Memory) → GoesOn says seen (edges_to rs) first m first m
+  goes_unread count own seats none first m = goes_nowhere first m (λ l h x c.
+      let all : count ≤ node_at l = omega (arith, none) in
+      none_in x (subst (λ es. Contains es x) (beyond rs count own seats l all) c))
+
   -- no node yet
   pub goes_first : (first : Option ℕ) (m : Memory) → GoesOn says (λ l. nat_lt (node_at l) 0) (edges_to rs) first m first m
   goes_first first m = goes_nowhere first m (λ l h. absurd (let less = ltb-true (node_at l) 0 h in omega (arith, less)))
@@ -178,17 +194,10 @@ module _ {says : Location ℕ → Bool → Type 0} (rs : AllReaders) where
       let (start, work, asked) = goes m [] (begun m idle) in
       (start, work, record { from = asked.from; all = λ l. by l start asked (nat_lt (node_at l) number) refl })
     where
-      beyond : (l : Location ℕ) → number ≤ node_at l → edges_to rs l ≡ []
-      beyond l more =
-          let a : length rs.own.items ≤ node_at l = omega (arith, own, more) in
-          let b : length rs.seats.items ≤ node_at l = omega (arith, seats, more) in
-          ap (λ es. es ++ edges_over rs.seats.items rs.runs.items l) (no_edges rs.own.items l (slice_get_past rs.own.items (node_at l) a))
-          ∙ over_none rs.seats.items rs.runs.items l (slice_get_past rs.seats.items (node_at l) b)
-
       by : (l : Location ℕ) (start : List Edge) → Asked says (λ k. nat_lt (node_at k) number) (edges_to rs) start → (b : Bool) → nat_lt (node_at l) number ≡ b
           → says l false ⊎ ((x : Edge) → Contains (edges_to rs l) x → Contains start x)
       by l start asked true h = asked.all l h
-      by l start asked false h = inr (λ x c. absurd (none_in x (subst (λ es. Contains es x) (beyond l (past (node_at l) number h)) c)))
+      by l start asked false h = inr (λ x c. absurd (none_in x (subst (λ es. Contains es x) (beyond rs number own seats l (past (node_at l) number h)) c)))
         where
           past : (a b : ℕ) → nat_lt a b ≡ false → b ≤ a
           past a b off = elim (cases_lt a b) [ inl less ↦ absurd (let on = lt-ltb a b less in cc) | inr more ↦ more ]

@@ -4,15 +4,20 @@ use Rattle.at_model.specs.Trees.{Tree}
 use Rattle.at_model.specs.Paths.{Node, node_eq}
 use Rattle.at_model.specs.Run.{Instance, Location, Contents}
 use Rattle.at_model.specs.Rules.{Rules, is_lazy}
-use Rattle.at_model.specs.Meaning.{Equations, Among, Distinct, content, equations}
-use Rattle.at_model.specs.Alike.{InstanceLike, Names, IsInjective, EquationsLike, AlikeAt}
+use Rattle.at_model.specs.Meaning.{Among, Distinct, Finds, content}
+use Rattle.at_model.specs.Alike.{InstanceLike, Names, IsInjective, AlikeAt}
+use Rattle.at_model.specs.of_fixpoints.Evaluations.{forms}
+use Rattle.at_model.specs.of_fixpoints.Fixpoints.{Holds}
+use Rattle.at_model.specs.of_fixpoints.Formulas.{Forms}
+use Rattle.at_model.specs.of_fixpoints.Likeness.{FormsLike}
 use Rattle.at_model.specs.Sparing.{IsWorthKeeping, AreAdded}
 use Rattle.at_demand.specs.Known.{meaning}
 use Rattle.at_demand.specs.Sparing.{IsWorthKeeping as IsWorth}
 use Rattle.at_model.proofs.of_likeness.CarryingCircles.{instance-agrees, names_agree}
-use Rattle.at_model.proofs.of_likeness.EquationsAlike.{evaluation-like}
+use Rattle.at_model.proofs.of_formulas.CarriedByFormulas.{outcome_back, outcome_there, leads_back, leads_there}
+use Rattle.at_model.proofs.of_formulas.EndsAlike.{found_back, found_like}
+use Rattle.at_model.proofs.of_formulas.FormulasAlike.{evaluation-like}
 use Rattle.at_model.proofs.Nodes.{same_like, nat_eq-is, node_eq-is}
-use Rattle.at_model.proofs.of_likeness.AlikeBack.{value_on, value_back, leads_on, leads_back}
 use Rattle.at_demand.proofs.Naming.{AreNamed, name_all}
 
 -- what instances by numbers are called
@@ -20,13 +25,13 @@ abbrev pub Called : (ℕ → Option Node) → (Instance ℕ → Type 0) → Inst
 Called path Kept j = (i : Instance ℕ) × Kept i × InstanceLike (Names path) i j
 
 module _ (rules : Rules) (look : Contents ℕ) (t : Tree) (path : ℕ → Option Node) (named_once : IsInjective path) (alike : (l : Location ℕ) → AlikeAt (Names path) look (content t) l) where
-  abbrev means : Equations ℕ
+  abbrev means : Forms ℕ
   means = meaning rules
 
   abbrev Like : Instance ℕ → Instance Node → Type 0
   Like = InstanceLike (Names path)
 
-  like : EquationsLike (Names path) means (equations rules)
+  like : FormsLike (Names path) means (forms rules)
   like = evaluation-like rules nat_eq node_eq (same_like nat_eq node_eq nat_eq-is node_eq-is path named_once)
 
   pub one_path : (i : Instance ℕ) (j k : Instance Node) → Like i j → Like i k → j ≡ k
@@ -39,15 +44,37 @@ module _ (rules : Rules) (look : Contents ℕ) (t : Tree) (path : ℕ → Option
   module _ (q : Instance ℕ) (p : Instance Node) (asked : Like q p) where
     pub worth_on : (i : Instance ℕ) → IsWorth rules look q i → (j : Instance Node) × Like i j × IsWorthKeeping rules t p j
     worth_on i w =
-        let (j, s, leads) = leads_on look (content t) means (equations rules) like alike q p i asked w.reached in
-        let (v, has, same) = value_on look (content t) means (equations rules) like alike i j w.value s w.has in
-        (j, s, record { reached = leads; lazy = ap (is_lazy rules) (sym s.attribute) ∙ w.lazy; value = v; has = has })
+        let (j, (s, more), leads) = leads_there (names_agree path named_once) look (content t) means (forms rules) like q i p
+        (asked, λ l h. alike l) w.reached in
+        let (o, g, same) = outcome_there (names_agree path named_once) look (content t) means (forms rules) like i j
+        (Finds w.value) (s, λ l h. alike l) w.has in
+        let (v, is, u) = found_like w.value same refl in (
+          j,
+          s,
+          record {
+            reached = leads;
+            lazy = ap (is_lazy rules) (sym s.attribute) ∙ w.lazy;
+            value = v;
+            has = subst (Holds (content t) (forms rules) j) is g;
+          },
+        )
 
     pub worth_back : (j : Instance Node) → IsWorthKeeping rules t p j → (i : Instance ℕ) × Like i j × IsWorth rules look q i
     worth_back j w =
-        let (i, s, leads) = leads_back look (content t) means (equations rules) like alike q p j asked w.reached in
-        let (v, has, same) = value_back look (content t) means (equations rules) like alike i j w.value s w.has in
-        (i, s, record { reached = leads; lazy = ap (is_lazy rules) s.attribute ∙ w.lazy; value = v; has = has })
+        let (i, (s, more), leads) = leads_back (names_agree path named_once) look (content t) means (forms rules) like q p j
+        (asked, λ l h. alike l) w.reached in
+        let (o, g, same) = outcome_back (names_agree path named_once) look (content t) means (forms rules) like i j
+        (Finds w.value) (s, λ l h. alike l) w.has in
+        let (v, is, u) = found_back w.value same refl in (
+          i,
+          s,
+          record {
+            reached = leads;
+            lazy = ap (is_lazy rules) s.attribute ∙ w.lazy;
+            value = v;
+            has = subst (Holds look means i) is g;
+          },
+        )
 
     module _ (Old New : Instance ℕ → Type 0) where
       -- where just what is worth it comes, so it does by paths

@@ -4,14 +4,18 @@ use Rattle.at_model.specs.Trees.{Tree}
 use Rattle.at_model.specs.Paths.{Node, node_eq}
 use Rattle.at_model.specs.Run.{Value, Instance, Location, Is, Tok, Slot, Up, Idx, Contents}
 use Rattle.at_model.specs.Rules.{Rules}
-use Rattle.at_model.specs.Meaning.{Equations, Finds, HasValue, content, equations}
-use Rattle.at_model.specs.Support.{Supports}
-use Rattle.at_model.specs.Alike.{neither, both, ListLike, end, more, ValueLike, int, truth, text, ref, InstanceLike, LocationLike, is, tok, slot, up, idx, Names, IsInjective, EquationsLike, AlikeAt}
+use Rattle.at_model.specs.Meaning.{content}
+use Rattle.at_model.specs.of_fixpoints.Evaluations.{forms}
+use Rattle.at_model.specs.of_fixpoints.Fixpoints.{HasValue}
+use Rattle.at_model.specs.of_fixpoints.Formulas.{Forms}
+use Rattle.at_model.specs.of_fixpoints.Likeness.{FormsLike}
+use Rattle.at_model.specs.of_fixpoints.Resting.{IsUntouched, Supports}
+use Rattle.at_model.specs.Alike.{neither, both, ListLike, end, more, ValueLike, int, truth, text, ref, InstanceLike, LocationLike, is, tok, slot, up, idx, Names, IsInjective, AlikeAt}
 use Rattle.at_model.specs.Edits.{Edit, carried}
 use Rattle.at_model.specs.Touches.{touches}
-use Rattle.at_model.specs.Sparing.{IsUntouched}
-use Rattle.at_model.proofs.of_likeness.CarryingSupport.{supports_here, supports_there}
-use Rattle.at_model.proofs.of_likeness.EquationsAlike.{evaluation-like}
+use Rattle.at_model.proofs.of_likeness.CarryingCircles.{names_agree}
+use Rattle.at_model.proofs.of_formulas.CarriedByFormulas.{supports_back, supports_there}
+use Rattle.at_model.proofs.of_formulas.FormulasAlike.{evaluation-like}
 use Rattle.at_model.proofs.Nodes.{same_like, nat_eq-is, node_eq-is}
 use Rattle.at_demand.specs.Known.{meaning}
 use Rattle.at_demand.proofs.of_keeping.CalledAsked.{Called}
@@ -61,13 +65,13 @@ one_location path (idx r) (idx s) = ap Idx (same_name _ _ _ r s)
 
 module _ (rules : Rules) (e : Edit) (t : Tree) (look : Contents ℕ) (path later : ℕ → Option Node) (named_once : IsInjective path) (alike : (l : Location ℕ) → AlikeAt (Names path) look (content t) l)
     (goes : (k : ℕ) (n : Node) → path k ≡ Some n → later k ≡ carried e n) where
-  abbrev means : Equations ℕ
+  abbrev means : Forms ℕ
   means = meaning rules
 
   abbrev Like : Instance ℕ → Instance Node → Type 0
   Like = InstanceLike (Names path)
 
-  like : EquationsLike (Names path) means (equations rules)
+  like : FormsLike (Names path) means (forms rules)
   like = evaluation-like rules nat_eq node_eq (same_like nat_eq node_eq nat_eq-is node_eq-is path named_once)
 
   -- the edit touches nothing that supports the instance
@@ -80,13 +84,14 @@ module _ (rules : Rules) (e : Edit) (t : Tree) (look : Contents ℕ) (path later
 
     free_there : (i : Instance ℕ) (j : Instance Node) → Like i j → Old i → IsFree i → IsUntouched rules t e j
     free_there i j s old free m rests =
-        let (v, has) = valued i old in
-        let (l, u, before) = supports_here look (content t) means (equations rules) like i j (Finds v) m has (λ l h. alike l) s rests in
+        let (l, u, before) = supports_back (names_agree path named_once) look (content t) means (forms rules) like i j m
+        (s, λ l h. alike l) rests in
         free l before m u
 
     free_here : (i : Instance ℕ) (j : Instance Node) → Like i j → IsUntouched rules t e j → IsFree i
     free_here i j s free l rests m u =
-        let (n, w, after) = supports_there look (content t) means (equations rules) like i j l s (λ l h. alike l) rests in
+        let (n, w, after) = supports_there (names_agree path named_once) look (content t) means (forms rules) like i j l
+        (s, λ l h. alike l) rests in
         subst (λ x. touches e x ≡ false) (one_location path w u) (free n after)
 
     -- just what isn't touched stays, under the paths to which its nodes are carried

@@ -5,12 +5,19 @@ use Rattle.at_model.specs.Trees.{Tree, conforms}
 use Rattle.at_model.specs.Paths.{Node, node_eq}
 use Rattle.at_model.specs.Run.{Value, Instance, Location}
 use Rattle.at_model.specs.Rules.{Rules, is_lazy}
-use Rattle.at_model.specs.Meaning.{HasValue, Leads, Among, content, equations}
-use Rattle.at_model.specs.Alike.{InstanceLike, Names, IsInjective, EquationsLike, AlikeAt}
+use Rattle.at_model.specs.Meaning.{Among, Finds, content}
+use Rattle.at_model.specs.of_fixpoints.Evaluations.{forms}
+use Rattle.at_model.specs.of_fixpoints.Fixpoints.{HasValue, Holds}
+use Rattle.at_model.specs.of_fixpoints.Likeness.{FormsLike}
+use Rattle.at_model.specs.of_fixpoints.Resting.{Leads}
+use Rattle.at_model.specs.Alike.{InstanceLike, Names, IsInjective, AlikeAt}
 use Rattle.at_model.specs.Edits.{Edit, edited}
 use Rattle.at_model.specs.Machine.{State, Asks, Edits}
 use Rattle.at_model.specs.Sparing.{AreWellKept}
-use Rattle.at_model.proofs.of_likeness.EquationsAlike.{evaluation-like}
+use Rattle.at_model.proofs.of_likeness.CarryingCircles.{Agrees, names_agree}
+use Rattle.at_model.proofs.of_formulas.CarriedByFormulas.{outcome_there, leads_back}
+use Rattle.at_model.proofs.of_formulas.EndsAlike.{found_like}
+use Rattle.at_model.proofs.of_formulas.FormulasAlike.{evaluation-like}
 use Rattle.at_model.proofs.Nodes.{same_like, nat_eq-is, node_eq-is}
 use Rattle.at_store.specs.Shown.{Shown, IsIdle, contents, numbers, path, tree}
 use Rattle.at_store.specs.Memory.{class_in}
@@ -24,7 +31,6 @@ use Rattle.at_demand.specs.Right.{AreRight}
 use Rattle.at_demand.specs.Sparing.{AreSpare, IsWorthKeeping, AddsWorthy, HasWorthy, Counts}
 use Rattle.at_demand.specs.Spared.{IsUntouched, LeavesJust}
 use Rattle.at_demand.specs.Called.{KeptBy, Keeps}
-use Rattle.at_model.proofs.of_likeness.AlikeBack.{value_on, leads_back}
 use Rattle.at_demand.proofs.Entered.{entered, kept_on, not_none, there as value_kept}
 use Rattle.at_demand.proofs.of_keeping.CalledAsked.{called_after, called_added}
 use Rattle.at_demand.proofs.of_keeping.CalledEdited.{called_edited}
@@ -50,7 +56,10 @@ module _ (rules : Rules) (s : Shown) (idle : IsIdle s) where
   alike : (l : Location ℕ) → AlikeAt (Names (path s)) (contents s) (content (tree s)) l
   alike = contents_alike (class_in (memory_of s.slab)) (numbers s) idle.keeps.apart
 
-  like : EquationsLike (Names (path s)) (meaning rules) (equations rules)
+  agree : Agrees (Names (path s))
+  agree = names_agree (path s) once
+
+  like : FormsLike (Names (path s)) (meaning rules) (forms rules)
   like = evaluation-like rules nat_eq node_eq (same_like nat_eq node_eq nat_eq-is node_eq-is (path s) once)
 
   -- what is kept is lazy, has a value and is deep, by paths too
@@ -60,15 +69,18 @@ module _ (rules : Rules) (s : Shown) (idle : IsIdle s) where
       lazy : (j : Instance Node) → KeptBy s entries j → is_lazy rules j.attribute ≡ true
       lazy j (i, some, u) = ap (is_lazy rules) (sym u.attribute) ∙ spare.lazy i some
 
-      valued : (j : Instance Node) → KeptBy s entries j → (w : Value Node) × HasValue (content (tree s)) (equations rules) j w
+      valued : (j : Instance Node) → KeptBy s entries j → (w : Value Node) × HasValue (content (tree s)) (forms rules) j w
       valued j (i, some, u) =
           let (v, is) = value_kept (kept_values entries i) some in
-          let (w, has, same) = value_on (contents s) (content (tree s)) (meaning rules) (equations rules) like alike i j v u (right.values i v is) in
-          (w, has)
+          let (o, g, same) = outcome_there agree (contents s) (content (tree s)) (meaning rules) (forms rules) like i j
+          (Finds v) (u, λ l h. alike l) (right.values i v is) in
+          let (w, found, l) = found_like v same refl in
+          (w, subst (Holds (content (tree s)) (forms rules) j) found g)
 
-      deep : (j m : Instance Node) → KeptBy s entries j → Leads (content (tree s)) (equations rules) j m → is_lazy rules m.attribute ≡ true → KeptBy s entries m
+      deep : (j m : Instance Node) → KeptBy s entries j → Leads (content (tree s)) (forms rules) j m → is_lazy rules m.attribute ≡ true → KeptBy s entries m
       deep j m (i, some, u) leads is =
-          let (k, v, led) = leads_back (contents s) (content (tree s)) (meaning rules) (equations rules) like alike i j m u leads in
+          let (k, (v, more), led) = leads_back agree (contents s) (content (tree s)) (meaning rules) (forms rules) like i j m
+          (u, λ l h. alike l) leads in
           (k, spare.deep i k (entered entries i some) led (ap (is_lazy rules) v.attribute ∙ is), v)
 
   -- a question adds what is worth keeping, and its work is the number of these

@@ -4,14 +4,21 @@ use Rattle.at_model.specs.Classes.{Classes}
 use Rattle.at_model.specs.Trees.{Tree, conforms}
 use Rattle.at_model.specs.Paths.{Node, node_eq, tree_at}
 use Rattle.at_model.specs.Run.{Value, Ref, Instance, Location, Is, Tok, Slot, Up, Idx, Run, Contents}
-use Rattle.at_model.specs.Rules.{Rules, past_arguments, evaluation}
-use Rattle.at_model.specs.Meaning.{Equations, HasValue, Finds, Leads, content, equations}
-use Rattle.at_model.specs.Support.{Sees, Supports}
-use Rattle.at_model.specs.Alike.{OptionLike, neither, both, ListLike, end, more, ValueLike, int, truth, text, ref, InstanceLike, LocationLike, is, tok, slot, up, idx, EquationsLike, Names, IsInjective, AlikeAt, AlikeBelow}
+use Rattle.at_model.specs.Rules.{Rules, past_arguments}
+use Rattle.at_model.specs.Meaning.{Finds, content}
+use Rattle.at_model.specs.Support.{Sees}
+use Rattle.at_model.specs.of_fixpoints.Evaluations.{evaluation, forms}
+use Rattle.at_model.specs.of_fixpoints.Fixpoints.{HasValue, Holds}
+use Rattle.at_model.specs.of_fixpoints.Formulas.{Forms}
+use Rattle.at_model.specs.of_fixpoints.Likeness.{AlikeBelow, FormsLike}
+use Rattle.at_model.specs.of_fixpoints.Resting.{Leads, stays, Supports}
+use Rattle.at_model.specs.Alike.{OptionLike, neither, both, ListLike, end, more, ValueLike, int, truth, text, ref, InstanceLike, LocationLike, is, tok, slot, up, idx, Names, IsInjective, AlikeAt}
 use Rattle.at_model.specs.Edits.{Edit, carried, edited}
 use Rattle.at_model.specs.Touches.{touches}
-use Rattle.at_model.proofs.of_likeness.EquationsAlike.{evaluation-like}
-use Rattle.at_model.proofs.of_likeness.CarryingSupport.{carried_value, leads_here, supports_here, supports_there}
+use Rattle.at_model.proofs.of_likeness.CarryingCircles.{Agrees, names_agree}
+use Rattle.at_model.proofs.of_formulas.CarriedByFormulas.{outcome_there, leads_back, supports_back, supports_there}
+use Rattle.at_model.proofs.of_formulas.EndsAlike.{found_like}
+use Rattle.at_model.proofs.of_formulas.FormulasAlike.{evaluation-like}
 use Rattle.at_model.proofs.Nodes.{same_like, nat_eq-is, node_eq-is}
 use Rattle.at_model.proofs.of_edits.Edited.{edited_alike, gone_where_touched}
 
@@ -64,7 +71,7 @@ module _ {R : ℕ → ℕ → Type 0} (same : (a b : ℕ) → R a b → a ≡ b)
       ap (λ n. instance n i.attribute i.arguments) (same _ _ s.node) ∙ ap (λ a. instance j.node a i.arguments) s.attribute ∙ ap (λ vs. instance j.node j.attribute vs) (same_values s.arguments)
 
 -- what looks at the nodes among the arguments
-arguments_stay : (path : ℕ → Option Node) (e : Edit) (look : Contents ℕ) (Has : Instance ℕ → Value ℕ → Type 0) (r : Run ℕ (Value ℕ)) {vs : List (Value ℕ)} {ws : List (Value Node)} → ListLike (ValueLike (Names path)) vs ws →
+arguments_stay : (path : ℕ → Option Node) (e : Edit) (look : Contents ℕ) (Has : Instance ℕ → Value ℕ → Type 0) {A : Type 0} (r : Run ℕ A) {vs : List (Value ℕ)} {ws : List (Value Node)} → ListLike (ValueLike (Names path)) vs ws →
     ((n : ℕ) (m : Node) → path n ≡ Some m → Sees look Has (past_arguments vs r) (Is n) → Stays path e n n) → ListLike (ValueLike (Stays path e)) vs vs
 arguments_stay path e look Has r end h = end
 arguments_stay path e look Has r (more (int n) vs) h = more (int n) (arguments_stay path e look Has r vs h)
@@ -107,8 +114,8 @@ pub record IsOver (classes : Classes) (e : Edit) (t u : Tree) (path later : ℕ 
   pub shown_later : (l : Location ℕ) → AlikeAt (Names later) new (content u) l
 
 module _ (rules : Rules) {e : Edit} {t u : Tree} {path later : ℕ → Option Node} {old new : Contents ℕ} (over : IsOver rules.classes e t u path later old new) where
-  abbrev pub means : Equations ℕ
-  means i = evaluation rules nat_eq i
+  abbrev pub means : Forms ℕ
+  means = evaluation rules nat_eq
 
   joined : (a : ℕ) (n m : Node) (b : ℕ) → Names path a n → Names (carried e) n m → Names later b m → Stays path e a b
   joined a n m b p q r = record { same = over.apart a b m (over.goes a n p ∙ q) r; was = n; goes = m; named = p; carries = q }
@@ -139,8 +146,11 @@ module _ (rules : Rules) {e : Edit} {t u : Tree} {path later : ℕ → Option No
   alike_there _ free _ (idx {n = a} {m = b} s) =
       over.shown (Idx a) (Idx s.was) (idx s.named) ∙ by_paths (Idx s.was) (free (Idx s.was) (idx s.named)) (Idx s.goes) (idx s.carries) ∙ sym (over.shown_later (Idx b) (Idx s.goes) (idx (named_later a b s)))
 
-  equations_stay : EquationsLike (Stays path e) means means
-  equations_stay = evaluation-like rules nat_eq nat_eq (λ a b c d r s. ap (λ z. nat_eq z b) r.same ∙ ap (λ z. nat_eq c z) s.same)
+  stays_agree : Agrees (Stays path e)
+  stays_agree a b c d r s = (λ q. sym r.same ∙ q ∙ s.same, λ q. r.same ∙ q ∙ sym s.same)
+
+  formulas_stay : FormsLike (Stays path e) means means
+  formulas_stay = evaluation-like rules nat_eq nat_eq (λ a b c d r s. ap (λ z. nat_eq z b) r.same ∙ ap (λ z. nat_eq c z) s.same)
 
   pub node_stays : (n : ℕ) (m : Node) → path n ≡ Some m → Untouched (Is n) → Stays path e n n
   node_stays n m p free =
@@ -152,9 +162,9 @@ module _ (rules : Rules) {e : Edit} {t u : Tree} {path later : ℕ → Option No
   module _ (i : Instance ℕ) (j : Instance Node) (like : InstanceLike (Names path) i j) (free : (l : Location ℕ) → Supports old means l i → Untouched l) where
     instance_stays : InstanceLike (Stays path e) i i
     instance_stays = record {
-      node = node_stays i.node j.node like.node (free (Is i.node) (i, inl refl, inl refl));
+      node = node_stays i.node j.node like.node (free (Is i.node) (i, stays i, inl refl));
       attribute = refl;
-      arguments = arguments_stay path e old (HasValue old means) _ like.arguments (λ n m p s. node_stays n m p (free (Is n) (i, inl refl, inr s)));
+      arguments = arguments_stay path e old (HasValue old means) _ like.arguments (λ n m p s. node_stays n m p (free (Is n) (i, stays i, inr s)));
     }
 
     below_alike : AlikeBelow (Stays path e) old new means i
@@ -165,27 +175,29 @@ module _ (rules : Rules) {e : Edit} {t u : Tree} {path later : ℕ → Option No
 
     pub value_later : (v : Value ℕ) → HasValue old means i v → HasValue new means i v
     value_later v h =
-        let (w, g, s) = carried_value old new means means equations_stay i i v instance_stays below_alike h in
-        subst (HasValue new means i) (sym (same_value (λ a b r. r.same) s)) g
+        let (p, g, l) = outcome_there stays_agree old new means means formulas_stay i i (Finds v)
+        (instance_stays, below_alike) h in
+        let (w, q, s) = found_like v l refl in
+        subst (HasValue new means i) (sym (same_value (λ a b r. r.same) s)) (subst (Holds new means i) q g)
 
     pub support_before : (v : Value ℕ) → HasValue old means i v → (l : Location ℕ) → Supports new means l i → Supports old means l i
     support_before v h l rests =
-        let (m, s, before) = supports_here old new means means equations_stay i i (Finds v) l h below_alike instance_stays rests in
+        let (m, s, before) = supports_back stays_agree old new means means formulas_stay i i l (instance_stays, below_alike) rests in
         subst (λ z. Supports old means z i) (same_location (λ a b r. r.same) s) before
 
     pub support_later : (l : Location ℕ) → Supports old means l i → Supports new means l i
     support_later l rests =
-        let (m, s, after) = supports_there old new means means equations_stay i i l instance_stays below_alike rests in
+        let (m, s, after) = supports_there stays_agree old new means means formulas_stay i i l (instance_stays, below_alike) rests in
         subst (λ z. Supports new means z i) (sym (same_location (λ a b r. r.same) s)) after
 
     pub led_before : (v : Value ℕ) → HasValue old means i v → (k : Instance ℕ) → Leads new means i k → Leads old means i k
-    led_before v (n, h) k led =
-        let (m, s, before, d, x) = leads_here old new means means equations_stay n i i k (Finds v, h) below_alike instance_stays led in
+    led_before v h k led =
+        let (m, (s, rest), before) = leads_back stays_agree old new means means formulas_stay i i k (instance_stays, below_alike) led in
         subst (Leads old means i) (same_instance (λ a b r. r.same) m k s) before
 
   -- what supports an instance of the tree is a location of the tree
   pub located : IsInjective path → (i : Instance ℕ) (j : Instance Node) → InstanceLike (Names path) i j → (l : Location ℕ) → Supports old means l i → (m : Location Node) × LocationLike (Names path) l m
   located named_once i j like l rests =
       let alike = evaluation-like rules nat_eq node_eq (same_like nat_eq node_eq nat_eq-is node_eq-is path named_once) in
-      let (m, s, there) = supports_there old (content t) means (equations rules) alike i j l like (λ x h. over.shown x) rests in
+      let (m, s, there) = supports_there (names_agree path named_once) old (content t) means (forms rules) alike i j l (like, λ x h. over.shown x) rests in
       (m, s)

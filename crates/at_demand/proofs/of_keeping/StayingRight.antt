@@ -5,7 +5,7 @@ use Rattle.at_model.specs.Paths.{Node}
 use Rattle.at_model.specs.Run.{Instance, Location}
 use Rattle.at_model.specs.Rules.{Rules}
 use Rattle.at_model.specs.Classes.{Classes}
-use Rattle.at_model.specs.Support.{Supports}
+use Rattle.at_model.specs.of_fixpoints.Resting.{Supports}
 use Rattle.at_model.specs.Alike.{LocationLike, Names}
 use Rattle.at_model.specs.Edits.{Edit, edited, left_by}
 use Rattle.at_model.specs.Touches.{touches}

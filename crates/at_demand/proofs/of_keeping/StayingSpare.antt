@@ -5,8 +5,8 @@ use Rattle.at_model.specs.Trees.{Tree}
 use Rattle.at_model.specs.Paths.{Node}
 use Rattle.at_model.specs.Run.{Value, Instance, Location, Contents}
 use Rattle.at_model.specs.Rules.{Rules}
-use Rattle.at_model.specs.Meaning.{HasValue, Leads}
-use Rattle.at_model.specs.Support.{Supports}
+use Rattle.at_model.specs.of_fixpoints.Fixpoints.{HasValue}
+use Rattle.at_model.specs.of_fixpoints.Resting.{Leads, Supports}
 use Rattle.at_model.specs.Alike.{InstanceLike, LocationLike, Names, IsInjective}
 use Rattle.at_model.specs.Edits.{Edit}
 use Rattle.at_model.specs.Touches.{touches}

@@ -3,14 +3,16 @@ use Rattle.std.proofs.Common.{◌≡◌, ℕ, Bool, false, List, [], ◌++◌, d
 use Rattle.std.proofs.Math.Seq.{take-append_seam, drop-append_seam}
 use Rattle.std.proofs.lemmas.List.{length-append}
 use Rattle.at_model.specs.Run.{Value, Instance, Location}
-use Rattle.at_model.specs.Rules.{Rules, is_lazy}
-use Rattle.at_model.specs.Meaning.{HasValue}
-use Rattle.at_model.proofs.of_nesting.Nesting.{evaluates_value, waits_apart}
+use Rattle.at_model.specs.Rules.{Rules, is_lazy, start_of}
+use Rattle.at_model.specs.Nested.{IsGround}
+use Rattle.at_model.specs.of_fixpoints.Fixpoints.{HasValue}
+use Rattle.at_model.specs.of_fixpoints.Resting.{stays}
+use Rattle.at_model.proofs.of_nesting.Nesting.{evaluates_value, reaches_own, waits_apart}
 use Rattle.at_store.specs.Shown.{Shown, IsIdle, contents}
 use Rattle.at_body.specs.Values.{value_view}
 use Rattle.at_body.specs.declared.value.Value.{Value as ValueCode}
 use Rattle.at_demand.specs.declared.direct.Level.{Level}
-use Rattle.at_demand.specs.Known.{meaning, kept_values}
+use Rattle.at_demand.specs.Known.{equations, meaning, kept_values}
 use Rattle.at_demand.specs.Inner.{Gains, HasTold, IsEvaluated, is_inner}
 use Rattle.at_demand.specs.InParts.{HasCome, HasGained, Held, IsUnkept, values_in}
 use Rattle.at_demand.specs.Traces.{StayJustified}
@@ -18,18 +20,18 @@ use Rattle.at_demand.proofs.Entered.{is_there}
 use Rattle.at_demand.proofs.Leading.{leads_on}
 use Rattle.at_demand.proofs.There.{led_there}
 use Rattle.at_demand.proofs.of_nesting.InnerGains.{leads_next, told_inner}
-use Rattle.at_demand.proofs.of_nesting.Remembered.{right_by}
+use Rattle.at_demand.proofs.of_nesting.Remembered.{ground_by}
 
 module _ (rules : Rules) (s : Shown) (exact : Bool) where
   -- what came for the evaluation of an instance came for the instance
-  pub gains_evaluated : IsIdle s → (i : Instance ℕ) (old new : Held) →
-      HasGained rules s exact (meaning rules i) old new →
+  pub gains_evaluated : IsIdle s → (i : Instance ℕ) (old new : Held) → start_of rules i.attribute ≡ None →
+      HasGained rules s exact (equations rules i) old new →
       Gains rules s exact i old.entries new.entries old.found new.found old.work new.work
-  gains_evaluated idle i old new h = record {
+  gains_evaluated idle i old new own h = record {
     worthy = record {
       stays = h.keeps;
       worthy = λ j none some. let (m, d, w) = h.worthy j none some in record {
-        reached = leads_on (contents s) (meaning rules) i m j (leads_next rules (contents s) i m d) w.reached;
+        reached = leads_on (contents s) (meaning rules) i m j (leads_next rules (contents s) i m own d) w.reached;
         lazy = w.lazy;
         value = w.value;
         has = w.has;
@@ -37,45 +39,49 @@ module _ (rules : Rules) (s : Shown) (exact : Bool) where
     };
     known = h.right.known;
     still = h.still;
-    stays = λ there all. h.stays (λ m d. led_there rules s idle i m there (leads_next rules (contents s) i m d)) all;
+    stays = λ there all. h.stays (λ m d. led_there rules s idle i m there (leads_next rules (contents s) i m own d)) all;
     spare = h.spare;
     counts = h.counts;
   }
 
   -- and so did what can be kept again
-  pub traced_evaluated : IsIdle s → (i : Instance ℕ) (old new : Held) →
-      HasGained rules s exact (meaning rules i) old new → StayJustified rules s i old.memories new.memories
-  traced_evaluated idle i old new h = record {
+  pub traced_evaluated : IsIdle s → (i : Instance ℕ) (old new : Held) → start_of rules i.attribute ≡ None →
+      HasGained rules s exact (equations rules i) old new → StayJustified rules s i old.memories new.memories
+  traced_evaluated idle i old new own h = record {
     justified = h.right.justified;
-    there = λ there all. h.there (λ m d. led_there rules s idle i m there (leads_next rules (contents s) i m d)) all;
+    there = λ there all. h.there (λ m d. led_there rules s idle i m there (leads_next rules (contents s) i m own d)) all;
   }
 
   -- no value of an instance that comes to one itself came for its evaluation: nothing that this demands leads to the instance
   pub unkept_evaluated : (i : Instance ℕ) (v : Value ℕ) (old new : Held) (before after : Level) →
-      HasGained rules s exact (meaning rules i) old new →
-      HasCome rules (contents s) new before after (meaning rules i) v → IsUnkept old i → IsUnkept new i
-  unkept_evaluated i v old new before after g come none = by (kept_values new.entries i) refl
+      start_of rules i.attribute ≡ None → HasGained rules s exact (equations rules i) old new →
+      HasCome rules (contents s) new before after (equations rules i) v → IsUnkept old i → IsUnkept new i
+  unkept_evaluated i v old new before after own g come none = by (kept_values new.entries i) refl
     where
+      ground : IsGround (contents s) (equations rules) (meaning rules) (values_in new) (is_inner rules)
+      ground = ground_by rules (contents s) new.entries new.found g.right.known
+
       has : HasValue (contents s) (meaning rules) i v
-      has = evaluates_value (contents s) (meaning rules) (values_in new)
-          (right_by rules (contents s) new.entries new.found g.right.known) (is_inner rules) come.depth i v come.looks
-          come.takes come.evaluates
+      has = evaluates_value (contents s) (equations rules) (meaning rules) (values_in new) (is_inner rules) ground
+          come.depth i v come.looks come.takes own come.evaluates
 
       by : (o : Option (Value ℕ)) → kept_values new.entries i ≡ o → kept_values new.entries i ≡ None
       by None is = is
       by (Some w) is =
           let (m, demanded, worth) = g.worthy i none (is_there (kept_values new.entries i) w is) in
-          absurd (waits_apart (contents s) (meaning rules) i m [] v demanded worth.reached has)
+          absurd (waits_apart (contents s) (meaning rules) i m m v (reaches_own (contents s) (equations rules)
+          (meaning rules) (values_in new) (is_inner rules) ground i m own demanded) (stays m) worth.reached has)
 
   pub unkept_result : {E : Type 0} (r : Result ValueCode E) (i : Instance ℕ) (old new : Held) (before after : Level) →
-      HasGained rules s exact (meaning rules i) old new →
-      IfOk r (λ v. HasCome rules (contents s) new before after (meaning rules i) (value_view v)) →
+      start_of rules i.attribute ≡ None → HasGained rules s exact (equations rules i) old new →
+      IfOk r (λ v. HasCome rules (contents s) new before after (equations rules i) (value_view v)) →
       OnOk r (IsUnkept old i → IsUnkept new i)
-  unkept_result (Ok v) i old new before after g come = unkept_evaluated i (value_view v) old new before after g come
-  unkept_result (Err e) i old new before after g come = tt
+  unkept_result (Ok v) i old new before after own g come =
+      unkept_evaluated i (value_view v) old new before after own g come
+  unkept_result (Err e) i old new before after own g come = tt
 
   module _ (h : Held) (old new : Level) (i : Instance ℕ) (v : Value ℕ)
-      (come : HasCome rules (contents s) h old new (meaning rules i) v) where
+      (come : HasCome rules (contents s) h old new (equations rules i) v) where
     -- where it is an inner one, the one that asks is told its value
     pub inner_told : is_lazy rules i.attribute ≡ false → HasTold rules (contents s) (values_in h) old new i v
     inner_told lazy = told_inner rules (contents s) (values_in h) old new i v come.looks come.takes lazy

@@ -3,10 +3,12 @@ use Rattle.std.proofs.Common.{◌≡◌, ℕ, ◌<◌, ◌+◌, ◌-◌, ◌^◌
 use Rattle.std.specs.Option.{IfSome}
 use Rattle.std.specs.Prelude.{◌≢◌, IsSome, IsTrue}
 use Rattle.indexmap.specs.IndexMap.{insert_entry}
-use Rattle.at_model.specs.Run.{Instance, Location, Value}
-use Rattle.at_model.specs.Rules.{Rules, is_lazy}
-use Rattle.at_model.specs.Meaning.{HasValue, Leads}
-use Rattle.at_model.proofs.of_nesting.Nesting.{waits_apart}
+use Rattle.at_model.specs.Run.{Contents, Instance, Known, Location, Value}
+use Rattle.at_model.specs.Rules.{Rules, is_lazy, start_of}
+use Rattle.at_model.specs.Nested.{IsGround}
+use Rattle.at_model.specs.of_fixpoints.Fixpoints.{HasValue}
+use Rattle.at_model.specs.of_fixpoints.Resting.{Leads, stays, goes}
+use Rattle.at_model.proofs.of_nesting.Nesting.{own_comes, reaches_own, waits_apart}
 use Rattle.at_store.specs.Shown.{Shown, IsIdle, contents}
 use Rattle.at_body.specs.Same.{same_instance}
 use Rattle.at_body.specs.Values.{value_view}
@@ -17,13 +19,14 @@ use Rattle.at_cache.specs.declared.keeper.Order.{Order}
 use Rattle.at_cache.specs.declared.keeper.Order.TheVariants as order
 use Rattle.at_cache.specs.declared.keeper.Put.{Put}
 use Rattle.at_demand.specs.declared.direct.Level.{Level}
-use Rattle.at_demand.specs.Known.{kept_values, meaning}
-use Rattle.at_demand.specs.Inner.{AreLazy, Gains, known_by}
+use Rattle.at_demand.specs.Known.{equations, kept_values, meaning}
+use Rattle.at_demand.specs.Inner.{AreLazy, Gains, is_inner, known_by}
 use Rattle.at_demand.specs.InParts.{HasGained, HasGrown, Held, IsEvaluatedFor, IsHeld, IsUnkept, held}
-use Rattle.at_demand.specs.Sparing.{Counts, IsWorthKeeping}
+use Rattle.at_demand.specs.Sparing.{Counts}
 use Rattle.at_demand.proofs.Entered.{is_there}
 use Rattle.at_demand.proofs.of_nesting.Asked.{gains_evaluated, traced_evaluated}
 use Rattle.at_demand.proofs.of_nesting.InnerGains.{Found, counts_shared_so, gains_as, gains_more, gains_none, gains_put_so, gains_same, gains_then, gains_up, more_known, valued}
+use Rattle.at_demand.proofs.of_nesting.Remembered.{ground_by}
 use Rattle.at_demand.proofs.of_traces.Putting.{put_traced, stays_put, traced_on, traced_same, traced_then, traced_up}
 use Rattle.at_demand.proofs.of_traces.Settled.{LastKept, settled_gains}
 
@@ -72,11 +75,23 @@ grown_aside {rules} {s} {exact} {i} {j} {old} {new} {entries} {m} {f} {g} {w} {x
     subst (λ (p : Option (Instance ℕ)). IfSome p (Leads (contents s) (meaning rules) i)) is led in
     grown_then a (grown_up idle leads (grown_from e d b))
 
+-- an instance that isn't circular, and has a value, isn't led to by another one to which it leads
+apart_from : (rules : Rules) (look : Contents ℕ) (known : Known ℕ) →
+    IsGround look (equations rules) (meaning rules) known (is_inner rules) → (i j : Instance ℕ) (v : Value ℕ) →
+    start_of rules i.attribute ≡ None → HasValue look (meaning rules) i v → j ≢ i → Leads look (meaning rules) i j →
+    Leads look (meaning rules) j i → ⊥
+apart_from rules look known ground _ _ v own has apart (stays i) back = apart refl
+apart_from rules look known ground _ j v own has apart (goes i m _ c l) back =
+    waits_apart look (meaning rules) i m j v
+    (reaches_own look (equations rules) (meaning rules) known (is_inner rules) ground i m own
+    (own_comes look (equations rules) (meaning rules) known (is_inner rules) ground i m own c)) l back has
+
 -- no value came of the instance itself, where that is another one
 pub unkept_aside : {rules : Rules} {s : Shown} {exact : Bool} (i : Instance ℕ) {j : Instance ℕ} {old new : Held}
-    {o : Option (Instance ℕ)} → o ≡ Some j → IfSome o (Leads (contents s) (meaning rules) i) → IfSome o (λ m. m ≢ i) →
-    HasGrown rules s exact j old new → IsUnkept old i → IsUnkept new i
-unkept_aside {rules} {s} {exact} i {j} {old} {new} {o} is led other a none = by (kept_values new.entries i) refl
+    {o : Option (Instance ℕ)} → start_of rules i.attribute ≡ None → o ≡ Some j →
+    IfSome o (Leads (contents s) (meaning rules) i) → IfSome o (λ m. m ≢ i) → HasGrown rules s exact j old new →
+    IsUnkept old i → IsUnkept new i
+unkept_aside {rules} {s} {exact} i {j} {old} {new} {o} own is led other a none = by (kept_values new.entries i) refl
   where
     apart : j ≢ i
     apart = subst (λ (p : Option (Instance ℕ)). IfSome p (λ m. m ≢ i)) is other
@@ -84,15 +99,13 @@ unkept_aside {rules} {s} {exact} i {j} {old} {new} {o} is led other a none = by 
     leads : Leads (contents s) (meaning rules) i j
     leads = subst (λ (p : Option (Instance ℕ)). IfSome p (Leads (contents s) (meaning rules) i)) is led
 
-    back : IsWorthKeeping rules (contents s) j i → Leads (contents s) (meaning rules) i j → ⊥
-    back worth (inl same) = apart (sym same)
-    back worth (inr (ms, walks)) =
-        waits_apart (contents s) (meaning rules) i j ms worth.value walks worth.reached worth.has
-
     by : (v : Option (Value ℕ)) → kept_values new.entries i ≡ v → kept_values new.entries i ≡ None
     by None same = same
     by (Some w) same =
-        absurd (back (a.gains.worthy.worthy i none (is_there (kept_values new.entries i) w same)) leads)
+        let worth = a.gains.worthy.worthy i none (is_there (kept_values new.entries i) w same) in
+        absurd (apart_from rules (contents s) (known_by new.entries new.found)
+        (ground_by rules (contents s) new.entries new.found a.gains.known) i j worth.value own worth.has apart leads
+        worth.reached)
 
 -- what can be kept again is kept, and counted
 pub grown_settled : (rules : Rules) (s : Shown) → IsIdle s → (exact : Bool) (i : Instance ℕ) (old : Held) (entries : Entries)
@@ -112,10 +125,10 @@ held_after a = record { known = a.gains.known; justified = a.traces.justified }
 
 -- what came for the evaluation of an instance came for the instance
 pub grown_evaluated : (rules : Rules) (s : Shown) (exact : Bool) → IsIdle s → (i : Instance ℕ) (old new : Held) →
-    HasGained rules s exact (meaning rules i) old new → HasGrown rules s exact i old new
-grown_evaluated rules s exact idle i old new h = record {
-  gains = gains_evaluated rules s exact idle i old new h;
-  traces = traced_evaluated rules s exact idle i old new h;
+    start_of rules i.attribute ≡ None → HasGained rules s exact (equations rules i) old new → HasGrown rules s exact i old new
+grown_evaluated rules s exact idle i old new own h = record {
+  gains = gains_evaluated rules s exact idle i old new own h;
+  traces = traced_evaluated rules s exact idle i old new own h;
 }
 
 -- a lazy one was evaluated, and is kept or left: what comes so
@@ -130,9 +143,9 @@ module _ {rules : Rules} {s : Shown} {exact : Bool} {i : Instance ℕ} {old new 
   grown_kept absent p put = record {
     gains = subst (λ (f : Found). Gains rules s exact i old.entries new.entries old.found f old.work new.work) (sym found)
         (gains_put_so rules s exact i old.entries new.entries old.found v below.reads below.uses.items is.held.known
-        is.come (Some v) (inl (refl, is.lazy)) absent old.work new.work counts p put);
+        is.own is.come (Some v) (inl (refl, is.lazy)) absent old.work new.work counts p put);
     traces = put_traced rules s idle i old.entries new.entries old.found v below.reads below.uses.items o old.memories
-        new.memories is.held.known is.come is.lazy
+        new.memories is.held.known is.own is.come is.lazy
         (λ e. subst (λ (xs : List (Instance ℕ)). AreLazy rules xs) same (ordered e))
         (stays_put exact old.entries new.entries i (Some v) below.reads below.uses.items p absent put) last puts
         is.held.justified;
@@ -144,7 +157,7 @@ module _ {rules : Rules} {s : Shown} {exact : Bool} {i : Instance ℕ} {old new 
     gains = subst (λ (f : Found). Gains rules s exact i old.entries new.entries old.found f old.work new.work) (sym found)
         (gains_same rules s exact i old.entries new.entries old.found old.work new.work all is.held.known counts);
     traces = put_traced rules s idle i old.entries new.entries old.found v below.reads below.uses.items o old.memories
-        new.memories is.held.known is.come is.lazy
+        new.memories is.held.known is.own is.come is.lazy
         (λ e. subst (λ (xs : List (Instance ℕ)). AreLazy rules xs) same (ordered e)) (λ j some. all j) last puts
         is.held.justified;
   }
@@ -156,7 +169,7 @@ pub grown_entered : (rules : Rules) (s : Shown) {exact : Bool} {i : Instance ℕ
     HasPut exact before i None below.reads below.uses.items after p →
     HasGrown rules s exact i (held before m f w) (held after n f w)
 grown_entered rules s {exact} {i} {v} {below} {before} {after} {m} {n} {f} {w} few is absent stay p put = record {
-  gains = gains_put_so rules s exact i before after f v below.reads below.uses.items is.held.known is.come None
+  gains = gains_put_so rules s exact i before after f v below.reads below.uses.items is.held.known is.own is.come None
       (inr (refl, is.lazy)) absent w w
       (λ k. counts_shared_so rules s exact before after i below.reads below.uses.items w few absent p put) p put;
   traces = traced_on rules s i m n stay is.held.justified;
@@ -175,7 +188,7 @@ grown_as {rules} {s} {exact} {i} {old} {entries} {m} {f} {g} {w} {x} e d a = rec
 pub evaluated_has : (rules : Rules) (s : Shown) (exact : Bool) {h : Held} {lazily : Bool} {i : Instance ℕ} {v : Value ℕ}
     {below : Level} → IsEvaluatedFor rules (contents s) h lazily i v below → HasValue (contents s) (meaning rules) i v
 evaluated_has rules s exact {h} {lazily} {i} {v} {below} is =
-    valued rules s exact i h.entries h.entries h.found v below.reads below.uses.items is.held.known is.come
+    valued rules s exact i h.entries h.entries h.found v below.reads below.uses.items is.held.known is.own is.come
 
 -- its value is remembered, and known then
 module _ {rules : Rules} {s : Shown} {exact : Bool} {i : Instance ℕ} {old : Held} {entries : Entries} {m : Memories}

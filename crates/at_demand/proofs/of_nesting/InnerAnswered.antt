@@ -4,7 +4,9 @@ use Rattle.std.specs.Prelude.{IfOk, IsTrue, Result}
 use Rattle.std.proofs.lemmas.Result.{IfOk-weaker}
 use Rattle.at_model.specs.Run.{Instance}
 use Rattle.at_model.specs.Rules.{Rules}
-use Rattle.at_model.specs.Meaning.{Answers, Right}
+use Rattle.at_model.specs.Meaning.{Answer as AnswerView, Circle, Outcomes}
+use Rattle.at_model.specs.of_fixpoints.Circles.{Answers}
+use Rattle.at_demand.specs.Meant.{AreCircularWell, AreRightValues}
 use Rattle.at_store.specs.Shown.{Shown, contents}
 use Rattle.at_cache.specs.Kept.{Entries}
 use Rattle.at_demand.specs.declared.answer.Answer.{Answer}
@@ -13,27 +15,33 @@ use Rattle.at_body.specs.declared.value.Value.{Value as ValueCode}
 use Rattle.at_demand.specs.declared.answer.Answer.TheVariants as answer
 use Rattle.at_demand.specs.Known.{meaning, kept_values, answer_view, ArePlain}
 use Rattle.at_demand.specs.Sparing.{AddsWorthy, AreSpare, HasWorthy}
-use Rattle.at_demand.specs.Answered.{HasAnswered}
+use Rattle.at_demand.specs.Answered.{EndsByOutcome, HasAnswered, HasWorthyFor}
 use Rattle.at_demand.specs.Inner.{Gains}
 use Rattle.at_demand.proofs.Counting.{counts_more, work_is}
 use Rattle.at_demand.proofs.Entered.{is_there}
 use Rattle.at_demand.proofs.Gaining.{asked_kept}
 use Rattle.at_demand.proofs.of_nesting.InnerGains.{gains_none, known_none, worthy_then}
 
+-- where the answer is no circle of circular attributes, all that is worth keeping for it is worth keeping for the question
+worthy_ended : (rules : Rules) (s : Shown) (i : Instance ℕ) (a : AnswerView ℕ) (entries : Entries) →
+    HasWorthyFor rules (contents s) i a entries → EndsByOutcome rules a → HasWorthy rules (contents s) i entries
+worthy_ended rules s i (Outcomes o) entries h ends = h
+worthy_ended rules s i (Circle j) entries h ends = h ends
+
 module _ {E : Type 0} (rules : Rules) (s : Shown) (exact : Bool) (i : Instance ℕ) (r : Result Answer E) where
   -- by what came, where it is right and all that is worth keeping is kept
   pub answered_by : (old new : Entries) (w x : ℕ) → Gains rules s exact i old new [] [] w x →
       IfOk r (λ a. Answers (contents s) (meaning rules) i (answer_view a)) →
-      (IsTrue exact → AreSpare rules (contents s) old → IfOk r (λ a. HasWorthy rules (contents s) i new)) →
+      (IsTrue exact → AreSpare rules (contents s) old → IfOk r (λ a. HasWorthyFor rules (contents s) i (answer_view a) new)) →
       HasAnswered rules s exact old new w x i r
   answered_by old new w x g answers all = record {
     answers = answers;
     worthy = g.worthy;
-    spare = g.spare;
+    spare = λ whole. g.spare;
     all = all;
     counts = g.counts;
-    work = λ k spare. IfOk-weaker r _ _ (λ a h. work_is rules (contents s) i old new w x (g.counts k) g.worthy h) (all
-        k spare);
+    work = λ k spare. IfOk-weaker r _ _ (λ a h ends. work_is rules (contents s) i old new w x (g.counts k) g.worthy
+        (worthy_ended rules s i (answer_view a) new h ends)) (all k spare);
     right = g.stays;
     plain = g.known.plain;
   }
@@ -48,22 +56,23 @@ module _ {E : Type 0} (rules : Rules) (s : Shown) (exact : Bool) (i : Instance �
       record {
         answers = h.answers;
         worthy = worthy;
-        spare = λ k spare. h.spare k (g.spare k spare);
+        spare = λ whole k spare. h.spare whole k (g.spare k spare);
         all = λ k spare. h.all k (g.spare k spare);
         counts = counts;
-        work = λ k spare. IfOk-weaker r _ _ (λ a all. work_is rules (contents s) i old new w y (counts k) worthy all)
-            (h.all k (g.spare k spare));
+        work = λ k spare. IfOk-weaker r _ _ (λ a all ends. work_is rules (contents s) i old new w y (counts k) worthy
+            (worthy_ended rules s i (answer_view a) new all ends)) (h.all k (g.spare k spare));
         right = λ there right. h.right there (g.stays there right);
         plain = h.plain;
       }
 
 -- a kept value is the answer, and nothing comes
 pub answered_kept : {E : Type 0} (rules : Rules) (s : Shown) (exact : Bool) (i : Instance ℕ) (entries : Entries) (w :
-    ℕ) (v : ValueCode) → w < 2 ^ 64 → Right (contents s) (meaning rules) (kept_values entries) →
+    ℕ) (v : ValueCode) → w < 2 ^ 64 → AreCircularWell rules →
+    AreRightValues (contents s) (meaning rules) (kept_values entries) →
     ArePlain rules entries →
     kept_values entries i ≡ Some (value_view v) → HasAnswered {E = E} rules s exact entries entries w w i (Ok
     (answer.Value v))
-answered_kept {E} rules s exact i entries w v few right plain is =
+answered_kept {E} rules s exact i entries w v few circular right plain is =
     answered_by rules s exact i (Ok (answer.Value v)) entries entries w w (gains_none rules s exact i entries [] w few
-    (known_none rules (contents s) entries right plain)) (right i (value_view v) is)
+    (known_none rules (contents s) entries circular right plain)) (right i (value_view v) is)
     (λ k spare. asked_kept rules (contents s) i entries (is_there (kept_values entries i) (value_view v) is) spare.deep)

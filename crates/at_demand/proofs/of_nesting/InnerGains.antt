@@ -10,23 +10,27 @@ use Rattle.std.proofs.lemmas.Option.{none-some}
 use Rattle.indexmap.specs.IndexMap.{insert_entry}
 use Rattle.at_body.specs.Values.{value_view}
 use Rattle.at_body.specs.declared.value.Value.{Value as ValueCode}
-use Rattle.at_model.specs.Rules.{Rules, is_lazy}
-use Rattle.at_model.specs.Meaning.{Among, Comes, HasValue, Leads, Right}
+use Rattle.at_model.specs.Rules.{Rules, is_lazy, start_of}
+use Rattle.at_model.specs.Meaning.{Among, Reaches}
+use Rattle.at_model.specs.of_fixpoints.Fixpoints.{HasValue}
+use Rattle.at_model.specs.of_fixpoints.Resting.{Leads, stays, goes}
 use Rattle.at_model.specs.Nested.{Tells}
 use Rattle.at_model.proofs.of_nesting.Nesting.{tells_hold, evaluates_value, taken_known, led}
 use Rattle.at_store.specs.Shown.{Shown, IsIdle, contents}
 use Rattle.at_cache.specs.Kept.{Kept, Entries, HasPut, KeepsAll, Puts, value_at}
 use Rattle.at_cache.specs.declared.keeper.Put.{Put}
 use Rattle.at_cache.specs.declared.keeper.Put.TheVariants as put
-use Rattle.at_demand.specs.Known.{meaning, kept_values, ArePlain, IsKept}
+use Rattle.at_demand.specs.Known.{equations, meaning, kept_values, ArePlain, IsKept}
+use Rattle.at_demand.specs.Meant.{AreCircularWell, AreRightValues}
 use Rattle.at_demand.specs.Right.{AreRight, IsThere, IsValued}
 use Rattle.at_demand.specs.Sparing.{AddsWorthy, AreSpare, Counts, HasWorthy, IsWorthKeeping}
 use Rattle.at_demand.specs.Inner.{AreKnown, Gains, HasTold, IsEvaluated, IsGiven, is_inner, known_by, remembered}
 use Rattle.at_demand.proofs.Counting.{counts_more, counts_none, counts_same, counts_shared}
 use Rattle.at_demand.proofs.Entered.{entered_on, is_there, not_none, put_stays}
 use Rattle.at_demand.proofs.Gaining.{worthy_none}
+use Rattle.at_demand.proofs.of_nesting.Ground.{comes_own, own_of}
 use Rattle.at_demand.proofs.of_nesting.InnerPuts.{IsFit, right_now, plain_now, covers_now, spare_now, worthy_now, all_now, stays_now}
-use Rattle.at_demand.proofs.of_nesting.Remembered.{right_by, stands_by, found_known, known_more, remembered_is, still_remembered}
+use Rattle.at_demand.proofs.of_nesting.Remembered.{ground_by, stands_by, found_known, known_more, remembered_is, still_remembered}
 use Rattle.at_demand.proofs.Leading.{leads_on}
 use Rattle.at_demand.proofs.There.{led_there}
 
@@ -49,9 +53,10 @@ among_of (y ∷ ys) x h = elim (Contains-append_cases (y ∷ []) ys x h) [
 ]
 
 -- nothing is remembered
-pub known_none : (rules : Rules) (look : Contents ℕ) (entries : Entries) →
-    Right look (meaning rules) (kept_values entries) → ArePlain rules entries → AreKnown rules look entries []
-known_none rules look entries right plain = record {
+pub known_none : (rules : Rules) (look : Contents ℕ) (entries : Entries) → AreCircularWell rules →
+    AreRightValues look (meaning rules) (kept_values entries) → ArePlain rules entries → AreKnown rules look entries []
+known_none rules look entries circular right plain = record {
+  circular = circular;
   right = right;
   plain = plain;
   finds = λ j v e. absurd (none-some v
@@ -60,10 +65,10 @@ known_none rules look entries right plain = record {
   inner = λ j v e. absurd (none-some v e);
 }
 
--- an instance leads to what it comes to
-pub leads_next : (rules : Rules) (look : Contents ℕ) (i j : Instance ℕ) → Comes look (meaning rules) i j →
-    Leads look (meaning rules) i j
-leads_next rules look i j c = inr ([], c)
+-- an instance that isn't circular leads to what its equation demands
+pub leads_next : (rules : Rules) (look : Contents ℕ) (i j : Instance ℕ) → start_of rules i.attribute ≡ None →
+    Reaches look (HasValue look (meaning rules)) (equations rules i) j → Leads look (meaning rules) i j
+leads_next rules look i j own c = goes i j j (comes_own rules look i j own c) (stays j)
 
 -- what is worth keeping comes, and then more
 pub worthy_then : (rules : Rules) (look : Contents ℕ) (i : Instance ℕ) (old mid new : Entries) →
@@ -147,36 +152,34 @@ module _ (rules : Rules) (s : Shown) (exact : Bool) where
 
   -- an entry comes, for what an evaluation looked at and took
   module _ (i : Instance ℕ) (old new : Entries) (f : Found) (v : Value ℕ) (ls : List (Location ℕ)) (us : List (Instance
-      ℕ)) (known : AreKnown rules (contents s) old f) (come : IsEvaluated rules (contents s) (known_by old f) i v ls
-      us) where
-    right : Right (contents s) (meaning rules) (known_by old f)
-    right = right_by rules (contents s) old f known
-
+      ℕ)) (known : AreKnown rules (contents s) old f) (own : start_of rules i.attribute ≡ None)
+      (come : IsEvaluated rules (contents s) (known_by old f) i v ls us) where
     -- what it took has an entry
     pub taken : (u : Instance ℕ) → Contains us u → IsSome (old u)
-    taken u h = let (w, e) = taken_known (contents s) (meaning rules) (known_by old f) right (is_inner rules) come.0 i
+    taken u h = let (w, e) = taken_known (contents s) (equations rules) (known_by old f) (is_inner rules) come.0 i
         v ls us come.1 u (among_of us u h) in stands_by rules (contents s) old f known u w e
 
     pub valued : HasValue (contents s) (meaning rules) i v
-    valued = evaluates_value (contents s) (meaning rules) (known_by old f) right (is_inner rules) come.0 i v ls us
-        come.1
+    valued = evaluates_value (contents s) (equations rules) (meaning rules) (known_by old f) (is_inner rules)
+        (ground_by rules (contents s) old f known) come.0 i v ls us own come.1
 
     module _ (o : Option (Value ℕ)) (fit : IsFit rules i v o) (absent : old i ≡ None) (w x : ℕ) (counts : IsTrue exact
         → Counts old new w x) where
       gains_put : Puts exact old i o ls us new → Gains rules s exact i old new f f w x
       gains_put puts =
           let there = stands_by rules (contents s) old f known in
-          let n = come.0 in let ev = come.1 in
-          let stays = stays_now rules (contents s) exact old new (known_by old f) n i v o ls us right there fit absent
+          let n = come.0 in let ev = come.1 in let ground = ground_by rules (contents s) old f known in
+          let stays = stays_now rules (contents s) exact old new (known_by old f) n i v o ls us ground own there fit absent
           ev puts in
-          let right' = right_now rules (contents s) exact old new (known_by old f) n i v o ls us right there fit absent
+          let right' = right_now rules (contents s) exact old new (known_by old f) n i v o ls us ground own there fit absent
           ev puts known.right in
-          let plain' = plain_now rules (contents s) exact old new (known_by old f) n i v o ls us right there fit absent
+          let plain' = plain_now rules (contents s) exact old new (known_by old f) n i v o ls us ground own there fit absent
           ev puts known.plain in
           record {
-            worthy = worthy_now rules (contents s) exact old new (known_by old f) n i v o ls us right there fit absent
+            worthy = worthy_now rules (contents s) exact old new (known_by old f) n i v o ls us ground own there fit absent
                 ev puts;
             known = record {
+              circular = known.circular;
               right = right';
               plain = plain';
               finds = known.finds;
@@ -187,15 +190,15 @@ module _ (rules : Rules) (s : Shown) (exact : Bool) where
             still = λ j y e. e;
             stays = λ is all. record {
               values = right';
-              valued = all_now rules (contents s) exact old new (known_by old f) n i v o ls us right there fit absent
+              valued = all_now rules (contents s) exact old new (known_by old f) n i v o ls us ground own there fit absent
                   ev puts (IsValued rules s) all.valued (v, valued);
-              there = all_now rules (contents s) exact old new (known_by old f) n i v o ls us right there fit absent ev
+              there = all_now rules (contents s) exact old new (known_by old f) n i v o ls us ground own there fit absent ev
                   puts (IsThere s) all.there is;
-              covers = covers_now rules (contents s) exact old new (known_by old f) n i v o ls us right there fit
+              covers = covers_now rules (contents s) exact old new (known_by old f) n i v o ls us ground own there fit
                   absent ev puts all.covers;
               plain = plain';
             };
-            spare = spare_now rules (contents s) exact old new (known_by old f) n i v o ls us right there fit absent ev
+            spare = spare_now rules (contents s) exact old new (known_by old f) n i v o ls us ground own there fit absent ev
                 puts;
             counts = counts;
           }
@@ -256,8 +259,8 @@ module _ (rules : Rules) (s : Shown) (exact : Bool) where
   pub told_holds : (entries : Entries) (f : Found) (j : Instance ℕ) (v : Value ℕ) (ls : List (Location ℕ)) (us : List
       (Instance ℕ)) → AreKnown rules (contents s) entries f →
       IsGiven rules (contents s) (known_by entries f) j v ls us → HasValue (contents s) (meaning rules) j v
-  told_holds entries f j v ls us known given = tells_hold (contents s) (meaning rules) (known_by entries f) (right_by
-      rules (contents s) entries f known) (is_inner rules) given.0 j v ls us given.1
+  told_holds entries f j v ls us known given = tells_hold (contents s) (equations rules) (meaning rules)
+      (known_by entries f) (is_inner rules) (ground_by rules (contents s) entries f known) given.0 j v ls us given.1
 
   not_lazy : (b : Bool) → not b ≡ true → b ≡ true → ⊥
   not_lazy true e h = true≢false (sym e)
@@ -270,18 +273,19 @@ module _ (rules : Rules) (s : Shown) (exact : Bool) where
   told_whole entries f j v ls us spare known (n, t) m worth = by n v ls us t
     where
       by : (n : ℕ) (v : Value ℕ) (ls : List (Location ℕ)) (us : List (Instance ℕ)) →
-          Tells (contents s) (meaning rules) (known_by entries f) (is_inner rules) n j v ls us → IsKept entries m
+          Tells (contents s) (equations rules) (known_by entries f) (is_inner rules) n j v ls us → IsKept entries m
       by zero v ls us (e, _, _) = spare.deep j m (stands_by rules (contents s) entries f known j v e) worth.reached
           worth.lazy
       by (suc n) v ls us (inl t) = by n v ls us t
-      by (suc n) v ls us (inr (inner, p)) = elim (led (contents s) (meaning rules) (known_by entries f) (right_by rules
-          (contents s) entries f known) (is_inner rules) n j v ls us p m worth.reached) [
+      by (suc n) v ls us (inr (inner, p)) = elim (led (contents s) (equations rules) (meaning rules) (known_by entries f)
+          (is_inner rules) (ground_by rules (contents s) entries f known) n j v ls us
+          ((ground_by rules (contents s) entries f known).own j inner) p m worth.reached) [
             | inl same ↦ absurd (not_lazy (is_lazy rules m.attribute) (subst (λ x. is_inner rules x ≡ true) same inner)
                 worth.lazy)
             | inr q ↦ elim q [
               | inl also ↦ absurd (not_lazy (is_lazy rules m.attribute) also worth.lazy)
-              | inr (u, a, leads) ↦ (let (w, e) = taken_known (contents s) (meaning rules) (known_by entries f) (right_by
-                  rules (contents s) entries f known) (is_inner rules) n j v ls us p u a in
+              | inr (u, a, leads) ↦ (let (w, e) = taken_known (contents s) (equations rules) (known_by entries f)
+                  (is_inner rules) n j v ls us p u a in
                   spare.deep u m (stands_by rules (contents s) entries f known u w e) leads worth.lazy)
             ]
           ]

@@ -4,19 +4,21 @@ use Rattle.std.proofs.Common.{◌≡◌, ◌⊎◌, ◌||◌, ℕ, Bool, true, f
 use Rattle.std.specs.Prelude.{IsSome, IsTrue}
 use Rattle.std.proofs.lemmas.Option.{none-some, same_Some}
 use Rattle.at_model.specs.Run.{Value, Instance, Location, Contents, Known}
-use Rattle.at_model.specs.Rules.{Rules, is_lazy}
-use Rattle.at_model.specs.Meaning.{Among, HasValue, Leads, Right}
-use Rattle.at_model.specs.Support.{Supports}
-use Rattle.at_model.specs.Nested.{Evaluates}
+use Rattle.at_model.specs.Rules.{Rules, is_lazy, start_of}
+use Rattle.at_model.specs.Meaning.{Among}
+use Rattle.at_model.specs.of_fixpoints.Fixpoints.{HasValue}
+use Rattle.at_model.specs.of_fixpoints.Resting.{Leads, stays, Supports}
+use Rattle.at_model.specs.Nested.{Evaluates, IsGround}
 use Rattle.at_model.proofs.Options.{or_right}
 use Rattle.at_model.proofs.of_nesting.Nesting.{evaluates_value, covered as all_covered, only as only_supports, takes, taken_known, led}
 use Rattle.at_body.specs.Same.{same_instance}
 use Rattle.at_cache.specs.Kept.{Kept, Entries, Puts, covered, covers_at, same_location, value_at}
 use Rattle.at_cache.proofs.Locations.{same_location-is, same_location-itself}
-use Rattle.at_demand.specs.Known.{meaning, kept_values, ArePlain, IsKept, KeepsEntries}
+use Rattle.at_demand.specs.Known.{equations, meaning, kept_values, ArePlain, IsKept, KeepsEntries}
 use Rattle.at_demand.specs.Covering.{AreCovered}
 use Rattle.at_demand.specs.Sparing.{AddsWorthy, AreOnly, AreSpare, IsDeep, IsWorthKeeping}
 use Rattle.at_demand.specs.Inner.{is_inner}
+use Rattle.at_demand.specs.Meant.{AreRightValues}
 use Rattle.at_demand.proofs.Entered.{is_there, kept_on, not_none, there as is_some}
 use Rattle.at_demand.proofs.Gathered.{any_among}
 use Rattle.at_demand.proofs.Leading.{supports_on}
@@ -42,12 +44,13 @@ IsFit rules i v o = ((o ≡ Some v) × (is_lazy rules i.attribute ≡ true)) ⊎
 
 module _ (rules : Rules) (look : Contents ℕ) (exact : Bool) (old new : Entries) (known : Known ℕ) (n : ℕ) (i : Instance
     ℕ) (v : Value ℕ) (o : Option (Value ℕ))
-    (ls : List (Location ℕ)) (us : List (Instance ℕ)) (right : Right look (meaning rules) known) (there : (u : Instance
+    (ls : List (Location ℕ)) (us : List (Instance ℕ)) (ground : IsGround look (equations rules) (meaning rules) known (is_inner rules))
+    (own : start_of rules i.attribute ≡ None) (there : (u : Instance
     ℕ) (w : Value ℕ) → known u ≡ Some w → IsSome (old u))
-    (fit : IsFit rules i v o) (absent : old i ≡ None) (ev : Evaluates look (meaning rules) known (is_inner rules) n
-    (meaning rules i) v ls us) (puts : Puts exact old i o ls us new) where
+    (fit : IsFit rules i v o) (absent : old i ≡ None) (ev : Evaluates look (equations rules) known (is_inner rules) n
+    (equations rules i) v ls us) (puts : Puts exact old i o ls us new) where
   pub holds : HasValue look (meaning rules) i v
-  holds = evaluates_value look (meaning rules) known right (is_inner rules) n i v ls us ev
+  holds = evaluates_value look (equations rules) (meaning rules) known (is_inner rules) ground n i v ls us own ev
 
   -- what stands there now
   cases : (j : Instance ℕ) → (new j ≡ old j) ⊎ ((i ≡ j) × (new j ≡ Some puts.entry))
@@ -71,7 +74,7 @@ module _ (rules : Rules) (look : Contents ℕ) (exact : Bool) (old new : Entries
         None) p.0 absent))
   ]
 
-  pub right_now : Right look (meaning rules) (kept_values old) → Right look (meaning rules) (kept_values new)
+  pub right_now : AreRightValues look (meaning rules) (kept_values old) → AreRightValues look (meaning rules) (kept_values new)
   right_now all j w e = elim (cases j) [
     | inl same ↦ all j w (sym (ap value_at same) ∙ e)
     | inr p ↦ let is = (valued_now w (sym (value_now j p.1) ∙ e)).0 in subst (λ x. HasValue look (meaning rules) j x)
@@ -93,13 +96,13 @@ module _ (rules : Rules) (look : Contents ℕ) (exact : Bool) (old new : Entries
 
   -- what was taken has an entry
   taken : (u : Instance ℕ) → Among u us → IsSome (old u)
-  taken u a = let (w, e) = taken_known look (meaning rules) known right (is_inner rules) n i v ls us ev u a in there u
+  taken u a = let (w, e) = taken_known look (equations rules) known (is_inner rules) n i v ls us ev u a in there u
       w e
 
   -- all that supports the instance is covered
   covered_all : AreCovered rules look old → (l : Location ℕ) → Supports look (meaning rules) l i →
       covered old ls us l ≡ true
-  covered_all covers l h = elim (all_covered look (meaning rules) known right (is_inner rules) n i v ls us ev l h) [
+  covered_all covers l h = elim (all_covered look (equations rules) (meaning rules) known (is_inner rules) ground n i v ls us own ev l h) [
     | inl a ↦ left _ _ (any_among (same_location l) l ls a (same_location-itself l))
     | inr q ↦ or_right _ _ (any_among (λ u. covers_at (old u) l) q.0 us q.1 (by q.0 q.2 (old q.0) refl (taken q.0 q.1)))
   ]
@@ -123,10 +126,10 @@ module _ (rules : Rules) (look : Contents ℕ) (exact : Bool) (old new : Entries
       Supports look (meaning rules) l i
   covered_supports only l h = elim (one_of _ _ h) [
     | inl a ↦ (let (m, among, is) = any_one (same_location l) ls a in
-        only_supports look (meaning rules) known right (is_inner rules) n i v ls us ev l (subst (λ x. Among x ls) (sym
+        only_supports look (equations rules) (meaning rules) known (is_inner rules) ground n i v ls us own ev l (subst (λ x. Among x ls) (sym
         (same_location-is l m is)) among))
     | inr b ↦ (let (u, among, is) = any_one (λ u. covers_at (old u) l) us b in
-        supports_on look (meaning rules) i u l (takes look (meaning rules) known right (is_inner rules) n i v ls us ev
+        supports_on look (meaning rules) i u l (takes look (equations rules) (meaning rules) known (is_inner rules) ground n i v ls us own ev
         u among) (by u (old u) refl is))
   ]
     where
@@ -162,7 +165,7 @@ module _ (rules : Rules) (look : Contents ℕ) (exact : Bool) (old new : Entries
 
       below : (m : Instance ℕ) → Leads look (meaning rules) i m → is_lazy rules m.attribute ≡ true →
           new i ≡ Some puts.entry → IsKept new m
-      below m leads is here = elim (led look (meaning rules) known right (is_inner rules) n i v ls us ev m leads) [
+      below m leads is here = elim (led look (equations rules) (meaning rules) known (is_inner rules) ground n i v ls us own ev m leads) [
         | inl same ↦ subst (IsKept new) same (itself (subst (λ (x : Instance ℕ). is_lazy rules x.attribute ≡ true) (sym
             same) is) here)
         | inr q ↦ elim q [
@@ -186,7 +189,7 @@ module _ (rules : Rules) (look : Contents ℕ) (exact : Bool) (old new : Entries
         | inl same ↦ absurd (not_none (kept_values new j) kept (ap value_at same ∙ none))
         | inr p ↦ (let (w, e) = is_some (kept_values new j) kept in
             record {
-              reached = inl p.0;
+              reached = subst (λ x. Leads look (meaning rules) i x) p.0 (stays i);
               lazy = subst (λ (x : Instance ℕ). is_lazy rules x.attribute ≡ true) p.0
                   (valued_now w (sym (value_now j p.1) ∙ e)).1;
               value = v;

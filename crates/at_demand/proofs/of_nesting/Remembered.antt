@@ -7,16 +7,20 @@ use Rattle.std.proofs.lemmas.Option.{same_Some}
 use Rattle.indexmap.specs.IndexMap.{insert_entry}
 use Rattle.at_model.specs.Run.{Value, Instance, Contents}
 use Rattle.at_model.specs.Rules.{Rules, is_lazy}
-use Rattle.at_model.specs.Meaning.{Finds, HasValue, Right}
-use Rattle.at_model.proofs.Outcomes.{once}
+use Rattle.at_model.specs.Meaning.{Finds}
+use Rattle.at_model.specs.Nested.{IsGround}
+use Rattle.at_model.specs.of_fixpoints.Fixpoints.{HasValue}
+use Rattle.at_model.proofs.of_formulas.UniqueOutcomes.{once}
 use Rattle.at_body.specs.Same.{same_instance}
 use Rattle.at_body.specs.Values.{value_view}
 use Rattle.at_body.specs.declared.value.Value.{Value as ValueCode}
 use Rattle.at_cache.specs.Kept.{Entries}
-use Rattle.at_demand.specs.Known.{meaning, kept_values, KeepsEntries}
-use Rattle.at_demand.specs.Inner.{AreKnown, StayRemembered, known_by, remembered}
+use Rattle.at_demand.specs.Known.{equations, meaning, kept_values, KeepsEntries}
+use Rattle.at_demand.specs.Inner.{AreKnown, StayRemembered, is_inner, known_by, remembered}
+use Rattle.at_demand.specs.Meant.{AreRightValues}
 use Rattle.at_demand.proofs.Entered.{entered, is_there, value_on}
 use Rattle.at_demand.proofs.Sameness.{same_true, same_refl}
+use Rattle.at_demand.proofs.of_nesting.Ground.{ground_of}
 
 -- what stands behind an instance once one more is put
 lookup_insert : (es : List (Instance ℕ × ValueCode)) (i j : Instance ℕ) (x : ValueCode) →
@@ -66,7 +70,7 @@ module _ (rules : Rules) (look : Contents ℕ) where
 
   module _ (entries : Entries) (found : List (Instance ℕ × ValueCode)) (known : AreKnown rules look entries found) where
     -- all that is known holds
-    pub right_by : Right look (meaning rules) (known_by entries found)
+    pub right_by : AreRightValues look (meaning rules) (known_by entries found)
     right_by j v e = by (kept_values entries j) refl e
       where
         by : (o : Option (Value ℕ)) → kept_values entries j ≡ o →
@@ -74,6 +78,9 @@ module _ (rules : Rules) (look : Contents ℕ) where
             HasValue look (meaning rules) j v
         by None is f = known.finds j v f
         by (Some w) is f = known.right j v (is ∙ f)
+
+    pub ground_by : IsGround look (equations rules) (meaning rules) (known_by entries found) (is_inner rules)
+    ground_by = ground_of rules look (known_by entries found) known.circular right_by
 
     -- and has an entry
     pub stands_by : (j : Instance ℕ) (v : Value ℕ) → known_by entries found j ≡ Some v → IsSome (entries j)
@@ -152,6 +159,7 @@ module _ (rules : Rules) (look : Contents ℕ) where
 
       pub known_more : IsSome (entries i) → is_lazy rules i.attribute ≡ false → AreKnown rules look entries more
       known_more some lazy = record {
+        circular = known.circular;
         right = known.right;
         plain = known.plain;
         finds = λ j v e. elim (remembered_now j v e) [

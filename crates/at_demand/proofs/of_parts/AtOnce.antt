@@ -16,7 +16,7 @@ use Rattle.at_apply.specs.Looking.{HasLooked, MayHaveLooked}
 use Rattle.at_apply.specs.Near.{asked}
 use Rattle.at_apply.specs.Parts.{one_of}
 use Rattle.at_demand.specs.declared.direct.Level.{Level}
-use Rattle.at_demand.specs.Known.{meaning}
+use Rattle.at_demand.specs.Known.{equations}
 use Rattle.at_demand.specs.Inner.{HasTold}
 use Rattle.at_demand.specs.InParts.{AsksEachInner, AsksInner, HasCome, Held, MayHaveCome, demand, values_in}
 use Rattle.at_demand.proofs.of_nesting.Asked.{inner_told}
@@ -25,10 +25,10 @@ use Rattle.at_demand.proofs.of_parts.Directly.{come_looked, told_come}
 -- what the evaluation of an instance comes to by looks alone is told, where its attribute isn't lazy
 pub looked_told : (rules : Rules) (s : Shown) (h : Held) (old new : Level) (i : Instance ℕ) (v : Value ℕ) →
     is_lazy rules i.attribute ≡ false → new.uses.items ≡ old.uses.items →
-    HasLooked (contents s) old.reads new.reads (meaning rules i) v →
+    HasLooked (contents s) old.reads new.reads (equations rules i) v →
     HasTold rules (contents s) (values_in h) old new i v
 looked_told rules s h old new i v lazy uses l =
-    inner_told rules s false h old new i v (come_looked rules s h old new (meaning rules i) v uses l) lazy
+    inner_told rules s false h old new i v (come_looked rules s h old new (equations rules i) v uses l) lazy
 
 -- within a fold, at an element of it
 pub asks_inside : (rules : Rules) (p q : Place) (b : Body) (n : ℕ) (o : Option ℕ) → q ≡ inside p n →
@@ -43,7 +43,7 @@ asks_inside rules p q b n (Some a) there h = subst (λ z. AsksInner rules z b n 
 -- an expression that asks the element for an attribute comes to what the instance comes to by looks alone
 pub plain_come : {E : Type 0} (rules : Rules) (s : Shown) (old : Level) (reads : List (Location ℕ)) (p : Place) (b : Body)
     (n a : ℕ) (res : Result (Option ValueCode) E) → AsksInner rules p b n a →
-    IfOk res (MayHaveLooked (contents s) old.reads reads (meaning rules (asked n a p.passed))) →
+    IfOk res (MayHaveLooked (contents s) old.reads reads (equations rules (asked n a p.passed))) →
     IfOk res (MayHaveCome rules (contents s) old (record { reads = reads; uses = old.uses }) (ev rules.classes (body_view b) p))
 plain_come rules s old reads p b n a (Err e) is h = tt
 plain_come rules s old reads p b n a (Ok None) is h =

@@ -2,21 +2,21 @@
 use Rattle.std.proofs.Common.{◌≡◌, ◌<◌, ◌^◌, ℕ, ◌+◌, Bool, List, [], ◌++◌, Option, Some, None, Result, Ok, Err, IfOk, inl, refl, sym, ap, ◌∙◌, subst, append_assoc, append-nil, arith}
 use Rattle.at_model.specs.Run.{Value, Instance, Location, Run, Gives, ◌>>=◌}
 use Rattle.at_model.specs.Follow.{follow}
-use Rattle.at_model.specs.Meaning.{HasValue, Right}
+use Rattle.at_model.specs.of_fixpoints.Fixpoints.{HasValue}
 use Rattle.at_model.specs.Nested.{Tells, Evaluates, gives, told}
 use Rattle.at_model.specs.Rules.{Rules}
 use Rattle.at_model.proofs.of_nesting.Nesting.{binds, evaluates_more, evaluates_deeper, reaches_behind, reaches_within}
 use Rattle.at_store.specs.Shown.{Shown, contents}
 use Rattle.at_apply.specs.Looking.{HasBegun, HasLooked}
 use Rattle.at_demand.specs.declared.direct.Level.{Level}
-use Rattle.at_demand.specs.Known.{meaning, kept_values, IsKept, KeepsEntries}
+use Rattle.at_demand.specs.Known.{equations, meaning, kept_values, IsKept, KeepsEntries}
 use Rattle.at_demand.specs.Inner.{Gains, HasTold, StayRemembered, is_inner}
 use Rattle.at_demand.specs.InParts.{Demanded, HasCome, HasGained, Held, IsHeld, demand, values_in}
 use Rattle.at_demand.specs.Sparing.{IsWorthKeeping}
 use Rattle.at_demand.specs.Traces.{StayJustified}
 use Rattle.at_demand.proofs.Counting.{counts_more, counts_none}
 use Rattle.at_demand.proofs.Entered.{entered_on, is_there, not_none}
-use Rattle.at_demand.proofs.of_nesting.Remembered.{known_on, right_by}
+use Rattle.at_demand.proofs.of_nesting.Remembered.{ground_by, known_on}
 use Rattle.at_demand.proofs.of_parts.Looked.{looked, passes_behind, reaches_past}
 
 -- What was held stays, and all is right.
@@ -26,9 +26,6 @@ pub record Grows (rules : Rules) (s : Shown) (old new : Held) : Type 0 where
   pub right : IsHeld rules (contents s) new
 
 module _ (rules : Rules) (s : Shown) where
-  right_in : (h : Held) → IsHeld rules (contents s) h → Right (contents s) (meaning rules) (values_in h)
-  right_in h is = right_by rules (contents s) h.entries h.found is.known
-
   pub grows_none : (h : Held) → IsHeld rules (contents s) h → Grows rules s h h
   grows_none h is = record { keeps = λ j some. refl; still = λ j v e. e; right = is }
 
@@ -53,36 +50,33 @@ module _ (rules : Rules) (s : Shown) where
     depth = t.depth + p.depth;
     looks = p.looks ++ t.looks;
     takes = p.takes ++ t.takes;
-    evaluates = binds (contents s) (Tells (contents s) (meaning rules) (values_in last) (is_inner rules) (t.depth +
+    evaluates = binds (contents s) (Tells (contents s) (equations rules) (values_in last) (is_inner rules) (t.depth +
         p.depth)) r k a b p.looks t.looks p.takes t.takes first second;
     reads = t.reads ∙ ap (λ z. z ++ t.looks) p.reads ∙ append_assoc old.reads p.looks t.looks;
     uses = t.uses ∙ ap (λ z. z ++ t.takes) p.uses ∙ append_assoc old.uses.items p.takes t.takes;
   }
     where
-      known : Right (contents s) (meaning rules) (values_in last)
-      known = right_in last g.right
-
-      first : Evaluates (contents s) (meaning rules) (values_in last) (is_inner rules) (t.depth + p.depth) r a p.looks
+      first : Evaluates (contents s) (equations rules) (values_in last) (is_inner rules) (t.depth + p.depth) r a p.looks
           p.takes
-      first = evaluates_deeper (contents s) (meaning rules) (values_in last) known (is_inner rules) p.depth t.depth r a
-          p.looks p.takes (evaluates_more (contents s) (meaning rules) (values_in mid) (right_in mid held) (is_inner
+      first = evaluates_deeper (contents s) (equations rules) (values_in last) (is_inner rules) p.depth t.depth r a
+          p.looks p.takes (evaluates_more (contents s) (equations rules) (values_in mid) (is_inner
           rules) (values_in last) (known_so mid last held g) p.depth r a p.looks p.takes p.evaluates)
 
       same : p.depth + t.depth ≡ t.depth + p.depth
       same = omega arith
 
-      second : Evaluates (contents s) (meaning rules) (values_in last) (is_inner rules) (t.depth + p.depth) (k a) b
+      second : Evaluates (contents s) (equations rules) (values_in last) (is_inner rules) (t.depth + p.depth) (k a) b
           t.looks t.takes
-      second = subst (λ n. Evaluates (contents s) (meaning rules) (values_in last) (is_inner rules) n (k a) b t.looks
-          t.takes) same (evaluates_deeper (contents s) (meaning rules) (values_in last) known (is_inner rules) t.depth
-          p.depth (k a) b t.looks t.takes (subst (λ z. Evaluates (contents s) (meaning rules) (values_in last) (is_inner
+      second = subst (λ n. Evaluates (contents s) (equations rules) (values_in last) (is_inner rules) n (k a) b t.looks
+          t.takes) same (evaluates_deeper (contents s) (equations rules) (values_in last) (is_inner rules) t.depth
+          p.depth (k a) b t.looks t.takes (subst (λ z. Evaluates (contents s) (equations rules) (values_in last) (is_inner
           rules) t.depth z b t.looks t.takes) (sym is) t.evaluates))
 
   -- by looks alone
   pub come_looked : {A : Type 0} (h : Held) (old new : Level) (r : Run ℕ A) (a : A) → new.uses.items ≡ old.uses.items →
       HasLooked (contents s) old.reads new.reads r a → HasCome rules (contents s) h old new r a
   come_looked h old new r a same l =
-      let (ls, p, is) = looked (contents s) (Tells (contents s) (meaning rules) (values_in h) (is_inner rules) 0)
+      let (ls, p, is) = looked (contents s) (Tells (contents s) (equations rules) (values_in h) (is_inner rules) 0)
       old.reads new.reads r a l in
       record {
         depth = 0;
@@ -116,7 +110,7 @@ module _ (rules : Rules) (s : Shown) where
     depth = p.depth;
     looks = b.looks ++ p.looks;
     takes = p.takes;
-    evaluates = passes_behind (contents s) (Tells (contents s) (meaning rules) (values_in h) (is_inner rules) p.depth)
+    evaluates = passes_behind (contents s) (Tells (contents s) (equations rules) (values_in h) (is_inner rules) p.depth)
         r b.looks q a p.looks p.takes b.goes p.evaluates;
     reads = p.reads ∙ ap (λ z. z ++ p.looks) b.reads ∙ append_assoc old.reads b.looks p.looks;
     uses = p.uses ∙ ap (λ z. z ++ p.takes) same;
@@ -200,8 +194,8 @@ module _ (rules : Rules) (s : Shown) (exact : Bool) where
       within m d = reaches_within (contents s) (meaning rules) r k m d
 
       behind : (m : Instance ℕ) → Demanded rules (contents s) q m → Demanded rules (contents s) (r >>= k) m
-      behind m d = reaches_behind (contents s) (meaning rules) (values_in mid) (right_by rules (contents s) mid.entries
-          mid.found g.right.known) (is_inner rules) p.depth r k a p.looks p.takes m p.evaluates
+      behind m d = reaches_behind (contents s) (equations rules) (meaning rules) (values_in mid) (is_inner rules)
+          (ground_by rules (contents s) mid.entries mid.found g.right.known) p.depth r k a p.looks p.takes m p.evaluates
           (subst (λ z. Demanded rules (contents s) z m) (sym is) d)
 
       by : (j : Instance ℕ) → kept_values first.entries j ≡ None → IsKept last.entries j → (o : Option (Value ℕ)) →

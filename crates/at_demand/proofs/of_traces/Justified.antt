@@ -9,7 +9,7 @@ use Rattle.at_model.specs.Rules.{Rules}
 use Rattle.at_store.specs.Shown.{Shown}
 use Rattle.at_cache.specs.declared.keeper.Order.TheVariants as order
 use Rattle.at_cache.specs.Traced.{IsStill, Memories, PutsTrace, StayTraced, Trace}
-use Rattle.at_demand.specs.Known.{meaning}
+use Rattle.at_demand.specs.Known.{equations}
 use Rattle.at_demand.specs.Inner.{is_inner}
 use Rattle.at_demand.specs.Traces.{AreJustified, AreOfTree, IsJustified}
 use Rattle.at_demand.proofs.of_traces.SameWay.{evaluates_same}
@@ -55,14 +55,15 @@ stay_any i v reads uses old new puts j t is = elim (puts j t is) [
 -- and is right still
 pub justified_still : (rules : Rules) (look : Contents ℕ) (before later : Memories) → AreJustified rules look before →
     (i : Instance ℕ) (t : Trace) → IsStill before later i t →
-    IsJustified look (meaning rules) later.last (is_inner rules) i t
-justified_still rules look before later r i t still = stays_justified look look (meaning rules) before.last later.last
+    IsJustified look (equations rules) later.last (is_inner rules) i t
+justified_still rules look before later r i t still = stays_justified look look (equations rules) before.last later.last
     (is_inner rules) i t (r.justified i t still.traced) (λ l h. refl) still.uses
 
 pub stay_justified : (rules : Rules) (look : Contents ℕ) (before later : Memories) → StayTraced before later →
     AreJustified rules look before → AreJustified rules look later
 stay_justified rules look before later stay r = record {
   lazily = λ i t is. r.lazily i t (stay i t is).traced;
+  own = λ i t is. r.own i t (stay i t is).traced;
   value = λ i t is. (stay i t is).value ∙ r.value i t (stay i t is).traced;
   justified = λ i t is. justified_still rules look before later r i t (stay i t is);
 }

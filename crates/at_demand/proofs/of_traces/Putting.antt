@@ -2,8 +2,9 @@
 use Rattle.std.proofs.Common.{◌≡◌, ℕ, Bool, true, false, List, Option, Some, None, inl, inr, refl, sym, ◌∙◌, subst, true≢false}
 use Rattle.std.proofs.lemmas.Option.{same_Some}
 use Rattle.at_model.specs.Run.{Value, Instance, Location}
-use Rattle.at_model.specs.Rules.{Rules, is_lazy}
-use Rattle.at_model.specs.Meaning.{Among, Leads, Right}
+use Rattle.at_model.specs.Rules.{Rules, is_lazy, start_of}
+use Rattle.at_model.specs.Meaning.{Among}
+use Rattle.at_model.specs.of_fixpoints.Resting.{Leads}
 use Rattle.at_model.proofs.of_nesting.Nesting.{only, taken_known}
 use Rattle.at_store.specs.Shown.{Shown, IsIdle, contents}
 use Rattle.at_cache.specs.Kept.{Entries, HasPut, same_location}
@@ -13,7 +14,7 @@ use Rattle.at_cache.specs.declared.keeper.Order.{Order}
 use Rattle.at_cache.specs.declared.keeper.Order.TheVariants as order
 use Rattle.at_cache.specs.Traced.{IsTraceOf, Memories, PutsTrace, StayTraced, Trace}
 use Rattle.at_cache.proofs.Locations.{same_location-is, same_location-itself}
-use Rattle.at_demand.specs.Known.{meaning, kept_values, KeepsEntries}
+use Rattle.at_demand.specs.Known.{equations, meaning, kept_values, KeepsEntries}
 use Rattle.at_demand.specs.Right.{IsThere}
 use Rattle.at_demand.specs.Inner.{AreKnown, AreLazy, IsEvaluated, is_inner, known_by, remembered}
 use Rattle.at_demand.specs.Traces.{AreJustified, AreOfTree, IsJustified, StayJustified}
@@ -22,7 +23,7 @@ use Rattle.at_demand.proofs.Gathered.{any_among}
 use Rattle.at_demand.proofs.OnlyLemmas.{any_one}
 use Rattle.at_demand.proofs.There.{led_there}
 use Rattle.at_demand.proofs.of_nesting.InnerGains.{Found}
-use Rattle.at_demand.proofs.of_nesting.Remembered.{right_by}
+use Rattle.at_demand.proofs.of_nesting.Remembered.{ground_by}
 use Rattle.at_demand.proofs.of_traces.Justified.{contains_of, justified_still, stay_justified, stay_there}
 use Rattle.at_demand.proofs.of_traces.OfTree.{supported_there}
 use Rattle.at_demand.proofs.of_traces.SameWay.{AreAlike, evaluates_same}
@@ -72,19 +73,15 @@ module _ (rules : Rules) (s : Shown) where
 
   module _ (idle : IsIdle s) (i : Instance ℕ) (entries new : Entries) (f : Found) (v : Value ℕ)
       (ls : List (Location ℕ)) (us : List (Instance ℕ)) (o : Order) (m m' : Memories)
-      (known : AreKnown rules (contents s) entries f)
+      (known : AreKnown rules (contents s) entries f) (own : start_of rules i.attribute ≡ None)
       (come : IsEvaluated rules (contents s) (known_by entries f) i v ls us)
       (lazy : is_lazy rules i.attribute ≡ true) (ordered : o ≡ order.AsTaken → AreLazy rules us)
       (stays : KeepsEntries entries new) (last : LastKept m' new) (puts : PutsTrace i (Some v) ls us o m m')
       (r : AreJustified rules (contents s) m) where
-    right : Right (contents s) (meaning rules) (known_by entries f)
-    right = right_by rules (contents s) entries f known
-
     -- what it took was known by its last value
     took_last : o ≡ order.AsTaken → AreAlike (known_by entries f) m'.last us
     took_last is u h =
-        let (w, e) = taken_known (contents s) (meaning rules) (known_by entries f) right (is_inner rules) come.0 i v ls
-        us
+        let (w, e) = taken_known (contents s) (equations rules) (known_by entries f) (is_inner rules) come.0 i v ls us
         come.1 u h in
         let kept = known_kept entries f known u w e (ordered is u (contains_of us u h)) in
         last u w (value_on entries new stays u w kept) ∙ sym e
@@ -96,10 +93,10 @@ module _ (rules : Rules) (s : Shown) where
         subst (λ x. Among x ls) (sym (same_location-is l k is)) among
 
     mine : (t : Trace) → IsTraceOf i (Some v) ls us o m' t →
-        IsJustified (contents s) (meaning rules) m'.last (is_inner rules) i t
+        IsJustified (contents s) (equations rules) m'.last (is_inner rules) i t
     mine t h =
-        let way = evaluates_same (contents s) (contents s) (known_by entries f) m'.last (meaning rules) (is_inner rules)
-        come.0 (meaning rules i) v ls us come.1 (λ l a. refl) (took_last h.ordered) in
+        let way = evaluates_same (contents s) (contents s) (known_by entries f) m'.last (equations rules) (is_inner rules)
+        come.0 (equations rules i) v ls us come.1 (λ l a. refl) (took_last h.ordered) in
         record {
           depth = come.0;
           looks = ls;
@@ -114,13 +111,17 @@ module _ (rules : Rules) (s : Shown) where
         | inl still ↦ r.lazily j t still.traced
         | inr h ↦ subst (λ (x : Instance ℕ). is_lazy rules x.attribute ≡ true) h.0 lazy
       ];
+      own = λ j t is. elim (puts j t is) [
+        | inl still ↦ r.own j t still.traced
+        | inr h ↦ subst (λ (x : Instance ℕ). start_of rules x.attribute ≡ None) h.0 own
+      ];
       value = λ j t is. elim (puts j t is) [
         | inl still ↦ still.value ∙ r.value j t still.traced
         | inr h ↦ subst (λ (x : Instance ℕ). m'.last x ≡ Some t.value) h.0 h.1.last
       ];
       justified = λ j t is. elim (puts j t is) [
         | inl still ↦ justified_still rules (contents s) m m' r j t still
-        | inr h ↦ subst (λ (x : Instance ℕ). IsJustified (contents s) (meaning rules) m'.last (is_inner rules) x t) h.0
+        | inr h ↦ subst (λ (x : Instance ℕ). IsJustified (contents s) (equations rules) m'.last (is_inner rules) x t) h.0
             (mine t h.1)
       ];
     }
@@ -128,8 +129,8 @@ module _ (rules : Rules) (s : Shown) where
     put_there : IsThere s i → AreOfTree s m → AreOfTree s m'
     put_there there all j t l is reads = elim (puts j t is) [
       | inl still ↦ all j t l still.traced reads
-      | inr h ↦ supported_there rules s idle i l there (only (contents s) (meaning rules) (known_by entries f) right
-          (is_inner rules) come.0 i v ls us come.1 l (looked t h.1 l reads))
+      | inr h ↦ supported_there rules s idle i l there (only (contents s) (equations rules) (meaning rules)
+          (known_by entries f) (is_inner rules) (ground_by rules (contents s) entries f known) come.0 i v ls us own come.1 l (looked t h.1 l reads))
     ]
 
     pub put_traced : StayJustified rules s i m m'

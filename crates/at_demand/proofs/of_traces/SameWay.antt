@@ -1,12 +1,15 @@
 -- An evaluation goes the same way where what it looks at and takes is the same; and it comes to what it took next,
 -- once that before
 -- it holds.
-use Rattle.std.proofs.Common.{◌≡◌, ℕ, zero, suc, Bool, List, [], ◌∷◌, ◌++◌, ◌⊎◌, inl, inr, refl, sym, ◌∙◌, subst}
+use Rattle.std.proofs.Common.{◌≡◌, ℕ, zero, suc, Bool, List, [], ◌∷◌, ◌++◌, None, ◌⊎◌, inl, inr, refl, sym, ◌∙◌, subst}
 use Rattle.at_model.specs.Run.{Value, Location, Run, Instance, Contents, Known}
-use Rattle.at_model.specs.Meaning.{Equations, HasValue, Reaches, Comes, Leads, Among, Right}
-use Rattle.at_model.specs.Nested.{Passes, gives, looks, told, Tells, Evaluates}
+use Rattle.at_model.specs.Meaning.{Equations, Reaches, Among}
+use Rattle.at_model.specs.of_fixpoints.Fixpoints.{HasValue}
+use Rattle.at_model.specs.of_fixpoints.Formulas.{Forms}
+use Rattle.at_model.specs.of_fixpoints.Resting.{Leads, stays, goes}
+use Rattle.at_model.specs.Nested.{Passes, gives, looks, told, Tells, Evaluates, IsGround}
 use Rattle.at_model.proofs.Reached.{front_among, back_among}
-use Rattle.at_model.proofs.of_nesting.Nesting.{tells_hold}
+use Rattle.at_model.proofs.of_nesting.Nesting.{comes_own, tells_hold}
 
 -- the same stands at each of the locations
 abbrev pub AreSame : {N : Type 0} → (look later : Contents N) → List (Location N) → Type 0
@@ -92,18 +95,14 @@ alone_there j (f ∷ front) u back e =
     absurd (none_there front u back (tail_same j f [] (front ++ u ∷ back) e))
 
 -- Of what an evaluation took the front is known rightly.
-module _ {N : Type 0} (look : Contents N) (equation : Equations N) (known knows : Known N)
-    (right : Right look equation knows) (inner : Instance N → Bool) where
+module _ {N : Type 0} (look : Contents N) (equation : Equations N) (forms : Forms N) (known knows : Known N)
+    (inner : Instance N → Bool) (ground : IsGround look equation forms knows inner) where
   -- it comes to the instance, or to one that leads to it
   abbrev IsReached : {A : Type 0} → Run N A → Instance N → Type 0
-  IsReached r u = (j : Instance N) × Reaches look (HasValue look equation) r j × Leads look equation j u
+  IsReached r u = (j : Instance N) × Reaches look (HasValue look forms) r j × Leads look forms j u
 
-  further : (i j k : Instance N) → Comes look equation i j → Leads look equation j k → Leads look equation i k
-  further i j k c (inl e) = inr ([], subst (Comes look equation i) e c)
-  further i j k c (inr (is, w)) = inr (j ∷ is, (c, w))
-
-  reached_led : (i u : Instance N) → IsReached (equation i) u → Leads look equation i u
-  reached_led i u (j, c, d) = further i j u c d
+  reached_led : (i u : Instance N) → forms.starts i.attribute ≡ None → IsReached (equation i) u → Leads look forms i u
+  reached_led i u own (j, c, d) = goes i j u (comes_own look equation forms knows inner ground i j own c) d
 
   front_alike : (us f front : List (Instance N)) → front ≡ us ++ f → AreAlike known knows front →
       AreAlike known knows us
@@ -115,14 +114,14 @@ module _ {N : Type 0} (look : Contents N) (equation : Equations N) (known knows 
 
   -- what is told of such ones holds
   told_holds : (n : ℕ) (j : Instance N) (v : Value N) (ls : List (Location N)) (us : List (Instance N)) →
-      Tells look equation known inner n j v ls us → AreAlike known knows us → HasValue look equation j v
-  told_holds n j v ls us t alike = tells_hold look equation knows right inner n j v ls us
+      Tells look equation known inner n j v ls us → AreAlike known knows us → HasValue look forms j v
+  told_holds n j v ls us t alike = tells_hold look equation forms knows inner ground n j v ls us
       (tells_same look look known knows equation inner n j v ls us t (λ l h. refl) alike)
 
   abbrev LeadsNext : ℕ → Type 0
   LeadsNext n = (j : Instance N) (v : Value N) (ls : List (Location N)) (us front : List (Instance N)) (u : Instance N)
       (back : List (Instance N)) → Tells look equation known inner n j v ls us → us ≡ front ++ u ∷ back →
-      AreAlike known knows front → Leads look equation j u
+      AreAlike known knows front → Leads look forms j u
 
   reached_next : {A : Type 0} (n : ℕ) → LeadsNext n → (r : Run N A) (a : A) (ls : List (Location N))
       (us front : List (Instance N)) (u : Instance N) (back : List (Instance N)) →
@@ -141,14 +140,15 @@ module _ {N : Type 0} (look : Contents N) (equation : Equations N) (known knows 
       ]
 
   leads_next : (n : ℕ) → LeadsNext n
-  leads_next zero j v ls us front u back (e, none, is) s alike = inl (alone_there j front u back (sym is ∙ s))
+  leads_next zero j v ls us front u back (e, none, is) s alike =
+      subst (λ z. Leads look forms j z) (alone_there j front u back (sym is ∙ s)) (stays j)
   leads_next (suc n) j v ls us front u back (inl t) s alike = leads_next n j v ls us front u back t s alike
-  leads_next (suc n) j v ls us front u back (inr (_, p)) s alike =
-      reached_led j u (reached_next n (leads_next n) (equation j) v ls us front u back p s alike)
+  leads_next (suc n) j v ls us front u back (inr (is, p)) s alike =
+      reached_led j u (ground.own j is) (reached_next n (leads_next n) (equation j) v ls us front u back p s alike)
 
   -- the instance leads to what its evaluation took next
   pub takes_next : (n : ℕ) (i : Instance N) (v : Value N) (ls : List (Location N)) (us front : List (Instance N))
-      (u : Instance N) (back : List (Instance N)) → Evaluates look equation known inner n (equation i) v ls us →
-      us ≡ front ++ u ∷ back → AreAlike known knows front → Leads look equation i u
-  takes_next n i v ls us front u back p e alike =
-      reached_led i u (reached_next n (leads_next n) (equation i) v ls us front u back p e alike)
+      (u : Instance N) (back : List (Instance N)) → forms.starts i.attribute ≡ None →
+      Evaluates look equation known inner n (equation i) v ls us → us ≡ front ++ u ∷ back → AreAlike known knows front → Leads look forms i u
+  takes_next n i v ls us front u back own p e alike =
+      reached_led i u own (reached_next n (leads_next n) (equation i) v ls us front u back p e alike)

@@ -3,14 +3,16 @@ use Rattle.std.proofs.Common.{◌≡◌, ℕ, suc, ◌+◌, ◌-◌, ◌^◌, �
 use Rattle.std.specs.List.{list_any}
 use Rattle.at_model.specs.Run.{Value, Instance, Location}
 use Rattle.at_model.specs.Rules.{Rules}
-use Rattle.at_model.specs.Meaning.{Among, Leads, Right}
+use Rattle.at_model.specs.Meaning.{Among}
+use Rattle.at_model.specs.of_fixpoints.Resting.{Leads, stays}
 use Rattle.at_store.specs.Shown.{Shown, IsIdle, contents}
 use Rattle.at_body.specs.Same.{same_instance}
 use Rattle.at_cache.specs.Kept.{Entries, Puts, PutsBy, same_location, value_at}
 use Rattle.at_cache.specs.declared.keeper.Put.TheVariants as put
 use Rattle.at_cache.specs.Traced.{AreAllKept, IsNext, Memories, Settled, Trace, below, itself, nothing, one_more}
 use Rattle.at_cache.proofs.Locations.{same_location-is, same_location-itself}
-use Rattle.at_demand.specs.Known.{meaning, kept_values}
+use Rattle.at_demand.specs.Known.{equations, meaning, kept_values}
+use Rattle.at_demand.specs.Meant.{AreCircularWell, AreRightValues}
 use Rattle.at_demand.specs.Inner.{AreKnown, Gains, IsEvaluated, is_inner, known_by}
 use Rattle.at_demand.specs.Traces.{AreJustified}
 use Rattle.at_demand.proofs.Counting.{counts_put}
@@ -19,6 +21,7 @@ use Rattle.at_demand.proofs.Gathered.{any_among}
 use Rattle.at_demand.proofs.Leading.{leads_on}
 use Rattle.at_demand.proofs.OnlyLemmas.{any_one}
 use Rattle.at_demand.proofs.Sameness.{same_true}
+use Rattle.at_demand.proofs.of_nesting.Ground.{ground_of}
 use Rattle.at_demand.proofs.of_nesting.InnerGains.{Found, gains_none, gains_put_so, gains_then, gains_up}
 use Rattle.at_demand.proofs.of_nesting.Remembered.{kept_now}
 use Rattle.at_demand.proofs.of_traces.Justified.{contains_of}
@@ -83,14 +86,15 @@ module _ (m : Memories) where
 module _ (rules : Rules) (s : Shown) (idle : IsIdle s) (exact : Bool) (m : Memories)
     (r : AreJustified rules (contents s) m) where
   -- the instance leads to all that comes next
-  pub next_led : (entries : Entries) → LastKept m entries → Right (contents s) (meaning rules) (kept_values entries) →
-      (q i : Instance ℕ) → IsNext m entries q i → Leads (contents s) (meaning rules) q i
-  next_led entries last right q i itself = inl refl
-  next_led entries last right q i (below j _ t front back n is e all) =
+  pub next_led : (entries : Entries) → LastKept m entries → AreCircularWell rules →
+      AreRightValues (contents s) (meaning rules) (kept_values entries) → (q i : Instance ℕ) → IsNext m entries q i → Leads (contents s) (meaning rules) q i
+  next_led entries last circular right q i itself = stays q
+  next_led entries last circular right q i (below j _ t front back n is e all) =
       let way = r.justified j t is in
-      leads_on (contents s) (meaning rules) q j i (next_led entries last right q j n)
-      (takes_next (contents s) (meaning rules) m.last (kept_values entries) right (is_inner rules) way.depth j t.value
-      way.looks t.uses front i back way.evaluates e (alike_kept m entries front last all))
+      leads_on (contents s) (meaning rules) q j i (next_led entries last circular right q j n)
+      (takes_next (contents s) (equations rules) (meaning rules) m.last (kept_values entries) (is_inner rules)
+      (ground_of rules (contents s) (kept_values entries) circular right) way.depth j t.value
+      way.looks t.uses front i back (r.own j t is) way.evaluates e (alike_kept m entries front last all))
 
   -- a trace whose uses are kept is an evaluation over what is known
   comes : (entries : Entries) (f : Found) (i : Instance ℕ) (t : Trace) → LastKept m entries →
@@ -99,8 +103,8 @@ module _ (rules : Rules) (s : Shown) (idle : IsIdle s) (exact : Bool) (m : Memor
   comes entries f i t last is all =
       let way = r.justified i t is in (
         way.depth,
-        evaluates_same (contents s) (contents s) m.last (known_by entries f) (meaning rules) (is_inner rules)
-            way.depth (meaning rules i) t.value way.looks t.uses way.evaluates (λ l h. refl) alike,
+        evaluates_same (contents s) (contents s) m.last (known_by entries f) (equations rules) (is_inner rules)
+            way.depth (equations rules i) t.value way.looks t.uses way.evaluates (λ l h. refl) alike,
       )
     where
       alike : AreAlike m.last (known_by entries f) t.uses
@@ -117,7 +121,7 @@ module _ (rules : Rules) (s : Shown) (idle : IsIdle s) (exact : Bool) (m : Memor
       let way = r.justified i t is in
       let puts = puts_list exact old new i t.value t.reads way.looks t.uses
       (same_reads t.reads way.looks way.reads way.looked) p in
-      gains_put_so rules s exact i old new f t.value way.looks t.uses known (comes old f i t last is all) (Some t.value)
+      gains_put_so rules s exact i old new f t.value way.looks t.uses known (r.own i t is) (comes old f i t last is all) (Some t.value)
       (inl (refl, r.lazily i t is)) absent w x
       (λ k. counts_put old new exact i t.value way.looks t.uses w x k absent put.Kept puts counted) put.Kept puts
 
@@ -141,7 +145,7 @@ module _ (rules : Rules) (s : Shown) (idle : IsIdle s) (exact : Bool) (m : Memor
       let x = min (w + n) (2 ^ 64 - 1) in
       let y = min (x + 1) (2 ^ 64 - 1) in
       let sum : y ≡ min (w + suc n) (2 ^ 64 - 1) = omega (arith, few) in
-      let led = next_led mid h.last h.gains.known.right q i next in
+      let led = next_led mid h.last h.gains.known.circular h.gains.known.right q i next in
       let one = one_gains mid new f i t x y h.gains.known h.last is absent all p refl in
       let both = gains_then rules s exact q old mid new f f f w x y h.gains
       (gains_up rules s exact idle q i mid new f f x y led one) in

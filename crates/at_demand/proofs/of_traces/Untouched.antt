@@ -11,7 +11,7 @@ use Rattle.at_model.proofs.GrammarKept.{or_off}
 use Rattle.at_store.specs.Shown.{Shown, IsIdle, contents, path, tree}
 use Rattle.at_store.specs.Preparing.{IsCommitted}
 use Rattle.at_cache.specs.Traced.{Trace, Memories, FlushesTraces}
-use Rattle.at_demand.specs.Known.{meaning}
+use Rattle.at_demand.specs.Known.{equations}
 use Rattle.at_demand.specs.Inner.{is_inner}
 use Rattle.at_demand.specs.Touched.{Touches}
 use Rattle.at_demand.specs.Traces.{IsJustified, IsRemembered}
@@ -95,8 +95,8 @@ module _ (rules : Rules) (old new : Shown) (e : Edit) (u : Tree) (idle : IsIdle 
     was : before.traced i ≡ Some t
     was = (flushes i t left).0.traced
 
-    justified_later : IsJustified (contents new) (meaning rules) later.last (is_inner rules) i t
-    justified_later = stays_justified (contents old) (contents new) (meaning rules) before.last later.last
+    justified_later : IsJustified (contents new) (equations rules) later.last (is_inner rules) i t
+    justified_later = stays_justified (contents old) (contents new) (equations rules) before.last later.last
         (is_inner rules) i t (right.justified.justified i t was)
         (λ l h. let (n, p) = right.there i t l was h in same_untouched rules goes l n p ((flushes i t left).1 l h))
         (flushes i t left).0.uses
@@ -109,6 +109,7 @@ module _ (rules : Rules) (old new : Shown) (e : Edit) (u : Tree) (idle : IsIdle 
   remembered_later = record {
     justified = record {
       lazily = λ i t left. right.justified.lazily i t (was i t left);
+      own = λ i t left. right.justified.own i t (was i t left);
       value = λ i t left. (flushes i t left).0.value ∙ right.justified.value i t (was i t left);
       justified = justified_later;
     };

@@ -5,33 +5,42 @@ ghost use Rattle.at_model.specs.Run.{Contents};
 ghost use Rattle.at_model.specs.Instances.{AnyText};
 ghost use Rattle.at_model.specs.Rules.{Rules};
 ghost use Rattle.at_model.specs.TypedRuns.{IsWellTyped};
-ghost use Rattle.at_model.specs.Turning.{asked, posted};
+ghost use Rattle.at_model.specs.Turning.{posted};
+ghost use Rattle.at_model.specs.of_fixpoints.Searching.{posted as search_posted};
 ghost use Rattle.at_store.specs.Shown.{Shown, contents};
 ghost use Rattle.at_body.specs.Typed.{class_shown};
 ghost use Rattle.at_cache.specs.Kept.{Entries};
 ghost use Rattle.at_demand.specs.Answerable.{CanBeTried, CanGoOn, CanTurn, CanTurnWith};
+ghost use Rattle.at_demand.specs.Levels.{IsSearch};
 ghost use Rattle.at_demand.specs.Turns.{IsStanding, IsSparingTurns, under_way};
-ghost use Rattle.at_demand.specs.Answered.{HasTurned, HasTurnedOften, HasTurnedWith, TracesNothing};
-ghost use Rattle.at_demand.specs.Attempts.{HasAttempted, HasComeTo};
+ghost use Rattle.at_demand.specs.Answered.{HasTurned, HasTurnedOften, HasTurnedOn, HasTurnedWith, TracesNothing};
+ghost use Rattle.at_demand.specs.Attempts.{HasAttempted, IsGoing};
+ghost use Rattle.at_demand.specs.Searches.{CanSpoil, CanTryLast, CanTurnOn, HasSpoilt};
+ghost use Rattle.at_demand.specs.Tries.{CanCarryOn, HasCarriedOn};
 ghost use Rattle.at_demand.specs.KeptTrials.{Fit};
+ghost use Rattle.at_demand.specs.LastTried.{CanForm, HasFormed, IsDeeperLast, IsPassedLast, IsSettledLast};
 ghost use Rattle.at_demand.specs.Traces.{StaysTraced};
 
 use super::Demand;
+use super::searching::Resolved;
 use crate::answer::Answer;
 use crate::evaluation::{Find, Frame};
 use crate::question::Question;
 use crate::trials::{Attempt, Trials};
-use at_body::{Inst, Step};
+use crate::trying::{Going, Tried, Trying, came_to_formula, came_to_value};
+use at_body::{Inst, Step, Value};
 use at_cache::{Keeper, Put};
 use at_rules::Rules;
+use at_search::{Ending, Fault, Formed};
 use at_store::Store;
 use indexmap::IndexMap;
-use std::alloc::AllocError;
+use std::alloc::{AllocError, Global};
 
 impl<K: Keeper> Demand<K> {
     /// The question for an instance, as it is before its first turn. It takes no memory as yet, so there is no error.
     pub fn post(&self, inst: Inst) -> Result<Question, AllocError>
         ensures posted { IfOk result (λ q. under_way q ≡ posted inst) }
+        ensures search { (entries : Entries) → IfOk result (λ q. IsSearch entries q (search_posted inst)) }
         ensures standing { (entries : Entries) (rules : Rules) (s : Shown) → IsWellTyped rules (class_shown s) AnyText inst
             → IfOk result (IsStanding rules s entries) }
         ensures sparing { (entries : Entries) (rules : Rules) (look : Contents ℕ) → IfOk result (IsSparingTurns rules look entries) }
@@ -39,9 +48,10 @@ impl<K: Keeper> Demand<K> {
         Ok(Question::new(self.alloc, inst))
     }
 
-    /// One turn of a question that was posted on the tree as it is: its answer, or none, where its chain has one instance more
-    /// or its last instance was found. At most one equation is tried, once, and at most the value of the last instance comes to
-    /// what is kept. An error where memory is wanting; then the question is of no use any more.
+    /// One turn of a question that was posted on the tree as it is: its answer, or none, where its chain has one level more, or
+    /// the equation of its last instance has ended. At most one equation is tried, once, and at most the values of the last instance
+    /// and of those that searches under way have seen come to what is kept. An error where memory is wanting, or where no turn more can
+    /// be counted; then the question is of no use any more.
     pub fn turn(
         &mut self,
         rules: &Rules,
@@ -61,7 +71,7 @@ impl<K: Keeper> Demand<K> {
 
     /// So many turns of a question that was posted on the tree as it is, or fewer where one of them answers it: how many they
     /// were, from 0 up to the limit, and its answer, if there is one. A trial that was begun is gone on with, and not begun anew.
-    /// An error where memory is wanting; then the question is of no use any more.
+    /// An error where memory is wanting, or where no turn more can be counted; then the question is of no use any more.
     pub fn turns(
         &mut self,
         rules: &Rules,
@@ -88,7 +98,8 @@ impl<K: Keeper> Demand<K> {
         Ok((given, None))
     }
 
-    // A turn, which goes on with the trial of the last instance where it is there, and leaves those of the others.
+    // A turn, which goes on with the trial of the last instance where it is there, and leaves those of the others; it is counted where it
+    // doesn't answer the question. An error where memory is wanting, or where no turn more can be counted.
     pub(super) fn turn_with<'a>(
         &mut self,
         rules: &'a Rules,
@@ -104,37 +115,111 @@ impl<K: Keeper> Demand<K> {
         if let Some(value) = self.keeper.get(question.asked()) {
             return Ok(Some(Answer::Value(value.copy()?)));
         }
+        if let Some(answer) = self.turn_on(rules, store, question, trials)? {
+            return Ok(Some(answer));
+        }
+        question.count_turn()?;
+        Ok(None)
+    }
+
+    // The same, where what was asked isn't kept; it isn't counted yet. Where the last instance is kept by now, no equation is tried.
+    fn turn_on<'a>(
+        &mut self,
+        rules: &'a Rules,
+        store: &'a Store,
+        question: &mut Question,
+        trials: &mut Trials<'a>,
+    ) -> Result<Option<Answer>, AllocError>
+        requires { CanTurnOn rules.now store.now (K.contents self.old.keeper) question.old trials.old }
+        ensures { TracesNothing (HasTurnedOn rules.now store.now K.exact (K.contents self.old.keeper) (K.contents self.new.keeper)
+            self.old.work self.new.work question.old question.new trials.new result)
+            (K.memories self.old.keeper) (K.memories self.new.keeper) }
+    {
         if let Some(value) = self.keeper.get(&question.inst) {
+            let value = value.copy()?;
             trials.forget();
-            return question.pass(value.copy()?);
+            if question.level.is_none() {
+                return question.pass(value);
+            }
+            return self.go_along(rules, store, question, trials);
         }
-        let begun = self.trial_of(rules, store, question, trials)?;
-        let (mut frame, step) = begun;
-        match self.go_on(
-            rules,
-            store,
-            &question.found,
-            &question.inst,
-            &mut frame,
-            step,
-        )? {
-            Attempt::Kept(value) => {
-                trials.awaited = Some(question.inst.copy(self.alloc)?);
-                question.pass(value)
-            }
-            Attempt::Found(find) => {
-                trials.awaited = Some(question.inst.copy(self.alloc)?);
-                question.settle(find)
-            }
-            Attempt::Fails(kind) => {
-                let at = question.inst.copy(self.alloc)?;
-                Ok(Some(Answer::Fault { kind, at }))
-            }
-            Attempt::Needs(needed) => {
-                trials.push(frame)?;
-                question.deepen(needed)
+        self.try_last(rules, store, question, trials)
+    }
+
+    // Tries the equation of the last instance, which isn't kept, up to its end or to the demand of an instance that isn't known and has no
+    // fault yet.
+    fn try_last<'a>(
+        &mut self,
+        rules: &'a Rules,
+        store: &'a Store,
+        question: &mut Question,
+        trials: &mut Trials<'a>,
+    ) -> Result<Option<Answer>, AllocError>
+        requires { CanTryLast rules.now store.now (K.contents self.old.keeper) question.old trials.old }
+        ensures { TracesNothing (HasTurnedOn rules.now store.now K.exact (K.contents self.old.keeper) (K.contents self.new.keeper)
+            self.old.work self.new.work question.old question.new trials.new result)
+            (K.memories self.old.keeper) (K.memories self.new.keeper) }
+    {
+        let mut going = self.trial_of(rules, store, question, trials)?;
+        loop {
+            match self.carry_on(rules, store, &question.found, &question.inst, going)? {
+                Tried::Kept(value) => return pass_last(self.alloc, question, trials, value),
+                Tried::Found(find) => return settle_last(self.alloc, question, trials, find),
+                Tried::Forms(formed) => return self.form(rules, store, question, trials, formed),
+                Tried::Fails(kind) => {
+                    let at = question.inst.copy(self.alloc)?;
+                    return self.spoil(rules, store, question, trials, Fault { kind, at });
+                }
+                Tried::Waits(trying, needed) => {
+                    match self.resolve(rules, store, question, &needed)? {
+                        Resolved::Known => going = trying.going(needed),
+                        Resolved::Spoilt(fault) => {
+                            return self.spoil(rules, store, question, trials, fault);
+                        }
+                        Resolved::Back => return self.close(rules, store, question, needed),
+                        Resolved::Open => return deepen_last(question, trials, trying, needed),
+                    }
+                }
             }
         }
+    }
+
+    // The equation of the last instance gives that formula: the search goes on behind it.
+    fn form<'a>(
+        &mut self,
+        rules: &Rules,
+        store: &Store,
+        question: &mut Question,
+        trials: &mut Trials<'a>,
+        formed: Formed,
+    ) -> Result<Option<Answer>, AllocError>
+        requires can { CanForm rules.now store.now (K.contents self.old.keeper) question.old trials.old formed }
+        requires none { trials.old.awaited ≡ None }
+        ensures { HasFormed rules.now store.now K.exact (K.contents self.old.keeper) (K.contents self.new.keeper) (K.memories self.old.keeper)
+            (K.memories self.new.keeper) self.old.work self.new.work question.old question.new trials.new result }
+    {
+        question.end(self.alloc, Ending::Formed(formed))?;
+        self.go_along(rules, store, question, trials)
+    }
+
+    // The equation of the last instance has that fault: where no search is under way that is the answer, else the search goes on.
+    fn spoil<'a>(
+        &mut self,
+        rules: &Rules,
+        store: &Store,
+        question: &mut Question,
+        trials: &mut Trials<'a>,
+        fault: Fault,
+    ) -> Result<Option<Answer>, AllocError>
+        requires { CanSpoil rules.now store.now (K.contents self.old.keeper) question.old trials.old fault }
+        ensures { HasSpoilt rules.now store.now K.exact (K.contents self.old.keeper) (K.contents self.new.keeper) (K.memories self.old.keeper)
+            (K.memories self.new.keeper) self.old.work self.new.work question.old question.new trials.new fault result }
+    {
+        if question.is_plain() {
+            return Ok(Some(Answer::of_fault(fault)));
+        }
+        question.end(self.alloc, Ending::Spoilt(fault))?;
+        self.go_along(rules, store, question, trials)
     }
 
     // The trial of the last instance, begun anew where it isn't there.
@@ -144,18 +229,50 @@ impl<K: Keeper> Demand<K> {
         store: &'a Store,
         question: &Question,
         trials: &mut Trials<'a>,
-    ) -> Result<(Frame<'a>, Step), AllocError>
+    ) -> Result<Going<'a>, AllocError>
         requires { CanBeTried rules.now store.now (K.contents self.now.keeper) question.now trials.old }
-        ensures standing { IfOk result (λ r. HasComeTo rules.now (class_shown store.now) (contents store.now) (K.contents self.now.keeper)
-            question.now.found.entries question.now.inst r.0 r.1) }
+        ensures standing { IfOk result (IsGoing rules.now (class_shown store.now) (contents store.now) (K.contents self.now.keeper)
+            question.now.found.entries question.now.inst) }
         ensures none { trials.new.awaited ≡ None }
         ensures fit { Fit rules.now store.now (K.contents self.now.keeper) question.now trials.new }
     {
         match trials.last() {
-            Some((frame, needed)) => Ok((frame, Step::Need(needed))),
-            None => {
-                let begun = Frame::start(self.alloc, rules, store, &question.inst)?;
-                Ok(begun)
+            Some((trying, needed)) => Ok(trying.going(needed)),
+            None => Going::start(self.alloc, rules, store, &question.inst),
+        }
+    }
+
+    // Goes on with the trial of an instance that isn't kept, up to its end or to an instance that isn't known.
+    fn carry_on<'a>(
+        &mut self,
+        rules: &'a Rules,
+        store: &'a Store,
+        found: &IndexMap<Inst, Find>,
+        inst: &Inst,
+        going: Going<'a>,
+    ) -> Result<Tried<'a>, AllocError>
+        requires { CanCarryOn rules.now store.now (K.contents self.old.keeper) found.now.entries inst.now going }
+        ensures tried { HasCarriedOn rules.now store.now K.exact (K.contents self.old.keeper) (K.contents self.new.keeper) self.old.work self.new.work
+            found.now.entries inst.now result }
+        ensures traces { StaysTraced K.memories self.old.keeper self.new.keeper }
+    {
+        match going {
+            Going::Value(frame, step) => {
+                let mut frame = frame;
+                let attempt = self.go_on(rules, store, found, inst, &mut frame, step)?;
+                Ok(came_to_value(attempt, frame))
+            }
+            Going::Formula(formation, progress) => {
+                let mut formation = formation;
+                let progress = formation.go_on(
+                    self.alloc,
+                    &self.keeper,
+                    found,
+                    rules,
+                    store,
+                    progress,
+                )?;
+                Ok(came_to_formula(self.alloc, progress, formation))
             }
         }
     }
@@ -190,4 +307,45 @@ impl<K: Keeper> Demand<K> {
             Step::Need(needed) => Ok(Attempt::Needs(needed)),
         }
     }
+}
+
+// The last instance came to be kept with this value: the trial of the one below is told of it.
+fn pass_last(
+    alloc: Global,
+    question: &mut Question,
+    trials: &mut Trials<'_>,
+    value: Value,
+) -> Result<Option<Answer>, AllocError>
+    ensures { IfOk result (IsPassedLast question.old question.new trials.old trials.new value) }
+{
+    trials.awaited = Some(question.inst.copy(alloc)?);
+    question.pass(value)
+}
+
+// Its value was found.
+fn settle_last(
+    alloc: Global,
+    question: &mut Question,
+    trials: &mut Trials<'_>,
+    find: Find,
+) -> Result<Option<Answer>, AllocError>
+    ensures { IfOk result (IsSettledLast question.old question.new trials.old trials.new find) }
+{
+    trials.awaited = Some(question.inst.copy(alloc)?);
+    question.settle(find)
+}
+
+// The last instance waits for another one, which is tried at a level of its own.
+fn deepen_last<'a>(
+    question: &mut Question,
+    trials: &mut Trials<'a>,
+    trying: Trying<'a>,
+    needed: Inst,
+) -> Result<Option<Answer>, AllocError>
+    ensures none { IfOk result (λ o. o ≡ None) }
+    ensures deeper { IfOk result (λ o. IsDeeperLast question.old question.new trials.old trials.new trying.entry needed) }
+{
+    trials.push(trying)?;
+    question.deepen(needed)?;
+    Ok(None)
 }

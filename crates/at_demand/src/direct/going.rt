@@ -1,7 +1,7 @@
 //! The recursion of an evaluation in one go: over the parts of expressions, and through the instances that they demand.
 
 ghost use Rattle.std.specs.Prelude.{◌≡◌, ◌≤◌, IfOk, IfSome, OnOk, IsTrue, drop, false, length, map, take, true};
-ghost use Rattle.at_model.specs.Meaning.{HasValue};
+ghost use Rattle.at_model.specs.of_fixpoints.Fixpoints.{HasValue};
 ghost use Rattle.at_store.specs.Shown.{contents};
 ghost use Rattle.at_rules.specs.Bodies.{bodies_view, body_view};
 ghost use Rattle.at_body.specs.Comparing.{IsComparison};
@@ -11,17 +11,17 @@ ghost use Rattle.at_body.specs.Values.{value_view};
 ghost use Rattle.at_apply.specs.Parts.{beside_text, call_of, either_of, fold_of, one_of, two_of};
 ghost use Rattle.at_apply.specs.Place.{place_at};
 ghost use Rattle.at_demand.specs.Known.{meaning};
-ghost use Rattle.at_demand.specs.InParts.{EndsEvaluated, EndsRecalled, EndsTold, EvaluatesTo, GivesLevel, HasGrown, IsEmptied, IsHeld, IsHeldAfresh, IsHeldFor, held_by};
-ghost use Rattle.at_demand.specs.InParts.{AsksEachInner, AsksInner, MayHaveCome};
+ghost use Rattle.at_demand.specs.InParts.{EndsEvaluated, EndsRecalled, EndsTold, EvaluatesTo, GivesLevel, HasGrown, IsEmptied, IsHeld, IsHeldAfresh, IsHeldFor, IsHeldFrom, held_by};
+ghost use Rattle.at_demand.specs.InParts.{AsksEachInner, AsksInner, MayHaveCome, MayHavePassedBy, Seeks};
 ghost use Rattle.at_demand.specs.Sparing.{AreSpare, HasWorthy};
 
-use super::keeping::{few_of, is_small};
+use super::keeping::{few_of, is_circular, is_inner, is_small};
 use super::operands::value_at_once;
 use super::{Direct, Level};
 use crate::basis::Basis;
 use at_apply::{
     Form, Here, Next, Stop, asked_of_each, begin, chosen, compare, compare_with, form_of, lent,
-    node_of, plain_value, settle, truth_in, with_one, with_two,
+    node_of, pass_by, plain_value, settle, truth_in, with_one, with_two,
 };
 use at_body::{Arguments, Binary, Fold, Inst, Reads, Unary, Value, come_to};
 use at_cache::Keeper;
@@ -114,8 +114,11 @@ impl Direct {
         if let Some(value) = recalled {
             return Ok(value);
         }
-        if !basis.rules.is_lazy(needed.attribute()) {
+        if is_inner(basis.rules, needed.attribute()) {
             return self.inner(keeper, basis, level, needed, above);
+        }
+        if is_circular(basis.rules, needed.attribute()) {
+            return Err(Stop::GivesUp);
         }
         let verified = self.verify(keeper, basis, level, &needed, above)?;
         match verified {
@@ -211,7 +214,7 @@ impl Direct {
         inst: &Inst,
         above: usize,
     ) -> Result<Value, Stop>
-        requires { IsHeld basis.now.rules.now (contents basis.now.store.now) (held_by K.contents K.memories keeper.old self.old) }
+        requires { IsHeldFrom basis.now.rules.now (contents basis.now.store.now) (held_by K.contents K.memories keeper.old self.old) inst.now }
         ensures { EndsEvaluated basis.now.rules.now basis.now.store.now K.exact inst.now (held_by K.contents K.memories keeper.old self.old)
             (held_by K.contents K.memories keeper.new self.new) level.old level.new result }
     {
@@ -554,7 +557,7 @@ impl Direct {
         let asked = inner_of_each(basis, here, body);
         let mut inside = here.copy()?;
         let mut going = fold;
-        let mut rest = nodes;
+        let mut rest = behind(basis, level, here, &going, body, &asked, nodes)?;
         while let Some((node, others)) = rest.split_first() {
             inside.bound.push(*node)?;
             let asked_here = asked_inside(basis, here, &inside, body, *node, &asked);
@@ -574,7 +577,7 @@ impl Direct {
                 Next::On(further) => going = further,
                 Next::End(value) => return Ok(value),
             }
-            rest = others;
+            rest = behind(basis, level, here, &going, body, &asked, others)?;
         }
         Ok(come_to(&going))
     }
@@ -618,6 +621,48 @@ fn inner_of_each(basis: &Basis<'_>, here: &Here, body: &Body) -> Option<AttrId>
         return None;
     }
     Some(attribute)
+}
+
+// The nodes behind those at the front that the fold passes by at once, where it seeks one and asks each for the attribute.
+#[inline(always)]
+fn behind<'n>(
+    basis: &Basis<'_>,
+    level: &mut Level,
+    here: &Here,
+    fold: &Fold,
+    body: &Body,
+    asked: &Option<AttrId>,
+    nodes: &'n [Node],
+) -> Result<&'n [Node], Stop>
+    requires { IfSome asked.now (AsksEachInner basis.now.rules.now (place_at here.now) body.now) }
+    ensures { IfOk result (λ rest. MayHavePassedBy basis.now.rules.now (contents basis.now.store.now) (place_at here.now) fold.now body.now
+        level.old level.new nodes.now rest.now) }
+{
+    let Some(attribute) = asked else {
+        return Ok(nodes);
+    };
+    if !seeks(fold) {
+        return Ok(nodes);
+    }
+    pass_by(
+        basis.rules,
+        basis.store,
+        &mut level.reads,
+        here.arguments.as_slice(),
+        *attribute,
+        nodes,
+    )
+}
+
+// Whether the fold is what it was behind an element at which its expression comes to `false`.
+#[inline(always)]
+fn seeks(fold: &Fold) -> bool
+    ensures { IsTrue result → Seeks fold.now }
+{
+    match fold {
+        Fold::Exists | Fold::First => true,
+        Fold::Sum(_) => false,
+    }
 }
 
 // The same attribute, at an element within the fold.

@@ -2,8 +2,8 @@
 
 ghost use Rattle.std.specs.Prelude.{◌≡◌, ◌≢◌, IfNone, IfOk, IfSome, OnErr, OnOk, IsTrue, None, Some, false, true};
 ghost use Rattle.std.specs.Option.{option_map};
-ghost use Rattle.at_model.specs.Meaning.{Leads};
-ghost use Rattle.at_model.specs.Rules.{is_lazy};
+ghost use Rattle.at_model.specs.of_fixpoints.Resting.{Leads};
+ghost use Rattle.at_model.specs.Rules.{is_lazy, start_of};
 ghost use Rattle.at_store.specs.Shown.{contents};
 ghost use Rattle.at_body.specs.Values.{value_view};
 ghost use Rattle.at_body.specs.Same.{same_instance};
@@ -14,6 +14,7 @@ ghost use Rattle.at_cache.specs.declared.keeper.Order.TheVariants as order_code;
 ghost use Rattle.at_demand.specs.Known.{kept_values, meaning};
 ghost use Rattle.at_demand.specs.Inner.{AreKnown, AreLazy, HasRecalled, IsOneOf, known_by, remembered};
 ghost use Rattle.at_demand.specs.InParts.{EndsRecalled, EndsTaken, HasEntered, IsEvaluatedAfresh, IsEvaluatedFor, IsHeld, IsHeldAfresh, LeavesFinds, held_by};
+ghost use Rattle.at_demand.specs.Meant.{AreCircularWell};
 ghost use Rattle.at_demand.specs.Sparing.{Counts};
 
 use super::{Direct, Level};
@@ -43,6 +44,7 @@ impl Direct {
     ) -> Result<Option<Inst>, AllocError>
         requires { IsHeld basis.now.rules.now (contents basis.now.store.now) (held_by K.contents K.memories keeper.now self.now) }
         ensures lazy { IfOk result (λ o. IfSome o (λ i. is_lazy basis.now.rules.now i.attribute ≡ true)) }
+        ensures own { IfOk result (λ o. IfSome o (λ i. start_of basis.now.rules.now i.attribute ≡ None)) }
         ensures unkept { IfOk result (λ o. IfSome o (λ i. kept_values (K.contents keeper.now) i ≡ None)) }
         ensures other { IfOk result (λ o. IfSome o (λ i. i ≢ needed.now)) }
         ensures led { IfOk result (λ o. IfSome o (Leads (contents basis.now.store.now) (meaning basis.now.rules.now) needed.now)) }
@@ -51,6 +53,9 @@ impl Direct {
             return Ok(None);
         };
         if !basis.rules.is_lazy(other.attribute()) {
+            return Ok(None);
+        }
+        if is_circular(basis.rules, other.attribute()) {
             return Ok(None);
         }
         if *other == *needed {
@@ -248,6 +253,26 @@ impl Direct {
             *seen = true;
         }
         Ok(())
+    }
+}
+
+// Whether the attribute isn't lazy: then it isn't circular.
+pub(super) fn is_inner(rules: &Rules, attribute: AttrId) -> bool
+    requires { AreCircularWell rules.now }
+    ensures eager { result ≡ true → is_lazy rules.now attribute ≡ false }
+    ensures own { result ≡ true → start_of rules.now attribute ≡ None }
+    ensures lazy { result ≡ false → is_lazy rules.now attribute ≡ true }
+{
+    !rules.is_lazy(attribute)
+}
+
+// Whether the attribute is circular.
+pub(super) fn is_circular(rules: &Rules, attribute: AttrId) -> bool
+    ensures { result ≡ false → start_of rules.now attribute ≡ None }
+{
+    match rules.start_of(attribute) {
+        Some(_) => true,
+        None => false,
     }
 }
 

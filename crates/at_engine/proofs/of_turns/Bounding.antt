@@ -15,6 +15,7 @@ use Rattle.at_model.specs.WellFormed.{AreWellFormed, IsTreeSound}
 use Rattle.at_model.specs.Machine.{State, Posted as PostedOf, Verdict, Asks, Refuses, each, fit_parameters, line_of, node_named, obeyed, parameters_of, questioned, value_named}
 use Rattle.at_model.proofs.of_machines.WellAsked.{well_asked}
 use Rattle.at_store.specs.Shown.{IsIdle, Shown, path, tree}
+use Rattle.at_rules.specs.Circular.{HasNoneCircular}
 use Rattle.at_cache.specs.Kept.{Entries}
 use Rattle.at_demand.specs.Turns.{under_way}
 use Rattle.at_demand.specs.declared.question.Question.{Question}
@@ -80,7 +81,9 @@ by_marks : (b : Bool) (v : Verdict) (i : Instance Node) → (if b then Refuses c
 by_marks true v i e = absurd cc
 by_marks false v i e = e
 
-module _ (rules : Rules) (s : Shown) (idle : IsIdle s) (ok : AreWellFormed rules) (sound : IsTreeSound rules.classes (tree s)) (entries : Entries) where
+module _ (rules : Rules) (s : Shown) (idle : IsIdle s) (ok : AreWellFormed rules)
+    (sound : IsTreeSound rules.classes (tree s)) (none : HasNoneCircular rules)
+    (entries : Entries) where
   abbrev bare : PostedOf → State
   bare q = record { tree = tree s; limit = max_nodes; version = 0; marks = q.marks; posts = 0; posted = [] }
 
@@ -88,14 +91,16 @@ module _ (rules : Rules) (s : Shown) (idle : IsIdle s) (ok : AreWellFormed rules
   few_begun p q b =
       let v = posted_view (path s) p in
       let formed = well_asked rules (bare v) (line_of v) b.named b.asks in
-      let few = few_on rules s idle (asked (under_way q)) b.named b.like ok sound formed (under_way q) b.standing.on in
+      let few = few_on rules s idle (asked (under_way q)) b.named b.like ok sound formed (under_way q)
+      (b.standing.plainly none).on in
       let obeys = by_marks _ (obeyed rules (bare v) v.session (Ask v.place v.attribute v.arguments)) b.named b.asks in
       let same = same_universe rules (tree s) b.named.arguments (texts_in v.arguments) (texts_asked rules (bare v) v.session v.place v.attribute v.arguments b.named obeys) in
       omega (arith, few, same)
 
   few_given : (p : Posted) (o : Option Question) → HasBegun rules s entries p o → turns_given o ≤ 2 * universe_of rules (tree s) (posted_view (path s) p) + 1
   few_given p None h = omega arith
-  few_given p (Some q) h = few_begun p q h
+  few_given p (Some q) h = subst (λ k. k ≤ 2 * universe_of rules (tree s) (posted_view (path s) p) + 1)
+      (sym (h.standing.plainly none).turns) (few_begun p q h)
 
   -- the question of that number has few turns
   pub few_found : (number : ℕ) (ps : List Posted) → AllByRecursion (IsPostedOn rules s entries) ps → (q : PostedOf) → find (λ (x : PostedOf). nat_eq number x.number) (map (posted_view (path s)) ps) ≡ Some q
@@ -109,12 +114,17 @@ module _ (rules : Rules) (s : Shown) (idle : IsIdle s) (ok : AreWellFormed rules
       by false f others = others f
 
 -- the turns of the question of that number
-pub turns_found : (look : ℕ → Option Node) (number : ℕ) (ps : List Posted) → option_map (λ (p : Posted). turns_given p.question) (find (λ (p : Posted). nat_eq number p.number) ps)
-    ≡ option_map (λ (q : PostedOf). q.turns) (find (λ (q : PostedOf). nat_eq number q.number) (map (posted_view look) ps))
-turns_found look number [] = refl
-turns_found look number (p ∷ ps) = by (nat_eq number p.number) (turns_found look number ps)
+pub turns_found : (s : Shown) (number : ℕ) (ps : List Posted) →
+    option_map (λ (p : Posted). turns_given p.question) (find (λ (p : Posted). nat_eq number p.number) ps)
+    ≡ option_map (λ (q : PostedOf). q.turns) (find (λ (q : PostedOf). nat_eq number q.number) (map (posted_view (path s)) ps))
+turns_found s number [] = refl
+turns_found s number (p ∷ ps) = by (nat_eq number p.number) (turns_found s number ps)
   where
-    by : (b : Bool) → option_map (λ (p : Posted). turns_given p.question) (find (λ (p : Posted). nat_eq number p.number) ps) ≡ option_map (λ (q : PostedOf). q.turns) (find (λ (q : PostedOf). nat_eq number q.number) (map (posted_view look) ps))
-        → option_map (λ (x : Posted). turns_given x.question) (cond b (Some p) (find (λ (x : Posted). nat_eq number x.number) ps)) ≡ option_map (λ (q : PostedOf). q.turns) (cond b (Some (posted_view look p)) (find (λ (q : PostedOf). nat_eq number q.number) (map (posted_view look) ps)))
-    by true e = refl
-    by false e = e
+    by : (b : Bool) → option_map (λ (x : Posted). turns_given x.question) (find (λ (x : Posted). nat_eq number x.number) ps)
+        ≡ option_map (λ (q : PostedOf). q.turns) (find (λ (q : PostedOf). nat_eq number q.number) (map (posted_view (path s)) ps))
+        → option_map (λ (x : Posted). turns_given x.question)
+        (cond b (Some p) (find (λ (x : Posted). nat_eq number x.number) ps))
+        ≡ option_map (λ (q : PostedOf). q.turns) (cond b (Some (posted_view (path s) p))
+        (find (λ (q : PostedOf). nat_eq number q.number) (map (posted_view (path s)) ps)))
+    by true others = refl
+    by false others = others

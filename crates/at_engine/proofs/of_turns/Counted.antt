@@ -10,12 +10,14 @@ use Rattle.at_model.specs.Turning as model
 use Rattle.at_model.proofs.of_machines.Bounded.{answers_right, one_turn, turns_are}
 use Rattle.at_store.specs.Shown.{Shown, contents}
 use Rattle.at_cache.specs.Kept.{Entries}
-use Rattle.at_demand.specs.Known.{kept_values, meaning}
-use Rattle.at_demand.specs.Turns.{AreTurns, BreaksOff, IsStanding, more, under_way}
+use Rattle.at_demand.specs.Known.{kept_values, equations}
+use Rattle.at_demand.specs.Turns.{AreTurnsOfChain as AreTurns, BreaksOffChain as BreaksOff, IsStandingPlainly, under_way}
 use Rattle.at_demand.specs.Turns as turns
 use Rattle.at_demand.specs.declared.question.Question.{Question}
 use Rattle.at_demand.specs.declared.demand.Demand.{Demand}
+use Rattle.at_rules.specs.Circular.{HasNoneCircular}
 use Rattle.at_engine.specs.Engines.{rules_of}
+use Rattle.at_engine.specs.Holding.{HasBegun, IsBegunFor}
 use Rattle.at_engine.specs.Posted.{came_to, turns_given}
 use Rattle.at_engine.specs.Turning.{BreaksOffIn, CountsTurns, EndsSo, IsWithin, RunsOut}
 use Rattle.at_engine.specs.declared.engine.Engine.{Engine}
@@ -51,15 +53,15 @@ module _ (rules : Rules) (s : Shown) where
       → AreTurns rules s (m + n) d u f w o
   turns_both m _ d e _ u v _ _ h (turns.none _ _) = let same : m ≡ m + 0 = omega arith in subst
       (λ k. AreTurns rules s k d u e v None) same h
-  turns_both m _ d e _ u v _ _ h (more n _ x f _ y w o front turned last) =
+  turns_both m _ d e _ u v _ _ h (turns.more n _ x f _ y w o front turned last) =
       let same : m + n + 1 ≡ m + (n + 1) = omega arith in
-      subst (λ k. AreTurns rules s k d u f w o) same (more (m + n) d x f u y w o
+      subst (λ k. AreTurns rules s k d u f w o) same (turns.more (m + n) d x f u y w o
       (turns_both m n d e x u v y None h front) turned last)
 
   -- with the last one for itself
   pub last_turn : (n : ℕ) (d f : Entries) (u w : UnderWay ℕ) (a : Answer ℕ) → AreTurns rules s n d u f w (Some a)
       → BreaksOffIn rules s (Some n) d u f × (0 < n)
-  last_turn _ d f u w a (more n _ x _ _ y _ _ front turned last) =
+  last_turn _ d f u w a (turns.more n _ x _ _ y _ _ front turned last) =
       ((n + 1, omega arith, record { given = n; fewer = omega arith; mid = x; way = y; turns = front; last = last }), omega arith)
 
   pub breaks_behind : (limit : Option ℕ) (d : Entries) (u : UnderWay ℕ) (f : Entries) (w : UnderWay ℕ) (counted : ℕ)
@@ -99,46 +101,52 @@ module _ (rules : Rules) (s : Shown) where
 
   -- turns without an answer
   pub silent_all : (n : ℕ) (d f : Entries) (u w : UnderWay ℕ) → AreTurns rules s n d u f w None
-      → Silent (contents s) (meaning rules) n u w
+      → Silent (contents s) (equations rules) n u w
   silent_all _ d _ u _ (turns.none _ _) = model.none u
-  silent_all _ d f u w (more n _ x _ _ y _ _ front turned last) =
+  silent_all _ d f u w (turns.more n _ x _ _ y _ _ front turned last) =
       let next : suc n ≡ n + 1 = omega arith in
-      subst (λ k. Silent (contents s) (meaning rules) k u w) next (one_more (kept_values x)
+      subst (λ k. Silent (contents s) (equations rules) k u w) next (one_more (kept_values x)
       (silent_all n d x u y front) turned)
 
-  module _ (entries : Entries) (q : Question) (standing : IsStanding rules s entries q) where
+  module _ (entries : Entries) (q : Question) (standing : IsStandingPlainly rules s q) where
     pub asked_by_turns : (n : ℕ) (f : Entries) (w : UnderWay ℕ) → AreTurns rules s n entries (under_way q) f w None
         → asked w ≡ asked (under_way q)
     asked_by_turns n f w each =
-        (turns_are (contents s) (meaning rules) n (asked (under_way q)) (under_way q) w (silent_all n entries f
+        (turns_are (contents s) (equations rules) n (asked (under_way q)) (under_way q) w (silent_all n entries f
         (under_way q) w each) standing.on).0.starts
 
     pub answers_by_turns : (n : ℕ) (f : Entries) (w : UnderWay ℕ) (a : Answer ℕ)
         → AreTurns rules s n entries (under_way q) f w (Some a)
-        → Answers (contents s) (meaning rules) (asked (under_way q)) a
-    answers_by_turns _ f w a (more n _ x _ _ y _ _ front turned last) =
+        → Answers (contents s) (equations rules) (asked (under_way q)) a
+    answers_by_turns _ f w a (turns.more n _ x _ _ y _ _ front turned last) =
         let silent = silent_all n entries x (under_way q) y front in
-        let on = (turns_are (contents s) (meaning rules) n (asked (under_way q))
+        let on = (turns_are (contents s) (equations rules) n (asked (under_way q))
         (under_way q) y silent standing.on).0 in
-        answers_right (contents s) (meaning rules) (asked (under_way q)) y on (kept_values x) w a turned
+        answers_right (contents s) (equations rules) (asked (under_way q)) y on (kept_values x) w a turned
 
 -- how many turns the question was given
 pub turns_counted : (rules : Rules) (s : Shown) (n : ℕ) (d f : Entries) (u w : UnderWay ℕ)
     → AreTurns rules s n d u f w None → turns_of w ≡ turns_of u + n
 turns_counted rules s _ d _ u _ (turns.none _ _) = omega arith
-turns_counted rules s _ d f u w (more n _ x _ _ y _ _ front turned last) =
+turns_counted rules s _ d f u w (turns.more n _ x _ _ y _ _ front turned last) =
     omega (
       arith,
       turns_counted rules s n d x u y front,
-      one_turn (contents s) (meaning rules)
+      one_turn (contents s) (equations rules)
           (kept_values x) y w turned,
     )
 
-pub given_by : (before : Option Question) (i : Instance ℕ) (q : Question) (now : Option Question) → now ≡ Some q
-    → (n : ℕ)
-    → turns_of (under_way q) ≡ turns_of (came_to before i) + n → turns_given now ≡ turns_given before + n
-given_by None i q now is n count = ap turns_given is ∙ count
-given_by (Some x) i q now is n count = ap turns_given is ∙ count
+-- so many more were counted
+pub given_by : (rules : Rules) → HasNoneCircular rules → (s : Shown) (entries more : Entries) (p r : Posted) (before now : Option Question)
+    → HasBegun rules s entries p before → HasBegun rules s more r now → (i : Instance ℕ) (q : Question) → now ≡ Some q
+    → (n : ℕ) → turns_of (under_way q) ≡ turns_of (came_to before i) + n → turns_given now ≡ turns_given before + n
+given_by rules none s entries more p r None now old new i q is n count =
+    let begun : IsBegunFor rules s more r q = subst (HasBegun rules s more r) is new in
+    ap turns_given is ∙ (begun.standing.plainly none).turns ∙ count
+given_by rules none s entries more p r (Some x) now old new i q is n count =
+    let begun : IsBegunFor rules s more r q = subst (HasBegun rules s more r) is new in
+    ap turns_given is ∙ (begun.standing.plainly none).turns ∙ count
+    ∙ ap (λ k. k + n) (sym (old.standing.plainly none).turns)
 
 -- there is one at least
 pub some_silent : (A : Type 0) (limit : Option ℕ) (given counted : ℕ) → CountsTurns {A = A} limit given counted None

@@ -1,6 +1,7 @@
 -- What the turns of the first open question come to, in the words of the machine.
 use Rattle.std.proofs.Common.{◌≡◌, ℕ, zero, suc, ◌+◌, ◌-◌, ◌<◌, ◌≤◌, Bool, true, false, not, if◌then◌else◌, List, [], ◌∷◌, ◌++◌, length, map, Option, Some, None, Result, Ok, Err, IfOk, refl, sym, ap, ◌∙◌, subst, arith, append-nil}
 use Rattle.std.proofs.lemmas.List.{length-map}
+use Rattle.std.specs.List.{AllByRecursion}
 use Rattle.std.specs.Prelude.{slice_get, slice_set, remove, IfSome, IsTrue, MatchBool, Vec, vec_capacity}
 use Rattle.std.specs.Global.{Global}
 use Rattle.std.proofs.lemmas.Option.{slice_get_within}
@@ -20,7 +21,7 @@ use Rattle.at_demand.specs.declared.demand.Demand.{Demand}
 use Rattle.at_demand.specs.declared.question.Question.{Question}
 use Rattle.at_rules.specs.Circular.{HasNoneCircular}
 use Rattle.at_engine.specs.Engines.{marks_of, rules_of, state_of, IsHeld, IsSound, IsTyped, Knows}
-use Rattle.at_engine.specs.Holding.{state_in, IsSoundWith}
+use Rattle.at_engine.specs.Holding.{state_in, HasBegun, IsPostedOn, IsSoundWith}
 use Rattle.at_engine.specs.Posted.{came_to, posted_view, turns_given}
 use Rattle.at_engine.specs.Keeping.{IsSpare}
 use Rattle.at_engine.specs.Serving.{Calls}
@@ -121,6 +122,9 @@ module _ {K : Type 0} (exact : Bool) (kept : K → Entries) (e : Engine K) {memo
 
   abbrev at_turn : ℕ → State
   at_turn t = record (state_of e) { posted = record (view p) { turns = t } ∷ map view others }
+
+  first_begun : HasBegun (rules_of e) e.store (kept e.demand.keeper) p p.question
+  first_begun = (subst (AllByRecursion (IsPostedOn (rules_of e) e.store (kept e.demand.keeper))) least sound.posted).0.begun
 
   as_now : at_turn (turns_given p.question) ≡ state_of e
   as_now = ap (λ (l : List PostedOf). record (state_of e) { posted = l }) (sym viewed)
@@ -245,14 +249,26 @@ module _ {K : Type 0} (exact : Bool) (kept : K → Entries) (e : Engine K) {memo
                 (subst (λ (d : Demand K). RunsOut kept limit e d p) (sym demand_end) out)
             by false (is, t) = absurd cc
 
+    -- what is done for it stands
+    begun_now : (o : Option Question) → Reopens 0 e.posts m.posts p o
+        → AllByRecursion (IsPostedOn m.rules m.store (kept m.demand.keeper)) m.posts.items.items
+        → HasBegun (rules_of e) e.store (kept m.demand.keeper) (record p { question = o }) o
+    begun_now o opens all =
+        let items = opens.items ∙ ap (λ (l : List Posted). slice_set l 0 (record p { question = o })) least in
+        let here = subst (λ (x : Engine K). AllByRecursion (IsPostedOn x.rules x.store (kept m.demand.keeper)) m.posts.items.items)
+        rest all in
+        (subst (AllByRecursion (IsPostedOn (rules_of e) e.store (kept m.demand.keeper))) items here).0.begun
+
     -- it has no answer yet
     pub gives_silent : (limit : Option ℕ) (o : Option Question) → Reopens 0 e.posts m.posts p o
         → (counted : ℕ) (before after : List ℕ) → after ≡ before
         → IfSome limit (λ n. 0 < n) → Came {E = AllocError} exact kept limit e m.demand p o (Ok (counted, None))
+        → HasNoneCircular (rules_of e) → AllByRecursion (IsPostedOn m.rules m.store (kept m.demand.keeper)) m.posts.items.items
         → HasGiven exact kept limit e m before after (record { turns = counted; told = None })
-    gives_silent limit o opens counted before after same some (given, counts, still) =
+    gives_silent limit o opens counted before after same some (given, counts, still) none all =
         let start = turns_given p.question in
-        let count : turns_given o ≡ start + given = given_by p.question still.inst still.holds.0 o still.holds.1 given
+        let count : turns_given o ≡ start + given = given_by (rules_of e) none e.store (kept e.demand.keeper) (kept m.demand.keeper)
+        p (record p { question = o }) p.question o first_begun (begun_now o opens all) still.inst still.holds.0 still.holds.1 given
         (turns_counted (rules_of e) e.store given (kept e.demand.keeper) (kept m.demand.keeper)
         (came_to p.question still.inst) (under_way still.holds.0) still.holds.2) in
         let turns = silent_turns (rules_of e) (state_of e) (view p)

@@ -18,7 +18,7 @@ use Rattle.at_demand.specs.Right.{AreRight}
 use Rattle.at_demand.specs.Traces.{IsRemembered}
 use Rattle.at_demand.specs.Sparing.{AreSpare}
 use Rattle.at_demand.specs.declared.question.Question.{Question}
-use Rattle.at_demand.proofs.Standing.{spares_as, stands_grown}
+use Rattle.at_demand.proofs.of_steps.Grown.{spares_grown, stands_grown}
 use Rattle.at_engine.specs.Holding.{HasBegun, IsPostedOn, IsSoundWith, state_in}
 use Rattle.at_engine.specs.Keeping.{IsSpareWith, IsSparingOn}
 use Rattle.at_engine.specs.Marks.{Mark, marks_view}
@@ -131,7 +131,7 @@ module _ (rules : Rules) (s : Shown) (entries more : Entries) (grown : (i : Inst
 
   sparing_grown : (p : Posted) (o : Option Question) → HasBegun rules s entries p o → IsSparingOn rules (contents s) entries o → IsSparingOn rules (contents s) more o
   sparing_grown p None h g = tt
-  sparing_grown p (Some q) h g = spares_as rules s entries more grown q h.standing q refl refl g
+  sparing_grown p (Some q) h g = spares_grown rules s entries more grown q g
 
   all_sparing : (ps : List Posted) → AllByRecursion (IsPostedOn rules s entries) ps → AllByRecursion (λ (p : Posted). IsSparingOn rules (contents s) entries p.question) ps → AllByRecursion (λ (p : Posted). IsSparingOn rules (contents s) more p.question) ps
   all_sparing [] h g = tt

@@ -5,7 +5,7 @@ use Rattle.std.specs.Option.{option_map}
 use Rattle.at_model.specs.Edits.{max_nodes}
 use Rattle.at_model.specs.Alike.{AnswerLike, InstanceLike, Names}
 use Rattle.at_model.specs.Machine.{Refuses, answer_form, line_of}
-use Rattle.at_model.specs.Meaning.{Answer, Answers}
+use Rattle.at_model.specs.Meaning.{Answer}
 use Rattle.at_model.specs.Paths.{Node}
 use Rattle.at_model.specs.Replies.{Form as FormOf, Refused}
 use Rattle.at_model.specs.Run.{Instance}
@@ -17,10 +17,10 @@ use Rattle.at_protocol.specs.declared.reply.Refusal.{Refusal}
 use Rattle.at_store.specs.Shown.{Shown, contents, path, tree}
 use Rattle.at_cache.specs.Kept.{Entries}
 use Rattle.at_cache.specs.Traced.{Memories}
-use Rattle.at_demand.specs.Known.{answer_view, meaning}
+use Rattle.at_demand.specs.Known.{answer_view}
 use Rattle.at_demand.specs.Right.{IsThere}
 use Rattle.at_demand.specs.Sparing.{HasWorthy}
-use Rattle.at_demand.specs.Turns.{AreTurns, IsSparingTurns, IsStanding, under_way}
+use Rattle.at_demand.specs.Turns.{AreTurnsOfChain as AreTurns, IsSparingTurns, under_way}
 use Rattle.at_demand.specs.declared.answer.Answer.{Answer as AnswerCode}
 use Rattle.at_demand.specs.declared.demand.Demand.{Demand}
 use Rattle.at_demand.specs.declared.question.Question.{Question}
@@ -38,6 +38,7 @@ use Rattle.at_engine.specs.declared.posts.Posted.{Posted}
 use Rattle.at_engine.specs.declared.posts.Posts.{Posts}
 use Rattle.at_model.proofs.of_machines.WellAsked.{well_asked}
 use Rattle.at_engine.proofs.Numbered.{answer_named}
+use Rattle.at_engine.proofs.of_turns.Plainly.{circular_well, kept_whole}
 use Rattle.at_engine.proofs.of_turns.Counted.{answers_by_turns, asked_by_turns, breaks_behind, counts_refused, counts_same, silent_same}
 use Rattle.at_engine.proofs.of_turns.Openings.{sound_grown, sound_reopened, spare_grown, spare_reopened}
 use Rattle.at_engine.proofs.Positions.{get_set, holds_at, same_there, set_set, there_at, within_set}
@@ -185,12 +186,15 @@ module _ {K : Type 0} (exact : Bool) (kept : K → Entries) (memories : K
               idle = it.held.idle;
               formed = typed.formed;
               sound = record { conform = it.held.conforming; within = it.held.idle.limits; tokens = typed.tokens };
+              circular = circular_well (rules_of e) typed.none_circular;
             };
             right = it.held.right.values;
             plain = it.held.right.plain;
           };
           standing = b.begun.standing;
+          wholes = kept_whole (rules_of e) typed.none_circular e.store entries it.held.right.values;
         };
+        plainly = typed.none_circular;
         named = record {
           named = b.begun.named;
           like = b.begun.like;
@@ -279,7 +283,8 @@ module _ {K : Type 0} (exact : Bool) (kept : K → Entries) (memories : K
           let new : Engine K = record e { posts = t; demand = d } in
           let (given, counts, each) = h.each in
           let v = posted_view (path e.store) it.posted in
-          let has = answers_by_turns (rules_of e) e.store entries q b.begun.standing given grown (under_way later)
+          let has = answers_by_turns (rules_of e) e.store entries q (b.begun.standing.plainly none) given grown
+          (under_way later)
           (answer_view a) each in
           let (x, like, answers) = answer_named (rules_of e) none e.store it.held.idle asked_for b.begun.named
           (answer_view a) b.begun.like has in
@@ -316,18 +321,18 @@ module _ {K : Type 0} (exact : Bool) (kept : K → Entries) (memories : K
           )
 
       -- it has no answer yet
-      pub not_yet : {E E' : Type 0}
+      pub not_yet : {E E' : Type 0} → HasNoneCircular (rules_of e) →
           (h : HasTurnedUpTo {E = E'} exact (rules_of e) e.store limit entries grown (memories e.demand.keeper)
           (memories d.keeper) q later (Ok (turns, None)))
           (k : Posts) → ((p : Posted) → slice_get t.items.items position ≡ Some p → Reopens position t k p (Some later))
           → Attends exact kept memories e (record e { posts = k; demand = d }) position
           (λ p. HasGone {E = E} exact kept limit e (record e { posts = k; demand = d }) position p (Ok (turns, None)))
-      not_yet {E} {E'} h k keeps =
+      not_yet {E} {E'} none h k keeps =
           let new : Engine K = record e { posts = k; demand = d } in
           let (given, counts, each) = h.each in
           let put = keeps bare there_still in
-          let standing = b.begun.standing in
-          let asks = asked_by_turns (rules_of e) e.store entries q standing given grown (under_way later) each in
+          let asks = asked_by_turns (rules_of e) e.store entries q (b.begun.standing.plainly none) given grown
+          (under_way later) each in
           let still : IsBegunFor (rules_of e) e.store grown bare later = record {
             standing = h.standing;
             named = b.begun.named;

@@ -7,12 +7,14 @@ use Rattle.at_model.specs.Paths.{Node, tree_at}
 use Rattle.at_model.specs.Run.{Value, Int, Truth, Text, Ref, Instance, Location, Is, Contents, Run, Gives, Fails, Looks, Demands, LooksTo}
 use Rattle.at_model.specs.Bodies.{ref_of}
 use Rattle.at_model.specs.Rules.{Rules}
-use Rattle.at_model.specs.Meaning.{Among, HasValue, content, equations}
+use Rattle.at_model.specs.Meaning.{Among, content}
 use Rattle.at_model.specs.Support.{Sees, argument_classes, IsThere, IsValueThere, IsInstanceThere}
 use Rattle.at_model.specs.Alike.{neither, both, ListLike, end, more, ValueLike, int, truth, text, ref, InstanceLike, Names}
 use Rattle.at_model.specs.Edits.{Edit, carried, edited}
 use Rattle.at_model.specs.Touches.{touches}
-use Rattle.at_model.specs.Sparing.{IsUntouched}
+use Rattle.at_model.specs.of_fixpoints.Evaluations.{forms}
+use Rattle.at_model.specs.of_fixpoints.Fixpoints.{HasValue}
+use Rattle.at_model.specs.of_fixpoints.Resting.{IsUntouched, stays}
 use Rattle.at_model.proofs.of_edits.Edited.{gone_where_touched}
 use Rattle.at_model.proofs.of_edits.Edited.{carried_there}
 use Rattle.at_model.proofs.WayUp.{past_them}
@@ -74,12 +76,12 @@ module _ (rules : Rules) (t u : Tree) (e : Edit) (made : edited rules.classes t 
 
   pub instance_carried : (i : Instance Node) → IsInstanceThere t i → IsUntouched rules t e i → (j : Instance Node) × InstanceLike (Names (carried e)) i j
   instance_carried i is free =
-      let (m, goes) = untouched_goes i.node is.node (free (Is i.node) (i, inl refl, inl refl)) in
+      let (m, goes) = untouched_goes i.node is.node (free (Is i.node) (i, stays i, inl refl)) in
       let (ws, like) = values_carried t e i.arguments is.arguments (λ n a here. untouched_goes n here
       (free (Is n) (
         i,
-        inl refl,
-        inr (looked_sees (content t) (HasValue (content t) (equations rules))
+        stays i,
+        inr (looked_sees (content t) (HasValue (content t) (forms rules))
             _ _ (argument_classes i.arguments) (Is n) (past_them (content t) i.arguments _) a),
       ))) in
       (record { node = m; attribute = i.attribute; arguments = ws }, record { node = goes; attribute = refl; arguments = like })

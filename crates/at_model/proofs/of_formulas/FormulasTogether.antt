@@ -10,7 +10,7 @@ use Rattle.at_model.specs.Rules.{Rules, Attribute, start_of}
 use Rattle.at_model.specs.Meaning.{Among, content}
 use Rattle.at_model.specs.Asking.{IsWellFormed}
 use Rattle.at_model.specs.TypedRuns.{IsWellTyped, class_at}
-use Rattle.at_model.specs.Instances.{IsGiven, instances}
+use Rattle.at_model.specs.Instances.{AnyText, IsGiven, instances}
 use Rattle.at_model.specs.WellFormed.{AreWellFormed, IsTreeSound}
 use Rattle.at_model.specs.of_fixpoints.Evaluations.{forms}
 use Rattle.at_model.specs.of_fixpoints.Resting.{Leads}
@@ -21,7 +21,7 @@ use Rattle.at_model.specs.Meaning.{Outcomes, Finds}
 use Rattle.at_model.proofs.of_machines.WellAsked.{well_asked}
 use Rattle.at_model.proofs.Listed.{instance_listed}
 use Rattle.at_model.proofs.of_typing.TypedQuestions.{typed_of_formed, formed_of_typed}
-use Rattle.at_model.proofs.of_typing.TypedTogether.{met}
+use Rattle.at_model.proofs.of_typing.TypedTogether.{met, met_any}
 use Rattle.at_model.proofs.of_formulas.TypedFormulas.{forms_typed, leads_typed, value_typed}
 use Rattle.at_model.specs.TypedRuns.{IsOfItsKind}
 use Rattle.at_model.specs.Paths.{node_eq}
@@ -64,6 +64,14 @@ module _ (rules : Rules) (ok : AreWellFormed rules) (t : Tree)
       value_typed rules (boolean_of rules ok.typed) (class_at t) (IsGiven rules t i.arguments) (content t) (forms rules)
       (λ a. refl) all_typed i v
       (typed_of_formed rules t i formed) h
+
+-- values of well-typed instances are of their kinds, whatever texts are among their arguments
+pub any_of_kind : (rules : Rules) → AreWellFormed rules → AreBoolean rules → (t : Tree) → IsTreeSound rules.classes t →
+    (i : Instance Node) (v : Value Node) → IsWellTyped rules (class_at t) AnyText i → HasValue (content t) (forms rules) i v →
+    IsOfItsKind rules (class_at t) i v
+any_of_kind rules ok boolean t sound i v typed h =
+    value_typed rules boolean (class_at t) AnyText (content t) (forms rules) (λ a. refl)
+    (forms_typed rules t AnyText (met_any rules ok t sound) boolean) i v typed h
 
 pub spread : (rules : Rules) → AreWellFormed rules → (t : Tree) → IsTreeSound rules.classes t →
     (i j : Instance Node) (v : Value Node) → IsWellFormed rules t i → HasValue (content t) (forms rules) i v →

@@ -16,7 +16,7 @@ use Rattle.at_model.specs.of_fixpoints.Circles.{HasNone, WantsNone, Closes, back
 use Rattle.at_model.specs.of_fixpoints.Sets.{plain_forms}
 use Rattle.at_model.proofs.of_formulas.PlainForms.{holds_on_all, holds_back_all, plain_value}
 
-reaches_on : {N : Type 0} (look : Contents N) (Has Had : Instance N → Value N → Type 0) →
+pub reaches_on : {N : Type 0} (look : Contents N) (Has Had : Instance N → Value N → Type 0) →
     ((i : Instance N) (v : Value N) → Has i v → Had i v) → (r : Run N (Value N)) (j : Instance N) →
     Reaches look Has r j → Reaches look Had (r >>= λ v. Gives (Known v)) j
 reaches_on look Has Had on (Gives a) j x = x
@@ -25,7 +25,7 @@ reaches_on look Has Had on (Looks l k) j x = reaches_on look Has Had on (k (look
 reaches_on look Has Had on (Demands i k) j (inl e) = inl e
 reaches_on look Has Had on (Demands i k) j (inr (v, h, x)) = inr (v, on i v h, reaches_on look Has Had on (k v) j x)
 
-reaches_off : {N : Type 0} (look : Contents N) (Has Had : Instance N → Value N → Type 0) →
+pub reaches_off : {N : Type 0} (look : Contents N) (Has Had : Instance N → Value N → Type 0) →
     ((i : Instance N) (v : Value N) → Had i v → Has i v) → (r : Run N (Value N)) (j : Instance N) →
     Reaches look Had (r >>= λ v. Gives (Known v)) j → Reaches look Has r j
 reaches_off look Has Had off (Gives a) j x = x
@@ -35,7 +35,7 @@ reaches_off look Has Had off (Demands i k) j (inl e) = inl e
 reaches_off look Has Had off (Demands i k) j (inr (v, h, x)) =
     inr (v, off i v h, reaches_off look Has Had off (k v) j x)
 
-sees_on : {N : Type 0} (look : Contents N) (Has Had : Instance N → Value N → Type 0) →
+pub sees_on : {N : Type 0} (look : Contents N) (Has Had : Instance N → Value N → Type 0) →
     ((i : Instance N) (v : Value N) → Has i v → Had i v) → (r : Run N (Value N)) (l : Location N) →
     Sees look Has r l → Sees look Had (r >>= λ v. Gives (Known v)) l
 sees_on look Has Had on (Gives a) l x = x
@@ -44,7 +44,7 @@ sees_on look Has Had on (Looks m k) l (inl e) = inl e
 sees_on look Has Had on (Looks m k) l (inr x) = inr (sees_on look Has Had on (k (look m)) l x)
 sees_on look Has Had on (Demands i k) l (v, h, x) = (v, on i v h, sees_on look Has Had on (k v) l x)
 
-sees_off : {N : Type 0} (look : Contents N) (Has Had : Instance N → Value N → Type 0) →
+pub sees_off : {N : Type 0} (look : Contents N) (Has Had : Instance N → Value N → Type 0) →
     ((i : Instance N) (v : Value N) → Had i v → Has i v) → (r : Run N (Value N)) (l : Location N) →
     Sees look Had (r >>= λ v. Gives (Known v)) l → Sees look Has r l
 sees_off look Has Had off (Gives a) l x = x

@@ -63,30 +63,36 @@ which : {N : Type 0} (b : Bool) (r t : Run N (Formula N)) (s u : Run N (Value N)
 which true r t s u e f = e
 which false r t s u e f = f
 
-module _ {N : Type 0} (rules : Rules) (same : N → N → Bool) (none : (attribute : ℕ) → start_of rules attribute ≡ None)
+module _ {N : Type 0} (rules : Rules) (same : N → N → Bool) (i : Instance N) (none : start_of rules i.attribute ≡ None)
   where
-    inherited_plain : (i : Instance N) (height : ℕ) →
+    inherited_plain : (height : ℕ) →
         by_inherited rules same (start_of rules i.attribute) (attribute_name rules i.attribute) i.arguments height
         i.node
         ≡ plain (equation.by_inherited rules same (attribute_name rules i.attribute) i.arguments height i.node)
-    inherited_plain i height =
+    inherited_plain height =
         subst (λ z. by_inherited rules same z (attribute_name rules i.attribute) i.arguments height i.node
         ≡ plain (equation.by_inherited rules same (attribute_name rules i.attribute) i.arguments height i.node)) (sym
-        (none i.attribute)) (above_plain rules same (attribute_name rules i.attribute) i.arguments height i.node)
+        none) (above_plain rules same (attribute_name rules i.attribute) i.arguments height i.node)
 
-    own_plain : (i : Instance N) (c : ℕ) → by_own rules same i c ≡ plain (equation.by_own rules same i c)
-    own_plain i c = subst
+    own_plain : (c : ℕ) → by_own rules same i c ≡ plain (equation.by_own rules same i c)
+    own_plain c = subst
         (λ z. by_equation rules same z (record { this = i.node; names = i.arguments; child = None }) (Fails Null)
-        (own_equation rules c i.attribute) ≡ plain (equation.by_own rules same i c)) (sym (none i.attribute))
+        (own_equation rules c i.attribute) ≡ plain (equation.by_own rules same i c)) (sym none)
         (body_plain rules same (record { this = i.node; names = i.arguments; child = None }) (Fails Null) (Fails Null)
         (own_equation rules c i.attribute) refl)
 
-    within_plain : (height : ℕ) (i : Instance N) →
+    within_plain : (height : ℕ) →
         evaluation_within height rules same i ≡ plain (equation.evaluation_within height rules same i)
-    within_plain height i =
+    within_plain height =
         ap (Looks (Is i.node))
         (λ x c. past_plain i.arguments _ _
-        (which (is_inherited rules i.attribute) _ _ _ _ (inherited_plain i height) (own_plain i c)) x)
+        (which (is_inherited rules i.attribute) _ _ _ _ (inherited_plain height) (own_plain c)) x)
 
-    pub rules_plain : evaluation rules same ≡ plain_forms (λ i. equation.evaluation rules same i)
-    rules_plain = λ x. record { starts = λ a. none a x; formula = λ i. within_plain max_depth i x }
+    -- one that isn't circular is evaluated as it is without any formula
+    pub by_plain_equation : (evaluation rules same).formula i ≡ plain (equation.evaluation rules same i)
+    by_plain_equation = within_plain max_depth
+
+pub rules_plain : {N : Type 0} (rules : Rules) (same : N → N → Bool) → ((attribute : ℕ) → start_of rules attribute ≡ None) →
+    evaluation rules same ≡ plain_forms (λ i. equation.evaluation rules same i)
+rules_plain rules same none =
+    λ x. record { starts = λ a. none a x; formula = λ i. by_plain_equation rules same i (none i.attribute) x }

@@ -8,8 +8,8 @@ use Rattle.at_model.specs.Rules.{Rules}
 use Rattle.at_model.specs.Meaning.{Among, Distinct}
 use Rattle.at_model.specs.Lines.{Line}
 use Rattle.at_model.specs.Machine.{State, Verdict, Refuses, Tells, Leaves, Edits, Asks, Posts, Waits, after, IsSound}
-use Rattle.at_model.specs.Sparing.{KeptAfter, AreWellKept, IsWork}
-use Rattle.at_model.specs.Keeping.{heard, state_after, KeptOver, AreWorks, IsTotalWork, NothingKept, max_work}
+use Rattle.at_model.specs.Sparing.{KeptAfter, AreWellKept, IsWork, SpreadsValues}
+use Rattle.at_model.specs.Keeping.{AreSpreading, heard, state_after, KeptOver, AreWorks, IsTotalWork, NothingKept, max_work}
 use Rattle.at_model.proofs.Members.{no_more}
 use Rattle.at_model.proofs.of_machines.Sound.{sound_line}
 use Rattle.at_model.proofs.of_machines.WellKept.{kept_well}
@@ -19,24 +19,25 @@ sound_heard rules s None sound = sound
 sound_heard rules s (Some l) sound = sound_line rules s sound l
 
 well_heard : (rules : Rules) (s : State) (l : Option Line) (Kept : Instance Node → Type 0)
-    → IsSound rules.classes s → AreWellKept rules s.tree Kept
+    → IsSound rules.classes s → SpreadsValues rules s.tree → AreWellKept rules s.tree Kept
     → AreWellKept rules (after s (heard rules s l)).tree (KeptAfter rules s (heard rules s l) Kept)
-well_heard rules s None Kept sound well = well
-well_heard rules s (Some l) Kept sound well = kept_well rules s l Kept sound well
+well_heard rules s None Kept sound spreads well = well
+well_heard rules s (Some l) Kept sound spreads well = kept_well rules s l Kept sound spreads well
 
 pub sound_over : (rules : Rules) (s : State) (ls : List (Option Line)) → IsSound rules.classes s → IsSound rules.classes (state_after rules s ls)
 sound_over rules s [] sound = sound
 sound_over rules s (l ∷ ls) sound = sound_over rules (after s (heard rules s l)) ls (sound_heard rules s l sound)
 
 well_over : (rules : Rules) (s : State) (ls : List (Option Line)) (Kept : Instance Node → Type 0)
-    → IsSound rules.classes s → AreWellKept rules s.tree Kept
+    → IsSound rules.classes s → AreSpreading rules s ls → AreWellKept rules s.tree Kept
     → AreWellKept rules (state_after rules s ls).tree (KeptOver rules s ls Kept)
-well_over rules s [] Kept sound well = well
-well_over rules s (l ∷ ls) Kept sound well = well_over rules (after s (heard rules s l)) ls
-    (KeptAfter rules s (heard rules s l) Kept) (sound_heard rules s l sound) (well_heard rules s l Kept sound well)
+well_over rules s [] Kept sound spread well = well
+well_over rules s (l ∷ ls) Kept sound (spread, more) well = well_over rules (after s (heard rules s l)) ls
+    (KeptAfter rules s (heard rules s l) Kept) (sound_heard rules s l sound) more (well_heard rules s l Kept sound spread well)
 
-pub well_from_nothing : (rules : Rules) (s : State) (ls : List (Option Line)) → IsSound rules.classes s → AreWellKept rules (state_after rules s ls).tree (KeptOver rules s ls NothingKept)
-well_from_nothing rules s ls sound = well_over rules s ls NothingKept sound (record { lazy = λ i none. absurd none; valued = λ i none. absurd none; deep = λ i j none leads is. none })
+pub well_from_nothing : (rules : Rules) (s : State) (ls : List (Option Line)) → IsSound rules.classes s → AreSpreading rules s ls
+    → AreWellKept rules (state_after rules s ls).tree (KeptOver rules s ls NothingKept)
+well_from_nothing rules s ls sound spread = well_over rules s ls NothingKept sound spread (record { lazy = λ i none. absurd none; valued = λ i none. absurd none; deep = λ i j none leads is. none })
 
 as_many : {A : Type 0} (xs ys : List A) → Distinct xs → Distinct ys → ((a : A) → Among a xs → Among a ys) → ((a : A) → Among a ys → Among a xs) → length xs ≡ length ys
 as_many xs ys d e f g = let a = no_more xs ys d f in let b = no_more ys xs e g in omega (arith, a, b)

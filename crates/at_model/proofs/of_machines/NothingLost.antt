@@ -9,11 +9,12 @@ use Rattle.at_model.specs.Alike.{InstanceLike, Names}
 use Rattle.at_model.specs.Edits.{Edit, carried, edited}
 use Rattle.at_model.specs.Lines.{Line}
 use Rattle.at_model.specs.Machine.{State, Verdict, Edits, after, verdict, IsSound}
-use Rattle.at_model.specs.Sparing.{KeptAfter, IsUntouched}
+use Rattle.at_model.specs.Sparing.{KeptAfter}
+use Rattle.at_model.specs.of_fixpoints.Resting.{IsUntouched}
 use Rattle.at_model.specs.Keeping.{heard, state_after, KeptOver, NothingKept}
 use Rattle.at_model.proofs.of_edits.Changes.{whole}
 use Rattle.at_model.proofs.of_machines.Sound.{Safe, refused, told, asked, left, edits, posts, waited, safe}
-use Rattle.at_model.proofs.WithinTree.{demands_stay}
+use Rattle.at_model.proofs.of_formulas.Untouched.{forms_stay}
 use Rattle.at_model.proofs.of_machines.WellAsked.{well_asked, well_there}
 use Rattle.at_model.proofs.of_edits.CarriedInstances.{instance_carried, instance_there}
 use Rattle.at_model.proofs.of_machines.KeptOverLines.{sound_heard, sound_over, kept_next}
@@ -32,7 +33,7 @@ module _ (rules : Rules) (s : State) (Kept : Instance Node → Type 0) (sound : 
   there_by l v is (waited number) = there
   there_by l v is (asked q) = λ i h. elim h [
     | inl kept ↦ there i kept
-    | inr worth ↦ demands_stay rules s.tree q i (well_there rules s.tree q (well_asked rules s l q is)) worth.reached
+    | inr worth ↦ forms_stay rules s.tree q i (well_there rules s.tree q (well_asked rules s l q is)) worth.reached
   ]
   there_by l v is (edits e t made) = λ j (i, kept, free, like).
       instance_there rules s.tree t e (within_edited s.limit rules.classes s.tree e t made).0 sound.tree_conforms i j like (there i kept)

@@ -94,6 +94,8 @@ module _ {N : Type 0} (look : Contents N) (forms : Forms N) (told : IsTold (Inst
       (turned.spoilt_below look forms told kept right q whole valued s b l ls on k at h))
       (ended_fresh look forms q l.next (tried_at ls) s.ended below_fresh) y e in
       (g, omega (arith, size, n))
+  follows_fresh s new o b f (turn.tells more a y) e =
+      follows_fresh (record s { told = more }) new o (turned.told_on look forms told kept right q whole valued s b more a) f y e
 
   -- a turn without an answer counts one, and no equation is tried twice
   pub turned_fresh : (s new : Search N) (o : Option (Answer N)) → IsOn look forms q s →

@@ -47,7 +47,7 @@ module _ {N : Type 0} (look : Contents N) (forms : Forms N) where
       (come.closes j (closes.deeper l.next root shut fresh (demands, none) off x))
 
 -- where it demands one that has a fault it ends by that
-demanded_fault : {N : Type 0} (look : Contents N) (forms : Forms N) (i k : Instance N) (f : FaultKind) (at : Instance N)
+pub demanded_fault : {N : Type 0} (look : Contents N) (forms : Forms N) (i k : Instance N) (f : FaultKind) (at : Instance N)
     (r : Run N (Formula N)) → Reaches look (HasValue look forms) r k → Holds look forms k (Faults f at) →
     (n : ℕ) × Ends look (HoldsAt look forms n) i r (Spoilt f at)
 demanded_fault look forms i k f at (Gives a) x h = absurd x
@@ -172,6 +172,17 @@ module _ {N : Type 0} (look : Contents N) (forms : Forms N) (told : IsTold (Inst
       let (demands, off, come, rest) = subst (AreStacked look forms s.root) e b.stacked in
       demanded_fault look forms l.next s.root k at (forms.formula l.next) demands h
 
+  -- between two tries, with outcomes of what the levels have seen
+  pub told_on : (s : Looked N) → IsBetween look forms q s → (more : List (Instance N × Outcome N)) →
+      Adds look forms (s.seen ++ under s.below) s.told more → IsBetween look forms q (record s { told = more })
+  told_on s b more a = record {
+    starts = b.starts;
+    come = b.come;
+    stacked = b.stacked;
+    told = adds_hold (s.seen ++ under s.below) s.told more a b.told;
+    ended = b.ended;
+  }
+
   -- a question follows on its tree
   pub follows_on : (s : Looked N) (new : Search N) (o : Option (Answer N)) → IsBetween look forms q s →
       Follows look forms kept s new o → o ≡ None → IsOn look forms q new
@@ -190,6 +201,7 @@ module _ {N : Type 0} (look : Contents N) (forms : Forms N) (told : IsTold (Inst
       (behind_on (fallen_to s l ls ((s.root, Faults k at) ∷ s.told))
       (fallen_on s b l ls ((s.root, Faults k at) ∷ s.told) below (with_fault s b k at h)) (Spoilt k at)
       (spoilt_below s b l ls below k at h)) y e
+  follows_on s new o b (turn.tells more a y) e = follows_on (record s { told = more }) new o (told_on s b more a) y e
 
   -- what it answers then is the answer of what was asked
   pub follows_answers : (s : Looked N) (new : Search N) (o : Option (Answer N)) (a : Answer N) → IsBetween look forms q s →
@@ -218,6 +230,8 @@ module _ {N : Type 0} (look : Contents N) (forms : Forms N) (told : IsTold (Inst
       (behind_on (fallen_to s l ls ((s.root, Faults k at) ∷ s.told))
       (fallen_on s b l ls ((s.root, Faults k at) ∷ s.told) below (with_fault s b k at h)) (Spoilt k at)
       (spoilt_below s b l ls below k at h)) y e
+  follows_answers s new o a b (turn.tells more m y) e =
+      follows_answers (record s { told = more }) new o a (told_on s b more m) y e
 
   pub past_on : (s : Search N) → IsOn look forms q s → (v : Value N) → kept s.last.next ≡ Some v → IsBetween look forms q (past s)
   past_on s o v k =

@@ -92,25 +92,28 @@ expression_typed rules hierarchy t sound s e k scope kinds stands =
     node_eq s e k kinds scope (all_any AnyText (literals e) (λ x. tt)) stands
 
 module _ (rules : Rules) (ok : AreWellFormed rules) (t : Tree) (sound : IsTreeSound rules.classes t) where
-  -- each equation, with arguments of any text
+  -- with arguments of any text
+  pub met_any : AreMet rules t AnyText
+  met_any = record {
+    lined = chained rules.classes ok.hierarchy;
+    typed = ok.typed;
+    complete = ok.complete;
+    conform = sound.conform;
+    short = short_path t sound.within;
+    said = record { own = all_any _ rules.own (λ e. all_any AnyText (literals e.body) (λ x. tt)); inherited = all_any _ rules.inherited (λ e. all_any AnyText (literals e.body) (λ x. tt)) };
+    contents = contents_stand rules.classes t AnyText
+        (record {
+          conform = sound.conform;
+          fit = tokens_written t sound.tokens;
+          said = all_any (λ v. IsAllowed
+              {N = Node} AnyText (value_of v)) (tokens t) (λ v. any_text (value_of v));
+          few = few_nodes t sound.within;
+        });
+  }
+
+  -- each equation with these is typed
   pub evaluated_any : AreEquationsTyped rules (class_at t) AnyText (content t) (equations rules)
-  evaluated_any =
-      equations_typed rules t AnyText (record {
-        lined = chained rules.classes ok.hierarchy;
-        typed = ok.typed;
-        complete = ok.complete;
-        conform = sound.conform;
-        short = short_path t sound.within;
-        said = record { own = all_any _ rules.own (λ e. all_any AnyText (literals e.body) (λ x. tt)); inherited = all_any _ rules.inherited (λ e. all_any AnyText (literals e.body) (λ x. tt)) };
-        contents = contents_stand rules.classes t AnyText
-            (record {
-              conform = sound.conform;
-              fit = tokens_written t sound.tokens;
-              said = all_any (λ v. IsAllowed
-                  {N = Node} AnyText (value_of v)) (tokens t) (λ v. any_text (value_of v));
-              few = few_nodes t sound.within;
-            });
-      })
+  evaluated_any = equations_typed rules t AnyText met_any
 
   module _ (vs : List (Value Node)) where
     pub met : AreMet rules t (IsGiven rules t vs)

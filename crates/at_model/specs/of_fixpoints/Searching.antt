@@ -137,7 +137,7 @@ IsStuck {N} look forms i = (k : Instance N) × Wants look forms i k × HasNone l
 
 -- What becomes of a question between two tries: it goes to the first of those to do that isn't passed, over those whose equations
 -- have ended already; or that is under way at a lower level and has no outcome, and closes a circle. Where all are passed the level
--- goes, with its outcome, which is the question's, or is told to the level below.
+-- goes, with its outcome, which is the question's, or is told to the level below. What is whole of the levels may be told in between.
 pub data Follows {N : Type 0} (look : Contents N) (forms : Forms N) (kept : Known N) :
     Looked N → Search N → Option (Answer N) → Type 0 where
   goes_to : {s : Looked N} {i : Instance N} {rest : List (Instance N)} → First (IsPassed kept s) s.todo i rest →
@@ -158,6 +158,9 @@ pub data Follows {N : Type 0} (look : Contents N) (forms : Forms N) (kept : Know
   faults : {s : Looked N} {new : Search N} {o : Option (Answer N)} (l : Level N) (ls : List (Level N)) (k : FaultKind)
       (at : Instance N) → AreAll (IsPassed kept s) s.todo → s.below ≡ l ∷ ls → Holds look forms s.root (Faults k at) →
       Follows look forms kept (behind (fallen_to s l ls ((s.root, Faults k at) ∷ s.told)) (Spoilt k at)) new o →
+      Follows look forms kept s new o
+  tells : {s : Looked N} {new : Search N} {o : Option (Answer N)} (told : List (Instance N × Outcome N)) →
+      Adds look forms (s.seen ++ under s.below) s.told told → Follows look forms kept (record s { told = told }) new o →
       Follows look forms kept s new o
 
 -- One turn, where these values are kept: the question's own is kept; or the equation of the last level's next one is tried. It ends,

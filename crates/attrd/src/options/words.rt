@@ -5,8 +5,8 @@ ghost use Rattle.clap.specs.Walk.{texts};
 ghost use Rattle.clap.specs.Words.{all_of, app_of, first_of, kind_of, matches_of, one_of, rule_of, takes};
 ghost use Rattle.clap.specs.declared.error.ErrorKind.TheVariants.{OutOfMemory};
 ghost use Rattle.attrd.specs.CommandLine.{command_line, rule, with_words};
-ghost use Rattle.attrd.specs.Options.{Asks, HasValues, IsApart, IsFlag, IsSized, IsUsable, IsWhole, SpellsUpTo};
-ghost use Rattle.attrd.specs.Options.{are_both, is_set, max_connections, max_keep, max_nodes_asked, max_slice, number, number_asked, rows_found};
+ghost use Rattle.attrd.specs.Options.{Asks, HasValues, IsFlag, IsSized, IsUsable, IsWhole, SpellsUpTo};
+ghost use Rattle.attrd.specs.Options.{is_set, max_connections, max_keep, max_nodes_asked, max_slice, number, number_asked, rows_found};
 ghost use Rattle.attrd.specs.declared.options.WordsFault.TheVariants.{Memory};
 
 use super::{Options, WordsFault};
@@ -122,7 +122,7 @@ const WORDS: &[Word] = &[
         most: 0,
         value: "",
         parser: ValueParser::Bool,
-        help: "Keeps what an edit may have changed until it is known that it did",
+        help: "Keeps what an edit may have changed until it is known that it did; with --keep that counts, too",
     },
     Word {
         name: "gather",
@@ -166,28 +166,21 @@ const WORDS: &[Word] = &[
     },
 ];
 
-/// What the words after the program's name ask for. Nothing that the command line takes is refused, but `--cut-off` beside
-/// `--keep`.
+/// What the words after the program's name ask for. Nothing that the command line takes is refused.
 ///
 /// # Errors
 ///
-/// `Words` where they aren't words of the command line, where two of them exclude each other, or where they ask for help or the
-/// version; `Memory` for want of memory.
+/// `Words` where they aren't words of the command line, or where they ask for help or the version; `Memory` for want of memory.
 pub fn options<'a>(alloc: Global, words: &'a [&'a str]) -> Result<Options, WordsFault>
     ensures usable { IfOk result IsUsable }
     ensures sized { IfOk result IsSized }
-    ensures apart { IfOk result IsApart }
     ensures asked { IfOk result (Asks (texts words.entry.now)) }
-    ensures refused { IfErr result (λ e. takes command_line (texts words.entry.now) ≡ true
-        → are_both (matches_of command_line (texts words.entry.now)) ≡ false → e ≡ Memory) }
+    ensures refused { IfErr result (λ e. takes command_line (texts words.entry.now) ≡ true → e ≡ Memory) }
 {
     let matches = match matched(alloc, words) {
         Ok(matches) => matches,
         Err(error) => return Err(fault_of(alloc, &error)),
     };
-    if are_both(&matches) {
-        return Err(clash(alloc));
-    }
     Ok(options_of(alloc, &matches)?)
 }
 
@@ -339,25 +332,6 @@ fn copies(alloc: Global, texts: &[&str]) -> Result<Vec<String>, AllocError>
         copied.push(String::from_str(alloc, text)?)?;
     }
     Ok(copied)
-}
-
-/// Whether the words that exclude each other are both there.
-fn are_both(matches: &ArgMatches<'_>) -> bool
-    requires { IsWhole (rows_found matches.now) }
-    ensures { result ≡ are_both (rows_found matches.now) }
-{
-    has_flag(matches, "cut-off") && keep_of(matches).is_some()
-}
-
-/// What is told of words that exclude each other.
-const CLASH: &str = "error: --cut-off can't be used with --keep";
-
-/// The fault of words that exclude each other.
-fn clash(alloc: Global) -> WordsFault {
-    match String::from_str(alloc, CLASH) {
-        Ok(text) => WordsFault::Words { text },
-        Err(_) => WordsFault::Memory,
-    }
 }
 
 /// The fault of the words that were refused.

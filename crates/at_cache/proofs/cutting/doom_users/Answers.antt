@@ -37,6 +37,7 @@ returns c =
           subst (λ (m : Memory). Work old start [] c.doom_listed-first.result m) (sym same) (c.doom_listed-first.ensures.works old start w2);
       past = (ap (λ (a : Aside). a.pass) aside, passes);
       count = ap (λ (a : Aside). seen_among a.pass a.standings) aside;
+      len = c.exchange_users.ensures.len ∙ ap (λ (a : Aside). a.len) aside ∙ c.exchange_users-users.ensures.len;
     }
 
 pub returns-in-Some : goal.returns-in-Some
@@ -50,4 +51,5 @@ returns-in-Some c =
           (sym (append-nil _ ∙ c.in-Some.ensures)) w);
       past = past_aside c.args.cut.now c.doom_row.new.entries aside;
       count = ap (λ (a : Aside). seen_among a.pass a.standings) aside;
+      len = ap (λ (a : Aside). a.len) aside;
     }

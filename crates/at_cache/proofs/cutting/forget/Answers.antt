@@ -25,6 +25,7 @@ returns-in-Traces c =
       works = λ old start w. taken_so w c.in_ok-mark.ensures.gone c.in_ok-mark.ensures.others e there [] none _ (next ∙ sym c.next.ensures);
       past = c.in_ok-mark.ensures.past;
       fewer = inl (let fewer = c.in_ok-mark.ensures.fewer in omega (arith, fewer));
+      len = c.in_ok-mark.ensures.len;
     }
 
 pub returns-in-Values : goal.returns-in-Values
@@ -38,6 +39,7 @@ returns-in-Values c =
       works = λ old start w. c.doom_users.ensures.works old start (taken_so w c.in_ok-mark.ensures.gone c.in_ok-mark.ensures.others e there (users_at n c.args.slot) users _ (next ∙ sym c.next-in-Values.ensures));
       past = past_both c.args.cut.now c.hide.new.cut c.doom_users.new.cut c.in_ok-mark.ensures.past c.doom_users.ensures.past;
       fewer = inl (let fewer = c.in_ok-mark.ensures.fewer in let count = c.doom_users.ensures.count in omega (arith, fewer, count));
+      len = c.doom_users.ensures.len ∙ c.in_ok-mark.ensures.len;
     }
 
 pub returns-in_err-mark : goal.returns-in_err-mark
@@ -45,4 +47,5 @@ returns-in_err-mark c = record {
   works = λ old start w. absurd (first_there w c.in_err-mark.ensures.none);
   past = c.in_err-mark.ensures.past;
   fewer = inr (c.from_residual.ensures, c.in_err-mark.ensures.same);
+  len = c.in_err-mark.ensures.len;
 }

@@ -1,7 +1,7 @@
-use Rattle.std.proofs.Common.{◌+◌, ◌*◌, List, [], cond, is_some}
+use Rattle.std.proofs.Common.{◌≡◌, ◌+◌, ◌*◌, List, [], cond, is_some}
 use Rattle.at_cache.specs.declared.edge.Edge.{Edge}
 use Rattle.at_cache.specs.Flushing.{Work}
-use Rattle.at_cache.specs.Info.{Memory}
+use Rattle.at_cache.specs.Info.{Memory, table_len}
 use Rattle.at_cache.specs.Marking.{IsPast, seen_by, seen_count}
 use Rattle.at_cache.proofs.cutting.forget_all.Given as goal
 
@@ -9,6 +9,7 @@ abbrev pub invariant-loop-first : goal.invariant-loop-first
 invariant-loop-first l = record {
   works : (old : Memory) (start : List Edge) → Work old start [] l.initial.first (seen_by l.initial.cut) → Work old start [] l.first (seen_by l.cut);
   past : IsPast l.initial.cut l.cut;
+  len : table_len l.cut.entries ≡ table_len l.initial.cut.entries;
 }
 
 abbrev pub decreases-loop-first : goal.decreases-loop-first

@@ -34,4 +34,5 @@ returns c =
       past = (refl, passes_hidden p ss ts m n c.args.slot from c.in_ok-mark.ensures.written c.take_from.ensures.room);
       fewer = c.take_from.ensures.fewer on;
       same = tt;
+      len = c.in_ok-mark.ensures.len;
     }

@@ -6,6 +6,7 @@ use Rattle.at_cache.specs.Info.{memory_of}
 use Rattle.at_cache.proofs.Testing.{indexed_by, tested}
 use Rattle.at_cache.proofs.of_folding.Made.{indexed_then, kept_then, leaves_folded}
 use Rattle.at_cache.proofs.of_folding.Nodes.{noted_still}
+use Rattle.at_cache.proofs.of_folding.Reheld.{folds_held}
 use Rattle.at_cache.proofs.of_folding.Rerun.{all_rerun}
 use Rattle.at_cache.proofs.of_folding.Walking.{folds_by}
 use Rattle.at_cache.proofs.folding.fold.Goals as goal
@@ -36,6 +37,15 @@ returns-clause-kept c puts t =
     on_ok_weaker c.remove_folded.result
     (λ left. leaves_folded (edges_to c.args.readers.now) _ c.args.entries.now c.remove_folded.new.entries puts
     (kept_then i plan lists c.in_ok-links.ensures relinked left)) c.remove_folded.ensures
+
+pub returns-clause-held : goal.returns-clause-held
+returns-clause-held c standings puts on indexed =
+    let relinked = rw c.as_slice.ensures.value at c.in_ok-relink.ensures in
+    let lists = all_rerun (memory_of c.args.entries.now) (slots_at c.args.plan.now) _ _ c.args.readers.now.seats.items _ _ c.in_ok-rewrite.ensures.lists
+    c.in_ok-rerun.ensures.edges in
+    on_ok_weaker c.remove_folded.result
+    (λ left. folds_held standings (edges_to c.args.readers.now) _ puts c.args.entries.now c.remove_folded.new.entries _ (slots_at c.args.plan.now) _ on indexed
+    (c.is_sound.ensures c.if-not-is_sound.false) lists c.in_ok-links.ensures relinked left) c.remove_folded.ensures
 
 pub returns-clause-noted : goal.returns-clause-noted
 returns-clause-noted c nodes h =

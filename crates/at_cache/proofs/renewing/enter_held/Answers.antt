@@ -15,118 +15,113 @@ use Rattle.at_cache.proofs.renewing.enter_held.Goals as goal
 
 pub returns-in_err-links-clause-err : goal.returns-in_err-links-clause-err
 returns-in_err-links-clause-err c = let k = (left_alone (edges_to c.args.readers.now) c.args.cut.now.entries
-    c.args.cut.now.standings.items c.requires.indexed c.requires.tied c.requires.valued c.args.cut.now.standings.items
-    (λ k. refl)).err in search rules
-
-pub returns-in_err-slot-clause-err : goal.returns-in_err-slot-clause-err
-returns-in_err-slot-clause-err c = let k = (left_alone (edges_to c.args.readers.now) c.args.cut.now.entries
-    c.args.cut.now.standings.items c.requires.indexed c.requires.tied c.requires.valued c.args.cut.now.standings.items
+    c.args.cut.now.standings.items c.requires.awaited.indexed c.requires.awaited.tied c.requires.awaited.valued c.args.cut.now.standings.items
     (λ k. refl)).err in search rules
 
 pub returns-in_err-make_standing-clause-indexed : goal.returns-in_err-make_standing-clause-indexed
 returns-in_err-make_standing-clause-indexed c = (left_alone (edges_to c.args.readers.now) c.args.cut.now.entries
-    c.args.cut.now.standings.items c.requires.indexed c.requires.tied c.requires.valued
+    c.args.cut.now.standings.items c.requires.awaited.indexed c.requires.awaited.tied c.requires.awaited.valued
     c.make_standing.new.standings.items c.make_standing.ensures.same).indexed
 
 pub returns-in_err-make_standing-clause-err : goal.returns-in_err-make_standing-clause-err
 returns-in_err-make_standing-clause-err c = let k = (left_alone
-    (edges_to c.args.readers.now) c.args.cut.now.entries c.args.cut.now.standings.items c.requires.indexed
-    c.requires.tied c.requires.valued c.make_standing.new.standings.items c.make_standing.ensures.same).err in
+    (edges_to c.args.readers.now) c.args.cut.now.entries c.args.cut.now.standings.items c.requires.awaited.indexed
+    c.requires.awaited.tied c.requires.awaited.valued c.make_standing.new.standings.items c.make_standing.ensures.same).err in
     search rules
 
 pub returns-in_err-make_standing-clause-traces : goal.returns-in_err-make_standing-clause-traces
 returns-in_err-make_standing-clause-traces c = (left_alone (edges_to c.args.readers.now) c.args.cut.now.entries
-    c.args.cut.now.standings.items c.requires.indexed c.requires.tied c.requires.valued
+    c.args.cut.now.standings.items c.requires.awaited.indexed c.requires.awaited.tied c.requires.awaited.valued
     c.make_standing.new.standings.items c.make_standing.ensures.same).traces c.args.inst
     (option_map value_view c.args.value) (map loc_view c.args.reads.now) c.args.uses.now c.args.order
 
 pub returns-in_err-add_readers-clause-indexed : goal.returns-in_err-add_readers-clause-indexed
 returns-in_err-add_readers-clause-indexed c = (left (edges_to c.args.readers.now)
     (edges_to c.add_readers.new.readers) c.args.cut.now.entries c.args.cut.now.entries
-    c.args.cut.now.standings.items c.make_standing.new.standings.items c.requires.indexed c.requires.tied
-    c.requires.valued refl c.make_standing.ensures.same c.add_readers.ensures.reads (uses_none _ _)).indexed
+    c.args.cut.now.standings.items c.make_standing.new.standings.items c.requires.awaited.indexed c.requires.awaited.tied
+    c.requires.awaited.valued refl c.make_standing.ensures.same c.add_readers.ensures.reads (uses_none _ _)).indexed
 
 pub returns-in_err-add_readers-clause-tied : goal.returns-in_err-add_readers-clause-tied
 returns-in_err-add_readers-clause-tied c = (left (edges_to c.args.readers.now)
     (edges_to c.add_readers.new.readers) c.args.cut.now.entries c.args.cut.now.entries
-    c.args.cut.now.standings.items c.make_standing.new.standings.items c.requires.indexed c.requires.tied
-    c.requires.valued refl c.make_standing.ensures.same c.add_readers.ensures.reads (uses_none _ _)).tied
+    c.args.cut.now.standings.items c.make_standing.new.standings.items c.requires.awaited.indexed c.requires.awaited.tied
+    c.requires.awaited.valued refl c.make_standing.ensures.same c.add_readers.ensures.reads (uses_none _ _)).tied
 
 pub returns-in_err-add_readers-clause-err : goal.returns-in_err-add_readers-clause-err
 returns-in_err-add_readers-clause-err c = let k = (left (edges_to c.args.readers.now)
     (edges_to c.add_readers.new.readers) c.args.cut.now.entries c.args.cut.now.entries
-    c.args.cut.now.standings.items c.make_standing.new.standings.items c.requires.indexed c.requires.tied
-    c.requires.valued refl c.make_standing.ensures.same c.add_readers.ensures.reads (uses_none _ _)).err in search rules
+    c.args.cut.now.standings.items c.make_standing.new.standings.items c.requires.awaited.indexed c.requires.awaited.tied
+    c.requires.awaited.valued refl c.make_standing.ensures.same c.add_readers.ensures.reads (uses_none _ _)).err in search rules
 
 pub returns-in_err-add_readers-clause-traces : goal.returns-in_err-add_readers-clause-traces
 returns-in_err-add_readers-clause-traces c = (left (edges_to c.args.readers.now)
     (edges_to c.add_readers.new.readers) c.args.cut.now.entries c.args.cut.now.entries
-    c.args.cut.now.standings.items c.make_standing.new.standings.items c.requires.indexed c.requires.tied
-    c.requires.valued refl c.make_standing.ensures.same c.add_readers.ensures.reads
+    c.args.cut.now.standings.items c.make_standing.new.standings.items c.requires.awaited.indexed c.requires.awaited.tied
+    c.requires.awaited.valued refl c.make_standing.ensures.same c.add_readers.ensures.reads
     (uses_none _ _)).traces c.args.inst (option_map value_view c.args.value)
     (map loc_view c.args.reads.now) c.args.uses.now c.args.order
 
 pub returns-in_err-add_users-clause-indexed : goal.returns-in_err-add_users-clause-indexed
 returns-in_err-add_users-clause-indexed c = (left (edges_to c.args.readers.now)
     (edges_to c.add_readers.new.readers) c.args.cut.now.entries c.add_users.new.entries
-    c.args.cut.now.standings.items c.make_standing.new.standings.items c.requires.indexed c.requires.tied
-    c.requires.valued refl c.make_standing.ensures.same c.add_readers.ensures.reads c.add_users.ensures.uses).indexed
+    c.args.cut.now.standings.items c.make_standing.new.standings.items c.requires.awaited.indexed c.requires.awaited.tied
+    c.requires.awaited.valued refl c.make_standing.ensures.same c.add_readers.ensures.reads c.add_users.ensures.uses).indexed
 
 pub returns-in_err-add_users-clause-tied : goal.returns-in_err-add_users-clause-tied
 returns-in_err-add_users-clause-tied c = (left (edges_to c.args.readers.now)
     (edges_to c.add_readers.new.readers) c.args.cut.now.entries c.add_users.new.entries
-    c.args.cut.now.standings.items c.make_standing.new.standings.items c.requires.indexed c.requires.tied
-    c.requires.valued refl c.make_standing.ensures.same c.add_readers.ensures.reads c.add_users.ensures.uses).tied
+    c.args.cut.now.standings.items c.make_standing.new.standings.items c.requires.awaited.indexed c.requires.awaited.tied
+    c.requires.awaited.valued refl c.make_standing.ensures.same c.add_readers.ensures.reads c.add_users.ensures.uses).tied
 
 pub returns-in_err-add_users-clause-valued : goal.returns-in_err-add_users-clause-valued
 returns-in_err-add_users-clause-valued c = (left (edges_to c.args.readers.now)
     (edges_to c.add_readers.new.readers) c.args.cut.now.entries c.add_users.new.entries
-    c.args.cut.now.standings.items c.make_standing.new.standings.items c.requires.indexed c.requires.tied
-    c.requires.valued refl c.make_standing.ensures.same c.add_readers.ensures.reads c.add_users.ensures.uses).valued
+    c.args.cut.now.standings.items c.make_standing.new.standings.items c.requires.awaited.indexed c.requires.awaited.tied
+    c.requires.awaited.valued refl c.make_standing.ensures.same c.add_readers.ensures.reads c.add_users.ensures.uses).valued
 
 pub returns-in_err-add_users-clause-err : goal.returns-in_err-add_users-clause-err
 returns-in_err-add_users-clause-err c = let k = (left (edges_to c.args.readers.now)
     (edges_to c.add_readers.new.readers) c.args.cut.now.entries c.add_users.new.entries
-    c.args.cut.now.standings.items c.make_standing.new.standings.items c.requires.indexed c.requires.tied
-    c.requires.valued refl c.make_standing.ensures.same c.add_readers.ensures.reads c.add_users.ensures.uses).err in
+    c.args.cut.now.standings.items c.make_standing.new.standings.items c.requires.awaited.indexed c.requires.awaited.tied
+    c.requires.awaited.valued refl c.make_standing.ensures.same c.add_readers.ensures.reads c.add_users.ensures.uses).err in
     search rules
 
 pub returns-in_err-add_users-clause-traces : goal.returns-in_err-add_users-clause-traces
 returns-in_err-add_users-clause-traces c = (left (edges_to c.args.readers.now)
     (edges_to c.add_readers.new.readers) c.args.cut.now.entries c.add_users.new.entries
-    c.args.cut.now.standings.items c.make_standing.new.standings.items c.requires.indexed c.requires.tied
-    c.requires.valued refl c.make_standing.ensures.same c.add_readers.ensures.reads c.add_users.ensures.uses).traces
+    c.args.cut.now.standings.items c.make_standing.new.standings.items c.requires.awaited.indexed c.requires.awaited.tied
+    c.requires.awaited.valued refl c.make_standing.ensures.same c.add_readers.ensures.reads c.add_users.ensures.uses).traces
     c.args.inst (option_map value_view c.args.value) (map loc_view c.args.reads.now) c.args.uses.now c.args.order
 
 pub returns-in_err-put_in-clause-indexed : goal.returns-in_err-put_in-clause-indexed
 returns-in_err-put_in-clause-indexed c = let kept = rw c.in_err-put_in.was at c.put_in.ensures.err in (left
     (edges_to c.args.readers.now) (edges_to c.add_readers.new.readers) c.args.cut.now.entries
-    c.put_in.new.cut.entries c.args.cut.now.standings.items c.put_in.new.cut.standings.items c.requires.indexed
-    c.requires.tied c.requires.valued refl (λ k. ap (λ (ss : List Standing). standing_of ss k) kept.1
+    c.put_in.new.cut.entries c.args.cut.now.standings.items c.put_in.new.cut.standings.items c.requires.awaited.indexed
+    c.requires.awaited.tied c.requires.awaited.valued refl (λ k. ap (λ (ss : List Standing). standing_of ss k) kept.1
     ∙ c.make_standing.ensures.same k) c.add_readers.ensures.reads (uses_alike (memory_of c.args.cut.now.entries)
     (memory_of c.add_users.new.entries) (memory_of c.put_in.new.cut.entries) kept.0 c.add_users.ensures.uses)).indexed
 
 pub returns-in_err-put_in-clause-tied : goal.returns-in_err-put_in-clause-tied
 returns-in_err-put_in-clause-tied c = let kept = rw c.in_err-put_in.was at c.put_in.ensures.err in (left
     (edges_to c.args.readers.now) (edges_to c.add_readers.new.readers) c.args.cut.now.entries
-    c.put_in.new.cut.entries c.args.cut.now.standings.items c.put_in.new.cut.standings.items c.requires.indexed
-    c.requires.tied c.requires.valued refl (λ k. ap (λ (ss : List Standing). standing_of ss k) kept.1
+    c.put_in.new.cut.entries c.args.cut.now.standings.items c.put_in.new.cut.standings.items c.requires.awaited.indexed
+    c.requires.awaited.tied c.requires.awaited.valued refl (λ k. ap (λ (ss : List Standing). standing_of ss k) kept.1
     ∙ c.make_standing.ensures.same k) c.add_readers.ensures.reads (uses_alike (memory_of c.args.cut.now.entries)
     (memory_of c.add_users.new.entries) (memory_of c.put_in.new.cut.entries) kept.0 c.add_users.ensures.uses)).tied
 
 pub returns-in_err-put_in-clause-valued : goal.returns-in_err-put_in-clause-valued
 returns-in_err-put_in-clause-valued c = let kept = rw c.in_err-put_in.was at c.put_in.ensures.err in (left
     (edges_to c.args.readers.now) (edges_to c.add_readers.new.readers) c.args.cut.now.entries
-    c.put_in.new.cut.entries c.args.cut.now.standings.items c.put_in.new.cut.standings.items c.requires.indexed
-    c.requires.tied c.requires.valued refl (λ k. ap (λ (ss : List Standing). standing_of ss k) kept.1
+    c.put_in.new.cut.entries c.args.cut.now.standings.items c.put_in.new.cut.standings.items c.requires.awaited.indexed
+    c.requires.awaited.tied c.requires.awaited.valued refl (λ k. ap (λ (ss : List Standing). standing_of ss k) kept.1
     ∙ c.make_standing.ensures.same k) c.add_readers.ensures.reads (uses_alike (memory_of c.args.cut.now.entries)
     (memory_of c.add_users.new.entries) (memory_of c.put_in.new.cut.entries) kept.0 c.add_users.ensures.uses)).valued
 
 pub returns-in_err-put_in-clause-err : goal.returns-in_err-put_in-clause-err
 returns-in_err-put_in-clause-err c = let kept = rw c.in_err-put_in.was at c.put_in.ensures.err in let k = (left
     (edges_to c.args.readers.now) (edges_to c.add_readers.new.readers) c.args.cut.now.entries
-    c.put_in.new.cut.entries c.args.cut.now.standings.items c.put_in.new.cut.standings.items c.requires.indexed
-    c.requires.tied c.requires.valued refl (λ k. ap (λ (ss : List Standing). standing_of ss k) kept.1
+    c.put_in.new.cut.entries c.args.cut.now.standings.items c.put_in.new.cut.standings.items c.requires.awaited.indexed
+    c.requires.awaited.tied c.requires.awaited.valued refl (λ k. ap (λ (ss : List Standing). standing_of ss k) kept.1
     ∙ c.make_standing.ensures.same k) c.add_readers.ensures.reads (uses_alike (memory_of c.args.cut.now.entries)
     (memory_of c.add_users.new.entries) (memory_of c.put_in.new.cut.entries) kept.0 c.add_users.ensures.uses)).err in
     search rules
@@ -134,8 +129,8 @@ returns-in_err-put_in-clause-err c = let kept = rw c.in_err-put_in.was at c.put_
 pub returns-in_err-put_in-clause-traces : goal.returns-in_err-put_in-clause-traces
 returns-in_err-put_in-clause-traces c = let kept = rw c.in_err-put_in.was at c.put_in.ensures.err in (left
     (edges_to c.args.readers.now) (edges_to c.add_readers.new.readers) c.args.cut.now.entries
-    c.put_in.new.cut.entries c.args.cut.now.standings.items c.put_in.new.cut.standings.items c.requires.indexed
-    c.requires.tied c.requires.valued refl (λ k. ap (λ (ss : List Standing). standing_of ss k) kept.1
+    c.put_in.new.cut.entries c.args.cut.now.standings.items c.put_in.new.cut.standings.items c.requires.awaited.indexed
+    c.requires.awaited.tied c.requires.awaited.valued refl (λ k. ap (λ (ss : List Standing). standing_of ss k) kept.1
     ∙ c.make_standing.ensures.same k) c.add_readers.ensures.reads (uses_alike (memory_of c.args.cut.now.entries)
     (memory_of c.add_users.new.entries) (memory_of c.put_in.new.cut.entries) kept.0 c.add_users.ensures.uses)).traces
     c.args.inst (option_map value_view c.args.value) (map loc_view c.args.reads.now) c.args.uses.now c.args.order
@@ -148,36 +143,36 @@ add_users-requires c = record {
 
 pub put_in-requires-clause-slot : goal.put_in-requires-clause-slot
 put_in-requires-clause-slot c = subst (λ s. IsSlotFor c.add_users.new.entries c.args.inst s) (sym c.fresh.ensures.slot)
-    (slot_still c.args.cut.now.entries c.add_users.new.entries c.args.inst c.in_ok-slot.slot c.add_users.ensures.uses
-    c.add_users.ensures.key c.in_ok-slot.ensures.slot)
+    (slot_still c.args.cut.now.entries c.add_users.new.entries c.args.inst c.args.edge.slot c.add_users.ensures.uses
+    c.add_users.ensures.key c.requires.awaited.place)
 
 pub put_in-requires-clause-made : goal.put_in-requires-clause-made
 put_in-requires-clause-made c = made_so c.args.inst c.fresh.result
-    (option_map value_view c.args.value) c.in_ok-links.links.items c.args.stamp (c.fresh.ensures.entry c.args.inst)
+    (option_map value_view c.args.value) c.in_ok-links.links.items c.args.edge.stamp (c.fresh.ensures.entry c.args.inst)
 
 pub set_standing-requires : goal.set_standing-requires
 set_standing-requires c =
     let put = rw c.in_ok-put_in.was at c.put_in.ensures.puts in
-    subst (λ n. c.in_ok-slot.slot < n) (sym put.room) (rw c.in_ok-make_standing.was at c.make_standing.ensures.there)
+    subst (λ n. c.args.edge.slot < n) (sym put.room) (rw c.in_ok-make_standing.was at c.make_standing.ensures.there)
 
 pub returns : goal.returns
 returns c =
     let put = puts_so c.args.inst c.fresh.result (option_map value_view c.args.value) c.in_ok-links.links.items
-    c.args.stamp (c.fresh.ensures.entry c.args.inst) c.in_ok-slot.slot c.make_standing.new.standings.items
+    c.args.edge.stamp (c.fresh.ensures.entry c.args.inst) c.args.edge.slot c.make_standing.new.standings.items
     c.put_in.new.cut.standings.items
     (memory_of c.add_users.new.entries) (memory_of c.put_in.new.cut.entries) c.fresh.ensures.slot
     (rw c.in_ok-put_in.was at c.put_in.ensures.puts) in
-    let within = subst (λ n. c.in_ok-slot.slot < n) (sym put.room)
+    let within = subst (λ n. c.args.edge.slot < n) (sym put.room)
     (rw c.in_ok-make_standing.was at c.make_standing.ensures.there) in
     let done = has_entered (edges_to c.args.readers.now)
     (edges_to c.add_readers.new.readers) c.args.cut.now.entries c.put_in.new.cut.entries
     (memory_of c.add_users.new.entries)
     c.args.cut.now.standings.items c.make_standing.new.standings.items c.put_in.new.cut.standings.items
-    c.set_standing.new.standings.items c.args.stamp c.in_ok-slot.slot c.args.inst
+    c.set_standing.new.standings.items c.args.edge.stamp c.args.edge.slot c.args.inst
     (option_map value_view c.args.value)
     c.in_ok-links.links.items c.as_slice.result.now (map loc_view c.args.reads.now) c.args.uses.now
-    (record { since = c.args.stamp; holds = true; traced = c.is_traced.result }) c.args.order
-    c.requires.indexed c.requires.tied c.requires.valued c.requires.absent c.requires.present c.in_ok-slot.ensures.its
+    (record { since = c.args.edge.stamp; holds = true; traced = c.is_traced.result }) c.args.order
+    c.requires.awaited.indexed c.requires.awaited.tied c.requires.awaited.valued c.requires.awaited.absent c.requires.present c.requires.awaited.its
     c.in_ok-links.ensures.taken c.in_ok-links.ensures.theirs c.make_standing.ensures.same
     c.add_readers.ensures.reads (rw c.in_ok-add_readers.was at c.add_readers.ensures.listed) c.as_slice.ensures
     c.add_users.ensures.uses (rw c.in_ok-add_users.was at c.add_users.ensures.listed)

@@ -1,4 +1,4 @@
-use Rattle.std.proofs.Common.{◌∙◌, arith, length-set, refl}
+use Rattle.std.proofs.Common.{◌∙◌, ap, arith, length, length-set, refl}
 use Rattle.std.proofs.lemmas.Option.{slice_get_read}
 use Rattle.at_cache.specs.Folding.{IsNodeRefolded, slots_at}
 use Rattle.at_cache.specs.Info.{memory_of}
@@ -25,12 +25,12 @@ loop-number-preserved c =
 
 pub returns-clause-lists : goal.returns-clause-lists
 returns-clause-lists c =
-    nodes_refolded _ _ _ _
+    rw c.shrink_to_fit.ensures.items (nodes_refolded _ _ _ _
     (below_end (IsNodeRefolded (is_current (memory_of c.args.entries.now)) (slots_at c.args.plan.now)) refl c.loop-number.number _ _
-    (omega (arith, c.loop-number-test.false, c.len-number-end.ensures, c.args.readers.now.ok.0)) c.loop-number.invariant)
+    (omega (arith, c.loop-number-test.false, c.len-number-end.ensures, c.args.readers.now.ok.0)) c.loop-number.invariant))
 
 pub returns-clause-len : goal.returns-clause-len
-returns-clause-len c = c.loop-number.invariant.len
+returns-clause-len c = ap length c.shrink_to_fit.ensures.items ∙ c.loop-number.invariant.len
 
 pub returns-in_err-rewrite_node-clause-len : goal.returns-in_err-rewrite_node-clause-len
 returns-in_err-rewrite_node-clause-len c =

@@ -4,7 +4,7 @@ use Rattle.at_model.proofs.of_machines.NothingLost.{kept_there, nothing_lost}
 use Rattle.at_model.proofs.sparing_laws.what_is_kept_over_lines.Goals as goal
 
 pub returns-clause-well : goal.returns-clause-well
-returns-clause-well c = λ rules s ls sound. (sound_over rules s ls sound, well_from_nothing rules s ls sound)
+returns-clause-well c = λ rules s ls sound spread. (sound_over rules s ls sound, well_from_nothing rules s ls sound spread)
 
 pub returns-clause-next : goal.returns-clause-next
 returns-clause-next c = λ rules s ls l i. kept_next rules s ls l NothingKept i

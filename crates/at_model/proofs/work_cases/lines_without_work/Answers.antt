@@ -18,13 +18,13 @@ value_of place = says (Ask place (codes "value") [])
 
 pub returns-clause-refused : goal.returns-clause-refused
 unfolding chain digits reserved_words
-returns-clause-refused c = works calc 9 opened
+returns-clause-refused c = works calc 9 refl opened
     (value_of (From_root sum_path) ∷ record (value_of (From_root sum_path)) { expected = Some 5 } ∷ value_of
     (From_root []) ∷ says (Drop (From_root block_path)) ∷ says (Mark (codes "u") (From_root sum_path)) ∷ says
     (Show (From_mark (codes "u") [])) ∷ value_of (From_mark (codes "u") []) ∷ []) _ refl refl
 
 pub returns-clause-not_lazy : goal.returns-clause-not_lazy
 unfolding chain digits reserved_words
-returns-clause-not_lazy c = works sum_rules 9 sum_opened (says (Ask (From_root []) (codes "total") []) ∷ says
+returns-clause-not_lazy c = works sum_rules 9 refl sum_opened (says (Ask (From_root []) (codes "total") []) ∷ says
     (Token (From_root (plain_step "Right" ∷ [])) (codes "Value") (tree.Int (pos 5))) ∷ says
     (Ask (From_root []) (codes "total") []) ∷ []) _ refl refl

@@ -16,18 +16,18 @@ sum_at i = says (Ask (From_root (plain_step "Block" ∷ list_step "Stmt" i ∷ p
 
 pub returns-clause-fault : goal.returns-clause-fault
 unfolding chain digits reserved_words
-returns-clause-fault c = works calc 9 opened (says (Drop (From_root (statement_path 0))) ∷ says
+returns-clause-fault c = works calc 9 refl opened (says (Drop (From_root (statement_path 0))) ∷ says
     (Ask (From_root (plain_step "Block" ∷ list_step "Stmt" 0 ∷ plain_step "Expr" ∷ plain_step "Left" ∷ []))
     (codes "value") []) ∷ []) _ refl refl
 
 pub returns-clause-replaced : goal.returns-clause-replaced
 unfolding chain digits reserved_words
-returns-clause-replaced c = works calc 9 opened (sum_at 1 ∷ says (Drop (From_root (statement_path 0))) ∷ says (Insert
+returns-clause-replaced c = works calc 9 refl opened (sum_at 1 ∷ says (Drop (From_root (statement_path 0))) ∷ says (Insert
     (From_root block_path) (codes "Stmt") 0 (term.Node (codes "Decl") (term.cell (term.Holds (tree.Text (codes "x")))
     (term.cell (term.One (num_term (pos 9))) term.no_cells)))) ∷ sum_at 1 ∷ []) _ refl refl
 
 pub returns-clause-index : goal.returns-clause-index
 unfolding chain digits reserved_words
-returns-clause-index c = works calc 9 opened (says (Ask (From_root (statement_path 1)) (codes "pos") []) ∷ says
+returns-clause-index c = works calc 9 refl opened (says (Ask (From_root (statement_path 1)) (codes "pos") []) ∷ says
     (Drop (From_root (statement_path 0))) ∷ says (Ask (From_root (statement_path 0)) (codes "pos") []) ∷ says
     (Ask (From_root block_path) (codes "pos") []) ∷ []) _ refl refl

@@ -1,6 +1,6 @@
 use Rattle.std.proofs.Common.{◌∙◌}
 use Rattle.std.specs.Map.{keys_of}
-use Rattle.at_search.proofs.Groups.{all_told_of, begins, goes_on, order_at_end, rest_at_end, told_at_end}
+use Rattle.at_search.proofs.Groups.{all_told_of, begins, goes_on, groups_at_end, order_at_end, rest_at_end, told_at_end}
 use Rattle.at_search.proofs.solving.solve.Goals as goal
 
 pub loop-group-init : goal.loop-group-init
@@ -31,6 +31,13 @@ returns-clause-rest g c =
     c.in_ok-system.system c.in_ok-leave.leave.items c.in_ok-groups.groups.items c.deref-group-items.result.now c.edges.result.now
     c.loop-group.group-index c.loop-group.system c.loop-group.solved.items c.in_ok-system.ensures c.edges.ensures c.in_ok-groups.ensures
     c.deref-group-items.ensures.value c.loop-group-test.false c.loop-group.invariant
+
+pub returns-clause-groups : goal.returns-clause-groups
+returns-clause-groups g c =
+    groups_at_end (g.K.Known.value_of c.args.known.now) c.args.ended.now.entries (keys_of c.args.seen.now.entries) c.args.start
+    c.in_ok-system.system c.in_ok-leave.leave.items c.in_ok-groups.groups.items c.deref-group-items.result.now c.edges.result.now
+    c.loop-group.group-index c.loop-group.system c.loop-group.solved.items c.in_ok-system.ensures c.edges.ensures c.in_ok-groups.ensures
+    c.deref-group-items.ensures.value c.loop-group.invariant
 
 pub returns-clause-all : goal.returns-clause-all
 returns-clause-all g c = λ look forms right marks shut.

@@ -4,7 +4,7 @@ use Rattle.at_cache.specs.Edges.{edges_in}
 use Rattle.at_cache.specs.Slots.{with_list}
 use Rattle.at_cache.specs.Putting.{with_users}
 use Rattle.at_cache.proofs.Came.{come_on}
-use Rattle.at_cache.proofs.Changing.{absent_changed, memory_changed, place_within, placed_changed, taken_slot, users_there}
+use Rattle.at_cache.proofs.Changing.{absent_changed, length_changed, memory_changed, place_within, placed_changed, taken_slot, users_there}
 use Rattle.at_cache.proofs.table.Table.exchange_users.Goals as goal
 
 pub write_users-requires : goal.write_users-requires
@@ -21,6 +21,9 @@ invariant_of-self c =
 
 pub returns-in-Some-clause-written : goal.returns-in-Some-clause-written
 returns-in-Some-clause-written c = memory_changed c.args.self.now.entries.entries (get c.args.self.now.places) c.args.slot _ c.args.self.now.placed (sym c.in-Some.ensures) _ (with_list c.args.users) (λ e. refl) c.write_users.ensures.written (with_users (edges_in c.args.users)) (λ e. refl)
+
+pub returns-in-Some-clause-len : goal.returns-in-Some-clause-len
+returns-in-Some-clause-len c = length_changed c.args.self.now.entries.entries (get c.args.self.now.places) c.args.slot _ c.args.self.now.placed (sym c.in-Some.ensures) _ (with_list c.args.users) (λ e. refl) c.write_users.ensures.written
 
 pub returns-in-None-clause-written : goal.returns-in-None-clause-written
 returns-in-None-clause-written c = absurd (taken_slot c.args.self.now.entries.entries (get c.args.self.now.places) c.args.slot c.requires.there (sym c.in-None.ensures))

@@ -7,7 +7,8 @@ pub returns-in-Some : goal.returns-in-Some
 returns-in-Some g c = record {
   answered =
       answered_kept c.args.rules.now c.args.store.now g.K.Keeper.exact c.args.inst.now (g.K.Keeper.contents
-      c.args.self.now.keeper) c.args.self.now.work c.in_ok-copy.field-0 c.args.self.now.few c.requires.answerable.right
+      c.args.self.now.keeper) c.args.self.now.work c.in_ok-copy.field-0 c.args.self.now.few
+      c.requires.answerable.basis.circular c.requires.answerable.right
       c.requires.answerable.plain
       (sym c.in-Some.ensures ∙ ap (λ (v : Value ℕ). Some v) (sym c.in_ok-copy.ensures));
   traces = record { justified = c.requires.justified; there = λ there all. all };

@@ -1,11 +1,12 @@
 use Rattle.std.proofs.Common.{Option, subst}
 use Rattle.std.specs.Prelude.{IfSome}
-use Rattle.at_model.specs.Meaning.{HasValue}
+use Rattle.at_model.specs.of_fixpoints.Fixpoints.{HasValue}
 use Rattle.at_store.specs.Shown.{contents}
 use Rattle.at_body.specs.Values.{value_view}
 use Rattle.at_body.specs.declared.value.Value.{Value as ValueCode}
 use Rattle.at_demand.specs.Known.{meaning}
 use Rattle.at_demand.specs.Sparing.{HasWorthy}
+use Rattle.at_demand.proofs.Standing.{sound_more}
 use Rattle.at_demand.proofs.of_nesting.InnerAnswered.{answered_after, answered_by}
 use Rattle.at_demand.proofs.of_nesting.InnerGains.{known_none}
 use Rattle.at_demand.proofs.of_traces.Putting.{traced_then}
@@ -43,7 +44,8 @@ answer_at_once-requires-clause-idle g c = c.requires.answerable.basis.idle
 
 pub answer_at_once-requires-clause-held : goal.answer_at_once-requires-clause-held
 answer_at_once-requires-clause-held g c = record {
-  known = known_none c.args.rules.now (contents c.args.store.now) (g.K.Keeper.contents c.args.self.now.keeper) c.requires.answerable.right
+  known = known_none c.args.rules.now (contents c.args.store.now) (g.K.Keeper.contents c.args.self.now.keeper)
+      c.requires.answerable.basis.circular c.requires.answerable.right
       c.requires.answerable.plain;
   justified = c.requires.justified;
 }
@@ -57,4 +59,7 @@ answer_looking_ahead-requires g c = record {
   };
   typed = c.requires.typed;
   justified = c.answer_at_once.ensures.traces.justified;
+  wholes = (sound_more c.args.rules.now c.args.store.now c.requires.answerable.basis c.args.inst.now c.requires.typed
+      (g.K.Keeper.contents c.args.self.now.keeper) (g.K.Keeper.contents c.answer_at_once.new.self.keeper) c.requires.wholes
+      c.answer_at_once.ensures.gains.known.right c.answer_at_once.ensures.gains.worthy).whole;
 }

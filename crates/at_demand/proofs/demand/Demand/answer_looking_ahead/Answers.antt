@@ -1,25 +1,24 @@
-use Rattle.std.proofs.Common.{◌≡◌, ℕ, [], Option, None, refl, sym, ap, ◌∙◌, subst}
-use Rattle.std.specs.Map.{keys_of}
-use Rattle.std.specs.Option.{option_map}
-use Rattle.std.specs.Prelude.{IfSome}
+use Rattle.std.proofs.Common.{ℕ, [], Option, Ok, sym, ap, ◌∙◌, subst}
 use Rattle.std.proofs.lemmas.Result.{err_from_is_err_and}
+use Rattle.std.specs.declared.alloc.AllocError.{AllocError}
 use Rattle.at_model.specs.Instances.{AnyText}
-use Rattle.at_model.specs.Meaning.{Answers}
 use Rattle.at_model.specs.Run.{Instance}
-use Rattle.at_model.specs.Turning.{Turned, asked, posted}
+use Rattle.at_model.specs.Turning.{posted}
 use Rattle.at_model.specs.TypedRuns.{IsWellTyped}
+use Rattle.at_model.specs.of_fixpoints.Circles.{Answers}
+use Rattle.at_model.specs.of_fixpoints.Searching.{posted as search_posted}
 use Rattle.at_store.specs.Shown.{contents}
 use Rattle.at_body.specs.Typed.{class_shown}
 use Rattle.at_demand.specs.declared.answer.Answer.{Answer as AnswerCode}
-use Rattle.at_demand.specs.KeptTrials.{FitAfter, FitAt}
-use Rattle.at_demand.specs.Known.{answer_view, kept_values, meaning}
-use Rattle.at_demand.specs.Sparing.{HasWorthy}
-use Rattle.at_demand.specs.Turns.{under_way}
-use Rattle.at_demand.proofs.Fitting.{no_trials}
-use Rattle.at_demand.proofs.Standing.{asked_same, stands_grown, told_right}
+use Rattle.at_demand.specs.Answered.{HasTurnedWith, HasWorthyFor}
+use Rattle.at_demand.specs.Known.{answer_view, meaning}
+use Rattle.at_demand.specs.Levels.{IsSearch}
+use Rattle.at_demand.proofs.Fitting.{fit_grown, none_fit}
+use Rattle.at_demand.proofs.Standing.{answers_right, asked_same}
 use Rattle.at_demand.proofs.of_nesting.InnerAnswered.{answered_by}
 use Rattle.at_demand.proofs.of_nesting.InnerGains.{gains_none, known_none}
-use Rattle.at_demand.proofs.of_steps.Ahead.{asked_is, fit_grown, gains_ahead, gains_turned, spares_ahead, stands_ahead, traced_ahead, traced_turned}
+use Rattle.at_demand.proofs.of_steps.Ahead.{broken_turned, gains_ahead, gains_turned, posted_asked, sound_ahead, sound_turned, spares_ahead, stands_ahead, traced_ahead, traced_turned}
+use Rattle.at_demand.proofs.of_levels.Resolving.{keeps_groups}
 use Rattle.at_demand.proofs.of_traces.Putting.{traced_same}
 use Rattle.at_demand.proofs.demand.Demand.answer_looking_ahead.Goals as goal
 
@@ -30,16 +29,16 @@ loop-given-init g c =
     let q = c.in_ok-question.question in
     let entries = g.K.Keeper.contents c.args.self.now.keeper in
     let t = c.new-trials.result in
-    let is = c.in_ok-question.ensures.posted ∙ ap (λ i. posted i) c.in_ok-copy.ensures in
+    let copied = c.in_ok-copy.ensures in
     record {
-      same = asked_is q c.args.inst.now is;
+      same = posted_asked entries q c.args.inst.now (c.in_ok-question.ensures.posted ∙ ap (λ i. posted i) copied)
+          (subst (λ (i : Instance ℕ). IsSearch entries q (search_posted i)) copied (c.in_ok-question.ensures.search entries));
+      sound = record { right = c.requires.answerable.right; whole = c.requires.wholes };
       standing = c.in_ok-question.ensures.standing entries rules s
-          (subst (λ (i : Instance ℕ). IsWellTyped rules (class_shown s) AnyText i) (sym c.in_ok-copy.ensures) c.requires.typed);
-      fit = subst (λ (o : Option (Instance ℕ)). FitAt rules s entries q t.frames.items o) (sym c.new-trials.ensures.awaited)
-          (no_trials rules (class_shown s) (contents s) entries q.found.entries (keys_of q.waiting.entries) q.inst t.frames.items
-          c.new-trials.ensures.frames);
+          (subst (λ (i : Instance ℕ). IsWellTyped rules (class_shown s) AnyText i) (sym copied) c.requires.typed);
+      fit = none_fit rules s entries q t c.new-trials.ensures.frames c.new-trials.ensures.awaited;
       gains = gains_none rules s g.K.Keeper.exact c.args.inst.now entries [] c.args.self.now.work c.args.self.now.few
-          (known_none rules (contents s) entries c.requires.answerable.right c.requires.answerable.plain);
+          (known_none rules (contents s) entries c.requires.answerable.basis.circular c.requires.answerable.right c.requires.answerable.plain);
       sparing = λ exact spare. c.in_ok-question.ensures.sparing entries rules (contents s);
       traces = traced_same rules s c.args.inst.now (g.K.Keeper.memories c.args.self.now.keeper) c.requires.justified;
     }
@@ -57,22 +56,29 @@ pub turn_with-requires : goal.turn_with-requires
 turn_with-requires g c =
     let rules = c.args.rules.now in
     let s = c.args.store.now in
+    let exact = g.K.Keeper.exact in
+    let i = c.args.inst.now in
+    let first = g.K.Keeper.contents c.args.self.now.keeper in
     let old = g.K.Keeper.contents c.loop-given.self.keeper in
     let mid = g.K.Keeper.contents c.look_ahead.new.self.keeper in
     let q = c.loop-given.question in
-    let t = c.loop-given.trials in
     let inv = c.loop-given.invariant in
+    let basis = c.requires.answerable.basis in
+    let w = c.args.self.now.work in
+    let x = c.loop-given.self.work in
+    let y = c.look_ahead.new.self.work in
     let ahead = c.look_ahead.ensures.gains in
     record {
       turns = record {
         answerable = record {
-          basis = c.requires.answerable.basis;
+          basis = basis;
           right = ahead.known.right;
           plain = ahead.known.plain;
         };
-        standing = stands_grown rules s old mid ahead.worthy.stays q inv.standing;
+        standing = stands_ahead rules s exact i q inv.same basis first old mid w x y inv.gains inv.sound inv.standing ahead;
+        wholes = (sound_ahead rules s exact i q inv.same basis first old mid w x y inv.gains inv.sound inv.standing ahead).whole;
       };
-      fit = fit_grown rules s old mid ahead.worthy.stays q t.frames.items t.awaited inv.fit;
+      fit = fit_grown rules s old mid ahead.worthy.stays q c.loop-given.trials.frames.items c.loop-given.trials.awaited inv.fit;
     }
 
 pub loop-given-preserved : goal.loop-given-preserved
@@ -86,7 +92,7 @@ loop-given-preserved g c =
     let mid = g.K.Keeper.contents c.look_ahead.new.self.keeper in
     let q = c.loop-given.question in
     let inv = c.loop-given.invariant in
-    let idle = c.requires.answerable.basis.idle in
+    let basis = c.requires.answerable.basis in
     let w = c.args.self.now.work in
     let x = c.loop-given.self.work in
     let y = c.look_ahead.new.self.work in
@@ -94,20 +100,22 @@ loop-given-preserved g c =
     let new = g.K.Keeper.contents c.turn_with.new.self.keeper in
     let z = c.turn_with.new.self.work in
     let p = c.turn_with.new.question in
-    let stands = stands_ahead rules s exact i q inv.same idle first old mid w x y inv.gains inv.standing ahead in
-    let gains = gains_ahead rules s exact i q inv.same idle first old mid w x y inv.gains inv.standing ahead in
-    let sparing = spares_ahead rules s exact i q inv.same idle first old mid w x y inv.gains inv.standing ahead inv.sparing in
-    let e = c.in_ok-told.ensures.turned in
-    let turned = subst (λ (o : Option AnswerCode). Turned (contents s) (meaning rules) (kept_values mid) (under_way q) (under_way p)
-    (option_map answer_view o)) c.in_default.is e.turned in
+    let sound = sound_ahead rules s exact i q inv.same basis first old mid w x y inv.gains inv.sound inv.standing ahead in
+    let stands = stands_ahead rules s exact i q inv.same basis first old mid w x y inv.gains inv.sound inv.standing ahead in
+    let gains = gains_ahead rules s exact i q inv.same basis first old mid w x y inv.gains inv.sound inv.standing ahead in
+    let sparing = spares_ahead rules s exact i q inv.same basis first old mid w x y inv.gains inv.sound inv.standing ahead inv.sparing in
+    let e = subst (λ (o : Option AnswerCode). HasTurnedWith {E = AllocError} rules s exact mid new y z q p c.turn_with.new.trials (Ok o)) c.in_default.is
+    c.in_ok-told.ensures.turned in
     record {
-      same = asked_same rules s mid q stands (under_way p) None turned ∙ inv.same;
+      same = asked_same rules s basis mid q sound stands new p e.turned ∙ inv.same;
+      sound = sound_turned rules s exact i q inv.same basis first old mid w x y inv.gains inv.sound inv.standing ahead
+          new z e.gains;
       standing = e.standing;
-      fit = subst (λ (o : Option AnswerCode). FitAfter rules s new p c.turn_with.new.trials o) c.in_default.is e.fit;
-      gains = gains_turned rules s exact i q inv.same idle first old mid w x y inv.gains inv.standing ahead inv.sparing
-          new z c.turn_with.ensures.turned.gains;
+      fit = e.fit;
+      gains = gains_turned rules s exact i q inv.same basis first old mid w x y inv.gains inv.sound inv.standing ahead inv.sparing
+          new z e.gains;
       sparing = λ k spare. e.sparing k (gains.spare k spare) (sparing k spare);
-      traces = traced_turned rules s exact i q inv.same idle first old mid w x y inv.gains inv.standing ahead
+      traces = traced_turned rules s exact i q inv.same basis first old mid w x y inv.gains inv.sound inv.standing ahead
           (g.K.Keeper.memories c.args.self.now.keeper) (g.K.Keeper.memories c.loop-given.self.keeper)
           (g.K.Keeper.memories c.look_ahead.new.self.keeper)
           (g.K.Keeper.memories c.turn_with.new.self.keeper) inv.traces c.look_ahead.ensures.traces c.turn_with.ensures.traces;
@@ -124,7 +132,7 @@ returns-in-Some g c =
     let mid = g.K.Keeper.contents c.look_ahead.new.self.keeper in
     let q = c.loop-given.question in
     let inv = c.loop-given.invariant in
-    let idle = c.requires.answerable.basis.idle in
+    let basis = c.requires.answerable.basis in
     let w = c.args.self.now.work in
     let x = c.loop-given.self.work in
     let y = c.look_ahead.new.self.work in
@@ -132,20 +140,21 @@ returns-in-Some g c =
     let new = g.K.Keeper.contents c.turn_with.new.self.keeper in
     let z = c.turn_with.new.self.work in
     let p = c.turn_with.new.question in
-    let stands = stands_ahead rules s exact i q inv.same idle first old mid w x y inv.gains inv.standing ahead in
-    let gains = gains_ahead rules s exact i q inv.same idle first old mid w x y inv.gains inv.standing ahead in
-    let sparing = spares_ahead rules s exact i q inv.same idle first old mid w x y inv.gains inv.standing ahead inv.sparing in
-    let e = c.in_ok-told.ensures.turned in
-    let told = subst (λ (o : Option AnswerCode). IfSome o (λ a. Answers (contents s) (meaning rules) (asked (under_way q)) (answer_view a)))
-    c.in-Some.is (told_right rules s mid mid (λ j some. refl) q stands (under_way p) _ e.turned) in
+    let sound = sound_ahead rules s exact i q inv.same basis first old mid w x y inv.gains inv.sound inv.standing ahead in
+    let stands = stands_ahead rules s exact i q inv.same basis first old mid w x y inv.gains inv.sound inv.standing ahead in
+    let gains = gains_ahead rules s exact i q inv.same basis first old mid w x y inv.gains inv.sound inv.standing ahead in
+    let sparing = spares_ahead rules s exact i q inv.same basis first old mid w x y inv.gains inv.sound inv.standing ahead inv.sparing in
+    let e = subst (λ (o : Option AnswerCode). HasTurnedWith {E = AllocError} rules s exact mid new y z q p c.turn_with.new.trials (Ok o)) c.in-Some.is
+    c.in_ok-told.ensures.turned in
     record {
       answered = answered_by rules s exact i _ first new w z
-          (gains_turned rules s exact i q inv.same idle first old mid w x y inv.gains inv.standing ahead inv.sparing
-          new z c.turn_with.ensures.turned.gains)
-          (subst (λ j. Answers (contents s) (meaning rules) j (answer_view c.in-Some.answer)) inv.same told)
-          (λ k spare. subst (λ j. HasWorthy rules (contents s) j new) inv.same (subst (λ (o : Option AnswerCode). IfSome o
-          (λ a. HasWorthy rules (contents s) (asked (under_way q)) new)) c.in-Some.is (e.all k (gains.spare k spare) (sparing k spare))));
-      traces = traced_turned rules s exact i q inv.same idle first old mid w x y inv.gains inv.standing ahead
+          (gains_turned rules s exact i q inv.same basis first old mid w x y inv.gains inv.sound inv.standing ahead inv.sparing
+          new z e.gains)
+          (subst (λ j. Answers (contents s) (meaning rules) j (answer_view c.in-Some.answer)) inv.same
+          (answers_right rules s basis mid q sound stands new p c.in-Some.answer e.turned))
+          (λ k spare. subst (λ j. HasWorthyFor rules (contents s) j (answer_view c.in-Some.answer) new) inv.same
+          (e.all k (gains.spare k spare) (sparing k spare)));
+      traces = traced_turned rules s exact i q inv.same basis first old mid w x y inv.gains inv.sound inv.standing ahead
           (g.K.Keeper.memories c.args.self.now.keeper) (g.K.Keeper.memories c.loop-given.self.keeper)
           (g.K.Keeper.memories c.look_ahead.new.self.keeper)
           (g.K.Keeper.memories c.turn_with.new.self.keeper) inv.traces c.look_ahead.ensures.traces c.turn_with.ensures.traces;
@@ -162,7 +171,7 @@ returns-in_err-told g c =
     let mid = g.K.Keeper.contents c.look_ahead.new.self.keeper in
     let q = c.loop-given.question in
     let inv = c.loop-given.invariant in
-    let idle = c.requires.answerable.basis.idle in
+    let basis = c.requires.answerable.basis in
     let w = c.args.self.now.work in
     let x = c.loop-given.self.work in
     let y = c.look_ahead.new.self.work in
@@ -171,10 +180,9 @@ returns-in_err-told g c =
     let z = c.turn_with.new.self.work in
     let is = (err_from_is_err_and c.from_residual-in_err-told.result c.from_residual-in_err-told.ensures.1).1 in
     record {
-      answered = answered_by rules s exact i _ first new w z
-          (gains_turned rules s exact i q inv.same idle first old mid w x y inv.gains inv.standing ahead inv.sparing
-          new z c.turn_with.ensures.turned.gains) (rw is tt) (λ k spare. rw is tt);
-      traces = traced_turned rules s exact i q inv.same idle first old mid w x y inv.gains inv.standing ahead
+      answered = broken_turned rules s exact i q inv.same basis first old mid w x y inv.gains inv.sound inv.standing ahead inv.sparing
+          new z _ _ is (keeps_groups rules c.turn_with.result) c.turn_with.ensures.turned.gains;
+      traces = traced_turned rules s exact i q inv.same basis first old mid w x y inv.gains inv.sound inv.standing ahead
           (g.K.Keeper.memories c.args.self.now.keeper) (g.K.Keeper.memories c.loop-given.self.keeper)
           (g.K.Keeper.memories c.look_ahead.new.self.keeper)
           (g.K.Keeper.memories c.turn_with.new.self.keeper) inv.traces c.look_ahead.ensures.traces c.turn_with.ensures.traces;
@@ -191,16 +199,16 @@ returns-in_err-next g c =
     let mid = g.K.Keeper.contents c.look_ahead.new.self.keeper in
     let q = c.loop-given.question in
     let inv = c.loop-given.invariant in
-    let idle = c.requires.answerable.basis.idle in
+    let basis = c.requires.answerable.basis in
     let w = c.args.self.now.work in
     let x = c.loop-given.self.work in
     let y = c.look_ahead.new.self.work in
     let ahead = c.look_ahead.ensures.gains in
     let is = (err_from_is_err_and c.from_residual-in_err-next.result c.from_residual-in_err-next.ensures.1).1 in
     record {
-      answered = answered_by rules s exact i _ first mid w y (gains_ahead rules s exact i q inv.same idle first old mid w x y inv.gains inv.standing ahead)
+      answered = answered_by rules s exact i _ first mid w y (gains_ahead rules s exact i q inv.same basis first old mid w x y inv.gains inv.sound inv.standing ahead)
           (rw is tt) (λ k spare. rw is tt);
-      traces = traced_ahead rules s exact i q inv.same idle first old mid w x y inv.gains inv.standing ahead
+      traces = traced_ahead rules s exact i q inv.same basis first old mid w x y inv.gains inv.sound inv.standing ahead
           (g.K.Keeper.memories c.args.self.now.keeper) (g.K.Keeper.memories c.loop-given.self.keeper)
           (g.K.Keeper.memories c.look_ahead.new.self.keeper)
           inv.traces c.look_ahead.ensures.traces;
@@ -223,7 +231,7 @@ returns-in_err-copy g c = record {
       let is = (err_from_is_err_and c.from_residual.result c.from_residual.ensures.1).1 in
       answered_by rules s g.K.Keeper.exact c.args.inst.now _ entries entries c.args.self.now.work c.args.self.now.work
       (gains_none rules s g.K.Keeper.exact c.args.inst.now entries [] c.args.self.now.work c.args.self.now.few
-      (known_none rules (contents s) entries c.requires.answerable.right c.requires.answerable.plain)) (rw is tt) (λ k spare. rw is tt);
+      (known_none rules (contents s) entries c.requires.answerable.basis.circular c.requires.answerable.right c.requires.answerable.plain)) (rw is tt) (λ k spare. rw is tt);
   traces = traced_same c.args.rules.now c.args.store.now c.args.inst.now (g.K.Keeper.memories c.args.self.now.keeper) c.requires.justified;
 }
 
@@ -236,6 +244,6 @@ returns-in_err-question g c = record {
       let is = (err_from_is_err_and c.from_residual-in_err-question.result c.from_residual-in_err-question.ensures.1).1 in
       answered_by rules s g.K.Keeper.exact c.args.inst.now _ entries entries c.args.self.now.work c.args.self.now.work
       (gains_none rules s g.K.Keeper.exact c.args.inst.now entries [] c.args.self.now.work c.args.self.now.few
-      (known_none rules (contents s) entries c.requires.answerable.right c.requires.answerable.plain)) (rw is tt) (λ k spare. rw is tt);
+      (known_none rules (contents s) entries c.requires.answerable.basis.circular c.requires.answerable.right c.requires.answerable.plain)) (rw is tt) (λ k spare. rw is tt);
   traces = traced_same c.args.rules.now c.args.store.now c.args.inst.now (g.K.Keeper.memories c.args.self.now.keeper) c.requires.justified;
 }

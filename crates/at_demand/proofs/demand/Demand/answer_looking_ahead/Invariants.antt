@@ -1,17 +1,19 @@
 use Rattle.std.proofs.Common.{◌≡◌, ◌-◌, ◌^◌, []}
 use Rattle.std.specs.Prelude.{IsTrue}
 use Rattle.at_store.specs.Shown.{contents}
-use Rattle.at_model.specs.Turning.{asked}
 use Rattle.at_demand.specs.Inner.{Gains}
 use Rattle.at_demand.specs.KeptTrials.{Fit}
+use Rattle.at_demand.specs.Levels.{asked_by}
+use Rattle.at_demand.specs.Sound.{AreSound}
 use Rattle.at_demand.specs.Sparing.{AreSpare}
 use Rattle.at_demand.specs.Traces.{StayJustified}
-use Rattle.at_demand.specs.Turns.{IsSparingTurns, IsStanding, under_way}
+use Rattle.at_demand.specs.Turns.{IsSparingTurns, IsStanding}
 use Rattle.at_demand.proofs.demand.Demand.answer_looking_ahead.Given as goal
 
 abbrev pub invariant-loop-given : goal.invariant-loop-given
 invariant-loop-given g l = record {
-  same : asked (under_way l.question) ≡ l.inst;
+  same : asked_by l.question ≡ l.inst;
+  sound : AreSound l.rules l.store (g.K.Keeper.contents l.self.keeper);
   standing : IsStanding l.rules l.store (g.K.Keeper.contents l.self.keeper) l.question;
   fit : Fit l.rules l.store (g.K.Keeper.contents l.self.keeper) l.question l.trials;
   gains : Gains l.rules l.store g.K.Keeper.exact l.inst (g.K.Keeper.contents l.initial.self.keeper) (g.K.Keeper.contents l.self.keeper)

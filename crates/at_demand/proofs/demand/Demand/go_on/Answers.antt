@@ -1,4 +1,4 @@
-use Rattle.std.proofs.Common.{[], Some, sym, ap, ◌∙◌, subst, arith}
+use Rattle.std.proofs.Common.{[], Some, refl, sym, ap, ◌∙◌, subst, arith}
 use Rattle.std.proofs.lemmas.Result.{err_from_is_err_and}
 use Rattle.at_store.specs.Shown.{contents}
 use Rattle.at_body.specs.Values.{value_view}
@@ -27,7 +27,7 @@ returns-in_err-step g c = record {
   attempted =
       let is = (err_from_is_err_and c.from_residual.result c.from_residual.ensures.1).1 in
       let entries = g.K.Keeper.contents c.args.self.now.keeper in
-      record { tried = rw is tt; right = c.requires.answerable.right; stays = λ there finds right. right; plain = c.requires.answerable.plain; gains = gain_none c.args.rules.now (contents c.args.store.now) c.args.found.now.entries entries c.args.inst.now; worthy = worthy_none c.args.rules.now (contents c.args.store.now) c.args.inst.now entries; spare = λ exact spare lean settled. spare; settles = λ exact spare settled. rw is tt; counts = λ exact. counts_none entries c.args.self.now.work c.args.self.now.few; keeps = rw is tt; waits = rw is tt };
+      record { tried = rw is tt; right = c.requires.answerable.right; stays = λ there finds right. right; plain = c.requires.answerable.plain; gains = gain_none c.args.rules.now (contents c.args.store.now) c.args.found.now.entries entries c.args.inst.now; worthy = worthy_none c.args.rules.now (contents c.args.store.now) c.args.inst.now entries; spare = λ exact spare lean settled. spare; settles = λ exact spare settled. rw is tt; counts = λ exact. counts_none entries c.args.self.now.work c.args.self.now.few; keeps = rw is tt; waits = rw is tt; idle = rw is tt };
   traces = stay_same (g.K.Keeper.memories c.args.self.now.keeper);
 }
 
@@ -63,8 +63,8 @@ returns-in_err-put-in-Value g c = record {
       let e = c.take_find-find.ensures in
       let stepped = subst (λ (s : Step). HasStepped rules look inst frame.trial s) c.in-Value.is (c.in_ok-step.ensures.stepped inst c.requires.standing.stepped) in
       let passed = subst (λ (s : Step). HasPassedTo rules look found inst frame s) c.in-Value.is (c.in_ok-step.ensures.passed inst c.requires.standing.passed) in
-      let takes = c.in_ok-step.ensures.only inst c.requires.standing.stepped c.requires.standing.takes in
-      let has : HasFound rules look old found inst d = has_found rules look old found inst frame c.in-Value.value d stepped passed takes c.in_ok-step.ensures.kept e.value e.reads e.demanded in
+      let takes = c.in_ok-step.ensures.only inst c.requires.own c.requires.standing.stepped c.requires.standing.takes in
+      let has : HasFound rules look old found inst d = has_found rules look old found inst frame c.in-Value.value d c.requires.own stepped passed takes c.in_ok-step.ensures.kept e.value e.reads e.demanded in
       let adds = c.keep.ensures.keeps.adds in
       record {
         tried = rw is tt;
@@ -73,11 +73,12 @@ returns-in_err-put-in-Value g c = record {
         plain = c.keep.ensures.keeps.plain;
         gains = c.keep.ensures.keeps.gains;
         worthy = worthy_added rules look old new inst (value_view d.value) found c.keep.ensures.keeps.gains has.value;
-        spare = λ exact spare lean settled. spare_added rules look old new found inst d c.keep.ensures.keeps.gains c.requires.finds.whole has settled spare (c.keep.ensures.keeps.only look exact lean has.lean spare.only);
+        spare = λ exact spare lean settled. spare_added rules look old new found inst d c.requires.answerable.basis.circular.lazy c.requires.own c.keep.ensures.keeps.gains c.requires.finds.whole has settled spare (c.keep.ensures.keeps.only look exact lean has.lean spare.only);
         settles = λ exact spare settled. rw is tt;
         counts = c.keep.ensures.keeps.counts;
         keeps = rw is tt;
         waits = rw is tt;
+        idle = rw is tt;
       };
   traces = c.keep.ensures.traces;
 }
@@ -96,8 +97,8 @@ returns-in-Kept g c = record {
       let e = c.take_find-find.ensures in
       let stepped = subst (λ (s : Step). HasStepped rules look inst frame.trial s) c.in-Value.is (c.in_ok-step.ensures.stepped inst c.requires.standing.stepped) in
       let passed = subst (λ (s : Step). HasPassedTo rules look found inst frame s) c.in-Value.is (c.in_ok-step.ensures.passed inst c.requires.standing.passed) in
-      let takes = c.in_ok-step.ensures.only inst c.requires.standing.stepped c.requires.standing.takes in
-      let has : HasFound rules look old found inst d = has_found rules look old found inst frame c.in-Value.value d stepped passed takes c.in_ok-step.ensures.kept e.value e.reads e.demanded in
+      let takes = c.in_ok-step.ensures.only inst c.requires.own c.requires.standing.stepped c.requires.standing.takes in
+      let has : HasFound rules look old found inst d = has_found rules look old found inst frame c.in-Value.value d c.requires.own stepped passed takes c.in_ok-step.ensures.kept e.value e.reads e.demanded in
       let adds = c.keep.ensures.keeps.adds in
       let kept = subst (λ (r : Put). SaysKept new inst d r) c.in-Kept.is c.in_ok-put-in-Value.ensures.keeps.says in
       record {
@@ -107,11 +108,12 @@ returns-in-Kept g c = record {
         plain = c.keep.ensures.keeps.plain;
         gains = c.keep.ensures.keeps.gains;
         worthy = worthy_added rules look old new inst (value_view d.value) found c.keep.ensures.keeps.gains has.value;
-        spare = λ exact spare lean settled. spare_added rules look old new found inst d c.keep.ensures.keeps.gains c.requires.finds.whole has settled spare (c.keep.ensures.keeps.only look exact lean has.lean spare.only);
+        spare = λ exact spare lean settled. spare_added rules look old new found inst d c.requires.answerable.basis.circular.lazy c.requires.own c.keep.ensures.keeps.gains c.requires.finds.whole has settled spare (c.keep.ensures.keeps.only look exact lean has.lean spare.only);
         settles = λ exact spare settled. settled_still rules look old new inst found c.keep.ensures.keeps.gains found settled;
         counts = c.keep.ensures.keeps.counts;
         keeps = kept ∙ ap (λ (v : ValueCode). Some (value_view v)) (sym c.into_value.ensures);
         waits = tt;
+        idle = tt;
       };
   traces = c.keep.ensures.traces;
 }
@@ -130,8 +132,8 @@ returns-in-Left g c = record {
       let e = c.take_find-find.ensures in
       let stepped = subst (λ (s : Step). HasStepped rules look inst frame.trial s) c.in-Value.is (c.in_ok-step.ensures.stepped inst c.requires.standing.stepped) in
       let passed = subst (λ (s : Step). HasPassedTo rules look found inst frame s) c.in-Value.is (c.in_ok-step.ensures.passed inst c.requires.standing.passed) in
-      let takes = c.in_ok-step.ensures.only inst c.requires.standing.stepped c.requires.standing.takes in
-      let has : HasFound rules look old found inst d = has_found rules look old found inst frame c.in-Value.value d stepped passed takes c.in_ok-step.ensures.kept e.value e.reads e.demanded in
+      let takes = c.in_ok-step.ensures.only inst c.requires.own c.requires.standing.stepped c.requires.standing.takes in
+      let has : HasFound rules look old found inst d = has_found rules look old found inst frame c.in-Value.value d c.requires.own stepped passed takes c.in_ok-step.ensures.kept e.value e.reads e.demanded in
       let adds = c.keep.ensures.keeps.adds in
       record {
         tried = has;
@@ -140,11 +142,12 @@ returns-in-Left g c = record {
         plain = c.keep.ensures.keeps.plain;
         gains = c.keep.ensures.keeps.gains;
         worthy = worthy_added rules look old new inst (value_view d.value) found c.keep.ensures.keeps.gains has.value;
-        spare = λ exact spare lean settled. spare_added rules look old new found inst d c.keep.ensures.keeps.gains c.requires.finds.whole has settled spare (c.keep.ensures.keeps.only look exact lean has.lean spare.only);
-        settles = λ exact spare settled. settled_added rules look old new found inst d c.keep.ensures.keeps.gains c.requires.finds.whole has settled spare (c.in_ok-put-in-Value.ensures.keeps.keeps exact);
+        spare = λ exact spare lean settled. spare_added rules look old new found inst d c.requires.answerable.basis.circular.lazy c.requires.own c.keep.ensures.keeps.gains c.requires.finds.whole has settled spare (c.keep.ensures.keeps.only look exact lean has.lean spare.only);
+        settles = λ exact spare settled. settled_added rules look old new found inst d c.requires.answerable.basis.circular.lazy c.requires.own c.keep.ensures.keeps.gains c.requires.finds.whole has settled spare (c.in_ok-put-in-Value.ensures.keeps.keeps exact);
         counts = c.keep.ensures.keeps.counts;
         keeps = tt;
         waits = tt;
+        idle = tt;
       };
   traces = c.keep.ensures.traces;
 }
@@ -160,8 +163,8 @@ returns-in-Fault g c = record {
       let stepped = subst (λ (s : Step). HasStepped rules look inst c.go_on.new.self.trial s) c.in-Fault.is (c.in_ok-step.ensures.stepped inst c.requires.standing.stepped) in
       let typed = subst (λ (s : Step). IsTypedStep rules (class_shown c.args.store.now) s c.go_on.new.self.trial) c.in-Fault.is c.in_ok-step.ensures.typed in
       let passed = subst (λ (s : Step). HasPassedTo rules look found inst c.go_on.new.self s) c.in-Fault.is (c.in_ok-step.ensures.passed inst c.requires.standing.passed) in
-      let takes = c.in_ok-step.ensures.only inst c.requires.standing.stepped c.requires.standing.takes in
-      record { tried = has_failed rules look entries found inst c.go_on.new.self.trial c.in-Fault.kind stepped; right = c.requires.answerable.right; stays = λ there finds right. right; plain = c.requires.answerable.plain; gains = gain_none rules look found entries inst; worthy = worthy_none rules look inst entries; spare = λ exact spare lean settled. spare; settles = λ exact spare settled. settled; counts = λ exact. counts_none entries c.args.self.now.work c.args.self.now.few; keeps = tt; waits = record { stepped = stepped; passed = passed; takes = takes; typed = typed; kept = c.in_ok-step.ensures.kept } };
+      let takes = c.in_ok-step.ensures.only inst c.requires.own c.requires.standing.stepped c.requires.standing.takes in
+      record { tried = has_failed rules look entries found inst c.go_on.new.self.trial c.in-Fault.kind c.requires.own stepped; right = c.requires.answerable.right; stays = λ there finds right. right; plain = c.requires.answerable.plain; gains = gain_none rules look found entries inst; worthy = worthy_none rules look inst entries; spare = λ exact spare lean settled. spare; settles = λ exact spare settled. settled; counts = λ exact. counts_none entries c.args.self.now.work c.args.self.now.few; keeps = tt; waits = record { stepped = stepped; passed = passed; takes = takes; typed = typed; kept = c.in_ok-step.ensures.kept }; idle = (refl, refl) };
   traces = stay_same (g.K.Keeper.memories c.args.self.now.keeper);
 }
 
@@ -178,7 +181,7 @@ returns-in-Need g c = record {
       let unknown = subst (λ (s : Step). IsOpen (known_in entries found) s) c.in-Need.is c.in_ok-step.ensures.unknown in
       let typed = subst (λ (s : Step). IsTypedStep rules (class_shown c.args.store.now) s trial) c.in-Need.is c.in_ok-step.ensures.typed in
       let passed = subst (λ (s : Step). HasPassedTo rules look found inst c.go_on.new.self s) c.in-Need.is (c.in_ok-step.ensures.passed inst c.requires.standing.passed) in
-      let takes = c.in_ok-step.ensures.only inst c.requires.standing.stepped c.requires.standing.takes in
-      record { tried = has_needed rules look entries found inst (class_shown c.args.store.now) trial c.in-Need.needed stepped unknown typed; right = c.requires.answerable.right; stays = λ there finds right. right; plain = c.requires.answerable.plain; gains = gain_none rules look found entries inst; worthy = worthy_none rules look inst entries; spare = λ exact spare lean settled. spare; settles = λ exact spare settled. settled; counts = λ exact. counts_none entries c.args.self.now.work c.args.self.now.few; keeps = tt; waits = record { stepped = stepped; passed = passed; takes = takes; typed = typed; kept = c.in_ok-step.ensures.kept } };
+      let takes = c.in_ok-step.ensures.only inst c.requires.own c.requires.standing.stepped c.requires.standing.takes in
+      record { tried = has_needed rules look entries found inst (class_shown c.args.store.now) trial c.in-Need.needed c.requires.own stepped unknown typed; right = c.requires.answerable.right; stays = λ there finds right. right; plain = c.requires.answerable.plain; gains = gain_none rules look found entries inst; worthy = worthy_none rules look inst entries; spare = λ exact spare lean settled. spare; settles = λ exact spare settled. settled; counts = λ exact. counts_none entries c.args.self.now.work c.args.self.now.few; keeps = tt; waits = record { stepped = stepped; passed = passed; takes = takes; typed = typed; kept = c.in_ok-step.ensures.kept }; idle = (refl, refl) };
   traces = stay_same (g.K.Keeper.memories c.args.self.now.keeper);
 }

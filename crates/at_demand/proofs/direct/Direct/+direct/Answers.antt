@@ -1,4 +1,5 @@
-use Rattle.std.proofs.Common.{◌≡◌, ℕ, List, true, drop, take, length, Option, None, IfNone, refl, sym, ap, ◌+◌, ◌∙◌, subst, arith, ◌++◌, Ok, IfOk, map, rules}
+use Rattle.std.proofs.Common.{◌≡◌, ℕ, List, true, drop, take, length, Option, None, IfNone, Result, refl, sym, ap, ◌+◌, ◌∙◌, subst, arith, ◌++◌, Ok, Err, IfOk, map, rules}
+use Rattle.std.specs.Prelude.{IsErrAnd}
 use Rattle.std.proofs.lemmas.Result.{IfOk-weaker}
 use Rattle.at_model.specs.Run.{Instance, Location, Gives, Run, Truth, Value, ◌>>=◌}
 use Rattle.at_store.specs.Shown.{contents}
@@ -7,7 +8,7 @@ use Rattle.at_body.specs.declared.value.Value.{Value as ValueCode}
 use Rattle.at_demand.specs.declared.direct.Level.{Level}
 use Rattle.at_demand.specs.Inner.{Gains, HasRecalled, HasTold, IsEvaluated, known_by}
 use Rattle.at_demand.specs.InParts.{EvaluatesTo, HasCome, HasGained, MayHaveCome, held_by, values_in}
-use Rattle.at_demand.specs.Known.{kept_values, meaning}
+use Rattle.at_demand.specs.Known.{equations, kept_values}
 use Rattle.at_demand.proofs.Entered.{absent}
 use Rattle.at_demand.proofs.of_nesting.Asked.{evaluated_behind, evaluated_in, inner_told, reads_before, reads_longer, told_alike, unkept_result, uses_before, uses_longer}
 use Rattle.at_demand.proofs.of_nesting.Grown.{grown_aside, grown_evaluated, grown_from, grown_none, grown_then, held_after, unkept_aside}
@@ -20,12 +21,21 @@ use Rattle.at_apply.specs.Place.{place_at}
 use Rattle.at_demand.specs.Traces.{StayJustified}
 use Rattle.at_demand.proofs.of_parts.Directly.{come_begun, come_gives, come_looked, gains_begun, nothing_gained}
 use Rattle.at_demand.proofs.of_parts.ByForm.{beside_come, beside_gains, call_come, call_gains, call_gains_first, call_gains_second, either_come, either_gains, either_gains_test, fold_come, fold_gains, fold_gains_first, one_come, one_gains, two_come, two_gains, two_gains_first}
+use Rattle.at_demand.proofs.of_parts.PassedBy.{goes_past}
 use Rattle.at_demand.proofs.of_parts.Looping.{bound_at, each_all, each_ends, each_gains, each_on, gains_so_far, passed_all, passed_gains, passed_on, starts, unbound_at}
 use Rattle.at_demand.proofs.direct.Direct.+direct.Goals as goal
 use Rattle.at_body.specs.declared.value.Value.TheVariants as value
 
+-- an exit with an error has no value
+no_ok : {T E : Type 0} (r : Result T E) (Q : E → Type 0) (P : T → Type 0) → IsErrAnd r Q → IfOk r P
+no_ok (Ok x) Q P h = absurd h
+no_ok (Err e) Q P h = tt
+
 pub told-recall-requires : goal.told-recall-requires
 told-recall-requires g n c = c.requires.known
+
+pub told-is_inner-requires : goal.told-is_inner-requires
+told-is_inner-requires g n c = c.requires.known.circular
 
 pub afresh-keep-requires : goal.afresh-keep-requires
 afresh-keep-requires g n c = record {
@@ -34,6 +44,7 @@ afresh-keep-requires g n c = record {
       (c.in_ok-value.ensures.unkept c.requires.unkept);
   evaluated = record {
     lazy = c.requires.lazy;
+    own = c.requires.own;
     held = held_after c.evaluate.ensures.grown;
     come =
         let h = held_by g.K.Keeper.contents g.K.Keeper.memories c.evaluate.new.keeper c.evaluate.new.self in
@@ -46,6 +57,7 @@ afresh-keep-requires g n c = record {
 pub inner-remember-requires : goal.inner-remember-requires
 inner-remember-requires g n c = record {
   lazy = c.requires.lazy;
+  own = c.requires.own;
   held = held_after c.evaluate.ensures.grown;
   come =
       let rules = c.args.basis.now.rules.now in
@@ -88,6 +100,7 @@ verify-loop-init g n c = record {
 pub verify-keep_again-requires : goal.verify-keep_again-requires
 verify-keep_again-requires g n c = record {
   lazy = c.requires.lazy;
+  own = c.requires.own;
   unkept = c.loop.invariant.unkept;
   held = held_after c.loop.invariant.grown;
 }
@@ -148,8 +161,8 @@ verify-loop-preserved g n c = record {
       (g.K.Keeper.contents c.keep_again.new.keeper) c.keep_again.new.self.found.entries) c.loop.level
       c.keep_again.new.level c.args.needed.now o) c.in_default.is c.in_ok-again.ensures.recalled ∙
       c.loop.invariant.level;
-  unkept = unkept_aside c.args.needed.now c.in-Some-2.is c.in_ok-other.ensures.led c.in_ok-other.ensures.other
-      c.afresh.ensures.grown
+  unkept = unkept_aside c.args.needed.now c.requires.own c.in-Some-2.is c.in_ok-other.ensures.led
+      c.in_ok-other.ensures.other c.afresh.ensures.grown
       (subst (λ (o : Option ValueCode). IfNone o (kept_values (g.K.Keeper.contents c.keep_again.new.keeper)
       c.args.needed.now ≡ None)) c.in_default.is c.in_ok-again.ensures.unkept);
 }
@@ -267,10 +280,10 @@ evaluate-returns-in_err-begun g n c = record {
   grown =
       grown_evaluated c.args.basis.now.rules.now c.args.basis.now.store.now g.K.Keeper.exact c.args.basis.now.idle
       c.args.inst.now (held_by g.K.Keeper.contents g.K.Keeper.memories c.args.keeper.now c.args.self.now) (held_by
-      g.K.Keeper.contents g.K.Keeper.memories c.args.keeper.now c.args.self.now) (nothing_gained
-      c.args.basis.now.rules.now c.args.basis.now.store.now g.K.Keeper.exact (meaning c.args.basis.now.rules.now
+      g.K.Keeper.contents g.K.Keeper.memories c.args.keeper.now c.args.self.now) c.requires.own (nothing_gained
+      c.args.basis.now.rules.now c.args.basis.now.store.now g.K.Keeper.exact (equations c.args.basis.now.rules.now
       c.args.inst.now) (held_by g.K.Keeper.contents g.K.Keeper.memories c.args.keeper.now c.args.self.now)
-      c.args.self.now.few c.requires);
+      c.args.self.now.few c.requires.held);
 }
 
 pub evaluate-returns : goal.evaluate-returns
@@ -281,19 +294,19 @@ evaluate-returns g n c =
     let old = held_by g.K.Keeper.contents g.K.Keeper.memories c.args.keeper.now c.args.self.now in
     let new = held_by g.K.Keeper.contents g.K.Keeper.memories c.operand.new.keeper c.operand.new.self in
     let run = ev rules.classes (body_view c.in_ok-begun.begun.1.now) (place_at c.in_ok-begun.begun.0) in
-    let gained : HasGained rules s g.K.Keeper.exact (meaning rules i) old new =
-    gains_begun rules s g.K.Keeper.exact old new c.args.level.now.reads c.begin.new.reads (meaning rules i) run
+    let gained : HasGained rules s g.K.Keeper.exact (equations rules i) old new =
+    gains_begun rules s g.K.Keeper.exact old new c.args.level.now.reads c.begin.new.reads (equations rules i) run
     c.in_ok-begun.ensures c.operand.ensures.gains in
     let come : IfOk c.operand.result (λ v. HasCome rules (contents s) new c.args.level.now c.operand.new.level
-    (meaning rules i) (value_view v)) =
+    (equations rules i) (value_view v)) =
     IfOk-weaker c.operand.result _ _ (λ v h. come_begun rules s new c.args.level.now
-    (record { reads = c.begin.new.reads; uses = c.args.level.now.uses }) c.operand.new.level (meaning rules i) run
+    (record { reads = c.begin.new.reads; uses = c.args.level.now.uses }) c.operand.new.level (equations rules i) run
     (value_view v) refl c.in_ok-begun.ensures h) c.operand.ensures.come in
     record {
       come = come;
-      unkept = unkept_result rules s g.K.Keeper.exact c.operand.result i old new c.args.level.now c.operand.new.level gained
-          come;
-      grown = grown_evaluated rules s g.K.Keeper.exact c.args.basis.now.idle i old new gained;
+      unkept = unkept_result rules s g.K.Keeper.exact c.operand.result i old new c.args.level.now c.operand.new.level
+          c.requires.own gained come;
+      grown = grown_evaluated rules s g.K.Keeper.exact c.args.basis.now.idle i old new c.requires.own gained;
     }
 
 pub operand-returns-in_err-at_once : goal.operand-returns-in_err-at_once
@@ -634,7 +647,7 @@ passed-loop-argument-init g n c =
 
 pub passed-returns-in_err-value : goal.passed-returns-in_err-value
 passed-returns-in_err-value g n c = record {
-  come = search rules;
+  come = no_ok c.from_residual.result _ _ c.from_residual.ensures.1;
   gains =
       passed_gains c.args.basis.now.rules.now c.args.basis.now.store.now g.K.Keeper.exact (place_at c.args.here.now)
       (ev_all c.args.basis.now.rules.now.classes (bodies_view c.args.passed.now) (place_at c.args.here.now)) _ _ _ _ _
@@ -693,6 +706,21 @@ each-asked_inside-asked_here-requires g n c = (
   c.inner_of_each-asked.ensures,
 )
 
+pub each-behind-requires : goal.each-behind-requires
+each-behind-requires g n c = c.inner_of_each-asked.ensures
+
+pub each-behind-requires-in-Some : goal.each-behind-requires-in-Some
+each-behind-requires-in-Some g n c = c.inner_of_each-asked.ensures
+
+pub each-returns-in_err-rest : goal.each-returns-in_err-rest
+each-returns-in_err-rest g n c = record {
+  come = search rules;
+  gains =
+      nothing_gained c.args.basis.now.rules.now c.args.basis.now.store.now g.K.Keeper.exact (over
+      c.args.basis.now.rules.now.classes c.args.fold (body_view c.args.body.now) (place_at c.args.here.now)
+      c.args.nodes.now) _ c.args.self.now.few c.requires;
+}
+
 pub each-returns-in_err-inside : goal.each-returns-in_err-inside
 each-returns-in_err-inside g n c = record {
   come = search rules;
@@ -704,11 +732,15 @@ each-returns-in_err-inside g n c = record {
 
 pub each-loop-node-init : goal.each-loop-node-init
 each-loop-node-init g n c =
+    let rules = c.args.basis.now.rules.now in
+    let s = c.args.basis.now.store.now in
+    let p = place_at c.args.here.now in
+    let whole = over rules.classes c.args.fold (body_view c.args.body.now) p c.args.nodes.now in
     record {
       place = c.in_ok-inside.ensures;
-      goes = starts c.args.basis.now.rules.now c.args.basis.now.store.now g.K.Keeper.exact _
-          c.args.level.now (over c.args.basis.now.rules.now.classes c.args.fold (body_view c.args.body.now) (place_at
-          c.args.here.now) c.args.nodes.now) (λ v. v) (λ v. refl) c.requires;
+      goes = goes_past rules s g.K.Keeper.exact p c.args.fold c.args.body.now whole _ _ c.args.level.now c.args.level.now c.behind.new.level
+          c.args.nodes.now c.in_ok-rest.rest.now c.args.self.now.few c.in_ok-rest.ensures
+          (starts rules s g.K.Keeper.exact _ c.args.level.now whole (λ v. v) (λ v. refl) c.requires);
     }
 
 pub each-returns-in_err-push : goal.each-returns-in_err-push
@@ -735,6 +767,19 @@ each-returns-in_err-value g n c = record {
 
 pub each-returns-in_err-next : goal.each-returns-in_err-next
 each-returns-in_err-next g n c = record {
+  come = search rules;
+  gains =
+      each_gains c.args.basis.now.rules.now c.args.basis.now.store.now g.K.Keeper.exact (place_at c.args.here.now) (over
+      c.args.basis.now.rules.now.classes c.args.fold (body_view c.args.body.now) (place_at c.args.here.now)
+      c.args.nodes.now) _ _ _ _ _ c.element.new.level c.loop-node.going c.args.body.now c.in-Some.node.now
+      c.in-Some.others.now c.loop-node.rest.now c.in-Some.ensures.cases.0 (place_at
+      (record c.loop-node.inside { bound = c.push.new.self })) (bound_at (place_at c.loop-node.inside) (place_at
+      c.args.here.now) c.in-Some.node.now c.push.new.self c.loop-node.invariant.place c.in_ok-push.ensures)
+      c.loop-node.invariant.goes c.element.ensures.gains;
+}
+
+pub each-returns-in_err-rest-2 : goal.each-returns-in_err-rest-2
+each-returns-in_err-rest-2 g n c = record {
   come = search rules;
   gains =
       each_gains c.args.basis.now.rules.now c.args.basis.now.store.now g.K.Keeper.exact (place_at c.args.here.now) (over
@@ -774,7 +819,11 @@ each-loop-node-preserved g n c =
     record {
       place = unbound_at (place_at c.loop-node.inside) (place_at c.args.here.now) c.in-Some.node.now
           c.push.new.self c.pop.new.self c.loop-node.invariant.place c.in_ok-push.ensures c.pop.ensures.left;
-      goes = each_on
+      goes = goes_past c.args.basis.now.rules.now c.args.basis.now.store.now g.K.Keeper.exact (place_at c.args.here.now) c.in-On.further
+          c.args.body.now (over c.args.basis.now.rules.now.classes c.args.fold (body_view c.args.body.now) (place_at
+          c.args.here.now) c.args.nodes.now) _ _ _ c.element.new.level c.behind-in-Some.new.level c.in-Some.others.now c.in_ok-rest-2.rest.now
+          c.element.new.self.few c.in_ok-rest-2.ensures
+          (each_on
           c.args.basis.now.rules.now c.args.basis.now.store.now g.K.Keeper.exact (place_at c.args.here.now) (over
           c.args.basis.now.rules.now.classes c.args.fold (body_view c.args.body.now) (place_at c.args.here.now)
           c.args.nodes.now) _ _ _ _ _ c.element.new.level c.loop-node.going c.args.body.now c.in-Some.node.now
@@ -784,15 +833,19 @@ each-loop-node-preserved g n c =
           c.loop-node.invariant.goes c.element.ensures.gains (value_view c.in_ok-value.value) c.in_ok-value.ensures.come
           c.in-On.further (c.in_ok-next.ensures c.args.basis.now.rules.now.classes (body_view c.args.body.now) (place_at
           c.args.here.now) c.in-Some.others.now ∙ ap (next_of c.args.basis.now.rules.now.classes (body_view
-          c.args.body.now) (place_at c.args.here.now) c.in-Some.others.now) c.in-On.is);
+          c.args.body.now) (place_at c.args.here.now) c.in-Some.others.now) c.in-On.is));
     }
 
-pub each-loop-node-preserved-in-On : goal.each-loop-node-preserved-in-On
-each-loop-node-preserved-in-On g n c =
+pub each-loop-node-preserved-in_ok-rest-2 : goal.each-loop-node-preserved-in_ok-rest-2
+each-loop-node-preserved-in_ok-rest-2 g n c =
     record {
       place = unbound_at (place_at c.loop-node.inside) (place_at c.args.here.now) c.in-Some.node.now
           c.push.new.self c.pop.new.self c.loop-node.invariant.place c.in_ok-push.ensures c.pop.ensures.left;
-      goes = each_on
+      goes = goes_past c.args.basis.now.rules.now c.args.basis.now.store.now g.K.Keeper.exact (place_at c.args.here.now) c.in-On.further
+          c.args.body.now (over c.args.basis.now.rules.now.classes c.args.fold (body_view c.args.body.now) (place_at
+          c.args.here.now) c.args.nodes.now) _ _ _ c.element.new.level c.behind-in-Some.new.level c.in-Some.others.now c.in_ok-rest-2.rest.now
+          c.element.new.self.few c.in_ok-rest-2.ensures
+          (each_on
           c.args.basis.now.rules.now c.args.basis.now.store.now g.K.Keeper.exact (place_at c.args.here.now) (over
           c.args.basis.now.rules.now.classes c.args.fold (body_view c.args.body.now) (place_at c.args.here.now)
           c.args.nodes.now) _ _ _ _ _ c.element.new.level c.loop-node.going c.args.body.now c.in-Some.node.now
@@ -802,7 +855,7 @@ each-loop-node-preserved-in-On g n c =
           c.loop-node.invariant.goes c.element.ensures.gains (value_view c.in_ok-value.value) c.in_ok-value.ensures.come
           c.in-On.further (c.in_ok-next.ensures c.args.basis.now.rules.now.classes (body_view c.args.body.now) (place_at
           c.args.here.now) c.in-Some.others.now ∙ ap (next_of c.args.basis.now.rules.now.classes (body_view
-          c.args.body.now) (place_at c.args.here.now) c.in-Some.others.now) c.in-On.is);
+          c.args.body.now) (place_at c.args.here.now) c.in-Some.others.now) c.in-On.is));
     }
 
 pub each-returns : goal.each-returns

@@ -89,7 +89,7 @@ invariant-each-loop-node g l = record {
       (held (g.K.Keeper.contents l.initial.keeper) (g.K.Keeper.memories l.initial.keeper) l.initial.self.found.entries
       l.initial.self.work)
       (held (g.K.Keeper.contents l.keeper) (g.K.Keeper.memories l.keeper) l.self.found.entries l.self.work)
-      l.initial.level l.level (over l.basis.rules.now.classes l.initial.going (body_view l.body) (place_at l.here) l.nodes)
+      l.fn.level l.level (over l.basis.rules.now.classes l.initial.going (body_view l.body) (place_at l.here) l.nodes)
       (over l.basis.rules.now.classes l.going (body_view l.body) (place_at l.here) l.rest) (λ v. v);
 }
 

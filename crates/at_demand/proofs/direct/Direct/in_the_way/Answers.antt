@@ -1,5 +1,5 @@
 use Rattle.std.proofs.Common.{◌≡◌, ◌∙◌, ℕ, None, ap, subst, sym, true≢false}
-use Rattle.at_model.specs.Meaning.{Leads}
+use Rattle.at_model.specs.of_fixpoints.Resting.{Leads}
 use Rattle.at_model.specs.Run.{Instance}
 use Rattle.at_store.specs.Shown.{contents}
 use Rattle.at_body.specs.Same.{same_instance}
@@ -27,5 +27,5 @@ returns-clause-led g c =
     (sym c.in_ok-copy.ensures)
     (next_led c.args.basis.now.rules.now c.args.basis.now.store.now c.args.basis.now.idle g.K.Keeper.exact (g.K.Keeper.memories
     c.args.keeper.now) c.requires.justified (g.K.Keeper.contents c.args.keeper.now)
-    (g.K.Keeper.kept_last c.args.keeper.now) c.requires.known.right c.args.needed.now c.in-Some.other.now
+    (g.K.Keeper.kept_last c.args.keeper.now) c.requires.known.circular c.requires.known.right c.args.needed.now c.in-Some.other.now
     c.in-Some.ensures)

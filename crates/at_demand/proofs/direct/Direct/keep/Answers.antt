@@ -14,7 +14,7 @@ put-requires-clause-present g c =
     let entries = g.K.Keeper.contents c.args.keeper.now in
     taken c.args.basis.now.rules.now c.args.basis.now.store.now g.K.Keeper.exact c.args.needed entries entries
     c.args.self.now.found.entries (value_view c.args.value.now) c.args.below.now.reads
-    c.args.below.now.uses.items c.requires.evaluated.held.known c.requires.evaluated.come
+    c.args.below.now.uses.items c.requires.evaluated.held.known c.requires.evaluated.own c.requires.evaluated.come
 
 pub returns-in_err-put : goal.returns-in_err-put
 returns-in_err-put g c = record {

@@ -18,7 +18,7 @@ put-requires-clause-present g c = λ u h.
     let below = c.args.below.now in
     taken c.args.basis.now.rules.now c.args.basis.now.store.now g.K.Keeper.exact c.args.needed.now entries entries
     c.args.self.now.found.entries (value_view c.args.value.now) below.reads below.uses.items c.requires.held.known
-    c.requires.come u
+    c.requires.own c.requires.come u
     (subst (λ (xs : List (Instance ℕ)). Contains xs u) c.as_slice-uses.ensures.value h)
 
 pub returns-then-stands : goal.returns-then-stands

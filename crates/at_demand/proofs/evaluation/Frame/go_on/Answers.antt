@@ -15,7 +15,7 @@ use Rattle.at_demand.specs.declared.evaluation.Demanded.{Demanded}
 use Rattle.at_demand.specs.declared.evaluation.Frame.{Frame}
 use Rattle.at_demand.specs.Only.{TakesOne, TakesOnly}
 use Rattle.at_demand.proofs.Passing.{passed_on}
-use Rattle.at_demand.proofs.OnlyLemmas.{needs_comes, takes_one}
+use Rattle.at_demand.proofs.OnlyLemmas.{needs_leads, takes_one}
 use Rattle.at_demand.proofs.Truth.{resumed_step, open_end}
 use Rattle.at_demand.proofs.TypingLemmas.{told_value}
 use Rattle.at_demand.proofs.evaluation.Frame.go_on.Goals as goal
@@ -39,11 +39,11 @@ loop-step-preserved g c =
           let takes = subst (λ (r : Recalled). Takes found c.loop-step.self.demanded c.recall.new.self c.in-Need.needed r) c.in-Value.is c.in_ok-value-in-Need.ensures.takes in
           let waits = subst (λ (s : Step). HasPassedTo rules look found i c.loop-step.self s) c.in-Need.is (c.loop-step.invariant.passed i h) in
           passed_on rules look found i c.in-Need.needed c.loop-step.self next (value_view c.in-Value.value) c.in_ok-step-in-Value.step waits takes.0 takes.1 (c.requires.right c.in-Need.needed (value_view c.in-Value.value) told) c.in_ok-step-in-Value.ensures.found;
-      only = λ i h takes.
+      only = λ i own h takes.
           let found = c.args.found.now.entries in
           let waits = subst (λ (s : Step). HasStepped rules look i c.loop-step.self.trial s) c.in-Need.is (c.loop-step.invariant.stepped i h) in
           let one = subst (λ (r : Recalled). TakesOne found c.loop-step.self.demanded c.recall.new.self c.in-Need.needed r) c.in-Value.is c.in_ok-value-in-Need.ensures.one in
-          takes_one rules look found i c.in-Need.needed c.loop-step.self.demanded c.recall.new.self (needs_comes rules look i c.in-Need.needed c.loop-step.self.trial waits) one (c.loop-step.invariant.only i h takes);
+          takes_one rules look found i c.in-Need.needed c.loop-step.self.demanded c.recall.new.self (needs_leads rules look i c.in-Need.needed c.loop-step.self.trial own waits) one (c.loop-step.invariant.only i own h takes);
     }
 
 pub resume-requires-clause-over : goal.resume-requires-clause-over
@@ -56,7 +56,7 @@ resume-requires-clause-takes g c =
     let known = known_in (g.K.Keeper.contents c.args.keeper.now) c.args.found.now.entries in
     let told = subst (λ (r : Recalled). IsRecalled known c.in-Need.needed r) c.in-Value.is c.in_ok-value-in-Need.ensures.recalled in
     let waits = subst (λ (x : Step). IsTypedStep rules (class_shown s) x c.loop-step.self.trial) c.in-Need.is c.loop-step.invariant.typed in
-    told_value rules c.requires.basis.formed s c.requires.basis.idle c.requires.basis.sound c.loop-step.self.trial c.in-Need.needed (value_view c.in-Value.value) waits (c.requires.right c.in-Need.needed (value_view c.in-Value.value) told)
+    told_value rules c.requires.basis.formed c.requires.basis.circular.boolean s c.requires.basis.idle c.requires.basis.sound c.loop-step.self.trial c.in-Need.needed (value_view c.in-Value.value) waits (c.requires.right c.in-Need.needed (value_view c.in-Value.value) told)
 
 pub returns-in-Unknown : goal.returns-in-Unknown
 returns-in-Unknown g c =
@@ -77,7 +77,7 @@ returns-in-Unknown g c =
       passed = λ i h.
           let waits = subst (λ (s : Step). HasPassedTo rules look found i old s) c.in-Need.is (c.loop-step.invariant.passed i h) in
           subst (λ d. P d i c.in-Unknown.needed) (sym same) (subst (λ j. P old.demanded i j) (sym told.0) waits);
-      only = λ i h takes. subst (TakesOnly rules look found i) (sym same) (c.loop-step.invariant.only i h takes);
+      only = λ i own h takes. subst (TakesOnly rules look found i) (sym same) (c.loop-step.invariant.only i own h takes);
       typed = subst (λ j. IsTypedStep rules at (step.Need j) old.trial) (sym told.0) (subst (λ (x : Step). IsTypedStep rules at x old.trial) c.in-Need.is c.loop-step.invariant.typed);
       unknown = subst (λ j. known j ≡ None) (sym told.0) told.1;
     }
@@ -94,7 +94,7 @@ returns-in_default g c =
     }
 
 pub loop-step-init : goal.loop-step-init
-loop-step-init g c = record { kept = c.requires.kept; stepped = λ i h. h; passed = λ i h. h; only = λ i h takes. takes; typed = c.requires.typed }
+loop-step-init g c = record { kept = c.requires.kept; stepped = λ i h. h; passed = λ i h. h; only = λ i own h takes. takes; typed = c.requires.typed }
 
 pub returns-in_err-value-in-Need : goal.returns-in_err-value-in-Need
 returns-in_err-value-in-Need g c =

@@ -1,18 +1,15 @@
-use Rattle.std.proofs.Common.{◌≡◌, ℕ, List, [], ◌∷◌, get_or, Some, None, slice_get, refl}
-use Rattle.std.specs.Map.{keys_of}
+use Rattle.std.proofs.Common.{ℕ, Option, Some, None, ap, ◌∙◌}
 use Rattle.at_model.specs.Run.{Instance}
+use Rattle.at_demand.specs.declared.question.Question.{Question}
+use Rattle.at_demand.specs.Levels.{LevelCode, root_in}
 use Rattle.at_demand.proofs.question.Question.asked.Goals as goal
 
-first_there : (es : List (Instance ℕ × Unit {0})) (i d : Instance ℕ) (u : Unit {0}) → Some (i, u) ≡ slice_get es 0 → i ≡ get_or (keys_of es) 0 d
-first_there [] i d u e = absurd cc
-first_there (x ∷ es) i d u e = cc
-
-none_there : (es : List (Instance ℕ × Unit {0})) (d : Instance ℕ) → None ≡ slice_get es 0 → d ≡ get_or (keys_of es) 0 d
-none_there [] d e = refl
-none_there (x ∷ es) d e = absurd cc
+-- the root of the first level, or of the last one
+abbrev first_root : Question → Option (Instance ℕ × LevelCode) → Instance ℕ
+first_root q o = elim o [ None ↦ root_in q.level q.inst | Some e ↦ root_in e.1 e.0 ]
 
 pub returns-in-Some : goal.returns-in-Some
-returns-in-Some c = first_there c.args.self.now.waiting.entries c.in-Some.inst.now c.args.self.now.inst c.in-Some._unit.now c.in-Some.ensures.entry
+returns-in-Some c = c.root_of.ensures ∙ ap (first_root c.args.self.now) c.in-Some.ensures.entry
 
 pub returns-in-None : goal.returns-in-None
-returns-in-None c = none_there c.args.self.now.waiting.entries c.args.self.now.inst c.in-None.ensures.entry
+returns-in-None c = c.root.ensures ∙ ap (first_root c.args.self.now) c.in-None.ensures.entry

@@ -9,16 +9,18 @@ use Rattle.at_demand.proofs.question.Question.settle.Goals as goal
 
 pub returns-in-None : goal.returns-in-None
 returns-in-None c =
-    let (alone, same, found, passed) = c.in-None.ensures in
-    record { alone = alone; same = same; found = found; passed = passed; is = ap (λ (v : ValueCode). answer.Value v) c.into_value.ensures }
+    let (alone, same) = c.in-None.ensures in
+    record { alone = alone; same = same; is = ap (λ (v : ValueCode). answer.Value v) c.into_value.ensures }
 
 pub returns-in_ok-put-in-Some : goal.returns-in_ok-put-in-Some
 returns-in_ok-put-in-Some c =
     let r = c.in-Some.ensures in
     record {
       waits = r.waits;
-      found = c.in_ok-put-in-Some.ensures ∙ ap (λ fs. insert_entry same_instance fs c.in-Some.inst c.args.find) r.found ∙ ap (λ (i : Instance ℕ). insert_entry same_instance c.args.self.now.found.entries i c.args.find) r.taken;
-      passed = r.passed;
+      found = c.in_ok-put-in-Some.ensures ∙ ap (λ fs. insert_entry same_instance fs c.in-Some.root c.args.find) r.finds.found ∙ ap (λ (i : Instance ℕ). insert_entry same_instance c.args.self.now.found.entries i c.args.find) r.taken;
+      passed = r.finds.passed;
+      ended = r.finds.ended;
+      turns = r.finds.turns;
     }
 
 pub returns-in_err-put-in-Some : goal.returns-in_err-put-in-Some

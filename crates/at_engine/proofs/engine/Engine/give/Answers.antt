@@ -61,7 +61,8 @@ returns-in-None g c =
     (subst (λ (r : Result (ℕ × Option Form) AllocError). Came x k c.args.limit e m.demand f.p f.now r) c.in-Ok.is f.came) in
     called x k g.K.Keeper.memories e m m c.args.out.now c.reserve.new.self _ _ c.requires.sound c.go_on.ensures.rest refl c.go_on.ensures.spare
     c.go_on.ensures.sound c.reserve.ensures.capacity
-    (gives_silent x k e c.requires.sound.held f.p f.others f.least m c.go_on.ensures.rest c.args.limit f.now f.reopens c.in-Ok.gone.0 c.args.out.now.items c.reserve.new.self.items c.reserve.ensures.items c.requires.some came)
+    (gives_silent x k e c.requires.sound.held f.p f.others f.least m c.go_on.ensures.rest c.args.limit f.now f.reopens c.in-Ok.gone.0 c.args.out.now.items c.reserve.new.self.items c.reserve.ensures.items c.requires.some came
+    c.requires.sound.typed.none_circular c.go_on.ensures.sound.posted)
 
 pub returns-in-Some : goal.returns-in-Some
 returns-in-Some g c =

@@ -149,4 +149,5 @@ returns-in-None g c =
     let h = subst (λ (a : Option AnswerCode). HasTurnedUpTo {E = AllocError} x (rules_of e) e.store c.args.limit
     (k e.demand.keeper) (k d.keeper)
     (m e.demand.keeper) (m d.keeper) q p (Ok (c.in_ok-turns.turns, a))) c.in-None.is c.in_ok-turns.ensures in
-    not_yet x k m e i c.args.limit o t it q b s d p c.in_ok-turns.turns h c.keep.new.self c.keep.ensures.there
+    not_yet x k m e i c.args.limit o t it q b s d p c.in_ok-turns.turns c.requires.ready.typed.none_circular h
+    c.keep.new.self c.keep.ensures.there

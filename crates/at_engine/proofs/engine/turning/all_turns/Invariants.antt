@@ -1,13 +1,13 @@
 use Rattle.std.proofs.Common.{◌≡◌, ◌-◌, ℕ, None}
 use Rattle.std.specs.Prelude.{IsTrue}
-use Rattle.at_model.specs.Meaning.{Right}
 use Rattle.at_model.specs.Turning.{asked, turns_of}
 use Rattle.at_store.specs.Shown.{contents}
 use Rattle.at_cache.specs.Traced.{StayTraced}
 use Rattle.at_demand.specs.Known.{kept_values, meaning, ArePlain}
+use Rattle.at_demand.specs.Meant.{AreRightValues}
 use Rattle.at_demand.specs.Right.{AreRight, IsThere}
 use Rattle.at_demand.specs.Sparing.{AddsWorthy, AreSpare}
-use Rattle.at_demand.specs.Turns.{AreTurns, IsSparingTurns, IsStanding, under_way}
+use Rattle.at_demand.specs.Turns.{AreTurnsOfChain as AreTurns, IsSparingTurns, IsStanding, under_way}
 use Rattle.at_engine.proofs.of_turns.Settling.{most_turns}
 use Rattle.at_engine.proofs.engine.turning.all_turns.Given as goal
 
@@ -20,7 +20,7 @@ invariant-loop-turns g l =
     record {
       each : (given : ℕ) × AreTurns l.rules s given old q now (under_way l.question) None;
       standing : IsStanding l.rules s now l.question;
-      right : Right (contents s) (meaning l.rules) (kept_values now);
+      right : AreRightValues (contents s) (meaning l.rules) (kept_values now);
       plain : ArePlain l.rules now;
       same : asked (under_way l.question) ≡ asked q;
       worthy : AddsWorthy l.rules (contents s) (asked q) old now;

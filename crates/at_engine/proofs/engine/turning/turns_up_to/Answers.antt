@@ -12,9 +12,11 @@ returns-in-Some g c =
     subst (λ (limit : Option ℕ). HasTurnedUpTo {E = AllocError} g.K.Keeper.exact c.args.rules.now c.args.store.now limit
     (k old.keeper) (k new.keeper)
     (g.K.Keeper.memories old.keeper) (g.K.Keeper.memories new.keeper) c.args.question.now c.turns.new.question c.turns.result) (sym c.in-Some.is)
-    (as_one_record g.K.Keeper.exact c.args.rules.now c.args.store.now c.in-Some.limit (k old.keeper)
+    (as_one_record AllocError g.K.Keeper.exact c.args.rules.now c.args.store.now c.in-Some.limit (k old.keeper)
     (k new.keeper) old.work new.work
-    (g.K.Keeper.memories old.keeper) (g.K.Keeper.memories new.keeper) c.args.question.now c.turns.new.question c.turns.result c.turns.ensures.turned
+    (g.K.Keeper.memories old.keeper) (g.K.Keeper.memories new.keeper) c.args.question.now c.turns.new.question
+    c.turns.result
+    c.requires.plainly c.requires.turns.standing c.turns.ensures.turned
     c.turns.ensures.traces)
 
 pub returns-in-None : goal.returns-in-None

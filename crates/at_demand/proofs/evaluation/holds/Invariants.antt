@@ -1,6 +1,0 @@
-use Rattle.std.proofs.Common.{take}
-use Rattle.at_model.specs.Meaning.{Among}
-use Rattle.at_demand.proofs.evaluation.holds.Given as goal
-
-abbrev pub invariant-loop-key : goal.invariant-loop-key
-invariant-loop-key g l = Among l.inst (take l.key-index l.keys) → ⊥

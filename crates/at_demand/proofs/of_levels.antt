@@ -1,0 +1,25 @@
+-- Questions over circular attributes.
+pub mod Plain
+pub mod FormingOn
+pub mod FailedMet
+pub mod Carried
+pub mod Resolving
+pub mod Wholes
+pub mod GainedBetween
+pub mod ClosedLevels
+pub mod Behind
+pub mod LevelOver
+pub mod LeftLevel
+pub mod AlongLevels
+pub mod SpoiltLast
+pub mod Starting
+pub mod CameBetween
+pub mod StayingOn
+pub mod LeavingSo
+pub mod Followed
+pub mod LeftWorthy
+pub mod ChainWorthy
+pub mod ChainCircle
+pub mod PlainLevel
+pub mod EndedLast
+pub mod FromTry

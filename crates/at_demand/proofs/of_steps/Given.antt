@@ -1,0 +1,199 @@
+-- What turns that follow each other come to, none of which answers the question.
+use Rattle.std.proofs.Common.{◌≡◌, ◌+◌, ◌<◌, ◌≤◌, ◌^◌, ℕ, suc, Bool, Option, Some, None, Result, Ok, Err, refl, sym, ◌∙◌, subst, arith}
+use Rattle.std.specs.Prelude.{IsTrue}
+use Rattle.std.specs.declared.alloc.AllocError.{AllocError}
+use Rattle.at_model.specs.Rules.{Rules}
+use Rattle.at_model.specs.Run.{Instance}
+use Rattle.at_model.specs.Turning.{UnderWay}
+use Rattle.at_model.specs.Turning.{Silent as ChainSilent, none as chain_none, one_more as chain_more}
+use Rattle.at_model.specs.of_fixpoints.Circles.{Answers}
+use Rattle.at_model.specs.of_fixpoints.Searching.{Search, Silent, none as search_none, one_more as search_more}
+use Rattle.at_rules.specs.Circular.{HasNoneCircular}
+use Rattle.at_store.specs.Shown.{Shown, contents}
+use Rattle.at_cache.specs.Kept.{Entries}
+use Rattle.at_demand.specs.declared.answer.Answer.{Answer as AnswerCode}
+use Rattle.at_demand.specs.declared.question.Question.{Question}
+use Rattle.at_demand.specs.declared.trials.Trials.{Trials}
+use Rattle.at_demand.specs.Answerable.{IsBasis}
+use Rattle.at_demand.specs.Answered.{GainsAtMost, HasTurnedOften, HasTurnedWith, HasWorthyFor}
+use Rattle.at_demand.specs.Known.{ArePlain, answer_view, equations, kept_values, meaning}
+use Rattle.at_demand.specs.Levels.{StandsFor, asked_by}
+use Rattle.at_demand.specs.Right.{AreRight, IsThere}
+use Rattle.at_demand.specs.Sound.{AreSound}
+use Rattle.at_demand.specs.Sparing.{AddsWorthy, AreSpare, Counts}
+use Rattle.at_demand.specs.Turns.{AreTurns, AreTurnsOfChain, IsSparingTurns, IsStanding, under_way}
+use Rattle.at_demand.specs.Turns as turns
+use Rattle.at_demand.proofs.Counting.{counts_more, counts_none}
+use Rattle.at_demand.proofs.Gaining.{worthy_none}
+use Rattle.at_demand.proofs.Standing.{answers_right, asked_same, sound_after, worthy_both}
+
+-- So many turns were given, and the question stands.
+pub record HasGivenSo (rules : Rules) (s : Shown) (exact : Bool) (first now : Entries) (w x given : ℕ) (old new : Question) : Type 0 where
+  pub sound : AreSound rules s now
+  pub plain : ArePlain rules now
+  pub standing : IsStanding rules s now new
+  pub same : asked_by new ≡ asked_by old
+  pub plainly : HasNoneCircular rules → AreTurnsOfChain rules s given first (under_way old) now (under_way new) None
+      × ChainSilent (contents s) (equations rules) given (under_way old) (under_way new)
+  pub searched : (u : Search ℕ) → StandsFor rules s first old u → (v : Search ℕ) × Silent (contents s) (meaning rules) given u v
+      × AreTurns rules s given first u now v None × StandsFor rules s now new v
+  pub worthy : AddsWorthy rules (contents s) (asked_by old) first now
+  pub stays : IsThere s (asked_by old) → AreRight rules s first → AreRight rules s now
+  pub spare : IsTrue exact → AreSpare rules (contents s) first → IsSparingTurns rules (contents s) first old
+      → AreSpare rules (contents s) now × IsSparingTurns rules (contents s) now new
+  pub counts : IsTrue exact → Counts first now w x
+
+one_up : (P : ℕ → Type 0) (n : ℕ) → P (suc n) → P (n + 1)
+one_up P n p = let e : suc n ≡ n + 1 = omega arith in subst P e p
+
+-- so many turns, and the answer behind them
+abbrev pub with_answer : ℕ → Option AnswerCode → ℕ × Option AnswerCode
+with_answer n o = (n, o)
+
+module _ (rules : Rules) (s : Shown) (exact : Bool) (basis : IsBasis rules s) (first : Entries) (w : ℕ) (old : Question) where
+  abbrev So : Entries → ℕ → ℕ → Question → Type 0
+  So now x given new = HasGivenSo rules s exact first now w x given old new
+
+  pub given_none : w < 2 ^ 64 → AreSound rules s first → ArePlain rules first → IsStanding rules s first old → So first w 0 old
+  given_none few sound plain st = record {
+    sound = sound;
+    plain = plain;
+    standing = st;
+    same = refl;
+    plainly = λ none. (turns.none first (under_way old), chain_none (under_way old));
+    searched = λ u x. (u, search_none u, turns.none first u, x);
+    worthy = worthy_none rules (contents s) (asked_by old) first;
+    stays = λ there right. right;
+    spare = λ k spare sparing. (spare, sparing);
+    counts = λ k. counts_none first w few;
+  }
+
+  module _ (mid : Entries) (x given : ℕ) (q : Question) (inv : So mid x given q) (new : Entries) (y : ℕ) (p : Question) (t : Trials) where
+    module _ (Whole : Type 0) (g : GainsAtMost rules s exact mid new x y q Whole) where
+      sound_now : AreSound rules s new
+      sound_now = sound_after rules s basis mid q inv.sound inv.standing new g.right g.worthy
+
+      worthy_now : AddsWorthy rules (contents s) (asked_by old) first new
+      worthy_now = worthy_both rules (contents s) (asked_by old) first mid new inv.worthy
+          (subst (λ (i : Instance ℕ). AddsWorthy rules (contents s) i mid new) inv.same g.worthy)
+
+      stays_now : IsThere s (asked_by old) → AreRight rules s first → AreRight rules s new
+      stays_now there right = g.stays (subst (λ (i : Instance ℕ). IsThere s i) (sym inv.same) there) (inv.stays there right)
+
+      spare_now : Whole → IsTrue exact → AreSpare rules (contents s) first → IsSparingTurns rules (contents s) first old → AreSpare rules (contents s) new
+      spare_now whole k spare sparing = let both = inv.spare k spare sparing in g.spare whole k both.0 both.1
+
+      counts_now : IsTrue exact → Counts first new w y
+      counts_now k = counts_more first mid new w x y (inv.counts k) (g.counts k)
+
+    -- one turn more
+    pub given_more : HasTurnedWith {E = AllocError} rules s exact mid new x y q p t (Ok None) → So new y (given + 1) p
+    given_more e = record {
+      sound = sound_now (Unit {0}) e.gains;
+      plain = e.gains.plain;
+      standing = e.standing;
+      same = asked_same rules s basis mid q inv.sound inv.standing new p e.turned ∙ inv.same;
+      plainly = λ none.
+          let (each, silent) = inv.plainly none in
+          let turned = e.turned.plainly none in (
+            turns.more given first mid new (under_way old) (under_way q) (under_way p) None each turned (e.gains.last.plainly none),
+            one_up (λ n. ChainSilent (contents s) (equations rules) n (under_way old) (under_way p)) given
+                (chain_more (kept_values mid) silent turned),
+          );
+      searched = λ u st.
+          let (v, silent, each, stands) = inv.searched u st in
+          let (z, turned, after) = e.turned.searched v stands in (
+            z,
+            one_up (λ n. Silent (contents s) (meaning rules) n u z) given (search_more (kept_values mid) inv.sound.right silent turned),
+            turns.more given first mid new u v z None each turned (e.gains.last.searched v stands),
+            after refl,
+          );
+      worthy = worthy_now (Unit {0}) e.gains;
+      stays = stays_now (Unit {0}) e.gains;
+      spare = λ k spare sparing. let both = inv.spare k spare sparing in (e.gains.spare tt k both.0 both.1, e.sparing k both.0 both.1);
+      counts = counts_now (Unit {0}) e.gains;
+    }
+
+    -- and the last one answers the question
+    pub given_answered : (limit : ℕ) (a : AnswerCode) → given < limit →
+        HasTurnedWith {E = AllocError} rules s exact mid new x y q p t (Ok (Some a)) →
+        HasTurnedOften {E = AllocError} rules s exact first new w y limit old p (Ok (with_answer (given + 1) (Some a)))
+    given_answered limit a less e = record {
+      plainly = λ none.
+          let (each, silent) = inv.plainly none in
+          let turned = e.turned.plainly none in
+          record {
+            given = (given, under_way q, kept_values mid, refl, omega (arith, less), silent, turned);
+            each = turns.more given first mid new (under_way old) (under_way q) (under_way p) (Some (answer_view a)) each turned
+                (e.gains.last.plainly none);
+            broke = tt;
+          };
+      given = λ u st.
+          let (v, silent, each, stands) = inv.searched u st in
+          let (z, turned, after) = e.turned.searched v stands in (
+            z,
+            (given, v, kept_values mid, refl, omega (arith, less), silent, turned),
+            turns.more given first mid new u v z (Some (answer_view a)) each turned (e.gains.last.searched v stands),
+            λ none. absurd (no_answer none),
+          );
+      broke = λ u st. tt;
+      all = λ k spare sparing. let both = inv.spare k spare sparing in
+          subst (λ i. HasWorthyFor rules (contents s) i (answer_view a) new) inv.same (e.all k both.0 both.1);
+      answers = subst (λ i. Answers (contents s) (meaning rules) i (answer_view a)) inv.same
+          (answers_right rules s basis mid q inv.sound inv.standing new p a e.turned);
+      standing = e.standing;
+      right = e.gains.right;
+      worthy = worthy_now (Unit {0}) e.gains;
+      stays = stays_now (Unit {0}) e.gains;
+      plain = e.gains.plain;
+      spare = λ whole. spare_now (Unit {0}) e.gains tt;
+      sparing = λ k spare sparing. let both = inv.spare k spare sparing in e.sparing k both.0 both.1;
+      counts = counts_now (Unit {0}) e.gains;
+    }
+      where
+        no_answer : Some a ≡ None → ⊥
+        no_answer e = cc
+
+    -- or breaks off
+    pub given_broken : (limit : ℕ) (r : Result (ℕ × Option AnswerCode) AllocError) (f : AllocError) → r ≡ Err f → given < limit →
+        {Whole : Type 0} → (HasNoneCircular rules → Whole) → GainsAtMost rules s exact mid new x y q Whole → HasTurnedOften {E = AllocError} rules s exact first new w y limit old p r
+    given_broken limit r f is less {Whole} keeps g = subst (λ z. HasTurnedOften {E = AllocError} rules s exact first new w y limit old p z) (sym is) (record {
+      plainly = λ none. record {
+        given = tt;
+        each = tt;
+        broke = let (each, silent) = inv.plainly none in
+            record { given = given; fewer = less; mid = mid; way = under_way q; turns = each; last = g.last.plainly none };
+      };
+      given = λ u st. tt;
+      broke = λ u st. let (v, silent, each, stands) = inv.searched u st in
+          record { given = given; fewer = less; mid = mid; way = v; turns = each; last = g.last.searched v stands };
+      all = λ k spare sparing. tt;
+      answers = tt;
+      standing = tt;
+      right = g.right;
+      worthy = worthy_now Whole g;
+      stays = stays_now Whole g;
+      plain = g.plain;
+      spare = λ none. spare_now Whole g (keeps none);
+      sparing = λ k spare sparing. tt;
+      counts = counts_now Whole g;
+    })
+
+  -- all of them were given
+  pub given_all : (now : Entries) (x given limit : ℕ) (new : Question) → So now x given new → given ≡ limit →
+      HasTurnedOften {E = AllocError} rules s exact first now w x limit old new (Ok (with_answer given None))
+  given_all now x given limit new inv full = record {
+    plainly = λ none. let (each, silent) = inv.plainly none in record { given = (full, silent); each = each; broke = tt };
+    given = λ u st. let (v, silent, each, stands) = inv.searched u st in (v, (full, silent), each, λ e. stands);
+    broke = λ u st. tt;
+    all = λ k spare sparing. tt;
+    answers = tt;
+    standing = inv.standing;
+    right = inv.sound.right;
+    worthy = inv.worthy;
+    stays = inv.stays;
+    plain = inv.plain;
+    spare = λ whole k spare sparing. (inv.spare k spare sparing).0;
+    sparing = λ k spare sparing. (inv.spare k spare sparing).1;
+    counts = inv.counts;
+  }
