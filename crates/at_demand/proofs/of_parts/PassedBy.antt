@@ -1,6 +1,6 @@
 -- Evaluations in one go: elements that a fold passes by.
-use Rattle.std.proofs.Common.{◌≡◌, ◌<◌, ◌^◌, ◌++◌, ◌∷◌, [], ℕ, Bool, List, Ok, Option, Result, Some, false, inl, inr, refl, sym, subst}
-use Rattle.at_model.specs.Run.{Location, Run, Truth, Value}
+use Rattle.std.proofs.Common.{◌≡◌, ◌≤◌, ◌<◌, ◌^◌, ◌++◌, ◌∷◌, [], ℕ, Bool, List, Ok, Option, Result, Some, ap, arith, false, inl, inr, length, length-append, refl, sym, subst}
+use Rattle.at_model.specs.Run.{Contents, Location, Run, Truth, Value}
 use Rattle.at_model.specs.Rules.{Rules}
 use Rattle.at_store.specs.Shown.{Shown, contents}
 use Rattle.at_rules.specs.Bodies.{body_view}
@@ -61,3 +61,16 @@ goes_past rules s exact p f b whole first now old mid later nodes rest few (inl 
 goes_past rules s exact p f b whole first now old mid later nodes rest few (inr (a, h)) i =
     subst (λ l. GoesOn rules s exact first now old l whole (elements_at rules s exact p f b rest) (λ v. v)) (sym h.uses)
     (goes_behind rules s exact p f b a h.seeks h.asks whole first now old few h.passed.front rest nodes mid mid.reads later.reads h.passed.those h.passed.are i)
+
+-- what is left is no more than there was
+no_longer : (rules : Rules) (look : Contents ℕ) (p : Place) (f : Fold) (b : Body) (mid later : Level) (nodes rest : List ℕ) →
+    MayHavePassedBy rules look p f b mid later nodes rest → length rest ≤ length nodes
+no_longer rules look p f b mid later nodes rest (inl (same, level)) = omega (arith, ap length same)
+no_longer rules look p f b mid later nodes rest (inr (a, h)) =
+    omega (arith, ap length h.passed.those, length-append h.passed.front rest)
+
+-- behind an element, and behind those passed by then, there is less than there was
+pub less_left : (rules : Rules) (look : Contents ℕ) (p : Place) (f : Fold) (b : Body) (mid later : Level) (n : ℕ) (whole others rest : List ℕ) →
+    whole ≡ n ∷ others → MayHavePassedBy rules look p f b mid later others rest → length rest < length whole
+less_left rules look p f b mid later n whole others rest more passed =
+    omega (arith, ap length more, no_longer rules look p f b mid later others rest passed)

@@ -21,7 +21,7 @@ use Rattle.at_apply.specs.Place.{place_at}
 use Rattle.at_demand.specs.Traces.{StayJustified}
 use Rattle.at_demand.proofs.of_parts.Directly.{come_begun, come_gives, come_looked, gains_begun, nothing_gained}
 use Rattle.at_demand.proofs.of_parts.ByForm.{beside_come, beside_gains, call_come, call_gains, call_gains_first, call_gains_second, either_come, either_gains, either_gains_test, fold_come, fold_gains, fold_gains_first, one_come, one_gains, two_come, two_gains, two_gains_first}
-use Rattle.at_demand.proofs.of_parts.PassedBy.{goes_past}
+use Rattle.at_demand.proofs.of_parts.PassedBy.{goes_past, less_left}
 use Rattle.at_demand.proofs.of_parts.Looping.{bound_at, each_all, each_ends, each_gains, each_on, gains_so_far, passed_all, passed_gains, passed_on, starts, unbound_at}
 use Rattle.at_demand.proofs.direct.Direct.+direct.Goals as goal
 use Rattle.at_body.specs.declared.value.Value.TheVariants as value
@@ -857,6 +857,18 @@ each-loop-node-preserved-in_ok-rest-2 g n c =
           c.args.here.now) c.in-Some.others.now ∙ ap (next_of c.args.basis.now.rules.now.classes (body_view
           c.args.body.now) (place_at c.args.here.now) c.in-Some.others.now) c.in-On.is));
     }
+
+pub each-loop-node-smaller : goal.each-loop-node-smaller
+each-loop-node-smaller g n c =
+    less_left c.args.basis.now.rules.now (contents c.args.basis.now.store.now) (place_at c.args.here.now) c.in-On.further c.args.body.now
+    c.element.new.level c.behind-in-Some.new.level c.in-Some.node.now c.loop-node.rest.now c.in-Some.others.now c.in_ok-rest-2.rest.now
+    c.in-Some.ensures.cases.0 c.in_ok-rest-2.ensures
+
+pub each-loop-node-smaller-in_ok-rest-2 : goal.each-loop-node-smaller-in_ok-rest-2
+each-loop-node-smaller-in_ok-rest-2 g n c =
+    less_left c.args.basis.now.rules.now (contents c.args.basis.now.store.now) (place_at c.args.here.now) c.in-On.further c.args.body.now
+    c.element.new.level c.behind-in-Some.new.level c.in-Some.node.now c.loop-node.rest.now c.in-Some.others.now c.in_ok-rest-2.rest.now
+    c.in-Some.ensures.cases.0 c.in_ok-rest-2.ensures
 
 pub each-returns : goal.each-returns
 each-returns g n c = record {
