@@ -105,14 +105,15 @@ def shared(one: Names, other: Names) -> int:
 
 def owner_of(header: str, path: Names, homes: Mapping[str, Sequence[Names]]) -> Names:
     """The path that the prover has for the functions of an `impl` in this module: by its type's name in its type's module, or where
-    it is of a trait, by both names where it stands; what lets a value go is the type's own."""
+    it is of a trait, by both names where it stands, that of any type by `Any`; what lets a value go is the type's own."""
     implemented = IMPLEMENTED.match(header)
     assert implemented
     trait, kind = implemented.groups()
     # a word of one letter is a parameter of the `impl`
     words = [it for it in re.findall(r"\w+", re.sub(r"\w+::", "", trait or "")) if len(it) > 1 and it != "Drop"]
     home = path if words else max(homes.get(kind, [path]), key=lambda it: shared(it, path))
-    return *home, kind + "".join(words)
+    owner = "Any" if len(kind) == 1 else kind
+    return *home, owner + "".join(words)
 
 
 def functions_of(folder: Path) -> List[Names]:
