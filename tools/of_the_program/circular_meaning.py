@@ -8,7 +8,7 @@ from __future__ import annotations
 from dataclasses import dataclass
 from typing import Callable, Dict, Iterator, List, Optional, Set, Tuple, Union
 
-from tools.of_the_program.circular_aspects import PLACES, Aspects, Expr
+from tools.of_the_program.circular_aspects import Aspects, Expr
 from tools.of_the_program.circular_trees import Node
 
 Argument = Union[Node, str, None]

@@ -51,9 +51,10 @@ def made(seed: str, count: int) -> Case:
             if not asked or chance.random() < 0.6:
                 asked.append(question(aspects, tree, chance))
             lines.append(f"0 {kind} {chance.choice(asked[-RECENT:])}")
-            if QUESTION.fullmatch(lines[-1][len(f'0 {kind} '):]) is None or instance(tree, aspects, lines[-1][len(f"0 {kind} "):]) is None:
+            if instance(tree, aspects, lines[-1][len(f"0 {kind} "):]) is None:
                 lines.pop()
-            posts += kind == "post" and bool(lines) and lines[-1].startswith("0 post")
+            else:
+                posts += kind == "post"
     return Case(aspects, term, tuple(lines))
 
 
@@ -84,7 +85,9 @@ class Expected:
     def __init__(self, case: Case) -> None:
         self.aspects, self.tree = case.aspects, node_of(case.term)
         self.trees, self.posted = [Meaning(self.aspects, self.tree.copy())], list[str]()
-        self.replies = [it for it in map(self.reply, case.lines) if it]
+        # of each line; None where it waits
+        self.by_line = [self.reply(it) for it in case.lines]
+        self.replies = [it for it in self.by_line if it]
 
     def reply(self, line: str) -> Optional[str]:
         """The reply to the line; None where it waits."""

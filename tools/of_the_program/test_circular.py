@@ -1,15 +1,45 @@
 """Sessions by chance over circular attributes: with each way to keep values the replies are those of their meaning."""
 import os
+from dataclasses import replace
 from typing import List, Optional, Tuple
 
 from tools.of_the_program.circular_sessions import Case, Expected, Unfit, made, shorter
 from tools.of_the_program.keeping import OPTIONS, OTHERS, KeepingTest
-from tools.of_the_program.sessions import Sample
+from tools.of_the_program.sessions import Sample, Session
 
 FORMS = ["--forms", "circular"]
 # How many sessions there are, of so many lines, and how many turns follow a line; the variables give others.
 SESSIONS, LINES, SLICES = 40, 60, (1, 2, 5, 1_000)
 SEED = 1995
+LAMPS = Sample("A ::= <On:boolean> <Note> [B:A];\n", 'A(true,"",A(false,"",-))\n', ["""aspect Lamps {
+  syn boolean A.j() circular [false] = b() || c();
+  syn boolean A.b() circular [false] = j();
+  syn boolean A.c() circular [false] = getOn();
+  syn boolean A.self() circular [false] = self();
+  syn boolean A.top() circular [true] = top();
+  syn boolean A.m() circular [false] = n() || 1 / 0 == 0;
+  syn boolean A.n() circular [false] = m() || named();
+  syn lazy boolean A.named() = getNote().equals("n");
+  syn boolean A.x() circular [false] = y() || getOn();
+  syn boolean A.y() = x();
+  syn boolean A.guard() circular [false] = hasB() && getB().guard() || getOn();
+  syn lazy int A.count() = (j() ? 1 : 0) + (self() ? 10 : 0) + (top() ? 100 : 0);
+}
+"""])
+# With what is found anew: each of a group once, and what an edit touches with all of its group.
+WORKED = [
+    Session("each of a group is found once", "0 ask / j()\n0 ask / b()\n0 ask / c()\n", "0 = true\n" * 3, 3),
+    Session("a question alone is a group", "0 ask / self()\n0 ask / top()\n", "0 = false\n0 = true\n", 2),
+    Session("an edit of what one looked at makes a group forgotten",
+            "0 ask / j()\n0 token / On false\n0 ask / j()\n0 ask / b()\n", "0 = true\n0 ok 1\n0 = false\n0 = false\n", 6),
+    Session("an edit beside a group makes nothing forgotten",
+            '0 ask / j()\n0 token / Note "n"\n0 token /B On true\n0 ask / j()\n', "0 = true\n0 ok 1\n0 ok 2\n0 = true\n", 3),
+    Session("a lazy one rests on groups", "0 ask / count()\n0 ask / b()\n0 token / On false\n0 ask / count()\n",
+            "0 = 101\n0 = true\n0 ok 1\n0 = 100\n", 10),
+    Session("a fault keeps what led to it", "0 ask / m()\n0 ask / named()\n0 ask / n()\n", "0 fault zero in /.m\n0 = false\n0 fault zero in /.m\n", 1),
+    Session("a circle has no value to be kept", "0 ask / x()\n0 ask / y()\n", "0 circular /.x\n0 circular /.y\n", 0),
+    Session("a guard in front", "0 ask / guard()\n0 drop /B\n0 ask / guard()\n", "0 = true\n0 ok 1\n0 = true\n", 3),
+]
 
 
 class Circular(KeepingTest):
@@ -40,6 +70,16 @@ class Circular(KeepingTest):
         case = shorter(case, lambda it: self.wrong(it, keeper, turns) is not None)
         self.fail("\n".join([f"{keeper}, {turns} turns: {self.wrong(case, keeper, turns)}", case.aspects.text(), case.term, *case.lines]))
 
+    def test_sessions_have_their_replies_and_work(self) -> None:
+        files = self.write(LAMPS)
+        for session in WORKED:
+            for keeper in self.keepers:
+                with self.subTest(session.name, keeper=keeper):
+                    told, work = self.played(keeper, 1, files, session.lines) if keeper in OTHERS else \
+                        self.played_with([*FORMS, *OPTIONS[keeper]], 1, files, session.lines)
+                    self.assertEqual(told, session.replies)
+                    self.assertTrue(keeper != "over-edits" or work == f"work {session.work}\n", work)
+
     def test_replies_are_by_meaning(self) -> None:
         count, seed = (int(os.environ.get(f"ATTRD_CIRCULAR_{name}", usual)) for name, usual in (("SESSIONS", SESSIONS), ("SEED", SEED)))
         for number in range(count):
@@ -51,12 +91,11 @@ class Circular(KeepingTest):
     def test_a_kept_question_takes_no_work(self) -> None:
         for number in range(SESSIONS):
             case = made(f"again.{number}", LINES)
-            lines = tuple(it for line in case.lines for it in ([line] * 2 if self.is_kept(case, line) else [line]))
-            twice = Case(case.aspects, case.term, lines)
-            self.assertEqual(self.told_of(twice, "over-edits", 1)[1], self.told_of(case, "over-edits", 1)[1], f"again.{number}")
+            once = replace(case, lines=tuple(it for it in case.lines if it.split()[1] not in ("post", "wait")))
+            twice = replace(case, lines=tuple(it for line, reply in zip(once.lines, Expected(once).by_line) for it in self.again(line, reply)))
+            self.assertEqual(self.told_of(twice, "over-edits", 1)[1], self.told_of(once, "over-edits", 1)[1], f"again.{number}")
 
     @staticmethod
-    def is_kept(case: Case, line: str) -> bool:
-        """Whether the line asks for a circular attribute."""
-        words = line.split(" ")
-        return words[1] == "ask" and case.aspects.named(words[3].partition("(")[0]).start is not None
+    def again(line: str, reply: Optional[str]) -> List[str]:
+        """The line, twice where it is a question that has an outcome."""
+        return [line] * (2 if " ask " in line and reply and " circular " not in reply else 1)
