@@ -4,7 +4,7 @@
     python3 bench/fixpoints.py [PROGRAM [TURNS]]
 
 PROGRAM is ./attrd where none is given. A time is processor time, the least of TURNS runs, behind the start. Instructions are those of a
-run less those of a run without the lines, as `valgrind` counts them. The grammars are rings of rules of the sample `samples/grammars`;
+run less those of a run without the lines, as `valgrind` counts them; growth is told in these where it is there. The grammars are rings of rules of the sample `samples/grammars`;
 the programs are those of `samples/flow`, with loops by labels and jumps. The run ends with status 1 where a bound doesn't hold.
 """
 from __future__ import annotations
@@ -121,6 +121,11 @@ class Fixpoints:
     def __init__(self, program: str, folder: Path, turns: int) -> None:
         self.program, self.folder, self.turns, self.bounds = program, folder, turns, Bounds()
 
+    def cost(self, files: Files) -> Tuple[float, str]:
+        """What the lines cost, and in what: instructions where there is a `valgrind`, else time."""
+        counted = self.counted(files)
+        return (float(counted), "instructions") if counted is not None else (self.spent(files) * 1e9, "ns")
+
     def spent(self, files: Files) -> float:
         """The least processor time of the lines, each time in a run of its own, in seconds."""
         least = float("inf")
@@ -150,19 +155,19 @@ class Fixpoints:
         each: List[float] = []
         for count in RULES:
             files = self.grammar(count)
-            spent, instances = self.spent(files), self.instances(count)
-            each.append(spent / instances)
+            spent, (cost, unit), demanded = self.spent(files), self.cost(files), self.demanded(count)
+            each.append(cost / demanded)
             told = f"{spent * 1000:.1f} ms"
             if count == WANTED_RULES:
                 told += f", {self.bounds.at_most('nullable, first and follow, in seconds', spent, WANTED_SETS)} s"
-            print(f"nullable, first and follow of {count} rules: {told}, {self.work(files):,} lazy values, {spent / instances * 1e6:.2f} us for each instance", flush=True)
-        print(f"for each instance, {RULES[-1]} rules against {RULES[0]}: {self.bounds.at_most('sets, growth', each[-1] / each[0], GROWTH)}")
+            print(f"nullable, first and follow of {count} rules: {told}, {self.work(files):,} lazy values, {demanded:,} demands, {each[-1]:,.0f} {unit} for each", flush=True)
+        print(f"for each demand, {RULES[-1]} rules against {RULES[0]}: {self.bounds.at_most('sets, growth', each[-1] / each[0], GROWTH)}")
 
-    def instances(self, count: int) -> int:
-        """How many instances the questions for a ring of so many rules come to: lazy ones, and whether a symbol means a rule, of all
-        symbols for each rule and sign."""
+    def demanded(self, count: int) -> int:
+        """How many demands the questions for a ring of so many rules come to that grow with it: those for lazy values that are found,
+        whether each of its symbols means each rule, and for each rule and sign whether each rule names it."""
         symbols = 3 * count
-        return self.work(self.grammar(count)) + symbols * count * len(SIGNS)
+        return self.work(self.grammar(count)) + symbols * count + len(SIGNS) * count * count
 
     def live(self) -> None:
         """Live variables of a program with loops."""
@@ -180,9 +185,10 @@ class Fixpoints:
         """One component, whose instances' formulas have two atoms each."""
         each: List[float] = []
         for count in MEMBERS:
-            spent = self.spent(self.ring(count, f"0 ask /Item:0 {what}()\n"))
-            each.append(spent / count)
-            print(f"a component of {count:,} instances ({what}): {spent * 1000:.1f} ms, {each[-1] * 1e6:.2f} us each", flush=True)
+            files = self.ring(count, f"0 ask /Item:0 {what}()\n")
+            spent, (cost, unit) = self.spent(files), self.cost(files)
+            each.append(cost / count)
+            print(f"a component of {count:,} instances ({what}): {spent * 1000:.1f} ms, {each[-1]:,.0f} {unit} each", flush=True)
         print(f"  {MEMBERS[-1]:,} against {MEMBERS[0]:,}: {self.bounds.at_most(f'a component ({what}), growth', each[-1] / each[0], GROWTH)}")
 
     def edits(self) -> None:
