@@ -29,11 +29,12 @@ KEEPERS = ("nothing", "until-edit", "over-edits", "few", "cut-off", "few-cut-off
 
 
 class Session(NamedTuple):
-    """Lines, the replies to them where no memory is refused, and the files that they are over."""
+    """Lines, the replies to them where no memory is refused, the files that they are over, and the options for these."""
 
     lines: str
     replies: str
     files: Tuple[str, ...] = CALCULATOR
+    options: Tuple[str, ...] = ()
 
 
 # A question, each edit but a move, and a mark, and the question again; and another one twice where it was asked last. At the end the
@@ -155,7 +156,7 @@ GROUPS = """0 ask /Room:2 dark()
 0 ok 5
 0 = true
 """
-SESSIONS = {"edits": Session(*EDITS), "moves": Session(*MOVES), "turns": Session(*TURNS), "groups": Session(*GROUPS, ROOMS)}
+SESSIONS = {"edits": Session(*EDITS), "moves": Session(*MOVES), "turns": Session(*TURNS), "groups": Session(*GROUPS, ROOMS, ("--forms", "circular"))}
 DONE = re.compile(r"(\d+) done (\d+) (\d+) (.*)")
 # Whether a request was refused, and how many lines and questions were answered `memory`.
 TOLD = re.compile(r"(refused\n)?memory (\d+)\nwork \d+\n")
@@ -223,16 +224,16 @@ class Retold:
 
 @dataclass
 class Server:
-    """The program `starve`, with a keeper, files, and an environment in which a request for memory is refused."""
+    """The program `starve`, with a keeper, for a session, and an environment in which a request for memory is refused."""
 
     program: str
     keeper: str
-    files: Tuple[str, ...]
+    session: Session
     environment: Dict[str, str]
 
     def run(self, lines: str, nth: int) -> "subprocess.CompletedProcess[str]":
         """A run over these lines with the nth request refused; with none where that is 0. One turn follows each line."""
-        return subprocess.run([self.program, self.keeper, "1", *self.files], env={**self.environment, "REFUSE": str(nth)}, input=lines,
+        return subprocess.run([self.program, *self.session.options, self.keeper, "1", *self.session.files], env={**self.environment, "REFUSE": str(nth)}, input=lines,
                               capture_output=True, text=True, timeout=60)
 
     def tells(self, lines: Sequence[str], replies: Sequence[str]) -> bool:
@@ -243,7 +244,7 @@ class Server:
 
     def outcome(self, name: str, nth: int) -> Optional[str]:
         """How the session went with the nth request refused; None where it makes fewer. Ends the process where it went wrong."""
-        lines, replies, _ = SESSIONS[name]
+        lines, replies = self.session.lines, self.session.replies
         run = self.run(lines, nth)
         if (run.returncode, run.stdout, run.stderr) == (4, "", "refused\nmemory\n"):
             return BEFORE
@@ -291,8 +292,8 @@ def main() -> None:
     with tempfile.TemporaryDirectory() as folder:
         environment = refusing(folder)
         for name, word in chosen:
-            server = Server(os.path.abspath(given.program), word, SESSIONS[name].files, environment)
-            begun[word, server.files] = starved(server, name, begun.get((word, server.files), 1))
+            server = Server(os.path.abspath(given.program), word, SESSIONS[name], environment)
+            begun[word, server.session.files] = starved(server, name, begun.get((word, server.session.files), 1))
 
 
 if __name__ == "__main__":

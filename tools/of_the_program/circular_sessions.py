@@ -4,11 +4,11 @@ from __future__ import annotations
 import random
 import re
 from dataclasses import dataclass, replace
-from typing import Callable, Dict, List, Optional, Tuple
+from typing import Callable, List, Optional, Tuple
 
 from tools.of_the_program.circular_aspects import NAMES, Aspects, Attribute
 from tools.of_the_program.circular_meaning import Argument, Instance, Meaning
-from tools.of_the_program.circular_trees import GRAMMAR, Editing, Node, edited, node_of, root
+from tools.of_the_program.circular_trees import Editing, Node, edited, node_of, root
 
 # Of how many of the last questions one is asked again.
 RECENT = 8
@@ -24,10 +24,6 @@ class Case:
     aspects: Aspects
     term: str
     lines: Tuple[str, ...]
-
-    def files(self) -> Dict[str, str]:
-        """The files that a program is started with."""
-        return {"it.ast": GRAMMAR, "it.txt": self.term, "it.jrag": self.aspects.text()}
 
 
 class Unfit(Exception):

@@ -4,6 +4,7 @@ from dataclasses import replace
 from typing import List, Optional, Tuple
 
 from tools.of_the_program.circular_sessions import Case, Expected, Unfit, made, shorter
+from tools.of_the_program.circular_trees import GRAMMAR
 from tools.of_the_program.keeping import OPTIONS, OTHERS, KeepingTest
 from tools.of_the_program.sessions import Sample, Session
 
@@ -47,13 +48,15 @@ class Circular(KeepingTest):
 
     def told_of(self, case: Case, keeper: str, turns: int) -> Tuple[List[str], str]:
         """The replies to the case's lines, and what is told of the work."""
-        files = self.write(Sample(case.files()["it.ast"], case.term, [case.files()["it.jrag"]]))
-        lines = "".join(f"{it}\n" for it in case.lines)
+        files = self.write(Sample(GRAMMAR, case.term, [case.aspects.text()]))
+        told, work = self.circular(keeper, turns, files, "".join(f"{it}\n" for it in case.lines))
+        return told.splitlines(), work
+
+    def circular(self, keeper: str, turns: int, files: List[str], lines: str) -> Tuple[str, str]:
+        """The replies to the lines, and what is told of the work, where circular attributes are read."""
         if keeper in OTHERS:
-            told = self.played(keeper, turns, files, lines)
-        else:
-            told = self.played_with([*FORMS, *OPTIONS[keeper]], turns, files, lines)
-        return told[0].splitlines(), told[1]
+            return self.told([self.starve, *FORMS, keeper, str(turns), *files], "memory 0\n", lines)
+        return self.played_with([*FORMS, *OPTIONS[keeper]], turns, files, lines)
 
     def wrong(self, case: Case, keeper: str, turns: int) -> Optional[str]:
         """What is replied wrong, if anything is."""
@@ -75,8 +78,7 @@ class Circular(KeepingTest):
         for session in WORKED:
             for keeper in self.keepers:
                 with self.subTest(session.name, keeper=keeper):
-                    told, work = self.played(keeper, 1, files, session.lines) if keeper in OTHERS else \
-                        self.played_with([*FORMS, *OPTIONS[keeper]], 1, files, session.lines)
+                    told, work = self.circular(keeper, 1, files, session.lines)
                     self.assertEqual(told, session.replies)
                     self.assertTrue(keeper != "over-edits" or work == f"work {session.work}\n", work)
 

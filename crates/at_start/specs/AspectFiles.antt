@@ -25,24 +25,20 @@ use Rattle.at_text.specs.declared.fault.Fault.TheVariants as fault
 use Rattle.at_start.specs.declared.fault.StartFault.{StartFault}
 use Rattle.at_start.specs.declared.fault.StartFault.TheVariants as start
 
--- none of the forms is read that are left out where they aren't named
-abbrev pub no_forms : Forms
-no_forms = record { circular = false }
-
--- the file is a text that spells the aspects, whose expressions don't nest too deep
-pub record Holds (bytes : List ℕ) (aspects : List Aspect) : Type 0 where
+-- the file is a text that spells the aspects where these forms are read, and their expressions don't nest too deep
+pub record Holds (forms : Forms) (bytes : List ℕ) (aspects : List Aspect) : Type 0 where
   pub text : IsText max_file bytes
   pub tokens : List PlacedToken
   pub cut : HasTokens bytes tokens
-  pub spells : File no_forms aspects tokens []
+  pub spells : File forms aspects tokens []
   pub within : IsWithin aspects
 
 -- each file holds its aspects
-abbrev pub AllHold : List (List ℕ) → List (List Aspect) → Type 0
-AllHold [] [] = Unit {0}
-AllHold [] (a ∷ as') = ⊥
-AllHold (f ∷ fs) [] = ⊥
-AllHold (f ∷ fs) (a ∷ as') = Holds f a × AllHold fs as'
+abbrev pub AllHold : Forms → List (List ℕ) → List (List Aspect) → Type 0
+AllHold forms [] [] = Unit {0}
+AllHold forms [] (a ∷ as') = ⊥
+AllHold forms (f ∷ fs) [] = ⊥
+AllHold forms (f ∷ fs) (a ∷ as') = Holds forms f a × AllHold forms fs as'
 
 abbrev pub jrag_code : JragCode → Code
 jrag_code jrag.Syntax = code.AspectSyntax
@@ -50,35 +46,35 @@ jrag_code jrag.LeftOut = code.AspectFormLeftOut
 jrag_code jrag.Nesting = code.AspectLimit
 
 -- the file is refused by the code at the place: it is no text, or this is the fault of its text
-pub data RefusesReading (bytes : List ℕ) : Code → Place → Type 0 where
-  no_text : (c : Code) → IsNoText max_file bytes code.AspectLimit code.AspectSyntax c → RefusesReading bytes c first_place
-  no_aspects : (c : JragCode) (at : Place) → IsText max_file bytes → IsFault no_forms bytes (fault.Refused c at) → RefusesReading bytes (jrag_code c) at
+pub data RefusesReading (forms : Forms) (bytes : List ℕ) : Code → Place → Type 0 where
+  no_text : (c : Code) → IsNoText max_file bytes code.AspectLimit code.AspectSyntax c → RefusesReading forms bytes c first_place
+  no_aspects : (c : JragCode) (at : Place) → IsText max_file bytes → IsFault forms bytes (fault.Refused c at) → RefusesReading forms bytes (jrag_code c) at
 
 -- the fault is one by which the file is refused; of want of memory nothing is said
-abbrev pub IsReadingFaultOf : List ℕ → Fault Code → Type 0
-IsReadingFaultOf bytes (fault.Refused c at) = RefusesReading bytes c at
-IsReadingFaultOf bytes fault.Memory = Unit {0}
+abbrev pub IsReadingFaultOf : Forms → List ℕ → Fault Code → Type 0
+IsReadingFaultOf forms bytes (fault.Refused c at) = RefusesReading forms bytes c at
+IsReadingFaultOf forms bytes fault.Memory = Unit {0}
 
 -- The fault is that of the first file that can't be read, by its number from 1; of want of memory nothing is said.
-pub record IsUnreadAt (files : List (List ℕ)) (file : ℕ) (c : Code) (at : Place) : Type 0 where
+pub record IsUnreadAt (forms : Forms) (files : List (List ℕ)) (file : ℕ) (c : Code) (at : Place) : Type 0 where
   pub front : List (List ℕ)
   pub rest : List (List ℕ)
   pub bytes : List ℕ
   pub aspects : List (List Aspect)
   pub split : files ≡ front ++ bytes ∷ rest
-  pub hold : AllHold front aspects
-  pub refuses : RefusesReading bytes c at
+  pub hold : AllHold forms front aspects
+  pub refuses : RefusesReading forms bytes c at
   pub number : file ≡ length front + 1
 
-abbrev pub IsUnread : List (List ℕ) → StartFault → Type 0
-IsUnread files (start.Refused file c (Some at)) = IsUnreadAt files file c at
-IsUnread files (start.Refused file c None) = ⊥
-IsUnread files start.Memory = Unit {0}
+abbrev pub IsUnread : Forms → List (List ℕ) → StartFault → Type 0
+IsUnread forms files (start.Refused file c (Some at)) = IsUnreadAt forms files file c at
+IsUnread forms files (start.Refused file c None) = ⊥
+IsUnread forms files start.Memory = Unit {0}
 
--- The files give the rules over the classes: each file holds aspects, and all their declarations together make the rules.
-pub record GivesRules (classes : Classes) (files : List (List ℕ)) (rules : Rules) : Type 0 where
+-- The files give the rules over the classes, where these forms are read: each file holds aspects, and all their declarations together make the rules.
+pub record GivesRules (forms : Forms) (classes : Classes) (files : List (List ℕ)) (rules : Rules) : Type 0 where
   pub aspects : List (List Aspect)
-  pub hold : AllHold files aspects
+  pub hold : AllHold forms files aspects
   pub built : Builds classes (located 1 aspects) (Ok rules)
 
 -- a rule's code among those of all files
@@ -96,16 +92,16 @@ rule_code rule.EquationWithoutAttribute = code.EquationWithoutAttribute
 
 -- The files are refused by the code at the place of the file of that number: it is the first that can't be read; or all can,
 -- and it is the first fault of their declarations.
-pub data RefusesAspects (classes : Classes) (files : List (List ℕ)) : (file : ℕ) → Code → Place → Type 0 where
-  no_file : (file : ℕ) (c : Code) (at : Place) → IsUnreadAt files file c at → RefusesAspects classes files file c at
-  breaks : (aspects : List (List Aspect)) (f : Breach) → AllHold files aspects → Builds classes (located 1 aspects) (Err (For f))
-      → RefusesAspects classes files f.file (rule_code f.code) f.at
+pub data RefusesAspects (forms : Forms) (classes : Classes) (files : List (List ℕ)) : (file : ℕ) → Code → Place → Type 0 where
+  no_file : (file : ℕ) (c : Code) (at : Place) → IsUnreadAt forms files file c at → RefusesAspects forms classes files file c at
+  breaks : (aspects : List (List Aspect)) (f : Breach) → AllHold forms files aspects → Builds classes (located 1 aspects) (Err (For f))
+      → RefusesAspects forms classes files f.file (rule_code f.code) f.at
 
 -- the fault is one by which the files are refused; of want of memory nothing is said
-abbrev pub IsAspectFault : Classes → List (List ℕ) → StartFault → Type 0
-IsAspectFault classes files (start.Refused file c (Some at)) = RefusesAspects classes files file c at
-IsAspectFault classes files (start.Refused file c None) = ⊥
-IsAspectFault classes files start.Memory = Unit {0}
+abbrev pub IsAspectFault : Forms → Classes → List (List ℕ) → StartFault → Type 0
+IsAspectFault forms classes files (start.Refused file c (Some at)) = RefusesAspects forms classes files file c at
+IsAspectFault forms classes files (start.Refused file c None) = ⊥
+IsAspectFault forms classes files start.Memory = Unit {0}
 
 -- the fault is the first of the declarations, in the file of its number and at its place; of want of memory nothing is said
 abbrev pub IsRuleFault : Classes → List Located → StartFault → Type 0

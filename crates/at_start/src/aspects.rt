@@ -3,7 +3,7 @@
 ghost use Rattle.std.specs.Prelude.{◌≡◌, map, Ok, IfOk, IfErr};
 ghost use Rattle.at_jrag.specs.View.{aspect_view};
 ghost use Rattle.at_model.specs.WellFormed.{AreWellFormed, IsHierarchy};
-ghost use Rattle.at_rules.specs.Circular.{HasNoneCircular};
+ghost use Rattle.at_demand.specs.Meant.{AreCircularWell};
 ghost use Rattle.at_typing.specs.Building.{Builds};
 ghost use Rattle.at_typing.specs.Located.{declarations_in};
 ghost use Rattle.at_start.specs.AspectFiles.{Holds, AllHold, GivesRules, IsReadingFaultOf, IsAspectFault, IsUnread, IsRuleFault, jrag_code, rule_code};
@@ -20,30 +20,35 @@ use at_text::fault::{Failure, Fault};
 use at_text::place::Place;
 use std::alloc::Global;
 
-/// The rules of the aspect files over the classes.
+/// The rules of the aspect files over the classes, where these forms are read.
 ///
 /// # Errors
 ///
 /// The first file that can't be read, or else the first fault of the rules. `Memory` for want of memory.
-pub fn rules_of(alloc: Global, classes: ClassTable, aspects: &[Source]) -> Result<Rules, StartFault>
+pub fn rules_of(
+    alloc: Global,
+    classes: ClassTable,
+    forms: Forms,
+    aspects: &[Source],
+) -> Result<Rules, StartFault>
     ensures classes { IfOk result (λ r. r.classes ≡ classes) }
-    ensures given { IfOk result (λ r. GivesRules classes (aspect_bytes aspects.now) r) }
+    ensures given { IfOk result (λ r. GivesRules forms classes (aspect_bytes aspects.now) r) }
     ensures well_formed { IsHierarchy classes → IfOk result AreWellFormed }
-    ensures none_circular { IfOk result HasNoneCircular }
-    ensures refused { IfErr result (IsAspectFault classes (aspect_bytes aspects.now)) }
+    ensures circular { IsHierarchy classes → IfOk result AreCircularWell }
+    ensures refused { IfErr result (IsAspectFault forms classes (aspect_bytes aspects.now)) }
 {
-    let aspects = read_all(alloc, aspects)?;
+    let aspects = read_all(alloc, forms, aspects)?;
     build(alloc, classes, &aspects)
 }
 
 /// The aspects of each file, in order.
-fn read_all(alloc: Global, aspects: &[Source]) -> Result<Vec<Vec<Aspect>>, StartFault>
-    ensures hold { IfOk result (λ v. AllHold (aspect_bytes aspects.now) (map (λ f. map aspect_view f.items) v.items)) }
-    ensures refused { IfErr result (IsUnread (aspect_bytes aspects.now)) }
+fn read_all(alloc: Global, forms: Forms, aspects: &[Source]) -> Result<Vec<Vec<Aspect>>, StartFault>
+    ensures hold { IfOk result (λ v. AllHold forms (aspect_bytes aspects.now) (map (λ f. map aspect_view f.items) v.items)) }
+    ensures refused { IfErr result (IsUnread forms (aspect_bytes aspects.now)) }
 {
     let mut all = Vec::new(alloc);
     for (i, source) in aspects.iter().enumerate() {
-        match read(alloc, &source.bytes) {
+        match read(alloc, forms, &source.bytes) {
             Ok(aspects) => all.push(aspects)?,
             Err(fault) => return Err(of_file(i + 1, fault)),
         }
@@ -52,9 +57,9 @@ fn read_all(alloc: Global, aspects: &[Source]) -> Result<Vec<Vec<Aspect>>, Start
 }
 
 /// The aspects of a file.
-fn read(alloc: Global, bytes: &[u8]) -> Result<Vec<Aspect>, Fault<Code>>
-    ensures hold { IfOk result (λ v. Holds bytes.now (map aspect_view v.items)) }
-    ensures refused { IfErr result (IsReadingFaultOf bytes.now) }
+fn read(alloc: Global, forms: Forms, bytes: &[u8]) -> Result<Vec<Aspect>, Fault<Code>>
+    ensures hold { IfOk result (λ v. Holds forms bytes.now (map aspect_view v.items)) }
+    ensures refused { IfErr result (IsReadingFaultOf forms bytes.now) }
 {
     let text = match text_of(bytes, MAX_FILE, Code::AspectLimit, Code::AspectSyntax) {
         Ok(text) => text,
@@ -65,7 +70,7 @@ fn read(alloc: Global, bytes: &[u8]) -> Result<Vec<Aspect>, Fault<Code>>
             });
         }
     };
-    match parse_jrag(alloc, text, Forms::NONE) {
+    match parse_jrag(alloc, text, forms) {
         Ok(aspects) => Ok(aspects),
         Err(fault) => Err(fault.map_code(jrag_code)),
     }

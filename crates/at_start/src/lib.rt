@@ -9,7 +9,7 @@
 //! and `tree.rt` have what each kind of file gives, `fault.rt` why there is no engine.
 //!
 //! **What it keeps true:** an engine that is made is sound, keeps nothing yet, and has just the classes, rules and
-//! tree of the files.
+//! tree of the files, as they are read with the forms that these name.
 #![tactic(auto)]
 
 ghost use Rattle.std.specs.Prelude.{◌≡◌, IfOk, IfErr};
@@ -30,6 +30,7 @@ mod tree;
 use aspects::rules_of;
 use at_cache::{KeepRecorded, Keeper};
 use at_engine::Engine;
+pub use at_jrag::Forms;
 use at_store::LoadFault;
 pub use at_store::USUAL_NODES;
 use at_text::fault::Failure;
@@ -83,7 +84,7 @@ pub fn start_with<K: Keeper>(
         Ok(classes) => classes,
         Err(fault) => return Err(of_file(0, fault)),
     };
-    let rules = rules_of(alloc, classes, &files.aspects)?;
+    let rules = rules_of(alloc, classes, files.forms, &files.aspects)?;
     let file = files.aspects.len() + 1;
     let tree = match tree_of(alloc, rules.classes(), files.nodes, &files.tree.bytes) {
         Ok(tree) => tree,

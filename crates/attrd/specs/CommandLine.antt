@@ -46,6 +46,7 @@ listed = option (codes "socket") parser.NonEmptyString
     ∷ option (codes "slice") (parser.Signed (pos 1) (pos 1000000))
     ∷ option (codes "keep") (parser.Signed (pos 1) (pos 1000000000))
     ∷ option (codes "nodes") (parser.Signed (pos 1) (pos 16777216))
+    ∷ option (codes "forms") parser.NonEmptyString
     ∷ flag (codes "cut-off")
     ∷ flag (codes "gather")
     ∷ flag (codes "work")

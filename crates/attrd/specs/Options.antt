@@ -1,5 +1,5 @@
 -- What the words of the command line ask for.
-use Rattle.std.specs.Prelude.{◌≡◌, ◌⊎◌, ◌≤◌, ◌<◌, ℕ, Bool, true, false, List, length, map, Option}
+use Rattle.std.specs.Prelude.{◌≡◌, ◌⊎◌, ◌≤◌, ◌<◌, ◌&&◌, ℕ, Bool, true, false, List, length, map, Option}
 use Rattle.std.specs.Prelude.{Some, IfSome, codes, is_some, option_map}
 use Rattle.std.specs.Option.{option_map_or}
 use Rattle.std.specs.Str.{bytes_eq}
@@ -10,6 +10,7 @@ use Rattle.clap.specs.Words.{Row, Text, all_of, first_of, found_of, matches_of, 
 use Rattle.clap.specs.Words.{takes}
 use Rattle.clap.specs.declared.parser.matches.ArgMatches.{ArgMatches}
 use Rattle.attrd.specs.CommandLine.{command_line}
+use Rattle.attrd.specs.Forms.{forms_in, name_forms}
 use Rattle.attrd.specs.declared.options.Options.{Options}
 
 -- the most connections that can be asked for
@@ -62,6 +63,7 @@ pub record HasValues (rows : List Row) (o : Options) : Type 0 where
   pub slice : o.slice ≡ number_asked (one_of (codes "slice") rows)
   pub keep : o.keep ≡ option_map number (one_of (codes "keep") rows)
   pub nodes : o.nodes ≡ option_map number (one_of (codes "nodes") rows)
+  pub forms : o.forms ≡ forms_in (first_of (codes "forms") rows)
   pub cut_off : o.cut_off ≡ is_set (one_of (codes "cut-off") rows)
   pub gather : o.gather ≡ is_set (one_of (codes "gather") rows)
   pub work : o.work ≡ is_set (one_of (codes "work") rows)
@@ -69,9 +71,13 @@ pub record HasValues (rows : List Row) (o : Options) : Type 0 where
   pub tree : Some (string_bytes o.tree) ≡ first_of (codes "TREE") rows
   pub aspects : Some (map string_bytes o.aspects.items) ≡ all_of (codes "ASPECT") rows
 
--- the command line takes the words, and the options are their values
+-- the command line takes the words, and names no other forms than there are
+abbrev pub are_taken : List Text → Bool
+are_taken words = takes command_line words && name_forms (first_of (codes "forms") (matches_of command_line words))
+
+-- the words are taken, and the options are their values
 pub record Asks (words : List Text) (o : Options) : Type 0 where
-  pub taken : takes command_line words ≡ true
+  pub taken : are_taken words ≡ true
   pub values : HasValues (matches_of command_line words) o
 
 -- ---- what is known of the words once they are matched

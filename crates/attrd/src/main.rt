@@ -1,7 +1,7 @@
 //! attrd: an attribute tree server in the JastAdd profile. It reads a grammar, a tree and aspects, and answers
 //! lines of standard input on standard output, or those of the connections of a socket.
 //!
-//! **Its specs:** `CommandLine` is which words are taken, `Options` what they ask for, `Seen` what is known of those who connect,
+//! **Its specs:** `CommandLine` is which words are taken, `Forms` which forms they name, `Options` what they ask for, `Seen` what is known of those who connect,
 //! `Doors` what is done with their connections, `Connections` how these ended, `Statuses` with which status the program ends.
 //!
 //! **Where to begin:** `main`, below; `options/words.rt` reads the words, `socket.rt` has the socket and its file,
@@ -311,6 +311,7 @@ fn nodes_asked(options: &Options) -> u32
 /// The files that are asked for, read in the order grammar, aspects, tree.
 fn read_files(rt: &HostRuntime, options: &Options) -> Result<Files, Failure>
     ensures nodes { IfOk result (λ files. files.nodes ≡ unwrap_or options.now.nodes usual_nodes) }
+    ensures forms { IfOk result (λ files. files.forms ≡ options.now.forms) }
 {
     let grammar = read_file(rt, &options.grammar, MAX_FILE)?;
     let mut aspects = Vec::new(rt.alloc());
@@ -324,6 +325,7 @@ fn read_files(rt: &HostRuntime, options: &Options) -> Result<Files, Failure>
         tree,
         aspects,
         nodes,
+        forms: options.forms,
     })
 }
 

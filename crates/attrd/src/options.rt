@@ -2,8 +2,10 @@
 ghost use Rattle.std.specs.Prelude.{◌≡◌};
 ghost use Rattle.attrd.specs.declared.options.WordsFault.TheVariants.{Memory};
 
+mod forms;
 mod words;
 
+use at_start::Forms;
 use std::alloc::{AllocError, AllocFailed};
 use thiserror::Error;
 pub use words::options;
@@ -21,6 +23,8 @@ pub struct Options {
     pub keep: Option<u32>,
     /// How many nodes the tree may have: 1 to 16,777,216.
     pub nodes: Option<u32>,
+    /// Which forms of aspects are read that are left out else.
+    pub forms: Forms,
     /// Whether what an edit may have changed is kept until it is known that it did.
     pub cut_off: bool,
     /// Whether replies to lines that come together are sent on together.

@@ -11,7 +11,7 @@ use at_cache::{
     KeepAtMost, KeepCutOff, KeepCutOffAtMost, KeepNone, KeepRecorded, KeepUntilEdit, Keeper,
 };
 use at_engine::{RunFault, Watched};
-use at_start::{Files, MAX_FILE, Source, StartFault, USUAL_NODES, answer};
+use at_start::{Files, Forms, MAX_FILE, Source, StartFault, USUAL_NODES, answer};
 use std::alloc::{AllocError, AllocFailed};
 use std::fs::File;
 use std::io::{ErrorKind, Read};
@@ -40,8 +40,8 @@ impl<T: Drop> From<AllocFailed<T>> for Stop {
     }
 }
 
-/// Answers lines of standard input on standard output, by the words `KEEPER SLICE GRAMMAR TREE ASPECT..`. Ends with
-/// status 0; 2 where words, a file or a stream are at fault, 4 for want of memory outside of the lines.
+/// Answers lines of standard input on standard output, by the words `[--forms circular] KEEPER SLICE GRAMMAR TREE ASPECT..`. Ends
+/// with status 0; 2 where words, a file or a stream are at fault, 4 for want of memory outside of the lines.
 fn main(rt: HostRuntime) -> ExitCode {
     match serve(&rt) {
         Ok(()) => ExitCode::SUCCESS,
@@ -59,13 +59,14 @@ fn serve(rt: &HostRuntime) -> Result<(), Stop> {
         return Err(Stop::Memory);
     };
     let words: Vec<String> = words.skip(1).collect(rt.alloc())?;
-    let [keeper, slice, grammar, tree, aspects @ ..] = words.as_slice() else {
+    let (forms, words) = forms_of(words.as_slice());
+    let [keeper, slice, grammar, tree, aspects @ ..] = words else {
         return Err(Stop::Fault);
     };
     let Ok(slice) = slice.parse::<u32>() else {
         return Err(Stop::Fault);
     };
-    let mut files = read_files(rt, grammar, tree, aspects)?;
+    let mut files = read_files(rt, forms, grammar, tree, aspects)?;
     match keeper.as_str() {
         "nothing" => serve_with(rt, slice, &mut files, KeepNone::new(rt.alloc())),
         "until-edit" => serve_with(rt, slice, &mut files, KeepUntilEdit::new(rt.alloc())),
@@ -79,6 +80,16 @@ fn serve(rt: &HostRuntime) -> Result<(), Stop> {
             KeepCutOffAtMost::new(rt.alloc(), FEW),
         ),
         _ => Err(Stop::Fault),
+    }
+}
+
+/// The forms of aspects that the words name in front, and the words behind these.
+fn forms_of(words: &[String]) -> (Forms, &[String]) {
+    match words {
+        [option, name, rest @ ..] if option == "--forms" && name == "circular" => {
+            (Forms { circular: true }, rest)
+        }
+        _ => (Forms::NONE, words),
     }
 }
 
@@ -120,6 +131,7 @@ fn serve_with<K: Keeper>(
 /// The files of these names.
 fn read_files(
     rt: &HostRuntime,
+    forms: Forms,
     grammar: &str,
     tree: &str,
     aspects: &[String],
@@ -133,6 +145,7 @@ fn read_files(
         tree: read_file(rt, tree)?,
         aspects: sources,
         nodes: USUAL_NODES,
+        forms,
     })
 }
 

@@ -5,11 +5,14 @@ ghost use Rattle.clap.specs.Walk.{texts};
 ghost use Rattle.clap.specs.Words.{all_of, app_of, first_of, kind_of, matches_of, one_of, rule_of, takes};
 ghost use Rattle.clap.specs.declared.error.ErrorKind.TheVariants.{OutOfMemory};
 ghost use Rattle.attrd.specs.CommandLine.{command_line, rule, with_words};
-ghost use Rattle.attrd.specs.Options.{Asks, HasValues, IsFlag, IsSized, IsUsable, IsWhole, SpellsUpTo};
+ghost use Rattle.attrd.specs.Forms.{forms_in};
+ghost use Rattle.attrd.specs.Options.{are_taken, Asks, HasValues, IsFlag, IsSized, IsUsable, IsWhole, SpellsUpTo};
 ghost use Rattle.attrd.specs.Options.{is_set, max_connections, max_keep, max_nodes_asked, max_slice, number, number_asked, rows_found};
 ghost use Rattle.attrd.specs.declared.options.WordsFault.TheVariants.{Memory};
 
+use super::forms::forms_of;
 use super::{Options, WordsFault};
+use at_start::Forms;
 use clap::builder::ValueParser;
 use clap::error::ErrorKind;
 use clap::{Arg, ArgMatches, Command, Error};
@@ -117,6 +120,14 @@ const WORDS: &[Word] = &[
         help: "How many nodes the tree may have: 1 to 16777216 [default: 65536]",
     },
     Word {
+        name: "forms",
+        is_option: true,
+        most: 1,
+        value: "WORDS",
+        parser: ValueParser::NonEmptyString,
+        help: "Which forms of aspects are read that are left out else, between commas [possible values: circular]",
+    },
+    Word {
         name: "cut-off",
         is_option: true,
         most: 0,
@@ -166,22 +177,25 @@ const WORDS: &[Word] = &[
     },
 ];
 
-/// What the words after the program's name ask for. Nothing that the command line takes is refused.
+/// What the words after the program's name ask for. Nothing that the command line takes is refused, unless a form is named that isn't
+/// one.
 ///
 /// # Errors
 ///
-/// `Words` where they aren't words of the command line, or where they ask for help or the version; `Memory` for want of memory.
+/// `Words` where they aren't words of the command line, where a form isn't one that they name, or where they ask for help or the
+/// version; `Memory` for want of memory.
 pub fn options<'a>(alloc: Global, words: &'a [&'a str]) -> Result<Options, WordsFault>
     ensures usable { IfOk result IsUsable }
     ensures sized { IfOk result IsSized }
     ensures asked { IfOk result (Asks (texts words.entry.now)) }
-    ensures refused { IfErr result (λ e. takes command_line (texts words.entry.now) ≡ true → e ≡ Memory) }
+    ensures refused { IfErr result (λ e. are_taken (texts words.entry.now) ≡ true → e ≡ Memory) }
 {
     let matches = match matched(alloc, words) {
         Ok(matches) => matches,
         Err(error) => return Err(fault_of(alloc, &error)),
     };
-    Ok(options_of(alloc, &matches)?)
+    let forms = forms_of(alloc, matches.get_str("forms"))?;
+    Ok(options_of(alloc, &matches, forms)?)
 }
 
 /// The words as they are matched. Each file that is needed is among them, so what follows looks for none in vain.
@@ -237,9 +251,10 @@ fn argument<'a>(alloc: Global, word: &Word) -> Arg<'a>
     }
 }
 
-/// What the words ask for, as they were matched.
-fn options_of(alloc: Global, matches: &ArgMatches<'_>) -> Result<Options, AllocError>
-    requires { IsWhole (rows_found matches.now) }
+/// What the words ask for, as they were matched, with the forms that they name.
+fn options_of(alloc: Global, matches: &ArgMatches<'_>, forms: Forms) -> Result<Options, AllocError>
+    requires whole { IsWhole (rows_found matches.now) }
+    requires forms { forms ≡ forms_in (first_of (codes "forms") (rows_found matches.now)) }
     ensures { IfOk result (HasValues (rows_found matches.now)) }
 {
     Ok(Options {
@@ -248,6 +263,7 @@ fn options_of(alloc: Global, matches: &ArgMatches<'_>) -> Result<Options, AllocE
         slice: slice_of(matches),
         keep: keep_of(matches),
         nodes: nodes_of(matches),
+        forms,
         cut_off: has_flag(matches, "cut-off"),
         gather: has_flag(matches, "gather"),
         work: has_flag(matches, "work"),

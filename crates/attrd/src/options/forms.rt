@@ -1,0 +1,74 @@
+//! The forms of aspects that the words of the command line name.
+ghost use Rattle.std.specs.Prelude.{◌≡◌, true, option_map, IfOk, IfErr, OnOk};
+ghost use Rattle.std.specs.List.{list_any};
+ghost use Rattle.std.specs.Str.{bytes_eq};
+ghost use Rattle.clap.specs.Walk.{texts};
+ghost use Rattle.attrd.specs.Forms.{are_forms, form_words, forms_in, forms_named, is_form, name_forms};
+ghost use Rattle.attrd.specs.declared.options.WordsFault.TheVariants.{Memory};
+
+use super::WordsFault;
+use at_start::Forms;
+use std::alloc::{AllocError, Global};
+
+/// The forms that the list names, where there is one.
+///
+/// # Errors
+///
+/// `Words` where a word of the list is not the name of a form; `Memory` for want of memory.
+pub fn forms_of(alloc: Global, list: Option<&str>) -> Result<Forms, WordsFault>
+    ensures named { IfOk result (λ f. f ≡ forms_in (option_map (λ t. t.now) list.entry)) }
+    ensures known { OnOk result (name_forms (option_map (λ t. t.now) list.entry) ≡ true) }
+    ensures refused { IfErr result (λ e. name_forms (option_map (λ t. t.now) list.entry) ≡ true → e ≡ Memory) }
+{
+    match list {
+        Some(list) => forms_named(alloc, &words_of(alloc, list)?),
+        None => Ok(Forms::NONE),
+    }
+}
+
+/// The words of the list, which stand between its commas.
+fn words_of(alloc: Global, list: &str) -> Result<Vec<&str>, AllocError>
+    ensures { IfOk result (λ v. texts v.items ≡ form_words list.now) }
+{
+    list.split(',').collect(alloc)
+}
+
+/// The forms that the words name, or the fault of the first word that names none.
+fn forms_named(alloc: Global, words: &[&str]) -> Result<Forms, WordsFault>
+    ensures named { IfOk result (λ f. f ≡ forms_named (texts words.now)) }
+    ensures known { OnOk result (are_forms (texts words.now) ≡ true) }
+    ensures refused { IfErr result (λ e. are_forms (texts words.now) ≡ true → e ≡ Memory) }
+{
+    for word in words {
+        if !is_form(word) {
+            return Err(no_form(alloc, word));
+        }
+    }
+    Ok(Forms {
+        circular: has(words, "circular"),
+    })
+}
+
+/// Whether a form has that name.
+fn is_form(word: &str) -> bool
+    ensures { result ≡ is_form word.now }
+{
+    word == "circular"
+}
+
+/// Whether the word is among these.
+fn has(words: &[&str], word: &str) -> bool
+    ensures { result ≡ list_any (λ w. bytes_eq w word.now) (texts words.now) }
+{
+    words.iter().any(|other| *other == word)
+}
+
+/// The fault of a word that is not the name of a form.
+fn no_form(alloc: Global, word: &str) -> WordsFault {
+    match format!(in alloc;
+        "error: invalid value '{word}' for '--forms <WORDS>'\n  [possible values: circular]\n\nFor more information, try '--help'."
+    ) {
+        Ok(text) => WordsFault::Words { text },
+        Err(_) => WordsFault::Memory,
+    }
+}
