@@ -66,9 +66,10 @@ THIS, NULL, TRUE, FALSE = word("this"), word("null"), word("true"), word("false"
 @dataclass
 class Attribute:
     """An attribute: its start if it is circular, what its parameter is, and its equations, each with the class of its node; those of
-    an inherited one are for components."""
+    an inherited one are for components. Mostly it wants final values of what lies in lower layers alone, so that few circles come."""
 
     name: str
+    layer: int
     start: Optional[bool]
     lazy: bool
     inherited: bool
@@ -100,7 +101,7 @@ class Aspects:
     def __init__(self, chance: random.Random) -> None:
         self.chance = chance
         self.lazy_ways = chance.random() < 0.5
-        # how often a fault or a strict demand comes, from one aspect to the other
+        # how often a fault comes, or what may be a circle
         self.wild = chance.choice((0.0, 0.02, 0.1))
         self.attributes = [self.attribute(f"p{it}") for it in range(chance.randint(2, 7))]
         for it in self.attributes:
@@ -117,7 +118,7 @@ class Aspects:
 
     def attribute(self, name: str) -> Attribute:
         start = self.chance.choice((False, False, False, True, None))
-        return Attribute(name, start, self.chance.random() < (0.3 if start is not None else 0.6), self.chance.random() < 0.25,
+        return Attribute(name, self.chance.randrange(3), start, self.chance.random() < (0.3 if start is not None else 0.6), self.chance.random() < 0.25,
                          self.chance.choice((None, None, "String", "Item")))
 
     def equip(self, attribute: Attribute) -> None:
@@ -146,7 +147,7 @@ class Scope:
         """A boolean expression for a place in which circular attributes stay in the formula."""
         if depth <= 0:
             return self.call(self.of.start) if self.often(0.6) else self.atom()
-        form = self.chance.choice(("and", "or", "or", "or", "if", "exists", "exists", "twice", "guard", "call", "call"))
+        form = self.chance.choice(("and", "and", "or", "or", "if", "exists", "along", "along", "twice", "guard", "call"))
         if form in ("and", "or"):
             return Expr(form, (self.positive(depth - 1), self.positive(depth - 1)))
         if form == "if":
@@ -158,7 +159,14 @@ class Scope:
             return Expr("not", (inner,))
         if form == "guard":
             return self.guarded(depth)
+        if form == "along":
+            return self.along(depth)
         return self.call(self.of.start)
+
+    def along(self, depth: int) -> Expr:
+        """What holds where this is on, or where it holds of an element to which something leads."""
+        found = self.folded("exists", lambda: Expr("and", (self.atom(), self.call(self.of.start, self.bound[-1]))))
+        return Expr("or", (self.atom() if depth > 1 else Expr("on", (self.sure(),)), found))
 
     def guarded(self, depth: int) -> Expr:
         """What holds of a node that may be none, behind a test in front."""
@@ -169,7 +177,7 @@ class Scope:
     def strict(self, depth: int) -> Expr:
         """A boolean expression for any place: mostly of what isn't circular, so that few circles come."""
         if depth <= 0 or self.often(0.4):
-            return self.call(self.chance.choice((None, None, True, False))) if self.often(self.aspects.wild * 3) else self.atom()
+            return self.final() if self.often(0.5) else self.atom()
         form = self.chance.choice(("and", "or", "not", "count"))
         if form == "count":
             return self.folded("count", lambda: self.strict(depth - 1))
@@ -225,9 +233,17 @@ class Scope:
             return Expr("left", (self.chance.choice(nodes),))
         return self.chance.choice(nodes)
 
+    def final(self) -> Expr:
+        """A call of an attribute of a lower layer, or what asks for none."""
+        known = [it for it in self.aspects.attributes if it.layer < self.of.layer]
+        return self.called(known) if known else self.atom()
+
     def call(self, start: Optional[bool], node: Optional[Expr] = None) -> Expr:
-        """A call of an attribute, mostly of one with that start."""
-        known: Sequence[Attribute] = [it for it in self.aspects.attributes if it.start == start]
+        """A call of an attribute, mostly of one with that start that lies no higher."""
+        return self.called([it for it in self.aspects.attributes if it.start == start and it.layer <= self.of.layer], node)
+
+    def called(self, known: Sequence[Attribute], node: Optional[Expr] = None) -> Expr:
+        """A call of one of these attributes, or now and then of any."""
         if not known or self.often(self.aspects.wild):
             known = self.aspects.attributes
         asked = self.chance.choice(list(known))

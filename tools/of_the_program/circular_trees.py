@@ -14,7 +14,7 @@ Row : Item ::= Item*;
 NAMES = ("a", "b", "c", "d")
 OPTIONALS = ("Left", "Right")
 # Beyond so many nodes an edit brings no new ones.
-MOST_NODES = 24
+MOST_NODES = 28
 
 
 class Node:
@@ -203,7 +203,7 @@ def item(chance: random.Random, depth: int) -> Node:
 def root(chance: random.Random) -> Node:
     """A tree by chance."""
     made = Node("Root")
-    for at in range(chance.randint(1, 4)):
+    for at in range(chance.choice((1, 2, 3, 4, 4, 9))):
         made.insert(at, item(chance, chance.randint(1, 3)))
     return made
 
