@@ -10,10 +10,7 @@ from typing import Callable, Dict, Iterator, List, Optional, Set, Tuple, Union
 
 from tools.of_the_program.circular_aspects import Aspects, Expr
 from tools.of_the_program.circular_trees import Node
-
-Argument = Union[Node, str, None]
-# A node, the name of an attribute, and its arguments.
-Instance = Tuple[Node, str, Tuple[Argument, ...]]
+from tools.of_the_program.circular_ways import Argument, Instance, Seen, climbed, way
 
 
 @dataclass(frozen=True)
@@ -75,11 +72,12 @@ def known(truth: bool) -> Formula:
 
 
 class Evaluation:
-    """The equation of one instance, evaluated over the outcomes that are known."""
+    """The equation of one instance, evaluated over the outcomes that are known, with what is seen for it."""
 
     def __init__(self, meaning: Meaning, instance: Instance) -> None:
-        self.meaning, self.instance = meaning, instance
+        self.meaning, self.instance, self.seen = meaning, instance, Seen()
         self.attribute = meaning.aspects.named(instance[1])
+        self.seen.of(instance)
         self.this, self.body = self.equation(instance[0])
         self.names: Dict[str, Argument] = {}
         if self.attribute.parameter:
@@ -90,12 +88,11 @@ class Evaluation:
         equations = self.attribute.equations
         if not self.attribute.inherited:
             return node, equations.get(node.kind) or equations["Item"]
-        while node.above is not None:
-            step = node.step().split(":")[0]
-            body = equations.get(f"{node.above.kind}.get{step}()")
-            node = node.above
+        for above, nodes in climbed(node):
+            body = equations.get(f"{above.kind}.get{nodes[0].step().split(':')[0]}()")
             if body:
-                return node, body
+                self.seen.passed(nodes, above)
+                return above, body
         raise AssertionError("an inherited attribute has no equation")
 
     def own(self) -> Own:
@@ -140,7 +137,9 @@ class Evaluation:
 
     def each(self, e: Expr) -> Iterator[Node]:
         """The elements of a fold's list, each bound in turn."""
-        for it in self.there(e.parts[0]).items:
+        owner = self.there(e.parts[0])
+        self.seen.reads.add((owner, "Item"))
+        for it in owner.items:
             self.names[e.word] = it
             yield it
 
@@ -157,7 +156,8 @@ class Evaluation:
         if e.form == "count":
             return len([it for it in self.each(e) if self.truth(e.parts[1])]) > 1
         if e.form == "ask":
-            return self.meaning.value(self.asked(e))
+            self.seen.asks.append(self.asked(e))
+            return self.meaning.value(self.seen.asks[-1])
         return self.plain(e)
 
     def plain(self, e: Expr) -> bool:
@@ -165,15 +165,24 @@ class Evaluation:
         if e.form == "word":
             return e.word == "true"
         if e.form == "on":
-            return self.there(e.parts[0]).on
+            node = self.there(e.parts[0])
+            self.seen.reads.add((node, "On"))
+            return node.on
         if e.form == "equals":
             return self.text(e.parts[0]) == self.text(e.parts[1])
         if e.form == "zero":
             raise self.fault("zero")
         nodes = [self.node(it) for it in e.parts]
         if e.form == "is":
-            return nodes[0] is not None and nodes[0].kind == e.word
+            return self.kind(nodes[0]) == e.word
         return (nodes[0] is nodes[1]) == (e.form == "same")
+
+    def kind(self, node: Optional[Node]) -> Optional[str]:
+        """The class of a node that is looked at."""
+        if node is None:
+            return None
+        self.seen.reads.add((node, "class"))
+        return node.kind
 
     def asked(self, e: Expr) -> Instance:
         """The instance of a call: the receiver and the arguments come first, and then whether it is null."""
@@ -186,7 +195,9 @@ class Evaluation:
 
     def text(self, e: Expr) -> str:
         if e.form == "name":
-            return self.there(e.parts[0]).name
+            node = self.there(e.parts[0])
+            self.seen.reads.add((node, "Name"))
+            return node.name
         found = e.word if e.form == "text" else self.names["w"]
         assert isinstance(found, str)
         return found
@@ -206,46 +217,25 @@ class Evaluation:
             return found
         if e.form in ("row", "left"):
             return self.cast(e)
-        if e.word == "item":
-            text = self.text(e.parts[1])
-            return next((it for it in self.there(e.parts[0]).items if it.name == text), None)
-        return WAYS[e.word](self.there(e.parts[0]))
+        receiver, arguments = self.node(e.parts[0]), tuple(map(self.text, e.parts[1:]))
+        if receiver is None:
+            raise self.fault("null")
+        self.seen.asks.append((receiver, e.word, arguments))
+        return way(Seen(), self.seen.asks[-1])
 
     def cast(self, e: Expr) -> Optional[Node]:
         """A cast to a row, or the left part behind a cast to a pair."""
         node = self.node(e.parts[0])
-        if node is not None and node.kind != {"row": "Row", "left": "Pair"}[e.form]:
+        if node is not None and self.kind(node) != {"row": "Row", "left": "Pair"}[e.form]:
             raise self.fault("cast")
         if e.form == "row":
             return node
         if node is None:
             raise self.fault("null")
+        self.seen.reads.add((node, "Left"))
         if node.optionals["Left"] is None:
             raise self.fault("absent")
         return node.optionals["Left"]
-
-
-def root_of(node: Node) -> Node:
-    return node if node.above is None else root_of(node.above)
-
-
-def named_as(node: Node) -> Optional[Node]:
-    """The first item of the root's list with the name of the node."""
-    return next((it for it in root_of(node).items if it.name == node.name), None)
-
-
-def after(node: Node) -> Optional[Node]:
-    """The next one of a list or pair, around which others stand."""
-    above, step = node.above, node.step()
-    assert above is not None
-    if above.kind == "Pair":
-        found = above.optionals["Right"] if step == "Left" else None
-    else:
-        found = dict(above.below()).get(f"Item:{int(step.split(':')[1]) + 1}")
-    return found or (after(above) if above.above is not None else None)
-
-
-WAYS: Dict[str, Callable[[Node], Optional[Node]]] = {"root": root_of, "to": named_as, "after": after}
 
 
 class Meaning:
@@ -255,6 +245,7 @@ class Meaning:
         self.aspects, self.tree = aspects, tree
         self.outcomes: Dict[Instance, Outcome] = {}
         self.own: Dict[Instance, Own] = {}
+        self.seen: Dict[Instance, Seen] = {}
 
     def value(self, of: Instance) -> bool:
         """The value of an instance that is demanded."""
@@ -286,7 +277,9 @@ class Meaning:
 
     def attempt(self, of: Instance, new: List[Instance]) -> None:
         """Tries the equation of an instance, and adds those that it comes to."""
-        own = self.own[of] = Evaluation(self, of).own()
+        evaluation = Evaluation(self, of)
+        own = self.own[of] = evaluation.own()
+        self.seen[of] = evaluation.seen
         found = own.atoms() if isinstance(own, Formula) else [own.of] if isinstance(own, Wanting) else []
         new.extend(it for it in found if it not in self.own and it not in new)
 

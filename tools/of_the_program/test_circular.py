@@ -5,6 +5,7 @@ from typing import List, Optional, Tuple
 
 from tools.of_the_program.circular_sessions import Case, Expected, Unfit, made, shorter
 from tools.of_the_program.circular_trees import GRAMMAR
+from tools.of_the_program.circular_work import Work
 from tools.of_the_program.keeping import OPTIONS, OTHERS, KeepingTest
 from tools.of_the_program.sessions import Sample, Session
 
@@ -46,6 +47,10 @@ WORKED = [
 class Circular(KeepingTest):
     """Sessions by chance with each keeper."""
 
+    def setUp(self) -> None:
+        super().setUp()
+        self.count, self.seed = (int(os.environ.get(f"ATTRD_CIRCULAR_{name}", usual)) for name, usual in (("SESSIONS", SESSIONS), ("SEED", SEED)))
+
     def told_of(self, case: Case, keeper: str, turns: int) -> Tuple[List[str], str]:
         """The replies to the case's lines, and what is told of the work."""
         files = self.write(Sample(GRAMMAR, case.term, [case.aspects.text()]))
@@ -83,21 +88,32 @@ class Circular(KeepingTest):
                     self.assertTrue(keeper != "over-edits" or work == f"work {session.work}\n", work)
 
     def test_replies_are_by_meaning(self) -> None:
-        count, seed = (int(os.environ.get(f"ATTRD_CIRCULAR_{name}", usual)) for name, usual in (("SESSIONS", SESSIONS), ("SEED", SEED)))
-        for number in range(count):
-            case = made(f"{seed}.{number}", LINES)
+        for number in range(self.count):
+            case = made(f"{self.seed}.{number}", LINES)
             for keeper in self.keepers:
-                with self.subTest(f"{seed}.{number}"):
+                with self.subTest(f"{self.seed}.{number}"):
                     self.assert_right(case, keeper, SLICES[number % len(SLICES)])
 
-    def test_a_kept_question_takes_no_work(self) -> None:
-        for number in range(SESSIONS):
-            case = made(f"again.{number}", LINES)
-            once = replace(case, lines=tuple(it for it in case.lines if it.split()[1] not in ("post", "wait")))
-            twice = replace(case, lines=tuple(it for line, reply in zip(once.lines, Expected(once).by_line) for it in self.again(line, reply)))
-            self.assertEqual(self.told_of(twice, "over-edits", 1)[1], self.told_of(once, "over-edits", 1)[1], f"again.{number}")
+    def test_work_is_what_was_not_kept(self) -> None:
+        for number in range(self.count):
+            case = self.at_once(made(f"{self.seed}.work.{number}", LINES))
+            with self.subTest(number):
+                if self.differs_in_work(case):
+                    case = shorter(case, self.differs_in_work)
+                    told = self.told_of(case, "over-edits", 1)[1]
+                    self.fail("\n".join([f"{told} in place of {Work(case).done}", case.aspects.text(), case.term, *case.lines]))
 
     @staticmethod
-    def again(line: str, reply: Optional[str]) -> List[str]:
-        """The line, twice where it is a question that has an outcome."""
-        return [line] * (2 if " ask " in line and reply and " circular " not in reply else 1)
+    def at_once(case: Case) -> Case:
+        """The case without questions in turns, and without those that are answered by a circle: how much these keep no page tells."""
+        case = replace(case, lines=tuple(it for it in case.lines if it.split()[1] not in ("post", "wait")))
+        replies = zip(case.lines, Expected(case).by_line)
+        return replace(case, lines=tuple(line for line, reply in replies if reply and " circular " not in reply))
+
+    def differs_in_work(self, case: Case) -> bool:
+        """Whether another number of values is found than weren't kept."""
+        try:
+            Expected(case)
+        except Unfit:
+            return False
+        return self.told_of(case, "over-edits", 1)[1] != f"work {Work(case).done}\n"
