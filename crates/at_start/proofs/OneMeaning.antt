@@ -14,13 +14,14 @@ use Rattle.at_grammar.proofs.Unique.{file_unique}
 use Rattle.at_jrag.specs.Syntax.{Aspect}
 use Rattle.at_jrag.specs.Grammar.{File}
 use Rattle.at_jrag.proofs.Unambiguous.{one_file}
+use Rattle.at_jrag.specs.declared.Forms.{Forms}
 use Rattle.at_class.proofs.Order.{none_broken}
 use Rattle.at_class.proofs.Sound.{classes_apart}
 use Rattle.at_tree.proofs.TextLaws.{one_term_each}
 use Rattle.at_typing.specs.Building.{rules_of}
 use Rattle.at_typing.specs.Located.{located}
 use Rattle.at_start.specs.GrammarFiles.{Declares, GivesClasses, declared}
-use Rattle.at_start.specs.AspectFiles.{no_forms, AllHold, GivesRules, Holds}
+use Rattle.at_start.specs.AspectFiles.{AllHold, GivesRules, Holds}
 use Rattle.at_start.specs.TreeFiles.{GivesTree}
 use Rattle.at_start.proofs.TermFiles.{inner_term, without_newline}
 
@@ -40,23 +41,24 @@ named_apart bytes cs h = subst AreNamedApart (sym h.built) (classes_apart h.decl
 
 -- ---- the aspects
 
-held_once : (bytes : List ℕ) (as' bs : List Aspect) → Holds bytes as' → Holds bytes bs → as' ≡ bs
-held_once bytes as' bs h k =
+held_once : (forms : Forms) (bytes : List ℕ) (as' bs : List Aspect) → Holds forms bytes as' → Holds forms bytes bs → as' ≡ bs
+held_once forms bytes as' bs h k =
     let rows = one_row bytes h.tokens k.tokens h.cut k.cut in
-    one_file no_forms as' bs k.tokens (subst (λ (row : Row). File no_forms as' row []) rows h.spells) k.spells
+    one_file forms as' bs k.tokens (subst (λ (row : Row). File forms as' row []) rows h.spells) k.spells
 
-all_held_once : (files : List (List ℕ)) (as' bs : List (List Aspect)) → AllHold files as' → AllHold files bs → as' ≡ bs
-all_held_once [] [] [] h k = refl
-all_held_once [] [] (b ∷ bs) h k = absurd k
-all_held_once [] (a ∷ as') bs h k = absurd h
-all_held_once (f ∷ fs) [] bs h k = absurd h
-all_held_once (f ∷ fs) (a ∷ as') [] h k = absurd k
-all_held_once (f ∷ fs) (a ∷ as') (b ∷ bs) h k =
-    ap₂ (λ x xs. x ∷ xs) (held_once f a b h.0 k.0) (all_held_once fs as' bs h.1 k.1)
+all_held_once : (forms : Forms) (files : List (List ℕ)) (as' bs : List (List Aspect)) → AllHold forms files as' → AllHold forms files bs → as' ≡ bs
+all_held_once forms [] [] [] h k = refl
+all_held_once forms [] [] (b ∷ bs) h k = absurd k
+all_held_once forms [] (a ∷ as') bs h k = absurd h
+all_held_once forms (f ∷ fs) [] bs h k = absurd h
+all_held_once forms (f ∷ fs) (a ∷ as') [] h k = absurd k
+all_held_once forms (f ∷ fs) (a ∷ as') (b ∷ bs) h k =
+    ap₂ (λ x xs. x ∷ xs) (held_once forms f a b h.0 k.0) (all_held_once forms fs as' bs h.1 k.1)
 
-pub rules_once : (cs ds : Classes) (files : List (List ℕ)) (rules others : Rules) → cs ≡ ds → GivesRules cs files rules → GivesRules ds files others → rules ≡ others
-rules_once cs ds files rules others same h k =
-    h.built.1 ∙ ap₂ (λ c as'. rules_of c (located 1 as')) same (all_held_once files h.aspects k.aspects h.hold k.hold) ∙ sym k.built.1
+pub rules_once : (forms : Forms) (cs ds : Classes) (files : List (List ℕ)) (rules others : Rules) → cs ≡ ds
+    → GivesRules forms cs files rules → GivesRules forms ds files others → rules ≡ others
+rules_once forms cs ds files rules others same h k =
+    h.built.1 ∙ ap₂ (λ c as'. rules_of c (located 1 as')) same (all_held_once forms files h.aspects k.aspects h.hold k.hold) ∙ sym k.built.1
 
 -- ---- the tree
 

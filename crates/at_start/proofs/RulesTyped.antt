@@ -1,52 +1,74 @@
--- The rules that aspect files give are well formed, and none of their attributes is circular: that form isn't read.
-use Rattle.std.proofs.Common.{ℕ, ◌+◌, List, [], ◌∷◌, Result, Ok, Err, refl}
+-- The rules that aspect files give are well formed; their circular attributes are lazy and boolean, and there are none where that form
+-- isn't read.
+use Rattle.std.proofs.Common.{◌≡◌, ◌∙◌, ℕ, ◌+◌, false, List, [], ◌∷◌, Some, Result, Ok, Err, refl, sym}
 use Rattle.std.specs.Result.{IfOk}
-use Rattle.std.specs.List.{AllByRecursion}
+use Rattle.std.specs.List.{AllByRecursion, slice_get}
 use Rattle.at_model.specs.Classes.{Classes}
-use Rattle.at_model.specs.Rules.{Rules}
+use Rattle.at_model.specs.Kinds.{IsDeclarationTyped}
+use Rattle.at_model.specs.Rules.{Attribute, Rules, start_of}
 use Rattle.at_model.specs.WellFormed.{IsHierarchy, AreWellFormed}
 use Rattle.at_jrag.specs.Syntax.{Aspect}
-use Rattle.at_model.proofs.Everywhere.{all_both}
-use Rattle.at_rules.specs.Circular.{HasNoneCircular}
+use Rattle.at_jrag.specs.declared.Forms.{Forms}
+use Rattle.at_model.proofs.Everywhere.{all_both, found}
+use Rattle.at_rules.specs.Circular.{AreCircularLazy, HasNoneCircular}
 use Rattle.at_typing.specs.Declaring.{IsNotCircular}
 use Rattle.at_typing.specs.Located.{IsSpelled, from_file, located}
 use Rattle.at_typing.proofs.BuiltWellFormed.{built_well_formed, built_plain}
 use Rattle.at_typing.proofs.Starting.{file_plain}
-use Rattle.at_start.specs.AspectFiles.{no_forms, GivesRules, AllHold}
+use Rattle.at_demand.specs.Meant.{AreCircularWell}
+use Rattle.at_start.specs.AspectFiles.{GivesRules, AllHold}
 use Rattle.at_start.specs.declared.fault.StartFault.{StartFault}
 
 -- each file that holds aspects spells them
-hold_spelled : (files : List (List ℕ)) (aspects : List (List Aspect)) → AllHold files aspects → AllByRecursion IsSpelled aspects
-hold_spelled [] [] hold = tt
-hold_spelled [] (a ∷ as') hold = absurd hold
-hold_spelled (f ∷ fs) [] hold = absurd hold
-hold_spelled (f ∷ fs) (a ∷ as') hold = ((no_forms, hold.0.tokens, hold.0.spells), hold_spelled fs as' hold.1)
+hold_spelled : (forms : Forms) (files : List (List ℕ)) (aspects : List (List Aspect)) → AllHold forms files aspects
+    → AllByRecursion IsSpelled aspects
+hold_spelled forms [] [] hold = tt
+hold_spelled forms [] (a ∷ as') hold = absurd hold
+hold_spelled forms (f ∷ fs) [] hold = absurd hold
+hold_spelled forms (f ∷ fs) (a ∷ as') hold = ((forms, hold.0.tokens, hold.0.spells), hold_spelled forms fs as' hold.1)
 
-pub given_well_formed : (classes : Classes) (files : List (List ℕ)) (rules : Rules) → IsHierarchy classes → GivesRules classes files rules → AreWellFormed rules
-given_well_formed classes files rules hierarchy gives = built_well_formed classes gives.aspects rules hierarchy (hold_spelled files gives.aspects gives.hold) gives.built
+pub given_well_formed : (forms : Forms) (classes : Classes) (files : List (List ℕ)) (rules : Rules) → IsHierarchy classes
+    → GivesRules forms classes files rules → AreWellFormed rules
+given_well_formed forms classes files rules hierarchy gives =
+    built_well_formed classes gives.aspects rules hierarchy (hold_spelled forms files gives.aspects gives.hold) gives.built
 
-pub well_formed_by : (classes : Classes) (files : List (List ℕ)) (result : Result Rules StartFault) → IsHierarchy classes → IfOk result (λ r. GivesRules classes files r) → IfOk result AreWellFormed
-well_formed_by classes files (Ok rules) hierarchy gives = given_well_formed classes files rules hierarchy gives
-well_formed_by classes files (Err e) hierarchy gives = tt
+pub well_formed_by : (forms : Forms) (classes : Classes) (files : List (List ℕ)) (result : Result Rules StartFault)
+    → IsHierarchy classes → IfOk result (λ r. GivesRules forms classes files r) → IfOk result AreWellFormed
+well_formed_by forms classes files (Ok rules) hierarchy gives = given_well_formed forms classes files rules hierarchy gives
+well_formed_by forms classes files (Err e) hierarchy gives = tt
 
--- each file that holds aspects declares no circular attribute
-hold_plain : (n : ℕ) (files : List (List ℕ)) (aspects : List (List Aspect)) → AllHold files aspects
-    → AllByRecursion IsNotCircular (located n aspects)
-hold_plain n [] [] hold = tt
-hold_plain n [] (a ∷ as') hold = absurd hold
-hold_plain n (f ∷ fs) [] hold = absurd hold
-hold_plain n (f ∷ fs) (a ∷ as') hold =
+-- ---- circular ones
+
+start_at : (rules : Rules) (attribute : ℕ) (d : Attribute) → slice_get rules.attributes attribute ≡ Some d
+    → start_of rules attribute ≡ d.start
+start_at rules attribute d e = rw (e, start_of) refl
+
+-- in well-formed rules they are boolean
+circular_well : (rules : Rules) → AreCircularLazy rules → AreWellFormed rules → AreCircularWell rules
+circular_well rules lazy formed = record {
+  lazy = lazy;
+  boolean = λ attribute b d starts there.
+    (found (IsDeclarationTyped rules.classes) rules.attributes attribute d formed.typed.attributes there).boolean b
+    (sym (start_at rules attribute d there) ∙ starts);
+}
+
+pub circular_by : (result : Result Rules StartFault) → IfOk result AreCircularLazy → IfOk result AreWellFormed
+    → IfOk result AreCircularWell
+circular_by (Ok rules) lazy formed = circular_well rules lazy formed
+circular_by (Err e) lazy formed = tt
+
+-- each file that holds aspects declares none where the form isn't read
+hold_plain : (forms : Forms) → forms.circular ≡ false → (n : ℕ) (files : List (List ℕ)) (aspects : List (List Aspect))
+    → AllHold forms files aspects → AllByRecursion IsNotCircular (located n aspects)
+hold_plain forms off n [] [] hold = tt
+hold_plain forms off n [] (a ∷ as') hold = absurd hold
+hold_plain forms off n (f ∷ fs) [] hold = absurd hold
+hold_plain forms off n (f ∷ fs) (a ∷ as') hold =
     all_both IsNotCircular (from_file n a) (located (n + 1) as')
-    (file_plain no_forms refl n a hold.0.tokens [] hold.0.spells)
-    (hold_plain (n + 1) fs as' hold.1)
+    (file_plain forms off n a hold.0.tokens [] hold.0.spells)
+    (hold_plain forms off (n + 1) fs as' hold.1)
 
-pub given_plain : (classes : Classes) (files : List (List ℕ)) (rules : Rules) → GivesRules classes files rules
-    → HasNoneCircular rules
-given_plain classes files rules gives =
-    built_plain classes (located 1 gives.aspects) rules (hold_plain 1 files gives.aspects gives.hold) gives.built
-
-pub plain_by : (classes : Classes) (files : List (List ℕ)) (result : Result Rules StartFault)
-    → IfOk result (λ r. GivesRules classes files r)
-    → IfOk result HasNoneCircular
-plain_by classes files (Ok rules) gives = given_plain classes files rules gives
-plain_by classes files (Err e) gives = tt
+pub given_plain : (forms : Forms) → forms.circular ≡ false → (classes : Classes) (files : List (List ℕ)) (rules : Rules)
+    → GivesRules forms classes files rules → HasNoneCircular rules
+given_plain forms off classes files rules gives =
+    built_plain classes (located 1 gives.aspects) rules (hold_plain forms off 1 files gives.aspects gives.hold) gives.built

@@ -3,6 +3,7 @@
 ghost use Rattle.std.specs.Prelude.{◌≡◌, map, Ok, IfOk, IfErr};
 ghost use Rattle.at_jrag.specs.View.{aspect_view};
 ghost use Rattle.at_model.specs.WellFormed.{AreWellFormed, IsHierarchy};
+ghost use Rattle.at_rules.specs.Circular.{AreCircularLazy};
 ghost use Rattle.at_demand.specs.Meant.{AreCircularWell};
 ghost use Rattle.at_typing.specs.Building.{Builds};
 ghost use Rattle.at_typing.specs.Located.{declarations_in};
@@ -89,6 +90,7 @@ fn jrag_code(code: JragCode) -> Code
 fn build(alloc: Global, classes: ClassTable, aspects: &[Vec<Aspect>]) -> Result<Rules, StartFault>
     ensures classes { IfOk result (λ r. r.classes ≡ classes) }
     ensures built { IfOk result (λ r. Builds classes (declarations_in aspects.now) (Ok r)) }
+    ensures lazy { IfOk result AreCircularLazy }
     ensures refused { IfErr result (IsRuleFault classes (declarations_in aspects.now)) }
 {
     match at_typing::build(alloc, classes, aspects) {

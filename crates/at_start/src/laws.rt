@@ -1,8 +1,12 @@
 //! The laws over the whole: each is the contract of a function that does nothing.
 
-ghost use Rattle.std.specs.Prelude.{◌≡◌, ℕ, List, [], Option, Some, Ok};
+ghost use Rattle.std.specs.Prelude.{◌≡◌, ℕ, false, List, [], Option, Some, Ok};
 ghost use Rattle.at_model.specs.Effects.{PostNothing};
+ghost use Rattle.at_model.specs.Machine.{State};
+ghost use Rattle.at_model.specs.Rules.{Rules};
+ghost use Rattle.at_rules.specs.Circular.{HasNoneCircular};
 ghost use Rattle.at_engine.specs.declared.stream.desk.Report.{Report};
+ghost use Rattle.at_start.specs.Starts.{Starts};
 ghost use Rattle.at_start.specs.Whole.{Answers, IsWithinMemory, MeansOutput};
 ghost use Rattle.at_start.specs.declared.files.Files.{Files};
 
@@ -12,6 +16,12 @@ pub fn whole()
     ensures { (files : Files) (slice : ℕ) (report : Report) (input : List ℕ) (left after : Option (List ℕ))
         → Answers files slice (Ok report) (Some input) left (Some []) after
         → (output : List ℕ) × (after ≡ Some output) × MeansOutput files slice input output }
+{}
+
+/// Where the form isn't read no attribute of the rules that files give is circular.
+pub fn none_circular()
+    ensures { (files : Files) (rules : Rules) (state : State) → files.forms.circular ≡ false → Starts files rules state
+        → HasNoneCircular rules }
 {}
 
 /// Any two outputs that files mean for the same bytes are equal, where no line posts a question and nothing is told for want of

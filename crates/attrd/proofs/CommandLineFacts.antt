@@ -3,6 +3,7 @@ use Rattle.std.proofs.Common.{◌≡◌, true, false, refl, List, [], ◌∷◌,
 use Rattle.clap.specs.Words.{Text, takes}
 use Rattle.clap.proofs.OnLiterals.{clap_on_literals}
 use Rattle.attrd.specs.CommandLine.{command_line}
+use Rattle.attrd.specs.Options.{are_taken}
 
 abbrev files : List Text
 files = codes "calc.ast" ∷ codes "tree.txt" ∷ codes "calc.jrag" ∷ []
@@ -34,6 +35,14 @@ only_the_version = refl
 cut_off : takes command_line (codes "--cut-off" ∷ codes "--gather" ∷ files) ≡ true
 unfolding clap_on_literals
 cut_off = refl
+
+forms_named : are_taken (codes "--forms" ∷ codes "circular" ∷ files) ≡ true
+unfolding clap_on_literals
+forms_named = refl
+
+no_such_form : are_taken (codes "--forms=circular,nta" ∷ files) ≡ false
+unfolding clap_on_literals
+no_such_form = refl
 
 all_of_it : takes command_line (codes "--socket=a" ∷ codes "--connections" ∷ codes "1000" ∷ codes "--slice=1000000" ∷ codes "--keep"
     ∷ codes "1000000000" ∷ codes "--work" ∷ files) ≡ true

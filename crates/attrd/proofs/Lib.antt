@@ -5,4 +5,5 @@ pub mod Entries
 pub mod WholeRows
 pub mod Taken
 pub mod Parses
+pub mod Asking
 mod DoorsLemmas

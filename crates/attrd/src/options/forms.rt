@@ -21,20 +21,23 @@ pub fn forms_of(alloc: Global, list: Option<&str>) -> Result<Forms, WordsFault>
     ensures refused { IfErr result (λ e. name_forms (option_map (λ t. t.now) list.entry) ≡ true → e ≡ Memory) }
 {
     match list {
-        Some(list) => forms_named(alloc, &words_of(alloc, list)?),
+        Some(list) => forms_listed(alloc, list),
         None => Ok(Forms::NONE),
     }
 }
 
-/// The words of the list, which stand between its commas.
-fn words_of(alloc: Global, list: &str) -> Result<Vec<&str>, AllocError>
-    ensures { IfOk result (λ v. texts v.items ≡ form_words list.now) }
+/// The forms that the list names, or the fault of its first word that names none.
+fn forms_listed(alloc: Global, list: &str) -> Result<Forms, WordsFault>
+    ensures named { IfOk result (λ f. f ≡ forms_named (form_words list.now)) }
+    ensures known { OnOk result (are_forms (form_words list.now) ≡ true) }
+    ensures refused { IfErr result (λ e. are_forms (form_words list.now) ≡ true → e ≡ Memory) }
 {
-    list.split(',').collect(alloc)
+    let words = words_of(alloc, list)?;
+    forms_among(alloc, &words)
 }
 
-/// The forms that the words name, or the fault of the first word that names none.
-fn forms_named(alloc: Global, words: &[&str]) -> Result<Forms, WordsFault>
+/// The forms that the words name, or the fault of the first that names none.
+fn forms_among(alloc: Global, words: &[&str]) -> Result<Forms, WordsFault>
     ensures named { IfOk result (λ f. f ≡ forms_named (texts words.now)) }
     ensures known { OnOk result (are_forms (texts words.now) ≡ true) }
     ensures refused { IfErr result (λ e. are_forms (texts words.now) ≡ true → e ≡ Memory) }
@@ -49,6 +52,13 @@ fn forms_named(alloc: Global, words: &[&str]) -> Result<Forms, WordsFault>
     })
 }
 
+/// The words of the list, which stand between its commas.
+fn words_of(alloc: Global, list: &str) -> Result<Vec<&str>, AllocError>
+    ensures { IfOk result (λ v. texts v.items ≡ form_words list.now) }
+{
+    list.split(',').collect(alloc)
+}
+
 /// Whether a form has that name.
 fn is_form(word: &str) -> bool
     ensures { result ≡ is_form word.now }
@@ -60,7 +70,12 @@ fn is_form(word: &str) -> bool
 fn has(words: &[&str], word: &str) -> bool
     ensures { result ≡ list_any (λ w. bytes_eq w word.now) (texts words.now) }
 {
-    words.iter().any(|other| *other == word)
+    for other in words {
+        if *other == word {
+            return true;
+        }
+    }
+    false
 }
 
 /// The fault of a word that is not the name of a form.
