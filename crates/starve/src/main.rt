@@ -86,9 +86,8 @@ fn serve(rt: &HostRuntime) -> Result<(), Stop> {
 /// The forms of aspects that the words name in front, and the words behind these.
 fn forms_of(words: &[String]) -> (Forms, &[String]) {
     match words {
-        [option, name, rest @ ..] if option == "--forms" && name == "circular" => {
-            (Forms { circular: true }, rest)
-        }
+        [option, name, rest @ ..] if option.as_str() == "--forms" && name.as_str() == "circular" =>
+            { (Forms { circular: true }, rest) }
         _ => (Forms::NONE, words),
     }
 }
