@@ -43,7 +43,9 @@ class Expr:
             "or": lambda: f"({it[0]} || {it[1]})",
             "if": lambda: f"({it[0]} ? {it[1]} : {it[2]})",
             "exists": lambda: f"exists ({self.word} : {it[0]}.getItemList()) {{ {it[1]} }}",
+            "first": lambda: f"first ({self.word} : {it[0]}.getItemList()) {{ {it[1]} }}",
             "count": lambda: f"sum ({self.word} : {it[0]}.getItemList()) {{ {it[1]} ? 1 : 0 }} > 1",
+            "agree": lambda: f"({it[0]}) == ({it[1]})",
             "same": lambda: f"{it[0]} == {it[1]}",
             "other": lambda: f"{it[0]} != {it[1]}",
             "zero": lambda: "1 / 0 == 0",
@@ -65,7 +67,7 @@ THIS, NULL, TRUE, FALSE = word("this"), word("null"), word("true"), word("false"
 
 @dataclass
 class Attribute:
-    """An attribute: its start if it is circular, what its parameter is, and its equations, each with the class of its node; those of
+    """An attribute: its start if it is circular, of which kinds its parameters are, and its equations, each with the class of its node; those of
     an inherited one are for components. Mostly it wants final values of what lies in lower layers alone, so that few circles come."""
 
     name: str
@@ -73,13 +75,13 @@ class Attribute:
     start: Optional[bool]
     lazy: bool
     inherited: bool
-    parameter: Optional[str]
+    kinds: Tuple[str, ...]
     equations: Dict[str, Expr] = field(default_factory=dict)
 
     @property
     def parameters(self) -> str:
         """The parameters as they are written."""
-        return {"String": "String w", "Item": "Item n", None: ""}[self.parameter]
+        return ", ".join(f"{kind} {NAMED[kind]}" for kind in self.kinds)
 
     def declared(self) -> str:
         """The declaration, with its equations."""
@@ -91,6 +93,8 @@ class Attribute:
         return "".join(f"  {it}\n" for it in lines)
 
 
+# What a parameter of each kind is called.
+NAMED = {"String": "w", "Item": "n"}
 # Where an inherited attribute may have equations, with what this is there.
 PLACES = {"Root.getItem()": "Root", "Row.getItem()": "Row", "Pair.getLeft()": "Pair", "Pair.getRight()": "Pair"}
 
@@ -119,7 +123,7 @@ class Aspects:
     def attribute(self, name: str) -> Attribute:
         start = self.chance.choice((False, False, False, True, None))
         return Attribute(name, self.chance.randrange(3), start, self.chance.random() < (0.3 if start is not None else 0.6), self.chance.random() < 0.25,
-                         self.chance.choice((None, None, "String", "Item")))
+                         self.chance.choice(((), (), ("String",), ("Item",), ("Item", "String"))))
 
     def equip(self, attribute: Attribute) -> None:
         """Gives the attribute its equations: one for all, and some of their own."""
@@ -137,7 +141,7 @@ class Scope:
 
     def __init__(self, aspects: Aspects, of: Attribute, this: str) -> None:
         self.aspects, self.of, self.this, self.chance = aspects, of, this, aspects.chance
-        self.bound: List[Expr] = [word("n")] if of.parameter == "Item" else []
+        self.bound: List[Expr] = [word("n")] if "Item" in of.kinds else []
         self.names = iter("xyzuv")
 
     def often(self, share: float) -> bool:
@@ -178,9 +182,12 @@ class Scope:
         """A boolean expression for any place: mostly of what isn't circular, so that few circles come."""
         if depth <= 0 or self.often(0.4):
             return self.final() if self.often(0.5) else self.atom()
-        form = self.chance.choice(("and", "or", "not", "count"))
+        form = self.chance.choice(("and", "or", "not", "agree", "count", "found"))
         if form == "count":
             return self.folded("count", lambda: self.strict(depth - 1))
+        if form == "found":
+            found = self.folded("first", lambda: self.strict(depth - 1))
+            return found if found == TRUE else Expr("other", (found, self.chance.choice((NULL, self.node()))))
         return Expr(form, tuple(self.strict(depth - 1) for _ in range(1 if form == "not" else 2)))
 
     def folded(self, form: str, body: Callable[[], Expr]) -> Expr:
@@ -215,7 +222,7 @@ class Scope:
 
     def some_text(self) -> Expr:
         """A text: the parameter or one of the names."""
-        return word("w") if self.of.parameter == "String" and self.often(0.7) else Expr("text", (), self.chance.choice(NAMES))
+        return word("w") if "String" in self.of.kinds and self.often(0.7) else Expr("text", (), self.chance.choice(NAMES))
 
     def sure(self) -> Expr:
         """A node that is there, mostly."""
@@ -248,10 +255,9 @@ class Scope:
             known = self.aspects.attributes
         asked = self.chance.choice(list(known))
         receiver = node or self.sure()
-        if asked.parameter is None:
-            return Expr("ask", (receiver,), asked.name)
-        return Expr("ask", (receiver, self.some_text() if asked.parameter == "String" else self.argument()), asked.name)
+        given = [self.some_text() if kind == "String" else self.argument() for kind in asked.kinds]
+        return Expr("ask", (receiver, *given), asked.name)
 
     def argument(self) -> Expr:
         """A node as an argument: mostly one that is passed on."""
-        return self.bound[0] if self.of.parameter == "Item" and self.often(0.7) else self.node()
+        return self.bound[0] if "Item" in self.of.kinds and self.often(0.7) else self.node()

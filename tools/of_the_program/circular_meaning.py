@@ -8,7 +8,7 @@ from __future__ import annotations
 from dataclasses import dataclass
 from typing import Callable, Dict, Iterator, List, Optional, Set, Tuple, Union
 
-from tools.of_the_program.circular_aspects import Aspects, Expr
+from tools.of_the_program.circular_aspects import NAMED, Aspects, Expr
 from tools.of_the_program.circular_trees import Node
 from tools.of_the_program.circular_ways import Argument, Instance, Seen, climbed, way
 
@@ -79,9 +79,7 @@ class Evaluation:
         self.attribute = meaning.aspects.named(instance[1])
         self.seen.of(instance)
         self.this, self.body = self.equation(instance[0])
-        self.names: Dict[str, Argument] = {}
-        if self.attribute.parameter:
-            self.names["w" if self.attribute.parameter == "String" else "n"] = instance[2][0]
+        self.names: Dict[str, Argument] = {NAMED[kind]: it for kind, it in zip(self.attribute.kinds, instance[2])}
 
     def equation(self, node: Node) -> Tuple[Node, Expr]:
         """The node whose equation it is, and its body: the nearest one above, or that of its own class."""
@@ -153,6 +151,9 @@ class Evaluation:
             return self.truth(e.parts[1 if self.truth(e.parts[0]) else 2])
         if e.form == "exists":
             return any(self.truth(e.parts[1]) for _ in self.each(e))
+        if e.form == "agree":
+            left = self.truth(e.parts[0])
+            return left == self.truth(e.parts[1])
         if e.form == "count":
             return len([it for it in self.each(e) if self.truth(e.parts[1])]) > 1
         if e.form == "ask":
@@ -187,8 +188,8 @@ class Evaluation:
     def asked(self, e: Expr) -> Instance:
         """The instance of a call: the receiver and the arguments come first, and then whether it is null."""
         receiver = self.node(e.parts[0])
-        parameter = self.meaning.aspects.named(e.word).parameter
-        arguments = tuple(self.text(it) if parameter == "String" else self.node(it) for it in e.parts[1:])
+        kinds = self.meaning.aspects.named(e.word).kinds
+        arguments = tuple(self.text(it) if kind == "String" else self.node(it) for it, kind in zip(e.parts[1:], kinds))
         if receiver is None:
             raise self.fault("null")
         return receiver, e.word, arguments
@@ -215,6 +216,8 @@ class Evaluation:
             found = {"this": self.this, "null": None}.get(e.word, self.names.get(e.word))
             assert not isinstance(found, str)
             return found
+        if e.form == "first":
+            return next((it for it in self.each(e) if self.truth(e.parts[1])), None)
         if e.form in ("row", "left"):
             return self.cast(e)
         receiver, arguments = self.node(e.parts[0]), tuple(map(self.text, e.parts[1:]))

@@ -58,21 +58,19 @@ def question(aspects: Aspects, tree: Node, chance: random.Random) -> str:
     """A question of an item by chance."""
     items = [it for it in tree.all() if it is not tree]
     of: Attribute = chance.choice(aspects.attributes)
-    argument = {None: "", "String": f'"{chance.choice(NAMES)}"', "Item": chance.choice([it.path() for it in items] + ["null"])}[of.parameter]
-    return f"{chance.choice(items).path()} {of.name}({argument})"
+    given = {"String": f'"{chance.choice(NAMES)}"', "Item": chance.choice([it.path() for it in items] + ["null"])}
+    return f"{chance.choice(items).path()} {of.name}({','.join(given[kind] for kind in of.kinds)})"
 
 
 def instance(tree: Node, aspects: Aspects, asked: str) -> Optional[Instance]:
     """The instance of a question, where its places are there."""
     found = QUESTION.fullmatch(asked)
     assert found is not None
-    node, name, argument = tree.at(found[1]), found[2], found[3]
-    arguments: List[Argument] = []
-    if argument:
-        arguments = [argument[1:-1] if argument[0] == '"' else None if argument == "null" else tree.at(argument)]
-        if arguments == [None] and argument != "null":
-            return None
-    return None if node is None or node is tree else (node, name, tuple(arguments))
+    node, given = tree.at(found[1]), list(filter(None, found[3].split(",")))
+    arguments: List[Argument] = [it[1:-1] if it[0] == '"' else tree.at(it) for it in given if it != "null"]
+    if node is None or node is tree or None in arguments:
+        return None
+    return node, found[2], tuple(None if it == "null" else arguments.pop(0) for it in given)
 
 
 class Expected:
