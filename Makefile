@@ -2,7 +2,7 @@
 SHELL := /bin/bash
 SAMPLE := crates/attrd/data
 PREFIX ?= /usr/local
-PAGES := README.md docs/ATTRIBUTE_GRAMMARS.md docs/MANUAL.md docs/EDGES.md docs/REFUSALS.md docs/TUTORIAL.md docs/FROM_JASTADD.md samples/calculator samples/objects samples/machines
+PAGES := README.md docs/ATTRIBUTE_GRAMMARS.md docs/MANUAL.md docs/EDGES.md docs/REFUSALS.md docs/TUTORIAL.md docs/FROM_JASTADD.md samples/calculator samples/objects samples/machines samples/grammars samples/flow
 
 # What examples, program and clients test: PROGRAM=.., else ./attrd where it stands, else a program with no proof.
 QUICK := .quick/attrd
@@ -134,7 +134,7 @@ tries: tools python
 	@python3 tools/examples.py docs/TRIES.md
 
 # Speed, by the proved program, as ratios in one run; what the program takes at its limits; what evaluations, loading, lines and
-# edits cost where everything is kept, which fails where a bound doesn't hold; a realistic program, beside Java; and trees of up to
+# edits cost where everything is kept, and circular attributes, which fails where a bound doesn't hold; a realistic program, beside Java; and trees of up to
 # 2,400,000 nodes, which take five GB.
 bench: build
 	cd crates/tries && rt run < stdin -- data/calc.ast data/calc.jrag data/tree.txt > /dev/null
@@ -143,7 +143,7 @@ bench: build
 	python3 bench/clients.py
 	python3 bench/editor.py
 	python3 bench/hub.py
-	@status=0; for it in evaluation in_flight kept cliff realistic sizes; do python3 bench/$$it.py || status=1; done; exit $$status
+	@status=0; for it in evaluation in_flight kept cliff fixpoints realistic sizes; do python3 bench/$$it.py || status=1; done; exit $$status
 
 tools:
 	@command -v rt > /dev/null || { echo "attrd is written in Rattle: install the Rattle kit, so that the command 'rt' is on the PATH."; exit 1; }

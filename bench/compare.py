@@ -3,10 +3,10 @@
 
     python3 bench/compare.py A B [--sessions 500] [--seed 1] [--lines 80] [--language NAME]
 
-A and B are programs. A session has a tree by chance, of the tutorial's language, of the samples or of bench/nested (attributes that aren't
-lazy, with arguments, faults and circles within them), some of them 400 deep; its lines edit, ask, post and mark. Where the two differ,
-the session is made shorter for as long as they do, its files are left in a folder, and the status is 1. What was answered is counted, so that
-one sees what the sessions came to.
+A and B are programs. A session has a tree by chance, of the tutorial's language, of the samples (those with circular attributes, too, where
+both programs read them) or of bench/nested (attributes that aren't lazy, with arguments, faults and circles within them), some of them 400
+deep; its lines edit, ask, post and mark. Where the two differ, the session is made shorter for as long as they do, its files are left in a
+folder, and the status is 1. What was answered is counted, so that one sees what the sessions came to.
 """
 from __future__ import annotations
 
@@ -25,6 +25,8 @@ from figures import program_in
 from languages import LANGUAGES, Language
 from sessions import Session
 
+from attrd import known_options
+
 # A program that takes longer for a session than this, in seconds, is ended.
 PATIENCE = 60
 
@@ -42,7 +44,7 @@ class Case:
     def made(language: Language, seed: str, count: int) -> Case:
         """The session of this seed, with so many lines."""
         session = Session(language, random.Random(seed))
-        return Case(language, session.options, f"{session.first}\n", session.lines(count))
+        return Case(language, [*language.options, *session.options], f"{session.first}\n", session.lines(count))
 
 
 @dataclass(frozen=True)
@@ -129,6 +131,12 @@ def compared(comparison: Comparison, languages: List[Language], arguments: argpa
     return counted
 
 
+def known_to(programs: Tuple[str, str]) -> List[Language]:
+    """The languages whose options both programs have."""
+    known = known_options(programs[0]) & known_options(programs[1])
+    return [it for it in LANGUAGES.values() if known.issuperset(it.options[:1])]
+
+
 def main() -> None:
     parser = argparse.ArgumentParser(description=__doc__.splitlines()[0] if __doc__ else None)
     parser.add_argument("programs", nargs=2, metavar="PROGRAM")
@@ -137,8 +145,8 @@ def main() -> None:
     parser.add_argument("--lines", type=int, default=80)
     parser.add_argument("--language", choices=sorted(LANGUAGES))
     arguments = parser.parse_args()
-    languages = [LANGUAGES[arguments.language]] if arguments.language else list(LANGUAGES.values())
     first, second = (program_in([it], __doc__) for it in arguments.programs)
+    languages = [LANGUAGES[arguments.language]] if arguments.language else known_to((first, second))
     folder = Path(tempfile.mkdtemp(prefix="attrd-compare-"))
     counted = compared(Comparison((first, second), folder), languages, arguments)
     shutil.rmtree(folder)

@@ -19,13 +19,14 @@ TRIED = 8
 
 @dataclass(frozen=True)
 class Language:
-    """A grammar with its aspects, and the texts that its tokens have: of a class of its own, or of all others."""
+    """A grammar with its aspects, the texts that its tokens have, of a class of its own, or of all others, and the options for it."""
 
     name: str
     grammar_file: FilePath
     aspects: Tuple[FilePath, ...]
     texts: Tuple[str, ...]
     texts_of: Dict[str, Tuple[str, ...]] = field(default_factory=dict)
+    options: Tuple[str, ...] = ()
 
     @property
     def grammar(self) -> Grammar:
@@ -37,6 +38,7 @@ class Language:
         return [it for file in self.aspects for it in attributes_of(file.read_text(encoding="utf-8"))]
 
 
+FORMS = ("--forms", "circular")
 KINDS = ("int", "boolean", "A", "B", "C")
 LANGUAGES = {it.name: it for it in (
     Language("nested", NESTED / "nested.ast", (NESTED / "nested.jrag",), ("a", "b", "c", "d", "e")),
@@ -44,6 +46,8 @@ LANGUAGES = {it.name: it for it in (
     Language("calculator", SAMPLES / "calculator" / "calc.ast", tuple(SAMPLES / "calculator" / it for it in ("calc.jrag", "probe.jrag")), ("x", "y", "z")),
     Language("objects", SAMPLES / "objects" / "objects.ast", tuple(SAMPLES / "objects" / it for it in ("names.jrag", "types.jrag")), ("A", "B", "x", "y")),
     Language("machines", SAMPLES / "machines" / "machines.ast", (SAMPLES / "machines" / "machines.jrag",), ("a", "b", "c")),
+    Language("grammars", SAMPLES / "grammars" / "grammars.ast", (SAMPLES / "grammars" / "grammars.jrag",), ("a", "b", "c", "d"), {}, FORMS),
+    Language("flow", SAMPLES / "flow" / "flow.ast", (SAMPLES / "flow" / "flow.jrag",), ("x", "y"), {}, FORMS),
 )}
 
 

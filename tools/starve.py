@@ -3,11 +3,11 @@
 
     tools/starve.py [-k PART].. STARVE
 
-In each session below, over the calculator, with each keeper, by the program `starve`; with -k in those alone of whose names,
+In each session below, over the calculator or over rooms with circular attributes, with each keeper, by the program `starve`; with -k in those alone of whose names,
 SESSION/KEEPER, it is a part. What each took is told. A round may end for want of memory before the session's first line, or have one
 line or question answered `memory`, which the run reports. Its other lines are answered right, as a server tells that is given these
-alone, and so is each question, as where it is asked at once. The requests in front of the first line are the same in each session with
-a keeper, and are refused in the first of them."""
+alone, and so is each question, as where it is asked at once. The requests in front of the first line are the same in each session over
+the same files with a keeper, and are refused in the first of them."""
 import argparse
 import os
 import re
@@ -19,13 +19,24 @@ import time
 from collections import Counter
 from dataclasses import dataclass
 from pathlib import Path
-from typing import Dict, Optional, Sequence, Tuple
+from typing import Dict, NamedTuple, Optional, Sequence, Tuple
 
-FILES = [str(Path(__file__).resolve().parent.parent / "crates/attrd/data" / it) for it in ("calc.ast", "tree.txt", "calc.jrag")]
+CRATES = Path(__file__).resolve().parent.parent / "crates"
+CALCULATOR = tuple(str(CRATES / "attrd/data" / it) for it in ("calc.ast", "tree.txt", "calc.jrag"))
+ROOMS = tuple(str(CRATES / "starve/data" / it) for it in ("rooms.ast", "rooms.txt", "rooms.jrag"))
 # How values are kept, as `starve` names it.
 KEEPERS = ("nothing", "until-edit", "over-edits", "few", "cut-off", "few-cut-off")
-# Lines, and the replies to them where no memory is refused.
-Session = Tuple[str, str]
+
+
+class Session(NamedTuple):
+    """Lines, the replies to them where no memory is refused, the files that they are over, and the options for these."""
+
+    lines: str
+    replies: str
+    files: Tuple[str, ...] = CALCULATOR
+    options: Tuple[str, ...] = ()
+
+
 # A question, each edit but a move, and a mark, and the question again; and another one twice where it was asked last. At the end the
 # tree is shown, and the mark goes.
 EDITS = """0 ask /Block/Stmt:1/Expr value()
@@ -116,7 +127,36 @@ TURNS = """0 post /Block/Stmt:1/Expr value()
 0 ok 3
 0 done 5 3 = /Block/Stmt:1
 """
-SESSIONS: Dict[str, Session] = {"edits": EDITS, "moves": MOVES, "turns": TURNS}
+# Groups of circular attributes, one of which wants what the other one comes to: all in doubt, an edit of one of them, a longer group, and
+# a question in turns.
+GROUPS = """0 ask /Room:2 dark()
+0 ask /Room:0 dark()
+0 token /Room:3 On true
+0 ask /Room:1 lit()
+0 ask /Room:1 dark()
+0 token /Room:3 On false
+0 insert / Room 1 Room(false,"n")
+0 post /Room:0 dark()
+0 token /Room:1 Label "m"
+0 wait 1
+0 ask /Room:4 lit()
+0 move /Room:4 to / Room 0
+0 ask /Room:0 dark()
+""", """0 = true
+0 = true
+0 ok 1
+0 = true
+0 = false
+0 ok 2
+0 ok 3
+0 open 1
+0 ok 4
+0 done 1 4 = true
+0 = false
+0 ok 5
+0 = true
+"""
+SESSIONS = {"edits": Session(*EDITS), "moves": Session(*MOVES), "turns": Session(*TURNS), "groups": Session(*GROUPS, ROOMS, ("--forms", "circular"))}
 DONE = re.compile(r"(\d+) done (\d+) (\d+) (.*)")
 # Whether a request was refused, and how many lines and questions were answered `memory`.
 TOLD = re.compile(r"(refused\n)?memory (\d+)\nwork \d+\n")
@@ -184,15 +224,16 @@ class Retold:
 
 @dataclass
 class Server:
-    """The program `starve`, with a keeper, and an environment in which a request for memory is refused."""
+    """The program `starve`, with a keeper, for a session, and an environment in which a request for memory is refused."""
 
     program: str
     keeper: str
+    session: Session
     environment: Dict[str, str]
 
     def run(self, lines: str, nth: int) -> "subprocess.CompletedProcess[str]":
         """A run over these lines with the nth request refused; with none where that is 0. One turn follows each line."""
-        return subprocess.run([self.program, self.keeper, "1", *FILES], env={**self.environment, "REFUSE": str(nth)}, input=lines,
+        return subprocess.run([self.program, *self.session.options, self.keeper, "1", *self.session.files], env={**self.environment, "REFUSE": str(nth)}, input=lines,
                               capture_output=True, text=True, timeout=60)
 
     def tells(self, lines: Sequence[str], replies: Sequence[str]) -> bool:
@@ -203,7 +244,7 @@ class Server:
 
     def outcome(self, name: str, nth: int) -> Optional[str]:
         """How the session went with the nth request refused; None where it makes fewer. Ends the process where it went wrong."""
-        lines, replies = SESSIONS[name]
+        lines, replies = self.session.lines, self.session.replies
         run = self.run(lines, nth)
         if (run.returncode, run.stdout, run.stderr) == (4, "", "refused\nmemory\n"):
             return BEFORE
@@ -247,12 +288,12 @@ def main() -> None:
     chosen = [it for it in pairs if not given.k or any(part in "/".join(it) for part in given.k)]
     if not chosen:
         words.error(f"no session has such a name; there are {', '.join(map('/'.join, pairs))}")
-    begun: Dict[str, int] = {}
+    begun: Dict[Tuple[str, Tuple[str, ...]], int] = {}
     with tempfile.TemporaryDirectory() as folder:
         environment = refusing(folder)
         for name, word in chosen:
-            server = Server(os.path.abspath(given.program), word, environment)
-            begun[word] = starved(server, name, begun.get(word, 1))
+            server = Server(os.path.abspath(given.program), word, SESSIONS[name], environment)
+            begun[word, server.session.files] = starved(server, name, begun.get((word, server.session.files), 1))
 
 
 if __name__ == "__main__":
