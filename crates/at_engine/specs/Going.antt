@@ -1,7 +1,9 @@
 -- What each function of the loop over lines promises: what it has done, and what it leaves as it was.
-use Rattle.std.specs.Prelude.{◌≡◌, ℕ, ◌+◌, ◌*◌, ◌^◌, ◌<◌, ◌≤◌, Bool, false, List, [], ◌∷◌, Option, Result, filter, is_err, vec_len, IfSome, IsTrue, OnOk}
+use Rattle.std.specs.Prelude.{◌≡◌, ◌⊎◌, ℕ, ◌+◌, ◌*◌, ◌^◌, ◌<◌, ◌≤◌, Bool, false, List, [], ◌∷◌, Option, Result, filter, is_err, vec_len, IfSome, IsTrue, OnOk}
 use Rattle.at_model.specs.Lines.{is_filled}
 use Rattle.at_model.specs.Machine.{State}
+use Rattle.at_model.specs.Rules.{Rules}
+use Rattle.at_rules.specs.Circular.{HasNoneCircular}
 use Rattle.at_cache.specs.Kept.{Entries}
 use Rattle.at_cache.specs.Traced.{Memories}
 use Rattle.at_engine.specs.Ends.{Remembers, SendsOn}
@@ -34,17 +36,21 @@ pub record CanGive {K : Type 0} (entries : K → Entries) (memories : K → Memo
   pub ready : CanServe entries memories e desk 0
   pub some : IfSome limit (λ n. 0 < n)
 
+-- nothing was answered `memory`, or no attribute is circular
+abbrev pub KeepWhole : Rules → (desk next : Desk) → Type 0
+KeepWhole rules desk next = HasNoneCircular rules ⊎ (next.memory ≡ desk.memory)
+
 -- It is known of the writer whether a call failed, and where none did, all that was written is sent on. The engine has gone through
--- nothing but lines and turns, each of which tried one equation. It is sound, its
--- rules and how many turns follow each line are as they were, what was kept spare is so still, and no more than so many lines
--- were counted.
+-- nothing but lines and turns, each of which tried one equation. It is sound, its rules and how many turns follow each line are as they
+-- were, what was kept spare is so still, where what belongs together is kept together, and no more than so many lines were counted.
 pub record Goes {K W T : Type 0} (exact : Bool) (entries : K → Entries) (memories : K → Memories)
     (failure : W → Option Bool) (waiting : W → Bool) (old new : Engine K) (desk next : Desk)
     (writer later : W) (lines : ℕ) (result : Result T RunFault) : Type 0 where
   pub failed : Remembers (failure writer) (failure later) (is_err result)
   pub by : GoesBy exact entries old new
   pub sent : SendsOn result (waiting writer) (waiting later)
-  pub spare : IsTrue exact → IsSpare entries old → IsSpare entries new
+  pub spare : KeepWhole (rules_of old) desk next → IsTrue exact → IsSpare entries old → IsSpare entries new
+  pub wanted : desk.memory ≤ next.memory
   pub rules : rules_of new ≡ rules_of old
   pub slice : slice_of new ≡ slice_of old
   pub grows : countable next (state_of new) ≤ countable desk (state_of old) + 3 * lines
