@@ -4,7 +4,7 @@ use Rattle.std.specs.List.{AllByRecursion}
 use Rattle.at_model.specs.Paths.{Node}
 use Rattle.at_model.specs.Rules.{Rules}
 use Rattle.at_model.specs.Run.{Contents, Instance}
-use Rattle.at_model.specs.Machine.{Verdict, after}
+use Rattle.at_model.specs.Machine.{Verdict, Asks, after}
 use Rattle.at_rules.specs.Circular.{HasNoneCircular}
 use Rattle.at_store.specs.Shown.{contents}
 use Rattle.at_cache.specs.Kept.{Entries}
@@ -45,15 +45,16 @@ abbrev pub KeepsWhole : Rules → (out_of_memory : Bool) → Type 0
 KeepsWhole rules false = Unit {0}
 KeepsWhole rules true = HasNoneCircular rules
 
--- just what the verdict leaves and adds is kept, and the work grows by its work; but nothing is said of a question that a circle of
--- circular attributes answers
-abbrev pub KeepsOver : {K : Type 0} → (entries : K → Entries) → Verdict → (old new : Engine K) → Type 0
-KeepsOver entries v old new = HasOutcome (rules_of old) (state_of old) v
-    → Keeps (rules_of old) (state_of old) v (kept_of entries old) (kept_of entries new) (work_of old) (work_of new)
-
 -- nothing goes, and only what is worth keeping for the verdict comes
 abbrev pub GrowsOver : {K : Type 0} → (entries : K → Entries) → Verdict → (old new : Engine K) → Type 0
 GrowsOver entries v old new = Grows (IsWorthFor (rules_of old) (state_of old) v) (kept_of entries old) (kept_of entries new) (work_of old) (work_of new)
+
+-- Just what the verdict leaves and adds is kept, and the work grows by its work. Of a question that a circle of circular attributes answers
+-- it is said that nothing goes, and only what is worth keeping comes.
+pub record KeepsOver {K : Type 0} (entries : K → Entries) (v : Verdict) (old new : Engine K) : Type 0 where
+  pub keeps : HasOutcome (rules_of old) (state_of old) v
+      → Keeps (rules_of old) (state_of old) v (kept_of entries old) (kept_of entries new) (work_of old) (work_of new)
+  pub grows : (q : Instance Node) → v ≡ Asks q → GrowsOver entries v old new
 
 -- What is kept is spare, and it is what the verdict leaves and adds. Where memory ran out it is some of that, and spare where no attribute
 -- is circular.
