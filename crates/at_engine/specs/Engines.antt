@@ -4,6 +4,7 @@ use Rattle.at_model.specs.Rules.{Rules}
 use Rattle.at_model.specs.Enduring.{AreTokens}
 use Rattle.at_model.specs.Machine.{State}
 use Rattle.at_model.specs.WellFormed.{AreWellFormed}
+use Rattle.at_rules.specs.Circular.{HasNoneCircular}
 use Rattle.at_cache.specs.Kept.{Entries, KeepsAll}
 use Rattle.at_cache.specs.Traced.{Memories, TracesNothing}
 use Rattle.at_demand.specs.Meant.{AreCircularWell}
@@ -46,6 +47,10 @@ pub record IsTyped (rules : Rules) (s : State) : Type 0 where
   pub formed : AreWellFormed rules
   pub circular : AreCircularWell rules
   pub tokens : AreTokens s.tree
+
+-- no attribute is circular
+abbrev pub NoneAreCircular : {K : Type 0} → Engine K → Type 0
+NoneAreCircular e = HasNoneCircular (rules_of e)
 
 -- where it remembers that the last question was asked is there
 abbrev pub Knows : {K : Type 0} → Engine K → Type 0

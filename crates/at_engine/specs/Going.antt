@@ -80,14 +80,14 @@ pub record ServesLine {K W : Type 0} (exact : Bool) (entries : K → Entries) (m
   pub line : next.line.items ≡ desk.line.items
   pub goes : Goes exact entries memories failure unsaid old new desk next writer later 1 result
 
--- the bytes were taken, no more than so many lines
+-- The bytes were taken, no more than so many lines. Where none was answered `memory`, just what they leave and add is kept.
 pub record TakesBytes {K W : Type 0} (exact : Bool) (entries : K → Entries) (memories : K → Memories)
     (contents : W → Option (List ℕ)) (failure : W → Option Bool)
     (bytes : List ℕ) (lines : ℕ) (old new : Engine K) (desk next : Desk) (writer later : W) (result : Result (Unit {0}) RunFault) : Type 0 where
   pub taken : (front : List ℕ) → IsOpen front → desk.line.items ≡ kept front
       → TakesOrStops result (rules_of old) (slice_of old) (state_of old) front bytes (state_of new) desk next (contents writer) (contents later)
-  pub keeps : IsTrue exact → IsSpare entries old → (front : List ℕ) → IsOpen front → desk.line.items ≡ kept front
-      → OnOk result (KeepsBytes entries front bytes old new desk next)
+  pub keeps : IsTrue exact → IsSpare entries old → next.memory ≡ desk.memory → (front : List ℕ) → IsOpen front → desk.line.items ≡ kept front
+      → OnOk result (KeepsBytes entries front bytes old new next)
   pub goes : Goes exact entries memories failure unsaid old new desk next writer later lines result
 
 -- the last line, which no newline ends, was served, and turns were given until no question is open

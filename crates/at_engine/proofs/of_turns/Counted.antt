@@ -97,7 +97,7 @@ module _ (rules : Rules) (s : Shown) where
     stood = stood;
     searched = λ u is. (u, turns.none d u, is);
     plainly = λ none. turns.none d (under_way q);
-    counted = omega arith;
+    counted = let same : q.turns ≡ q.turns + 0 = omega arith in same;
   }
 
   module _ (m : ℕ) (d e : Entries) (o : Option Question) (i : Instance ℕ) (q : Question) (front : AreTurns rules s m d o i e q None)

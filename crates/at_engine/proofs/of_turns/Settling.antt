@@ -85,13 +85,13 @@ module _ (E : Type 0) (exact : Bool) (rules : Rules) (s : Shown) (limit : ℕ) (
   of_answer g None u v given = (refl, given.0)
   of_answer g (Some a) u v (front, mid, kept, is, within, silent, turned) = (refl, within)
 
-  pub turns_so : (g : ℕ) (o : Option AnswerCode) → Turned (Ok (g, o))
-      → AreTurns rules s g before (Some old) (asked_by old) after new (option_map answer_view o)
-  turns_so g o h = record {
+  turns_so : (g : ℕ × Option AnswerCode) → Turned (Ok g)
+      → AreTurns rules s g.0 before (Some old) (asked_by old) after new (option_map answer_view g.1)
+  turns_so g h = record {
     stood = stood;
-    searched = λ u is. let (v, given, each, stands) = h.given u is in (v, each, none_now o _ stands);
+    searched = λ u is. let (v, given, each, stands) = h.given u is in (v, each, none_now g.1 (StandsFor rules s after new v) stands);
     plainly = λ none. (h.plainly none).each;
-    counted = count_now o _ h.counted;
+    counted = count_now g.1 (new.turns ≡ old.turns + g.0) h.counted;
   }
 
   counted : (r : Result (ℕ × Option AnswerCode) E) → Turned r
@@ -100,7 +100,7 @@ module _ (E : Type 0) (exact : Bool) (rules : Rules) (s : Shown) (limit : ℕ) (
   counted (Ok g) h =
       let (u, is) = stood in
       let (v, given, each, stands) = h.given u is in
-      (g.0, of_answer g.0 g.1 u v given, turns_so g.0 g.1 h)
+      (g.0, of_answer g.0 g.1 u v given, turns_so g h)
   counted (Err e) h = tt
 
   pub broken : (r : Result (ℕ × Option AnswerCode) E) → Turned r → OnErr r (BreaksOffIn rules s (Some limit) before (Some old) (asked_by old) after)
