@@ -51,10 +51,10 @@ GrowsOver entries v old new = Grows (IsWorthFor (rules_of old) (state_of old) v)
 
 -- Just what the verdict leaves and adds is kept, and the work grows by its work. Of a question that a circle of circular attributes answers
 -- it is said that nothing goes, and only what is worth keeping comes.
-pub record KeepsOver {K : Type 0} (entries : K → Entries) (v : Verdict) (old new : Engine K) : Type 0 where
-  pub keeps : HasOutcome (rules_of old) (state_of old) v
-      → Keeps (rules_of old) (state_of old) v (kept_of entries old) (kept_of entries new) (work_of old) (work_of new)
-  pub grows : (q : Instance Node) → v ≡ Asks q → GrowsOver entries v old new
+abbrev pub KeepsOver : {K : Type 0} → (entries : K → Entries) → Verdict → (old new : Engine K) → Type 0
+KeepsOver entries v old new = (HasOutcome (rules_of old) (state_of old) v
+    → Keeps (rules_of old) (state_of old) v (kept_of entries old) (kept_of entries new) (work_of old) (work_of new))
+    × ((q : Instance Node) → v ≡ Asks q → GrowsOver entries v old new)
 
 -- What is kept is spare, and it is what the verdict leaves and adds. Where memory ran out it is some of that, and spare where no attribute
 -- is circular.

@@ -82,12 +82,12 @@ module _ {K : Type 0} (entries : K → Entries) (old new : Engine K) (same_numbe
       (subst (IsSpareWith old.rules (contents old.store) (entries old.demand.keeper)) (sym same_posts) h)))
 
   keeps_over : (v : Verdict) → IsQuiet v → KeepsOver entries v old new
-  keeps_over v quiet = record {
-    keeps = λ has. subst (λ w. Keeps (rules_of old) (state_of old) v (kept_of entries old) (kept_of entries new) (work_of old) w)
+  keeps_over v quiet = (
+    λ has. subst (λ w. Keeps (rules_of old) (state_of old) v (kept_of entries old) (kept_of entries new) (work_of old) w)
         (sym (ap (λ (d : Demand K). d.work) same_demand))
-        (quiet_keeps (rules_of old) (state_of old) v (kept_of entries old) (kept_of entries new) (work_of old) quiet kept_stays);
-    grows = λ q is. absurd (subst IsQuiet is quiet);
-  }
+        (quiet_keeps (rules_of old) (state_of old) v (kept_of entries old) (kept_of entries new) (work_of old) quiet kept_stays),
+    λ q is. absurd (subst IsQuiet is quiet),
+  )
 
   grows_over : (IsWorth : Instance Node → Type 0) → Grows IsWorth (kept_of entries old) (kept_of entries new) (work_of old) (work_of new)
   grows_over IsWorth =
@@ -260,7 +260,7 @@ worth_in rules s bytes v (refuses none is) j worth = absurd (subst (λ (y : Verd
 -- what a verdict leaves and adds, unless it is an edit
 grows_so : {K : Type 0} (entries : K → Entries) (old new : Engine K) (v : Verdict) → ((e : EditOf) (t : Tree) → v ≡ Edits e t → ⊥)
     → KeepsOver entries v old new → GrowsOver entries v old new
-grows_so entries old new v off k = by v off k.keeps k.grows
+grows_so entries old new v off k = by v off k.0 k.1
   where
     kept : (v : Verdict) → ((e : EditOf) (t : Tree) → v ≡ Edits e t → ⊥)
         → Keeps (rules_of old) (state_of old) v (kept_of entries old) (kept_of entries new) (work_of old) (work_of new)

@@ -36,13 +36,13 @@ returns g c q like =
           either_spares k e new (Asks q) c.told.result
           (λ whole. spare_grown (rules_of e) e.store before after told.worthy.stays (marks_of e) e.posts held
           (told.spare tt exact spare.kept) spare)
-          (record {
-            keeps = λ has. keeps_asked (rules_of e) e.store held.idle c.args.inst.now q like before after e.demand.work new.demand.work told.worthy
+          (
+            λ has. keeps_asked (rules_of e) e.store held.idle c.args.inst.now q like before after e.demand.work new.demand.work told.worthy
                 (worthy_outcome (rules_of e) (state_of e).tree q (contents e.store) c.args.inst.now after view b alike answers
                 (told.all exact spare.kept) has)
-                (told.counts exact) (state_of e) refl;
-            grows = λ p is. grows;
-          }) grows;
+                (told.counts exact) (state_of e) refl,
+            λ p is. grows,
+          ) grows;
       stays = record {
         rules = refl;
         slice = refl;
