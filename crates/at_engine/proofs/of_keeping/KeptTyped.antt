@@ -1,5 +1,5 @@
 -- Kept instances stay well typed: over an edit that is done, and where what is led to from a well-typed one comes to be kept; so what is kept is whole.
-use Rattle.std.proofs.Common.{◌≡◌, ◌∙◌, ℕ, true, false, Bool, List, [], ◌∷◌, Option, Some, None, Ok, option_and_then, option_map, refl, sym, ap, subst}
+use Rattle.std.proofs.Common.{◌≡◌, ◌∙◌, ℕ, true, false, List, [], ◌∷◌, Option, Some, None, Ok, option_and_then, option_map, refl, sym, ap, subst}
 use Rattle.std.specs.Prelude.{IsSome, slice_get}
 use Rattle.at_model.specs.Alike.{InstanceLike, LocationLike, ListLike, end, more, ValueLike, int, truth, text, ref, neither, both, Names}
 use Rattle.at_model.specs.Edits.{Edit, edited}
@@ -19,7 +19,7 @@ use Rattle.at_model.proofs.of_typing.TypedTogether.{any_text}
 use Rattle.at_store.specs.Preparing.{IsCommitted}
 use Rattle.at_store.specs.Shown.{IsIdle, Shown, contents, path, tree}
 use Rattle.at_body.specs.Typed.{class_shown}
-use Rattle.at_cache.specs.Kept.{Entries, Kept, LeavesUntouched, value_at}
+use Rattle.at_cache.specs.Kept.{Entries, LeavesUntouched, value_at}
 use Rattle.at_cache.specs.Traced.{Memories}
 use Rattle.at_demand.specs.Answerable.{IsBasis}
 use Rattle.at_demand.specs.Known.{IsKept, kept_values, meaning}

@@ -169,7 +169,7 @@ module _ (rules : Rules) (s : Shown) where
   -- turns of what is done for a question are turns of the question
   module _ (d : Entries) (q : Question) (f : Entries) where
     never_given : StandsFor rules s d q (search_posted (asked_by q)) → q.turns ≡ 0
-    never_given stands = omega (arith, stands.few)
+    never_given stands = let few : q.turns ≤ 0 = stands.few in omega (arith, few)
 
     pub turns_from : (o : Option Question) → CameFrom rules s d o q → (given : ℕ) (end : Question) (a : Option (Answer ℕ))
         → AreTurns rules s given d (Some q) (asked_by q) f end a → AreTurns rules s given d o (asked_by q) f end a

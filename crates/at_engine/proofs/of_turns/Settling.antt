@@ -1,11 +1,10 @@
 -- A question that is given all turns that it needs.
-use Rattle.std.proofs.Common.{◌≡◌, ◌⊎◌, ℕ, ◌+◌, ◌-◌, ◌*◌, ◌<◌, ◌≤◌, List, [], ◌∷◌, length, Option, Some, None, ap, arith, refl, subst, sym}
+use Rattle.std.proofs.Common.{◌≡◌, ℕ, ◌+◌, ◌-◌, ◌*◌, ◌<◌, ◌≤◌, List, [], ◌∷◌, length, Option, Some, None, ap, arith, refl, subst, sym}
 use Rattle.std.specs.Prelude.{Bool, IfNone, IfOk, IfSome, OnErr, Result, Ok, Err}
 use Rattle.std.specs.Option.{option_map}
 use Rattle.std.specs.List.{flat_map}
 use Rattle.at_model.specs.Alike.{ListLike, ValueLike, end, int, more, ref, text, truth}
 use Rattle.at_model.specs.Instances.{instances, text_of_value}
-use Rattle.at_model.specs.Meaning.{Answer}
 use Rattle.at_model.specs.Paths.{Node}
 use Rattle.at_model.specs.Rules.{Rules}
 use Rattle.at_model.specs.Run.{Instance, Value}
@@ -19,7 +18,7 @@ use Rattle.at_demand.specs.Answered.{HasTurnedOften}
 use Rattle.at_demand.specs.Known.{answer_view, meaning}
 use Rattle.at_demand.specs.Levels.{StandsFor, asked_by}
 use Rattle.at_demand.specs.Sound.{AreSound}
-use Rattle.at_demand.specs.Turns.{AreTurns as AreTurnsOfSearch, HasGivenBy, IsStanding, under_way}
+use Rattle.at_demand.specs.Turns.{HasGivenBy, IsStanding}
 use Rattle.at_demand.specs.declared.answer.Answer.{Answer as AnswerCode}
 use Rattle.at_demand.specs.declared.question.Question.{Question}
 use Rattle.at_demand.proofs.of_levels.Wholes.{few_fresh}

@@ -30,7 +30,7 @@ use Rattle.at_engine.specs.Holding.{AreKeptTyped, HasBegun, IsBegunFor, IsPosted
 use Rattle.at_engine.specs.Keeping.{IsSpare, IsSpareWith, IsSparingOn}
 use Rattle.at_engine.specs.Posted.{posted_view}
 use Rattle.at_engine.specs.Telling.{IsAnswerTo, IsToldAs}
-use Rattle.at_engine.specs.Turning.{AreTurns, Attends, Begins, BeginsSparing, BreaksOffIn, Came, CameFrom, CanAnswer, CanTurn, CountsTurns, HasGone, HasTurnedUpTo, IsBegun, Reopens, TakesOut, StandsAt}
+use Rattle.at_engine.specs.Turning.{Attends, Begins, BeginsSparing, BreaksOffIn, Came, CameFrom, CanAnswer, CanTurn, CountsTurns, HasGone, HasTurnedUpTo, IsBegun, Reopens, TakesOut, StandsAt}
 use Rattle.at_engine.specs.declared.engine.Engine.{Engine}
 use Rattle.at_engine.specs.declared.engine.turning.Begun.{Begun}
 use Rattle.at_engine.specs.declared.engine.turning.Begun.TheVariants as begun
