@@ -34,5 +34,5 @@ mod Questioned
 mod Marking
 mod Grouped
 mod of_groups
-mod of_searches
-mod of_levels
+pub mod of_searches
+pub mod of_levels

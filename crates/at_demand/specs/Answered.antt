@@ -89,10 +89,11 @@ pub record GainsAtMost (rules : Rules) (s : Shown) (exact : Bool) (before after 
   pub spare : Whole → IsTrue exact → AreSpare rules (contents s) before → IsSparingTurns rules (contents s) before q → AreSpare rules (contents s) after
   pub counts : IsTrue exact → Counts before after earlier later
 
--- It was given a turn so; where that doesn't answer it, it stands, and its trials are those of its chain.
+-- It was given a turn so; where that doesn't answer it, that is counted, it stands, and its trials are those of its chain.
 pub record HasTurnedWith {E : Type 0} (rules : Rules) (s : Shown) (exact : Bool) (before after : Entries) (earlier later : ℕ)
     (old new : Question) (t : Trials) (r : Result (Option AnswerCode) E) : Type 0 where
   pub turned : HasTurnedBy rules s before after old new r
+  pub counted : IfOk r (λ o. IfNone o (new.turns ≡ old.turns + 1))
   pub standing : IfOk r (λ o. IsOfUse rules o (IsStanding rules s after new))
   pub fit : IfOk r (FitAfter rules s after new t)
   pub all : IsTrue exact → AreSpare rules (contents s) before → IsSparingTurns rules (contents s) before old
@@ -112,11 +113,12 @@ pub record HasTurnedOn {E : Type 0} (rules : Rules) (s : Shown) (exact : Bool) (
   pub answered : IfOk r (λ o. IfSome o (λ a. HasTurnedWith rules s exact before after earlier later old new t r))
   pub gains : GainsAtMost rules s exact before after earlier later old (KeepsGroups rules r)
 
--- The question was given a turn, and what answers it is right; where none does, it stands. At most its last instance came to what is
--- kept, which stays right and, with an exact keeper, spare.
+-- The question was given a turn, and what answers it is right; where none does, that is counted, and it stands. At most its last instance
+-- came to what is kept, which stays right and, with an exact keeper, spare.
 pub record HasTurned {E : Type 0} (rules : Rules) (s : Shown) (exact : Bool) (before after : Entries) (earlier later : ℕ)
     (old new : Question) (r : Result (Option AnswerCode) E) : Type 0 where
   pub turned : HasTurnedBy rules s before after old new r
+  pub counted : IfOk r (λ o. IfNone o (new.turns ≡ old.turns + 1))
   pub answers : IfOk r (λ o. IfSome o (λ a. Answers (contents s) (meaning rules) (asked_by old) (answer_view a)))
   pub standing : IfOk r (λ o. IsOfUse rules o (IsStanding rules s after new))
   pub right : AreRightValues (contents s) (meaning rules) (kept_values after)
@@ -132,7 +134,7 @@ pub record HasTurned {E : Type 0} (rules : Rules) (s : Shown) (exact : Bool) (be
       → AreSpare rules (contents s) after
   pub counts : IsTrue exact → Counts before after earlier later
 
--- It was given as many turns as it may be, or fewer where one of them answered it; so it is then, too.
+-- It was given as many turns as it may be, which are counted, or fewer where one of them answered it; so it is then, too.
 pub record HasTurnedOften {E : Type 0} (rules : Rules) (s : Shown) (exact : Bool) (before after : Entries) (earlier later limit : ℕ)
     (old new : Question) (r : Result (ℕ × Option AnswerCode) E) : Type 0 where
   pub plainly : HasNoneCircular rules → HasGivenPlainly rules s before after limit old new r
@@ -140,6 +142,8 @@ pub record HasTurnedOften {E : Type 0} (rules : Rules) (s : Shown) (exact : Bool
       × HasGivenBy (contents s) (meaning rules) limit g.0 u v (option_map answer_view g.1)
       × AreTurns rules s g.0 before u after v (option_map answer_view g.1) × (g.1 ≡ None → StandsFor rules s after new v))
   pub broke : (u : Search ℕ) → StandsFor rules s before old u → OnErr r (BreaksOff rules s limit before u after)
+  pub counted : IfOk r (λ g. IfNone g.1 (new.turns ≡ old.turns + g.0))
+  pub same : IfOk r (λ g. IfNone g.1 (asked_by new ≡ asked_by old))
   pub all : IsTrue exact → AreSpare rules (contents s) before → IsSparingTurns rules (contents s) before old
       → IfOk r (λ g. IfSome g.1 (λ a. HasWorthyFor rules (contents s) (asked_by old) (answer_view a) after))
   pub answers : IfOk r (λ g. IfSome g.1 (λ a. Answers (contents s) (meaning rules) (asked_by old) (answer_view a)))

@@ -1,17 +1,23 @@
 -- What the loop leaves as it was, over calls one after the other.
-use Rattle.std.proofs.Common.{◌≡◌, ◌∙◌, ℕ, ◌+◌, ◌*◌, ◌≤◌, Bool, true, false, Option, Result, Ok, Err, OnOk, refl, arith, subst, true≢false}
-use Rattle.std.specs.Prelude.{Vec, is_err}
+use Rattle.std.proofs.Common.{◌≡◌, ◌∙◌, ◌⊎◌, ℕ, ◌+◌, ◌*◌, ◌≤◌, Bool, true, false, if◌then◌else◌, Option, Some, None, Result, Ok, Err, OnOk, inl, inr, refl, sym, arith, subst, true≢false}
+use Rattle.std.specs.Prelude.{IsTrue, Vec, is_err}
 use Rattle.std.specs.Global.{Global}
 use Rattle.at_cache.specs.Kept.{Entries}
 use Rattle.at_cache.specs.Traced.{Memories}
 use Rattle.at_engine.specs.Ends.{Remembers, SendsOn}
-use Rattle.at_engine.specs.Engines.{state_of, IsSound}
-use Rattle.at_engine.specs.Going.{Goes, unsaid}
+use Rattle.at_rules.specs.Circular.{HasNoneCircular}
+use Rattle.at_engine.specs.Engines.{rules_of, state_of, IsSound}
+use Rattle.at_engine.specs.Going.{Goes, KeepWhole, unsaid}
+use Rattle.at_model.specs.Rules.{Rules}
+use Rattle.at_engine.specs.Keeping.{IsSpare, KeepsWhole}
+use Rattle.at_engine.specs.Turned.{is_memory}
 use Rattle.at_engine.specs.Serving.{Calls}
 use Rattle.at_engine.specs.Stepping.{GoesBy, by_line, by_turns, nowhere}
+use Rattle.at_engine.specs.Running.{KeepsWhole as RunKeepsWhole}
 use Rattle.at_engine.specs.Taking.{countable}
 use Rattle.at_engine.specs.declared.engine.Engine.{Engine}
 use Rattle.at_engine.specs.declared.stream.desk.Desk.{Desk}
+use Rattle.at_engine.specs.declared.stream.desk.Report.{Report}
 use Rattle.at_engine.specs.declared.stream.desk.RunFault.{RunFault}
 use Rattle.at_engine.proofs.Remembering.{no_call, sends_later, then_calls}
 
@@ -31,6 +37,22 @@ unsaid_sent : {T E : Type 0} (r : Result T E) → SendsOn r false false
 unsaid_sent (Ok x) = λ none. none
 unsaid_sent (Err e) = tt
 
+-- where a run's report tells of none, nothing was answered `memory` before its end, and none behind
+module _ (rules : Rules) (start mid last : Desk) (count : ℕ) (counted : count ≡ last.memory) (zero : start.memory ≡ 0)
+    (first : start.memory ≤ mid.memory) (second : mid.memory ≤ last.memory) where
+  pub whole_before : HasNoneCircular rules ⊎ (count ≡ 0) → KeepWhole rules start mid
+  whole_before (inl none) = inl none
+  whole_before (inr no) = inr (omega (arith, counted, zero, first, second, no))
+
+  pub whole_behind : HasNoneCircular rules ⊎ (count ≡ 0) → (others : Rules) → others ≡ rules → KeepWhole others mid last
+  whole_behind (inl none) others same = inl (subst HasNoneCircular (sym same) none)
+  whole_behind (inr no) others same = inr (omega (arith, counted, zero, first, second, no))
+
+-- where no attribute is circular, what belongs together is kept together in any run
+pub plainly_whole : (rules : Rules) (r : Result Report RunFault) → HasNoneCircular rules → RunKeepsWhole rules r
+plainly_whole rules (Ok report) none = inl none
+plainly_whole rules (Err fault) none = none
+
 -- and then others
 pub by_both : {K : Type 0} (exact : Bool) (entries : K → Entries) (old mid new : Engine K)
     → GoesBy exact entries old mid → GoesBy exact entries mid new
@@ -41,6 +63,33 @@ by_both exact entries old mid _ first (by_line next new line before after wants 
 by_both exact entries old mid _ first (by_turns next new limit before after spent second spends) =
     by_turns next new limit before after spent (by_both exact entries old mid next first second) spends
 
+-- what belongs together is kept together in a call, where it is over the count of what was answered `memory`
+pub served_whole_so : (rules : Rules) (wants : Bool) (desk next : Desk) → next.memory ≡ desk.memory + (if wants then 1 else 0)
+    → KeepWhole rules desk next → KeepsWhole rules wants
+served_whole_so rules false desk next m whole = tt
+served_whole_so rules true desk next m (inl none) = none
+served_whole_so rules true desk next m (inr still) = absurd (omega (arith, m, still))
+
+pub given_whole : (rules : Rules) (told : Option Bool) (wants : Bool) → told ≡ Some wants → (desk next : Desk)
+    → next.memory ≡ desk.memory + (if wants then 1 else 0) → KeepWhole rules desk next → KeepsWhole rules (is_memory told)
+given_whole rules told wants is desk next m whole =
+    subst (λ (o : Option Bool). KeepsWhole rules (is_memory o)) (sym is) (served_whole_so rules wants desk next m whole)
+
+pub quiet_whole : (rules : Rules) (told : Option Bool) → told ≡ None → KeepsWhole rules (is_memory told)
+quiet_whole rules told is = subst (λ (o : Option Bool). KeepsWhole rules (is_memory o)) (sym is) tt
+
+-- where nothing was answered `memory` over both, nothing was over each
+module _ {K : Type 0} (old mid : Engine K) (desk next same last : Desk) where
+  pub first_whole : same.memory ≡ next.memory → desk.memory ≤ next.memory → same.memory ≤ last.memory → KeepWhole (rules_of old) desk last
+      → KeepWhole (rules_of old) desk next
+  first_whole e first second (inl none) = inl none
+  first_whole e first second (inr still) = inr (omega (arith, e, first, second, still))
+
+  pub later_whole : rules_of mid ≡ rules_of old → same.memory ≡ next.memory → desk.memory ≤ next.memory → same.memory ≤ last.memory
+      → KeepWhole (rules_of old) desk last → KeepWhole (rules_of mid) same last
+  later_whole rules e first second (inl none) = inl (subst HasNoneCircular (sym rules) none)
+  later_whole rules e first second (inr still) = inr (omega (arith, e, first, second, still))
+
 module _ {K W : Type 0} (exact : Bool) (entries : K → Entries) (memories : K → Memories)
     (failure : W → Option Bool) (waiting : W → Bool) where
   -- nothing was written, and the engine is as it was
@@ -50,7 +99,8 @@ module _ {K W : Type 0} (exact : Bool) (entries : K → Entries) (memories : K �
     failed = no_call (failure w);
     by = nowhere;
     sent = λ none. none;
-    spare = λ exact spare. spare;
+    spare = λ whole exact spare. spare;
+    wanted = omega (arith, same_memory);
     rules = refl;
     slice = refl;
     grows = omega (arith, same_lines, same_memory);
@@ -59,14 +109,16 @@ module _ {K W : Type 0} (exact : Bool) (entries : K → Entries) (memories : K �
 
   -- the engine was called, and what that told was written, or could not be
   pub goes_wrote : {T U D : Type 0} {IsDone : T → Type 0} {a : T} (old new : Engine K) (desk next : Desk) (w x : W) (lines : ℕ) (out later : Vec ℕ Global) (result : Result U RunFault)
-      → Calls {E = D} exact entries memories old new out later IsDone (Ok a) → Remembers (failure w) (failure x) (is_err result) → OnOk result (waiting x ≡ false)
+      → Calls {E = D} entries memories old new out later IsDone (Ok a)
+      → (KeepWhole (rules_of old) desk next → IsTrue exact → IsSpare entries old → IsSpare entries new) → desk.memory ≤ next.memory → Remembers (failure w) (failure x) (is_err result) → OnOk result (waiting x ≡ false)
       → GoesBy exact entries old new → countable next (state_of new) ≤ countable desk (state_of old) + 3 * lines
       → Goes exact entries memories failure waiting old new desk next w x lines result
-  goes_wrote old new desk next w x lines out later result call failed sent by grows = record {
+  goes_wrote old new desk next w x lines out later result call spare wanted failed sent by grows = record {
     failed = failed;
     by = by;
     sent = sent_all result (waiting w) (waiting x) sent;
-    spare = call.spare;
+    spare = spare;
+    wanted = wanted;
     rules = call.rules;
     slice = call.slice;
     grows = grows;
@@ -81,6 +133,7 @@ module _ {K W : Type 0} (exact : Bool) (entries : K → Entries) (memories : K �
     by = h.by;
     sent = sends_alike r result (waiting w) (waiting x) same h.sent;
     spare = h.spare;
+    wanted = h.wanted;
     rules = h.rules;
     slice = h.slice;
     grows = h.grows;
@@ -94,7 +147,10 @@ module _ {K W : Type 0} (exact : Bool) (entries : K → Entries) (memories : K �
     failed = then_calls (failure w) (failure x) (failure y) (is_err result) first.failed second.failed;
     by = by_both exact entries old mid new first.by second.by;
     sent = sends_later result (waiting w) (waiting x) (waiting y) first.sent second.sent;
-    spare = λ exact spare. second.spare exact (first.spare exact spare);
+    spare = λ whole exact spare.
+        second.spare (later_whole old mid desk next same last first.rules same_memory first.wanted second.wanted whole) exact
+        (first.spare (first_whole old mid desk next same last same_memory first.wanted second.wanted whole) exact spare);
+    wanted = omega (arith, first.wanted, second.wanted, same_memory);
     rules = second.rules ∙ first.rules;
     slice = second.slice ∙ first.slice;
     grows = omega (arith, first.grows, second.grows, same_lines, same_memory, few);
@@ -104,7 +160,7 @@ module _ {K W : Type 0} (exact : Bool) (entries : K → Entries) (memories : K �
   -- no more lines were counted than so many more
   pub goes_more : {T : Type 0} (old new : Engine K) (desk next : Desk) (w x : W) (m n : ℕ) (result : Result T RunFault) → m ≤ n → Goes exact entries memories failure waiting old new desk next w x m result
       → Goes exact entries memories failure waiting old new desk next w x n result
-  goes_more old new desk next w x m n result few h = record { failed = h.failed; by = h.by; sent = h.sent; spare = h.spare; rules = h.rules; slice = h.slice; grows = omega (arith, few, h.grows); sound = h.sound }
+  goes_more old new desk next w x m n result few h = record { failed = h.failed; by = h.by; sent = h.sent; spare = h.spare; wanted = h.wanted; rules = h.rules; slice = h.slice; grows = omega (arith, few, h.grows); sound = h.sound }
 
   -- no more is said of what waits
   pub goes_unsaid : {T : Type 0} (old new : Engine K) (desk next : Desk) (w x : W) (lines : ℕ)
@@ -116,6 +172,7 @@ module _ {K W : Type 0} (exact : Bool) (entries : K → Entries) (memories : K �
     by = h.by;
     sent = unsaid_sent result;
     spare = h.spare;
+    wanted = h.wanted;
     rules = h.rules;
     slice = h.slice;
     grows = h.grows;
@@ -133,6 +190,7 @@ module _ {K W : Type 0} (exact : Bool) (entries : K → Entries) (memories : K �
     by = h.by;
     sent = sent;
     spare = h.spare;
+    wanted = h.wanted;
     rules = h.rules;
     slice = h.slice;
     grows = h.grows;

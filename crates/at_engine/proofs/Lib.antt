@@ -31,3 +31,4 @@ pub mod Within
 pub mod Typing
 pub mod Positions
 pub mod PostedForLemmas
+pub mod Plain

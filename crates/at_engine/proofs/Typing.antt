@@ -53,4 +53,4 @@ numbered_typed rules s i j like well =
 -- after a line that was served
 pub typed_served : (rules later : Rules) (said : Bool × Reply) (old new : State) (line : List ℕ) → IsTyped rules old → later ≡ rules → Serves rules old line new said → IsTyped later new
 typed_served rules later said old new line typed same serves =
-    subst (λ r. IsTyped r new) (sym same) (record { formed = typed.formed; none_circular = typed.none_circular; tokens = tokens_served rules old line new said typed.tokens serves })
+    subst (λ r. IsTyped r new) (sym same) (record { formed = typed.formed; circular = typed.circular; tokens = tokens_served rules old line new said typed.tokens serves })

@@ -7,3 +7,4 @@ pub mod KeepingLemmas
 pub mod KeepingBytes
 pub mod Fulfilling
 pub mod Tracing
+pub mod KeptTyped

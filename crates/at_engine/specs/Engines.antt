@@ -7,6 +7,7 @@ use Rattle.at_model.specs.WellFormed.{AreWellFormed}
 use Rattle.at_rules.specs.Circular.{HasNoneCircular}
 use Rattle.at_cache.specs.Kept.{Entries, KeepsAll}
 use Rattle.at_cache.specs.Traced.{Memories, TracesNothing}
+use Rattle.at_demand.specs.Meant.{AreCircularWell}
 use Rattle.at_engine.specs.Holding.{state_in, IsSoundWith}
 use Rattle.at_engine.specs.Lasting.{IsKnown}
 use Rattle.at_engine.specs.declared.engine.Engine.{Engine}
@@ -40,12 +41,16 @@ abbrev pub IsHeld : {K : Type 0} → (contents : K → Entries) (memories : K �
 IsHeld contents memories e =
     IsSoundWith e.rules e.store (marks_of e) e.posts (contents e.demand.keeper) (memories e.demand.keeper)
 
--- The rules are well formed, and each token of the tree can be written, so that evaluations keep to the kinds. With none
--- circular the formulas answer what the equations do.
+-- The rules are well formed, their circular attributes are lazy and boolean, and each token of the tree can be written, so that
+-- evaluations keep to the kinds.
 pub record IsTyped (rules : Rules) (s : State) : Type 0 where
   pub formed : AreWellFormed rules
-  pub none_circular : HasNoneCircular rules
+  pub circular : AreCircularWell rules
   pub tokens : AreTokens s.tree
+
+-- no attribute is circular
+abbrev pub NoneAreCircular : {K : Type 0} → Engine K → Type 0
+NoneAreCircular e = HasNoneCircular (rules_of e)
 
 -- where it remembers that the last question was asked is there
 abbrev pub Knows : {K : Type 0} → Engine K → Type 0

@@ -1,7 +1,9 @@
 -- What each function of the loop over lines promises: what it has done, and what it leaves as it was.
-use Rattle.std.specs.Prelude.{◌≡◌, ℕ, ◌+◌, ◌*◌, ◌^◌, ◌<◌, ◌≤◌, Bool, false, List, [], ◌∷◌, Option, Result, filter, is_err, vec_len, IfSome, IsTrue, OnOk}
+use Rattle.std.specs.Prelude.{◌≡◌, ◌⊎◌, ℕ, ◌+◌, ◌*◌, ◌^◌, ◌<◌, ◌≤◌, Bool, false, List, [], ◌∷◌, Option, Result, filter, is_err, vec_len, IfSome, IsTrue, OnOk}
 use Rattle.at_model.specs.Lines.{is_filled}
 use Rattle.at_model.specs.Machine.{State}
+use Rattle.at_model.specs.Rules.{Rules}
+use Rattle.at_rules.specs.Circular.{HasNoneCircular}
 use Rattle.at_cache.specs.Kept.{Entries}
 use Rattle.at_cache.specs.Traced.{Memories}
 use Rattle.at_engine.specs.Ends.{Remembers, SendsOn}
@@ -34,17 +36,21 @@ pub record CanGive {K : Type 0} (entries : K → Entries) (memories : K → Memo
   pub ready : CanServe entries memories e desk 0
   pub some : IfSome limit (λ n. 0 < n)
 
+-- nothing was answered `memory`, or no attribute is circular
+abbrev pub KeepWhole : Rules → (desk next : Desk) → Type 0
+KeepWhole rules desk next = HasNoneCircular rules ⊎ (next.memory ≡ desk.memory)
+
 -- It is known of the writer whether a call failed, and where none did, all that was written is sent on. The engine has gone through
--- nothing but lines and turns, each of which tried one equation. It is sound, its
--- rules and how many turns follow each line are as they were, what was kept spare is so still, and no more than so many lines
--- were counted.
+-- nothing but lines and turns, each of which tried one equation. It is sound, its rules and how many turns follow each line are as they
+-- were, what was kept spare is so still, where what belongs together is kept together, and no more than so many lines were counted.
 pub record Goes {K W T : Type 0} (exact : Bool) (entries : K → Entries) (memories : K → Memories)
     (failure : W → Option Bool) (waiting : W → Bool) (old new : Engine K) (desk next : Desk)
     (writer later : W) (lines : ℕ) (result : Result T RunFault) : Type 0 where
   pub failed : Remembers (failure writer) (failure later) (is_err result)
   pub by : GoesBy exact entries old new
   pub sent : SendsOn result (waiting writer) (waiting later)
-  pub spare : IsTrue exact → IsSpare entries old → IsSpare entries new
+  pub spare : KeepWhole (rules_of old) desk next → IsTrue exact → IsSpare entries old → IsSpare entries new
+  pub wanted : desk.memory ≤ next.memory
   pub rules : rules_of new ≡ rules_of old
   pub slice : slice_of new ≡ slice_of old
   pub grows : countable next (state_of new) ≤ countable desk (state_of old) + 3 * lines
@@ -74,14 +80,14 @@ pub record ServesLine {K W : Type 0} (exact : Bool) (entries : K → Entries) (m
   pub line : next.line.items ≡ desk.line.items
   pub goes : Goes exact entries memories failure unsaid old new desk next writer later 1 result
 
--- the bytes were taken, no more than so many lines
+-- The bytes were taken, no more than so many lines. Where none was answered `memory`, just what they leave and add is kept.
 pub record TakesBytes {K W : Type 0} (exact : Bool) (entries : K → Entries) (memories : K → Memories)
     (contents : W → Option (List ℕ)) (failure : W → Option Bool)
     (bytes : List ℕ) (lines : ℕ) (old new : Engine K) (desk next : Desk) (writer later : W) (result : Result (Unit {0}) RunFault) : Type 0 where
   pub taken : (front : List ℕ) → IsOpen front → desk.line.items ≡ kept front
       → TakesOrStops result (rules_of old) (slice_of old) (state_of old) front bytes (state_of new) desk next (contents writer) (contents later)
-  pub keeps : IsTrue exact → IsSpare entries old → (front : List ℕ) → IsOpen front → desk.line.items ≡ kept front
-      → OnOk result (KeepsBytes entries front bytes old new desk next)
+  pub keeps : IsTrue exact → IsSpare entries old → next.memory ≡ desk.memory → (front : List ℕ) → IsOpen front → desk.line.items ≡ kept front
+      → OnOk result (KeepsBytes entries front bytes old new next)
   pub goes : Goes exact entries memories failure unsaid old new desk next writer later lines result
 
 -- the last line, which no newline ends, was served, and turns were given until no question is open

@@ -4,16 +4,18 @@ use Rattle.std.specs.List.{AllByRecursion}
 use Rattle.at_model.specs.Paths.{Node}
 use Rattle.at_model.specs.Rules.{Rules}
 use Rattle.at_model.specs.Run.{Contents, Instance}
-use Rattle.at_model.specs.Machine.{Verdict, after}
+use Rattle.at_model.specs.Machine.{Verdict, Asks, after}
+use Rattle.at_rules.specs.Circular.{HasNoneCircular}
 use Rattle.at_store.specs.Shown.{contents}
 use Rattle.at_cache.specs.Kept.{Entries}
 use Rattle.at_demand.specs.Sparing.{AreSpare}
 use Rattle.at_demand.specs.Called.{KeptBy, Keeps}
+use Rattle.at_demand.specs.Groups.{KeepsGroups}
 use Rattle.at_demand.specs.Turns.{IsSparingTurns}
 use Rattle.at_demand.specs.declared.question.Question.{Question}
 use Rattle.at_engine.specs.Engines.{rules_of, state_of}
 use Rattle.at_engine.specs.Following.{IsAtOnce}
-use Rattle.at_engine.specs.KeptOver.{AreWaiting, Grows, HasVerdict, IsWorthFor, IsWorthIn}
+use Rattle.at_engine.specs.KeptOver.{AreWaiting, Grows, HasOutcome, HasVerdict, IsWorthFor, IsWorthIn}
 use Rattle.at_engine.specs.declared.engine.Engine.{Engine}
 use Rattle.at_engine.specs.declared.posts.Posted.{Posted}
 
@@ -38,22 +40,31 @@ pub record IsSpareWith (rules : Rules) (look : Contents ℕ) (entries : Entries)
 abbrev pub IsSpare : {K : Type 0} → (entries : K → Entries) → Engine K → Type 0
 IsSpare entries e = IsSpareWith e.rules (contents e.store) (entries e.demand.keeper) e.posts.items.items
 
--- just what the verdict leaves and adds is kept, and the work grows by its work
-abbrev pub KeepsOver : {K : Type 0} → (entries : K → Entries) → Verdict → (old new : Engine K) → Type 0
-KeepsOver entries v old new = Keeps (rules_of old) (state_of old) v (kept_of entries old) (kept_of entries new) (work_of old) (work_of new)
+-- memory didn't run out, or no attribute is circular: what belongs together is kept together
+abbrev pub KeepsWhole : Rules → (out_of_memory : Bool) → Type 0
+KeepsWhole rules false = Unit {0}
+KeepsWhole rules true = HasNoneCircular rules
 
 -- nothing goes, and only what is worth keeping for the verdict comes
 abbrev pub GrowsOver : {K : Type 0} → (entries : K → Entries) → Verdict → (old new : Engine K) → Type 0
 GrowsOver entries v old new = Grows (IsWorthFor (rules_of old) (state_of old) v) (kept_of entries old) (kept_of entries new) (work_of old) (work_of new)
 
--- What is kept is spare, and it is what the verdict leaves and adds, or some of that where memory ran out.
+-- Just what the verdict leaves and adds is kept, and the work grows by its work. Of a question that a circle of circular attributes answers
+-- it is said that nothing goes, and only what is worth keeping comes.
+abbrev pub KeepsOver : {K : Type 0} → (entries : K → Entries) → Verdict → (old new : Engine K) → Type 0
+KeepsOver entries v old new = (HasOutcome (rules_of old) (state_of old) v
+    → Keeps (rules_of old) (state_of old) v (kept_of entries old) (kept_of entries new) (work_of old) (work_of new))
+    × ((q : Instance Node) → v ≡ Asks q → GrowsOver entries v old new)
+
+-- What is kept is spare, and it is what the verdict leaves and adds. Where memory ran out it is some of that, and spare where no attribute
+-- is circular.
 abbrev pub Spares : {K T E : Type 0} → (entries : K → Entries) → Verdict → Result T E → (old new : Engine K) → Type 0
 Spares entries v (Ok x) old new = IsSpare entries new × KeepsOver entries v old new
-Spares entries v (Err e) old new = IsSpare entries new × GrowsOver entries v old new
+Spares entries v (Err e) old new = (HasNoneCircular (rules_of old) → IsSpare entries new) × GrowsOver entries v old new
 
--- so it is where the verdict waits for no turns; else what is kept is spare
+-- so it is where the verdict waits for no turns; else what is kept is spare, where groups are kept whole
 abbrev pub SparesVerdict : {K T E : Type 0} → (entries : K → Entries) → Verdict → Result T E → (old new : Engine K) → Type 0
-SparesVerdict entries v r old new = IsSpare entries new × (IsAtOnce v → Spares entries v r old new)
+SparesVerdict entries v r old new = (KeepsGroups (rules_of old) r → IsSpare entries new) × (IsAtOnce v → Spares entries v r old new)
 
 -- the bytes come to a verdict, and just what that leaves and adds is kept
 pub record KeepsLine {K : Type 0} (entries : K → Entries) (bytes : List ℕ) (old new : Engine K) : Type 0 where
@@ -73,7 +84,7 @@ AreAtOnce e bytes = AreWaiting (rules_of e) (state_of e) bytes → ⊥
 -- so `SparesVerdict` is of the bytes of a line
 abbrev pub SparesLine : {K T E : Type 0} → (entries : K → Entries) → List ℕ → Result T E → (old new : Engine K) → Type 0
 SparesLine entries bytes (Ok x) old new = IsSpare entries new × (AreAtOnce old bytes → KeepsLine entries bytes old new)
-SparesLine entries bytes (Err e) old new = IsSpare entries new × (AreAtOnce old bytes → GrowsLine entries bytes old new)
+SparesLine entries bytes (Err e) old new = (HasNoneCircular (rules_of old) → IsSpare entries new) × (AreAtOnce old bytes → GrowsLine entries bytes old new)
 
 -- the same, where the line may be named as one for which memory ran out
 abbrev pub KeepsServed : {K : Type 0} → (entries : K → Entries) → (out_of_memory : Bool) → List ℕ → (old new : Engine K) → Type 0

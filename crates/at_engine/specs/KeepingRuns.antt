@@ -17,15 +17,14 @@ KeepsAll entries served old new =
     KeepsLines (rules_of old) (state_of old) served (state_of new) (kept_of entries old) (kept_of entries new) (work_of old) (work_of new)
 
 -- From the old engine, with the front of a line before them, the bytes lead to the new one and to the front of the next line,
--- and just what their lines leave and add is kept, where no question is open, none of them posts one, and none was answered
--- `memory`.
-pub record KeepsBytes {K : Type 0} (entries : K → Entries) (front bytes : List ℕ) (old new : Engine K) (desk next : Desk) : Type 0 where
+-- and just what their lines leave and add is kept, where no question is open, and none of them posts one.
+pub record KeepsBytes {K : Type 0} (entries : K → Entries) (front bytes : List ℕ) (old new : Engine K) (next : Desk) : Type 0 where
   pub fulls : List (List ℕ)
   pub rest : List ℕ
   pub splits : Splits (front ++ bytes) fulls rest
   pub open' : IsOpen rest
   pub line : next.line.items ≡ kept rest
-  pub keeps : (state_of old).posted ≡ [] → NonePosts (filter is_filled fulls) → next.memory ≡ desk.memory → KeepsAll entries (filter is_filled fulls) old new
+  pub keeps : (state_of old).posted ≡ [] → NonePosts (filter is_filled fulls) → KeepsAll entries (filter is_filled fulls) old new
   pub none_open : (state_of old).posted ≡ [] → NonePosts (filter is_filled fulls) → (state_of new).posted ≡ []
 
 -- so it is of the lines of the bytes that the reader gave, where no question is open and none of them posts one

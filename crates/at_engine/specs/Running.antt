@@ -1,10 +1,11 @@
 -- What a run has done at its end.
-use Rattle.std.specs.Prelude.{◌≡◌, ℕ, ◌-◌, ◌≤◌, ⊤, Bool, true, false, List, [], ◌∷◌, ◌++◌, length, filter, Option, Result, Ok, Err, IfOk, IsTrue}
+use Rattle.std.specs.Prelude.{◌≡◌, ◌⊎◌, ℕ, ◌-◌, ◌≤◌, ⊤, Bool, true, false, List, [], ◌∷◌, ◌++◌, length, filter, Option, Result, Ok, Err, IfOk, IsTrue}
 use Rattle.std.specs.Io.KnownBytes.{Appends, Consumes, IsAtEnd}
 use Rattle.at_model.specs.Lines.{lines, pieces, is_filled}
 use Rattle.at_model.specs.Rules.{Rules}
 use Rattle.at_model.specs.Replies.{Reply, reply_text}
 use Rattle.at_model.specs.Machine.{State, Given, Runs, Outputs, text_of}
+use Rattle.at_rules.specs.Circular.{HasNoneCircular}
 use Rattle.at_cache.specs.Kept.{Entries}
 use Rattle.at_cache.specs.Traced.{Memories}
 use Rattle.at_engine.specs.Engines.{rules_of, slice_of, state_of, IsSound}
@@ -143,6 +144,11 @@ TellsEnd (Err Memory) before after = Remembers before after false
 abbrev pub SendsAll : Result Report RunFault → (waited waits : Bool) → Type 0
 SendsAll result waited waits = write_fails result ≡ false → waited ≡ false → waits ≡ false
 
+-- a report tells that nothing was answered `memory`; or no attribute is circular
+abbrev pub KeepsWhole : Rules → Result Report RunFault → Type 0
+KeepsWhole rules (Ok report) = HasNoneCircular rules ⊎ (report.memory ≡ 0)
+KeepsWhole rules (Err fault) = HasNoneCircular rules
+
 -- What a run of at most so many reads promises, by what is known of the reader and of the writer: what it has done, which of its
 -- calls failed, what the engine has gone through, and what is kept.
 pub record RunsFor {K R W : Type 0} (exact : Bool) (entries : K → Entries) (memories : K → Memories)
@@ -158,7 +164,7 @@ pub record RunsFor {K R W : Type 0} (exact : Bool) (entries : K → Entries) (me
   pub by : GoesBy exact entries old new
   pub keeps : IsTrue exact → IsSpare entries old → IfOk result (λ report. report.memory ≡ 0 → KeepsRun entries old new (remaining reader) (remaining left))
   pub work : IfOk result (λ report. report.work ≡ work_of new)
-  pub spare : IsTrue exact → IsSpare entries old → IsSpare entries new
+  pub spare : KeepsWhole (rules_of old) result → IsTrue exact → IsSpare entries old → IsSpare entries new
   pub rules : rules_of new ≡ rules_of old
   pub slice : slice_of new ≡ slice_of old
   pub sound : IsSound entries memories new

@@ -6,12 +6,12 @@ use Rattle.at_cache.specs.Kept.{Entries}
 use Rattle.at_cache.specs.Traced.{Memories}
 use Rattle.at_engine.specs.Engines.{rules_of, slice_of, IsSound}
 use Rattle.at_engine.specs.Hearing.{IsStep}
-use Rattle.at_engine.specs.Keeping.{IsSpare, KeepsServed}
+use Rattle.at_engine.specs.Keeping.{IsSpare, KeepsServed, KeepsWhole}
 use Rattle.at_engine.specs.declared.engine.Engine.{Engine}
 
--- A call that appends to `out` has done that; or room for 64 bytes was refused, and nothing has changed. The engine is sound, its
--- rules and how many turns follow each line are as they were, and what was kept spare is so still.
-pub record Calls {K T E : Type 0} (exact : Bool) (entries : K → Entries) (memories : K → Memories)
+-- A call that appends to `out` has done that; or room for 64 bytes was refused, and nothing has changed. The engine is sound, and its
+-- rules and how many turns follow each line are as they were.
+pub record Calls {K T E : Type 0} (entries : K → Entries) (memories : K → Memories)
     (old new : Engine K) (out next : Vec ℕ Global)
     (Done : T → Type 0) (result : Result T E) : Type 0 where
   pub done : IfOk result Done
@@ -19,16 +19,16 @@ pub record Calls {K T E : Type 0} (exact : Bool) (entries : K → Entries) (memo
   pub full : OnErr result (vec_capacity out < vec_len out + 64)
   pub err : OnErr result (next.items ≡ out.items)
   pub room : vec_capacity out ≤ vec_capacity next
-  pub spare : IsTrue exact → IsSpare entries old → IsSpare entries new
   pub rules : rules_of new ≡ rules_of old
   pub slice : slice_of new ≡ slice_of old
   pub sound : IsSound entries memories new
 
--- A line that isn't empty was served, and its reply, which may be `memory`, is appended. Where what is kept was spare, just what the
--- line leaves and adds is kept.
+-- A line that isn't empty was served, and its reply, which may be `memory`, is appended. Where what is kept was spare, it is so still,
+-- where what belongs together is kept together; and just what the line leaves and adds is kept.
 pub record IsServed {K : Type 0} (exact : Bool) (entries : K → Entries) (line : List ℕ) (old new : Engine K) (before after : List ℕ)
     (wants : Bool) : Type 0 where
   pub served : (reply : Reply) × IsStep exact entries line old new (wants, reply) × (after ≡ before ++ reply_text reply)
+  pub spare : KeepsWhole (rules_of old) wants → IsTrue exact → IsSpare entries old → IsSpare entries new
   pub keeps : IsTrue exact → IsSpare entries old → KeepsServed entries wants line old new
 
 -- so it was; but an empty line changes and appends nothing

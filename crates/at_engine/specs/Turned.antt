@@ -1,11 +1,12 @@
 -- Turns that the engine gives: what each of them tries, what they tell, and what comes to what is kept.
-use Rattle.std.specs.Prelude.{◌≡◌, ℕ, ◌<◌, Bool, true, false, List, [], ◌∷◌, ◌++◌, Option, Some, None}
+use Rattle.std.specs.Prelude.{◌≡◌, ℕ, ◌<◌, Bool, true, false, List, [], ◌∷◌, ◌++◌, Option, Some, None, IsTrue}
 use Rattle.std.specs.Option.{option_map}
 use Rattle.at_model.specs.Machine.{Given, text_of}
 use Rattle.at_model.specs.Replies.{Reply}
 use Rattle.at_cache.specs.Kept.{Entries}
 use Rattle.at_demand.specs.declared.question.Question.{Question}
 use Rattle.at_engine.specs.Engines.{rules_of, state_of}
+use Rattle.at_engine.specs.Keeping.{IsSpare, KeepsWhole}
 use Rattle.at_engine.specs.Turning.{AnswersIn, CountsTurns, StaysOpen}
 use Rattle.at_engine.specs.declared.engine.Engine.{Engine}
 use Rattle.at_engine.specs.declared.engine.turning.Spent.{Spent}
@@ -23,8 +24,13 @@ HasTried exact entries limit old new p others given None =
     (now : Option Question) × StaysOpen entries old new.demand p given now × (new.posts.items.items ≡ record p { question = now } ∷ others)
 HasTried exact entries limit old new p others given (Some told) = AnswersIn exact entries limit old new.demand p given told
 
+-- an answer was told for want of memory
+abbrev pub is_memory : Option Bool → Bool
+is_memory None = false
+is_memory (Some wants) = wants
+
 -- Turns were given to the open question with the least number: as many as may be, or up to the one that had an answer, which is
--- appended. Each tried one equation.
+-- appended. Each tried one equation. What was kept spare is so still, where what belongs together is kept together.
 pub record Spends {K : Type 0} (exact : Bool) (entries : K → Entries) (limit : Option ℕ) (old new : Engine K) (before after : List ℕ) (spent : Spent)
     : Type 0 where
   pub first : Posted
@@ -38,6 +44,7 @@ pub record Spends {K : Type 0} (exact : Bool) (entries : K → Entries) (limit :
   pub appended : after ≡ before ++ text_of (listed told)
   pub named : option_map (λ (x : Bool × Reply). x.0) told ≡ spent.told
   pub tried : HasTried exact entries limit old new first others given told
+  pub spare : KeepsWhole (rules_of old) (is_memory spent.told) → IsTrue exact → IsSpare entries old → IsSpare entries new
 
 -- so it was; or no question is open, and nothing changes
 pub data HasGiven {K : Type 0} (exact : Bool) (entries : K → Entries) (limit : Option ℕ) (old new : Engine K) (before after : List ℕ) (spent : Spent)

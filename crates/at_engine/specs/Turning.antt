@@ -1,6 +1,6 @@
 -- What turns come to, by the position of their question.
 use Rattle.std.specs.declared.alloc.AllocError.{AllocError}
-use Rattle.std.specs.Prelude.{◌≡◌, ◌⊎◌, ℕ, ◌<◌, ◌≤◌, Bool, true, false, List, Option, Some, None, Result, Ok, Err, IfOk, IfSome, IsTrue, OnErr, length, remove, slice_get, slice_set}
+use Rattle.std.specs.Prelude.{◌≡◌, ◌⊎◌, ℕ, ◌+◌, ◌<◌, ◌≤◌, Bool, true, false, List, Option, Some, None, Result, Ok, Err, IfNone, IfOk, IfSome, IsTrue, OnErr, length, remove, slice_get, slice_set}
 use Rattle.std.specs.Option.{option_map}
 use Rattle.at_model.specs.Alike.{AnswerLike, InstanceLike, Names}
 use Rattle.at_model.specs.Asking.{IsWellFormed}
@@ -11,7 +11,9 @@ use Rattle.at_model.specs.Paths.{Node}
 use Rattle.at_model.specs.Replies.{Code, Form as FormOf, Reply}
 use Rattle.at_model.specs.Rules.{Rules}
 use Rattle.at_model.specs.Run.{Contents, Instance}
-use Rattle.at_model.specs.Turning.{UnderWay, asked}
+use Rattle.at_model.specs.Turning.{posted}
+use Rattle.at_model.specs.of_fixpoints.Circles.{Answers}
+use Rattle.at_model.specs.of_fixpoints.Searching.{Search, posted as search_posted}
 use Rattle.at_protocol.specs.ReplyView.{code_view}
 use Rattle.at_protocol.specs.declared.reply.Form.{Form}
 use Rattle.at_rules.specs.Circular.{HasNoneCircular}
@@ -19,18 +21,21 @@ use Rattle.at_store.specs.Shown.{Shown, contents, path, tree}
 use Rattle.at_cache.specs.Kept.{Entries}
 use Rattle.at_cache.specs.Traced.{Memories, StayTraced}
 use Rattle.at_demand.specs.Answerable.{CanTurn as CanBeTurned}
+use Rattle.at_demand.specs.Answered.{HasWorthyFor, IsOfUse}
+use Rattle.at_demand.specs.Groups.{KeepsGroups}
 use Rattle.at_demand.specs.Known.{answer_view, kept_values, meaning, ArePlain}
+use Rattle.at_demand.specs.Levels.{StandsFor, asked_by}
 use Rattle.at_demand.specs.Meant.{AreRightValues}
 use Rattle.at_demand.specs.Right.{AreRight, IsThere}
-use Rattle.at_demand.specs.Sparing.{AddsWorthy, AreSpare, HasWorthy}
-use Rattle.at_demand.specs.Turns.{AreTurnsOfChain as AreTurns, BreaksOffChain as BreaksOff, IsSparingTurns, IsStanding, under_way}
+use Rattle.at_demand.specs.Sparing.{AddsWorthy, AreSpare}
+use Rattle.at_demand.specs.Turns.{AreTurns as AreTurnsOfSearch, AreTurnsOfChain, BreaksOff as BreaksOffSearch, BreaksOffChain, IsSparingTurns, IsStanding, under_way}
 use Rattle.at_demand.specs.declared.answer.Answer.{Answer as AnswerCode}
 use Rattle.at_demand.specs.declared.demand.Demand.{Demand}
 use Rattle.at_demand.specs.declared.question.Question.{Question}
 use Rattle.at_engine.specs.Engines.{rules_of, state_of, IsHeld, IsSound, IsTyped}
 use Rattle.at_engine.specs.Holding.{IsBegunFor, words_verdict}
 use Rattle.at_engine.specs.Keeping.{IsSpare}
-use Rattle.at_engine.specs.Posted.{came_to, posted_view}
+use Rattle.at_engine.specs.Posted.{came_to, posted_view, turns_given}
 use Rattle.at_engine.specs.Telling.{IsAnswerTo}
 use Rattle.at_engine.specs.declared.engine.Engine.{Engine}
 use Rattle.at_engine.specs.declared.engine.saying.Told.{Told}
@@ -61,10 +66,20 @@ pub record PutsBack (position : ℕ) (old new : Posts) (q : Question) : Type 0 w
   pub there : (p : Posted) → StandsAt old.items.items position p → Reopens position old new p (Some q)
   pub none : slice_get old.items.items position ≡ None → new.items.items ≡ old.items.items
 
+-- the question for the instance stands for that search, which is posted where nothing was done for it
+abbrev pub StandsAs : Rules → Shown → Entries → Option Question → Instance ℕ → Search ℕ → Type 0
+StandsAs rules s entries None i u = u ≡ search_posted i
+StandsAs rules s entries (Some q) i u = StandsFor rules s entries q u
+
+-- it is the one for which that was done; or nothing was, and it stands for what is posted
+abbrev pub CameFrom : Rules → Shown → Entries → Option Question → Question → Type 0
+CameFrom rules s entries None q = (under_way q ≡ posted (asked_by q)) × StandsFor rules s entries q (search_posted (asked_by q))
+CameFrom rules s entries (Some p) q = q ≡ p
+
 -- what is done for the question: that which was, or what there is of a question for the instance
 pub record IsBegun (rules : Rules) (s : Shown) (entries : Entries) (p : Posted) (o : Option Question) (q : Question) : Type 0 where
   pub begun : IsBegunFor rules s entries p q
-  pub came : under_way q ≡ came_to o (asked (under_way q))
+  pub came : CameFrom rules s entries o q
 
 -- a turn begins so
 abbrev pub Begins : Rules → Shown → Entries → Posted → Option Question → Begun → Type 0
@@ -108,26 +123,45 @@ CountsTurns None given counted (Some a) = Unit {0}
 CountsTurns (Some limit) given counted None = (counted ≡ given) × (given ≡ limit)
 CountsTurns (Some limit) given counted (Some a) = (counted ≡ given) × (given ≤ limit)
 
+-- So many single turns were given to the question for the instance, and led there, and to these values that are kept. It stood for a
+-- search, and they are turns of each one for which it stood; and where no attribute is circular, turns of its chain. Where none of
+-- them answers it, it stands for where these have come, and so many turns more are counted.
+pub record AreTurns (rules : Rules) (s : Shown) (given : ℕ) (before : Entries) (o : Option Question) (i : Instance ℕ) (after : Entries)
+    (end : Question) (a : Option (Answer ℕ)) : Type 0 where
+  pub stood : (u : Search ℕ) × StandsAs rules s before o i u
+  pub searched : (u : Search ℕ) → StandsAs rules s before o i u → (v : Search ℕ) × AreTurnsOfSearch rules s given before u after v a
+      × IfNone a (StandsFor rules s after end v)
+  pub plainly : HasNoneCircular rules → AreTurnsOfChain rules s given before (came_to o i) after (under_way end) a
+  pub counted : IfNone a (end.turns ≡ turns_given o + given)
+
+-- memory ran out in one of so many turns at most, and those before it were given so
+pub record BreaksOff (rules : Rules) (s : Shown) (limit : ℕ) (before : Entries) (o : Option Question) (i : Instance ℕ) (after : Entries)
+    : Type 0 where
+  pub stood : (u : Search ℕ) × StandsAs rules s before o i u
+  pub searched : (u : Search ℕ) → StandsAs rules s before o i u → BreaksOffSearch rules s limit before u after
+  pub plainly : HasNoneCircular rules → BreaksOffChain rules s limit before (came_to o i) after
+
 -- memory ran out in one of the turns that may be given
-abbrev pub BreaksOffIn : Rules → Shown → (limit : Option ℕ) → Entries → UnderWay ℕ → Entries → Type 0
-BreaksOffIn rules s limit before u after = (n : ℕ) × IsWithin limit n × BreaksOff rules s n before u after
+abbrev pub BreaksOffIn : Rules → Shown → (limit : Option ℕ) → Entries → Option Question → Instance ℕ → Entries → Type 0
+BreaksOffIn rules s limit before o i after = (n : ℕ) × IsWithin limit n × BreaksOff rules s n before o i after
 
 -- From where the question for the instance had come the turns led there, and to these values that are kept.
-abbrev pub TurnsLead : {K : Type 0} → (entries : K → Entries) → Engine K → Demand K → Posted → (given : ℕ) → Instance ℕ → UnderWay ℕ
+abbrev pub TurnsLead : {K : Type 0} → (entries : K → Entries) → Engine K → Demand K → Posted → (given : ℕ) → Instance ℕ → Question
     → Option (Answer ℕ) → Type 0
-TurnsLead entries e d p given i u o =
-    AreTurns (rules_of e) e.store given (entries e.demand.keeper) (came_to p.question i) (entries d.keeper) u o
+TurnsLead entries e d p given i end o =
+    AreTurns (rules_of e) e.store given (entries e.demand.keeper) p.question i (entries d.keeper) end o
 
--- They led to the answer that is told so. With an exact keeper, all that is worth keeping for the instance is kept.
+-- They led to the answer that is told so. With an exact keeper, all that is worth keeping for the instance is kept; for a circle, where
+-- no attribute is circular.
 pub record ComesToEnd {K : Type 0} (exact : Bool) (entries : K → Entries) (e : Engine K) (d : Demand K) (p : Posted) (given : ℕ) (told : FormOf)
     (i : Instance ℕ) : Type 0 where
-  pub end : UnderWay ℕ
+  pub end : Question
   pub answer : Answer ℕ
   pub named : Answer Node
   pub turns : TurnsLead entries e d p given i end (Some answer)
   pub like : AnswerLike (Names (path e.store)) answer named
   pub form : told ≡ answer_form (rules_of e) (tree e.store) named
-  pub all : IsTrue exact → IsSpare entries e → HasWorthy (rules_of e) (contents e.store) i (entries d.keeper)
+  pub all : IsTrue exact → IsSpare entries e → HasWorthyFor (rules_of e) (contents e.store) i answer (entries d.keeper)
 
 -- By so many turns the question is answered so: its words are refused, and nothing was tried; or each tried one equation.
 abbrev pub EndsSo : {K : Type 0} → (exact : Bool) → (entries : K → Entries) → Engine K → Demand K → Posted → (given : ℕ) → FormOf → Type 0
@@ -136,11 +170,11 @@ EndsSo exact entries e d p given told = (AreRefused e p × (d ≡ e.demand) × (
 -- Memory ran out: before its words were looked at, and nothing was tried; or in a turn, or behind the last one.
 abbrev pub RunsOut : {K : Type 0} → (entries : K → Entries) → (limit : Option ℕ) → Engine K → Demand K → Posted → Type 0
 RunsOut entries limit e d p = (d ≡ e.demand)
-    ⊎ AreAsked e p (λ i. BreaksOffIn (rules_of e) e.store limit (entries e.demand.keeper) (came_to p.question i) (entries d.keeper))
+    ⊎ AreAsked e p (λ i. BreaksOffIn (rules_of e) e.store limit (entries e.demand.keeper) p.question i (entries d.keeper))
 
 -- the question has no answer by so many turns, each of which tried one equation
 abbrev pub StaysOpen : {K : Type 0} → (entries : K → Entries) → Engine K → Demand K → Posted → (given : ℕ) → Option Question → Type 0
-StaysOpen entries e d p given now = AreAsked e p (λ i. (q : Question) × (now ≡ Some q) × TurnsLead entries e d p given i (under_way q) None)
+StaysOpen entries e d p given now = AreAsked e p (λ i. (q : Question) × (now ≡ Some q) × TurnsLead entries e d p given i q None)
 
 -- what turns of the question have done, and how many are counted
 abbrev pub Came : {K E : Type 0} → (exact : Bool) → (entries : K → Entries) → (limit : Option ℕ) → Engine K → Demand K → Posted → Option Question
@@ -207,12 +241,12 @@ pub record CanSpend {K : Type 0} (entries : K → Entries) (memories : K → Mem
   pub some : IfSome limit (λ n. 0 < n)
 
 -- That was done with the question at the position: nothing but questions and what is kept has changed, the engine is held, and
--- what was kept spare is so still.
+-- what was kept spare is so still, where groups are kept whole.
 pub record Attends {K : Type 0} (exact : Bool) (entries : K → Entries) (memories : K → Memories)
-    (old new : Engine K) (position : ℕ) (Done : Posted → Type 0) : Type 0 where
+    (old new : Engine K) (position : ℕ) (Done : Posted → Type 0) (Whole : Type 0) : Type 0 where
   pub done : (p : Posted) → StandsAt old.posts.items.items position p → Done p
   pub rest : new ≡ record old { demand = new.demand; posts = new.posts }
-  pub spare : IsTrue exact → IsSpare entries old → IsSpare entries new
+  pub spare : Whole → IsTrue exact → IsSpare entries old → IsSpare entries new
   pub sound : IsHeld entries memories new
 
 -- The question at the position was taken off, and that was told of it.
@@ -224,27 +258,30 @@ pub record TakesOff {K : Type 0} (exact : Bool) (entries : K → Entries) (memor
   pub spare : IsTrue exact → IsSpare entries old → IsSpare entries new
   pub sound : IsHeld entries memories new
 
--- what is done for the question stands on the tree, and its answer can be found, by equations alone
+-- what is done for the question stands on the tree, and its answer can be found
 pub record CanAnswer (rules : Rules) (s : Shown) (entries : Entries) (q : Question) : Type 0 where
   pub turns : CanBeTurned rules s entries q
-  pub plainly : HasNoneCircular rules
-  pub named : IsAskedOf rules s (asked (under_way q))
+  pub named : IsAskedOf rules s (asked_by q)
 
 -- It was given turns: so many, or fewer where one of them answers it, or, without a limit, until one does. What is kept is right still,
--- with an exact keeper spare, and where it was answered all that is worth keeping for it is kept; and nothing is traced anew.
+-- with an exact keeper spare where groups are kept whole, and where it was answered all that is worth keeping for it is kept; and nothing
+-- is traced anew.
 pub record HasTurnedUpTo {E : Type 0} (exact : Bool) (rules : Rules) (s : Shown) (limit : Option ℕ) (before after : Entries)
     (earlier later : Memories) (old new : Question) (r : Result (ℕ × Option AnswerCode) E) : Type 0 where
   pub each : IfOk r (λ g. (given : ℕ) × CountsTurns limit given g.0 (option_map answer_view g.1)
-      × AreTurns rules s given before (under_way old) after (under_way new) (option_map answer_view g.1))
-  pub broke : OnErr r (BreaksOffIn rules s limit before (under_way old) after)
+      × AreTurns rules s given before (Some old) (asked_by old) after new (option_map answer_view g.1))
+  pub broke : OnErr r (BreaksOffIn rules s limit before (Some old) (asked_by old) after)
+  pub same : IfOk r (λ g. IfNone g.1 (asked_by new ≡ asked_by old))
+  pub answers : IfOk r (λ g. IfSome g.1 (λ a. Answers (contents s) (meaning rules) (asked_by old) (answer_view a)))
   pub all : IsTrue exact → AreSpare rules (contents s) before → IsSparingTurns rules (contents s) before old
-      → IfOk r (λ g. IfSome g.1 (λ a. HasWorthy rules (contents s) (asked (under_way old)) after))
-  pub standing : IfOk r (λ g. IsStanding rules s after new)
+      → IfOk r (λ g. IfSome g.1 (λ a. HasWorthyFor rules (contents s) (asked_by old) (answer_view a) after))
+  pub standing : IfOk r (λ g. IsOfUse rules g.1 (IsStanding rules s after new))
   pub right : AreRightValues (contents s) (meaning rules) (kept_values after)
-  pub worthy : AddsWorthy rules (contents s) (asked (under_way old)) before after
-  pub stays : IsThere s (asked (under_way old)) → AreRight rules s before → AreRight rules s after
+  pub worthy : AddsWorthy rules (contents s) (asked_by old) before after
+  pub stays : IsThere s (asked_by old) → AreRight rules s before → AreRight rules s after
   pub plain : ArePlain rules after
-  pub spare : IsTrue exact → AreSpare rules (contents s) before → IsSparingTurns rules (contents s) before old → AreSpare rules (contents s) after
+  pub spare : KeepsGroups rules r → IsTrue exact → AreSpare rules (contents s) before → IsSparingTurns rules (contents s) before old
+      → AreSpare rules (contents s) after
   pub sparing : IsTrue exact → AreSpare rules (contents s) before → IsSparingTurns rules (contents s) before old
-      → IfOk r (λ g. IsSparingTurns rules (contents s) after new)
+      → IfOk r (λ g. IsOfUse rules g.1 (IsSparingTurns rules (contents s) after new))
   pub traces : StayTraced earlier later

@@ -15,12 +15,17 @@
 //! `stream.rt` serves all, between an `Input` and an `Output`.
 //!
 //! **What it keeps true:** `IsSound`: no edit waits, the tree conforms, the nodes of marks are there, what is kept
-//! is right, and so is what can be kept again, open questions stand on the tree, rules are well formed, tokens can be
-//! written, and the place of the last question, where it is remembered, is there. `new` gives it over a keeper that keeps
-//! nothing yet (`KeepsNothing`), and each line and turn keeps it.
+//! is right and well typed, and so is what can be kept again, open questions stand on the tree, rules are well formed,
+//! circular attributes are lazy and boolean, tokens can be written, and the place of the last question, where it is
+//! remembered, is there. `new` gives it over a keeper that keeps nothing yet (`KeepsNothing`), and each line and turn keeps it.
+//!
+//! **Where attributes are circular** turns are those of a search (`AreTurns` in `Turning`), nothing is said of how much is kept
+//! behind a circle (`HasOutcome`), and what is kept is spare as long as nothing was answered `memory` (`KeepsWhole`);
+//! `laws.rt` has what that is where none is circular.
 #![tactic(auto)]
 
 mod engine;
+mod laws;
 mod marks;
 mod nodes;
 mod posts;

@@ -1,6 +1,6 @@
 //! The connections of a socket, served one after the other.
 ghost use Rattle.std.specs.Prelude.{◌≡◌, ◌≤◌, ◌+◌, ◌<◌, ◌^◌, ◌==◌, IsTrue};
-ghost use Rattle.at_engine.specs.Engines.{rules_of, slice_of, state_of, IsSound};
+ghost use Rattle.at_engine.specs.Engines.{rules_of, slice_of, state_of, IsSound, NoneAreCircular};
 ghost use Rattle.at_engine.specs.Keeping.{IsSpare};
 ghost use Rattle.attrd.specs.Connections.{counted, faults, nobody};
 ghost use Rattle.attrd.specs.Doors.{ServesAll, ServesNext, ending};
@@ -106,7 +106,7 @@ pub fn serve<K: Keeper, D: Door>(engine: &mut Engine<K>, door: &mut D, n: u16) -
     requires sound { IsSound K.contents K.memories engine.old }
     ensures serves { ServesAll (rules_of engine.old) (slice_of engine.old) (state_of engine.old) (D.seen door.old) n
         (state_of engine.new) (D.seen door.new) result }
-    ensures spare { IsTrue K.exact → IsSpare K.contents engine.old → IsSpare K.contents engine.new }
+    ensures spare { NoneAreCircular engine.old → IsTrue K.exact → IsSpare K.contents engine.old → IsSpare K.contents engine.new }
     ensures ended { result.ended ≡ n }
     ensures faults { faults result ≤ n }
     ensures rules { rules_of engine.new ≡ rules_of engine.old }
@@ -129,7 +129,7 @@ fn serve_next<K: Keeper, D: Door>(
     requires sound { IsSound K.contents K.memories engine.old }
     ensures serves { ServesNext (rules_of engine.old) (slice_of engine.old) (state_of engine.old) (state_of engine.new)
         (D.seen door.old) (D.seen door.new) result }
-    ensures spare { IsTrue K.exact → IsSpare K.contents engine.old → IsSpare K.contents engine.new }
+    ensures spare { NoneAreCircular engine.old → IsTrue K.exact → IsSpare K.contents engine.old → IsSpare K.contents engine.new }
     ensures rules { rules_of engine.new ≡ rules_of engine.old }
     ensures slice { slice_of engine.new ≡ slice_of engine.old }
     ensures sound { IsSound K.contents K.memories engine.new }

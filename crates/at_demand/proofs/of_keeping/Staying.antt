@@ -160,7 +160,7 @@ module _ (rules : Rules) {e : Edit} {t u : Tree} {path later : ℕ → Option No
 
   -- an instance of the tree that rests on nothing that is touched
   module _ (i : Instance ℕ) (j : Instance Node) (like : InstanceLike (Names path) i j) (free : (l : Location ℕ) → Supports old means l i → Untouched l) where
-    instance_stays : InstanceLike (Stays path e) i i
+    pub instance_stays : InstanceLike (Stays path e) i i
     instance_stays = record {
       node = node_stays i.node j.node like.node (free (Is i.node) (i, stays i, inl refl));
       attribute = refl;

@@ -1,5 +1,5 @@
 -- What a well-typed instance leads to is well typed, and where it has a value it is whole: all of it stands in a list.
-use Rattle.std.proofs.Common.{◌≡◌, ◌⊎◌, ℕ, zero, suc, ◌+◌, ◌*◌, ◌≤◌, nat_eq, length, List, [], ◌∷◌, map, Option, Some, None, inl, inr, refl, sym, ap, ◌∙◌, subst}
+use Rattle.std.proofs.Common.{◌≡◌, ◌⊎◌, ℕ, zero, suc, ◌+◌, ◌*◌, ◌≤◌, nat_eq, length, List, [], ◌∷◌, map, Option, Some, None, ◌++◌, inl, inr, refl, sym, ap, ◌∙◌, subst, arith}
 use Rattle.std.specs.Prelude.{IsSome}
 use Rattle.at_model.specs.Asking.{IsWellFormed}
 use Rattle.at_model.specs.Alike.{InstanceLike, ListLike, ValueLike, Names, both, end, int, more, neither, ref, text, truth}
@@ -18,7 +18,7 @@ use Rattle.at_model.specs.of_fixpoints.FormKinds.{AreBoolean}
 use Rattle.at_model.specs.of_fixpoints.Formulas.{Forms, atoms}
 use Rattle.at_model.specs.of_fixpoints.Resting.{Leads}
 use Rattle.at_model.specs.of_fixpoints.Searched.{EndsWell, IsFresh, IsMade, IsOn, IsWhole, tried_at}
-use Rattle.at_model.specs.of_fixpoints.Searching.{Search, Silent, Turned, most_turns, posted}
+use Rattle.at_model.specs.of_fixpoints.Searching.{Level, Search, Silent, Turned, most_turns, posted}
 use Rattle.at_model.proofs.Listed.{among_map}
 use Rattle.at_model.proofs.Nodes.{same_like, nat_eq-is, node_eq-is}
 use Rattle.at_model.proofs.of_formulas.CarriedByFormulas.{leads_there}
@@ -28,6 +28,7 @@ use Rattle.at_model.proofs.of_formulas.FormulasAlike.{evaluation-like}
 use Rattle.at_model.proofs.of_formulas.FormulasTogether.{listed}
 use Rattle.at_model.proofs.of_formulas.TypedFormulas.{forms_typed, leads_typed}
 use Rattle.at_model.proofs.of_likeness.CarryingCircles.{names_agree}
+use Rattle.at_model.proofs.Members.{length_both, no_more}
 use Rattle.at_model.proofs.of_searching.FewTurns.{few_turns, turned_fresh}
 use Rattle.at_model.proofs.of_searching.Turned.{leads_by as leads_then, turned_answers, turned_on}
 use Rattle.at_model.proofs.of_typing.TypedNumbers.{instance_back}
@@ -98,6 +99,11 @@ closed_list look forms n W js l j h =
     let (f, x, m) = form_of (EndsAt look forms n) W js j l h in
     record { end = Made f; ends = (n, x); good = tt; next = λ k a. pick (atoms f) W k m a }
 
+-- an equation is tried at each level
+many_tried : (ls : List (Level ℕ)) → length (tried_at ls) ≡ length ls
+many_tried [] = refl
+many_tried (l ∷ ls) = ap suc (many_tried ls)
+
 many_mapped : {A B : Type 0} (f : A → B) (xs : List A) → length (map f xs) ≡ length xs
 many_mapped f [] = refl
 many_mapped f (x ∷ xs) = ap suc (many_mapped f xs)
@@ -134,6 +140,16 @@ module _ (rules : Rules) (s : Shown) (idle : IsIdle s) (ok : AreWellFormed rules
         let (W, f, a) = closure (EndsAt (contents s) (meaning rules) n) i c all_at
         (λ k r. listed_at k (leads_then (contents s) (meaning rules) q i k l (leads_by (contents s) (meaning rules) n i k r))) in
         (W, (λ j h. closed_list (contents s) (meaning rules) n W W f j h), a)
+
+    -- few equations are tried, or have ended
+    pub few_fresh : (u : Search ℕ) → IsFresh (contents s) (meaning rules) q (tried_at (u.last ∷ u.below)) u.ended →
+        most_turns u + 2 ≤ 2 * length (instances rules (tree s) p.arguments)
+    few_fresh u fresh =
+        let fits = no_more (tried_at (u.last ∷ u.below) ++ u.ended) all_at fresh.apart (λ i h. listed_at i (fresh.led i h)) in
+        let size = length_both (tried_at (u.last ∷ u.below)) u.ended in
+        let tried = many_tried u.below in
+        let many = many_mapped (λ (m : Instance Node). numbered (numbers s) m) (instances rules (tree s) p.arguments) in
+        omega (arith, fits, size, tried, many)
 
     -- it has few turns without an answer
     pub few_searches : (n : ℕ) (u : Search ℕ) → Silent (contents s) (meaning rules) n (posted q) u →

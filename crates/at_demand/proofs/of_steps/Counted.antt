@@ -87,7 +87,7 @@ module _ (rules : Rules) (s : Shown) (exact : Bool) (basis : IsBasis rules s) (b
       HasTurnedOn {E = AllocError} rules s exact before after w x old new t (Ok (Some a))
   answered_so gains a turned standing all sparing = record {
     counted = tt;
-    answered = record { turned = turned; standing = standing; fit = tt; all = all; sparing = sparing; gains = gains };
+    answered = record { turned = turned; counted = tt; standing = standing; fit = tt; all = all; sparing = sparing; gains = gains };
     gains = gains;
   }
 
@@ -120,6 +120,7 @@ module _ (rules : Rules) (s : Shown) (exact : Bool) (basis : IsBasis rules s) (b
         plainly = turned.plainly;
         searched = λ u y. let (v, z, later) = turned.searched u y in (v, z, λ o. recount rules s after new v n (later o) (few n e u v y z));
       };
+      counted = omega (arith, e, turns);
       standing = record {
         levels = λ also. let (u, y) = st.levels sound in
             let (v, z, later) = turned.searched u y in (v, recount rules s after new v n (later refl) (few n e u v y z));

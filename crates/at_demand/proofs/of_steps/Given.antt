@@ -33,6 +33,7 @@ pub record HasGivenSo (rules : Rules) (s : Shown) (exact : Bool) (first now : En
   pub plain : ArePlain rules now
   pub standing : IsStanding rules s now new
   pub same : asked_by new ≡ asked_by old
+  pub turns : new.turns ≡ old.turns + given
   pub plainly : HasNoneCircular rules → AreTurnsOfChain rules s given first (under_way old) now (under_way new) None
       × ChainSilent (contents s) (equations rules) given (under_way old) (under_way new)
   pub searched : (u : Search ℕ) → StandsFor rules s first old u → (v : Search ℕ) × Silent (contents s) (meaning rules) given u v
@@ -60,6 +61,7 @@ module _ (rules : Rules) (s : Shown) (exact : Bool) (basis : IsBasis rules s) (f
     plain = plain;
     standing = st;
     same = refl;
+    turns = omega arith;
     plainly = λ none. (turns.none first (under_way old), chain_none (under_way old));
     searched = λ u x. (u, search_none u, turns.none first u, x);
     worthy = worthy_none rules (contents s) (asked_by old) first;
@@ -93,6 +95,7 @@ module _ (rules : Rules) (s : Shown) (exact : Bool) (basis : IsBasis rules s) (f
       plain = e.gains.plain;
       standing = e.standing;
       same = asked_same rules s basis mid q inv.sound inv.standing new p e.turned ∙ inv.same;
+      turns = omega (arith, inv.turns, e.counted);
       plainly = λ none.
           let (each, silent) = inv.plainly none in
           let turned = e.turned.plainly none in (
@@ -137,6 +140,8 @@ module _ (rules : Rules) (s : Shown) (exact : Bool) (basis : IsBasis rules s) (f
             λ none. absurd (no_answer none),
           );
       broke = λ u st. tt;
+      counted = tt;
+      same = tt;
       all = λ k spare sparing. let both = inv.spare k spare sparing in
           subst (λ i. HasWorthyFor rules (contents s) i (answer_view a) new) inv.same (e.all k both.0 both.1);
       answers = subst (λ i. Answers (contents s) (meaning rules) i (answer_view a)) inv.same
@@ -167,6 +172,8 @@ module _ (rules : Rules) (s : Shown) (exact : Bool) (basis : IsBasis rules s) (f
       given = λ u st. tt;
       broke = λ u st. let (v, silent, each, stands) = inv.searched u st in
           record { given = given; fewer = less; mid = mid; way = v; turns = each; last = g.last.searched v stands };
+      counted = tt;
+      same = tt;
       all = λ k spare sparing. tt;
       answers = tt;
       standing = tt;
@@ -186,6 +193,8 @@ module _ (rules : Rules) (s : Shown) (exact : Bool) (basis : IsBasis rules s) (f
     plainly = λ none. let (each, silent) = inv.plainly none in record { given = (full, silent); each = each; broke = tt };
     given = λ u st. let (v, silent, each, stands) = inv.searched u st in (v, (full, silent), each, λ e. stands);
     broke = λ u st. tt;
+    counted = inv.turns;
+    same = inv.same;
     all = λ k spare sparing. tt;
     answers = tt;
     standing = inv.standing;

@@ -127,8 +127,8 @@ module _ (q : Question) (i : Instance ℕ) (waiting : q.waiting.entries ≡ []) 
       (subst (λ ws. AboutAt ws q.level q.inst k) waiting a)))
 
   module _ (rules : Rules) (s : Shown) (typed : IsWellTyped rules (class_shown s) AnyText i) (entries : Entries) where
-    stands : AreSound rules s entries → StandsFor rules s entries q (posted i)
-    stands sound = record {
+    pub posted_for : AreSound rules s entries → StandsFor rules s entries q (posted i)
+    posted_for sound = record {
       is = posted_search entries;
       on = subst (λ j. IsOn (contents s) (meaning rules) j (posted i)) (sym asked_is) (begun_on (contents s) (meaning rules) told_among i);
       fresh = subst (λ j. IsFresh (contents s) (meaning rules) j (i ∷ []) []) (sym asked_is) (record {
@@ -162,7 +162,7 @@ module _ (q : Question) (i : Instance ℕ) (waiting : q.waiting.entries ≡ []) 
 
     pub posted_stands : IsStanding rules s entries q
     posted_stands = record {
-      levels = λ sound. (posted i, stands sound);
+      levels = λ sound. (posted i, posted_for sound);
       plainly = λ none. record {
         ended = ended;
         level = level;

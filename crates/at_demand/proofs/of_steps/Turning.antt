@@ -63,6 +63,7 @@ module _ (rules : Rules) (s : Shown) (exact : Bool) where
         HasTurnedWith {E = AllocError} rules s exact before after w x q p t r
     broken_off r e is keeps gains = subst (λ z. HasTurnedWith {E = AllocError} rules s exact before after w x q p t z) (sym is) (record {
       turned = record { plainly = λ none. tt; searched = λ u st. tt };
+      counted = tt;
       standing = tt;
       fit = tt;
       all = λ k spare sparing. tt;
@@ -105,6 +106,7 @@ module _ (rules : Rules) (s : Shown) (exact : Bool) where
             λ e. absurd (no_answer (answer.Value v) e),
           );
     };
+    counted = tt;
     standing = λ none. st;
     fit = tt;
     all = λ k spare sparing. asked_kept rules (contents s) (asked_by q) entries (is_there (kept_values entries (asked_by q)) (value_view v) kept) spare.deep;

@@ -11,7 +11,8 @@ ghost use Rattle.at_store.specs.Shown.{Shown, contents};
 ghost use Rattle.at_body.specs.Typed.{class_shown};
 ghost use Rattle.at_cache.specs.Kept.{Entries};
 ghost use Rattle.at_demand.specs.Answerable.{CanBeTried, CanGoOn, CanTurn, CanTurnWith};
-ghost use Rattle.at_demand.specs.Levels.{IsSearch};
+ghost use Rattle.at_demand.specs.Levels.{IsSearch, StandsFor};
+ghost use Rattle.at_demand.specs.Sound.{AreSound};
 ghost use Rattle.at_demand.specs.Turns.{IsStanding, IsSparingTurns, under_way};
 ghost use Rattle.at_demand.specs.Answered.{HasTurned, HasTurnedOften, HasTurnedOn, HasTurnedWith, TracesNothing};
 ghost use Rattle.at_demand.specs.Attempts.{HasAttempted, IsGoing};
@@ -41,6 +42,8 @@ impl<K: Keeper> Demand<K> {
     pub fn post(&self, inst: Inst) -> Result<Question, AllocError>
         ensures posted { IfOk result (λ q. under_way q ≡ posted inst) }
         ensures search { (entries : Entries) → IfOk result (λ q. IsSearch entries q (search_posted inst)) }
+        ensures stands { (entries : Entries) (rules : Rules) (s : Shown) → IsWellTyped rules (class_shown s) AnyText inst → AreSound rules s entries
+            → IfOk result (λ q. StandsFor rules s entries q (search_posted inst)) }
         ensures standing { (entries : Entries) (rules : Rules) (s : Shown) → IsWellTyped rules (class_shown s) AnyText inst
             → IfOk result (IsStanding rules s entries) }
         ensures sparing { (entries : Entries) (rules : Rules) (look : Contents ℕ) → IfOk result (IsSparingTurns rules look entries) }

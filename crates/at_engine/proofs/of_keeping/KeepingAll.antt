@@ -10,7 +10,8 @@ use Rattle.at_model.specs.Lines.{Line}
 use Rattle.at_model.specs.Sparing.{KeptAfter, IsWork}
 use Rattle.at_model.specs.Keeping.{heard, state_after, IsHeard, KeptOver, AreWorks, IsTotalWork, max_work}
 use Rattle.at_model.specs.Working.{AreHeard}
-use Rattle.at_engine.specs.KeptOver.{HasVerdict, obeys, refuses, KeepsLines}
+use Rattle.at_demand.specs.Called.{Keeps}
+use Rattle.at_engine.specs.KeptOver.{HasOutcome, HasVerdict, HaveOutcomes, obeys, refuses, KeepsHeard, KeepsLines}
 
 through : {A B C : Type 0} → A ↔ B → B ↔ C → A ↔ C
 through f g = (λ a. g.0 (f.0 a), λ c. f.1 (g.1 c))
@@ -102,18 +103,35 @@ sums w x y a b small e f = let below : x < 2 ^ 64 = omega (arith, e) in omega (a
 turned : {A B : Type 0} → A ↔ B → B ↔ A
 turned f = (f.1, f.0)
 
+-- the first lines have outcomes, and the others behind them
+outcomes_append : (rules : Rules) (ls ms : List (Option Line)) (s : State) → HaveOutcomes rules s (ls ++ ms)
+    → HaveOutcomes rules s ls × HaveOutcomes rules (state_after rules s ls) ms
+outcomes_append rules [] ms s h = (tt, h)
+outcomes_append rules (l ∷ ls) ms s h = let (first, rest) = outcomes_append rules ls ms (after s (heard rules s l)) h.1 in ((h.0, first), rest)
+
+module _ (rules : Rules) (old : State) (ls ms : List (Option Line)) (First Then Last : Instance Node → Type 0) (w x y : ℕ) where
+  heard_on : KeepsHeard rules old ls First Then w x → KeepsHeard rules (state_after rules old ls) ms Then Last x y
+      → KeepsHeard rules old (ls ++ ms) First Last w y
+  heard_on p q =
+      let between = state_after rules old ls in
+      record {
+        kept = λ j. through (q.kept j) (through (same_over rules ms between Then (KeptOver rules old ls First) p.kept j)
+            (turned (over_append rules ls ms old First j)));
+        added = min (p.added + q.added) max_work;
+        is_work = total_append rules ls ms old First p.added q.added p.is_work
+            (same_total rules ms between Then (KeptOver rules old ls First) q.added p.kept q.is_work);
+        grows = λ small. sums w x y p.added q.added small (p.grows small) q.grows;
+      }
+
 keeps_on : (rules : Rules) (old mid new : State) (ls ms : List (List ℕ)) (First Then Last : Instance Node → Type 0) (w x y : ℕ) → (p : KeepsLines rules old ls mid First Then w x) → KeepsLines rules (state_after rules old p.spelled) ms new Then Last x y → KeepsLines rules old (ls ++ ms) new First Last w y
-keeps_on rules old mid new ls ms First Then Last w x y p q =
-    let between = state_after rules old p.spelled in
-    record {
-      spelled = p.spelled ++ q.spelled;
-      are_heard = heard_append ls ms p.spelled q.spelled p.are_heard q.are_heard;
-      state = q.state ∙ sym (state_after-append rules p.spelled q.spelled old);
-      kept = λ j. through (q.kept j) (through (same_over rules q.spelled between Then (KeptOver rules old p.spelled First) p.kept j) (turned (over_append rules p.spelled q.spelled old First j)));
-      added = min (p.added + q.added) max_work;
-      is_work = total_append rules p.spelled q.spelled old First p.added q.added p.is_work (same_total rules q.spelled between Then (KeptOver rules old p.spelled First) q.added p.kept q.is_work);
-      grows = λ small. sums w x y p.added q.added small (p.grows small) q.grows;
-    }
+keeps_on rules old mid new ls ms First Then Last w x y p q = record {
+  spelled = p.spelled ++ q.spelled;
+  are_heard = heard_append ls ms p.spelled q.spelled p.are_heard q.are_heard;
+  state = q.state ∙ sym (state_after-append rules p.spelled q.spelled old);
+  keeps = λ have.
+      let (first, rest) = outcomes_append rules p.spelled q.spelled old have in
+      heard_on rules old p.spelled q.spelled First Then Last w x y (p.keeps first) (q.keeps rest);
+}
 
 pub keeps_append : (rules : Rules) (old mid new : State) (ls ms : List (List ℕ)) (First Then Last : Instance Node → Type 0) (w x y : ℕ) → KeepsLines rules old ls mid First Then w x → KeepsLines rules mid ms new Then Last x y → KeepsLines rules old (ls ++ ms) new First Last w y
 keeps_append rules old mid new ls ms First Then Last w x y p q = keeps_on rules old mid new ls ms First Then Last w x y p (subst (λ (s : State). KeepsLines rules s ms new Then Last x y) p.state q)
@@ -124,35 +142,41 @@ keeps_nothing rules s Kept w = record {
   spelled = [];
   are_heard = tt;
   state = refl;
-  kept = λ j. (λ h. h, λ h. h);
-  added = 0;
-  is_work = ([], tt, refl);
-  grows = λ small. omega (arith, small);
+  keeps = λ have. record { kept = λ j. (λ h. h, λ h. h); added = 0; is_work = ([], tt, refl); grows = λ small. omega (arith, small) };
 }
 
 -- one line
-one_heard : (rules : Rules) (old new : State) (line : List ℕ) (l : Option Line) (before later : Instance Node → Type 0) (w x more : ℕ) → IsHeard line l → new ≡ after old (heard rules old l)
-    → ((j : Instance Node) → later j ↔ KeptAfter rules old (heard rules old l) before j) → IsWork rules old (heard rules old l) before more → (w < 2 ^ 64 → x ≡ min (w + more) (2 ^ 64 - 1)) → KeepsLines rules old (line ∷ []) new before later w x
-one_heard rules old new line l before later w x more is state kept work grows = record {
+one_heard : (rules : Rules) (old new : State) (line : List ℕ) (l : Option Line) (before later : Instance Node → Type 0) (w x : ℕ)
+    → IsHeard line l → new ≡ after old (heard rules old l)
+    → (HasOutcome rules old (heard rules old l) → Keeps rules old (heard rules old l) before later w x)
+    → KeepsLines rules old (line ∷ []) new before later w x
+one_heard rules old new line l before later w x is state keeps = record {
   spelled = l ∷ [];
   are_heard = (is, tt);
   state = state;
-  kept = kept;
-  added = min more max_work;
-  is_work = (more ∷ [], (work, tt), ap (λ n. min n max_work) (alone more));
-  grows = λ small. omega (arith, grows small);
+  keeps = λ have. as_heard (keeps have.0);
 }
   where
     alone : (n : ℕ) → n ≡ 0 + n
     alone n = omega arith
 
-pub keeps_one : (rules : Rules) (old new : State) (line : List ℕ) (v : Verdict) (before later : Instance Node → Type 0) (w x more : ℕ) → HasVerdict rules old line v → new ≡ after old v → ((j : Instance Node) → later j ↔ KeptAfter rules old v before j) → IsWork rules old v before more → (w < 2 ^ 64 → x ≡ min (w + more) (2 ^ 64 - 1)) → KeepsLines rules old (line ∷ []) new before later w x
-keeps_one rules old new line v before later w x more has state kept work grows = by has
+    as_heard : Keeps rules old (heard rules old l) before later w x → KeepsHeard rules old (l ∷ []) before later w x
+    as_heard k = record {
+      kept = k.kept;
+      added = min k.more max_work;
+      is_work = (k.more ∷ [], (k.is_work, tt), ap (λ n. min n max_work) (alone k.more));
+      grows = λ small. omega (arith, k.grows small);
+    }
+
+pub keeps_one : (rules : Rules) (old new : State) (line : List ℕ) (v : Verdict) (before later : Instance Node → Type 0) (w x : ℕ)
+    → HasVerdict rules old line v → new ≡ after old v → (HasOutcome rules old v → Keeps rules old v before later w x)
+    → KeepsLines rules old (line ∷ []) new before later w x
+keeps_one rules old new line v before later w x has state keeps = by has
   where
     heard_so : (l : Option Line) → IsHeard line l → v ≡ heard rules old l → KeepsLines rules old (line ∷ []) new before later w x
     heard_so l is e =
-        one_heard rules old new line l before later w x more is (state ∙ ap (after old) e) (λ j. subst (λ (u : Verdict). later j ↔ KeptAfter rules old u before j) e (kept j))
-        (subst (λ (u : Verdict). IsWork rules old u before more) e work) grows
+        one_heard rules old new line l before later w x is (state ∙ ap (after old) e)
+        (subst (λ (u : Verdict). HasOutcome rules old u → Keeps rules old u before later w x) e keeps)
 
     by : HasVerdict rules old line v → KeepsLines rules old (line ∷ []) new before later w x
     by (obeys l spells e) = heard_so (Some l) spells e

@@ -89,7 +89,7 @@ module _ {K : Type 0} (entries : K → Entries) where
   pub all_one : (old new : Engine K) (front line : List ℕ) → line ≡ kept front → KeepsLine entries line old new → KeepsAll entries (front ∷ []) old new
   all_one old new front line is k =
       let has = verdict_kept (rules_of old) (state_of old) front k.becomes (subst (λ (l : List ℕ). HasVerdict (rules_of old) (state_of old) l k.becomes) is k.is_verdict) in
-      keeps_one (rules_of old) (state_of old) (state_of new) front k.becomes (kept_of entries old) (kept_of entries new) (work_of old) (work_of new) k.keeps.more has k.state k.keeps.kept k.keeps.is_work k.keeps.grows
+      keeps_one (rules_of old) (state_of old) (state_of new) front k.becomes (kept_of entries old) (kept_of entries new) (work_of old) (work_of new) has k.state k.keeps.0
 
   pub filled_one : (old new : Engine K) (front line : List ℕ) → is_filled front ≡ true → line ≡ kept front → KeepsLine entries line old new → KeepsAll entries (filter is_filled (front ∷ [])) old new
   filled_one old new front line filled is k = subst (λ (ls : List (List ℕ)). KeepsAll entries ls old new) (sym (one_line front filled)) (all_one old new front line is k)
@@ -104,74 +104,72 @@ module _ {K : Type 0} (entries : K → Entries) where
       subst (λ (ks : List (List ℕ)). KeepsAll entries ks old new) (sym (filter-append is_filled ls ms)) (all_more old mid new (filter is_filled ls) (filter is_filled ms) same p q)
 
   -- no byte, bytes of a line, the newline behind an empty line and behind one that was served
-  pub keeps_none : (e : Engine K) (front : List ℕ) (desk : Desk) → IsOpen front → desk.line.items ≡ kept front → KeepsBytes entries front [] e e desk desk
-  keeps_none e front desk o is = record { fulls = []; rest = front; splits = ap pieces (append-nil front) ∙ o; open' = o; line = is; keeps = λ none no_post same. all_nothing e; none_open = λ none no_post. none }
+  pub keeps_none : (e : Engine K) (front : List ℕ) (desk : Desk) → IsOpen front → desk.line.items ≡ kept front → KeepsBytes entries front [] e e desk
+  keeps_none e front desk o is = record { fulls = []; rest = front; splits = ap pieces (append-nil front) ∙ o; open' = o; line = is; keeps = λ none no_post. all_nothing e; none_open = λ none no_post. none }
 
-  pub keeps_open : (e : Engine K) (front bytes : List ℕ) (desk next : Desk) → IsOpen front → IsOpen bytes → desk.line.items ≡ kept front → next.line.items ≡ kept (desk.line.items ++ bytes) → KeepsBytes entries front bytes e e desk next
+  pub keeps_open : (e : Engine K) (front bytes : List ℕ) (desk next : Desk) → IsOpen front → IsOpen bytes → desk.line.items ≡ kept front → next.line.items ≡ kept (desk.line.items ++ bytes) → KeepsBytes entries front bytes e e next
   keeps_open e front bytes desk next o p is goes = record {
     fulls = [];
     rest = front ++ bytes;
     splits = splits_open front [] front bytes p o;
     open' = splits_open front [] front bytes p o;
     line = goes ∙ ap (λ i. kept (i ++ bytes)) is ∙ kept-more front bytes;
-    keeps = λ none no_post same. all_nothing e;
+    keeps = λ none no_post. all_nothing e;
     none_open = λ none no_post. none;
   }
 
-  pub keeps_empty : (e : Engine K) (desk next : Desk) → next.line.items ≡ [] → KeepsBytes entries [] (10 ∷ []) e e desk next
-  keeps_empty e desk next none = record {
+  pub keeps_empty : (e : Engine K) (next : Desk) → next.line.items ≡ [] → KeepsBytes entries [] (10 ∷ []) e e next
+  keeps_empty e next none = record {
     fulls = [] ∷ [];
     rest = [];
     splits = splits_newline [] [] [] refl;
     open' = refl;
     line = none ∙ sym kept-nil;
-    keeps = λ none no_post same. all_nothing e;
+    keeps = λ none no_post. all_nothing e;
     none_open = λ none no_post. none;
   }
 
   pub keeps_line : (old new : Engine K) (front : List ℕ) (desk next : Desk) → IsOpen front → is_filled front ≡ true → desk.line.items ≡ kept front → next.line.items ≡ []
-      → ((state_of old).posted ≡ [] → NonePosts (desk.line.items ∷ []) → next.memory ≡ desk.memory → KeepsLine entries desk.line.items old new) → ((state_of old).posted ≡ [] → NonePosts (desk.line.items ∷ []) → (state_of new).posted ≡ []) → KeepsBytes entries front (10 ∷ []) old new desk next
+      → ((state_of old).posted ≡ [] → NonePosts (desk.line.items ∷ []) → KeepsLine entries desk.line.items old new) → ((state_of old).posted ≡ [] → NonePosts (desk.line.items ∷ []) → (state_of new).posted ≡ []) → KeepsBytes entries front (10 ∷ []) old new next
   keeps_line old new front desk next o filled is none keeps none_open = record {
     fulls = front ∷ [];
     rest = [];
     splits = splits_newline front [] front o;
     open' = refl;
     line = none ∙ sym kept-nil;
-    keeps = λ nothing no_post same. filled_one old new front desk.line.items filled is (keeps nothing (filled_posts front desk.line.items filled is no_post) same);
+    keeps = λ nothing no_post. filled_one old new front desk.line.items filled is (keeps nothing (filled_posts front desk.line.items filled is no_post));
     none_open = λ nothing no_post. none_open nothing (filled_posts front desk.line.items filled is no_post);
   }
 
   -- bytes and then others
-  pub keeps_more : (old mid new : Engine K) (front bytes more : List ℕ) (desk next last : Desk) → rules_of mid ≡ rules_of old → desk.memory ≤ next.memory → next.memory ≤ last.memory → (p : KeepsBytes entries front bytes old mid desk next) → KeepsBytes entries p.rest more mid new next last → KeepsBytes entries front (bytes ++ more) old new desk last
-  keeps_more old mid new front bytes more desk next last same first later p q = record {
+  pub keeps_more : (old mid new : Engine K) (front bytes more : List ℕ) (next last : Desk) → rules_of mid ≡ rules_of old → (p : KeepsBytes entries front bytes old mid next) → KeepsBytes entries p.rest more mid new last → KeepsBytes entries front (bytes ++ more) old new last
+  keeps_more old mid new front bytes more next last same p q = record {
     fulls = p.fulls ++ q.fulls;
     rest = q.rest;
     splits = ap pieces (sym (append_assoc front bytes more)) ∙ splits_on (front ++ bytes) more p.fulls q.fulls p.rest q.rest p.splits p.open' q.splits;
     open' = q.open';
     line = q.line;
-    keeps = λ none no_post whole.
+    keeps = λ none no_post.
         let (front_posts, back_posts) = filled_parts p.fulls q.fulls no_post in
-        let still : next.memory ≡ desk.memory = omega (arith, first, later, whole) in
-        let later_still : last.memory ≡ next.memory = omega (arith, first, later, whole) in
-        filled_more old mid new p.fulls q.fulls same (p.keeps none front_posts still) (q.keeps (p.none_open none front_posts) back_posts later_still);
+        filled_more old mid new p.fulls q.fulls same (p.keeps none front_posts) (q.keeps (p.none_open none front_posts) back_posts);
     none_open = λ none no_post. let (front_posts, back_posts) = filled_parts p.fulls q.fulls no_post in q.none_open (p.none_open none front_posts) back_posts;
   }
 
   -- bytes of a line behind others
-  pub keeps_on : (old mid : Engine K) (front bytes more : List ℕ) (desk next last : Desk) → rules_of mid ≡ rules_of old → desk.memory ≤ next.memory → IsOpen more → last.line.items ≡ kept (next.line.items ++ more) → last.memory ≡ next.memory → KeepsBytes entries front bytes old mid desk next → KeepsBytes entries front (bytes ++ more) old mid desk last
-  keeps_on old mid front bytes more desk next last same first o f m p =
-      keeps_more old mid mid front bytes more desk next last same first (omega (arith, m)) p (keeps_open mid p.rest more next last p.open' o p.line f)
+  pub keeps_on : (old mid : Engine K) (front bytes more : List ℕ) (next last : Desk) → rules_of mid ≡ rules_of old → IsOpen more → last.line.items ≡ kept (next.line.items ++ more) → KeepsBytes entries front bytes old mid next → KeepsBytes entries front (bytes ++ more) old mid last
+  keeps_on old mid front bytes more next last same o f p =
+      keeps_more old mid mid front bytes more next last same p (keeps_open mid p.rest more next last p.open' o p.line f)
 
   -- all lines, and the last one, which no newline ends
-  pub keeps_run : (old mid new : Engine K) (input : List ℕ) (readable left : Option (List ℕ)) (desk next : Desk) → Consumes readable left input → rules_of mid ≡ rules_of old → next.memory ≡ desk.memory → (p : KeepsBytes entries [] input old mid desk next)
+  pub keeps_run : (old mid new : Engine K) (input : List ℕ) (readable left : Option (List ℕ)) (next : Desk) → Consumes readable left input → rules_of mid ≡ rules_of old → (p : KeepsBytes entries [] input old mid next)
       → ((state_of mid).posted ≡ [] → NonePosts (filter is_filled (p.rest ∷ [])) → KeepsAll entries (filter is_filled (p.rest ∷ [])) mid new) → KeepsRun entries old new readable left
-  keeps_run old mid new input readable left desk next read same whole p last = record {
+  keeps_run old mid new input readable left next read same p last = record {
     input = input;
     read = read;
     keeps = λ none no_post.
         let posts = subst (λ (ls : List (List ℕ)). NonePosts (filter is_filled ls)) p.splits no_post in
         let (front_posts, back_posts) = filled_parts p.fulls (p.rest ∷ []) posts in
-        let all = filled_more old mid new p.fulls (p.rest ∷ []) same (p.keeps none front_posts whole) (last (p.none_open none front_posts) back_posts) in
+        let all = filled_more old mid new p.fulls (p.rest ∷ []) same (p.keeps none front_posts) (last (p.none_open none front_posts) back_posts) in
         subst (λ (ls : List (List ℕ)). KeepsAll entries (filter is_filled ls) old new) (sym p.splits) all;
   }
 

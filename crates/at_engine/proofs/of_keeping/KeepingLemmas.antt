@@ -19,6 +19,7 @@ use Rattle.at_protocol.specs.declared.reply.Refusal.{Refusal}
 use Rattle.at_protocol.specs.declared.reply.Refusal.TheVariants as refusal
 use Rattle.at_protocol.specs.declared.reply.Form.{Form as FormValue}
 use Rattle.at_protocol.specs.declared.reply.Form.TheVariants as form
+use Rattle.at_rules.specs.Circular.{HasNoneCircular}
 use Rattle.at_store.specs.Shown.{contents, numbers, path, tree}
 use Rattle.at_store.specs.declared.edit.Refusal.{Refusal as EditRefusal}
 use Rattle.at_store.specs.declared.edit.Refusal.TheVariants as reason
@@ -27,11 +28,12 @@ use Rattle.at_demand.specs.Known.{IsKept}
 use Rattle.at_demand.specs.Sparing.{AreSpare}
 use Rattle.at_demand.proofs.Entered.{entered}
 use Rattle.at_demand.specs.Called.{Keeps}
+use Rattle.at_demand.specs.Groups.{KeepsGroups}
 use Rattle.at_demand.specs.declared.demand.Demand.{Demand}
 use Rattle.at_engine.specs.Engines.{rules_of, state_of}
 use Rattle.at_engine.specs.Following.{Follows, IsAtOnce}
-use Rattle.at_engine.specs.KeptOver.{AreWaiting, Grows, HasVerdict, obeys, refuses, IsWorthFor, IsWorthIn}
-use Rattle.at_engine.specs.Keeping.{AreAtOnce, IsSpare, IsSpareWith, GrowsLine, GrowsOver, KeepsLine, KeepsOver, KeepsServed, Spares, SparesLine, SparesVerdict, kept_of, work_of}
+use Rattle.at_engine.specs.KeptOver.{AreWaiting, Grows, HasOutcome, HasVerdict, obeys, refuses, IsWorthFor, IsWorthIn}
+use Rattle.at_engine.specs.Keeping.{AreAtOnce, IsSpare, IsSpareWith, GrowsLine, GrowsOver, KeepsLine, KeepsOver, KeepsServed, KeepsWhole, Spares, SparesLine, SparesVerdict, kept_of, work_of}
 use Rattle.at_engine.specs.Hearing.{Hears, at_once, by_turns}
 use Rattle.at_engine.specs.Telling.{IsToldFor, IsToldOf, Meets}
 use Rattle.at_engine.specs.declared.engine.Engine.{Engine}
@@ -80,9 +82,12 @@ module _ {K : Type 0} (entries : K → Entries) (old new : Engine K) (same_numbe
       (subst (IsSpareWith old.rules (contents old.store) (entries old.demand.keeper)) (sym same_posts) h)))
 
   keeps_over : (v : Verdict) → IsQuiet v → KeepsOver entries v old new
-  keeps_over v quiet =
-      subst (λ w. Keeps (rules_of old) (state_of old) v (kept_of entries old) (kept_of entries new) (work_of old) w) (sym (ap (λ (d : Demand K). d.work) same_demand))
-      (quiet_keeps (rules_of old) (state_of old) v (kept_of entries old) (kept_of entries new) (work_of old) quiet kept_stays)
+  keeps_over v quiet = (
+    λ has. subst (λ w. Keeps (rules_of old) (state_of old) v (kept_of entries old) (kept_of entries new) (work_of old) w)
+        (sym (ap (λ (d : Demand K). d.work) same_demand))
+        (quiet_keeps (rules_of old) (state_of old) v (kept_of entries old) (kept_of entries new) (work_of old) quiet kept_stays),
+    λ q is. absurd (subst IsQuiet is quiet),
+  )
 
   grows_over : (IsWorth : Instance Node → Type 0) → Grows IsWorth (kept_of entries old) (kept_of entries new) (work_of old) (work_of new)
   grows_over IsWorth =
@@ -94,7 +99,7 @@ module _ {K : Type 0} (entries : K → Entries) (old new : Engine K) (same_numbe
 
   pub quiet_spares : {T E : Type 0} (r : Result T E) (v : Verdict) → IfOk r (λ _. IsQuiet v) → IsSpare entries new → Spares entries v r old new
   quiet_spares (Ok x) v quiet spare = quiet_done v quiet spare
-  quiet_spares (Err e) v quiet spare = (spare, grows_over (IsWorthFor (rules_of old) (state_of old) v))
+  quiet_spares (Err e) v quiet spare = (λ none. spare, grows_over (IsWorthFor (rules_of old) (state_of old) v))
 
 -- where nothing is kept, that is spare
 pub spare_of_nothing : (rules : Rules) (look : Contents ℕ) (entries : Entries) → KeepsAll (λ _. None) entries → AreSpare rules look entries
@@ -164,15 +169,16 @@ module _ {K : Type 0} (entries : K → Entries) (e : Engine K) (v : Verdict) (sp
   pub refused_spares : (r : Refusal) → Follows (rules_of e) (state_of e) v (form.Refused r) (state_of e) → IsSpare entries e × KeepsOver entries v e e
   refused_spares r f = stays_done (refused_quiet (rules_of e) (state_of e) (state_of e) v r f)
 
-  pub failed_spares : IsSpare entries e × GrowsOver entries v e e
-  failed_spares = (spare, grows_over entries e e refl refl refl refl (IsWorthFor (rules_of e) (state_of e) v))
+  pub failed_spares : (HasNoneCircular (rules_of e) → IsSpare entries e) × GrowsOver entries v e e
+  failed_spares = (λ none. spare, grows_over entries e e refl refl refl refl (IsWorthFor (rules_of e) (state_of e) v))
 
 -- what is done for a verdict, told or not
-pub either_spares : {K T E : Type 0} (entries : K → Entries) (old new : Engine K) (v : Verdict) (r : Result T E) → IsSpare entries new → KeepsOver entries v old new → GrowsOver entries v old new → Spares entries v r old new
-either_spares entries old new v (Ok x) spare keeps grows = (spare, keeps)
+pub either_spares : {K T E : Type 0} (entries : K → Entries) (old new : Engine K) (v : Verdict) (r : Result T E) → (KeepsGroups (rules_of old) r → IsSpare entries new) → KeepsOver entries v old new
+    → GrowsOver entries v old new → Spares entries v r old new
+either_spares entries old new v (Ok x) spare keeps grows = (spare tt, keeps)
 either_spares entries old new v (Err e) spare keeps grows = (spare, grows)
 
-pub err_spares : {K T E : Type 0} (entries : K → Entries) (old new : Engine K) (v : Verdict) (r : Result T E) (e : E) → r ≡ Err e → IsSpare entries new × GrowsOver entries v old new → Spares entries v r old new
+pub err_spares : {K T E : Type 0} (entries : K → Entries) (old new : Engine K) (v : Verdict) (r : Result T E) (e : E) → r ≡ Err e → (HasNoneCircular (rules_of old) → IsSpare entries new) × GrowsOver entries v old new → Spares entries v r old new
 err_spares {K} {T} {E} entries old new v r e is spares = subst (λ (x : Result T E). Spares entries v x old new) (sym is) spares
 
 -- the verdict comes to another one
@@ -183,13 +189,17 @@ turned_spares entries old new v w r same spares = subst (λ (y : Verdict). Spare
 pub edited_keeps : (rules : Rules) (s : State) (v : Verdict) (e : EditOf) (t : Tree) (before after : Instance Node → Type 0) (w x : ℕ) → v ≡ Edits e t → Keeps rules s (Edits e t) before after w w → x ≡ w → Keeps rules s v before after w x
 edited_keeps rules s v e t before after w x is keeps same = subst (λ n. Keeps rules s v before after w n) (sym same) (subst (λ (y : Verdict). Keeps rules s y before after w w) (sym is) keeps)
 
+-- it is no question
+pub not_asked : (e : EditOf) (t : Tree) (q : Instance Node) → Edits e t ≡ Asks q → ⊥
+not_asked e t q is = absurd cc
+
 -- what is spare where the line waits
-pub waited_spares : {K T E : Type 0} (entries : K → Entries) (old new : Engine K) (v : Verdict) (r : Result T E) (number : ℕ) → v ≡ Waits number → IsSpare entries new → SparesVerdict entries v r old new
+pub waited_spares : {K T E : Type 0} (entries : K → Entries) (old new : Engine K) (v : Verdict) (r : Result T E) (number : ℕ) → v ≡ Waits number → (KeepsGroups (rules_of old) r → IsSpare entries new) → SparesVerdict entries v r old new
 waited_spares entries old new v r number is spare = (spare, λ soon. absurd (subst IsAtOnce is soon))
 
 -- and where it doesn't
 pub at_once_spares : {K T E : Type 0} (entries : K → Entries) (old new : Engine K) (v : Verdict) (r : Result T E) → Spares entries v r old new → SparesVerdict entries v r old new
-at_once_spares entries old new v (Ok x) spares = (spares.0, λ soon. spares)
+at_once_spares entries old new v (Ok x) spares = (λ whole. spares.0, λ soon. spares)
 at_once_spares entries old new v (Err e) spares = (spares.0, λ soon. spares)
 
 -- a verdict is one that waits or one that doesn't
@@ -221,7 +231,7 @@ line_spares entries old new bytes exact l told spells heard spares = by told.for
     by : (r : Result FormValue AllocError) → told.form ≡ r → SparesLine {T = FormValue} {E = AllocError} entries bytes told.form old new
     by (Ok f) is =
         let s : SparesVerdict {T = FormValue} {E = AllocError} entries v (Ok f) old new = subst (λ (x : Result FormValue AllocError). SparesVerdict entries v x old new) is spares in
-        let so : SparesLine {T = FormValue} {E = AllocError} entries bytes (Ok f) old new = (s.0, λ none. let a = at_once_unless (rules_of old) (state_of old) bytes v has none in record { becomes = v; is_verdict = has; state = state a f is; keeps = (s.1 a).1 }) in
+        let so : SparesLine {T = FormValue} {E = AllocError} entries bytes (Ok f) old new = (s.0 tt, λ none. let a = at_once_unless (rules_of old) (state_of old) bytes v has none in record { becomes = v; is_verdict = has; state = state a f is; keeps = (s.1 a).1 }) in
         subst (λ (x : Result FormValue AllocError). SparesLine entries bytes x old new) (sym is) so
     by (Err e) is =
         let s : SparesVerdict {T = FormValue} {E = AllocError} entries v (Err e) old new = subst (λ (x : Result FormValue AllocError). SparesVerdict entries v x old new) is spares in
@@ -232,8 +242,9 @@ line_spares entries old new bytes exact l told spells heard spares = by told.for
 pub unread_spares : {K : Type 0} (entries : K → Entries) (e : Engine K) (bytes : List ℕ) → ((l : Line) → Spells bytes l → ⊥) → IsSpare entries e → IsSpare entries e × (AreAtOnce e bytes → KeepsLine entries bytes e e)
 unread_spares entries e bytes none spare = (spare, λ soon. record { becomes = Refuses code.Syntax; is_verdict = refuses none refl; state = refl; keeps = keeps_over entries e e refl refl refl refl (Refuses code.Syntax) tt })
 
-pub unknown_spares : {K : Type 0} (entries : K → Entries) (e : Engine K) (bytes : List ℕ) → IsSpare entries e → IsSpare entries e × (AreAtOnce e bytes → GrowsLine entries bytes e e)
-unknown_spares entries e bytes spare = (spare, λ soon. grows_over entries e e refl refl refl refl (IsWorthIn (rules_of e) (state_of e) bytes))
+pub unknown_spares : {K : Type 0} (entries : K → Entries) (e : Engine K) (bytes : List ℕ) → IsSpare entries e
+    → (HasNoneCircular (rules_of e) → IsSpare entries e) × (AreAtOnce e bytes → GrowsLine entries bytes e e)
+unknown_spares entries e bytes spare = (λ none. spare, λ soon. grows_over entries e e refl refl refl refl (IsWorthIn (rules_of e) (state_of e) bytes))
 
 not_ok : {T E : Type 0} {a : T} {e : E} → ◌≡◌ {A = Result T E} (Err e) (Ok a) → ⊥
 not_ok e = absurd cc
@@ -246,10 +257,33 @@ worth_in : (rules : Rules) (s : State) (bytes : List ℕ) (v : Verdict) → HasV
 worth_in rules s bytes v (obeys l spells is) j worth = (l, spells, subst (λ (y : Verdict). IsWorthFor rules s y j) is worth)
 worth_in rules s bytes v (refuses none is) j worth = absurd (subst (λ (y : Verdict). IsWorthFor rules s y j) is worth)
 
+-- what a verdict leaves and adds, unless it is an edit
+grows_so : {K : Type 0} (entries : K → Entries) (old new : Engine K) (v : Verdict) → ((e : EditOf) (t : Tree) → v ≡ Edits e t → ⊥)
+    → KeepsOver entries v old new → GrowsOver entries v old new
+grows_so entries old new v off k = by v off k.0 k.1
+  where
+    kept : (v : Verdict) → ((e : EditOf) (t : Tree) → v ≡ Edits e t → ⊥)
+        → Keeps (rules_of old) (state_of old) v (kept_of entries old) (kept_of entries new) (work_of old) (work_of new)
+        → GrowsOver entries v old new
+    kept v off k = kept_grows (rules_of old) (state_of old) v (kept_of entries old) (kept_of entries new) (work_of old) (work_of new) k.more
+        off k.kept k.is_work k.grows
+
+    by : (v : Verdict) → ((e : EditOf) (t : Tree) → v ≡ Edits e t → ⊥)
+        → (HasOutcome (rules_of old) (state_of old) v
+        → Keeps (rules_of old) (state_of old) v (kept_of entries old) (kept_of entries new) (work_of old) (work_of new))
+        → ((q : Instance Node) → v ≡ Asks q → GrowsOver entries v old new) → GrowsOver entries v old new
+    by (Refuses refusal) off keeps grows = kept (Refuses refusal) off (keeps tt)
+    by (Tells shown) off keeps grows = kept (Tells shown) off (keeps tt)
+    by (Leaves marks) off keeps grows = kept (Leaves marks) off (keeps tt)
+    by (Edits e t) off keeps grows = absurd (off e t refl)
+    by (Asks q) off keeps grows = grows q refl
+    by (Posts q) off keeps grows = kept (Posts q) off (keeps tt)
+    by (Waits number) off keeps grows = kept (Waits number) off (keeps tt)
+
 unwritten : {K : Type 0} (entries : K → Entries) (old new : Engine K) (bytes : List ℕ) → KeepsLine entries bytes old new → state_of new ≡ state_of old → GrowsLine entries bytes old new
 unwritten entries old new bytes k same =
     weaker_grows (IsWorthFor (rules_of old) (state_of old) k.becomes) (IsWorthIn (rules_of old) (state_of old) bytes) (kept_of entries old) (kept_of entries new) (work_of old) (work_of new) (worth_in (rules_of old) (state_of old) bytes k.becomes k.is_verdict)
-    (kept_grows (rules_of old) (state_of old) k.becomes (kept_of entries old) (kept_of entries new) (work_of old) (work_of new) k.keeps.more (λ e t is. not_edited (state_of old) k.becomes e t (sym same ∙ k.state) is) k.keeps.kept k.keeps.is_work k.keeps.grows)
+    (grows_so entries old new k.becomes (λ e t is. not_edited (state_of old) k.becomes e t (sym same ∙ k.state) is) k.keeps)
 
 -- a line that leaves the state, unless it waits for an open question, is one that waits, or leaves the state
 pub kept_served : {K : Type 0} (entries : K → Entries) (old new : Engine K) (bytes : List ℕ) (r : Result FormValue AllocError) (wants : Bool) → SparesLine entries bytes r old new → (wants ≡ false → (f : FormValue) × (r ≡ Ok f)) → (wants ≡ true → AreAtOnce old bytes → state_of new ≡ state_of old)
@@ -263,9 +297,11 @@ kept_served entries old new bytes (Err e) false spares is stays = absurd (not_ok
 pub form_spares : {K : Type 0} (entries : K → Entries) (old new : Engine K) (bytes : List ℕ) (r x : Result FormValue AllocError) → x ≡ r → SparesLine entries bytes r old new → SparesLine entries bytes x old new
 form_spares entries old new bytes r x is h = subst (λ (y : Result FormValue AllocError). SparesLine entries bytes y old new) (sym is) h
 
-pub spare_line : {K T E : Type 0} (entries : K → Entries) (old new : Engine K) (bytes : List ℕ) (r : Result T E) → SparesLine entries bytes r old new → IsSpare entries new
-spare_line entries old new bytes (Ok x) spares = spares.0
-spare_line entries old new bytes (Err e) spares = spares.0
+pub spare_line : {K : Type 0} (entries : K → Entries) (old new : Engine K) (bytes : List ℕ) (r : Result FormValue AllocError) (wants : Bool)
+    → (wants ≡ false → (f : FormValue) × (r ≡ Ok f)) → SparesLine entries bytes r old new → KeepsWhole (rules_of old) wants → IsSpare entries new
+spare_line entries old new bytes (Ok x) wants is spares whole = spares.0
+spare_line entries old new bytes (Err e) true is spares whole = spares.0 whole
+spare_line entries old new bytes (Err e) false is spares whole = absurd (not_ok (is refl).1)
 
 -- commands that neither edit nor ask
 module _ (rules : Rules) (s : State) (session : ℕ) where

@@ -10,16 +10,15 @@ use Rattle.at_model.specs.Rules.{Rules, attribute_named}
 use Rattle.at_model.specs.Run.{Instance, Value}
 use Rattle.at_model.specs.Run as run
 use Rattle.at_model.specs.Trees.{Tree, class_of}
-use Rattle.at_model.specs.Turning.{asked, turns_of}
-use Rattle.at_model.specs.WellFormed.{AreWellFormed, IsTreeSound}
 use Rattle.at_model.specs.Machine.{State, Posted as PostedOf, Verdict, Asks, Refuses, each, fit_parameters, line_of, node_named, obeyed, parameters_of, questioned, value_named}
 use Rattle.at_model.proofs.of_machines.WellAsked.{well_asked}
-use Rattle.at_store.specs.Shown.{IsIdle, Shown, path, tree}
-use Rattle.at_rules.specs.Circular.{HasNoneCircular}
+use Rattle.at_store.specs.Shown.{Shown, path, tree}
 use Rattle.at_cache.specs.Kept.{Entries}
-use Rattle.at_demand.specs.Turns.{under_way}
+use Rattle.at_demand.specs.Answerable.{IsBasis}
+use Rattle.at_demand.specs.Levels.{asked_by}
+use Rattle.at_demand.specs.Sound.{AreSound}
 use Rattle.at_demand.specs.declared.question.Question.{Question}
-use Rattle.at_demand.proofs.Few.{few_on}
+use Rattle.at_demand.proofs.of_levels.Wholes.{few_fresh}
 use Rattle.at_engine.specs.Holding.{HasBegun, IsBegunFor, IsPostedOn}
 use Rattle.at_engine.specs.Posted.{posted_view, texts_in, turns_given, universe_of}
 use Rattle.at_engine.specs.declared.posts.Posted.{Posted}
@@ -81,26 +80,24 @@ by_marks : (b : Bool) (v : Verdict) (i : Instance Node) → (if b then Refuses c
 by_marks true v i e = absurd cc
 by_marks false v i e = e
 
-module _ (rules : Rules) (s : Shown) (idle : IsIdle s) (ok : AreWellFormed rules)
-    (sound : IsTreeSound rules.classes (tree s)) (none : HasNoneCircular rules)
-    (entries : Entries) where
+module _ (rules : Rules) (s : Shown) (basis : IsBasis rules s) (entries : Entries) (sound : AreSound rules s entries) where
   abbrev bare : PostedOf → State
   bare q = record { tree = tree s; limit = max_nodes; version = 0; marks = q.marks; posts = 0; posted = [] }
 
-  few_begun : (p : Posted) (q : Question) → IsBegunFor rules s entries p q → turns_of (under_way q) ≤ 2 * universe_of rules (tree s) (posted_view (path s) p) + 1
+  few_begun : (p : Posted) (q : Question) → IsBegunFor rules s entries p q
+      → q.turns ≤ 2 * universe_of rules (tree s) (posted_view (path s) p) + 1
   few_begun p q b =
       let v = posted_view (path s) p in
+      let (u, stands) = b.standing.levels sound in
       let formed = well_asked rules (bare v) (line_of v) b.named b.asks in
-      let few = few_on rules s idle (asked (under_way q)) b.named b.like ok sound formed (under_way q)
-      (b.standing.plainly none).on in
+      let few = few_fresh rules s basis.idle basis.formed basis.sound (asked_by q) b.named b.like formed u stands.fresh in
       let obeys = by_marks _ (obeyed rules (bare v) v.session (Ask v.place v.attribute v.arguments)) b.named b.asks in
       let same = same_universe rules (tree s) b.named.arguments (texts_in v.arguments) (texts_asked rules (bare v) v.session v.place v.attribute v.arguments b.named obeys) in
-      omega (arith, few, same)
+      omega (arith, few, stands.few, same)
 
   few_given : (p : Posted) (o : Option Question) → HasBegun rules s entries p o → turns_given o ≤ 2 * universe_of rules (tree s) (posted_view (path s) p) + 1
   few_given p None h = omega arith
-  few_given p (Some q) h = subst (λ k. k ≤ 2 * universe_of rules (tree s) (posted_view (path s) p) + 1)
-      (sym (h.standing.plainly none).turns) (few_begun p q h)
+  few_given p (Some q) h = few_begun p q h
 
   -- the question of that number has few turns
   pub few_found : (number : ℕ) (ps : List Posted) → AllByRecursion (IsPostedOn rules s entries) ps → (q : PostedOf) → find (λ (x : PostedOf). nat_eq number x.number) (map (posted_view (path s)) ps) ≡ Some q

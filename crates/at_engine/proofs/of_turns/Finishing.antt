@@ -1,7 +1,6 @@
 -- What the turns of the first open question come to, in the words of the machine.
 use Rattle.std.proofs.Common.{◌≡◌, ℕ, zero, suc, ◌+◌, ◌-◌, ◌<◌, ◌≤◌, Bool, true, false, not, if◌then◌else◌, List, [], ◌∷◌, ◌++◌, length, map, Option, Some, None, Result, Ok, Err, IfOk, refl, sym, ap, ◌∙◌, subst, arith, append-nil}
 use Rattle.std.proofs.lemmas.List.{length-map}
-use Rattle.std.specs.List.{AllByRecursion}
 use Rattle.std.specs.Prelude.{slice_get, slice_set, remove, IfSome, IsTrue, MatchBool, Vec, vec_capacity}
 use Rattle.std.specs.Global.{Global}
 use Rattle.std.proofs.lemmas.Option.{slice_get_within}
@@ -16,24 +15,25 @@ use Rattle.at_protocol.specs.declared.reply.Form.{Form}
 use Rattle.at_store.specs.Shown.{Shown, path, tree}
 use Rattle.at_cache.specs.Kept.{Entries}
 use Rattle.at_cache.specs.Traced.{Memories}
-use Rattle.at_demand.specs.Turns.{under_way}
+use Rattle.at_demand.specs.Groups.{KeepsGroups}
+use Rattle.at_demand.specs.Meant.{AreCircularWell}
 use Rattle.at_demand.specs.declared.demand.Demand.{Demand}
 use Rattle.at_demand.specs.declared.question.Question.{Question}
 use Rattle.at_rules.specs.Circular.{HasNoneCircular}
 use Rattle.at_engine.specs.Engines.{marks_of, rules_of, state_of, IsHeld, IsSound, IsTyped, Knows}
-use Rattle.at_engine.specs.Holding.{state_in, HasBegun, IsPostedOn, IsSoundWith}
-use Rattle.at_engine.specs.Posted.{came_to, posted_view, turns_given}
-use Rattle.at_engine.specs.Keeping.{IsSpare}
+use Rattle.at_engine.specs.Holding.{state_in, IsSoundWith}
+use Rattle.at_engine.specs.Posted.{posted_view, turns_given}
+use Rattle.at_engine.specs.Keeping.{IsSpare, KeepsWhole}
 use Rattle.at_engine.specs.Serving.{Calls}
 use Rattle.at_engine.specs.Hearing.{IsClosed}
 use Rattle.at_engine.specs.Telling.{IsAnswerTo, IsSaid}
-use Rattle.at_engine.specs.Turned.{HasGiven, HasTried, HasTurned, gives, none_open}
+use Rattle.at_engine.specs.Turned.{HasGiven, HasTried, HasTurned, gives, is_memory, none_open}
 use Rattle.at_engine.specs.Turning.{Attends, Came, CountsTurns, EndsSo, HasEnded, HasGone, Reopens, RunsOut, StandsAt, TakesOff, told_of}
 use Rattle.at_engine.specs.declared.engine.Engine.{Engine}
 use Rattle.at_engine.specs.declared.engine.saying.Told.{Told}
 use Rattle.at_engine.specs.declared.posts.Posted.{Posted}
 use Rattle.at_engine.specs.declared.engine.turning.Spent.{Spent}
-use Rattle.at_engine.proofs.of_turns.Counted.{counts_refused, counts_same, given_by, out_behind, silent_same, some_given, some_silent, turns_counted}
+use Rattle.at_engine.proofs.of_turns.Counted.{counts_refused, counts_same, out_behind, silent_same, some_given, some_silent}
 use Rattle.at_engine.proofs.of_turns.Openings.{TurnTold, gone, is_numbered, told_err, told_ok}
 use Rattle.at_engine.proofs.Positions.{get_set, there_at}
 use Rattle.at_engine.proofs.of_turns.Turnings.{answered_at, ran_out_at, silent_one, silent_turns, told_turns, without_it}
@@ -53,7 +53,7 @@ removed_anew (x ∷ xs) (suc i) a = ap (λ l. x ∷ l) (removed_anew xs i a)
 pub typed_rest : {K : Type 0} (e m : Engine K) → m ≡ record e { demand = m.demand; posts = m.posts } → IsTyped (rules_of e) (state_of e) → IsTyped (rules_of m) (state_of m)
 typed_rest {K} e m rest h = record {
   formed = subst AreWellFormed (sym (ap (λ (x : Engine K). x.rules) rest)) h.formed;
-  none_circular = subst HasNoneCircular (sym (ap (λ (x : Engine K). x.rules) rest)) h.none_circular;
+  circular = subst AreCircularWell (sym (ap (λ (x : Engine K). x.rules) rest)) h.circular;
   tokens = subst (λ (s : Shown). AreTokens (tree s)) (sym (ap (λ (x : Engine K). x.store) rest)) h.tokens;
 }
 
@@ -67,7 +67,7 @@ rest_end {K} e m n rest tells =
 pub typed_end : {K : Type 0} (m n : Engine K) → n ≡ record m { posts = record n.posts { count = m.posts.count } } → IsTyped (rules_of m) (state_of m) → IsTyped (rules_of n) (state_of n)
 typed_end {K} m n rest h = record {
   formed = subst AreWellFormed (sym (ap (λ (x : Engine K). x.rules) rest)) h.formed;
-  none_circular = subst HasNoneCircular (sym (ap (λ (x : Engine K). x.rules) rest)) h.none_circular;
+  circular = subst AreCircularWell (sym (ap (λ (x : Engine K). x.rules) rest)) h.circular;
   tokens = subst (λ (s : Shown). AreTokens (tree s)) (sym (ap (λ (x : Engine K). x.store) rest)) h.tokens;
 }
 
@@ -122,9 +122,6 @@ module _ {K : Type 0} (exact : Bool) (kept : K → Entries) (e : Engine K) {memo
 
   abbrev at_turn : ℕ → State
   at_turn t = record (state_of e) { posted = record (view p) { turns = t } ∷ map view others }
-
-  first_begun : HasBegun (rules_of e) e.store (kept e.demand.keeper) p p.question
-  first_begun = (subst (AllByRecursion (IsPostedOn (rules_of e) e.store (kept e.demand.keeper))) least sound.posted).0.begun
 
   as_now : at_turn (turns_given p.question) ≡ state_of e
   as_now = ap (λ (l : List PostedOf). record (state_of e) { posted = l }) (sym viewed)
@@ -185,8 +182,9 @@ module _ {K : Type 0} (exact : Bool) (kept : K → Entries) (e : Engine K) {memo
             → Given (rules_of e) given (state_of e) ((wants, reply) ∷ []) (state_of n)
             → after ≡ before ++ reply_text reply
             → HasTried exact kept limit e n p others given (Some (wants, reply))
+            → (KeepsWhole (rules_of e) wants → IsTrue exact → IsSpare kept e → IsSpare kept n)
             → HasGiven exact kept limit e n before after (record { turns = counted; told = Some wants })
-        spent_so given counted wants reply some counts turns appended tried = gives (record {
+        spent_so given counted wants reply some counts turns appended tried spare = gives (record {
           first = p;
           others = others;
           least = least;
@@ -198,14 +196,16 @@ module _ {K : Type 0} (exact : Bool) (kept : K → Entries) (e : Engine K) {memo
           appended = appended ∙ ap (λ l. before ++ l) (sym (append-nil (reply_text reply)));
           named = refl;
           tried = tried;
+          spare = spare;
         })
 
         -- the last of them answers it
         pub gives_told : (counted : ℕ) (f : Form)
             → Came {E = AllocError} exact kept limit e m.demand p o (Ok (counted, Some f)) → (wants : Bool)
             → IsSaid (told_of p m.version (Ok f)) wants before after
+            → (IsTrue exact → IsSpare kept e → IsSpare kept n)
             → HasGiven exact kept limit e n before after (record { turns = counted; told = Some wants })
-        gives_told counted f (given, counts, x, ends) wants said =
+        gives_told counted f (given, counts, x, ends) wants said spare =
             let t = told_so wants before after f x said in
             let start = turns_given p.question in
             let some = some_given exact kept e m.demand p given x.form ends in
@@ -220,7 +220,7 @@ module _ {K : Type 0} (exact : Bool) (kept : K → Entries) (e : Engine K) {memo
             (state_of n)) as_now turns) in
             spent_so given counted wants t.reply some (counts_same {B = Bool × Reply} limit given counted f
             (wants, t.reply) counts) all t.appended
-            (by given counted wants t.reply x.form t.is_form ends counts)
+            (by given counted wants t.reply x.form t.is_form ends counts) (λ whole. spare)
           where
             by : (given counted : ℕ) (wants : Bool) (reply : Reply) (g : FormOf) → (wants ≡ false → reply.form ≡ g)
                 → EndsSo exact kept e m.demand p given g
@@ -237,8 +237,9 @@ module _ {K : Type 0} (exact : Bool) (kept : K → Entries) (e : Engine K) {memo
         pub gives_failed : (e' : AllocError) → Came exact kept limit e m.demand p o (Err e') → IfSome limit (λ n. 0 < n)
             → (wants : Bool)
             → IsSaid (told_of p m.version (Err e')) wants before after
+            → (HasNoneCircular (rules_of e) → IsTrue exact → IsSpare kept e → IsSpare kept n)
             → HasGiven exact kept limit e n before after (record { turns = 1; told = Some wants })
-        gives_failed e' out some wants said = by wants (failed_so wants before after e' said)
+        gives_failed e' out some wants said spare = by wants (failed_so wants before after e' said)
           where
             by : (wants : Bool) → (wants ≡ true) × TurnTold (rules_of e) (state_of e) (view p)
                 (state_of n) wants Memory before after
@@ -246,31 +247,18 @@ module _ {K : Type 0} (exact : Bool) (kept : K → Entries) (e : Engine K) {memo
             by true (is, t) = spent_so 1 1 true t.reply (omega arith) (counts_refused {A = Bool × Reply} limit
                 (true, t.reply) some)
                 (telling (view p) (ap first_of viewed) t.turns (spent (state_of n))) t.appended
-                (subst (λ (d : Demand K). RunsOut kept limit e d p) (sym demand_end) out)
+                (subst (λ (d : Demand K). RunsOut kept limit e d p) (sym demand_end) out) spare
             by false (is, t) = absurd cc
-
-    -- what is done for it stands
-    begun_now : (o : Option Question) → Reopens 0 e.posts m.posts p o
-        → AllByRecursion (IsPostedOn m.rules m.store (kept m.demand.keeper)) m.posts.items.items
-        → HasBegun (rules_of e) e.store (kept m.demand.keeper) (record p { question = o }) o
-    begun_now o opens all =
-        let items = opens.items ∙ ap (λ (l : List Posted). slice_set l 0 (record p { question = o })) least in
-        let here = subst (λ (x : Engine K). AllByRecursion (IsPostedOn x.rules x.store (kept m.demand.keeper)) m.posts.items.items)
-        rest all in
-        (subst (AllByRecursion (IsPostedOn (rules_of e) e.store (kept m.demand.keeper))) items here).0.begun
 
     -- it has no answer yet
     pub gives_silent : (limit : Option ℕ) (o : Option Question) → Reopens 0 e.posts m.posts p o
         → (counted : ℕ) (before after : List ℕ) → after ≡ before
         → IfSome limit (λ n. 0 < n) → Came {E = AllocError} exact kept limit e m.demand p o (Ok (counted, None))
-        → HasNoneCircular (rules_of e) → AllByRecursion (IsPostedOn m.rules m.store (kept m.demand.keeper)) m.posts.items.items
+        → (IsTrue exact → IsSpare kept e → IsSpare kept m)
         → HasGiven exact kept limit e m before after (record { turns = counted; told = None })
-    gives_silent limit o opens counted before after same some (given, counts, still) none all =
+    gives_silent limit o opens counted before after same some (given, counts, still) spare =
         let start = turns_given p.question in
-        let count : turns_given o ≡ start + given = given_by (rules_of e) none e.store (kept e.demand.keeper) (kept m.demand.keeper)
-        p (record p { question = o }) p.question o first_begun (begun_now o opens all) still.inst still.holds.0 still.holds.1 given
-        (turns_counted (rules_of e) e.store given (kept e.demand.keeper) (kept m.demand.keeper)
-        (came_to p.question still.inst) (under_way still.holds.0) still.holds.2) in
+        let count : turns_given o ≡ start + given = ap turns_given still.holds.1 ∙ still.holds.2.counted in
         let turns = silent_turns (rules_of e) (state_of e) (view p)
         (map view others) e.posts.count increase given start in
         let end : at_turn (start + given) ≡ state_of m = sym (state_at o (start + given) opens count) in
@@ -287,6 +275,7 @@ module _ {K : Type 0} (exact : Bool) (kept : K → Entries) (e : Engine K) {memo
           appended = same ∙ sym (append-nil before);
           named = refl;
           tried = (o, still, opens.items ∙ ap (λ (l : List Posted). slice_set l 0 (record p { question = o })) least);
+          spare = λ whole. spare;
         })
 
 -- no question is open, and nothing is done
@@ -315,6 +304,12 @@ IsResult (Ok (counted, None)) form = ⊥
 IsResult (Ok (counted, Some f)) form = form ≡ Ok f
 IsResult (Err e') form = form ≡ Err e'
 
+-- what is told tells whether memory ran out in its turns
+whole_result : (rules : Rules) (r : Result (ℕ × Option Form) AllocError) (form : Result Form AllocError) → IsResult r form
+    → KeepsGroups rules form → KeepsGroups rules r
+whole_result rules (Ok g) form is whole = tt
+whole_result rules (Err e') form is whole = subst (λ (x : Result Form AllocError). KeepsGroups rules x) is whole
+
 module _ {K : Type 0} (exact : Bool) (kept : K
     → Entries) (e : Engine K) (d : Demand K) (p : Posted) (o : Option Question) where
   ends_with : (r : Result (ℕ × Option Form) AllocError) (form : Result Form AllocError) → IsResult r form → Came exact kept None e d p o r
@@ -325,13 +320,13 @@ module _ {K : Type 0} (exact : Bool) (kept : K
 
 -- what a line that waits is told
 pub waited : {K : Type 0} (exact : Bool) (kept : K → Entries) (memories : K → Memories) (e : Engine K)
-    → IsHeld kept memories e → (position : ℕ) (m : Engine K)
+    → IsHeld kept memories e → (position : ℕ) → position < length e.posts.items.items → (m : Engine K)
     (r : Result (ℕ × Option Form) AllocError)
-    → Attends exact kept memories e m position (λ p. HasGone exact kept None e m position p r)
+    → Attends exact kept memories e m position (λ p. HasGone exact kept None e m position p r) (KeepsGroups (rules_of e) r)
     → (form : Result Form AllocError) → IsResult r form → (n : Engine K) (told : Told)
     → TakesOff exact kept memories m n position (λ p. told ≡ told_of p m.version form)
-    → Attends exact kept memories e n position (λ p. IsClosed exact kept e n p told)
-waited {K} exact kept memories e held position m r a form is n told off = record {
+    → Attends exact kept memories e n position (λ p. IsClosed exact kept e n p told) (KeepsGroups (rules_of e) told.form)
+waited {K} exact kept memories e held position within m r a form is n told off = record {
   done = λ p there.
       let h = a.done p there in
       let ended = ends_with exact kept e m.demand p h.now r form is h.came in
@@ -341,14 +336,19 @@ waited {K} exact kept memories e held position m r a form is n told off = record
       (subst (λ (x : Demand K). HasEnded exact kept e x p form) (sym same) ended) told
       (off.told (record p { question = h.now }) still);
   rest = rest_end e m n a.rest off.rest;
-  spare = λ ex spare. off.spare ex (a.spare ex spare);
+  spare = λ whole ex spare.
+      let (p, there) = there_at e.posts.items.items position within in
+      let h = a.done p there in
+      let same : told.form ≡ form = ap (λ (x : Told). x.form) (off.told (record p { question = h.now })
+      (stands_open kept e held position p there m a.rest h.now h.reopens)) in
+      off.spare ex (a.spare (whole_result (rules_of e) r form is (subst (λ (x : Result Form AllocError). KeepsGroups (rules_of e) x) same whole)) ex spare);
   sound = off.sound;
 }
 
 pub stays_there : {K : Type 0} (exact : Bool) (kept : K → Entries) (memories : K
     → Memories) (e : Engine K) (position : ℕ) → position < length e.posts.items.items
-    → (m : Engine K) (r : Result (ℕ × Option Form) AllocError)
-    → Attends exact kept memories e m position (λ p. HasGone exact kept None e m position p r)
+    → (m : Engine K) (r : Result (ℕ × Option Form) AllocError) {Whole : Type 0}
+    → Attends exact kept memories e m position (λ p. HasGone exact kept None e m position p r) Whole
     → position < length m.posts.items.items
 stays_there exact kept memories e position within m r a =
     let (p, there) = there_at e.posts.items.items position within in
@@ -361,9 +361,9 @@ stays_there exact kept memories e position within m r a =
 -- without a limit it has an answer
 pub never_silent : {K : Type 0} (exact : Bool) (kept : K → Entries) (memories : K
     → Memories) (e m : Engine K) (position : ℕ) → position < length e.posts.items.items
-    → (counted : ℕ) (o : Option Form)
+    → (counted : ℕ) (o : Option Form) {Whole : Type 0}
     → Attends exact kept memories e m position (λ p. HasGone {E = AllocError} exact kept None e m position p (Ok
-    (counted, o))) → o ≡ None → ⊥
+    (counted, o))) Whole → o ≡ None → ⊥
 never_silent exact kept memories e m position within counted o a is =
     let (p, there) = there_at e.posts.items.items position within in
     let h = a.done p there in
@@ -385,8 +385,8 @@ pub record FirstGone {K E : Type 0} (exact : Bool) (kept : K
 
 pub first_gone : {K E : Type 0} (exact : Bool) (kept : K → Entries) (memories : K
     → Memories) (limit : Option ℕ) (e m : Engine K)
-    (r : Result (ℕ × Option Form) E) → 0 < length e.posts.items.items
-    → Attends exact kept memories e m 0 (λ p. HasGone exact kept limit e m 0 p r) → FirstGone exact kept limit e m r
+    (r : Result (ℕ × Option Form) E) {Whole : Type 0} → 0 < length e.posts.items.items
+    → Attends exact kept memories e m 0 (λ p. HasGone exact kept limit e m 0 p r) Whole → FirstGone exact kept limit e m r
 first_gone exact kept memories limit e m r some a =
     let (p, others, least) = first_there e.posts.items.items some in
     let there : StandsAt e.posts.items.items 0 p = ap (λ (l : List Posted). slice_get l 0) least in
@@ -407,20 +407,19 @@ first_gone exact kept memories limit e m r some a =
     }
 
 -- what a call promises that gives turns
-pub called : {K T E : Type 0} (exact : Bool) (kept : K → Entries) (memories : K
+pub called : {K T E : Type 0} (kept : K → Entries) (memories : K
     → Memories) (e m n : Engine K) (out next : Vec ℕ Global) (Done : T → Type 0) (t : T)
     → IsSound kept memories e → m ≡ record e { demand = m.demand; posts = m.posts }
     → n ≡ record m { posts = record n.posts { count = m.posts.count } }
-    → (IsTrue exact → IsSpare kept e → IsSpare kept n) → IsHeld kept memories n → vec_capacity out ≤ vec_capacity next
+    → IsHeld kept memories n → vec_capacity out ≤ vec_capacity next
     → Done t
-    → Calls {E = E} exact kept memories e n out next Done (Ok t)
-called {K} exact kept memories e m n out next Done t sound rest tells spare held room done = record {
+    → Calls {E = E} kept memories e n out next Done (Ok t)
+called {K} kept memories e m n out next Done t sound rest tells held room done = record {
   done = done;
   same = tt;
   full = tt;
   err = tt;
   room = room;
-  spare = spare;
   rules = ap (λ (x : Engine K). x.rules) tells ∙ ap (λ (x : Engine K). x.rules) rest;
   slice = ap (λ (x : Engine K). x.slice) tells ∙ ap (λ (x : Engine K). x.slice) rest;
   sound = record {

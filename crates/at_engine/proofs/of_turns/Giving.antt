@@ -1,6 +1,6 @@
 -- What turns do, and how much can be counted of lines and turns.
 use Rattle.std.proofs.Common.{◌≡◌, ◌⊎◌, ℕ, suc, ◌+◌, ◌-◌, ◌^◌, ◌≤◌, ◌<◌, Bool, true, false, cond, not, nat_eq, if◌then◌else◌, List, [], ◌∷◌, ◌++◌, map, filter, length, inl, inr, refl, sym, ap, ◌∙◌, append_assoc, append-nil, subst, arith, length-append, Option, Some, None, Result, Ok, Err, true≢false}
-use Rattle.std.specs.Prelude.{IfSome}
+use Rattle.std.specs.Prelude.{IfSome, IsTrue}
 use Rattle.std.specs.Option.{option_map}
 use Rattle.std.proofs.lemmas.Bool.Decides.{eqb_tells}
 use Rattle.std.proofs.lemmas.List.{length-map}
@@ -25,7 +25,8 @@ use Rattle.at_engine.specs.declared.stream.desk.Desk.{Desk}
 use Rattle.at_engine.specs.KeptOver.{NonePosts}
 use Rattle.at_engine.specs.declared.stream.desk.RunFault.{RunFault}
 use Rattle.at_engine.specs.Stepping.{GoesBy, by_turns, nowhere}
-use Rattle.at_engine.specs.Turned.{HasGiven, gives, listed, none_open}
+use Rattle.at_engine.specs.Keeping.{IsSpare, KeepsWhole}
+use Rattle.at_engine.specs.Turned.{HasGiven, gives, is_memory, listed, none_open}
 use Rattle.at_engine.specs.Turning.{CountsTurns, IsWithin}
 use Rattle.at_engine.specs.Taking.{in_line, in_turn, AreLeft, Gives, GivesInPart, GivesTurns, GivesSome, Halts, Served, ServedOrHalts, countable, wants}
 use Rattle.at_engine.proofs.Takings.{both_counted, both_written, no_count, written_behind}
@@ -179,6 +180,12 @@ module _ {K : Type 0} (exact : Bool) (kept : K
       let some : posted_view (path old.store) s.first ∷ map (posted_view (path old.store)) s.others ≡ [] =
       sym (ap (map (posted_view (path old.store))) s.least) ∙ posted in
       absurd cc
+
+  -- what was kept spare is so still
+  pub given_spare : HasGiven exact kept limit old new before after it → KeepsWhole (rules_of old) (is_memory it.told) → IsTrue exact
+      → IsSpare kept old → IsSpare kept new
+  given_spare (none_open none same appended told) whole ex spare = subst (λ (e : Engine K). IsSpare kept e) (sym same) spare
+  given_spare (gives s) whole ex spare = s.spare whole ex spare
 
   -- so the engine has gone on
   pub has_gone : HasGiven exact kept limit old new before after it → GoesBy exact kept old new

@@ -19,7 +19,7 @@ use Rattle.at_demand.specs.Traces.{IsRemembered}
 use Rattle.at_demand.specs.Sparing.{AreSpare}
 use Rattle.at_demand.specs.declared.question.Question.{Question}
 use Rattle.at_demand.proofs.of_steps.Grown.{spares_grown, stands_grown}
-use Rattle.at_engine.specs.Holding.{HasBegun, IsPostedOn, IsSoundWith, state_in}
+use Rattle.at_engine.specs.Holding.{AreKeptTyped, HasBegun, IsPostedOn, IsSoundWith, state_in}
 use Rattle.at_engine.specs.Keeping.{IsSpareWith, IsSparingOn}
 use Rattle.at_engine.specs.Marks.{Mark, marks_view}
 use Rattle.at_engine.specs.Posted.{posted_view}
@@ -138,13 +138,14 @@ module _ (rules : Rules) (s : Shown) (entries more : Entries) (grown : (i : Inst
   all_sparing (p ∷ ps) h g = (sparing_grown p p.question h.0.begun g.0, all_sparing ps h.1 g.1)
 
   module _ (ms : List Mark) (old : Posts) {m : Memories} (h : IsSoundWith rules s ms old entries m) where
-    pub sound_grown : {n : Memories} → AreRight rules s more → IsRemembered rules s n → IsSoundWith rules s ms old more n
-    sound_grown right remembered = record {
+    pub sound_grown : {n : Memories} → AreRight rules s more → AreKeptTyped rules s more → IsRemembered rules s n → IsSoundWith rules s ms old more n
+    sound_grown right typed remembered = record {
       idle = h.idle;
       sound = h.sound;
       conforming = h.conforming;
       marked = h.marked;
       right = right;
+      typed = typed;
       remembered = remembered;
       posted = all_so posted_grown old.items.items h.posted;
       numbered = h.numbered;
@@ -155,9 +156,9 @@ module _ (rules : Rules) (s : Shown) (entries more : Entries) (grown : (i : Inst
 
     -- and one of them has come so far
     module _ (position : ℕ) (p : Posted) (there : StandsAt old.items.items position p) (o : Option Question) (new : Posts) (r : Reopens position old new p o) where
-      pub sound_reopened : {n : Memories} → AreRight rules s more → IsRemembered rules s n → HasBegun rules s more p o
+      pub sound_reopened : {n : Memories} → AreRight rules s more → AreKeptTyped rules s more → IsRemembered rules s n → HasBegun rules s more p o
           → IsSoundWith rules s ms new more n
-      sound_reopened right remembered begun =
+      sound_reopened right typed remembered begun =
           let q : Posted = record p { question = o } in
           let all = all_so posted_grown old.items.items h.posted in
           let was = holds_at (IsPostedOn rules s more) old.items.items position p there all in
@@ -168,6 +169,7 @@ module _ (rules : Rules) (s : Shown) (entries more : Entries) (grown : (i : Inst
             conforming = h.conforming;
             marked = h.marked;
             right = right;
+            typed = typed;
             remembered = remembered;
             posted = subst (AllByRecursion (IsPostedOn rules s more)) (sym r.items) (holds_put (IsPostedOn rules s more) old.items.items position p there all q is);
             numbered = numbered_reopened rules s 0 ms old position p there h.numbered o new r;
@@ -195,6 +197,7 @@ module _ (rules : Rules) (s : Shown) (ms : List Mark) (old new : Posts) (entries
         conforming = h.conforming;
         marked = h.marked;
         right = h.right;
+        typed = h.typed;
         remembered = h.remembered;
         posted = subst (AllByRecursion (IsPostedOn rules s entries)) (sym items) (holds_without (IsPostedOn rules s entries) old.items.items position p there h.posted);
         numbered = numbered_gone rules s 0 ms old position p there h.numbered new items count;

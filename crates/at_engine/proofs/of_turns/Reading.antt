@@ -6,13 +6,15 @@ use Rattle.at_model.specs.Lines.{Ask}
 use Rattle.at_model.specs.Replies as code
 use Rattle.at_model.specs.Rules.{Rules}
 use Rattle.at_model.specs.Run.{Instance}
-use Rattle.at_model.specs.Turning.{UnderWay, asked, posted}
+use Rattle.at_model.specs.Turning.{UnderWay, posted}
+use Rattle.at_model.specs.of_fixpoints.Searching.{posted as search_posted}
 use Rattle.at_model.specs.Machine.{Verdict, Asks, Refuses, marks_used, obeyed}
 use Rattle.at_protocol.specs.LineView.{arguments_view, place_view}
 use Rattle.at_protocol.specs.ReplyView.{code_view}
 use Rattle.at_protocol.specs.declared.reply.Refusal.{Refusal}
 use Rattle.at_store.specs.Shown.{Shown, path, tree}
 use Rattle.at_cache.specs.Kept.{Entries}
+use Rattle.at_demand.specs.Levels.{StandsFor, asked_by}
 use Rattle.at_demand.specs.Turns.{IsStanding, under_way}
 use Rattle.at_demand.specs.declared.question.Question.{Question}
 use Rattle.at_engine.specs.Asking.{IsInstanceOf}
@@ -42,13 +44,19 @@ module _ (rules : Rules) (s : Shown) (version : ℕ) (ps : Posts) (p : Posted) (
     pub read_refused : (r : Refusal) → verdict_by ≡ Refuses (code_view r) → words_verdict rules (tree s) (posted_view (path s) p) ≡ Refuses (code_view r)
     read_refused r is = read_so (Refuses (code_view r)) is
 
-    pub read_asked : (entries : Entries) (i : Instance ℕ) → IsInstanceOf rules s verdict_by i → (q : Question) → under_way q ≡ posted i → IsStanding rules s entries q → IsBegun rules s entries p None q
-    read_asked entries i is q e standing = record {
-      begun = record {
-        standing = standing;
-        named = is.named;
-        asks = read_so (Asks is.named) is.asks;
-        like = subst (λ (j : Instance ℕ). InstanceLike (Names (path s)) j is.named) (sym (ap asked e)) is.like;
-      };
-      came = e ∙ sym (ap {B = UnderWay ℕ} (λ (j : Instance ℕ). posted j) (ap asked e));
-    }
+    pub read_asked : (entries : Entries) (i : Instance ℕ) → IsInstanceOf rules s verdict_by i → (q : Question) → under_way q ≡ posted i
+        → StandsFor rules s entries q (search_posted i) → IsStanding rules s entries q → IsBegun rules s entries p None q
+    read_asked entries i is q e stands standing =
+        let same : i ≡ asked_by q = stands.on.starts in
+        record {
+          begun = record {
+            standing = standing;
+            named = is.named;
+            asks = read_so (Asks is.named) is.asks;
+            like = subst (λ (j : Instance ℕ). InstanceLike (Names (path s)) j is.named) same is.like;
+          };
+          came = (
+            e ∙ ap {B = UnderWay ℕ} (λ (j : Instance ℕ). posted j) same,
+            subst (λ (j : Instance ℕ). StandsFor rules s entries q (search_posted j)) same stands,
+          );
+        }

@@ -9,7 +9,6 @@ use Rattle.at_model.specs.Meaning.{Answer}
 use Rattle.at_model.specs.Paths.{Node}
 use Rattle.at_model.specs.Replies.{Form as FormOf, Refused}
 use Rattle.at_model.specs.Run.{Instance}
-use Rattle.at_model.specs.Turning.{UnderWay, asked}
 use Rattle.at_protocol.specs.ReplyView.{code_view}
 use Rattle.at_protocol.specs.declared.reply.Form.{Form}
 use Rattle.at_protocol.specs.declared.reply.Form.TheVariants as form
@@ -18,31 +17,34 @@ use Rattle.at_store.specs.Shown.{Shown, contents, path, tree}
 use Rattle.at_cache.specs.Kept.{Entries}
 use Rattle.at_cache.specs.Traced.{Memories}
 use Rattle.at_demand.specs.Known.{answer_view}
+use Rattle.at_demand.specs.Answerable.{IsBasis}
+use Rattle.at_demand.specs.Groups.{KeepsGroups}
+use Rattle.at_demand.specs.Levels.{asked_by}
 use Rattle.at_demand.specs.Right.{IsThere}
-use Rattle.at_demand.specs.Sparing.{HasWorthy}
-use Rattle.at_demand.specs.Turns.{AreTurnsOfChain as AreTurns, IsSparingTurns, under_way}
+use Rattle.at_demand.specs.Turns.{IsSparingTurns}
 use Rattle.at_demand.specs.declared.answer.Answer.{Answer as AnswerCode}
 use Rattle.at_demand.specs.declared.demand.Demand.{Demand}
 use Rattle.at_demand.specs.declared.question.Question.{Question}
-use Rattle.at_rules.specs.Circular.{HasNoneCircular}
 use Rattle.at_engine.specs.Engines.{marks_of, rules_of, state_of, IsHeld, IsTyped}
-use Rattle.at_engine.specs.Holding.{HasBegun, IsBegunFor, IsPostedOn, IsSoundWith, words_verdict}
+use Rattle.at_engine.specs.Holding.{AreKeptTyped, HasBegun, IsBegunFor, IsPostedOn, IsSoundWith, words_verdict}
 use Rattle.at_engine.specs.Keeping.{IsSpare, IsSpareWith, IsSparingOn}
-use Rattle.at_engine.specs.Posted.{came_to, posted_view}
+use Rattle.at_engine.specs.Posted.{posted_view}
 use Rattle.at_engine.specs.Telling.{IsAnswerTo, IsToldAs}
-use Rattle.at_engine.specs.Turning.{Attends, Begins, BeginsSparing, BreaksOffIn, Came, CanAnswer, CountsTurns, HasGone, HasTurnedUpTo, IsBegun, Reopens, TakesOut, StandsAt}
+use Rattle.at_engine.specs.Turning.{Attends, Begins, BeginsSparing, BreaksOffIn, Came, CameFrom, CanAnswer, CanTurn, CountsTurns, HasGone, HasTurnedUpTo, IsBegun, Reopens, TakesOut, StandsAt}
 use Rattle.at_engine.specs.declared.engine.Engine.{Engine}
 use Rattle.at_engine.specs.declared.engine.turning.Begun.{Begun}
 use Rattle.at_engine.specs.declared.engine.turning.Begun.TheVariants as begun
 use Rattle.at_engine.specs.declared.posts.Posted.{Posted}
 use Rattle.at_engine.specs.declared.posts.Posts.{Posts}
 use Rattle.at_model.proofs.of_machines.WellAsked.{well_asked}
+use Rattle.at_demand.proofs.of_levels.Resolving.{keeps_groups}
 use Rattle.at_engine.proofs.Numbered.{answer_named}
-use Rattle.at_engine.proofs.of_turns.Plainly.{circular_well, kept_whole}
-use Rattle.at_engine.proofs.of_turns.Counted.{answers_by_turns, asked_by_turns, breaks_behind, counts_refused, counts_same, silent_same}
+use Rattle.at_engine.proofs.of_keeping.KeptTyped.{basis_held, sound_typed, typed_more}
+use Rattle.at_engine.proofs.of_turns.Counted.{breaks_behind, breaks_from, counts_refused, counts_same, silent_same, turns_from}
 use Rattle.at_engine.proofs.of_turns.Openings.{sound_grown, sound_reopened, spare_grown, spare_reopened}
 use Rattle.at_engine.proofs.Positions.{get_set, holds_at, same_there, set_set, there_at, within_set}
 use Rattle.at_engine.proofs.of_turns.Wordings.{answers_asked, answers_refused}
+use Rattle.at_engine.proofs.Typing.{numbered_typed}
 use Rattle.at_engine.proofs.of_keeping.Tracing.{remembered_still}
 
 -- what was done for the question at the position was taken out of it
@@ -69,12 +71,12 @@ module _ {K : Type 0} (exact : Bool) (kept : K → Entries) (memories : K
     → Memories) (e : Engine K) (position : ℕ) (limit : Option ℕ) (new : Engine K)
     (p : Posted) (there : StandsAt e.posts.items.items position p) (now : Option Question)
     (reopens : Reopens position e.posts new.posts p now)
-    (rest : new ≡ record e { demand = new.demand; posts = new.posts }) (spare : IsTrue exact → IsSpare kept e
-    → IsSpare kept new)
+    (rest : new ≡ record e { demand = new.demand; posts = new.posts })
     (sound : IsHeld kept memories new) where
-  pub attended : {E : Type 0} (r : Result (ℕ × Option Form) E) → Came exact kept limit e new.demand p now r
-      → Attends exact kept memories e new position (λ q. HasGone exact kept limit e new position q r)
-  attended r came = record {
+  pub attended : {E : Type 0} (r : Result (ℕ × Option Form) E)
+      → (KeepsGroups (rules_of e) r → IsTrue exact → IsSpare kept e → IsSpare kept new) → Came exact kept limit e new.demand p now r
+      → Attends exact kept memories e new position (λ q. HasGone exact kept limit e new position q r) (KeepsGroups (rules_of e) r)
+  attended r spare came = record {
     done = λ q at. subst (λ (x : Posted). HasGone exact kept limit e new position x r)
         (same_there e.posts.items.items position p q there at)
         (record { now = now; reopens = reopens; came = came });
@@ -103,7 +105,15 @@ module _ {K : Type 0} (exact : Bool) (kept : K → Entries) (memories : K
   pub sound_taken : IsSoundWith (rules_of e) e.store (marks_of e) t entries (memories e.demand.keeper)
   sound_taken = sound_reopened (rules_of e) e.store entries entries (λ i some. refl)
       (marks_of e) e.posts it.held position it.posted
-      it.there None t it.opens it.held.right it.held.remembered tt
+      it.there None t it.opens it.held.right it.held.typed it.held.remembered tt
+
+  -- its rules and its tree are as they were
+  pub ready_taken : IsTyped (rules_of e) (state_of e) → CanTurn kept memories (record e { posts = t }) position
+  ready_taken typed = record {
+    sound = sound_taken;
+    typed = record { formed = typed.formed; circular = typed.circular; tokens = typed.tokens };
+    within = within_still;
+  }
 
   spare_taken : IsSpare kept e → IsSpareWith (rules_of e) (contents e.store) entries t.items.items
   spare_taken spare = spare_reopened (rules_of e) e.store entries entries (λ i some. refl)
@@ -128,18 +138,18 @@ module _ {K : Type 0} (exact : Bool) (kept : K → Entries) (memories : K
   -- with nothing tried
   pub not_read : {E : Type 0} (r : Result (ℕ × Option Form) E) (e' : E) → r ≡ Err e'
       → Attends exact kept memories e (record e { posts = t }) position (λ q. HasGone exact kept limit e
-      (record e { posts = t }) position q r)
+      (record e { posts = t }) position q r) (KeepsGroups (rules_of e) r)
   not_read r e' is =
       let new : Engine K = record e { posts = t } in
-      attended exact kept memories e position limit new it.posted it.there None it.opens refl
-      (λ ex spare. spare_taken spare) sound_taken r
+      attended exact kept memories e position limit new it.posted it.there None it.opens refl sound_taken r
+      (λ whole ex spare. spare_taken spare)
       (subst (Came exact kept limit e new.demand it.posted None) (sym is) (inl refl))
 
   pub was_refused : {E : Type 0} {b : Begun} → ((x : Posted) → StandsAt t.items.items position x
       → HasBegun (rules_of e) e.store entries x o
       → Begins (rules_of e) e.store entries x o b) → (f : Refusal) → b ≡ begun.Refused f → IfSome limit (λ n. 0 < n)
       → Attends exact kept memories e (record e { posts = t }) position
-      (λ q. HasGone {E = E} exact kept limit e (record e { posts = t }) position q (Ok (1, Some (form.Refused f))))
+      (λ q. HasGone {E = E} exact kept limit e (record e { posts = t }) position q (Ok (1, Some (form.Refused f)))) (Unit {0})
   was_refused {E} {b} begins f is some =
       let new : Engine K = record e { posts = t } in
       let words = subst (Begins (rules_of e) e.store entries bare o) is (begins bare there_still was_begun) in
@@ -151,9 +161,8 @@ module _ {K : Type 0} (exact : Bool) (kept : K → Entries) (memories : K
         is_form = refl;
         answers = answers_refused (rules_of e) (state_of e) v (code_view f) words;
       } in
-      attended exact kept memories e position limit new it.posted it.there None it.opens refl
-      (λ ex spare. spare_taken spare) sound_taken
-      {E = E} (Ok (1, Some (form.Refused f))) (
+      attended exact kept memories e position limit new it.posted it.there None it.opens refl sound_taken
+      {E = E} (Ok (1, Some (form.Refused f))) (λ whole ex spare. spare_taken spare) (
         1,
         counts_refused limit (form.Refused f) some,
         said,
@@ -175,197 +184,191 @@ module _ {K : Type 0} (exact : Bool) (kept : K → Entries) (memories : K
   sparing_for sparing q is spare =
       subst (BeginsSparing (rules_of e) (contents e.store) entries) is (sparing (was_sparing spare))
 
-  pub can_answer : (q : Question) → IsBegun (rules_of e) e.store entries bare o q → IsTyped (rules_of e) (state_of e)
-      → CanAnswer (rules_of e) e.store entries q
-  can_answer q b typed =
-      let v = posted_view (path e.store) bare in
-      record {
-        turns = record {
-          answerable = record {
-            basis = record {
-              idle = it.held.idle;
-              formed = typed.formed;
-              sound = record { conform = it.held.conforming; within = it.held.idle.limits; tokens = typed.tokens };
-              circular = circular_well (rules_of e) typed.none_circular;
-            };
-            right = it.held.right.values;
-            plain = it.held.right.plain;
+  module _ (typed : IsTyped (rules_of e) (state_of e)) where
+    basis : IsBasis (rules_of e) e.store
+    basis = basis_held kept memories e it.held typed
+
+    pub can_answer : (q : Question) → IsBegun (rules_of e) e.store entries bare o q → CanAnswer (rules_of e) e.store entries q
+    can_answer q b =
+        let v = posted_view (path e.store) bare in
+        record {
+          turns = record {
+            answerable = record { basis = basis; right = it.held.right.values; plain = it.held.right.plain };
+            standing = b.begun.standing;
+            wholes = (sound_typed (rules_of e) e.store basis entries it.held.right.values it.held.typed).whole;
           };
-          standing = b.begun.standing;
-          wholes = kept_whole (rules_of e) typed.none_circular e.store entries it.held.right.values;
-        };
-        plainly = typed.none_circular;
-        named = record {
-          named = b.begun.named;
-          like = b.begun.like;
-          formed = well_asked (rules_of e)
-              (record { tree = tree e.store; limit = max_nodes; version = 0; marks = v.marks; posts = 0; posted = [] })
-              (line_of v) b.begun.named b.begun.asks;
-        };
-      }
-
-  module _ (q : Question) (b : IsBegun (rules_of e) e.store entries bare o q)
-      (sparing : IsSpare kept e → IsSparingTurns (rules_of e) (contents e.store) entries q) where
-    abbrev asked_for : Instance ℕ
-    asked_for = asked (under_way q)
-
-    there_asked : IsThere e.store asked_for
-    there_asked = (b.begun.named, b.begun.like)
-
-    came : under_way q ≡ came_to it.posted.question asked_for
-    came = b.came ∙ ap (λ (x : Option Question). came_to x asked_for) it.same
-
-    -- it was given turns
-    module _ {E' : Type 0} (d : Demand K) (later : Question) (r : Result (ℕ × Option AnswerCode) E')
-        (h : HasTurnedUpTo exact (rules_of e) e.store limit entries (kept d.keeper) (memories e.demand.keeper)
-        (memories d.keeper) q later r) where
-      abbrev more : Entries
-      more = kept d.keeper
-
-      pub sound_more : IsSoundWith (rules_of e) e.store (marks_of e) t more (memories d.keeper)
-      sound_more = sound_grown (rules_of e) e.store entries more h.worthy.stays (marks_of e) t sound_taken
-          (h.stays there_asked it.held.right)
-          (remembered_still (rules_of e) e.store (memories e.demand.keeper)
-          (memories d.keeper) h.traces it.held.remembered)
-
-      spare_more : IsTrue exact → IsSpare kept e → IsSpareWith (rules_of e) (contents e.store) more t.items.items
-      spare_more ex spare = spare_grown (rules_of e) e.store entries more h.worthy.stays (marks_of e) t sound_taken
-          (h.spare ex spare.kept (sparing spare)) (spare_taken spare)
-
-      module _ {E : Type 0} (result : Result (ℕ × Option Form) E) where
-        without_memory : (e' : E) → result ≡ Err e' → BreaksOffIn (rules_of e) e.store limit entries (under_way q) more
-            → Attends exact kept memories e (record e { posts = t; demand = d }) position
-            (λ p. HasGone exact kept limit e (record e { posts = t; demand = d }) position p result)
-        without_memory e' is broke =
-            let new : Engine K = record e { posts = t; demand = d } in
-            let from = subst (λ (u : UnderWay ℕ). BreaksOffIn (rules_of e) e.store limit entries u more) came broke in
-            attended exact kept memories e position limit new it.posted it.there None it.opens refl spare_more sound_more result
-            (subst (Came exact kept limit e new.demand it.posted None) (sym is)
-            (inr (record { inst = asked_for; named = b.begun.named; words = b.begun.asks; like = b.begun.like; holds = from })))
-
-        -- memory ran out in a turn, or behind the last one
-        pub broke_off : (e' : E) (f : E') → result ≡ Err e' → r ≡ Err f
-            → Attends exact kept memories e (record e { posts = t; demand = d }) position
-            (λ p. HasGone exact kept limit e (record e { posts = t; demand = d }) position p result)
-        broke_off e' f is failed = without_memory e' is (broken r failed h)
-          where
-            broken : (x : Result (ℕ × Option AnswerCode) E') → x ≡ Err f
-                → HasTurnedUpTo exact (rules_of e) e.store limit entries more (memories e.demand.keeper)
-                (memories d.keeper) q later x
-                → BreaksOffIn (rules_of e) e.store limit entries (under_way q) more
-            broken (Ok g) failed h = absurd cc
-            broken (Err f) failed h = h.broke
-
-    module _ (d : Demand K) (later : Question) (turns : ℕ) where
-      abbrev grown : Entries
-      grown = kept d.keeper
-
-      -- its answer can't be told
-      pub untold : {E E' : Type 0} (a : AnswerCode)
-          (h : HasTurnedUpTo {E = E'} exact (rules_of e) e.store limit entries grown (memories e.demand.keeper)
-          (memories d.keeper) q later (Ok (turns, Some a)))
-          (result : Result (ℕ × Option Form) E) (e' : E) → result ≡ Err e'
-          → Attends exact kept memories e (record e { posts = t; demand = d }) position
-          (λ p. HasGone exact kept limit e (record e { posts = t; demand = d }) position p result)
-      untold {E} {E'} a h result e' is = without_memory {E' = E'} d later (Ok (turns, Some a)) h result e' is
-          (breaks_behind (rules_of e) e.store limit entries (under_way q) grown (under_way later) turns
-          (answer_view a) h.each)
-
-      -- it is told
-      pub told : {E E' : Type 0} → HasNoneCircular (rules_of e) → (a : AnswerCode)
-          (h : HasTurnedUpTo {E = E'} exact (rules_of e) e.store limit entries grown (memories e.demand.keeper)
-          (memories d.keeper) q later (Ok (turns, Some a)))
-          (f : Form) → ((x : Answer Node) → AnswerLike (Names (path e.store)) (answer_view a) x
-          → IsToldAs (rules_of e) (tree e.store) x f)
-          → Attends exact kept memories e (record e { posts = t; demand = d }) position
-          (λ p. HasGone {E = E} exact kept limit e (record e { posts = t; demand = d }) position p (Ok (turns, Some f)))
-      told {E} {E'} none a h f tells =
-          let new : Engine K = record e { posts = t; demand = d } in
-          let (given, counts, each) = h.each in
-          let v = posted_view (path e.store) it.posted in
-          let has = answers_by_turns (rules_of e) e.store entries q (b.begun.standing.plainly none) given grown
-          (under_way later)
-          (answer_view a) each in
-          let (x, like, answers) = answer_named (rules_of e) none e.store it.held.idle asked_for b.begun.named
-          (answer_view a) b.begun.like has in
-          let is = tells x like in
-          let said : IsAnswerTo (rules_of e) (state_of e) v f = record {
-            writable = is.writable;
-            form = answer_form (rules_of e) (tree e.store) x;
-            is_form = is.is_form;
-            answers = answers_asked (rules_of e) (state_of e) v b.begun.named x b.begun.asks answers;
-          } in
-          let lead = subst (λ (u : UnderWay ℕ). AreTurns (rules_of e) e.store given entries u grown (under_way later)
-          (Some (answer_view a))) came each in
-          attended exact kept memories e position limit new it.posted it.there None it.opens refl
-          (spare_more {E' = E'} d later (Ok (turns, Some a)) h) (sound_more {E' = E'} d later (Ok
-          (turns, Some a)) h) {E = E} (Ok (turns, Some f)) (
-            given,
-            counts_same limit given turns (answer_view a) f counts,
-            said,
-            inr (record {
-              inst = asked_for;
-              named = b.begun.named;
-              words = b.begun.asks;
-              like = b.begun.like;
-              holds = record {
-                end = under_way later;
-                answer = answer_view a;
-                named = x;
-                turns = lead;
-                like = like;
-                form = refl;
-                all = λ ex spare. h.all ex spare.kept (sparing spare);
-              };
-            }),
-          )
-
-      -- it has no answer yet
-      pub not_yet : {E E' : Type 0} → HasNoneCircular (rules_of e) →
-          (h : HasTurnedUpTo {E = E'} exact (rules_of e) e.store limit entries grown (memories e.demand.keeper)
-          (memories d.keeper) q later (Ok (turns, None)))
-          (k : Posts) → ((p : Posted) → slice_get t.items.items position ≡ Some p → Reopens position t k p (Some later))
-          → Attends exact kept memories e (record e { posts = k; demand = d }) position
-          (λ p. HasGone {E = E} exact kept limit e (record e { posts = k; demand = d }) position p (Ok (turns, None)))
-      not_yet {E} {E'} none h k keeps =
-          let new : Engine K = record e { posts = k; demand = d } in
-          let (given, counts, each) = h.each in
-          let put = keeps bare there_still in
-          let asks = asked_by_turns (rules_of e) e.store entries q (b.begun.standing.plainly none) given grown
-          (under_way later) each in
-          let still : IsBegunFor (rules_of e) e.store grown bare later = record {
-            standing = h.standing;
+          named = record {
             named = b.begun.named;
-            asks = b.begun.asks;
-            like = subst (λ (i : Instance ℕ). InstanceLike (Names (path e.store)) i b.begun.named)
-                (sym asks) b.begun.like;
-          } in
-          let opens : Reopens position e.posts k it.posted (Some later) = record {
-            count = put.count ∙ it.opens.count;
-            items = put.items ∙ ap (λ (l : List Posted). slice_set l position
-                (record it.posted { question = Some later })) it.opens.items
-                ∙ set_set e.posts.items.items position bare (record it.posted { question = Some later });
-          } in
-          let lead = subst (λ (u : UnderWay ℕ). AreTurns (rules_of e) e.store given entries u grown
-          (under_way later) None) came each in
-          attended exact kept memories e position limit new it.posted it.there (Some later) opens refl
-          (λ ex spare. spare_reopened (rules_of e) e.store entries grown h.worthy.stays
-          (marks_of e) t sound_taken position bare there_still
-          (Some later) k put (h.spare ex spare.kept (sparing spare)) (h.sparing ex spare.kept (sparing spare))
-          (spare_taken spare))
-          (sound_reopened (rules_of e) e.store entries grown h.worthy.stays
-          (marks_of e) t sound_taken position bare there_still (Some later) k
-          put (h.stays there_asked it.held.right)
-          (remembered_still (rules_of e) e.store (memories e.demand.keeper)
-          (memories d.keeper) h.traces it.held.remembered) still)
-          {E = E} (Ok (turns, None)) (
-            given,
-            silent_same (Answer ℕ) Form limit given turns counts,
-            record {
-              inst = asked_for;
+            like = b.begun.like;
+            formed = well_asked (rules_of e)
+                (record { tree = tree e.store; limit = max_nodes; version = 0; marks = v.marks; posts = 0; posted = [] })
+                (line_of v) b.begun.named b.begun.asks;
+          };
+        }
+
+    module _ (q : Question) (b : IsBegun (rules_of e) e.store entries bare o q)
+        (sparing : IsSpare kept e → IsSparingTurns (rules_of e) (contents e.store) entries q) where
+      there_asked : IsThere e.store (asked_by q)
+      there_asked = (b.begun.named, b.begun.like)
+
+      came : CameFrom (rules_of e) e.store entries it.posted.question q
+      came = subst (λ (x : Option Question). CameFrom (rules_of e) e.store entries x q) it.same b.came
+
+      -- it was given turns
+      module _ {E' : Type 0} (d : Demand K) (later : Question) (r : Result (ℕ × Option AnswerCode) E')
+          (h : HasTurnedUpTo exact (rules_of e) e.store limit entries (kept d.keeper) (memories e.demand.keeper)
+          (memories d.keeper) q later r) where
+        abbrev more : Entries
+        more = kept d.keeper
+
+        typed_later : AreKeptTyped (rules_of e) e.store more
+        typed_later =
+            let named = (can_answer q b).named in
+            typed_more (rules_of e) e.store basis (asked_by q)
+            (numbered_typed (rules_of e) e.store (asked_by q) named.named named.like named.formed) entries more h.worthy it.held.typed
+
+        pub sound_more : IsSoundWith (rules_of e) e.store (marks_of e) t more (memories d.keeper)
+        sound_more = sound_grown (rules_of e) e.store entries more h.worthy.stays (marks_of e) t sound_taken
+            (h.stays there_asked it.held.right) typed_later
+            (remembered_still (rules_of e) e.store (memories e.demand.keeper)
+            (memories d.keeper) h.traces it.held.remembered)
+
+        spare_more : KeepsGroups (rules_of e) r → IsTrue exact → IsSpare kept e → IsSpareWith (rules_of e) (contents e.store) more t.items.items
+        spare_more whole ex spare = spare_grown (rules_of e) e.store entries more h.worthy.stays (marks_of e) t sound_taken
+            (h.spare whole ex spare.kept (sparing spare)) (spare_taken spare)
+
+        module _ {E : Type 0} (result : Result (ℕ × Option Form) E) where
+          abbrev HasAttended : Type 0
+          HasAttended = Attends exact kept memories e (record e { posts = t; demand = d }) position
+              (λ p. HasGone exact kept limit e (record e { posts = t; demand = d }) position p result) (KeepsGroups (rules_of e) result)
+
+          without_memory : (e' : E) → result ≡ Err e' → (KeepsGroups (rules_of e) result → KeepsGroups (rules_of e) r)
+              → BreaksOffIn (rules_of e) e.store limit entries (Some q) (asked_by q) more → HasAttended
+          without_memory e' is keeps broke =
+              let new : Engine K = record e { posts = t; demand = d } in
+              let from = breaks_from (rules_of e) e.store entries q more it.posted.question came limit broke in
+              attended exact kept memories e position limit new it.posted it.there None it.opens refl sound_more result
+              (λ whole ex spare. spare_more (keeps whole) ex spare)
+              (subst (Came exact kept limit e new.demand it.posted None) (sym is)
+              (inr (record { inst = asked_by q; named = b.begun.named; words = b.begun.asks; like = b.begun.like; holds = from })))
+
+          -- memory ran out in a turn, or behind the last one
+          pub broke_off : (e' : E) (f : E') → result ≡ Err e' → r ≡ Err f → HasAttended
+          broke_off e' f is failed = without_memory e' is
+              (λ whole. keeps_groups (rules_of e) r (subst (λ (x : Result (ℕ × Option Form) E). KeepsGroups (rules_of e) x) is whole))
+              (broken r failed h)
+            where
+              broken : (x : Result (ℕ × Option AnswerCode) E') → x ≡ Err f
+                  → HasTurnedUpTo exact (rules_of e) e.store limit entries more (memories e.demand.keeper)
+                  (memories d.keeper) q later x
+                  → BreaksOffIn (rules_of e) e.store limit entries (Some q) (asked_by q) more
+              broken (Ok g) failed h = absurd cc
+              broken (Err f) failed h = h.broke
+
+      module _ (d : Demand K) (later : Question) (turns : ℕ) where
+        abbrev grown : Entries
+        grown = kept d.keeper
+
+        -- its answer can't be told
+        pub untold : {E E' : Type 0} (a : AnswerCode)
+            (h : HasTurnedUpTo {E = E'} exact (rules_of e) e.store limit entries grown (memories e.demand.keeper)
+            (memories d.keeper) q later (Ok (turns, Some a)))
+            (result : Result (ℕ × Option Form) E) (e' : E) → result ≡ Err e'
+            → Attends exact kept memories e (record e { posts = t; demand = d }) position
+            (λ p. HasGone exact kept limit e (record e { posts = t; demand = d }) position p result) (KeepsGroups (rules_of e) result)
+        untold {E} {E'} a h result e' is = without_memory {E' = E'} d later (Ok (turns, Some a)) h result e' is (λ whole. tt)
+            (breaks_behind (rules_of e) e.store entries (Some q) (asked_by q) grown later (answer_view a) limit turns h.each)
+
+        -- it is told
+        pub told : {E E' : Type 0} (a : AnswerCode)
+            (h : HasTurnedUpTo {E = E'} exact (rules_of e) e.store limit entries grown (memories e.demand.keeper)
+            (memories d.keeper) q later (Ok (turns, Some a)))
+            (f : Form) → ((x : Answer Node) → AnswerLike (Names (path e.store)) (answer_view a) x
+            → IsToldAs (rules_of e) (tree e.store) x f)
+            → Attends exact kept memories e (record e { posts = t; demand = d }) position
+            (λ p. HasGone {E = E} exact kept limit e (record e { posts = t; demand = d }) position p (Ok (turns, Some f))) (Unit {0})
+        told {E} {E'} a h f tells =
+            let new : Engine K = record e { posts = t; demand = d } in
+            let (given, counts, each) = h.each in
+            let v = posted_view (path e.store) it.posted in
+            let (x, like, answers) = answer_named (rules_of e) e.store it.held.idle (asked_by q) b.begun.named
+            (answer_view a) b.begun.like h.answers in
+            let is = tells x like in
+            let said : IsAnswerTo (rules_of e) (state_of e) v f = record {
+              writable = is.writable;
+              form = answer_form (rules_of e) (tree e.store) x;
+              is_form = is.is_form;
+              answers = answers_asked (rules_of e) (state_of e) v b.begun.named x b.begun.asks answers;
+            } in
+            attended exact kept memories e position limit new it.posted it.there None it.opens refl
+            (sound_more {E' = E'} d later (Ok (turns, Some a)) h) {E = E} (Ok (turns, Some f))
+            (λ whole ex spare. spare_more {E' = E'} d later (Ok (turns, Some a)) h tt ex spare) (
+              given,
+              counts_same limit given turns (answer_view a) f counts,
+              said,
+              inr (record {
+                inst = asked_by q;
+                named = b.begun.named;
+                words = b.begun.asks;
+                like = b.begun.like;
+                holds = record {
+                  end = later;
+                  answer = answer_view a;
+                  named = x;
+                  turns = turns_from (rules_of e) e.store entries q grown it.posted.question came given later (Some (answer_view a)) each;
+                  like = like;
+                  form = refl;
+                  all = λ ex spare. h.all ex spare.kept (sparing spare);
+                };
+              }),
+            )
+
+        -- it has no answer yet
+        pub not_yet : {E E' : Type 0}
+            (h : HasTurnedUpTo {E = E'} exact (rules_of e) e.store limit entries grown (memories e.demand.keeper)
+            (memories d.keeper) q later (Ok (turns, None)))
+            (k : Posts) → ((p : Posted) → slice_get t.items.items position ≡ Some p → Reopens position t k p (Some later))
+            → Attends exact kept memories e (record e { posts = k; demand = d }) position
+            (λ p. HasGone {E = E} exact kept limit e (record e { posts = k; demand = d }) position p (Ok (turns, None))) (Unit {0})
+        not_yet {E} {E'} h k keeps =
+            let new : Engine K = record e { posts = k; demand = d } in
+            let (given, counts, each) = h.each in
+            let put = keeps bare there_still in
+            let still : IsBegunFor (rules_of e) e.store grown bare later = record {
+              standing = h.standing;
               named = b.begun.named;
-              words = b.begun.asks;
-              like = b.begun.like;
-              holds = (later, refl, lead);
-            },
-          )
+              asks = b.begun.asks;
+              like = subst (λ (i : Instance ℕ). InstanceLike (Names (path e.store)) i b.begun.named)
+                  (sym h.same) b.begun.like;
+            } in
+            let opens : Reopens position e.posts k it.posted (Some later) = record {
+              count = put.count ∙ it.opens.count;
+              items = put.items ∙ ap (λ (l : List Posted). slice_set l position
+                  (record it.posted { question = Some later })) it.opens.items
+                  ∙ set_set e.posts.items.items position bare (record it.posted { question = Some later });
+            } in
+            attended exact kept memories e position limit new it.posted it.there (Some later) opens refl
+            (sound_reopened (rules_of e) e.store entries grown h.worthy.stays
+            (marks_of e) t sound_taken position bare there_still (Some later) k
+            put (h.stays there_asked it.held.right) (typed_later {E' = E'} d later (Ok (turns, None)) h)
+            (remembered_still (rules_of e) e.store (memories e.demand.keeper)
+            (memories d.keeper) h.traces it.held.remembered) still)
+            {E = E} (Ok (turns, None))
+            (λ whole ex spare. spare_reopened (rules_of e) e.store entries grown h.worthy.stays
+            (marks_of e) t sound_taken position bare there_still
+            (Some later) k put (h.spare tt ex spare.kept (sparing spare)) (h.sparing ex spare.kept (sparing spare))
+            (spare_taken spare)) (
+              given,
+              silent_same (Answer ℕ) Form limit given turns counts,
+              record {
+                inst = asked_by q;
+                named = b.begun.named;
+                words = b.begun.asks;
+                like = b.begun.like;
+                holds = (
+                  later,
+                  refl,
+                  turns_from (rules_of e) e.store entries q grown it.posted.question came given later None each,
+                );
+              },
+            )

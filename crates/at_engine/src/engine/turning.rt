@@ -70,6 +70,7 @@ fn all_turns<K: Keeper>(
 impl<K: Keeper> Engine<K> {
     ghost use Rattle.std.specs.Prelude.{◌≡◌, ◌+◌, ◌<◌, ◌≤◌, IfOk, MatchBool, None, [], length, vec_len, vec_capacity};
     ghost use Rattle.at_store.specs.Shown.{contents};
+    ghost use Rattle.at_demand.specs.Groups.{KeepsGroups};
     ghost use Rattle.at_engine.specs.Engines.{rules_of, IsSound};
     ghost use Rattle.at_engine.specs.Holding.{HasBegun};
     ghost use Rattle.at_engine.specs.Keeping.{IsSparingOn};
@@ -89,7 +90,7 @@ impl<K: Keeper> Engine<K> {
     /// Where room for 64 bytes is refused, and then nothing has changed. Every other want of memory is an answer.
     pub fn turn(&mut self, out: &mut Vec<u8>) -> Result<bool, AllocError>
         requires sound { IsSound K.contents K.memories self.old }
-        ensures { Calls K.exact K.contents K.memories self.old self.new out.old out.new
+        ensures { Calls K.contents K.memories self.old self.new out.old out.new
             (HasTurned K.exact K.contents self.old self.new out.old.items out.new.items) result }
     {
         let is_settled = self.posts.is_empty();
@@ -112,7 +113,7 @@ impl<K: Keeper> Engine<K> {
         out: &mut Vec<u8>,
     ) -> Result<Spent, AllocError>
         requires { CanSpend K.contents K.memories self.old limit }
-        ensures { Calls K.exact K.contents K.memories self.old self.new out.old out.new
+        ensures { Calls K.contents K.memories self.old self.new out.old out.new
             (HasGiven K.exact K.contents limit self.old self.new out.old.items out.new.items) result }
     {
         out.reserve(REPLY_ROOM)?;
@@ -142,7 +143,7 @@ impl<K: Keeper> Engine<K> {
     pub(super) fn wait(&mut self, position: usize) -> Told
         requires { CanTurn K.contents K.memories self.old position }
         ensures { Attends K.exact K.contents K.memories self.old self.new position
-            (λ p. IsClosed K.exact K.contents self.old self.new p result) }
+            (λ p. IsClosed K.exact K.contents self.old self.new p result) (KeepsGroups (rules_of self.old) result.form) }
     {
         let (_, form) = match self.go_on(position, None) {
             Ok(gone) => gone,
@@ -192,7 +193,7 @@ impl<K: Keeper> Engine<K> {
     ) -> Result<(u64, Option<Form>), AllocError>
         requires { CanGoOn K.contents K.memories self.old position limit }
         ensures { Attends K.exact K.contents K.memories self.old self.new position
-            (λ p. HasGone K.exact K.contents limit self.old self.new position p result) }
+            (λ p. HasGone K.exact K.contents limit self.old self.new position p result) (KeepsGroups (rules_of self.old) result) }
     {
         let begun = self.posts.take(position);
         let mut question = match self.begin(position, begun)? {
@@ -217,7 +218,7 @@ impl<K: Keeper> Engine<K> {
 
     /// What was done for the question at the position; where nothing was, its words are looked at.
     fn begin(&self, position: usize, begun: Option<Question>) -> Result<Begun, AllocError>
-        requires { IsHeldAt K.contents K.memories self.now position }
+        requires { CanTurn K.contents K.memories self.now position }
         ensures begins { (p : Posted) → StandsAt self.now.posts.items.items position p
             → HasBegun (rules_of self.now) self.now.store (K.contents self.now.demand.keeper) p begun
             → IfOk result (Begins (rules_of self.now) self.now.store (K.contents self.now.demand.keeper) p begun) }
@@ -232,7 +233,7 @@ impl<K: Keeper> Engine<K> {
 
     /// A question for the words at the position, or why they are refused.
     fn begin_anew(&self, position: usize) -> Result<Begun, AllocError>
-        requires { IsHeldAt K.contents K.memories self.now position }
+        requires { CanTurn K.contents K.memories self.now position }
         ensures begins { (p : Posted) → StandsAt self.now.posts.items.items position p
             → IfOk result (Begins (rules_of self.now) self.now.store (K.contents self.now.demand.keeper) p None) }
         ensures sparing { IfOk result (BeginsSparing (rules_of self.now) (contents self.now.store) (K.contents self.now.demand.keeper)) }

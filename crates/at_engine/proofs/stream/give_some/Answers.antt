@@ -3,9 +3,9 @@ use Rattle.std.specs.Io.KnownBytes.{Appends}
 use Rattle.std.proofs.lemmas.Result.{err_from_is_err_and}
 use Rattle.at_model.specs.Replies.{reply_text}
 use Rattle.at_engine.specs.Engines.{rules_of}
-use Rattle.at_engine.proofs.GoingLemmas.{goes_wrote}
+use Rattle.at_engine.proofs.GoingLemmas.{given_whole, goes_wrote, quiet_whole}
 use Rattle.at_engine.proofs.Remembering.{no_call}
-use Rattle.at_engine.proofs.of_turns.Giving.{are_left_then, counted_within, counts_one, fewer_given, gave_one, has_answer, has_gone, no_more_open, none_changed, quiet_leaves, stops_at_one}
+use Rattle.at_engine.proofs.of_turns.Giving.{are_left_then, counted_within, counts_one, fewer_given, gave_one, given_spare, has_answer, has_gone, no_more_open, none_changed, quiet_leaves, stops_at_one}
 use Rattle.at_engine.proofs.stream.give_some.Goals as goal
 
 pub count_answer-requires : goal.count_answer-requires
@@ -39,7 +39,10 @@ returns-in_err-write_whole-in-Some g c =
       none = none_changed g.K.Keeper.exact g.K.Keeper.contents c.args.limit _ _ _ _ c.in-Ok.spent call.done;
       line = c.count_answer.ensures.rest.1;
       goes = goes_wrote g.K.Keeper.exact g.K.Keeper.contents g.K.Keeper.memories g.W.Output.failed g.W.Output.waits _ _ c.args.desk.now _ _ _ 0 _ _
-          c.from_residual.result call (rw p.1 c.in_err-write_whole-in-Some.ensures.failed) (rw p.1 tt)
+          c.from_residual.result call
+          (λ whole. given_spare g.K.Keeper.exact g.K.Keeper.contents c.args.limit _ _ _ _ c.in-Ok.spent call.done
+          (given_whole rules c.in-Ok.spent.told c.in-Some.wants c.in-Some.is c.args.desk.now c.count_answer.new.self c.count_answer.ensures.memory whole))
+          (omega (arith, c.count_answer.ensures.memory)) (rw p.1 c.in_err-write_whole-in-Some.ensures.failed) (rw p.1 tt)
           (has_gone g.K.Keeper.exact g.K.Keeper.contents c.args.limit _ _ _ _ c.in-Ok.spent call.done)
           (omega (arith, c.count_answer.ensures.rest.0, memory, counts_one rules a.given _ _ a.said a.turns));
     }
@@ -62,7 +65,9 @@ returns-in_ok-write_whole-in-Some g c =
       none = none_changed g.K.Keeper.exact g.K.Keeper.contents c.args.limit _ _ _ _ c.in-Ok.spent call.done;
       line = c.count_answer.ensures.rest.1;
       goes = goes_wrote g.K.Keeper.exact g.K.Keeper.contents g.K.Keeper.memories g.W.Output.failed g.W.Output.waits _ _ c.args.desk.now _ _ _ 0 _ _ _ call
-          c.in_ok-write_whole-in-Some.ensures.failed (c.in_ok-write_whole-in-Some.ensures.sent refl)
+          (λ whole. given_spare g.K.Keeper.exact g.K.Keeper.contents c.args.limit _ _ _ _ c.in-Ok.spent call.done
+          (given_whole rules c.in-Ok.spent.told c.in-Some.wants c.in-Some.is c.args.desk.now c.count_answer.new.self c.count_answer.ensures.memory whole))
+          (omega (arith, c.count_answer.ensures.memory)) c.in_ok-write_whole-in-Some.ensures.failed (c.in_ok-write_whole-in-Some.ensures.sent refl)
           (has_gone g.K.Keeper.exact g.K.Keeper.contents c.args.limit _ _ _ _ c.in-Ok.spent call.done)
           (omega (arith, c.count_answer.ensures.rest.0, memory, counts_one rules a.given _ _ a.said a.turns));
     }
@@ -79,7 +84,9 @@ returns-in-None g c =
         failed = no_call _;
         by = has_gone g.K.Keeper.exact g.K.Keeper.contents c.args.limit _ _ _ _ c.in-Ok.spent call.done;
         sent = λ none. none;
-        spare = call.spare;
+        spare = λ whole. given_spare g.K.Keeper.exact g.K.Keeper.contents c.args.limit _ _ _ _ c.in-Ok.spent call.done
+            (quiet_whole (rules_of c.args.engine.now) c.in-Ok.spent.told c.in-None.is);
+        wanted = omega arith;
         rules = call.rules;
         slice = call.slice;
         grows = omega (arith, no_more_open g.K.Keeper.exact g.K.Keeper.contents c.args.limit _ _ _ _ c.in-Ok.spent call.done);

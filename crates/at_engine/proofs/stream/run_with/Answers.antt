@@ -1,13 +1,17 @@
 use Rattle.std.specs.Prelude.{IsTrue}
-use Rattle.std.proofs.Common.{nat_eq, ℕ, ap, subst, true≢false, ◌≡◌, ◌∙◌, sym, [], ◌++◌, length, take, ◌<◌, ◌≤◌, ◌+◌, length-append, arith, refl, true, false}
+use Rattle.std.proofs.Common.{nat_eq, ℕ, Result, inl, inr, ap, subst, true≢false, ◌≡◌, ◌∙◌, sym, [], ◌++◌, length, take, ◌<◌, ◌≤◌, ◌+◌, length-append, arith, refl, true, false}
 use Rattle.std.proofs.KnownBytes.{Consumes-kept, Consumes-nil, Consumes-trans}
 use Rattle.std.proofs.lemmas.Result.{err_from_is_err_and}
 use Rattle.at_engine.specs.Ends.{Remembers}
+use Rattle.at_rules.specs.Circular.{HasNoneCircular}
 use Rattle.at_engine.specs.Keeping.{IsSpare}
+use Rattle.at_engine.specs.Running.{KeepsWhole}
+use Rattle.at_engine.specs.declared.stream.desk.Report.{Report}
+use Rattle.at_engine.specs.declared.stream.desk.RunFault.{RunFault}
 use Rattle.at_engine.specs.KeepingRuns.{KeepsBytes}
 use Rattle.at_engine.specs.Engines.{state_of, rules_of, slice_of}
 use Rattle.at_engine.specs.Stepping.{nowhere}
-use Rattle.at_engine.proofs.GoingLemmas.{by_both}
+use Rattle.at_engine.proofs.GoingLemmas.{by_both, first_whole, later_whole, whole_before, whole_behind}
 use Rattle.at_engine.proofs.of_keeping.Kept.{kept-nil}
 use Rattle.at_engine.proofs.of_turns.Giving.{few_open}
 use Rattle.at_engine.proofs.of_keeping.KeepingBytes.{keeps_more, keeps_none, keeps_run}
@@ -18,14 +22,15 @@ use Rattle.at_engine.proofs.stream.run_with.Goals as goal
 
 pub loop-turn-init : goal.loop-turn-init
 loop-turn-init g c = record {
-  so_far = ([], Consumes-nil _, omega arith, took_nothing _ _ _ [] c.in-Ok.desk _ refl (c.in-Ok.ensures.line ∙ sym kept-nil), λ exact spare. keeps_none g.K.Keeper.contents c.args.engine.now [] c.in-Ok.desk refl (c.in-Ok.ensures.line ∙ sym kept-nil));
+  so_far = ([], Consumes-nil _, omega arith, took_nothing _ _ _ [] c.in-Ok.desk _ refl (c.in-Ok.ensures.line ∙ sym kept-nil), λ exact spare whole. keeps_none g.K.Keeper.contents c.args.engine.now [] c.in-Ok.desk refl (c.in-Ok.ensures.line ∙ sym kept-nil));
   read = no_call _;
   ended = no_call _;
   reads = none_counted _;
   written = no_call _;
   sent = λ none. none;
   by = nowhere;
-  spare = λ exact spare. spare;
+  spare = λ whole exact spare. spare;
+  wanted = omega arith;
   rules = refl;
   slice = refl;
   sound = c.requires.sound;
@@ -71,7 +76,11 @@ returns-in_err-finish g c = record {
   work = let p = err_from_is_err_and c.from_residual.result c.from_residual.ensures.1 in rw p.1 tt;
   by = by_both g.K.Keeper.exact g.K.Keeper.contents c.args.engine.now c.loop-turn.engine c.finish.new.engine c.loop-turn.invariant.by
       c.in_err-finish.ensures.goes.by;
-  spare = λ exact spare. c.in_err-finish.ensures.goes.spare exact (c.loop-turn.invariant.spare exact spare);
+  spare = λ whole exact spare.
+      let p = err_from_is_err_and c.from_residual.result c.from_residual.ensures.1 in
+      let none = subst (λ (r : Result Report RunFault). KeepsWhole (rules_of c.args.engine.now) r) p.1 whole in
+      c.in_err-finish.ensures.goes.spare (inl (subst HasNoneCircular (sym c.loop-turn.invariant.rules) none)) exact
+      (c.loop-turn.invariant.spare (inl none) exact spare);
   rules = c.in_err-finish.ensures.goes.rules ∙ c.loop-turn.invariant.rules;
   slice = c.in_err-finish.ensures.goes.slice ∙ c.loop-turn.invariant.slice;
   sound = c.in_err-finish.ensures.goes.sound;
@@ -99,15 +108,21 @@ returns-then-count-eq0 g c = record {
       let inv = c.loop-turn.invariant.so_far in
       let t = inv.3 in
       let f = c.in_ok-finish.ensures.finished t.rest t.line in
-      let p = inv.4 exact spare in
       let later : c.finish.new.desk.memory ≡ c.loop-turn.desk.memory = omega (arith, none, c.report.ensures.memory, f.counts.memory, t.counts.memory) in
       let first : c.loop-turn.desk.memory ≡ c.in-Ok.desk.memory = omega (arith, none, c.report.ensures.memory, f.counts.memory, t.counts.memory) in
       let read = at_end _ _ _ inv.0 c.in-Ok-read.count c.read.new.piece c.if-count-eq0.true inv.1 c.in-Ok-read.ensures.bytes.0 in
-      keeps_run g.K.Keeper.contents c.args.engine.now c.loop-turn.engine c.finish.new.engine inv.0 _ _ c.in-Ok.desk c.loop-turn.desk read c.loop-turn.invariant.rules first p (λ open_none no_post. c.in_ok-finish.ensures.keeps exact (c.loop-turn.invariant.spare exact spare) p.rest p.line open_none no_post later);
+      let p = inv.4 exact spare first in
+      keeps_run g.K.Keeper.contents c.args.engine.now c.loop-turn.engine c.finish.new.engine inv.0 _ _ c.loop-turn.desk read c.loop-turn.invariant.rules p (λ open_none no_post. c.in_ok-finish.ensures.keeps exact (c.loop-turn.invariant.spare (inr first) exact spare) p.rest p.line open_none no_post later);
   work = c.report.ensures.work ∙ c.work.ensures;
   by = by_both g.K.Keeper.exact g.K.Keeper.contents c.args.engine.now c.loop-turn.engine c.finish.new.engine c.loop-turn.invariant.by
       c.in_ok-finish.ensures.goes.by;
-  spare = λ exact spare. c.in_ok-finish.ensures.goes.spare exact (c.loop-turn.invariant.spare exact spare);
+  spare = λ whole exact spare.
+      let f = c.in_ok-finish.ensures.goes in
+      let i = c.loop-turn.invariant in
+      f.spare (whole_behind (rules_of c.args.engine.now) c.in-Ok.desk c.loop-turn.desk c.finish.new.desk c.report.result.memory
+      c.report.ensures.memory c.in-Ok.ensures.memory i.wanted f.wanted whole (rules_of c.loop-turn.engine) i.rules) exact
+      (i.spare (whole_before (rules_of c.args.engine.now) c.in-Ok.desk c.loop-turn.desk c.finish.new.desk c.report.result.memory
+      c.report.ensures.memory c.in-Ok.ensures.memory i.wanted f.wanted whole) exact spare);
   rules = c.in_ok-finish.ensures.goes.rules ∙ c.loop-turn.invariant.rules;
   slice = c.in_ok-finish.ensures.goes.slice ∙ c.loop-turn.invariant.slice;
   sound = c.in_ok-finish.ensures.goes.sound;
@@ -150,7 +165,11 @@ returns-in_err-take_piece g c = record {
   work = let p = err_from_is_err_and c.from_residual-in_err-take_piece.result c.from_residual-in_err-take_piece.ensures.1 in rw p.1 tt;
   by = by_both g.K.Keeper.exact g.K.Keeper.contents c.args.engine.now c.loop-turn.engine c.take_piece.new.engine c.loop-turn.invariant.by
       c.in_err-take_piece.ensures.takes.goes.by;
-  spare = λ exact spare. c.in_err-take_piece.ensures.takes.goes.spare exact (c.loop-turn.invariant.spare exact spare);
+  spare = λ whole exact spare.
+      let p = err_from_is_err_and c.from_residual-in_err-take_piece.result c.from_residual-in_err-take_piece.ensures.1 in
+      let none = subst (λ (r : Result Report RunFault). KeepsWhole (rules_of c.args.engine.now) r) p.1 whole in
+      c.in_err-take_piece.ensures.takes.goes.spare (inl (subst HasNoneCircular (sym c.loop-turn.invariant.rules) none)) exact
+      (c.loop-turn.invariant.spare (inl none) exact spare);
   rules = c.in_err-take_piece.ensures.takes.goes.rules ∙ c.loop-turn.invariant.rules;
   slice = c.in_err-take_piece.ensures.takes.goes.slice ∙ c.loop-turn.invariant.slice;
   sound = c.in_err-take_piece.ensures.takes.goes.sound;
@@ -168,7 +187,7 @@ returns-in-Err g c = record {
   keeps = λ exact spare. tt;
   work = tt;
   by = c.loop-turn.invariant.by;
-  spare = c.loop-turn.invariant.spare;
+  spare = λ none. c.loop-turn.invariant.spare (inl none);
   rules = c.loop-turn.invariant.rules;
   slice = c.loop-turn.invariant.slice;
   sound = c.loop-turn.invariant.sound;
@@ -186,10 +205,15 @@ loop-turn-preserved g c =
     let v = takes_under rules _ slice _ (state_of c.loop-turn.engine) (state_of c.take_piece.new.engine) t.rest piece c.loop-turn.desk c.take_piece.new.desk (contents c.loop-turn.writer) (contents c.take_piece.new.writer) c.loop-turn.invariant.rules c.loop-turn.invariant.slice u in
     let brought : 0 < c.in-Ok-read.count = omega (arith, c.if-count-eq0.false) in
     let some : c.loop-turn.turn + 1 ≤ length (inv.0 ++ piece) = omega (arith, inv.2, length-append inv.0 piece, c.in-Ok-read.ensures.bound.1, c.if-count-eq0.false) in
-    let keeps : IsTrue g.K.Keeper.exact → IsSpare g.K.Keeper.contents c.args.engine.now → KeepsBytes g.K.Keeper.contents [] (inv.0 ++ piece) c.args.engine.now c.take_piece.new.engine c.in-Ok.desk c.take_piece.new.desk = λ exact spare.
-    let p = inv.4 exact spare in
-    let q = c.in_ok-take_piece.ensures.takes.keeps exact (c.loop-turn.invariant.spare exact spare) p.rest p.open' p.line in
-    keeps_more g.K.Keeper.contents c.args.engine.now c.loop-turn.engine c.take_piece.new.engine [] inv.0 piece c.in-Ok.desk c.loop-turn.desk c.take_piece.new.desk c.loop-turn.invariant.rules (omega (arith, t.counts.memory)) (omega (arith, u.counts.memory)) p q in
+    let keeps : IsTrue g.K.Keeper.exact → IsSpare g.K.Keeper.contents c.args.engine.now → c.take_piece.new.desk.memory ≡ c.in-Ok.desk.memory
+    → KeepsBytes g.K.Keeper.contents [] (inv.0 ++ piece) c.args.engine.now c.take_piece.new.engine c.take_piece.new.desk = λ exact spare whole.
+    let first = c.loop-turn.invariant.wanted in
+    let last = c.in_ok-take_piece.ensures.takes.goes.wanted in
+    let so_far : c.loop-turn.desk.memory ≡ c.in-Ok.desk.memory = omega (arith, first, last, whole) in
+    let later : c.take_piece.new.desk.memory ≡ c.loop-turn.desk.memory = omega (arith, first, last, whole) in
+    let p = inv.4 exact spare so_far in
+    let q = c.in_ok-take_piece.ensures.takes.keeps exact (c.loop-turn.invariant.spare (inr so_far) exact spare) later p.rest p.open' p.line in
+    keeps_more g.K.Keeper.contents c.args.engine.now c.loop-turn.engine c.take_piece.new.engine [] inv.0 piece c.loop-turn.desk c.take_piece.new.desk c.loop-turn.invariant.rules p q in
     record {
       so_far = (inv.0 ++ piece, Consumes-trans _ _ _ _ _ inv.1 c.in-Ok-read.ensures.bytes.0, some, took_more rules slice _ _ _ [] inv.0 piece _ _ _ _ _ _ t v, keeps);
       read = then_calls _ _ _ false c.loop-turn.invariant.read c.in-Ok-read.ensures.failed;
@@ -199,7 +223,14 @@ loop-turn-preserved g c =
       sent = λ none. c.in_ok-take_piece.ensures.sent (c.loop-turn.invariant.sent none);
       by = by_both g.K.Keeper.exact g.K.Keeper.contents c.args.engine.now c.loop-turn.engine c.take_piece.new.engine c.loop-turn.invariant.by
           c.in_ok-take_piece.ensures.takes.goes.by;
-      spare = λ exact spare. c.in_ok-take_piece.ensures.takes.goes.spare exact (c.loop-turn.invariant.spare exact spare);
+      spare = λ whole exact spare.
+          let one = c.in_ok-take_piece.ensures.takes.goes in
+          let i = c.loop-turn.invariant in
+          one.spare (later_whole c.args.engine.now c.loop-turn.engine c.in-Ok.desk c.loop-turn.desk c.loop-turn.desk c.take_piece.new.desk i.rules refl
+          i.wanted one.wanted whole) exact
+          (i.spare (first_whole c.args.engine.now c.loop-turn.engine c.in-Ok.desk c.loop-turn.desk c.loop-turn.desk c.take_piece.new.desk refl i.wanted
+          one.wanted whole) exact spare);
+      wanted = omega (arith, c.loop-turn.invariant.wanted, c.in_ok-take_piece.ensures.takes.goes.wanted);
       rules = c.in_ok-take_piece.ensures.takes.goes.rules ∙ c.loop-turn.invariant.rules;
       slice = c.in_ok-take_piece.ensures.takes.goes.slice ∙ c.loop-turn.invariant.slice;
       sound = c.in_ok-take_piece.ensures.takes.goes.sound;
@@ -219,7 +250,7 @@ returns g c = record {
   keeps = λ exact spare. tt;
   work = tt;
   by = c.loop-turn.invariant.by;
-  spare = c.loop-turn.invariant.spare;
+  spare = λ none. c.loop-turn.invariant.spare (inl none);
   rules = c.loop-turn.invariant.rules;
   slice = c.loop-turn.invariant.slice;
   sound = c.loop-turn.invariant.sound;
@@ -235,7 +266,7 @@ returns-in_default g c = record {
   by = nowhere;
   keeps = λ exact spare. tt;
   work = tt;
-  spare = λ exact spare. spare;
+  spare = λ none exact spare. spare;
   rules = refl;
   slice = refl;
   sound = c.requires.sound;

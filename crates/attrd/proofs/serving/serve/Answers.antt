@@ -1,4 +1,5 @@
 use Rattle.std.proofs.Common.{◌≡◌, ◌∙◌, refl, ap, subst, sym, arith}
+use Rattle.at_model.specs.Rules.{Rules, start_of}
 use Rattle.at_engine.specs.Engines.{rules_of, slice_of, state_of}
 use Rattle.attrd.specs.Connections.{faults}
 use Rattle.attrd.specs.Doors.{ServesAll, none}
@@ -13,7 +14,7 @@ loop-turn-init g c =
     let zero : faults c.none-served.result ≡ 0 = ap faults c.none-served.ensures in record {
       serves = subst (ServesAll (rules_of engine) (slice_of engine) (state_of engine) seen 0 (state_of engine) seen)
           (sym c.none-served.ensures) none;
-      spare = λ exact spare. spare;
+      spare = λ none exact spare. spare;
       ended = ap (λ (s : Served). s.ended) c.none-served.ensures;
       faults = omega (arith, zero);
       rules = refl;
@@ -33,7 +34,8 @@ loop-turn-preserved g c =
           (state_of first) (state_of mid) (state_of c.serve_next-ended.new.engine) (seen c.args.door.now) (seen c.loop-turn.door)
           (seen c.serve_next-ended.new.door) c.loop-turn.served c.count.new.self c.serve_next-ended.result inv.rules
           inv.slice c.count.ensures inv.serves next.serves;
-      spare = λ exact spare. next.spare exact (inv.spare exact spare);
+      spare = λ none exact spare.
+          next.spare (λ a. ap (λ (r : Rules). start_of r a) inv.rules ∙ none a) exact (inv.spare none exact spare);
       ended = counted_ends c.serve_next-ended.result c.loop-turn.served c.count.new.self c.loop-turn.turn
           c.count.ensures inv.ended;
       faults = counted_faults c.serve_next-ended.result c.loop-turn.served c.count.new.self c.loop-turn.turn

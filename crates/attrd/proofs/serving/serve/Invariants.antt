@@ -1,6 +1,6 @@
 use Rattle.std.proofs.Common.{◌≡◌, ◌≤◌}
 use Rattle.std.specs.Prelude.{IsTrue}
-use Rattle.at_engine.specs.Engines.{rules_of, slice_of, state_of, IsSound}
+use Rattle.at_engine.specs.Engines.{rules_of, slice_of, state_of, IsSound, NoneAreCircular}
 use Rattle.at_engine.specs.Keeping.{IsSpare}
 use Rattle.attrd.specs.Connections.{faults}
 use Rattle.attrd.specs.Doors.{ServesAll}
@@ -10,7 +10,7 @@ use Rattle.attrd.proofs.serving.serve.Given as goal
 abbrev pub invariant-loop-turn : goal.invariant-loop-turn
 invariant-loop-turn g l = record {
   serves : ServesAll (rules_of l.fn.engine) (slice_of l.fn.engine) (state_of l.fn.engine) (g.D.Door.seen l.fn.door) l.turn (state_of l.engine) (g.D.Door.seen l.door) l.served;
-  spare : IsTrue g.K.Keeper.exact → IsSpare g.K.Keeper.contents l.fn.engine → IsSpare g.K.Keeper.contents l.engine;
+  spare : NoneAreCircular l.fn.engine → IsTrue g.K.Keeper.exact → IsSpare g.K.Keeper.contents l.fn.engine → IsSpare g.K.Keeper.contents l.engine;
   ended : l.served.ended ≡ l.turn;
   faults : faults l.served ≤ l.turn;
   rules : rules_of l.engine ≡ rules_of l.fn.engine;

@@ -1,4 +1,5 @@
 use Rattle.std.proofs.Common.{refl}
+use Rattle.at_engine.proofs.GoingLemmas.{plainly_whole}
 use Rattle.attrd.specs.Doors.{by_run, not_accepted}
 use Rattle.attrd.proofs.serving.serve_next.Goals as goal
 
@@ -8,3 +9,7 @@ returns-clause-serves g c =
 
 pub returns-in_default-clause-serves : goal.returns-in_default-clause-serves
 returns-in_default-clause-serves g c = not_accepted refl c.in_default.ensures.refused refl
+
+pub returns-clause-spare : goal.returns-clause-spare
+returns-clause-spare g c none exact spare =
+    c.run_gathering-served.ensures.spare (plainly_whole _ c.run_gathering-served.result none) exact spare

@@ -15,6 +15,7 @@ returns g c = record {
       let e = c.turn_with.ensures.turned in
       record {
         turned = e.turned;
+        counted = e.counted;
         answers = turn_right c.args.rules.now c.args.store.now c.requires.answerable.basis (g.K.Keeper.contents c.args.self.now.keeper)
             c.args.question.now (record { right = c.requires.answerable.right; whole = c.requires.wholes }) c.requires.standing
             (g.K.Keeper.contents c.turn_with.new.self.keeper) c.turn_with.new.question c.turn_with.result e.turned;

@@ -16,6 +16,7 @@ use Rattle.at_engine.specs.Posted.{posted_view}
 use Rattle.at_engine.specs.Turning.{IsBegun}
 use Rattle.at_engine.specs.declared.engine.asking.Asked.{Asked}
 use Rattle.at_engine.specs.declared.posts.Posted.{Posted}
+use Rattle.at_engine.proofs.of_keeping.KeptTyped.{basis_held, sound_typed}
 use Rattle.at_engine.proofs.Positions.{holds_at, same_there}
 use Rattle.at_engine.proofs.of_turns.Reading.{read_asked, read_refused, read_unmarked}
 use Rattle.at_engine.proofs.engine.Engine.begin_anew.Goals as goal
@@ -64,8 +65,11 @@ returns-in_ok-post-in-Instance-clause-begins g c p there =
     let two = subst (λ (text : List ℕ). IsAskedBy e.rules e.store (v text q.arguments.items) c.in_ok-asked.asked) c.as_str.ensures.value one in
     let is = subst (λ (x : Asked). IsAskedBy e.rules e.store (v (string_bytes q.attribute) q.arguments.items) x) c.in-Instance.is two in
     let made = c.in_ok-post-in-Instance in
+    let basis = basis_held g.K.Keeper.contents g.K.Keeper.memories e c.requires.sound c.requires.typed in
+    let sound = sound_typed e.rules e.store basis k c.requires.sound.right.values c.requires.sound.typed in
     subst (λ (x : Posted). IsBegun e.rules e.store k x None made.field-0) (same_there e.posts.items.items c.args.position q p c.at-posted.ensures there)
-    (read_asked e.rules e.store e.version e.posts q marked all k c.in-Instance.inst is made.field-0 made.ensures.posted (made.ensures.standing k e.rules e.store is.typed))
+    (read_asked e.rules e.store e.version e.posts q marked all k c.in-Instance.inst is made.field-0 made.ensures.posted
+    (made.ensures.stands k e.rules e.store is.typed sound) (made.ensures.standing k e.rules e.store is.typed))
 
 pub returns-in_ok-post-in-Instance-clause-sparing : goal.returns-in_ok-post-in-Instance-clause-sparing
 returns-in_ok-post-in-Instance-clause-sparing g c = c.in_ok-post-in-Instance.ensures.sparing (g.K.Keeper.contents c.args.self.now.demand.keeper) c.args.self.now.rules (contents c.args.self.now.store)

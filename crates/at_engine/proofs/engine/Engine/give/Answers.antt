@@ -1,7 +1,12 @@
-use Rattle.std.proofs.Common.{◌≤◌, ℕ, List, Option, Result, Ok, Err, subst, arith, refl}
-use Rattle.std.specs.Prelude.{vec_capacity}
+use Rattle.std.proofs.Common.{◌≤◌, ℕ, List, Option, Result, Ok, Err, subst, sym, arith, refl}
+use Rattle.std.specs.Prelude.{IsTrue, vec_capacity}
 use Rattle.std.specs.declared.alloc.AllocError.{AllocError}
 use Rattle.at_protocol.specs.declared.reply.Form.{Form}
+use Rattle.at_rules.specs.Circular.{HasNoneCircular}
+use Rattle.at_demand.specs.Groups.{KeepsGroups}
+use Rattle.at_demand.proofs.of_levels.Resolving.{keeps_groups}
+use Rattle.at_engine.specs.Engines.{rules_of}
+use Rattle.at_engine.specs.Keeping.{IsSpare}
 use Rattle.at_engine.specs.Telling.{IsSaid}
 use Rattle.at_engine.specs.Turning.{Came, told_of}
 use Rattle.at_engine.proofs.of_turns.Finishing.{called, first_gone, gives_failed, gives_nothing, gives_silent, gives_told}
@@ -10,8 +15,8 @@ use Rattle.at_engine.proofs.engine.Engine.give.Goals as goal
 pub returns-then-is_empty : goal.returns-then-is_empty
 returns-then-is_empty g c =
     let e = c.args.self.now in
-    called g.K.Keeper.exact g.K.Keeper.contents g.K.Keeper.memories e e e c.args.out.now c.reserve.new.self _ _ c.requires.sound refl refl
-    (λ exact spare. spare) c.requires.sound.held c.reserve.ensures.capacity
+    called g.K.Keeper.contents g.K.Keeper.memories e e e c.args.out.now c.reserve.new.self _ _ c.requires.sound refl refl
+    c.requires.sound.held c.reserve.ensures.capacity
     (gives_nothing g.K.Keeper.exact g.K.Keeper.contents c.args.limit e c.args.out.now.items c.reserve.new.self.items c.if-is_empty.ensures c.reserve.ensures.items)
 
 pub go_on-requires : goal.go_on-requires
@@ -35,10 +40,11 @@ returns-in-Err g c =
     (off.told (record f.p { question = f.now }) f.still) in
     let room : vec_capacity c.args.out.now ≤ vec_capacity c.tell.new.out = omega
     (arith, c.reserve.ensures.capacity, c.tell.ensures.room) in
-    called x k g.K.Keeper.memories e m n c.args.out.now c.tell.new.out _ _ c.requires.sound c.go_on.ensures.rest off.rest
-    (λ exact spare. off.spare exact (c.go_on.ensures.spare exact spare)) off.sound room
+    let kept : HasNoneCircular (rules_of e) → IsTrue x → IsSpare k e → IsSpare k n =
+    λ none exact spare. off.spare exact (c.go_on.ensures.spare (keeps_groups (rules_of e) c.go_on.result none) exact spare) in
+    called k g.K.Keeper.memories e m n c.args.out.now c.tell.new.out _ _ c.requires.sound c.go_on.ensures.rest off.rest off.sound room
     (gives_failed x k e c.requires.sound.held f.p f.others f.least m c.go_on.ensures.rest n off.rest off.items f.now f.reopens c.args.limit c.args.out.now.items c.tell.new.out.items c.in-Err.error came c.requires.some
-    c.tell.result said)
+    c.tell.result said kept)
 
 pub tell-requires-clause-there : goal.tell-requires-clause-there
 tell-requires-clause-there g c =
@@ -59,10 +65,11 @@ returns-in-None g c =
     let came = subst (λ (o : Option Form). Came {E = AllocError} x k c.args.limit e m.demand f.p f.now (Ok
     (c.in-Ok.gone.0, o))) c.in-None.is
     (subst (λ (r : Result (ℕ × Option Form) AllocError). Came x k c.args.limit e m.demand f.p f.now r) c.in-Ok.is f.came) in
-    called x k g.K.Keeper.memories e m m c.args.out.now c.reserve.new.self _ _ c.requires.sound c.go_on.ensures.rest refl c.go_on.ensures.spare
+    called k g.K.Keeper.memories e m m c.args.out.now c.reserve.new.self _ _ c.requires.sound c.go_on.ensures.rest refl
     c.go_on.ensures.sound c.reserve.ensures.capacity
     (gives_silent x k e c.requires.sound.held f.p f.others f.least m c.go_on.ensures.rest c.args.limit f.now f.reopens c.in-Ok.gone.0 c.args.out.now.items c.reserve.new.self.items c.reserve.ensures.items c.requires.some came
-    c.requires.sound.typed.none_circular c.go_on.ensures.sound.posted)
+    (λ exact spare. c.go_on.ensures.spare (subst (λ (r : Result (ℕ × Option Form) AllocError). KeepsGroups (rules_of e) r) (sym c.in-Ok.is) tt)
+    exact spare))
 
 pub returns-in-Some : goal.returns-in-Some
 returns-in-Some g c =
@@ -81,10 +88,11 @@ returns-in-Some g c =
     (off.told (record f.p { question = f.now }) f.still) in
     let room : vec_capacity c.args.out.now ≤ vec_capacity c.tell-in-Some.new.out = omega
     (arith, c.reserve.ensures.capacity, c.tell-in-Some.ensures.room) in
-    called x k g.K.Keeper.memories e m n c.args.out.now c.tell-in-Some.new.out _ _ c.requires.sound c.go_on.ensures.rest off.rest
-    (λ exact spare. off.spare exact (c.go_on.ensures.spare exact spare)) off.sound room
+    let kept : IsTrue x → IsSpare k e → IsSpare k n = λ exact spare. off.spare exact
+    (c.go_on.ensures.spare (subst (λ (r : Result (ℕ × Option Form) AllocError). KeepsGroups (rules_of e) r) (sym c.in-Ok.is) tt) exact spare) in
+    called k g.K.Keeper.memories e m n c.args.out.now c.tell-in-Some.new.out _ _ c.requires.sound c.go_on.ensures.rest off.rest off.sound room
     (gives_told x k e c.requires.sound.held f.p f.others f.least m c.go_on.ensures.rest n off.rest off.items f.now f.reopens c.args.limit c.args.out.now.items c.tell-in-Some.new.out.items c.in-Ok.gone.0 c.in-Some.form came
-    c.tell-in-Some.result said)
+    c.tell-in-Some.result said kept)
 
 pub tell-requires-in-Some-clause-there : goal.tell-requires-in-Some-clause-there
 tell-requires-in-Some-clause-there g c =

@@ -2,10 +2,9 @@ use Rattle.std.proofs.Common.{Option, None, Some, Ok, refl, subst, ℕ}
 use Rattle.std.proofs.lemmas.Result.{err_from_is_err_and}
 use Rattle.std.specs.declared.alloc.AllocError.{AllocError}
 use Rattle.at_demand.specs.declared.answer.Answer.{Answer as AnswerCode}
-use Rattle.at_demand.specs.Turns.{under_way}
 use Rattle.at_engine.specs.Engines.{rules_of}
 use Rattle.at_engine.specs.Turning.{HasTurnedUpTo}
-use Rattle.at_engine.proofs.of_turns.Trying.{begun_for, broke_off, can_answer, not_read, not_yet, sound_more, sound_taken, sparing_for, taken, told, untold, was_refused, within_still}
+use Rattle.at_engine.proofs.of_turns.Trying.{begun_for, broke_off, can_answer, not_read, not_yet, ready_taken, sound_more, sparing_for, taken, told, untold, was_refused}
 use Rattle.at_engine.proofs.engine.Engine.go_on.Goals as goal
 
 pub begin-requires : goal.begin-requires
@@ -16,10 +15,7 @@ begin-requires g c =
     let t = c.take-begun.new.self in
     let o = c.take-begun.result in
     let it = taken k m e c.requires.ready.sound c.args.position c.requires.ready.within o t c.take-begun.ensures in
-    record {
-      sound = sound_taken g.K.Keeper.exact k m e c.args.position c.args.limit o t it;
-      within = within_still g.K.Keeper.exact k m e c.args.position c.args.limit o t it;
-    }
+    ready_taken g.K.Keeper.exact k m e c.args.position c.args.limit o t it c.requires.ready.typed
 
 pub returns-in_err-question : goal.returns-in_err-question
 returns-in_err-question g c =
@@ -52,7 +48,7 @@ turns_up_to-requires g c =
     let o = c.take-begun.result in
     let it = taken k m e c.requires.ready.sound c.args.position c.requires.ready.within o t c.take-begun.ensures in
     let b = begun_for g.K.Keeper.exact k m e c.args.position c.args.limit o t it c.in_ok-question.ensures.begins c.in-Question.question c.in-Question.is in
-    can_answer g.K.Keeper.exact k m e c.args.position c.args.limit o t it c.in-Question.question b c.requires.ready.typed
+    can_answer g.K.Keeper.exact k m e c.args.position c.args.limit o t it c.requires.ready.typed c.in-Question.question b
 
 pub told-requires : goal.told-requires
 told-requires g c =
@@ -69,7 +65,7 @@ told-requires g c =
     let s = sparing_for x k m e i c.args.limit o t it c.in_ok-question.ensures.sparing q c.in-Question.is in
     let d = c.turns_up_to.new.demand in
     let p = c.turns_up_to.new.question in
-    record { sound = sound_more x k m e i c.args.limit o t it q b s d p c.turns_up_to.result c.turns_up_to.ensures }
+    record { sound = sound_more x k m e i c.args.limit o t it c.requires.ready.typed q b s d p c.turns_up_to.result c.turns_up_to.ensures }
 
 pub returns-in_err-turns : goal.returns-in_err-turns
 returns-in_err-turns g c =
@@ -87,7 +83,7 @@ returns-in_err-turns g c =
     let d = c.turns_up_to.new.demand in
     let p = c.turns_up_to.new.question in
     let r = err_from_is_err_and c.from_residual-in_err-turns.result c.from_residual-in_err-turns.ensures.1 in
-    broke_off x k m e i c.args.limit o t it q b s d p _ c.in_err-turns.ensures c.from_residual-in_err-turns.result r.0 _ r.1 refl
+    broke_off x k m e i c.args.limit o t it c.requires.ready.typed q b s d p _ c.in_err-turns.ensures c.from_residual-in_err-turns.result r.0 _ r.1 refl
 
 pub returns-in_err-told-in-Some : goal.returns-in_err-told-in-Some
 returns-in_err-told-in-Some g c =
@@ -108,7 +104,7 @@ returns-in_err-told-in-Some g c =
     let h = subst (λ (a : Option AnswerCode). HasTurnedUpTo {E = AllocError} x (rules_of e) e.store c.args.limit
     (k e.demand.keeper) (k d.keeper)
     (m e.demand.keeper) (m d.keeper) q p (Ok (c.in_ok-turns.turns, a))) c.in-Some.is c.in_ok-turns.ensures in
-    untold x k m e i c.args.limit o t it q b s d p c.in_ok-turns.turns c.in-Some.answer h c.from_residual-in_err-told-in-Some.result r.0 r.1
+    untold x k m e i c.args.limit o t it c.requires.ready.typed q b s d p c.in_ok-turns.turns c.in-Some.answer h c.from_residual-in_err-told-in-Some.result r.0 r.1
 
 pub returns-in_ok-told-in-Some : goal.returns-in_ok-told-in-Some
 returns-in_ok-told-in-Some g c =
@@ -128,7 +124,7 @@ returns-in_ok-told-in-Some g c =
     let h = subst (λ (a : Option AnswerCode). HasTurnedUpTo {E = AllocError} x (rules_of e) e.store c.args.limit
     (k e.demand.keeper) (k d.keeper)
     (m e.demand.keeper) (m d.keeper) q p (Ok (c.in_ok-turns.turns, a))) c.in-Some.is c.in_ok-turns.ensures in
-    told x k m e i c.args.limit o t it q b s d p c.in_ok-turns.turns c.requires.ready.typed.none_circular c.in-Some.answer h c.in_ok-told-in-Some.field-0
+    told x k m e i c.args.limit o t it c.requires.ready.typed q b s d p c.in_ok-turns.turns c.in-Some.answer h c.in_ok-told-in-Some.field-0
     (λ a like. c.in_ok-told-in-Some.ensures a like)
 
 pub returns-in-None : goal.returns-in-None
@@ -149,5 +145,5 @@ returns-in-None g c =
     let h = subst (λ (a : Option AnswerCode). HasTurnedUpTo {E = AllocError} x (rules_of e) e.store c.args.limit
     (k e.demand.keeper) (k d.keeper)
     (m e.demand.keeper) (m d.keeper) q p (Ok (c.in_ok-turns.turns, a))) c.in-None.is c.in_ok-turns.ensures in
-    not_yet x k m e i c.args.limit o t it q b s d p c.in_ok-turns.turns c.requires.ready.typed.none_circular h
+    not_yet x k m e i c.args.limit o t it c.requires.ready.typed q b s d p c.in_ok-turns.turns h
     c.keep.new.self c.keep.ensures.there

@@ -12,7 +12,7 @@ use Rattle.at_engine.specs.Posted.{posted_view}
 use Rattle.at_engine.specs.declared.posts.Posted.{Posted}
 use Rattle.at_engine.proofs.of_keeping.KeepingLemmas.{spare_of_nothing}
 use Rattle.at_engine.proofs.of_marks.LastPlace.{nothing_known}
-use Rattle.at_engine.proofs.Storing.{held, remembered_of_nothing, right_of_nothing}
+use Rattle.at_engine.proofs.Storing.{held, remembered_of_nothing, right_of_nothing, typed_of_nothing}
 use Rattle.at_engine.proofs.engine.Engine.new.Goals as goal
 
 pub returns-clause-first : goal.returns-clause-first
@@ -20,13 +20,14 @@ returns-clause-first g c = λ i.
     held (c.in_ok-store.ensures.loaded i) (c.in_ok-store.ensures.limit i) 0 (marks_view (path c.in_ok-store.store) (c.new-3.ensures i)) (c.new-4.ensures.count i) (map (posted_view (path c.in_ok-store.store)) (c.new-4.ensures.items i))
 
 pub returns-clause-sound : goal.returns-clause-sound
-returns-clause-sound g c formed plain tokens nothing = record {
+returns-clause-sound g c formed circular tokens nothing = record {
   held = record {
     idle = c.in_ok-store.ensures.idle;
     sound = subst (λ (x : Classes). AreSound x) c.classes.ensures c.in_ok-store.ensures.sound;
     conforming = subst (λ (t : Tree). conforms c.args.rules.classes t 0 ≡ true) (sym c.in_ok-store.ensures.loaded) (subst (λ (x : Classes). conforms x (tree_view c.args.tree) 0 ≡ true) c.classes.ensures c.in_ok-store.ensures.fits);
     marked = subst (AreThere (path c.in_ok-store.store)) (sym c.new-3.ensures) tt;
     right = right_of_nothing c.args.rules c.in_ok-store.store _ (λ i. ap (λ k. g.K.Keeper.contents k i) c.new-2.ensures.keeper ∙ nothing.0 i);
+    typed = typed_of_nothing c.args.rules c.in_ok-store.store _ (λ i. ap (λ k. g.K.Keeper.contents k i) c.new-2.ensures.keeper ∙ nothing.0 i);
     remembered = remembered_of_nothing c.args.rules c.in_ok-store.store _
         (λ i. ap (λ k. (g.K.Keeper.memories k).traced i) c.new-2.ensures.keeper ∙ nothing.1 i);
     posted = subst (AllByRecursion (IsPostedOn c.args.rules c.in_ok-store.store _)) (sym c.new-4.ensures.items) tt;
@@ -34,7 +35,7 @@ returns-clause-sound g c formed plain tokens nothing = record {
   };
   typed = record {
     formed = formed;
-    none_circular = plain;
+    circular = circular;
     tokens = subst AreTokens (sym c.in_ok-store.ensures.loaded) tokens;
   };
   known = nothing_known c.args.rules.classes c.in_ok-store.store (record { front = c.new.result; session = 0; node = c.root.result }) c.new.ensures.items;

@@ -53,7 +53,8 @@ pub returns-in-Some-awaited-clause-spares : goal.returns-in-Some-awaited-clause-
 returns-in-Some-awaited-clause-spares g c exact spare =
     let e = c.args.self.now in
     let v = verdict (rules_of e) (state_of e) (line_with c.args.session c.args.expected (command_view c.args.command.now)) in
-    waited_spares g.K.Keeper.contents e c.wait.new.self v c.wait.result.form c.in-Some-awaited.ensures.question.number ((c.in_default.ensures (line_with c.args.session c.args.expected (command_view c.args.command.now)) refl (sym c.has_used-is_marked.ensures)) ∙ c.in-Some-awaited.ensures.waits) (c.wait.ensures.spare exact spare)
+    waited_spares g.K.Keeper.contents e c.wait.new.self v c.wait.result.form c.in-Some-awaited.ensures.question.number ((c.in_default.ensures (line_with c.args.session c.args.expected (command_view c.args.command.now)) refl (sym c.has_used-is_marked.ensures)) ∙ c.in-Some-awaited.ensures.waits)
+    (λ whole. c.wait.ensures.spare whole exact spare)
 
 pub returns-in-None-clause-hears : goal.returns-in-None-clause-hears
 returns-in-None-clause-hears g c =

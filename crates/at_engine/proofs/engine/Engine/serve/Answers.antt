@@ -28,6 +28,8 @@ returns g c =
     record {
       done = record {
         served = (a.0, a.1, a.2 ∙ ap (λ xs. xs ++ reply_text a.0) c.reserve.ensures.items);
+        spare = λ whole exact spare. spare_line g.K.Keeper.contents e new line t.form wants
+            (said_form t wants c.reserve.new.self.items c.say.new.out.items c.say.ensures.said) (c.outcome-told.ensures.spares exact spare) whole;
         keeps = λ exact spare.
             kept_served g.K.Keeper.contents e new line t.form wants (c.outcome-told.ensures.spares exact spare) (said_form t wants c.reserve.new.self.items c.say.new.out.items c.say.ensures.said)
             (λ same none. stays_unless (rules_of e) (state_of e) (state_of new) line (wants, a.0) same a.1.serves none);
@@ -36,7 +38,6 @@ returns g c =
       full = tt;
       err = tt;
       room = omega (arith, c.reserve.ensures.capacity, c.say.ensures.room);
-      spare = λ exact spare. spare_line g.K.Keeper.contents e new line t.form (c.outcome-told.ensures.spares exact spare);
       rules = stays.rules;
       slice = stays.slice;
       sound = record { held = stays.sound; typed = typed_served (rules_of e) (rules_of new) (wants, a.0) (state_of e) (state_of new) line c.requires.sound.typed stays.rules a.1.serves; known = stays.known c.requires.sound.known };

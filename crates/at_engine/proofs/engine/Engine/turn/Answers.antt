@@ -11,7 +11,6 @@ returns g c =
       full = tt;
       err = tt;
       room = call.room;
-      spare = call.spare;
       rules = call.rules;
       slice = call.slice;
       sound = call.sound;

@@ -1,4 +1,5 @@
 use Rattle.std.proofs.Common.{◌∙◌}
+use Rattle.at_engine.proofs.of_keeping.KeptTyped.{basis_held, sound_typed}
 use Rattle.at_engine.proofs.of_turns.Bounding.{few_found, turns_found}
 use Rattle.at_engine.proofs.engine.Engine.turns.Goals as goal
 
@@ -11,6 +12,7 @@ pub returns-clause-few : goal.returns-clause-few
 returns-clause-few g c q is =
     let e = c.args.self.now in
     let h = c.requires.sound in
-    few_found e.rules e.store h.held.idle h.typed.formed
-    (record { conform = h.held.conforming; within = h.held.idle.limits; tokens = h.typed.tokens })
-    h.typed.none_circular (g.K.Keeper.contents e.demand.keeper) c.args.number e.posts.items.items h.held.posted q is
+    let basis = basis_held g.K.Keeper.contents g.K.Keeper.memories e h.held h.typed in
+    few_found e.rules e.store basis (g.K.Keeper.contents e.demand.keeper)
+    (sound_typed e.rules e.store basis (g.K.Keeper.contents e.demand.keeper) h.held.right.values h.held.typed)
+    c.args.number e.posts.items.items h.held.posted q is

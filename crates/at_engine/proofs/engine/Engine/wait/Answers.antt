@@ -1,6 +1,8 @@
 use Rattle.std.proofs.Common.{ℕ, Option, None, Result, Ok, Err, refl, subst, sym}
 use Rattle.std.specs.declared.alloc.AllocError.{AllocError}
 use Rattle.at_protocol.specs.declared.reply.Form.{Form}
+use Rattle.at_demand.specs.Groups.{KeepsGroups}
+use Rattle.at_engine.specs.Engines.{rules_of}
 use Rattle.at_engine.specs.Turning.{Attends, HasGone}
 use Rattle.at_engine.proofs.of_turns.Finishing.{IsResult, never_silent, stays_there, waited}
 use Rattle.at_engine.proofs.engine.Engine.wait.Goals as goal
@@ -21,7 +23,7 @@ pub returns-in-Err : goal.returns-in-Err
 returns-in-Err g c =
     let is = subst (λ (r : Result (ℕ × Option Form) AllocError). IsResult r (Err c.in-Err.error))
     (sym c.in-Err.is) refl in
-    waited g.K.Keeper.exact g.K.Keeper.contents g.K.Keeper.memories c.args.self.now c.requires.sound c.args.position c.go_on.new.self c.go_on.result
+    waited g.K.Keeper.exact g.K.Keeper.contents g.K.Keeper.memories c.args.self.now c.requires.sound c.args.position c.requires.within c.go_on.new.self c.go_on.result
     c.go_on.ensures (Err c.in-Err.error) is c.close.new.self c.close.result c.close.ensures
 
 pub returns : goal.returns
@@ -30,7 +32,7 @@ returns g c =
     (sym c.in-Some.is) refl in
     let is = subst (λ (r : Result (ℕ × Option Form) AllocError). IsResult r (Ok c.in-Some.form))
     (sym c.in-Ok.is) some in
-    waited g.K.Keeper.exact g.K.Keeper.contents g.K.Keeper.memories c.args.self.now c.requires.sound c.args.position c.go_on.new.self c.go_on.result
+    waited g.K.Keeper.exact g.K.Keeper.contents g.K.Keeper.memories c.args.self.now c.requires.sound c.args.position c.requires.within c.go_on.new.self c.go_on.result
     c.go_on.ensures (Ok c.in-Some.form) is c.close-in-Some.new.self c.close-in-Some.result c.close-in-Some.ensures
 
 pub unreachable-requires : goal.unreachable-requires
@@ -41,6 +43,6 @@ unreachable-requires g c =
     let i = c.args.position in
     let m = c.go_on.new.self in
     let a = subst (λ (r : Result (ℕ × Option Form) AllocError). Attends x k g.K.Keeper.memories e m i
-    (λ p. HasGone x k None e m i p r)) c.in-Ok.is
+    (λ p. HasGone x k None e m i p r) (KeepsGroups (rules_of e) r)) c.in-Ok.is
     c.go_on.ensures in
     never_silent x k g.K.Keeper.memories e m i c.requires.within c.in-Ok.gone.0 c.in-Ok.gone.1 a c.in-None.is

@@ -7,17 +7,15 @@ use Rattle.at_engine.proofs.engine.turning.turns_up_to.Goals as goal
 pub returns-in-Some : goal.returns-in-Some
 returns-in-Some g c =
     let k = g.K.Keeper.contents in
+    let m = g.K.Keeper.memories in
     let old = c.args.demand.now in
     let new = c.turns.new.self in
+    let can = c.requires.turns in
     subst (λ (limit : Option ℕ). HasTurnedUpTo {E = AllocError} g.K.Keeper.exact c.args.rules.now c.args.store.now limit
-    (k old.keeper) (k new.keeper)
-    (g.K.Keeper.memories old.keeper) (g.K.Keeper.memories new.keeper) c.args.question.now c.turns.new.question c.turns.result) (sym c.in-Some.is)
-    (as_one_record AllocError g.K.Keeper.exact c.args.rules.now c.args.store.now c.in-Some.limit (k old.keeper)
-    (k new.keeper) old.work new.work
-    (g.K.Keeper.memories old.keeper) (g.K.Keeper.memories new.keeper) c.args.question.now c.turns.new.question
-    c.turns.result
-    c.requires.plainly c.requires.turns.standing c.turns.ensures.turned
-    c.turns.ensures.traces)
+    (k old.keeper) (k new.keeper) (m old.keeper) (m new.keeper) c.args.question.now c.turns.new.question c.turns.result) (sym c.in-Some.is)
+    (as_one_record AllocError g.K.Keeper.exact c.args.rules.now c.args.store.now c.in-Some.limit (k old.keeper) (k new.keeper) old.work new.work
+    (m old.keeper) (m new.keeper) c.args.question.now c.turns.new.question can.standing
+    (record { right = can.answerable.right; whole = can.wholes }) c.turns.result c.turns.ensures.turned c.turns.ensures.traces)
 
 pub returns-in-None : goal.returns-in-None
 returns-in-None g c =

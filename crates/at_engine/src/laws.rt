@@ -1,0 +1,34 @@
+//! Laws over the definitions: each is the contract of a function that does nothing.
+
+ghost use Rattle.std.specs.Prelude.{ℕ, Bool, List, Option};
+ghost use Rattle.at_model.specs.Lines.{Line};
+ghost use Rattle.at_model.specs.Machine.{State, Verdict};
+ghost use Rattle.at_model.specs.Meaning.{Answer};
+ghost use Rattle.at_model.specs.Rules.{Rules};
+ghost use Rattle.at_model.specs.Run.{Contents, Instance};
+ghost use Rattle.at_rules.specs.Circular.{HasNoneCircular};
+ghost use Rattle.at_store.specs.Shown.{Shown};
+ghost use Rattle.at_cache.specs.Kept.{Entries};
+ghost use Rattle.at_demand.specs.Answered.{HasWorthyFor};
+ghost use Rattle.at_demand.specs.Sparing.{HasWorthy};
+ghost use Rattle.at_demand.specs.Turns.{AreTurnsOfChain, BreaksOffChain, under_way};
+ghost use Rattle.at_demand.specs.declared.question.Question.{Question};
+ghost use Rattle.at_engine.specs.Keeping.{KeepsWhole};
+ghost use Rattle.at_engine.specs.KeptOver.{HasOutcome, HaveOutcomes};
+ghost use Rattle.at_engine.specs.Posted.{came_to};
+ghost use Rattle.at_engine.specs.Turning.{AreTurns, BreaksOff};
+
+/// Where no attribute is circular, turns are those of a question's chain, each verdict is one of which all is said that is kept, and what
+/// belongs together is kept together, whether memory ran out or not.
+pub fn where_none_is_circular()
+    ensures turns { (rules : Rules) → HasNoneCircular rules → (s : Shown) (given : ℕ) (before after : Entries) (o : Option Question) (i : Instance ℕ)
+        (end : Question) (a : Option (Answer ℕ)) → AreTurns rules s given before o i after end a
+        → AreTurnsOfChain rules s given before (came_to o i) after (under_way end) a }
+    ensures breaks { (rules : Rules) → HasNoneCircular rules → (s : Shown) (limit : ℕ) (before after : Entries) (o : Option Question) (i : Instance ℕ)
+        → BreaksOff rules s limit before o i after → BreaksOffChain rules s limit before (came_to o i) after }
+    ensures worthy { (rules : Rules) → HasNoneCircular rules → (look : Contents ℕ) (i : Instance ℕ) (a : Answer ℕ) (entries : Entries)
+        → HasWorthyFor rules look i a entries → HasWorthy rules look i entries }
+    ensures outcome { (rules : Rules) → HasNoneCircular rules → (s : State) (v : Verdict) → HasOutcome rules s v }
+    ensures outcomes { (rules : Rules) → HasNoneCircular rules → (s : State) (lines : List (Option Line)) → HaveOutcomes rules s lines }
+    ensures whole { (rules : Rules) → HasNoneCircular rules → (wants : Bool) → KeepsWhole rules wants }
+{}
