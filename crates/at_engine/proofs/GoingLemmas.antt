@@ -42,11 +42,11 @@ module _ (rules : Rules) (start mid last : Desk) (count : ℕ) (counted : count 
     (first : start.memory ≤ mid.memory) (second : mid.memory ≤ last.memory) where
   pub whole_before : HasNoneCircular rules ⊎ (count ≡ 0) → KeepWhole rules start mid
   whole_before (inl none) = inl none
-  whole_before (inr no) = inr (omega (arith, counted, zero, first, second, no))
+  whole_before (inr never) = inr (omega (arith, counted, zero, first, second, never))
 
   pub whole_behind : HasNoneCircular rules ⊎ (count ≡ 0) → (others : Rules) → others ≡ rules → KeepWhole others mid last
   whole_behind (inl none) others same = inl (subst HasNoneCircular (sym same) none)
-  whole_behind (inr no) others same = inr (omega (arith, counted, zero, first, second, no))
+  whole_behind (inr never) others same = inr (omega (arith, counted, zero, first, second, never))
 
 -- where no attribute is circular, what belongs together is kept together in any run
 pub plainly_whole : (rules : Rules) (r : Result Report RunFault) → HasNoneCircular rules → RunKeepsWhole rules r

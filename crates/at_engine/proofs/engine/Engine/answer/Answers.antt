@@ -35,8 +35,7 @@ returns g c q like =
           told.worthy (told.counts exact) in
           either_spares k e new (Asks q) c.told.result
           (λ whole. spare_grown (rules_of e) e.store before after told.worthy.stays (marks_of e) e.posts held
-          (told.spare tt exact spare.kept) spare)
-          (
+          (told.spare tt exact spare.kept) spare) (
             λ has. keeps_asked (rules_of e) e.store held.idle c.args.inst.now q like before after e.demand.work new.demand.work told.worthy
                 (worthy_outcome (rules_of e) (state_of e).tree q (contents e.store) c.args.inst.now after view b alike answers
                 (told.all exact spare.kept) has)

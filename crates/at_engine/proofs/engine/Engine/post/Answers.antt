@@ -63,6 +63,7 @@ returns-in_err-push g c =
         conforming = s.conforming;
         marked = s.marked;
         right = s.right;
+        typed = s.typed;
         remembered = s.remembered;
         posted = subst (AllByRecursion (IsPostedOn (rules_of e) e.store k)) (sym same.0) s.posted;
         numbered = subst (λ (l : List Posted). Numbered l new.posts.count) (sym same.0) (subst (Numbered e.posts.items.items) (sym same.1) s.numbered);
