@@ -31,4 +31,3 @@ pub mod Within
 pub mod Typing
 pub mod Positions
 pub mod PostedForLemmas
-pub mod Plain

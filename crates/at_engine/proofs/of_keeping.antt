@@ -8,3 +8,4 @@ pub mod KeepingBytes
 pub mod Fulfilling
 pub mod Tracing
 pub mod KeptTyped
+pub mod Plain

@@ -18,14 +18,18 @@ ghost use Rattle.at_engine.specs.KeptOver.{HasOutcome, HaveOutcomes};
 ghost use Rattle.at_engine.specs.Posted.{came_to};
 ghost use Rattle.at_engine.specs.Turning.{AreTurns, BreaksOff};
 
-/// Where no attribute is circular, turns are those of a question's chain, each verdict is one of which all is said that is kept, and what
-/// belongs together is kept together, whether memory ran out or not.
-pub fn where_none_is_circular()
+/// Where no attribute is circular, turns are those of a question's chain.
+pub fn turns_where_none_is_circular()
     ensures turns { (rules : Rules) → HasNoneCircular rules → (s : Shown) (given : ℕ) (before after : Entries) (o : Option Question) (i : Instance ℕ)
         (end : Question) (a : Option (Answer ℕ)) → AreTurns rules s given before o i after end a
         → AreTurnsOfChain rules s given before (came_to o i) after (under_way end) a }
     ensures breaks { (rules : Rules) → HasNoneCircular rules → (s : Shown) (limit : ℕ) (before after : Entries) (o : Option Question) (i : Instance ℕ)
         → BreaksOff rules s limit before o i after → BreaksOffChain rules s limit before (came_to o i) after }
+{}
+
+/// Where no attribute is circular, each verdict is one of which all is said that is kept, and what belongs together is kept together, whether
+/// memory ran out or not.
+pub fn where_none_is_circular()
     ensures worthy { (rules : Rules) → HasNoneCircular rules → (look : Contents ℕ) (i : Instance ℕ) (a : Answer ℕ) (entries : Entries)
         → HasWorthyFor rules look i a entries → HasWorthy rules look i entries }
     ensures outcome { (rules : Rules) → HasNoneCircular rules → (s : State) (v : Verdict) → HasOutcome rules s v }

@@ -1,11 +1,5 @@
-use Rattle.at_engine.proofs.Plain.{outcome_plainly, outcomes_plainly, whole_plainly, worthy_plainly}
+use Rattle.at_engine.proofs.of_keeping.Plain.{outcome_plainly, outcomes_plainly, whole_plainly, worthy_plainly}
 use Rattle.at_engine.proofs.laws.where_none_is_circular.Goals as goal
-
-pub returns-clause-turns : goal.returns-clause-turns
-returns-clause-turns c = λ rules none s given before after o i end a turns. turns.plainly none
-
-pub returns-clause-breaks : goal.returns-clause-breaks
-returns-clause-breaks c = λ rules none s limit before after o i breaks. breaks.plainly none
 
 pub returns-clause-worthy : goal.returns-clause-worthy
 returns-clause-worthy c = λ rules none look i a entries worthy. worthy_plainly rules none look i a entries worthy
