@@ -41,12 +41,14 @@ named_apart bytes cs h = subst AreNamedApart (sym h.built) (classes_apart h.decl
 
 -- ---- the aspects
 
-held_once : (forms : Forms) (bytes : List ℕ) (as' bs : List Aspect) → Holds forms bytes as' → Holds forms bytes bs → as' ≡ bs
+held_once : (forms : Forms) (bytes : List ℕ) (as' bs : List Aspect) → Holds forms bytes as' → Holds forms bytes bs
+    → as' ≡ bs
 held_once forms bytes as' bs h k =
     let rows = one_row bytes h.tokens k.tokens h.cut k.cut in
     one_file forms as' bs k.tokens (subst (λ (row : Row). File forms as' row []) rows h.spells) k.spells
 
-all_held_once : (forms : Forms) (files : List (List ℕ)) (as' bs : List (List Aspect)) → AllHold forms files as' → AllHold forms files bs → as' ≡ bs
+all_held_once : (forms : Forms) (files : List (List ℕ)) (as' bs : List (List Aspect)) → AllHold forms files as'
+    → AllHold forms files bs → as' ≡ bs
 all_held_once forms [] [] [] h k = refl
 all_held_once forms [] [] (b ∷ bs) h k = absurd k
 all_held_once forms [] (a ∷ as') bs h k = absurd h
@@ -58,7 +60,8 @@ all_held_once forms (f ∷ fs) (a ∷ as') (b ∷ bs) h k =
 pub rules_once : (forms : Forms) (cs ds : Classes) (files : List (List ℕ)) (rules others : Rules) → cs ≡ ds
     → GivesRules forms cs files rules → GivesRules forms ds files others → rules ≡ others
 rules_once forms cs ds files rules others same h k =
-    h.built.1 ∙ ap₂ (λ c as'. rules_of c (located 1 as')) same (all_held_once forms files h.aspects k.aspects h.hold k.hold) ∙ sym k.built.1
+    h.built.1 ∙ ap₂ (λ c as'. rules_of c (located 1 as')) same
+    (all_held_once forms files h.aspects k.aspects h.hold k.hold) ∙ sym k.built.1
 
 -- ---- the tree
 

@@ -23,7 +23,8 @@ use Rattle.at_start.specs.declared.fault.StartFault.{StartFault}
 use Rattle.at_start.specs.declared.fault.StartFault.TheVariants.{Refused, Memory}
 
 -- one more file
-hold_more : (forms : Forms) (fs : List (List ℕ)) (as' : List (List Aspect)) (f : List ℕ) (a : List Aspect) → AllHold forms fs as' → Holds forms f a → AllHold forms (fs ++ f ∷ []) (as' ++ a ∷ [])
+hold_more : (forms : Forms) (fs : List (List ℕ)) (as' : List (List Aspect)) (f : List ℕ) (a : List Aspect)
+    → AllHold forms fs as' → Holds forms f a → AllHold forms (fs ++ f ∷ []) (as' ++ a ∷ [])
 hold_more forms [] [] f a h k = (k, tt)
 hold_more forms [] (b ∷ bs) f a h k = absurd h
 hold_more forms (g ∷ gs) [] f a h k = absurd h
@@ -39,17 +40,21 @@ abbrev pub aspects_of : Vec AspectValue Global → List Aspect
 aspects_of v = map aspect_view v.items
 
 -- one more file was read
-pub one_more_read : (forms : Forms) (sources : List Source) (i : ℕ) (x : Source) (all : List (Vec AspectValue Global)) (v : Vec AspectValue Global) → i < length sources → x ≡ get_or sources i x
+pub one_more_read : (forms : Forms) (sources : List Source) (i : ℕ) (x : Source) (all : List (Vec AspectValue Global))
+    (v : Vec AspectValue Global) → i < length sources → x ≡ get_or sources i x
     → AllHold forms (aspect_bytes (take i sources)) (map aspects_of all) → Holds forms x.bytes.items (aspects_of v)
     → AllHold forms (aspect_bytes (take (i + 1) sources)) (map aspects_of (all ++ v ∷ []))
 one_more_read forms sources i x all v within is h k =
     let files : aspect_bytes (take (i + 1) sources) ≡ aspect_bytes (take i sources) ++ x.bytes.items ∷ [] = ap aspect_bytes (front_more sources i x within is) ∙ map-append (λ (s : Source). s.bytes.items) (take i sources) (x ∷ []) in
     let read : map aspects_of (all ++ v ∷ []) ≡ map aspects_of all ++ aspects_of v ∷ [] = map-append aspects_of all (v ∷ []) in
-    rw (files, read) (hold_more forms (aspect_bytes (take i sources)) (map aspects_of all) x.bytes.items (aspects_of v) h k)
+    rw (files, read) (hold_more forms (aspect_bytes (take i sources)) (map aspects_of all) x.bytes.items
+    (aspects_of v) h k)
 
 -- the file at that position is the first that could not be read
-pub unread_at : (forms : Forms) (sources : List Source) (i : ℕ) (x : Source) (aspects : List (List Aspect)) (f : Fault Code) → i < length sources → x ≡ get_or sources i x
-    → AllHold forms (aspect_bytes (take i sources)) aspects → IsReadingFaultOf forms x.bytes.items f → IsUnread forms (aspect_bytes sources) (of_file (i + 1) f)
+pub unread_at : (forms : Forms) (sources : List Source) (i : ℕ) (x : Source) (aspects : List (List Aspect))
+    (f : Fault Code) → i < length sources → x ≡ get_or sources i x
+    → AllHold forms (aspect_bytes (take i sources)) aspects → IsReadingFaultOf forms x.bytes.items f
+    → IsUnread forms (aspect_bytes sources) (of_file (i + 1) f)
 unread_at forms sources i x aspects (fault.Refused c at) within is h k = record {
   front = aspect_bytes (take i sources);
   rest = aspect_bytes (drop (i + 1) sources);
@@ -62,29 +67,35 @@ unread_at forms sources i x aspects (fault.Refused c at) within is h k = record 
 }
 unread_at forms sources i x aspects fault.Memory within is h k = tt
 
-pub unread_refuses : (forms : Forms) (classes : Classes) (files : List (List ℕ)) (e : StartFault) → IsUnread forms files e
+pub unread_refuses : (forms : Forms) (classes : Classes) (files : List (List ℕ)) (e : StartFault)
+    → IsUnread forms files e
     → IsAspectFault forms classes files e
 unread_refuses forms classes files (Refused file c (Some at)) h = no_file file c at h
 unread_refuses forms classes files (Refused file c None) h = h
 unread_refuses forms classes files Memory h = h
 
 -- the rules are those of files that were read
-pub given_by : (forms : Forms) (classes : Classes) (files : List (List ℕ)) (read : List (Vec AspectValue Global)) (result : Result Rules StartFault)
+pub given_by : (forms : Forms) (classes : Classes) (files : List (List ℕ)) (read : List (Vec AspectValue Global))
+    (result : Result Rules StartFault)
     → AllHold forms files (map aspects_of read)
-    → IfOk result (λ r. Builds classes (declarations_in read) (Ok r)) → IfOk result (λ r. GivesRules forms classes files r)
+    → IfOk result (λ r. Builds classes (declarations_in read) (Ok r))
+    → IfOk result (λ r. GivesRules forms classes files r)
 given_by forms classes files read (Ok r) h built = record { aspects = map aspects_of read; hold = h; built = built }
 given_by forms classes files read (Err e) h built = built
 
-rule_refuses : (forms : Forms) (classes : Classes) (files : List (List ℕ)) (aspects : List (List Aspect)) (e : StartFault)
+rule_refuses : (forms : Forms) (classes : Classes) (files : List (List ℕ)) (aspects : List (List Aspect))
+    (e : StartFault)
     → AllHold forms files aspects → IsRuleFault classes (located 1 aspects) e → IsAspectFault forms classes files e
 rule_refuses forms classes files aspects (Refused n c at) h (f, first, of_number, of_code, of_place) =
-    let placed = subst (λ (o : Option Place). IsAspectFault forms classes files (Refused f.file (rule_code f.code) o)) (sym of_place) (breaks aspects f h first) in
+    let placed = subst (λ (o : Option Place). IsAspectFault forms classes files (Refused f.file (rule_code f.code) o))
+    (sym of_place) (breaks aspects f h first) in
     let coded = subst (λ (k : Code). IsAspectFault forms classes files (Refused f.file k at)) (sym of_code) placed in
     subst (λ (m : ℕ). IsAspectFault forms classes files (Refused m c at)) (sym of_number) coded
 rule_refuses forms classes files aspects Memory h says = tt
 
 -- a rule's fault is one of files that were read
-pub refused_by : (forms : Forms) (classes : Classes) (files : List (List ℕ)) (read : List (Vec AspectValue Global)) (result : Result Rules StartFault)
+pub refused_by : (forms : Forms) (classes : Classes) (files : List (List ℕ)) (read : List (Vec AspectValue Global))
+    (result : Result Rules StartFault)
     → AllHold forms files (map aspects_of read)
     → IfErr result (IsRuleFault classes (declarations_in read)) → IfErr result (IsAspectFault forms classes files)
 refused_by forms classes files read (Ok r) h says = says

@@ -1,5 +1,5 @@
--- The rules that aspect files give are well formed; their circular attributes are lazy and boolean, and there are none where that form
--- isn't read.
+-- The rules that aspect files give are well formed; their circular attributes are lazy and boolean, and there are
+-- none where that form isn't read.
 use Rattle.std.proofs.Common.{◌≡◌, ◌∙◌, ℕ, ◌+◌, false, List, [], ◌∷◌, Some, Result, Ok, Err, refl, sym}
 use Rattle.std.specs.Result.{IfOk}
 use Rattle.std.specs.List.{AllByRecursion, slice_get}
@@ -27,14 +27,17 @@ hold_spelled forms [] (a ∷ as') hold = absurd hold
 hold_spelled forms (f ∷ fs) [] hold = absurd hold
 hold_spelled forms (f ∷ fs) (a ∷ as') hold = ((forms, hold.0.tokens, hold.0.spells), hold_spelled forms fs as' hold.1)
 
-pub given_well_formed : (forms : Forms) (classes : Classes) (files : List (List ℕ)) (rules : Rules) → IsHierarchy classes
+pub given_well_formed : (forms : Forms) (classes : Classes) (files : List (List ℕ)) (rules : Rules)
+    → IsHierarchy classes
     → GivesRules forms classes files rules → AreWellFormed rules
 given_well_formed forms classes files rules hierarchy gives =
-    built_well_formed classes gives.aspects rules hierarchy (hold_spelled forms files gives.aspects gives.hold) gives.built
+    built_well_formed classes gives.aspects rules hierarchy (hold_spelled forms files gives.aspects gives.hold)
+    gives.built
 
 pub well_formed_by : (forms : Forms) (classes : Classes) (files : List (List ℕ)) (result : Result Rules StartFault)
     → IsHierarchy classes → IfOk result (λ r. GivesRules forms classes files r) → IfOk result AreWellFormed
-well_formed_by forms classes files (Ok rules) hierarchy gives = given_well_formed forms classes files rules hierarchy gives
+well_formed_by forms classes files (Ok rules) hierarchy gives =
+    given_well_formed forms classes files rules hierarchy gives
 well_formed_by forms classes files (Err e) hierarchy gives = tt
 
 -- ---- circular ones
@@ -48,8 +51,8 @@ circular_well : (rules : Rules) → AreCircularLazy rules → AreWellFormed rule
 circular_well rules lazy formed = record {
   lazy = lazy;
   boolean = λ attribute b d starts there.
-    (found (IsDeclarationTyped rules.classes) rules.attributes attribute d formed.typed.attributes there).boolean b
-    (sym (start_at rules attribute d there) ∙ starts);
+      (found (IsDeclarationTyped rules.classes) rules.attributes attribute d formed.typed.attributes there).boolean b
+      (sym (start_at rules attribute d there) ∙ starts);
 }
 
 pub circular_by : (result : Result Rules StartFault) → IfOk result AreCircularLazy → IfOk result AreWellFormed
@@ -71,4 +74,5 @@ hold_plain forms off n (f ∷ fs) (a ∷ as') hold =
 pub given_plain : (forms : Forms) → forms.circular ≡ false → (classes : Classes) (files : List (List ℕ)) (rules : Rules)
     → GivesRules forms classes files rules → HasNoneCircular rules
 given_plain forms off classes files rules gives =
-    built_plain classes (located 1 gives.aspects) rules (hold_plain forms off 1 files gives.aspects gives.hold) gives.built
+    built_plain classes (located 1 gives.aspects) rules (hold_plain forms off 1 files gives.aspects gives.hold)
+    gives.built

@@ -47,8 +47,10 @@ jrag_code jrag.Nesting = code.AspectLimit
 
 -- the file is refused by the code at the place: it is no text, or this is the fault of its text
 pub data RefusesReading (forms : Forms) (bytes : List ℕ) : Code → Place → Type 0 where
-  no_text : (c : Code) → IsNoText max_file bytes code.AspectLimit code.AspectSyntax c → RefusesReading forms bytes c first_place
-  no_aspects : (c : JragCode) (at : Place) → IsText max_file bytes → IsFault forms bytes (fault.Refused c at) → RefusesReading forms bytes (jrag_code c) at
+  no_text : (c : Code) → IsNoText max_file bytes code.AspectLimit code.AspectSyntax c
+      → RefusesReading forms bytes c first_place
+  no_aspects : (c : JragCode) (at : Place) → IsText max_file bytes → IsFault forms bytes (fault.Refused c at)
+      → RefusesReading forms bytes (jrag_code c) at
 
 -- the fault is one by which the file is refused; of want of memory nothing is said
 abbrev pub IsReadingFaultOf : Forms → List ℕ → Fault Code → Type 0
@@ -71,7 +73,8 @@ IsUnread forms files (start.Refused file c (Some at)) = IsUnreadAt forms files f
 IsUnread forms files (start.Refused file c None) = ⊥
 IsUnread forms files start.Memory = Unit {0}
 
--- The files give the rules over the classes, where these forms are read: each file holds aspects, and all their declarations together make the rules.
+-- The files give the rules over the classes, where these forms are read: each file holds aspects, and all their
+-- declarations together make the rules.
 pub record GivesRules (forms : Forms) (classes : Classes) (files : List (List ℕ)) (rules : Rules) : Type 0 where
   pub aspects : List (List Aspect)
   pub hold : AllHold forms files aspects
@@ -92,9 +95,12 @@ rule_code rule.EquationWithoutAttribute = code.EquationWithoutAttribute
 
 -- The files are refused by the code at the place of the file of that number: it is the first that can't be read; or all can,
 -- and it is the first fault of their declarations.
-pub data RefusesAspects (forms : Forms) (classes : Classes) (files : List (List ℕ)) : (file : ℕ) → Code → Place → Type 0 where
-  no_file : (file : ℕ) (c : Code) (at : Place) → IsUnreadAt forms files file c at → RefusesAspects forms classes files file c at
-  breaks : (aspects : List (List Aspect)) (f : Breach) → AllHold forms files aspects → Builds classes (located 1 aspects) (Err (For f))
+pub data RefusesAspects (forms : Forms) (classes : Classes) (files : List (List ℕ)) : (file : ℕ) → Code → Place
+    → Type 0 where
+  no_file : (file : ℕ) (c : Code) (at : Place) → IsUnreadAt forms files file c at
+      → RefusesAspects forms classes files file c at
+  breaks : (aspects : List (List Aspect)) (f : Breach) → AllHold forms files aspects
+      → Builds classes (located 1 aspects) (Err (For f))
       → RefusesAspects forms classes files f.file (rule_code f.code) f.at
 
 -- the fault is one by which the files are refused; of want of memory nothing is said

@@ -13,7 +13,8 @@ use Rattle.attrd.specs.declared.options.Options.{Options}
 -- ---- what can be served
 
 -- where a first value is, the values aren't none
-values_some : (id : Text) (rows : List Row) (texts : List Text) → is_some (first_of id rows) ≡ true → Some texts ≡ all_of id rows
+values_some : (id : Text) (rows : List Row) (texts : List Text) → is_some (first_of id rows) ≡ true
+    → Some texts ≡ all_of id rows
     → 0 < length texts
 values_some id rows texts there is = go (find (λ r. bytes_eq r.id id) rows) there is
   where
@@ -40,8 +41,9 @@ given_within most (Some text) spells = spells.1
 pub usable_by : (rows : List Row) (o : Options) → IsWhole rows → HasValues rows o → IsUsable o
 usable_by rows o whole values = (
   subst (λ (n : ℕ). 0 < n) (length-map o.aspects.items string_bytes)
-  (values_some (codes "ASPECT") rows (map string_bytes o.aspects.items) whole.aspects values.aspects),
-  subst (IsUpTo max_connections) (sym values.connections) (asked_within max_connections (omega arith) _ whole.connections),
+      (values_some (codes "ASPECT") rows (map string_bytes o.aspects.items) whole.aspects values.aspects),
+  subst (IsUpTo max_connections) (sym values.connections)
+      (asked_within max_connections (omega arith) _ whole.connections),
   subst (IsUpTo max_slice) (sym values.slice) (asked_within max_slice (omega arith) _ whole.slice),
   subst (λ (o : Option ℕ). IfSome o (IsUpTo max_keep)) (sym values.keep) (given_within max_keep _ whole.keep),
 )
@@ -58,11 +60,13 @@ module _ (words : List Text) (rows : List Row) (list : Option Text) (matched : r
       ap name_forms is_list
       ∙ (both (takes command_line words) (name_forms (first_of (codes "forms") (matches_of command_line words))) taken).1
 
-  pub asks_by : (o : Options) → takes command_line words ≡ true → name_forms list ≡ true → HasValues rows o → Asks words o
+  pub asks_by : (o : Options) → takes command_line words ≡ true → name_forms list ≡ true → HasValues rows o
+      → Asks words o
   asks_by o takes known values = record {
     taken = rw (takes, ← is_list, known) refl;
     values = subst (λ (rs : List Row). HasValues rs o) matched values;
   }
 
 pub line_takes : (words : List Text) → are_taken words ≡ true → takes command_line words ≡ true
-line_takes words taken = (both (takes command_line words) (name_forms (first_of (codes "forms") (matches_of command_line words))) taken).0
+line_takes words taken =
+    (both (takes command_line words) (name_forms (first_of (codes "forms") (matches_of command_line words))) taken).0

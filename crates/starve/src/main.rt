@@ -85,11 +85,13 @@ fn serve(rt: &HostRuntime) -> Result<(), Stop> {
 
 /// The forms of aspects that the words name in front, and the words behind these.
 fn forms_of(words: &[String]) -> (Forms, &[String]) {
-    match words {
-        [option, name, rest @ ..] if option.as_str() == "--forms" && name.as_str() == "circular" =>
-            { (Forms { circular: true }, rest) }
-        _ => (Forms::NONE, words),
+    if let [option, name, rest @ ..] = words
+        && option.as_str() == "--forms"
+        && name.as_str() == "circular"
+    {
+        return (Forms { circular: true }, rest);
     }
+    (Forms::NONE, words)
 }
 
 /// Answers the lines over an empty keeper, with so many turns behind each. On standard error it tells how many lines

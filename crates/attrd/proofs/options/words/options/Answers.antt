@@ -9,7 +9,8 @@ use Rattle.attrd.proofs.Asking.{asks_by, line_takes, names_known, usable_by}
 use Rattle.attrd.proofs.options.words.options.Goals as goal
 
 pub returns-in-Err-clause-refused : goal.returns-in-Err-clause-refused
-returns-in-Err-clause-refused c taken = c.fault_of.ensures (c.in-Err.ensures.refused (line_takes (texts c.args.words.now) taken))
+returns-in-Err-clause-refused c taken =
+    c.fault_of.ensures (c.in-Err.ensures.refused (line_takes (texts c.args.words.now) taken))
 
 pub returns-in_err-forms-clause-refused : goal.returns-in_err-forms-clause-refused
 returns-in_err-forms-clause-refused c =
@@ -20,7 +21,8 @@ returns-in_err-forms-clause-refused c =
 
 pub options_of-requires-clause-forms : goal.options_of-requires-clause-forms
 options_of-requires-clause-forms c =
-    c.in_ok-forms.ensures.named ∙ ap forms_in (c.get_str.ensures ∙ first_value-rows (found_of c.in-Ok.matches) (codes "forms"))
+    c.in_ok-forms.ensures.named
+    ∙ ap forms_in (c.get_str.ensures ∙ first_value-rows (found_of c.in-Ok.matches) (codes "forms"))
 
 pub returns-clause-usable : goal.returns-clause-usable
 returns-clause-usable c = usable_by (rows_found c.in-Ok.matches) _ c.in-Ok.ensures.whole c.in_ok-options_of.ensures
