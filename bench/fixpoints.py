@@ -4,8 +4,9 @@
     python3 bench/fixpoints.py [PROGRAM [TURNS]]
 
 PROGRAM is ./attrd where none is given. A time is processor time, the least of TURNS runs, behind the start. Instructions are those of a
-run less those of a run without the lines, as `valgrind` counts them; growth is told in these where it is there. The grammars are rings of rules of the sample `samples/grammars`;
-the programs are those of `samples/flow`, with loops by labels and jumps. The run ends with status 1 where a bound doesn't hold.
+run less those of a run without the lines, as `valgrind` counts them; growth is told in these where it is there. The grammars are rings of
+rules of the sample `samples/grammars`; the programs are those of `samples/flow`, with loops by labels and jumps. The run ends with status
+1 where a bound doesn't hold.
 """
 from __future__ import annotations
 
@@ -81,11 +82,19 @@ def ring_of_rules(count: int) -> str:
     return f"Grammar([{','.join(map(rule, range(count)))}])\n"
 
 
+def firsts_of(count: int) -> str:
+    """Questions for nullable and first of all rules and signs."""
+    return asked_of(count, ["nullable()"] + [f'begins("{sign}")' for sign in SIGNS])
+
+
 def sets_of(count: int) -> str:
     """Questions for nullable, first and follow of all rules and signs."""
-    rules = [f"0 ask /Rule:{at} " for at in range(count)]
-    asked = ["nullable()"] + [f'{what}("{sign}")' for what in ("begins", "follows") for sign in SIGNS]
-    return "".join(f"{rule}{it}\n" for it in asked for rule in rules)
+    return firsts_of(count) + asked_of(count, [f'follows("{sign}")' for sign in SIGNS])
+
+
+def asked_of(count: int, asked: Sequence[str]) -> str:
+    """These questions, each of all rules."""
+    return "".join(f"0 ask /Rule:{at} {it}\n" for it in asked for at in range(count))
 
 
 def flow_program(chance: random.Random) -> Tuple[str, int]:
@@ -146,28 +155,34 @@ class Fixpoints:
         run = subprocess.run([self.program, "--work", *files.words()], input=files.lines, capture_output=True, text=True, check=True)
         return int(run.stderr.split()[-1])
 
-    def grammar(self, count: int) -> Files:
+    def grammar(self, count: int, lines: str) -> Files:
         tree = written(self.folder, f"rules{count}.txt", ring_of_rules(count))
-        return Files(GRAMMARS / "grammars.ast", tree, GRAMMARS / "grammars.jrag", sets_of(count))
+        return Files(GRAMMARS / "grammars.ast", tree, GRAMMARS / "grammars.jrag", lines)
 
-    def sets(self) -> None:
-        """Nullable, first and follow of rings of rules."""
+    def firsts(self) -> None:
+        """Nullable and first of rings of rules, in which each value rests on a few others."""
         each: List[float] = []
         for count in RULES:
-            files = self.grammar(count)
-            spent, (cost, unit), demanded = self.spent(files), self.cost(files), self.demanded(count)
+            files = self.grammar(count, firsts_of(count))
+            (cost, unit), work = self.cost(files), self.work(files)
+            each.append(cost / work)
+            print(f"nullable and first of {count} rules: {work:,} lazy values, {each[-1]:,.0f} {unit} for each", flush=True)
+        print(f"for each value, {RULES[-1]} rules against {RULES[0]}: {self.bounds.at_most('nullable and first, growth', each[-1] / each[0], GROWTH)}")
+
+    def sets(self) -> None:
+        """Nullable, first and follow of rings of rules; follow looks for the uses of a rule in all rules."""
+        each: List[float] = []
+        for count in RULES:
+            files = self.grammar(count, sets_of(count))
+            spent, (cost, unit), work = self.spent(files), self.cost(files), self.work(files)
+            # beside what is found: whether each symbol means each rule, and for each rule and sign whether each rule names it
+            demanded = work + 3 * count * count + len(SIGNS) * count * count
             each.append(cost / demanded)
             told = f"{spent * 1000:.1f} ms"
             if count == WANTED_RULES:
                 told += f", {self.bounds.at_most('nullable, first and follow, in seconds', spent, WANTED_SETS)} s"
-            print(f"nullable, first and follow of {count} rules: {told}, {self.work(files):,} lazy values, {demanded:,} demands, {each[-1]:,.0f} {unit} for each", flush=True)
+            print(f"nullable, first and follow of {count} rules: {told}, {work:,} lazy values, {demanded:,} demands, {each[-1]:,.0f} {unit} for each", flush=True)
         print(f"for each demand, {RULES[-1]} rules against {RULES[0]}: {self.bounds.at_most('sets, growth', each[-1] / each[0], GROWTH)}")
-
-    def demanded(self, count: int) -> int:
-        """How many demands the questions for a ring of so many rules come to that grow with it: those for lazy values that are found,
-        whether each of its symbols means each rule, and for each rule and sign whether each rule names it."""
-        symbols = 3 * count
-        return self.work(self.grammar(count)) + symbols * count + len(SIGNS) * count * count
 
     def live(self) -> None:
         """Live variables of a program with loops."""
@@ -222,6 +237,7 @@ def main(words: Sequence[str]) -> None:
         bench.component("hot")
         bench.component("cold")
         bench.live()
+        bench.firsts()
         bench.sets()
     if bench.bounds.broken:
         sys.exit(bench.bounds.told())

@@ -87,6 +87,12 @@ class Node:
         self.items.insert(at, node)
         node.above = self
 
+    def renew(self, other: Node) -> None:
+        """Gives the root what stands below the other one."""
+        self.items = []
+        for at, it in enumerate(other.items):
+            self.insert(at, it)
+
     def leave(self) -> None:
         """Takes the node away from the one above it."""
         above, step = self.above, self.step()
@@ -161,6 +167,8 @@ def edited(tree: Node, command: str) -> bool:
         return False
     if words[0] == "token":
         setattr(node, *(("on", words[3] == "true") if words[2] == "On" else ("name", words[3][1:-1])))
+    elif words[0] == "set" and node is tree:
+        tree.renew(node_of(words[2]))
     elif words[0] == "set":
         node.replace(node_of(words[2]))
     elif words[0] == "put":
@@ -186,7 +194,7 @@ def fits(tree: Node, node: Node, words: List[str]) -> bool:
     if words[0] == "move":
         to = tree.at(words[3])
         return to is not None and to.has_list and to not in list(node.all()) and int(words[5]) <= len(to.items) - (node.above is to)
-    return node is not tree
+    return node is not tree or words[0] == "set"
 
 
 def item(chance: random.Random, depth: int) -> Node:
@@ -237,6 +245,8 @@ class Editing:
         return f"token {node.path()} On {str(self.chance.choice((node.on, not node.on, not node.on))).lower()}"
 
     def set(self) -> str:
+        if self.chance.random() < 0.05:
+            return f"set / {root(self.chance).term()}"
         return f"set {self.chance.choice(self.items()).path()} {self.new()}"
 
     def put(self) -> Optional[str]:

@@ -51,8 +51,7 @@ def touched(tree: Node, command: str) -> Iterator[Tuple[Node, str]]:
         yield node, words[2]
     if words[0] == "insert":
         yield from of_list(node)
-    if words[0] in ("set", "drop", "move"):
-        assert node.above is not None
+    if words[0] in ("set", "drop", "move") and node.above is not None:
         part = node.step().partition(":")[0]
         yield from of_list(node.above) if part == "Item" and words[0] != "set" else [(node.above, part)]
     if words[0] in ("set", "drop"):
