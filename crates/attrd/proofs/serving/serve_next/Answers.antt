@@ -1,4 +1,5 @@
 use Rattle.std.proofs.Common.{refl}
+use Rattle.at_engine.specs.Engines.{rules_of}
 use Rattle.at_engine.proofs.GoingLemmas.{plainly_whole}
 use Rattle.attrd.specs.Doors.{by_run, not_accepted}
 use Rattle.attrd.proofs.serving.serve_next.Goals as goal
@@ -12,4 +13,4 @@ returns-in_default-clause-serves g c = not_accepted refl c.in_default.ensures.re
 
 pub returns-clause-spare : goal.returns-clause-spare
 returns-clause-spare g c none exact spare =
-    c.run_gathering-served.ensures.spare (plainly_whole _ c.run_gathering-served.result none) exact spare
+    c.run_gathering-served.ensures.spare (plainly_whole (rules_of c.args.engine.now) c.run_gathering-served.result none) exact spare
