@@ -283,7 +283,7 @@ class Meaning:
         evaluation = Evaluation(self, of)
         own = self.own[of] = evaluation.own()
         self.seen[of] = evaluation.seen
-        found = own.atoms() if isinstance(own, Formula) else [own.of] if isinstance(own, Wanting) else []
+        found = [own.of] if isinstance(own, Wanting) else self.atoms(of)
         new.extend(it for it in found if it not in self.own and it not in new)
 
     def atoms(self, of: Instance) -> List[Instance]:

@@ -76,6 +76,13 @@ class Node:
             self = found
         return self
 
+    def token(self, part: str, value: str) -> None:
+        """Gives a token the value, as it is written."""
+        if part == "On":
+            self.on = value == "true"
+        else:
+            self.name = value[1:-1]
+
     def fill(self, part: str, node: Optional[Node]) -> None:
         """Puts the node into an optional."""
         self.optionals[part] = node
@@ -131,8 +138,9 @@ class Term:
         """The node of the term that is next."""
         made = Node(self.take())
         self.take()
-        if made.kind != "Root":
-            made.on, _, made.name, _ = self.take() == "true", self.take(), self.take()[1:-1], self.take()
+        for part in ("On", "Name") if made.kind != "Root" else ():
+            made.token(part, self.take())
+            self.take()
         for part in made.optionals:
             made.fill(part, self.filled())
             self.take()
@@ -166,7 +174,7 @@ def edited(tree: Node, command: str) -> bool:
     if node is None or not fits(tree, node, words):
         return False
     if words[0] == "token":
-        setattr(node, *(("on", words[3] == "true") if words[2] == "On" else ("name", words[3][1:-1])))
+        node.token(words[2], words[3])
     elif words[0] == "set" and node is tree:
         tree.renew(node_of(words[2]))
     elif words[0] == "set":
