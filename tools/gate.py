@@ -20,13 +20,13 @@ import tempfile
 import threading
 from concurrent.futures import Future, ThreadPoolExecutor
 from pathlib import Path
-from typing import List, Optional, Sequence, Tuple
+from typing import List, Tuple
 
 sys.dont_write_bytecode = True
 sys.path.insert(0, str(Path(__file__).resolve().parent.parent))
 from tools import edits, refused  # noqa: E402
 
-# The trial of a round of edits, once it is begun.
+# The trial of a crate's edits, once it is begun.
 Trial = Future[List[refused.Line]]
 
 
@@ -39,12 +39,13 @@ def copied(room: Path) -> None:
             shutil.copy2(name, room / name)
 
 
-def tried_in(lanes: threading.Semaphore, proved: refused.Proved, crate: str, turned: Sequence[edits.Edit],
-             texts: Optional[edits.Texts]) -> List[refused.Line]:
-    """Tries a round of edits once a lane is free, and prints what is told of it."""
+def tried_in(lanes: threading.Semaphore, proved: refused.Proved, crate: str) -> List[refused.Line]:
+    """Tries a crate's edits once a lane is free, and prints what is told of them."""
+    lines = list[refused.Line]()
     with lanes:
-        lines = refused.tried(proved, crate, turned, texts)
-    print("\n".join(line for _, line in lines), flush=True)
+        for told in refused.tried_in_turn(proved, crate, edits.rounds_of(crate, edits.edits_of(crate))):
+            print("\n".join(line for _, line in told), flush=True)
+            lines += told
     return lines
 
 
@@ -54,8 +55,7 @@ def proved_in(room: Path, pool: ThreadPoolExecutor, lanes: threading.Semaphore) 
 
     def begin(crate: str) -> None:
         begun.add(crate)
-        for turned, texts in edits.rounds_of(crate, edits.edits_of(crate)):
-            trials.append(pool.submit(tried_in, lanes, proved, crate, turned, texts))
+        trials.append(pool.submit(tried_in, lanes, proved, crate))
 
     # one job for each check: several jobs of one check do a part of its work twice, and other crates can use the processor
     jobs = {"RT_JOBS": str(len(os.sched_getaffinity(0))), **os.environ}

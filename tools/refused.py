@@ -27,11 +27,11 @@ import tempfile
 import time
 from concurrent.futures import ThreadPoolExecutor
 from pathlib import Path
-from typing import Collection, Dict, List, Mapping, Optional, Sequence, Set, Tuple, Union
+from typing import Collection, Dict, Iterator, List, Mapping, Optional, Sequence, Set, Tuple, Union
 
 sys.dont_write_bytecode = True
 sys.path.insert(0, str(Path(__file__).resolve().parent.parent))
-from tools.edits import Edit, Texts, edits_of, rounds_of  # noqa: E402
+from tools.edits import Edit, Round, Texts, edits_of, rounds_of  # noqa: E402
 from tools.sources import uses  # noqa: E402
 from tools.unit import tell_slowest  # noqa: E402
 
@@ -183,8 +183,8 @@ class Proved:
             code = re.sub(CYCLE.format("|".join(gone)), "", file.read_text(encoding="utf-8"))
             file.write_text(without_bodies(code, opened - names), encoding="utf-8")
 
-    def told(self, crate: str, edits: Sequence[Edit], texts: Mapping[str, str]) -> str:
-        """What the prover says of the edits' functions in a copy of the crate with these texts."""
+    def told(self, crate: str, edits: Sequence[Edit], texts: Mapping[str, str], flags: Sequence[str] = ()) -> str:
+        """What the prover says of the edits' functions in a copy of the crate with these texts, run with these flags, too."""
         functions = [it.refused for it in edits]
         with tempfile.TemporaryDirectory(prefix="attrd-refused-") as folder:
             room = Path(folder)
@@ -195,7 +195,7 @@ class Proved:
                 (room / path).write_text(text, encoding="utf-8")
             if all(it.turns_code() for it in edits):
                 self.leave_others_open(room, crate, functions)
-            words = [*self.words(crate), "--allow-holes", *(word for it in functions for word in ("--only", it))]
+            words = [*self.words(crate), *flags, "--allow-holes", *(word for it in functions for word in ("--only", it))]
             # what rt ci proves meanwhile comes first
             ran = subprocess.run(["nice", *words], cwd=room, stdin=subprocess.DEVNULL, stdout=subprocess.PIPE,
                                  stderr=subprocess.STDOUT, text=True, errors="replace")
@@ -224,16 +224,26 @@ def verdict(crate: str, edit: Edit, said: str) -> Line:
     return False, found[1][:400]
 
 
-def tried(proved: Proved, crate: str, edits: Sequence[Edit], texts: Optional[Texts], control: bool = False) -> List[Line]:
+def tried(proved: Proved, crate: str, edits: Sequence[Edit], texts: Optional[Texts], flags: Sequence[str] = (),
+          control: bool = False) -> List[Line]:
     """Of each edit of a round whether all is well with it, and a line."""
     if texts is None:
         return [(False, f"must-fail {crate}/{it.name}: BAD EDIT: an old text doesn't stand just once in its file") for it in edits]
-    said = proved.told(crate, edits, {} if control else texts)
+    said = proved.told(crate, edits, {} if control else texts, flags)
     lines: List[Line] = []
     for it in edits:
         refused, why = verdict(crate, it, said)
         lines.append((refused != control, f"must-fail {crate}/{it.name}: {'refused' if refused else 'NOT REFUSED'}: {why}"))
     return lines
+
+
+def tried_in_turn(proved: Proved, crate: str, rounds: Sequence[Round], control: bool = False) -> Iterator[List[Line]]:
+    """The same of each round of a crate's edits. Where definitions are turned, what the prover has checked for another such round is
+    taken up."""
+    with tempfile.TemporaryDirectory(prefix="attrd-kept-") as kept:
+        for edits, texts in rounds:
+            flags = [] if all(it.turns_code() for it in edits) else ["--incremental", kept]
+            yield tried(proved, crate, edits, texts, flags, control)
 
 
 def given_words() -> argparse.Namespace:
@@ -262,16 +272,16 @@ def main() -> int:
         print("\n".join(f"{crate}/{it.name}: {it.refused}" for crate, edits in chosen.items() for it in edits))
         return 0
     proved, well, seconds = Proved("."), list[bool](), list[Tuple[float, str]]()
-    rounds = [(crate, *it) for crate, edits in chosen.items() for it in rounds_of(crate, edits)]
 
-    def timed(crate: str, edits: List[Edit], texts: Optional[Texts]) -> List[Line]:
-        began = time.monotonic()
-        lines = tried(proved, crate, edits, texts, given.control)
-        seconds.append((time.monotonic() - began, f"{crate}: {', '.join(it.name for it in edits)}"))
+    def timed(crate: str) -> List[Line]:
+        rounds, lines, began = rounds_of(crate, chosen[crate]), list[Line](), time.monotonic()
+        for (edits, _), told in zip(rounds, tried_in_turn(proved, crate, rounds, given.control)):
+            seconds.append((time.monotonic() - began, f"{crate}: {', '.join(it.name for it in edits)}"))
+            lines, began = [*lines, *told], time.monotonic()
         return lines
 
     with ThreadPoolExecutor(given.lanes) as pool:
-        for lines in pool.map(lambda it: timed(*it), rounds):
+        for lines in pool.map(timed, chosen):
             for is_well, line in lines:
                 print(line, flush=True)
                 well.append(is_well)

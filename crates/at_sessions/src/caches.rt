@@ -1,434 +1,539 @@
-//! What keepers keep of instances that are put by themselves, and what they forget.
+//! What keepers keep of instances that are put by themselves, what they forget, and what they keep again with no evaluation: rows of
+//! acts. What is expected was found by hand.
 
-use crate::keepers::chance::Chance;
 use crate::keepers::compared::KeepCompared;
-use at_body::{Arguments, Inst, Value};
-use at_cache::{KeepAtMost, KeepNone, KeepRecorded, KeepUntilEdit, Keeper, Order};
-use at_rules::AttrId;
-use at_store::{Loc, Node};
-use std::alloc::{AllocError, Global};
+use crate::keeping::{Act, Of, Sight, is_done};
+use crate::rows::holds_at;
+use Act::{Blocked, Look, Put, Refuse, See, Settle, Touch, Worked};
+use Of::{Class, Index, Parent, Slot, Token};
+use Sight::{Kept, Nothing, Stands};
+use at_cache::{
+    KeepAtMost, KeepCutOff, KeepCutOffAtMost, KeepNone, KeepRecorded, KeepUntilEdit, Keeper, Order,
+};
+use std::alloc::Global;
 use std::process::Abort;
 
-/// The node of that number.
-fn numbered(number: usize) -> Node {
-    Node::of(number).unwrap_or_default()
+/// How many entries a keeper with a bound may have from one edit to the next: fewer than some rows put, and more.
+const FEW: usize = 4;
+
+const MANY: usize = 100;
+
+/// A fresh keeper.
+#[derive(Clone, Copy)]
+enum Way {
+    Recorded,
+    AtMostFew,
+    /// Compared with plain models.
+    Compared,
+    /// The same, which takes no entry.
+    Starved,
+    UntilEdit,
+    KeepsNone,
+    CutOff,
+    CutOffAtMostMany,
+    CutOffAtMostFew,
 }
 
-/// The first attribute of that node.
-pub fn inst(node: usize) -> Inst {
-    Inst::new(numbered(node), AttrId::new(0), Arguments::none())
+/// Acts on fresh keepers: the same front for each of the ends.
+struct Script {
+    ways: &'static [Way],
+    front: &'static [Act],
+    ends: &'static [&'static [Act]],
 }
 
-/// A location of its own for each node.
-pub fn own(node: usize) -> Loc {
-    Loc::Tok(numbered(node), 0)
-}
+const RECORDED: &[Way] = &[Way::Recorded];
 
-/// The instances of these nodes.
-pub fn insts(rt: &impl Abort, alloc: Global, nodes: &[usize]) -> Vec<Inst> {
-    let mut all = Vec::new(alloc);
-    for node in nodes {
-        all.push(inst(*node)).ok().expect(rt, "memory");
-    }
-    all
-}
+const RECORDING: &[Way] = &[Way::Recorded, Way::AtMostFew, Way::Compared];
 
-/// Puts an entry for an instance that has none, which uses entries that are there.
-pub fn put_new<K: Keeper>(
+const FEW_AT_MOST: &[Way] = &[Way::AtMostFew];
+
+const UNTIL_EDIT: &[Way] = &[Way::UntilEdit];
+
+const CUT_OFF: &[Way] = &[Way::CutOff, Way::CutOffAtMostMany];
+
+/// Each but the first uses the one before it.
+const CHAIN: &[Act] = &[
+    Put(0, Some(1), &[]),
+    Put(1, Some(2), &[0]),
+    Put(2, Some(3), &[1]),
+];
+
+/// Two use the first, and are used by the last.
+const FORK: &[Act] = &[
+    Put(0, Some(1), &[]),
+    Put(1, Some(2), &[0]),
+    Put(2, Some(3), &[0]),
+    Put(3, Some(4), &[1, 2]),
+];
+
+/// Two without a value, each of which one with a value uses.
+const PAIRS: &[Act] = &[
+    Put(0, None, &[]),
+    Put(1, None, &[]),
+    Put(2, Some(7), &[0]),
+    Put(3, Some(7), &[1]),
+];
+
+/// Of two pairs the first is gone.
+const LINKS: &[Act] = &[
+    Put(0, Some(1), &[]),
+    Put(1, Some(2), &[0]),
+    Put(2, Some(3), &[]),
+    Put(3, Some(4), &[2]),
+    Touch(0, Token(0)),
+];
+
+/// Twice as many as a keeper of few has.
+const LONG_CHAIN: &[Act] = &[
+    Put(0, Some(0), &[]),
+    Put(1, Some(1), &[0]),
+    Put(2, Some(2), &[1]),
+    Put(3, Some(3), &[2]),
+    Put(4, Some(4), &[3]),
+    Put(5, Some(5), &[4]),
+    Put(6, Some(6), &[5]),
+    Put(7, Some(7), &[6]),
+];
+
+/// The second uses the first.
+const USED: &[Act] = &[Put(0, Some(5), &[]), Put(1, Some(6), &[0])];
+
+const TOKEN: &[Act] = &[Look(0, &[Class, Class, Token(0), Token(2)], &[])];
+
+const SLOT: &[Act] = &[Look(0, &[Class, Class, Slot, Token(2)], &[])];
+
+const PARENT: &[Act] = &[Look(0, &[Class, Class, Parent, Token(2)], &[])];
+
+const INDEX: &[Act] = &[Look(0, &[Class, Class, Index, Token(2)], &[])];
+
+const SCRIPTS: &[Script] = &[
+    // What uses an entry goes with it.
+    Script {
+        ways: RECORDED,
+        front: CHAIN,
+        ends: &[
+            &[Touch(0, Token(0)), See(&[Nothing, Nothing, Nothing])],
+            &[Touch(1, Token(0)), See(&[Kept(1), Nothing, Nothing])],
+            &[Touch(2, Token(0)), See(&[Kept(1), Kept(2), Nothing])],
+        ],
+    },
+    Script {
+        ways: RECORDED,
+        front: FORK,
+        ends: &[
+            &[
+                Touch(0, Token(0)),
+                See(&[Nothing, Nothing, Nothing, Nothing]),
+            ],
+            &[
+                Touch(1, Token(0)),
+                See(&[Kept(1), Nothing, Kept(3), Nothing]),
+            ],
+            &[
+                Touch(2, Token(0)),
+                See(&[Kept(1), Kept(2), Nothing, Nothing]),
+            ],
+            &[
+                Touch(3, Token(0)),
+                See(&[Kept(1), Kept(2), Kept(3), Nothing]),
+            ],
+        ],
+    },
+    // A node's class, looked at twice, what is looked at next, and a token rest on themselves alone.
+    Script {
+        ways: RECORDED,
+        front: TOKEN,
+        ends: &[
+            &[Touch(0, Class), See(&[Nothing])],
+            &[Touch(0, Token(0)), See(&[Nothing])],
+            &[Touch(0, Token(2)), See(&[Nothing])],
+            &[Touch(0, Token(1)), See(&[Kept(7)])],
+            &[Touch(1, Class), See(&[Kept(7)])],
+        ],
+    },
+    Script {
+        ways: RECORDED,
+        front: SLOT,
+        ends: &[
+            &[Touch(0, Class), See(&[Nothing])],
+            &[Touch(0, Slot), See(&[Nothing])],
+            &[Touch(0, Token(2)), See(&[Nothing])],
+            &[Touch(0, Token(1)), See(&[Kept(7)])],
+            &[Touch(1, Class), See(&[Kept(7)])],
+        ],
+    },
+    Script {
+        ways: RECORDED,
+        front: PARENT,
+        ends: &[
+            &[Touch(0, Class), See(&[Nothing])],
+            &[Touch(0, Parent), See(&[Nothing])],
+            &[Touch(0, Token(2)), See(&[Nothing])],
+            &[Touch(0, Token(1)), See(&[Kept(7)])],
+            &[Touch(1, Class), See(&[Kept(7)])],
+        ],
+    },
+    Script {
+        ways: RECORDED,
+        front: INDEX,
+        ends: &[
+            &[Touch(0, Class), See(&[Nothing])],
+            &[Touch(0, Index), See(&[Nothing])],
+            &[Touch(0, Token(2)), See(&[Nothing])],
+            &[Touch(0, Token(1)), See(&[Kept(7)])],
+            &[Touch(1, Class), See(&[Kept(7)])],
+        ],
+    },
+    // Links follow their entries.
+    Script {
+        ways: RECORDED,
+        front: LINKS,
+        ends: &[&[
+            Look(4, &[], &[3]),
+            Touch(0, Token(0)),
+            See(&[Nothing, Nothing, Kept(3), Kept(4), Kept(7)]),
+            Touch(2, Token(0)),
+            See(&[Nothing, Nothing, Nothing, Nothing, Nothing]),
+        ]],
+    },
+    // Entries without a value are never told, and go with those that use them, and with none beside these.
+    Script {
+        ways: RECORDING,
+        front: PAIRS,
+        ends: &[&[
+            Touch(4, Token(0)),
+            See(&[Stands, Stands, Kept(7), Kept(7)]),
+            Touch(0, Token(0)),
+            See(&[Nothing, Stands, Nothing, Kept(7)]),
+            Touch(1, Token(0)),
+            See(&[Nothing, Nothing, Nothing, Nothing]),
+        ]],
+    },
+    // What stands for everything needs no entry without a value, and keeps until an edit.
+    Script {
+        ways: UNTIL_EDIT,
+        front: &[],
+        ends: &[
+            &[
+                Put(0, None, &[]),
+                Put(1, None, &[]),
+                Refuse(2, Some(7), &[0]),
+                Refuse(3, Some(7), &[1]),
+                See(&[Nothing, Nothing, Nothing, Nothing]),
+            ],
+            &[
+                Put(1, Some(5), &[]),
+                See(&[Nothing, Kept(5), Nothing]),
+                Touch(2, Token(0)),
+                See(&[Nothing, Nothing, Nothing]),
+            ],
+        ],
+    },
+    Script {
+        ways: &[Way::KeepsNone],
+        front: &[],
+        ends: &[&[
+            Put(1, Some(5), &[]),
+            See(&[Nothing, Nothing, Nothing]),
+            Touch(2, Token(0)),
+            See(&[Nothing, Nothing, Nothing]),
+        ]],
+    },
+    Script {
+        ways: &[Way::Starved],
+        front: &[],
+        ends: &[&[
+            Refuse(1, Some(5), &[]),
+            See(&[Nothing, Nothing, Nothing]),
+            Touch(2, Token(0)),
+            See(&[Nothing, Nothing, Nothing]),
+        ]],
+    },
+    // What entries are folded into goes with what these looked at.
+    Script {
+        ways: FEW_AT_MOST,
+        front: LONG_CHAIN,
+        ends: &[
+            &[
+                Touch(8, Token(0)),
+                See(&[
+                    Nothing,
+                    Nothing,
+                    Kept(2),
+                    Nothing,
+                    Nothing,
+                    Kept(5),
+                    Nothing,
+                    Kept(7),
+                ]),
+            ],
+            &[
+                Touch(5, Token(0)),
+                See(&[
+                    Nothing,
+                    Nothing,
+                    Kept(2),
+                    Nothing,
+                    Nothing,
+                    Nothing,
+                    Nothing,
+                    Nothing,
+                ]),
+            ],
+            &[
+                Touch(1, Token(0)),
+                See(&[
+                    Nothing, Nothing, Nothing, Nothing, Nothing, Nothing, Nothing, Nothing,
+                ]),
+            ],
+        ],
+    },
+    // What is kept again: the second, and more.
+    Script {
+        ways: CUT_OFF,
+        front: USED,
+        ends: &[
+            // What it used has the same value again.
+            &[
+                Touch(0, Token(0)),
+                Put(0, Some(5), &[]),
+                Settle(1),
+                Worked(1),
+                See(&[Kept(5), Kept(6)]),
+                Blocked(1, None),
+            ],
+            // It has another one.
+            &[
+                Touch(0, Token(0)),
+                Put(0, Some(7), &[]),
+                Settle(1),
+                Worked(0),
+                See(&[Kept(7), Nothing]),
+                Blocked(1, None),
+            ],
+            // What it used isn't kept again.
+            &[
+                Touch(0, Token(0)),
+                Settle(1),
+                Worked(0),
+                See(&[Nothing, Nothing]),
+                Blocked(1, Some(0)),
+            ],
+            // All between is settled with it, in a chain and beside one that was never touched.
+            &[
+                Put(2, Some(7), &[]),
+                Put(3, Some(8), &[2, 1]),
+                Touch(0, Token(0)),
+                Put(0, Some(5), &[]),
+                Settle(3),
+                Worked(2),
+                See(&[Kept(5), Kept(6), Kept(7), Kept(8)]),
+                Blocked(3, None),
+            ],
+            // Its own location was touched.
+            &[
+                Touch(0, Token(0)),
+                Touch(1, Token(0)),
+                Put(0, Some(5), &[]),
+                Settle(1),
+                Worked(0),
+                See(&[Kept(5), Nothing]),
+                Blocked(1, None),
+            ],
+            // Those in front of the first that isn't kept again are.
+            &[
+                Put(2, Some(7), &[]),
+                Put(3, Some(8), &[0]),
+                Put(4, Some(9), &[1, 2, 3]),
+                Touch(0, Token(0)),
+                Touch(2, Token(0)),
+                Put(0, Some(5), &[]),
+                Settle(4),
+                Worked(1),
+                See(&[Kept(5), Kept(6), Nothing, Nothing, Nothing]),
+                Blocked(4, Some(2)),
+            ],
+            // One that isn't kept again stands in the way two levels above it.
+            &[
+                Put(2, Some(7), &[1]),
+                Touch(0, Token(0)),
+                Settle(2),
+                Worked(0),
+                See(&[Nothing, Nothing, Nothing]),
+                Blocked(2, Some(0)),
+            ],
+        ],
+    },
+    Script {
+        ways: &[Way::CutOffAtMostFew],
+        front: &[],
+        ends: &[
+            // Of five in memory those go that aren't kept.
+            &[
+                Put(0, Some(5), &[]),
+                Put(1, Some(6), &[0]),
+                Touch(0, Token(0)),
+                Put(2, Some(7), &[]),
+                Put(3, Some(8), &[]),
+                Put(4, Some(9), &[]),
+                Touch(5, Token(0)),
+                Put(0, Some(5), &[]),
+                Settle(1),
+                Worked(0),
+                See(&[Kept(5), Nothing, Kept(7), Kept(8), Kept(9)]),
+                Blocked(4, None),
+            ],
+            // What is kept then is kept again.
+            &[
+                Put(2, Some(7), &[]),
+                Touch(2, Token(0)),
+                Put(0, Some(5), &[]),
+                Put(1, Some(6), &[0]),
+                Put(3, Some(8), &[]),
+                Put(4, Some(9), &[]),
+                Touch(0, Token(0)),
+                Put(0, Some(5), &[]),
+                Settle(1),
+                Worked(1),
+                See(&[Kept(5), Kept(6), Nothing, Kept(8), Kept(9)]),
+                Blocked(4, None),
+            ],
+            // What is left of a folding isn't.
+            &[
+                Put(0, Some(5), &[]),
+                Put(1, Some(6), &[0]),
+                Put(2, Some(7), &[]),
+                Put(3, Some(8), &[]),
+                Put(4, Some(9), &[0, 1]),
+                Touch(0, Token(0)),
+                Put(0, Some(5), &[]),
+                Settle(1),
+                Settle(4),
+                Worked(0),
+                See(&[Kept(5), Nothing, Kept(7), Kept(8), Nothing]),
+                Blocked(4, None),
+            ],
+        ],
+    },
+];
+
+/// Acts on a recording keeper, how many entries it has then, and how many locations it stores for them.
+const COUNTS: &[(&[Act], &[Act], (usize, usize))] = &[
+    (CHAIN, &[], (3, 3)),
+    (FORK, &[], (4, 4)),
+    (TOKEN, &[], (1, 3)),
+    (SLOT, &[], (1, 3)),
+    (PARENT, &[], (1, 3)),
+    (INDEX, &[], (1, 3)),
+    (LINKS, &[], (2, 2)),
+    (LINKS, &[Look(4, &[], &[3])], (3, 2)),
+    (
+        LINKS,
+        &[Look(4, &[], &[3]), Touch(0, Token(0)), Touch(2, Token(0))],
+        (0, 0),
+    ),
+];
+
+/// Whether the acts go as told, one after the other; the work that they take is added.
+fn are_done<K: Keeper>(
+    rt: &impl Abort,
+    alloc: Global,
     keeper: &mut K,
-    inst: Inst,
-    value: Option<Value>,
-    reads: &[Loc],
-    uses: &[Inst],
     order: Order,
-) -> Result<(), AllocError> {
-    if keeper.stands(&inst) {
-        return Ok(());
-    }
-    for used in uses {
-        if !keeper.stands(used) {
-            return Ok(());
-        }
-    }
-    keeper.put(inst, value, reads, uses, order)?;
-    Ok(())
-}
-
-/// A keeper with an entry for each node in order, which reads its own location and uses those of the listed nodes.
-fn recorded(rt: &impl Abort, alloc: Global, graph: &[&[usize]]) -> KeepRecorded {
-    let mut keeper = KeepRecorded::new(alloc);
-    for (node, uses) in graph.iter().enumerate() {
-        let uses = insts(rt, alloc, uses);
-        put_new(
-            &mut keeper,
-            inst(node),
-            Some(Value::Bool(true)),
-            &[own(node)],
-            uses.as_slice(),
-            Order::Any,
-        )
-        .expect(rt, "memory");
-    }
-    keeper
-}
-
-/// Flushes what rests on that node's location.
-fn flush<K: Keeper>(keeper: &mut K, node: usize) {
-    keeper.flush(&|location: Loc| location == own(node));
-}
-
-/// Whether a value of that node is kept.
-fn has<K: Keeper>(keeper: &K, node: usize) -> bool {
-    keeper.get(&inst(node)).is_some()
-}
-
-/// How many entries a flush of that node's location leaves.
-fn left_of(rt: &impl Abort, alloc: Global, graph: &[&[usize]], touched: usize) -> usize {
-    let mut keeper = recorded(rt, alloc, graph);
-    flush(&mut keeper, touched);
-    let mut left: usize = 0;
-    for node in 0..graph.len() {
-        left = left.saturating_add(usize::from(has(&keeper, node)));
-    }
-    left
-}
-
-/// Whether the keeper has so many entries, and stores so many locations for them.
-fn has_counts(keeper: &KeepRecorded, entries: usize, stored: usize) -> bool {
-    keeper.len() == entries && keeper.stored() == stored
-}
-
-/// What each entry uses, and for each how many entries a flush of its location leaves.
-struct Graph {
-    uses: &'static [&'static [usize]],
-    left: &'static [usize],
-}
-
-const GRAPHS: &[Graph] = &[
-    Graph {
-        uses: &[&[], &[0], &[1]],
-        left: &[0, 1, 2],
-    },
-    Graph {
-        uses: &[&[], &[0], &[0], &[1, 2]],
-        left: &[0, 2, 2, 3],
-    },
-];
-
-#[test]
-fn what_uses_an_entry_goes_with_it(rt: HostRuntime) {
-    for graph in GRAPHS {
-        let keeper = recorded(&rt, rt.alloc(), graph.uses);
-        assert!(rt; has_counts(&keeper, graph.uses.len(), graph.uses.len()));
-        for (touched, left) in graph.left.iter().enumerate() {
-            assert!(rt; left_of(&rt, rt.alloc(), graph.uses, touched) == *left);
-        }
-    }
-}
-
-/// How many locations are stored for an entry that reads these, and whether it stays where that one is touched.
-fn stored_and_stays(rt: &impl Abort, alloc: Global, reads: &[Loc], touched: Loc) -> (usize, bool) {
-    let mut keeper = KeepRecorded::new(alloc);
-    put_new(
-        &mut keeper,
-        inst(0),
-        Some(Value::Int(7)),
-        reads,
-        &[],
-        Order::Any,
-    )
-    .expect(rt, "memory");
-    let stored = keeper.stored();
-    keeper.flush(&|location: Loc| location == touched);
-    (stored, has(&keeper, 0))
-}
-
-/// Of an entry that reads these three locations are stored for it, and it stays so where that one is touched.
-fn assert_stays(rt: &impl Abort, alloc: Global, reads: &[Loc], touched: &Loc, stays: bool) {
-    assert!(rt; stored_and_stays(rt, alloc, reads, *touched) == (3, stays));
-}
-
-/// A node's class, read twice, what is read next, and a token rest on themselves alone.
-fn assert_apart(rt: &impl Abort, alloc: Global, next: &Loc) {
-    let node = numbered(0);
-    let reads = [Loc::Is(node), Loc::Is(node), *next, Loc::Tok(node, 2)];
-    assert_stays(rt, alloc, &reads, &Loc::Is(node), false);
-    assert_stays(rt, alloc, &reads, next, false);
-    assert_stays(rt, alloc, &reads, &Loc::Tok(node, 2), false);
-    assert_stays(rt, alloc, &reads, &Loc::Tok(node, 1), true);
-    assert_stays(rt, alloc, &reads, &Loc::Is(numbered(1)), true);
-}
-
-#[test]
-fn a_class_and_what_is_read_next_are_two_locations(rt: HostRuntime) {
-    let node = numbered(0);
-    assert_apart(&rt, rt.alloc(), &Loc::Tok(node, 0));
-    assert_apart(&rt, rt.alloc(), &Loc::Slot(node, 0));
-    assert_apart(&rt, rt.alloc(), &Loc::Up(node));
-    assert_apart(&rt, rt.alloc(), &Loc::Idx(node));
-}
-
-#[test]
-fn links_follow_their_entries(rt: HostRuntime) {
-    let mut keeper = recorded(&rt, rt.alloc(), &[&[], &[0], &[], &[2]]);
-    flush(&mut keeper, 0);
-    assert!(rt; has_counts(&keeper, 2, 2));
-    let used = insts(&rt, rt.alloc(), &[3]);
-    put_new(
-        &mut keeper,
-        inst(4),
-        Some(Value::Int(7)),
-        &[],
-        &used,
-        Order::Any,
-    )
-    .expect(&rt, "memory");
-    assert!(rt; has_counts(&keeper, 3, 2));
-    flush(&mut keeper, 0);
-    assert!(rt; keeper.get(&inst(4)) == Some(&Value::Int(7)));
-    flush(&mut keeper, 2);
-    assert!(rt; !has(&keeper, 4));
-    assert!(rt; has_counts(&keeper, 0, 0));
-}
-
-/// Puts entries of nodes 0 and 1 without a value, and of 2 and 3 with one, of which the one uses 0 and the other 1.
-fn put_pairs<K: Keeper>(rt: &impl Abort, alloc: Global, keeper: &mut K) {
-    for node in 0..2 {
-        put_new(keeper, inst(node), None, &[own(node)], &[], Order::Any).expect(rt, "memory");
-    }
-    for node in 2..4 {
-        let uses = insts(rt, alloc, &[node - 2]);
-        let value = Some(Value::Int(7));
-        put_new(keeper, inst(node), value, &[own(node)], &uses, Order::Any).expect(rt, "memory");
-    }
-}
-
-/// What is seen of a node.
-#[derive(Clone, Copy, PartialEq, Eq)]
-enum Sight {
-    Nothing,
-    Entry,
-    Value,
-}
-
-/// What is seen of that node.
-fn seen<K: Keeper>(keeper: &K, node: usize) -> Sight {
-    if has(keeper, node) {
-        return Sight::Value;
-    }
-    if keeper.stands(&inst(node)) {
-        return Sight::Entry;
-    }
-    Sight::Nothing
-}
-
-/// A flush of the location of a node, and what is seen of each node from 0 on behind it.
-struct Step {
-    touched: usize,
-    left: &'static [Sight],
-}
-
-const STEPS: &[Step] = &[
-    Step {
-        touched: 4,
-        left: &[Sight::Entry, Sight::Entry, Sight::Value, Sight::Value],
-    },
-    Step {
-        touched: 0,
-        left: &[Sight::Nothing, Sight::Entry, Sight::Nothing, Sight::Value],
-    },
-    Step {
-        touched: 1,
-        left: &[Sight::Nothing; 4],
-    },
-];
-
-/// Whether the keeper shows so much of the nodes from 0 on.
-fn shows<K: Keeper>(keeper: &K, nodes: &[Sight]) -> bool {
-    for (node, wanted) in nodes.iter().enumerate() {
-        if seen(keeper, node) != *wanted {
+    acts: &[Act],
+    work: &mut u64,
+) -> bool {
+    for act in acts {
+        if !is_done(rt, alloc, keeper, order, act, work) {
             return false;
         }
     }
     true
 }
 
-/// Whether entries without a value stand, and go with those that use them, and with none beside these.
-fn goes_with_its_users<K: Keeper>(rt: &impl Abort, alloc: Global, mut keeper: K) -> bool {
-    put_pairs(rt, alloc, &mut keeper);
-    for step in STEPS {
-        flush(&mut keeper, step.touched);
-        if !shows(&keeper, step.left) {
-            return false;
-        }
+/// Whether both lists of acts go as told, the second one behind the first.
+fn goes<K: Keeper>(
+    rt: &impl Abort,
+    alloc: Global,
+    keeper: &mut K,
+    order: Order,
+    front: &[Act],
+    end: &[Act],
+) -> bool {
+    let mut work: u64 = 0;
+    are_done(rt, alloc, keeper, order, front, &mut work)
+        && are_done(rt, alloc, keeper, order, end, &mut work)
+}
+
+/// Whether they go as told with a fresh keeper.
+fn goes_with(rt: &impl Abort, alloc: Global, way: Way, front: &[Act], end: &[Act]) -> bool {
+    let any = Order::Any;
+    let as_taken = Order::AsTaken;
+    match way {
+        Way::Recorded => goes(rt, alloc, &mut KeepRecorded::new(alloc), any, front, end),
+        Way::AtMostFew => goes(rt, alloc, &mut KeepAtMost::new(alloc, FEW), any, front, end),
+        Way::Compared => goes(
+            rt,
+            alloc,
+            &mut KeepCompared::new(alloc, usize::MAX),
+            any,
+            front,
+            end,
+        ),
+        Way::Starved => goes(rt, alloc, &mut KeepCompared::new(alloc, 0), any, front, end),
+        Way::UntilEdit => goes(rt, alloc, &mut KeepUntilEdit::new(alloc), any, front, end),
+        Way::KeepsNone => goes(rt, alloc, &mut KeepNone::new(alloc), any, front, end),
+        Way::CutOff => goes(rt, alloc, &mut KeepCutOff::new(alloc), as_taken, front, end),
+        Way::CutOffAtMostMany => goes(
+            rt,
+            alloc,
+            &mut KeepCutOffAtMost::new(alloc, MANY),
+            as_taken,
+            front,
+            end,
+        ),
+        Way::CutOffAtMostFew => goes(
+            rt,
+            alloc,
+            &mut KeepCutOffAtMost::new(alloc, FEW),
+            as_taken,
+            front,
+            end,
+        ),
     }
-    true
+}
+
+/// How many entries a recording keeper has behind these acts, and how many locations it stores for them, where they go as told.
+fn counts_of(rt: &impl Abort, alloc: Global, front: &[Act], end: &[Act]) -> Option<(usize, usize)> {
+    let mut keeper = KeepRecorded::new(alloc);
+    if goes(rt, alloc, &mut keeper, Order::Any, front, end) {
+        return Some((keeper.len(), keeper.stored()));
+    }
+    None
 }
 
 #[test]
-fn an_entry_without_a_value_is_never_told(rt: HostRuntime) {
-    let alloc = rt.alloc();
-    assert!(rt; goes_with_its_users(&rt, rt.alloc(), KeepRecorded::new(alloc)));
-    assert!(rt; goes_with_its_users(&rt, rt.alloc(), KeepAtMost::new(alloc, 4)));
-    assert!(rt; goes_with_its_users(&rt, rt.alloc(), KeepCompared::new(alloc, usize::MAX)));
-    // what stands for everything needs no such entry
-    let mut keeper = KeepUntilEdit::new(alloc);
-    put_pairs(&rt, rt.alloc(), &mut keeper);
-    assert!(rt; shows(&keeper, &[Sight::Nothing; 4]));
-}
-
-/// Puts an entry for each node in order, which reads its own location and uses the one before it.
-fn put_chain<K: Keeper>(rt: &impl Abort, alloc: Global, keeper: &mut K, count: usize) {
-    let mut uses = Vec::new(alloc);
-    for node in 0..count {
-        put_new(
-            keeper,
-            inst(node),
-            Some(Value::Bool(true)),
-            &[own(node)],
-            uses.as_slice(),
-            Order::Any,
-        )
-        .expect(rt, "memory");
-        uses.clear();
-        uses.push(inst(node)).ok().expect(rt, "memory");
-    }
-}
-
-/// The nodes of a chain of eight of which a value is left, where four entries at most are kept and that node's location is touched.
-fn left_of_chain(rt: &impl Abort, alloc: Global, touched: usize) -> Vec<usize> {
-    let mut keeper = KeepAtMost::new(alloc, 4);
-    put_chain(rt, alloc, &mut keeper, 8);
-    flush(&mut keeper, touched);
-    let mut left = Vec::new(alloc);
-    for node in 0..8 {
-        if has(&keeper, node) {
-            left.push(node).expect(rt, "memory");
+fn keepers_keep_and_forget_what_they_are_said_to(rt: HostRuntime) {
+    for (row, script) in SCRIPTS.iter().enumerate() {
+        for way in script.ways {
+            for end in script.ends {
+                holds_at(
+                    &rt,
+                    row,
+                    goes_with(&rt, rt.alloc(), *way, script.front, end),
+                );
+            }
         }
     }
-    left
-}
-
-/// What is touched of the chain, and which of it is left.
-struct Folded {
-    touched: usize,
-    left: &'static [usize],
-}
-
-const FOLDED: &[Folded] = &[
-    Folded {
-        touched: 8,
-        left: &[2, 5, 7],
-    },
-    Folded {
-        touched: 5,
-        left: &[2],
-    },
-    Folded {
-        touched: 1,
-        left: &[],
-    },
-];
-
-#[test]
-fn what_entries_are_folded_into_goes_with_what_these_looked_at(rt: HostRuntime) {
-    for row in FOLDED {
-        let left = left_of_chain(&rt, rt.alloc(), row.touched);
-        assert!(rt; left.as_slice() == row.left);
-    }
-}
-
-const NODES: usize = 9;
-
-/// A location of one of the nodes.
-fn location(chance: &mut Chance) -> Loc {
-    let node = numbered(chance.below(NODES));
-    match chance.below(6) {
-        0 => Loc::Is(node),
-        1 => Loc::Tok(node, 0),
-        2 => Loc::Tok(node, 1),
-        3 => Loc::Slot(node, 0),
-        4 => Loc::Up(node),
-        _ => Loc::Idx(node),
-    }
-}
-
-/// A value of that node, or none.
-fn value_by_chance(chance: &mut Chance, node: usize) -> Option<Value> {
-    if chance.below(3) == 0 {
-        return None;
-    }
-    Some(Value::Ref(Some(numbered(node))))
-}
-
-/// Puts an entry of a node, where it has none, with or without a value, with reads and uses by chance.
-fn put_by_chance(rt: &impl Abort, alloc: Global, keeper: &mut KeepCompared, chance: &mut Chance) {
-    let node = chance.below(NODES);
-    let mut reads = Vec::new(alloc);
-    for _ in 0..chance.below(3) + 1 {
-        reads.push(location(chance)).expect(rt, "memory");
-    }
-    let uses = used(rt, alloc, keeper, chance);
-    let value = value_by_chance(chance, node);
-    put_new(
-        keeper,
-        inst(node),
-        value,
-        reads.as_slice(),
-        uses.as_slice(),
-        Order::Any,
-    )
-    .expect(rt, "memory");
-}
-
-/// The instances of some of the nodes that have an entry.
-fn used(rt: &impl Abort, alloc: Global, keeper: &KeepCompared, chance: &mut Chance) -> Vec<Inst> {
-    let mut uses = Vec::new(alloc);
-    for node in 0..NODES {
-        if chance.below(3) == 0 && keeper.stands(&inst(node)) {
-            uses.push(inst(node)).ok().expect(rt, "memory");
-        }
-    }
-    uses
 }
 
 #[test]
-fn the_index_forgets_what_plain_models_forget(rt: HostRuntime) {
-    let alloc = rt.alloc();
-    let mut chance = Chance::from_seed(1975);
-    let mut keeper = KeepCompared::new(alloc, usize::MAX);
-    for _ in 0..6_000 {
-        put_by_chance(&rt, rt.alloc(), &mut keeper, &mut chance);
-        if chance.below(4) == 0 {
-            let touched = location(&mut chance);
-            keeper.flush(&|location: Loc| location == touched);
-        }
-        assert!(rt; !keeper.models.differs);
+fn entries_and_their_locations_are_counted(rt: HostRuntime) {
+    for (row, (front, end, counts)) in COUNTS.iter().enumerate() {
+        holds_at(
+            &rt,
+            row,
+            counts_of(&rt, rt.alloc(), front, end) == Some(*counts),
+        );
     }
-    assert!(rt; keeper.models.gone > 800);
-}
-
-/// Whether the keeper takes an entry, or not; whether it keeps what it took; and whether it forgets it with any flush.
-fn is_as_told<K: Keeper>(mut keeper: K, takes: bool, keeps: bool) -> bool {
-    let taken = put_new(
-        &mut keeper,
-        inst(1),
-        Some(Value::Int(5)),
-        &[own(1)],
-        &[],
-        Order::Any,
-    )
-    .is_ok();
-    let kept = keeper.get(&inst(1)) == Some(&Value::Int(5));
-    let is_other_kept = has(&keeper, 2);
-    flush(&mut keeper, 2);
-    taken == takes && kept == keeps && !is_other_kept && !has(&keeper, 1)
-}
-
-#[test]
-fn what_records_nothing_keeps_until_an_edit_at_most(rt: HostRuntime) {
-    let alloc = rt.alloc();
-    assert!(rt; is_as_told(KeepUntilEdit::new(alloc), true, true));
-    assert!(rt; is_as_told(KeepNone::new(alloc), true, false));
-    assert!(rt; is_as_told(KeepCompared::new(alloc, 0), false, false));
 }

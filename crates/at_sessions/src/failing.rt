@@ -1,290 +1,166 @@
-//! Sessions whose reader or writer fails, at each call in turn, and sessions with few reads.
-
-mod ends;
+//! Runs with a writer that can't flush, which no call of the system shows, and with few reads. Reads and writes that fail are told of
+//! the program (`tools/of_the_program/test_failing.py`).
 
 use crate::hearing::calculator;
 use crate::rows::holds_at;
-use at_engine::{RunFault, Watched, run, run_for};
-use ends::{FailingReader, FailingWriter, Refused, first_lines};
+use RunFault::{TooManyReads, Write as NoFlush};
+use at_engine::{RunFault, Watched, run_for};
 use std::alloc::Global;
+use std::io::{Error, ErrorKind, Read, Result, Write};
 use std::process::Abort;
 
-/// Lines, and a reply to each.
+/// Gives so many bytes a read, or fewer at the end.
+#[derive(Drop)]
+struct Pieces {
+    bytes: &'static [u8],
+    size: usize,
+}
+
+impl Read for Pieces {
+    fn read(&mut self, buf: &mut [u8]) -> Result<usize> {
+        let (mut front, _) = self.bytes.split_at(self.size.min(self.bytes.len()));
+        let count = front.read(buf)?;
+        self.bytes = self.bytes.split_at(count.min(self.bytes.len())).1;
+        Ok(count)
+    }
+}
+
+/// Takes each write whole. After so many flushes, they fail.
+#[derive(Drop)]
+struct Flushed {
+    told: Vec<u8>,
+    flushes: usize,
+}
+
+impl Write for Flushed {
+    fn write(&mut self, buf: &[u8]) -> Result<usize> {
+        match self.told.extend_from_slice(buf) {
+            Ok(()) => Ok(buf.len()),
+            Err(_) => Err(Error::from(ErrorKind::OutOfMemory)),
+        }
+    }
+
+    fn flush(&mut self) -> Result<()> {
+        if self.flushes == 0 {
+            return Err(Error::from(ErrorKind::Other));
+        }
+        self.flushes -= 1;
+        Ok(())
+    }
+}
+
+/// Lines, and the replies to them.
 struct Session {
     lines: &'static str,
     replies: &'static str,
 }
 
-const SESSIONS: &[Session] = &[
-    Session {
-        lines: "0 ask /Block/Stmt:1/Expr value()
+const SUMS: &Session = &Session {
+    lines: "0 ask /Block/Stmt:1/Expr value()
 0 token /Block/Stmt:1/Expr/Right Value 5
 0 ask /Block/Stmt:1/Expr value()
 ",
-        replies: "0 = 3
-0 ok 1
-0 = 6
-",
-    },
-    Session {
-        lines: "1 mark u /Block/Stmt:1/Expr/Left
+    replies: "0 = 3\n0 ok 1\n0 = 6\n",
+};
+
+const MARKS: &Session = &Session {
+    lines: "1 mark u /Block/Stmt:1/Expr/Left
 2 insert /Block Stmt 0 Decl(\"y\",-)
 1 ask $u decl()
 1 where u
 2 where u
 ",
-        replies: "1 ok 0
-2 ok 1
-1 = /Block/Stmt:1
-1 = /Block/Stmt:2/Expr/Left
-2 refused 3 mark
-",
-    },
-    Session {
-        lines: "0 version\n0 version\n",
-        replies: "0 ok 0\n0 ok 0\n",
-    },
-    Session {
-        lines: "0 post /Block/Stmt:1/Expr value()
-0 wait 1
-",
-        replies: "0 open 1
-0 done 1 0 = 3
-",
-    },
-    Session {
-        lines: POSTS,
-        replies: "0 open 1
-1 open 2
-0 done 1 0 = 3
-1 done 2 0 = 2
-",
-    },
-];
-
-/// Two questions, which are answered at the end of the input.
-const POSTS: &str = "0 post /Block/Stmt:1/Expr value()
-1 post /Block/Stmt:1/Expr/Right value()
-";
-
-/// How many bytes a read brings, and how many reads are allowed; and how many reads, writes of one byte, and flushes succeed.
-#[derive(Clone, Copy)]
-struct Calls {
-    size: usize,
-    limit: u64,
-    reads: usize,
-    writes: usize,
-    flushes: usize,
-    refused: Refused,
-}
-
-/// One read brings all lines, and no call fails.
-const ALL: Calls = Calls {
-    size: usize::MAX,
-    limit: u64::MAX,
-    reads: usize::MAX,
-    writes: usize::MAX,
-    flushes: usize::MAX,
-    refused: Refused::Fails,
+    replies: "1 ok 0\n2 ok 1\n1 = /Block/Stmt:1\n1 = /Block/Stmt:2/Expr/Left\n2 refused 3 mark\n",
 };
 
-/// Whether the run of a fresh engine ends by this fault, or by none, behind these replies, and no other call fails.
-fn has_ended(
-    rt: &impl Abort,
-    alloc: Global,
-    lines: &'static str,
-    calls: Calls,
-    told: &[u8],
-    fault: Option<RunFault>,
-) -> bool {
-    let mut engine = calculator(rt, alloc);
-    let mut reader = Watched::new(reader_of(lines, calls));
-    let mut writer = Watched::new(writer_of(alloc, calls));
-    let ended = run_for(&mut engine, &mut reader, &mut writer, calls.limit).err();
-    ended == fault
-        && writer.stream.told.as_slice() == told
-        && reader.failed() == (fault == Some(RunFault::Read))
-        && writer.failed() == (fault == Some(RunFault::Write))
-}
+const VERSIONS: &Session = &Session {
+    lines: "0 version\n0 version\n",
+    replies: "0 ok 0\n0 ok 0\n",
+};
 
-/// The lines, as they are read by these calls.
-fn reader_of(lines: &'static str, calls: Calls) -> FailingReader {
-    FailingReader {
-        bytes: lines.as_bytes(),
-        size: calls.size,
-        reads: calls.reads,
-    }
-}
+const WAIT: &Session = &Session {
+    lines: "0 post /Block/Stmt:1/Expr value()\n0 wait 1\n",
+    replies: "0 open 1\n0 done 1 0 = 3\n",
+};
 
-/// Where nothing is written yet by these calls.
-fn writer_of(alloc: Global, calls: Calls) -> FailingWriter {
-    FailingWriter {
-        told: Vec::new(alloc),
-        writes: calls.writes,
-        refused: calls.refused,
-        flushes: calls.flushes,
-    }
-}
+/// Two questions, which are answered at the end of the input.
+const POSTS: &Session = &Session {
+    lines: "0 post /Block/Stmt:1/Expr value()
+1 post /Block/Stmt:1/Expr/Right value()
+",
+    replies: "0 open 1\n1 open 2\n0 done 1 0 = 3\n1 done 2 0 = 2\n",
+};
 
-#[test]
-fn a_failed_read_leaves_whole_lines(rt: HostRuntime) {
-    for session in SESSIONS {
-        let bytes = session.lines.as_bytes();
-        let mut lines: usize = 0;
-        for reads in 0..=bytes.len() {
-            let calls = Calls {
-                size: 1,
-                reads,
-                ..ALL
-            };
-            let told = first_lines(session.replies.as_bytes(), lines);
-            let fault = Some(RunFault::Read);
-            holds_at(
-                &rt,
-                reads,
-                has_ended(&rt, rt.alloc(), session.lines, calls, told, fault),
-            );
-            if bytes.get(reads) == Some(&b'\n') {
-                lines = lines.saturating_add(1);
-            }
-        }
-    }
-}
+const VERSION: &Session = &Session {
+    lines: "0 version\n",
+    replies: "0 ok 0\n",
+};
 
-/// Whether the run ends behind the first replies where so many writes succeed, and the next one fails or takes nothing.
-fn leaves_front(rt: &impl Abort, alloc: Global, session: &Session, writes: usize) -> bool {
-    let told = session
-        .replies
-        .as_bytes()
-        .split_at(writes.min(session.replies.len()))
-        .0;
-    for refused in [Refused::Fails, Refused::TakesNothing] {
-        let calls = Calls {
-            writes,
-            refused,
-            ..ALL
-        };
-        if !has_ended(rt, alloc, session.lines, calls, told, Some(RunFault::Write)) {
-            return false;
-        }
-    }
-    true
-}
+/// A session, how many bytes a read brings, how many reads are allowed, and how many flushes succeed; how many bytes of the replies are
+/// told then, and the fault.
+type Row = (&'static Session, usize, u64, usize, usize, Option<RunFault>);
 
-#[test]
-fn a_failed_write_leaves_a_front(rt: HostRuntime) {
-    for session in SESSIONS {
-        for writes in 0..session.replies.len() {
-            holds_at(&rt, writes, leaves_front(&rt, rt.alloc(), session, writes));
-        }
-    }
-}
+const ALL: usize = usize::MAX;
 
-#[test]
-fn a_failed_flush_leaves_what_was_written(rt: HostRuntime) {
-    for session in SESSIONS {
-        for flushes in 0..session.replies.lines().count() {
-            let calls = Calls { flushes, ..ALL };
-            let told = first_lines(session.replies.as_bytes(), flushes.saturating_add(1));
-            let fault = Some(RunFault::Write);
-            holds_at(
-                &rt,
-                flushes,
-                has_ended(&rt, rt.alloc(), session.lines, calls, told, fault),
-            );
-        }
-    }
-}
+const MOST: u64 = u64::MAX;
 
-#[test]
-fn without_a_failure_all_is_told(rt: HostRuntime) {
-    for session in SESSIONS {
-        let told = session.replies.as_bytes();
-        let read = Calls { size: 1, ..ALL };
-        assert!(rt; has_ended(&rt, rt.alloc(), session.lines, read, told, None));
-        let written = Calls {
-            writes: told.len(),
-            flushes: session.replies.lines().count(),
-            ..ALL
-        };
-        assert!(rt; has_ended(&rt, rt.alloc(), session.lines, written, told, None));
-    }
-}
-
-/// How many bytes a read brings, how many reads a run may make for one line of ten bytes, the replies then, and the fault.
-const LIMITS: &[(usize, u64, &[u8], Option<RunFault>)] = &[
-    (1, 0, b"", Some(RunFault::TooManyReads)),
-    (1, 9, b"", Some(RunFault::TooManyReads)),
-    (1, 10, b"0 ok 0\n", Some(RunFault::TooManyReads)),
-    (1, 11, b"0 ok 0\n", None),
-    (4, 2, b"", Some(RunFault::TooManyReads)),
-    (4, 3, b"0 ok 0\n", Some(RunFault::TooManyReads)),
-    (4, 4, b"0 ok 0\n", None),
-    (10, 1, b"0 ok 0\n", Some(RunFault::TooManyReads)),
-    (10, 2, b"0 ok 0\n", None),
-    (11, 0, b"", Some(RunFault::TooManyReads)),
+const ROWS: &[Row] = &[
+    (SUMS, ALL, MOST, 0, 6, Some(NoFlush)),
+    (SUMS, ALL, MOST, 1, 13, Some(NoFlush)),
+    (SUMS, ALL, MOST, 2, 19, Some(NoFlush)),
+    (SUMS, ALL, MOST, 3, 19, None),
+    (MARKS, ALL, MOST, 0, 7, Some(NoFlush)),
+    (MARKS, ALL, MOST, 1, 14, Some(NoFlush)),
+    (MARKS, ALL, MOST, 2, 32, Some(NoFlush)),
+    (MARKS, ALL, MOST, 3, 60, Some(NoFlush)),
+    (MARKS, ALL, MOST, 4, 77, Some(NoFlush)),
+    (MARKS, ALL, MOST, 5, 77, None),
+    (VERSIONS, ALL, MOST, 0, 7, Some(NoFlush)),
+    (VERSIONS, ALL, MOST, 1, 14, Some(NoFlush)),
+    (VERSIONS, ALL, MOST, 2, 14, None),
+    (WAIT, ALL, MOST, 0, 9, Some(NoFlush)),
+    (WAIT, ALL, MOST, 1, 24, Some(NoFlush)),
+    (WAIT, ALL, MOST, 2, 24, None),
+    (POSTS, ALL, MOST, 0, 9, Some(NoFlush)),
+    (POSTS, ALL, MOST, 1, 18, Some(NoFlush)),
+    (POSTS, ALL, MOST, 2, 33, Some(NoFlush)),
+    (POSTS, ALL, MOST, 3, 48, Some(NoFlush)),
+    (POSTS, ALL, MOST, 4, 48, None),
+    (VERSION, 1, 0, ALL, 0, Some(TooManyReads)),
+    (VERSION, 1, 9, ALL, 0, Some(TooManyReads)),
+    (VERSION, 1, 10, ALL, 7, Some(TooManyReads)),
+    (VERSION, 1, 11, ALL, 7, None),
+    (VERSION, 4, 2, ALL, 0, Some(TooManyReads)),
+    (VERSION, 4, 3, ALL, 7, Some(TooManyReads)),
+    (VERSION, 4, 4, ALL, 7, None),
+    (VERSION, 10, 1, ALL, 7, Some(TooManyReads)),
+    (VERSION, 10, 2, ALL, 7, None),
+    (VERSION, 11, 0, ALL, 0, Some(TooManyReads)),
 ];
 
-#[test]
-fn reads_are_counted(rt: HostRuntime) {
-    for (row, (size, limit, told, fault)) in LIMITS.iter().enumerate() {
-        let calls = Calls {
-            size: *size,
-            limit: *limit,
-            ..ALL
-        };
-        holds_at(
-            &rt,
-            row,
-            has_ended(&rt, rt.alloc(), "0 version\n", calls, told, *fault),
-        );
-    }
-}
-
-/// How many reads of one byte and writes of one byte succeed, and what the next run over the same engine tells, which has no
-/// lines: the answers that the first one didn't begin to write.
-const BROKEN: &[(usize, usize, &str)] = &[
-    (0, usize::MAX, ""),
-    (33, usize::MAX, ""),
-    (34, usize::MAX, "0 done 1 0 = 3\n"),
-    (73, usize::MAX, "0 done 1 0 = 3\n"),
-    (74, usize::MAX, "0 done 1 0 = 3\n1 done 2 0 = 2\n"),
-    (usize::MAX, 0, "0 done 1 0 = 3\n"),
-    (usize::MAX, 8, "0 done 1 0 = 3\n"),
-    (usize::MAX, 9, "0 done 1 0 = 3\n1 done 2 0 = 2\n"),
-    (usize::MAX, 17, "0 done 1 0 = 3\n1 done 2 0 = 2\n"),
-    (usize::MAX, 18, "1 done 2 0 = 2\n"),
-    (usize::MAX, 32, "1 done 2 0 = 2\n"),
-    (usize::MAX, 33, ""),
-    (usize::MAX, 47, ""),
-    (usize::MAX, usize::MAX, ""),
-];
-
-/// What the second run tells.
-fn told_then(rt: &impl Abort, alloc: Global, reads: usize, writes: usize) -> Vec<u8> {
+/// Whether the run of a fresh engine ends so, and the writer alone is seen to have failed where a flush has.
+fn has_ended(rt: &impl Abort, alloc: Global, row: &Row) -> bool {
+    let (session, size, limit, flushes, told, fault) = *row;
     let mut engine = calculator(rt, alloc);
-    let size = 1;
-    let calls = Calls {
+    let mut reader = Watched::new(Pieces {
+        bytes: session.lines.as_bytes(),
         size,
-        reads,
-        writes,
-        ..ALL
-    };
-    let mut reader = Watched::new(reader_of(POSTS, calls));
-    let mut writer = Watched::new(writer_of(alloc, calls));
-    let _ = run(&mut engine, &mut reader, &mut writer);
-    let mut nothing: &[u8] = b"";
-    let mut then = Vec::new(alloc);
-    run(&mut engine, &mut nothing, &mut then)
-        .ok()
-        .expect(rt, "a whole run");
-    then
+    });
+    let mut writer = Watched::new(Flushed {
+        told: Vec::new(alloc),
+        flushes,
+    });
+    let ended = run_for(&mut engine, &mut reader, &mut writer, limit).err();
+    let wanted = session.replies.as_bytes();
+    ended == fault
+        && writer.stream.told.as_slice() == wanted.split_at(told.min(wanted.len())).0
+        && !reader.failed()
+        && writer.failed() == (fault == Some(NoFlush))
 }
 
 #[test]
-fn the_next_run_goes_on_with_open_questions(rt: HostRuntime) {
-    for (row, (reads, writes, then)) in BROKEN.iter().enumerate() {
-        let told = told_then(&rt, rt.alloc(), *reads, *writes);
-        holds_at(&rt, row, told.as_slice() == then.as_bytes());
+fn flushes_that_fail_and_reads_that_are_counted_end_a_run(rt: HostRuntime) {
+    for (at, row) in ROWS.iter().enumerate() {
+        holds_at(&rt, at, has_ended(&rt, rt.alloc(), row));
     }
 }

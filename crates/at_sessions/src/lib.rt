@@ -1,6 +1,6 @@
-//! Tests of what no session of the program shows: lines and turns one by one, readers and writers that fail, aspects as
-//! they are read, a store; keepers by themselves, and beside plain models, also over lines by chance; what is derived,
-//! components, and searches over formulas, found by hand.
+//! Tests of what no session of the program shows: lines and turns one by one, a writer that can't flush, reads that are
+//! counted, aspects as they are read, a store; keepers by themselves, and beside plain models, also over lines by chance;
+//! what is derived, components, and searches over formulas, found by hand.
 //!
 //! **Where to begin:** `turns.rt` has lines and turns as rows of a table. A test that a page can show stands on a page,
 //! and one that the program shows, such as a whole session with its work, in tools/of_the_program (docs/TESTING.md).
@@ -22,13 +22,13 @@ mod hearing;
 #[cfg(test)]
 mod keepers;
 #[cfg(test)]
+mod keeping;
+#[cfg(test)]
 mod rows;
 #[cfg(test)]
 mod samples;
 #[cfg(test)]
 mod searching;
-#[cfg(test)]
-mod settled;
 #[cfg(test)]
 mod solving;
 #[cfg(test)]

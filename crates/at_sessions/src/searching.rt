@@ -39,9 +39,14 @@ use Part::{And, Is, Of, Or};
 use std::alloc::Global;
 use std::process::Abort;
 
-/// The value from which the instances start, their equations by their numbers, and their values by a search from the first one; no list
-/// where that comes to an equation that hasn't ended.
-type Row = (bool, &'static [Equation], Option<&'static [Option<bool>]>);
+/// The value from which the instances start, and their equations by their numbers; their values by a search from the first one, no list
+/// where that comes to an equation that hasn't ended; and the fault that such a search meets first: its kind, and where it is.
+type Row = (
+    bool,
+    &'static [Equation],
+    Option<&'static [Option<bool>]>,
+    Option<(FaultKind, usize)>,
+);
 
 const NO: Option<bool> = Some(false);
 
@@ -53,22 +58,26 @@ const ROWS: &[Row] = &[
         false,
         &[Forms(&[Of(1)]), Forms(&[Of(2)]), Forms(&[Is(true)])],
         Some(&[YES, YES, YES]),
+        None,
     ),
     (
         true,
         &[Forms(&[Of(1)]), Forms(&[Of(2)]), Forms(&[Is(false)])],
         Some(&[NO, NO, NO]),
+        None,
     ),
     // A ring: nothing is derived, so each keeps the value from which it starts.
     (
         false,
         &[Forms(&[Of(1)]), Forms(&[Of(2)]), Forms(&[Of(0)])],
         Some(&[NO, NO, NO]),
+        None,
     ),
     (
         true,
         &[Forms(&[Of(1)]), Forms(&[Of(2)]), Forms(&[Of(0)])],
         Some(&[YES, YES, YES]),
+        None,
     ),
     // A ring that either side enters, or both do.
     (
@@ -79,6 +88,7 @@ const ROWS: &[Row] = &[
             Forms(&[Is(true)]),
         ],
         Some(&[YES, YES, YES]),
+        None,
     ),
     (
         false,
@@ -88,6 +98,7 @@ const ROWS: &[Row] = &[
             Forms(&[Is(true)]),
         ],
         Some(&[NO, NO, YES]),
+        None,
     ),
     (
         true,
@@ -97,6 +108,7 @@ const ROWS: &[Row] = &[
             Forms(&[Is(false)]),
         ],
         Some(&[NO, NO, NO]),
+        None,
     ),
     (
         true,
@@ -106,6 +118,7 @@ const ROWS: &[Row] = &[
             Forms(&[Is(false)]),
         ],
         Some(&[YES, YES, NO]),
+        None,
     ),
     // A fault within reach: what leads to it has no value, and what doesn't has one.
     (
@@ -116,17 +129,20 @@ const ROWS: &[Row] = &[
             Fails(FaultKind::Zero),
         ],
         Some(&[None, YES, None]),
+        Some((FaultKind::Zero, 2)),
     ),
     // What is known is passed: it isn't told, and what it leads to isn't looked at.
     (
         false,
         &[Forms(&[Of(1), Of(2), And]), Knows(true), Forms(&[Is(true)])],
         Some(&[YES, None, YES]),
+        None,
     ),
     // An equation that hasn't ended.
     (
         false,
         &[Forms(&[Of(1), Of(2), Or]), Forms(&[Is(true)]), Waits],
+        None,
         None,
     ),
     // Two rings: the first leads to the second, which is entered.
@@ -139,35 +155,48 @@ const ROWS: &[Row] = &[
             Forms(&[Of(2), Is(true), Or]),
         ],
         Some(&[YES, YES, YES, YES]),
+        None,
     ),
-];
-
-/// Equations, and the fault that a search from the first one meets first: its kind, and where it is.
-const FAULTS: &[(&[Equation], Option<(FaultKind, usize)>)] = &[
     // Depth first: what the left side leads to comes before the right side.
     (
+        false,
         &[
             Forms(&[Of(1), Of(2), Or]),
             Forms(&[Of(3)]),
             Fails(FaultKind::Zero),
             Fails(FaultKind::Null),
         ],
+        Some(&[None, None, None, None]),
         Some((FaultKind::Null, 3)),
     ),
-    (&[Fails(FaultKind::Zero)], Some((FaultKind::Zero, 0))),
+    (
+        false,
+        &[Fails(FaultKind::Zero)],
+        Some(&[None]),
+        Some((FaultKind::Zero, 0)),
+    ),
     // What is known is passed.
     (
+        false,
         &[
             Forms(&[Of(1), Of(2), Or]),
             Knows(true),
             Fails(FaultKind::Cast),
         ],
+        Some(&[None, None, None]),
         Some((FaultKind::Cast, 2)),
     ),
     // Formulas alone, and an equation that hasn't ended in front of the fault.
-    (&[Forms(&[Of(1)]), Forms(&[Of(0)])], None),
     (
+        false,
+        &[Forms(&[Of(1)]), Forms(&[Of(0)])],
+        Some(&[NO, NO]),
+        None,
+    ),
+    (
+        false,
         &[Forms(&[Of(1), Of(2), Or]), Waits, Fails(FaultKind::Zero)],
+        None,
         None,
     ),
 ];
@@ -264,43 +293,27 @@ fn told(groups: &[Vec<Solved>], seen: &IndexMap<Inst, ()>, inst: &Inst) -> Optio
     None
 }
 
-/// What the instances are told by a search from the first one, by their numbers; no list where that comes to what hasn't ended.
-fn values(
+/// Whether a search from the first instance tells these values, by the instances' numbers; none where it comes to what hasn't ended.
+fn has_values(
     rt: &impl Abort,
     alloc: Global,
     start: bool,
-    equations: &[Equation],
-) -> Option<Vec<Option<bool>>> {
-    let ended = ended(rt, alloc, equations);
-    let known = known_of(rt, alloc, equations);
-    let seen = closure(alloc, &ended, &known, &numbered(0)).expect(rt, "memory")?;
-    let groups = solve(alloc, start, &ended, &known, &seen)
-        .ok()
-        .expect(rt, "memory");
-    let mut values = Vec::new(alloc);
-    for number in 0..equations.len() {
-        let value = told(groups.as_slice(), &seen, &numbered(number));
-        values.push(value).expect(rt, "memory");
+    ended: &IndexMap<Inst, Ended>,
+    known: &Kept,
+    wanted: Option<&[Option<bool>]>,
+) -> bool {
+    let seen = closure(alloc, ended, known, &numbered(0)).expect(rt, "memory");
+    let (Some(seen), Some(wanted)) = (&seen, wanted) else {
+        return seen.is_none() && wanted.is_none();
+    };
+    let groups = solve(alloc, start, ended, known, seen).ok();
+    let groups = groups.expect(rt, "memory");
+    for (number, value) in wanted.iter().enumerate() {
+        if told(groups.as_slice(), seen, &numbered(number)) != *value {
+            return false;
+        }
     }
-    Some(values)
-}
-
-/// The fault that a search from the first one meets first.
-fn met(rt: &impl Abort, alloc: Global, equations: &[Equation]) -> Option<Fault> {
-    let ended = ended(rt, alloc, equations);
-    let known = known_of(rt, alloc, equations);
-    first_fault(alloc, &ended, &known, &numbered(0))
-        .ok()
-        .expect(rt, "memory")
-}
-
-/// Whether these are the values of the row.
-fn are(found: &Option<Vec<Option<bool>>>, wanted: &Option<&'static [Option<bool>]>) -> bool {
-    match (found, wanted) {
-        (Some(found), Some(wanted)) => found.as_slice() == *wanted,
-        (None, None) => true,
-        _ => false,
-    }
+    true
 }
 
 /// Whether this is the fault of the row.
@@ -314,19 +327,20 @@ fn is_fault(found: &Option<Fault>, wanted: &Option<(FaultKind, usize)>) -> bool 
     }
 }
 
-#[test]
-fn what_is_solved_has_the_value_of_the_fixpoint(rt: HostRuntime) {
-    for (at, (start, equations, wanted)) in ROWS.iter().enumerate() {
-        let found = values(&rt, rt.alloc(), *start, equations);
-        holds_at(&rt, at, are(&found, wanted));
-    }
+/// Whether a search from the first instance finds what the row says.
+fn finds(rt: &impl Abort, alloc: Global, row: &Row) -> bool {
+    let (start, equations, values, fault) = *row;
+    let ended = ended(rt, alloc, equations);
+    let known = known_of(rt, alloc, equations);
+    let met = first_fault(alloc, &ended, &known, &numbered(0)).ok();
+    let met = met.expect(rt, "memory");
+    is_fault(&met, &fault) && has_values(rt, alloc, start, &ended, &known, values)
 }
 
 #[test]
-fn the_first_fault_is_met_depth_first(rt: HostRuntime) {
-    for (at, (equations, wanted)) in FAULTS.iter().enumerate() {
-        let found = met(&rt, rt.alloc(), equations);
-        holds_at(&rt, at, is_fault(&found, wanted));
+fn a_search_finds_the_fixpoint_and_the_first_fault(rt: HostRuntime) {
+    for (at, row) in ROWS.iter().enumerate() {
+        holds_at(&rt, at, finds(&rt, rt.alloc(), row));
     }
 }
 

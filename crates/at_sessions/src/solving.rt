@@ -122,16 +122,10 @@ const SYSTEMS: &[System] = &[
 ];
 
 #[test]
-fn what_is_derived_is_the_least_fixpoint(rt: HostRuntime) {
+fn what_is_derived_and_what_stays_are_the_fixpoints(rt: HostRuntime) {
     for system in SYSTEMS {
         let least = derived(rt.alloc(), system.conditions).expect(&rt, "memory");
         assert!(rt; least.as_slice() == system.least);
-    }
-}
-
-#[test]
-fn what_does_not_leave_true_is_the_greatest_fixpoint(rt: HostRuntime) {
-    for system in SYSTEMS {
         if let Some(wanted) = system.greatest {
             let greatest = greatest(&rt, rt.alloc(), system.conditions);
             assert!(rt; greatest.as_slice() == wanted);

@@ -1,11 +1,11 @@
-//! A store by itself: edits that are refused, done and given up, what they touch, and the numbers of nodes behind them.
+//! A store by itself: an edit that is done and one that is given up, what they touch, and the numbers of nodes behind them. What becomes
+//! of tree and numbers where an edit is refused is told of the program (`tools/of_the_program/test_refused.py`).
 
 ghost use Rattle.std.specs.Prelude.{◌≡◌, is_some, true};
 ghost use Rattle.at_model.specs.Trees.{conforms};
 ghost use Rattle.at_store.specs.Refusing.{node_of, target_of};
 ghost use Rattle.at_store.specs.Shown.{IsIdle, path as path_shown, tree as tree_shown};
 
-use crate::rows::holds_at;
 use crate::samples::{GRAMMAR, TREE};
 use at_class::{ClassTable, are_named};
 use at_grammar::parse_ast;
@@ -120,87 +120,6 @@ fn tried(
         End::GivenUp => store.cancel(ready),
     }
     all.or(Err(Refusal::Memory))
-}
-
-/// Why the store refuses the edit, which leaves the tree and all numbers as they were.
-fn reason(
-    rt: &impl Abort,
-    alloc: Global,
-    classes: &ClassTable,
-    store: &mut Store,
-    edit: Edit,
-) -> Refusal
-    requires idle { IsIdle store.old }
-    requires conforming { conforms classes.now (tree_shown store.old) 0 ≡ true }
-    requires there { is_some (path_shown store.old (node_of edit)) ≡ true }
-    requires target { is_some (path_shown store.old (target_of edit)) ≡ true }
-{
-    let before = shown(rt, alloc, classes, store);
-    let reason = tried(alloc, classes, store, edit, &[], End::Done);
-    let reason = reason.expect_err(rt, "a refusal");
-    let behind = shown(rt, alloc, classes, store);
-    assert!(rt; behind == before, "a refusal leaves a trace");
-    reason
-}
-
-/// An edit with a copy of what stands elsewhere in the tree.
-enum Asked {
-    Insert(usize),
-    Put(usize),
-    Drop,
-}
-
-/// Where an edit is asked for, where what it brings stands, what is done, and why it is refused.
-const REFUSED: &[(&str, &str, Asked, Refusal)] = &[
-    // a number as an element of a block, and in the declaration, which has one
-    (
-        "/Block",
-        "/Block/Stmt:0/Init",
-        Asked::Insert(0),
-        Refusal::Fit,
-    ),
-    (
-        "/Block/Stmt:0",
-        "/Block/Stmt:0/Init",
-        Asked::Put(1),
-        Refusal::Taken,
-    ),
-    // a plain child
-    ("/Block", "/", Asked::Drop, Refusal::Fixed),
-    // a declaration more, behind an element that isn't there
-    ("/Block", "/Block/Stmt:0", Asked::Insert(3), Refusal::Index),
-];
-
-/// Why the edit at that place is refused.
-fn refused(rt: &impl Abort, alloc: Global, place: &str, source: &str, asked: &Asked) -> Refusal {
-    let classes = classes(rt, alloc);
-    let mut store = loaded(rt, alloc, &classes);
-    let node = node_at(rt, alloc, &classes, &store, place);
-    let source = node_at(rt, alloc, &classes, &store, source);
-    let tree = store.tree_of(alloc, source).expect(rt, "memory");
-    let edit = match asked {
-        Asked::Insert(index) => Edit::Insert {
-            node,
-            part: 0,
-            index: *index,
-            tree,
-        },
-        Asked::Put(part) => Edit::Put {
-            node,
-            part: *part,
-            tree,
-        },
-        Asked::Drop => Edit::Drop { node },
-    };
-    reason(rt, alloc, &classes, &mut store, edit)
-}
-
-#[test]
-fn the_store_refuses_edits_and_stays_as_it_was(rt: HostRuntime) {
-    for (row, (place, source, asked, wanted)) in REFUSED.iter().enumerate() {
-        let reason = refused(&rt, rt.alloc(), place, source, asked);
-        holds_at(&rt, row, reason == *wanted);
-    }
 }
 
 /// A drop of the first statement: what it touched, and what the store shows before and behind it.

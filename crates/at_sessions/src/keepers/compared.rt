@@ -46,9 +46,7 @@ impl KeepCompared {
         requires { F.IsAlwaysCallable touched.now }
         ensures { self.new.keeper ≡ self.old.keeper }
     {
-        if self.models.flush(&self.keeper, touched).is_err() {
-            self.models.differs = true;
-        }
+        self.models.flush(&self.keeper, touched);
     }
 }
 
@@ -82,7 +80,8 @@ impl Keeper for KeepCompared {
         if self.models.differs || self.models.gone >= self.limit {
             return Err(AllocError);
         }
-        let entry = self.models.entry(&inst, &value, reads, uses)?;
+        let mut entry = self.models.entry(&inst, &value, reads)?;
+        self.models.link(&mut entry, uses)?;
         let put = self.keeper.put(inst, value, reads, uses, order)?;
         self.models.push(entry);
         Ok(put)

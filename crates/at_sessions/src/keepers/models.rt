@@ -5,11 +5,12 @@ use at_body::{Inst, Value};
 use at_cache::{KeepRecorded, Keeper};
 use at_store::Loc;
 use std::alloc::{AllocError, Global};
-use std::mem;
 
-/// What an entry rests on.
-#[derive(Drop)]
-struct Links {
+/// An entry with its number, its value, if it has one, and what it rests on.
+pub struct Entry {
+    number: usize,
+    inst: Inst,
+    value: Option<Value>,
     reads: Vec<Loc>,
     /// The numbers of the entries that it uses.
     uses: Vec<usize>,
@@ -17,13 +18,18 @@ struct Links {
     covers: Vec<Loc>,
 }
 
-/// An entry with its number, and its value, if it has one.
-#[derive(Drop)]
-pub struct Entry {
-    number: usize,
-    inst: Inst,
-    value: Option<Value>,
-    links: Links,
+/// One call, where each exit that lets it go would else have a case for each field.
+impl Drop for Entry {
+    fn drop(self) {
+        let Entry {
+            number: _,
+            inst: _,
+            value: _,
+            reads: _,
+            uses: _,
+            covers: _,
+        } = self;
+    }
 }
 
 /// Entries in the order in which they were put: what an entry uses stands before it.
@@ -34,7 +40,7 @@ pub struct Models {
     puts: usize,
     /// How many entries are gone by flushes.
     pub gone: usize,
-    /// Whether the models or the keeper had other entries than each other behind a flush.
+    /// Whether the models or the keeper had other entries than each other behind a flush, or memory was wanting.
     pub differs: bool,
 }
 
@@ -59,18 +65,6 @@ fn copied(value: &Option<Value>) -> Result<Option<Value>, AllocError> {
 }
 
 impl Entry {
-    /// Whether it reads a touched location, or uses an entry of one of these numbers.
-    fn rests_on<F: Fn(Loc) -> bool>(&self, touched: &F, gone: &[usize]) -> bool
-        requires { F.IsAlwaysCallable touched.now }
-    {
-        for used in &self.links.uses {
-            if gone.contains(used) {
-                return true;
-            }
-        }
-        is_touched(&self.links.reads, touched)
-    }
-
     /// Whether the keeper has the entry just where it stays, and tells its value then, if it has one.
     fn is_alike(&self, keeper: &KeepRecorded, stays: bool) -> bool {
         if keeper.stands(&self.inst) != stays {
@@ -95,49 +89,35 @@ impl Models {
         }
     }
 
-    /// The entry of the instance, if there is one.
-    fn find(&self, inst: &Inst) -> Option<&Entry> {
-        for entry in &self.entries {
-            if entry.inst == *inst {
-                return Some(entry);
-            }
-        }
-        None
-    }
-
-    /// What an entry rests on that reads these locations, and uses the entries of these instances.
-    fn links(&self, reads: &[Loc], uses: &[Inst]) -> Result<Links, AllocError> {
-        let mut links = Links {
-            reads: Vec::from_slice(self.alloc, reads)?,
-            uses: Vec::new(self.alloc),
-            covers: Vec::from_slice(self.alloc, reads)?,
-        };
-        for used in uses {
-            if let Some(entry) = self.find(used) {
-                links.uses.push(entry.number)?;
-                links.covers.extend_from_slice(&entry.links.covers)?;
-            }
-        }
-        Ok(links)
-    }
-
-    /// The next entry, which isn't kept yet.
+    /// The next entry, which isn't kept yet, and uses nothing yet.
     pub fn entry(
         &self,
         inst: &Inst,
         value: &Option<Value>,
         reads: &[Loc],
-        uses: &[Inst],
     ) -> Result<Entry, AllocError> {
         Ok(Entry {
             number: self.puts,
             inst: inst.copy(self.alloc)?,
             value: copied(value)?,
-            links: self.links(reads, uses)?,
+            reads: Vec::from_slice(self.alloc, reads)?,
+            uses: Vec::new(self.alloc),
+            covers: Vec::from_slice(self.alloc, reads)?,
         })
     }
 
-    /// Keeps the next entry. Where memory is wanting the models differ from now on.
+    /// The entry uses those of these instances, too.
+    pub fn link(&self, entry: &mut Entry, uses: &[Inst]) -> Result<(), AllocError> {
+        for used in &self.entries {
+            if uses.contains(&used.inst) {
+                entry.uses.push(used.number)?;
+                entry.covers.extend_from_slice(&used.covers)?;
+            }
+        }
+        Ok(())
+    }
+
+    /// Keeps the next entry.
     pub fn push(&mut self, entry: Entry) {
         self.puts = self.puts.saturating_add(1);
         if self.entries.push(entry).is_err() {
@@ -145,33 +125,51 @@ impl Models {
         }
     }
 
-    /// Forgets what is touched, and compares what is left with the keeper, which has done so. Where memory is wanting, nothing is left.
-    pub fn flush<F: Fn(Loc) -> bool>(
-        &mut self,
-        keeper: &KeepRecorded,
-        touched: &F,
-    ) -> Result<(), AllocError>
+    /// Whether an entry of that number is kept.
+    fn is_kept(&self, number: usize) -> bool {
+        for entry in &self.entries {
+            if entry.number == number {
+                return true;
+            }
+        }
+        false
+    }
+
+    /// Whether the entry reads a touched location, or uses one that is gone.
+    fn rests<F: Fn(Loc) -> bool>(&self, entry: &Entry, touched: &F) -> bool
         requires { F.IsAlwaysCallable touched.now }
     {
-        let mut gone = Vec::new(self.alloc);
-        let mut rest = Vec::new(self.alloc);
-        let entries = mem::replace(&mut self.entries, Vec::new(self.alloc));
-        for entry in entries {
-            let stays = !is_touched(&entry.links.covers, touched);
-            if entry.rests_on(touched, &gone) == stays || !entry.is_alike(keeper, stays) {
+        for used in &entry.uses {
+            if !self.is_kept(*used) {
+                return true;
+            }
+        }
+        is_touched(&entry.reads, touched)
+    }
+
+    /// Forgets what is touched, from the front, and compares what is left with the keeper, which has done so.
+    pub fn flush<F: Fn(Loc) -> bool>(&mut self, keeper: &KeepRecorded, touched: &F)
+        requires { F.IsAlwaysCallable touched.now }
+    {
+        let mut at: usize = 0;
+        for _ in 0..self.entries.len() {
+            let Some(entry) = self.entries.get(at) else {
+                break;
+            };
+            let stays = !is_touched(&entry.covers, touched);
+            let is_alike = entry.is_alike(keeper, stays);
+            if self.rests(entry, touched) == stays || !is_alike {
                 self.differs = true;
             }
             if stays {
-                rest.push(entry)?;
-            } else {
-                gone.push(entry.number)?;
+                at = at.saturating_add(1);
+            } else if at < self.entries.len() {
+                self.entries.remove(at);
+                self.gone = self.gone.saturating_add(1);
             }
         }
-        if keeper.len() != rest.len() {
+        if keeper.len() != self.entries.len() {
             self.differs = true;
         }
-        self.gone = self.gone.saturating_add(gone.len());
-        self.entries = rest;
-        Ok(())
     }
 }
