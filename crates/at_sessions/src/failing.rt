@@ -3,13 +3,13 @@
 
 use crate::hearing::calculator;
 use crate::rows::holds_at;
-use RunFault::{TooManyReads, Write as NoFlush};
+use RunFault::{Read as NoRead, TooManyReads, Write as NoFlush};
 use at_engine::{RunFault, Watched, run_for};
 use std::alloc::Global;
 use std::io::{Error, ErrorKind, Read, Result, Write};
 use std::process::Abort;
 
-/// Gives so many bytes a read, or fewer at the end.
+/// Gives so many bytes a read, or fewer at the end. Where that is none, each read fails.
 #[derive(Drop)]
 struct Pieces {
     bytes: &'static [u8],
@@ -18,6 +18,9 @@ struct Pieces {
 
 impl Read for Pieces {
     fn read(&mut self, buf: &mut [u8]) -> Result<usize> {
+        if self.size == 0 {
+            return Err(Error::from(ErrorKind::Other));
+        }
         let (mut front, _) = self.bytes.split_at(self.size.min(self.bytes.len()));
         let count = front.read(buf)?;
         self.bytes = self.bytes.split_at(count.min(self.bytes.len())).1;
@@ -136,9 +139,10 @@ const ROWS: &[Row] = &[
     (VERSION, 10, 1, ALL, 7, Some(TooManyReads)),
     (VERSION, 10, 2, ALL, 7, None),
     (VERSION, 11, 0, ALL, 0, Some(TooManyReads)),
+    (VERSION, 0, MOST, ALL, 0, Some(NoRead)),
 ];
 
-/// Whether the run of a fresh engine ends so, and the writer alone is seen to have failed where a flush has.
+/// Whether the run of a fresh engine ends so, and reader and writer are seen to have failed just where that is the fault.
 fn has_ended(rt: &impl Abort, alloc: Global, row: &Row) -> bool {
     let (session, size, limit, flushes, told, fault) = *row;
     let mut engine = calculator(rt, alloc);
@@ -154,7 +158,7 @@ fn has_ended(rt: &impl Abort, alloc: Global, row: &Row) -> bool {
     let wanted = session.replies.as_bytes();
     ended == fault
         && writer.stream.told.as_slice() == wanted.split_at(told.min(wanted.len())).0
-        && !reader.failed()
+        && reader.failed() == (fault == Some(NoRead))
         && writer.failed() == (fault == Some(NoFlush))
 }
 
