@@ -1,8 +1,9 @@
 //! Entries that stay in memory where they aren't kept.
 
-ghost use Rattle.std.specs.Prelude.{◌≡◌, option_copied};
+ghost use Rattle.std.specs.Prelude.{◌≡◌, Some, false, option_copied};
 ghost use Rattle.std.specs.Map.{lookup};
 ghost use Rattle.at_body.specs.Same.{same_instance};
+ghost use Rattle.at_cache.specs.Info.{Info, memory_of};
 ghost use Rattle.at_cache.specs.Standings.{but_for, held_of, is_shown, standing_of};
 
 use crate::edge::Slot;
@@ -79,6 +80,16 @@ impl Cut {
         } else {
             None
         }
+    }
+
+    /// Whether the entry in the slot can be kept again, if there is one.
+    pub fn is_traced(&self, slot: Slot) -> bool
+        ensures { result ≡ false → (e : Info) → memory_of self.now.entries slot ≡ Some e → (standing_of self.now.standings.items slot).traced ≡ false }
+    {
+        if !self.entries.is_taken(slot) {
+            return false;
+        }
+        standing_at(self.standings.as_slice(), slot).traced
     }
 
     /// Whether the pass sees what is in the slot, if anything is.

@@ -1,15 +1,15 @@
 //! The keeper that takes what an edit may have changed as changed only where it did.
 
-ghost use Rattle.std.specs.Prelude.{◌≡◌, ◌≤◌, ◌^◌, IfOk, IfSome, length, None, true};
+ghost use Rattle.std.specs.Prelude.{◌≡◌, ◌≤◌, ◌^◌, IfOk, IfSome, length, None, Some, false, true};
 ghost use Rattle.at_cache.specs.Asking.{AreNoted};
-ghost use Rattle.at_cache.specs.Info.{memory_of, table_len};
+ghost use Rattle.at_cache.specs.Info.{Info, memory_of, table_len};
 ghost use Rattle.at_cache.specs.Kept.{Answers, AreNamed, KeepsAll, LeavesUntouched, LosesTouched};
 ghost use Rattle.at_cache.specs.Finding.{edges_to};
 ghost use Rattle.at_cache.specs.Recorded.{IsIndexed};
 ghost use Rattle.at_cache.specs.Shedding.{AreHeld, Shrinks, kept_cut, remembered_cut};
-ghost use Rattle.at_cache.specs.Standings.{AreValued, IsTied, held, kept_held, last_is, remembered};
+ghost use Rattle.at_cache.specs.Standings.{AreValued, IsTied, held, kept_held, last_is, remembered, standing_of};
 ghost use Rattle.at_cache.specs.Theirs.{HasSlot};
-ghost use Rattle.at_cache.specs.Traced.{FlushesTraces, TracesNothing};
+ghost use Rattle.at_cache.specs.Traced.{FlushesTraces, SparesAtEdit, TracesNothing, is_settled};
 
 use crate::again::is_its;
 use crate::blocking::blocking;
@@ -103,6 +103,17 @@ impl KeepCutOff {
         }
         let entry = self.cut.entries.get(inst)?;
         Some(entry.slot)
+    }
+
+    // Whether what is in the slot can be kept again, where it is to be put as what can't.
+    fn is_waiting(&self, slot: Slot, order: Order) -> bool
+        ensures { result ≡ false → is_settled order ≡ true → (e : Info) → memory_of self.now.cut.entries slot ≡ Some e
+            → (standing_of self.now.cut.standings.items slot).traced ≡ false }
+    {
+        if !order.is_settled() {
+            return false;
+        }
+        self.cut.is_traced(slot)
     }
 
     /// How many numbers were given.
@@ -234,6 +245,10 @@ impl Keeper for KeepCutOff {
         order: Order,
     ) -> Result<Put, AllocError> {
         let slot = slot_for(&self.cut.entries, &inst)?;
+        // Never so: what it used is kept where its evaluation has ended, and so it was kept again.
+        if self.is_waiting(slot, order) {
+            return Err(AllocError);
+        }
         let known = outdate(self.alloc, &mut self.cut, &mut self.puts, slot);
         let stamp = self.puts;
         if stamp == u64::MAX {
@@ -304,6 +319,8 @@ impl Keeper for KeepCutOff {
             (kept_cut (edges_to self.new.readers) self.new.cut self.new.puts) }
         ensures traces { FlushesTraces (Answers (F.post touched.now)) (remembered_cut (edges_to self.old.readers) self.old.cut)
             (remembered_cut (edges_to self.new.readers) self.new.cut) }
+        ensures spares { SparesAtEdit (Answers (F.post touched.now)) (remembered_cut (edges_to self.old.readers) self.old.cut)
+            (remembered_cut (edges_to self.new.readers) self.new.cut) }
         ensures len { table_len self.new.cut.entries ≡ table_len self.old.cut.entries }
     {
         self.doubtful = true;
@@ -320,6 +337,8 @@ impl Keeper for KeepCutOff {
         ensures loses { LosesTouched (Answers (F.post touched.now)) (kept_cut (edges_to self.old.readers) self.old.cut self.old.puts)
             (kept_cut (edges_to self.new.readers) self.new.cut self.new.puts) }
         ensures traces { FlushesTraces (Answers (F.post touched.now)) (remembered_cut (edges_to self.old.readers) self.old.cut)
+            (remembered_cut (edges_to self.new.readers) self.new.cut) }
+        ensures spares { SparesAtEdit (Answers (F.post touched.now)) (remembered_cut (edges_to self.old.readers) self.old.cut)
             (remembered_cut (edges_to self.new.readers) self.new.cut) }
         ensures len { table_len self.new.cut.entries ≡ table_len self.old.cut.entries }
     {

@@ -20,8 +20,8 @@ use Rattle.at_cache.specs.Recorded.{IsIndexed}
 use Rattle.at_cache.specs.Renewing.{IsSlotFor, PutsIn}
 use Rattle.at_cache.specs.Standings.{AreValued, IsTied, held, instances_in, kept_held, remembered, standing_of}
 use Rattle.at_cache.specs.Theirs.{AreTheirs}
-use Rattle.at_cache.specs.Traced.{PutsTrace}
-use Rattle.at_cache.proofs.of_cut.Enters.{enters_indexed, enters_puts, enters_tied, enters_traces, enters_valued}
+use Rattle.at_cache.specs.Traced.{PutsTrace, SparesOthers}
+use Rattle.at_cache.proofs.of_cut.Enters.{enters_indexed, enters_puts, enters_spares, enters_tied, enters_traces, enters_valued}
 use Rattle.at_cache.proofs.of_cut.Goes.{instance_among}
 use Rattle.at_cache.proofs.of_cut.HeldSlots.{kept_none, off_slot, slot_of}
 use Rattle.at_cache.proofs.of_cut.Renewed.{among_is}
@@ -143,6 +143,7 @@ pub record HasEntered (lists later : Location ℕ → List Edge) (told tnew : Ta
   pub puts : Puts true (kept_held lists told before number) inst value reads uses (kept_held later tnew after
       (number + 1))
   pub traces : PutsTrace inst value reads uses o (remembered lists told before) (remembered later tnew after)
+  pub spares : SparesOthers inst (kept_held later tnew after (number + 1)) (remembered lists told before) (remembered later tnew after)
 
 module _ (lists later : Location ℕ → List Edge) (told tnew : Table) (mid : Memory)
     (zero_st one_st two_st ts : List Standing) (puts slot : ℕ)
@@ -191,4 +192,6 @@ module _ (lists later : Location ℕ → List Edge) (told tnew : Table) (mid : M
             (remembered later tnew ts)) are
             (enters_traces lists later told tnew mid zero_st one_st two_st ts puts slot inst value links reads
             standing o indexed tied valued absent named hold room r listed u1 used1 p stand since holds ordered has);
+        spares = enters_spares lists later told tnew mid zero_st one_st two_st ts puts slot inst value links reads
+            standing o indexed tied valued absent named hold room r listed u1 used1 p stand since holds ordered has;
       }

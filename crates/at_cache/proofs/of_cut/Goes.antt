@@ -17,7 +17,7 @@ use Rattle.at_cache.specs.Placed.{at}
 use Rattle.at_cache.specs.Kept.{value_at, PutsBy}
 use Rattle.at_cache.specs.Settling.{AreTraces, CanKeep, GoesOn, HasSettled, IsWhole}
 use Rattle.at_cache.specs.Standings.{IsTied, instances_in, kept_held, remembered, standing_of, trace_at, trace_of, held}
-use Rattle.at_cache.specs.Traced.{AreAllKept, Memories, Settled, StayTraced, Trace, itself}
+use Rattle.at_cache.specs.Traced.{AreAlike, AreAllKept, Memories, Settled, StayTraced, Trace, itself}
 use Rattle.at_cache.proofs.of_cut.Behind.{KeepsOn, all_kept_on, settles_below, settles_itself, settles_none, settles_on, settles_then}
 use Rattle.at_cache.proofs.Dooming.{head_of}
 use Rattle.std.proofs.lemmas.Bool.{cases_eq, eq-eqb, eqb-true, false_from_ne_true}
@@ -300,6 +300,12 @@ module _ (lists : Location ℕ → List Edge) (t : Table) (i : Instance ℕ) (x 
     traced = traces_same lists t a b goes_from.traced (remembered lists t a) (λ j. refl) j ∙ traced;
     value = refl;
     uses = λ u among. refl;
+  }
+
+  pub alike_from : AreAlike (remembered lists t a) (remembered lists t b)
+  alike_from = record {
+    traced = λ j. sym (traces_same lists t a b goes_from.traced (remembered lists t a) (λ i. refl) j);
+    last = λ j. refl;
   }
 
 -- where all stays

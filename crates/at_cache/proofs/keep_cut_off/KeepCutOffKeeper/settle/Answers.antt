@@ -2,7 +2,8 @@ use Rattle.std.proofs.Common.{ap, sym, ◌∙◌}
 use Rattle.std.specs.Option.{option_copied}
 use Rattle.at_cache.specs.Finding.{edges_to}
 use Rattle.at_cache.specs.Settling.{IsWhole}
-use Rattle.at_cache.proofs.of_cut.Goes.{goes_from, settled_from, stay_from}
+use Rattle.at_cache.proofs.of_cut.Goes.{alike_from, goes_from, settled_from, stay_from}
+use Rattle.at_cache.proofs.of_cut.Spared.{alike_itself}
 use Rattle.at_cache.proofs.of_cut.Untraced.{settles_nothing}
 use Rattle.at_cache.proofs.keep_cut_off.KeepCutOffKeeper.settle.Goals as goal
 
@@ -44,3 +45,18 @@ returns-clause-stay c =
     let whole : IsWhole lists k.cut.entries k.cut.standings.items (record { puts = k.puts; work = c.args.work })
     = record { indexed = k.indexed; tied = k.tied; valued = k.valued; few = c.ranges.work.fits } in
     stay_from lists k.cut.entries c.args.inst.now _ found _ _ _ _ _ (c.settle_at.ensures lists whole)
+
+pub returns-then-not-self-clause-alike : goal.returns-then-not-self-clause-alike
+returns-then-not-self-clause-alike c = alike_itself _
+
+pub returns-in_default-clause-alike : goal.returns-in_default-clause-alike
+returns-in_default-clause-alike c = alike_itself _
+
+pub returns-clause-alike : goal.returns-clause-alike
+returns-clause-alike c =
+    let k = c.args.self.now in
+    let lists = edges_to k.readers in
+    let found = sym c.get.ensures.value ∙ ap option_copied c.in-Some.is in
+    let whole : IsWhole lists k.cut.entries k.cut.standings.items (record { puts = k.puts; work = c.args.work })
+    = record { indexed = k.indexed; tied = k.tied; valued = k.valued; few = c.ranges.work.fits } in
+    alike_from lists k.cut.entries c.args.inst.now _ found _ _ _ _ _ (c.settle_at.ensures lists whole)
