@@ -162,7 +162,9 @@ class Bench:
             if count >= REPEATED and seconds > SECONDS:
                 break
             spent, replies = run.answered(it.lines)
-            self.figures.note(self.figures.attrd, it.name, spent / it.edits)
+            if spent:
+                # Where the system hasn't counted yet no time is told.
+                self.figures.note(self.figures.attrd, it.name, spent / it.edits)
             seconds += spent
         if self.java:
             file = Path(self.folder) / "lines"
