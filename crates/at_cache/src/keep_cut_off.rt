@@ -11,7 +11,7 @@ ghost use Rattle.at_cache.specs.Standings.{AreValued, IsTied, held, kept_held, l
 ghost use Rattle.at_cache.specs.Theirs.{HasSlot};
 ghost use Rattle.at_cache.specs.Traced.{FlushesTraces, SparesAtEdit, TracesNothing, is_settled};
 
-use crate::again::is_its;
+use crate::again::slot_by;
 use crate::blocking::blocking;
 use crate::choosing::choose;
 use crate::cut::{Cut, Pass};
@@ -45,6 +45,8 @@ pub struct KeepCutOff {
     puts: u64,
     // Where the entry may be that is asked for next: the last one that was to be kept again. Nothing rests on it.
     near: Slot,
+    // Where that may be that stood in its way, or itself. Nothing rests on it.
+    stuck: Slot,
     // Whether there ever was an edit; before that there is nothing to be kept again. Nothing rests on it.
     doubtful: bool,
     ghost indexed: { IsIndexed (edges_to readers) puts (held cut.standings.items (memory_of cut.entries)) },
@@ -63,6 +65,7 @@ impl Drop for KeepCutOff {
             index_read: _,
             puts: _,
             near: _,
+            stuck: _,
             doubtful: _,
         } = self;
     }
@@ -90,6 +93,7 @@ impl KeepCutOff {
             index_read: Vec::new(alloc),
             puts: 0,
             near: 0,
+            stuck: 0,
             doubtful: false,
         }
     }
@@ -98,11 +102,7 @@ impl KeepCutOff {
     fn slot_of(&self, inst: &Inst) -> Option<Slot>
         ensures { IfSome result (HasSlot self.now.cut.entries inst.now) }
     {
-        if is_its(&self.cut.entries, inst, self.near) {
-            return Some(self.near);
-        }
-        let entry = self.cut.entries.get(inst)?;
-        Some(entry.slot)
+        slot_by(&self.cut.entries, inst, self.near)
     }
 
     // Whether what is in the slot can be kept again, where it is to be put as what can't.
@@ -151,6 +151,7 @@ impl KeepCutOff {
             index_read,
             puts,
             near,
+            stuck,
             doubtful,
         } = self;
         shed(&mut cut.entries, cut.standings.as_slice())?;
@@ -161,6 +162,7 @@ impl KeepCutOff {
             index_read,
             puts,
             near,
+            stuck,
             doubtful,
         })
     }
@@ -195,6 +197,7 @@ impl KeepCutOff {
             index_read,
             puts,
             near,
+            stuck,
             doubtful,
         } = self;
         fold(alloc, &mut cut.entries, &mut readers, plan)?;
@@ -206,6 +209,7 @@ impl KeepCutOff {
             index_read,
             puts,
             near,
+            stuck,
             doubtful,
         })
     }
@@ -233,7 +237,7 @@ impl Keeper for KeepCutOff {
     }
 
     fn stands(&self, inst: &Inst) -> bool {
-        self.cut.held(inst).is_some()
+        self.cut.is_held(inst, self.stuck)
     }
 
     fn put(
@@ -244,7 +248,8 @@ impl Keeper for KeepCutOff {
         uses: &[Inst],
         order: Order,
     ) -> Result<Put, AllocError> {
-        let slot = slot_for(&self.cut.entries, &inst)?;
+        let stuck = self.stuck;
+        let slot = slot_for(&self.cut.entries, &inst, stuck)?;
         // Never so: what it used is kept where its evaluation has ended, and so it was kept again.
         if self.is_waiting(slot, order) {
             return Err(AllocError);
@@ -274,14 +279,13 @@ impl Keeper for KeepCutOff {
         if !self.doubtful {
             return work;
         }
-        let Some(entry) = self.cut.entries.get(inst) else {
+        let Some(slot) = self.slot_of(inst) else {
             return work;
         };
-        let slot = entry.slot;
-        self.near = slot;
         let mut counts = Counts {
             puts: self.puts,
             work,
+            stuck: slot,
         };
         settle_at(
             &self.cut.entries,
@@ -290,6 +294,8 @@ impl Keeper for KeepCutOff {
             slot,
             LEVELS,
         );
+        self.near = slot;
+        self.stuck = counts.stuck;
         self.puts = counts.puts;
         counts.work
     }

@@ -17,7 +17,7 @@ ghost use Rattle.at_cache.specs.Renewing.{Compares, IsAwaited, IsSlotFor, LosesU
 ghost use Rattle.at_cache.specs.Standings.{AreValued, IsTied, held, kept_held, remembered};
 ghost use Rattle.at_cache.specs.Traced.{PutsTrace, SparesOthers};
 
-use crate::again::slots_again;
+use crate::again::{slot_by, slots_again};
 use crate::cut::{Cut, Pass};
 use crate::cutting::{doom_users, forget_all, take_from};
 use crate::edge::{Edge, Slot};
@@ -43,13 +43,13 @@ fn is_traced(value: &Option<Value>, order: Order) -> bool
     }
 }
 
-/// The slot of the instance's entry, or that of the next one.
-pub fn slot_for(entries: &Table, inst: &Inst) -> Result<Slot, AllocError>
+/// The slot of the instance's entry, which may be this one, or that of the next one.
+pub fn slot_for(entries: &Table, inst: &Inst, near: Slot) -> Result<Slot, AllocError>
     ensures slot { IfOk result (λ slot. IsSlotFor entries.now inst.now slot) }
     ensures its { IfOk result (λ slot. (e : Info) → memory_of entries.now slot ≡ Some e → e.instance ≡ inst.now) }
 {
-    match entries.get(inst) {
-        Some(entry) => Ok(entry.slot),
+    match slot_by(entries, inst, near) {
+        Some(slot) => Ok(slot),
         None => entries.next(),
     }
 }

@@ -19,7 +19,7 @@ use Rattle.at_cache.specs.Putting.{AreListed, AreTaken, Reads, Uses, fresh_entry
 use Rattle.at_cache.specs.Recorded.{IsIndexed}
 use Rattle.at_cache.specs.Renewing.{IsSlotFor, PutsIn}
 use Rattle.at_cache.specs.Standings.{AreValued, IsTied, held, instances_in, kept_held, remembered, standing_of}
-use Rattle.at_cache.specs.Theirs.{AreTheirs}
+use Rattle.at_cache.specs.Theirs.{AreTheirs, HasSlot}
 use Rattle.at_cache.specs.Traced.{PutsTrace, SparesOthers}
 use Rattle.at_cache.proofs.of_cut.Enters.{enters_indexed, enters_puts, enters_spares, enters_tied, enters_traces, enters_valued}
 use Rattle.at_cache.proofs.of_cut.Goes.{instance_among}
@@ -34,6 +34,18 @@ pub its_entry : (t : Table) (i : Instance ℕ) (x : Entry) → lookup (same_inst
 its_entry t i x found e there =
     let (f, had, is) = slot_of t i x found in
     ap (λ (n : Info). n.instance) (same_Some e f (sym there ∙ had)) ∙ is
+
+pub its_slot_is : (t : Table) (i : Instance ℕ) (slot : ℕ) → HasSlot t i slot
+    → (e : Info) → memory_of t slot ≡ Some e → e.instance ≡ i
+its_slot_is t i slot has = subst (λ s. (e : Info) → memory_of t s ≡ Some e → e.instance ≡ i) has.there
+    (its_entry t i has.entry has.found)
+
+pub is_slot : (t : Table) (i : Instance ℕ) (slot : ℕ) → HasSlot t i slot → IsSlotFor t i slot
+is_slot t i slot has = rw (IsSlotFor, has.found) (sym has.there)
+
+pub is_next : (t : Table) (i : Instance ℕ) (slot : ℕ) → lookup (same_instance i) t.entries.entries ≡ None
+    → slot ≡ t.places.vacant_key → IsSlotFor t i slot
+is_next t i slot none is = rw (IsSlotFor, none) is
 
 -- the slot of an instance is so also with edges to those that used others
 module _ (t mid : Table) {x : Edge} {links : List ℕ} (i : Instance ℕ) (slot : ℕ)

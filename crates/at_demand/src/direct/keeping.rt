@@ -89,6 +89,7 @@ impl Direct {
     }
 
     // The known value of an instance, which is taken then. Where a lazy one has none, none is kept.
+    #[inline(always)]
     pub(super) fn recall<K: Keeper>(
         &self,
         keeper: &K,
