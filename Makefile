@@ -143,7 +143,7 @@ bench: build
 	python3 bench/clients.py
 	python3 bench/editor.py
 	python3 bench/hub.py
-	@status=0; for it in evaluation in_flight kept cliff fixpoints realistic sizes; do python3 bench/$$it.py || status=1; done; exit $$status
+	@status=0; for it in evaluation in_flight kept bounded cliff fixpoints realistic sizes; do python3 bench/$$it.py || status=1; done; exit $$status
 
 tools:
 	@command -v rt > /dev/null || { echo "attrd is written in Rattle: install the Rattle kit, so that the command 'rt' is on the PATH."; exit 1; }

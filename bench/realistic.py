@@ -162,7 +162,9 @@ class Bench:
             if count >= REPEATED and seconds > SECONDS:
                 break
             spent, replies = run.answered(it.lines)
-            self.figures.note(self.figures.attrd, it.name, spent / it.edits)
+            if spent:
+                # Where the system hasn't counted yet no time is told.
+                self.figures.note(self.figures.attrd, it.name, spent / it.edits)
             seconds += spent
         if self.java:
             file = Path(self.folder) / "lines"
@@ -189,8 +191,13 @@ class Bench:
 
     def evaluated(self, lines: str) -> int:
         """How many values of lazy attributes are evaluated for these lines, as the program counts them."""
+        return self.told(lines)["work"]
+
+    def told(self, lines: str) -> Dict[str, int]:
+        """What the program tells of the work for these lines; with --cut-off also how many values are made, and not kept again."""
         run = subprocess.run([self.program, "--work", *self.words], cwd=self.folder, input=lines, capture_output=True, text=True, check=True)
-        return int(run.stderr.split()[-1])
+        words = run.stderr.split()
+        return {word: int(number) for word, number in zip(words[::2], words[1::2])}
 
     def end(self) -> None:
         """Ends the Java program, and notes how many bytes it holds."""
@@ -253,18 +260,23 @@ def wanted_of(bench: Bench, bounds: Bounds, name: str, ratio: Optional[float], b
     return "-"
 
 
+def anew(cold: Dict[str, int], told: Dict[str, int], edits: int) -> List[str]:
+    """How many values an edit costs, and how many are made, where that is told."""
+    return [f"{(told[it] - cold[it]) / edits:,.1f}" if it in told else "" for it in ("work", "made")]
+
+
 def tell_rows(benches: List[Bench], bounds: Bounds, is_counted: bool) -> None:
     """Prints what each kind of keystroke takes at each size, with all errors asked behind it."""
     for bench in benches:
         table(f"A keystroke and all errors, {bench.size:,} nodes", "attrd, us", "Java, us", "attrd / Java", "Version 0.23", "Wanted", "Values anew",
-              "Instructions, millions")
-        cold = bench.evaluated(ASK)
+              "Made", "Instructions, millions")
+        cold = bench.told(ASK)
         for it in bench.rows:
             ratio, before = bench.figures.ratio(it.name), known_of(BEFORE, bench, it.name)
             told = wanted_of(bench, bounds, it.name, ratio, before)
             counted = bench.counted(ASK, it.lines, it.edits) if is_counted else None
             row(it.name, microseconds(bench.figures.attrd[it.name]), microseconds(bench.figures.java.get(it.name)), short(ratio), short(before), told,
-                f"{(bench.evaluated(ASK + it.lines) - cold) / it.edits:,.1f}", against(counted, known_of(COUNTED_BEFORE, bench, it.name)))
+                *anew(cold, bench.told(ASK + it.lines), it.edits), against(counted, known_of(COUNTED_BEFORE, bench, it.name)))
 
 
 def tell_bounded(benches: List[Bench], bounds: Bounds) -> None:

@@ -14,12 +14,13 @@ class Sample(NamedTuple):
 
 
 class Session(NamedTuple):
-    """Lines, the replies to them, and the work that they cost, where it is told."""
+    """Lines, the replies to them, and the work that they cost, where it is told; and how many values are made for them with cut-off."""
 
     name: str
     lines: str
     replies: str
     work: Optional[int] = None
+    made: Optional[int] = None
 
 
 DOUBLED = """aspect Doubled {
@@ -599,5 +600,63 @@ LOST = [
 0 ok 4
 0 = "no"
 0 = -12
+"""),
+]
+
+# Twenty classes, each of which uses three of them and one that isn't there: 1 + 20 + 80 * 2 + 4 values tell how many uses are wrong.
+CLASSES = Sample("Program ::= Class*;\nClass ::= <Name> Use*;\nUse ::= <Name>;\n",
+                 "Program([" + ",".join(f'Class("{it}",[Use("b"),Use("h"),Use("t"),Use("u")])' for it in "abcdefghijklmnopqrst") + "])",
+                 ["""aspect Classes {
+  syn lazy Class Program.find(String n) = first (c : getClassList()) { c.getName().equals(n) };
+  inh Class Use.lookup(String n);
+  eq Program.getChild().lookup(String n) = find(n);
+  syn lazy Class Use.meant() = lookup(getName());
+  syn lazy boolean Use.isWrong() = meant() == null;
+  syn lazy int Class.wrong() = sum (u : getUseList()) { u.isWrong() ? 1 : 0 };
+  syn lazy int Program.wrong() = sum (c : getClassList()) { c.wrong() };
+}
+"""])
+
+# What is made behind an edit: what looked itself at what it touches, and what used a value that has changed.
+MADE = [
+    Session("a class comes in at the top, which nothing uses: the four names, the new class and the program are made", """\
+0 ask / wrong()
+0 insert / Class 0 Class("New",[])
+0 ask / wrong()
+""", """\
+0 = 20
+0 ok 1
+0 = 20
+""", 185 + 186, 185 + 6),
+    Session("it is one that is used: so are its uses, and the classes that these are in", """\
+0 ask / wrong()
+0 insert / Class 0 Class("u",[])
+0 ask / wrong()
+""", """\
+0 = 20
+0 ok 1
+0 = 0
+""", 185 + 186, 185 + 6 + 20 * 3),
+    Session("a use is renamed, and means the same", """\
+0 ask / wrong()
+0 token /Class:3/Use:3 Name "v"
+0 ask / wrong()
+""", """\
+0 = 20
+0 ok 1
+0 = 20
+""", 185 + 5, 185 + 2),
+    Session("what changes back in between is asked for by one of two", """\
+0 ask / wrong()
+0 token /Class:3 Name "w"
+0 ask /Class:0/Use:0 meant()
+0 token /Class:3 Name "d"
+0 ask / wrong()
+""", """\
+0 = 20
+0 ok 1
+0 = /Class:1
+0 ok 2
+0 = 20
 """),
 ]

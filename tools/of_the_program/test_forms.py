@@ -77,6 +77,11 @@ AGREEING = [
 ]
 
 
+def work_of(options: str, count: int) -> bytes:
+    """What is told of that much work; with cut-off all of it is made, where nothing is kept again."""
+    return "".join(f"{it} {count}\n" for it in ("work", *(["made"] if "--cut-off" in options else []))).encode()
+
+
 class Forms(ProgramTest):
     """What `circular` means where it is read, and what is told of it where it isn't."""
 
@@ -97,7 +102,7 @@ class Forms(ProgramTest):
             for name, answer, work in ANSWERS:
                 with self.subTest(f"{name} {options}"):
                     told = self.told(options, f"0 ask / {name}()\n".encode())
-                    self.assertEqual(told, (f"0 {answer}\n".encode(), f"work {work}\n".encode()))
+                    self.assertEqual(told, (f"0 {answer}\n".encode(), work_of(options, work)))
 
     def test_each_question_behind_the_others(self) -> None:
         """Those that come later find what was kept, and are told the same; so they are where they are posted, in any order."""
@@ -111,7 +116,7 @@ class Forms(ProgramTest):
     def test_a_value_goes_with_what_it_began_from(self) -> None:
         for options in KEEPERS:
             with self.subTest(options):
-                self.assertEqual(self.told(options, EDITED), (b"0 = true\n0 ok 1\n0 = false\n0 ok 2\n0 = true\n", b"work 9\n"))
+                self.assertEqual(self.told(options, EDITED), (b"0 = true\n0 ok 1\n0 = false\n0 ok 2\n0 = true\n", work_of(options, 9)))
 
     def assert_verdict(self, options: List[str], text: str, told: str) -> None:
         """The aspects are refused with this text, where it isn't empty, and else accepted."""

@@ -1,7 +1,12 @@
 """Whole sessions with each keeper: their replies, and the work that they cost; and over trees, and of lines, that are built."""
+import re
+
 from tools.of_the_program.keeping import KeepingTest
-from tools.of_the_program.sessions import CALCULATOR, KEPT_AGAIN, LOST, OPTIONAL, REUSED, SESSIONS, SIGNS, Sample, Session
+from tools.of_the_program.sessions import CALCULATOR, CLASSES, KEPT_AGAIN, LOST, MADE, OPTIONAL, REUSED, SESSIONS, SIGNS, Sample, Session
 from tools.starve import KEEPERS
+
+# What is told of the work with cut-off.
+COUNTED = re.compile(r"(work (\d+)\n)made (\d+)\n")
 
 # A question for sixteen times a name, which is changed to that one before.
 NAMED = '0 token /Block/Stmt:1/Expr/Left ID "{}"\n0 ask /Block/Stmt:1/Expr/Left d4()\n'
@@ -44,19 +49,25 @@ class Sessions(KeepingTest):
 
     def assert_all(self, sample: Sample, *sessions: Session) -> None:
         """The sessions over the sample have their replies with each keeper. With the two that keep all the work is the same, and what
-        they tell, where they tell it."""
+        they tell, where they tell it; and of that work no more is made with cut-off, and as much as they tell."""
         files = self.write(sample)
         for session in sessions:
             with self.subTest(session.name):
                 told = {it: self.played(it, 1, files, session.lines) for it in self.keepers}
                 self.assertEqual({it: replies for it, (replies, _) in told.items()}, dict.fromkeys(self.keepers, session.replies))
-                kept, again = told["over-edits"][1], told["cut-off"][1]
-                self.assertEqual([kept, again], [kept if session.work is None else f"work {session.work}\n"] * 2)
+                kept, again = told["over-edits"][1], COUNTED.fullmatch(told["cut-off"][1])
+                assert again
+                self.assertEqual([kept, again[1]], [kept if session.work is None else f"work {session.work}\n"] * 2)
+                self.assertLessEqual(int(again[3]), int(again[2]))
+                self.assertIn(session.made, (None, int(again[3])))
 
     def test_sessions_have_their_replies_and_work(self) -> None:
         self.assert_all(CALCULATOR, *SESSIONS, *KEPT_AGAIN)
         self.assert_all(OPTIONAL, *REUSED)
         self.assert_all(SIGNS, *LOST)
+
+    def test_what_is_made_has_a_reason(self) -> None:
+        self.assert_all(CLASSES, *MADE)
 
     def test_what_is_built_has_its_replies_and_work(self) -> None:
         self.assert_all(CALCULATOR, *BUILT)

@@ -82,9 +82,11 @@ class CutOff(ProgramTest):
     def test_replies_and_work_are_the_same(self) -> None:
         sent = KEPT_BY_TURNS + b"0 token /Left Value 3\n0 ask /Left twice()\n0 ask /Right twice()\n"
         told = []
-        for options in "", "--cut-off", "--cut-off --keep 2":
+        for options, made in ("", b""), ("--cut-off", b"made 3\n"), ("--cut-off --keep 2", b"made 3\n"):
             run = self.begin([*options.split(), "--work", *THREE, "lazy.jrag"])
-            told.append((run.communicate(sent, timeout=SECONDS), run.returncode))
+            out, err = run.communicate(sent, timeout=SECONDS)
+            self.assertTrue(err.endswith(made))
+            told.append((out, err.removesuffix(made), run.returncode))
         self.assertEqual(told[1:], told[:1] * 2)
 
 

@@ -1,7 +1,10 @@
 //! Instances: attributes of nodes, with arguments.
 
 ghost use Rattle.std.specs.Prelude.{◌≡◌, IfOk, map};
-ghost use Rattle.at_body.specs.Same.{place_number};
+ghost use Rattle.std.specs.Cmp.Lexicographic.{pointwise};
+ghost use Rattle.std.specs.Hash as fed;
+ghost use Rattle.std.specs.List.{fold};
+ghost use Rattle.at_body.specs.Same.{place_number, same_value, value_writes};
 ghost use Rattle.at_body.specs.Values.{value_view};
 
 use super::arguments::Arguments;
@@ -100,6 +103,25 @@ impl Inst {
     }
 }
 
+// Whether the arguments are the same. Of most attributes nothing more is to be compared.
+#[inline(always)]
+fn are_same(passed: &[Value], others: &[Value]) -> bool
+    ensures { result ≡ pointwise (λ v w. same_value (value_view v) (value_view w)) passed.now others.now }
+{
+    if passed.is_empty() {
+        return others.is_empty();
+    }
+    passed == others
+}
+
+// Feeds arguments, of which most attributes have none.
+#[inline(never)]
+fn feed<H: Hasher>(passed: &[Value], state: &mut H)
+    ensures { state.new ≡ fold H.write state.old (fed.slice (λ v. value_writes (value_view v)) passed.now) }
+{
+    passed.hash(state);
+}
+
 impl PartialEq for Inst {
     ghost use Rattle.std.specs.Cmp.{partial_equiv_from_equiv};
     ghost use Rattle.at_body.specs.Same.{same_instance};
@@ -113,7 +135,7 @@ impl PartialEq for Inst {
         if self.node != other.node || self.attribute != other.attribute {
             return false;
         }
-        self.arguments.as_slice() == other.arguments.as_slice()
+        are_same(self.arguments.as_slice(), other.arguments.as_slice())
     }
 }
 
@@ -136,7 +158,7 @@ impl Hash for Inst {
         let passed = self.arguments.as_slice();
         // Of most attributes nothing more is to be fed.
         if !passed.is_empty() {
-            passed.hash(state);
+            feed(passed, state);
         }
     }
 }

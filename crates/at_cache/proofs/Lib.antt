@@ -27,6 +27,6 @@ pub mod RowEdges
 pub mod RowLists
 pub mod NoRows
 pub mod Came
-mod of_cut
+pub mod of_cut
 mod of_folding
 mod of_runs

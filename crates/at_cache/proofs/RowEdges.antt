@@ -1,6 +1,7 @@
 -- The edges of a row, from its front and to its end.
-use Rattle.std.proofs.Common.{◌≡◌, ℕ, zero, suc, ◌+◌, ◌-◌, ◌*◌, ◌%◌, ◌^◌, ◌<◌, List, [], ◌∷◌, ◌++◌, nat_eq, true, false, length, Contains, arith, refl, sym, ap, ◌∙◌, subst, add-zero, add-suc, add_assoc, mod-eq_of_lt}
-use Rattle.std.proofs.lemmas.List.Elements.{Contains-push}
+use Rattle.std.proofs.Common.{◌≡◌, inl, inr, ℕ, zero, suc, ◌+◌, ◌-◌, ◌*◌, ◌%◌, ◌^◌, ◌<◌, List, [], ◌∷◌, ◌++◌, nat_eq, true, false, length, Contains, arith, refl, sym, ap, ◌∙◌, subst, add-zero, add-suc, add_assoc, mod-eq_of_lt}
+use Rattle.std.proofs.lemmas.Bool.{cases_lt}
+use Rattle.std.proofs.lemmas.List.Elements.{Contains-append_left, Contains-push}
 use native.Mathlib.Nat.{zero-mul, one-mul, suc-mul, add_comm, mod-add-mod, suc-add, zero-add}
 use Rattle.at_cache.specs.declared.edge.Edge.{Edge}
 use Rattle.at_cache.specs.Rows.{edge_at, edges_from}
@@ -83,3 +84,13 @@ ends_so f x s n place way slot stamp counts far p q =
     let all : edges_from f s 0 n ≡ edges_from f s 0 place ++ x ∷ [] = ap (edges_from f s 0) counts ∙ one_more f s 0 place
     ∙ ap (λ y. edges_from f s 0 place ++ y ∷ []) here in
     subst (λ es. Contains es x) (sym all) (Contains-push (edges_from f s 0 place) x)
+
+-- the edge is one of them
+pub stands_so : (f x : Edge) (s n place way : ℕ) → x.slot < 2 ^ 32 → x.stamp < 2 ^ 64 → place < n → way ≡ place * s
+    → x.slot ≡ f.slot + way → x.stamp ≡ f.stamp + way → Contains (edges_from f s 0 n) x
+stands_so f x s zero place way slot stamp less far p q = absurd (omega (arith, less))
+stands_so f x s (suc n) place way slot stamp less far p q = elim (cases_lt place n) [
+  | inl is ↦ subst (λ es. Contains es x) (sym (one_more f s 0 n))
+      (Contains-append_left (edges_from f s 0 n) (edge_at f s (0 + n) ∷ []) x (stands_so f x s n place way slot stamp is far p q))
+  | inr over ↦ ends_so f x s (suc n) place way slot stamp (omega (arith, less, over)) far p q
+]

@@ -1,5 +1,6 @@
 -- What is told of the entry in a slot.
-use Rattle.std.proofs.Common.{◌≡◌, ℕ, Bool, false, ◌&&◌, not, nat_eq, Option, None, Some, option_map, ap, sym}
+use Rattle.std.proofs.Common.{◌≡◌, ℕ, Bool, false, ◌&&◌, not, nat_eq, Option, None, Some, option_map, ap, sym, ◌∙◌}
+use Rattle.std.proofs.lemmas.Option.{same_Some}
 use Rattle.at_model.specs.Run.{Instance, Value}
 use Rattle.at_body.specs.Values.{value_view}
 use Rattle.at_cache.specs.declared.edge.Edge.{Edge}
@@ -26,3 +27,7 @@ module _ (x : Edge) where
 -- the entry has that value
 pub value_told : (o : Option (Instance ℕ × Entry)) (e : Instance ℕ × Entry) (v : Option (Value ℕ)) → Some e ≡ o → option_map value_view e.1.value ≡ v → (x : Info) × (option_map info o ≡ Some x) × (x.value ≡ v)
 value_told o e v h is = (info e, ap (option_map info) (sym h), is)
+
+pub value_other : (o : Option (Instance ℕ × Entry)) (e : Instance ℕ × Entry) (v : Option (Value ℕ)) → Some e ≡ o
+    → (option_map value_view e.1.value ≡ v → ⊥) → (x : Info) → option_map info o ≡ Some x → x.value ≡ v → ⊥
+value_other o e v h differs x is same = differs (ap (λ (y : Info). y.value) (same_Some (info e) x (ap (option_map info) h ∙ is)) ∙ same)

@@ -21,5 +21,6 @@ pub mod Retraced
 pub mod Seeing
 pub mod Shed
 pub mod Slotted
+pub mod Spared
 pub mod Tying
 pub mod Untraced

@@ -5,6 +5,7 @@ pub mod Gathering
 pub mod Linking
 pub mod Made
 pub mod Nodes
+pub mod Parting
 pub mod Places
 pub mod Reheld
 pub mod Relinking

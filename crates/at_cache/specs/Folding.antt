@@ -90,10 +90,18 @@ pub record Gathered (there : Edge → Bool) (into : ℕ → List ℕ) (edges : L
   pub has : (x : Edge) (r : ℕ) → Contains edges x → there x ≡ true → Contains (into x.slot) r → Contains new r
   pub from : (r : ℕ) → Contains new r → Contains old r ⊎ HasUser there into edges r
 
--- These edges tell of the entries in the slots that are there, and of no others.
-pub record AreEdgesTo (m : Memory) (slots : List ℕ) (edges : List Edge) : Type 0 where
+-- Of a list some edges are kept, each of which tells of an entry that is folded into itself alone, and the slots are gathered of all into which
+-- those are folded that the others tell of.
+pub record Parted (m : Memory) (into : ℕ → List ℕ) (edges : List Edge) (slots : List ℕ) (kept : List Edge) : Type 0 where
+  pub has : (x y : Edge) → Contains edges x → is_current m x ≡ true → Contains (into x.slot) y.slot → is_current m y ≡ true → Contains kept y ⊎ Contains slots y.slot
+  pub from : (y : Edge) → Contains kept y → (is_current m y ≡ true) × HasUser (is_current m) into edges y.slot
+  pub users : (r : ℕ) → Contains slots r → HasUser (is_current m) into edges r
+
+-- These edges are those that were kept, and edges that tell of the entries in the slots that are there.
+pub record Added (m : Memory) (kept : List Edge) (slots : List ℕ) (edges : List Edge) : Type 0 where
+  pub keeps : (y : Edge) → Contains kept y → is_current m y ≡ true → Contains edges y
   pub has : (y : Edge) → Contains slots y.slot → is_current m y ≡ true → Contains edges y
-  pub from : (y : Edge) → Contains edges y → (is_current m y ≡ true) × Contains slots y.slot
+  pub from : (y : Edge) → Contains edges y → Contains kept y ⊎ ((is_current m y ≡ true) × Contains slots y.slot)
 
 -- The new list has a current edge to each entry into which one is folded of which the old one told, and no others.
 pub record Refolded (there : Edge → Bool) (into : ℕ → List ℕ) (old new : List Edge) : Type 0 where

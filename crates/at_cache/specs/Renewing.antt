@@ -12,7 +12,18 @@ use Rattle.at_cache.specs.Putting.{users_at}
 use Rattle.at_cache.specs.Kept.{KeepsAll}
 use Rattle.at_cache.specs.Recorded.{IsIndexed}
 use Rattle.at_cache.specs.Standings.{AreValued, IsTied, but_for, held, kept_held, remembered, standing_of}
-use Rattle.at_cache.specs.Traced.{StayTraced}
+use Rattle.at_cache.specs.Traced.{KeepsTrace, StayTraced}
+
+-- an edge to those that used what is in the slot tells of the entry in k
+pub record IsUser (m : Memory) (slot k : ℕ) (e : Info) : Type 0 where
+  pub edge : Edge
+  pub among : Contains (users_at m slot) edge
+  pub there : edge.slot ≡ k
+  pub stamp : e.stamp ≡ edge.stamp
+
+-- the value of what is in the slot is another one
+abbrev pub IsAnother : Memory → (slot : ℕ) → Option (Value ℕ) → Type 0
+IsAnother m slot value = (f : Info) → m slot ≡ Some f → f.value ≡ value → ⊥
 
 -- All stays as it is but that no entry is traced that an edge to those that used the one in the slot tells of.
 pub record LosesUsers (slot : ℕ) (standings : List Standing) (m : Memory) (later : List Standing) (n : Memory) : Type 0 where
@@ -21,6 +32,8 @@ pub record LosesUsers (slot : ℕ) (standings : List Standing) (m : Memory) (lat
   pub fewer : (k : ℕ) (e : Info) → m k ≡ Some e → (standing_of later k).traced ≡ true → (standing_of standings k).traced ≡ true
   pub room : length later ≡ length standings
   pub lost : (x : Edge) → Contains (users_at m slot) x → (e : Info) → m x.slot ≡ Some e → e.stamp ≡ x.stamp → (standing_of later x.slot).traced ≡ false
+  pub spared : (k : ℕ) (e : Info) → m k ≡ Some e → (k ≡ slot → ⊥) → (standing_of standings k).traced ≡ true
+      → ((standing_of later k).traced ≡ true) ⊎ IsUser m slot k e
 
 -- All stays as it is but that no entry is traced that used the one in the slot, if that has another value.
 pub record Compares (slot : ℕ) (value : Option (Value ℕ)) (standings : List Standing) (m : Memory) (later : List Standing) (n : Memory) : Type 0 where
@@ -30,6 +43,8 @@ pub record Compares (slot : ℕ) (value : Option (Value ℕ)) (standings : List 
   pub room : length later ≡ length standings
   pub changed : (e : Info) → m slot ≡ Some e → (e.value ≡ value)
       ⊎ ((x : Edge) → Contains e.users x → (f : Info) → m x.slot ≡ Some f → f.stamp ≡ x.stamp → (standing_of later x.slot).traced ≡ false)
+  pub spared : (k : ℕ) (e : Info) → m k ≡ Some e → (k ≡ slot → ⊥) → (standing_of standings k).traced ≡ true
+      → ((standing_of later k).traced ≡ true) ⊎ (IsUser m slot k e × IsAnother m slot value)
 
 -- the slot is that of the instance's entry, or the next one
 abbrev pub IsSlotFor : Table → Instance ℕ → (slot : ℕ) → Type 0
@@ -51,6 +66,8 @@ pub record StaysAwaited (lists : Location ℕ → List Edge) (t : Table) (standi
   pub awaited : IsAwaited lists n later next i slot
   pub keeps : KeepsAll (kept_held lists t standings puts) (kept_held lists n later next)
   pub traced : StayTraced (remembered lists t standings) (remembered lists n later)
+  pub others : (j : Instance ℕ) → (i ≡ j → ⊥) → KeepsTrace j (remembered lists t standings) (remembered lists n later)
+  pub last : (j : Instance ℕ) → (remembered lists n later).last j ≡ (remembered lists t standings).last j
 
 -- An entry with these comes into the slot, or in place of what is there; with the users of that. The others stay, and what used what
 -- was there isn't traced, if that had another value.
@@ -67,3 +84,5 @@ pub record PutsIn (slot : ℕ) (instance : Instance ℕ) (value : Option (Value 
   pub room : length later ≡ length standings
   pub changed : (e : Info) → m slot ≡ Some e → (e.value ≡ value)
       ⊎ ((x : Edge) → Contains e.users x → (f : Info) → m x.slot ≡ Some f → f.stamp ≡ x.stamp → (standing_of later x.slot).traced ≡ false)
+  pub spared : (k : ℕ) (e : Info) → m k ≡ Some e → (k ≡ slot → ⊥) → (standing_of standings k).traced ≡ true
+      → ((standing_of later k).traced ≡ true) ⊎ (IsUser m slot k e × IsAnother m slot value)

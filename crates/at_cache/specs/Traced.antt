@@ -1,5 +1,5 @@
 -- What a keeper remembers beside what it keeps, so that a value can be kept again where nothing that it rests on has changed.
-use Rattle.std.specs.Prelude.{◌≡◌, ◌⊎◌, ◌++◌, ◌∷◌, ℕ, zero, suc, List, Bool, true, false, Option, Some, None, IsSome, Contains}
+use Rattle.std.specs.Prelude.{◌≡◌, ◌≢◌, ◌⊎◌, ◌++◌, ◌∷◌, ℕ, zero, suc, List, Bool, true, false, Option, Some, None, IsSome, Contains}
 use Rattle.std.specs.List.{list_any}
 use Rattle.at_model.specs.Run.{Value, Instance, Location}
 use Rattle.at_cache.specs.declared.keeper.Order.{Order}
@@ -50,6 +50,45 @@ PutsTrace i v reads uses o old new = (j : Instance ℕ) (t : Trace) → new.trac
 abbrev pub FlushesTraces : (says : Location ℕ → Bool → Type 0) (old new : Memories) → Type 0
 FlushesTraces says old new = (i : Instance ℕ) (t : Trace) → new.traced i ≡ Some t
     → IsStill old new i t × ((l : Location ℕ) → t.reads l ≡ true → says l false)
+
+-- something that was used for the trace has another last value since
+pub record IsOutdated (old new : Memories) (t : Trace) : Type 0 where
+  pub one : Instance ℕ
+  pub used : Contains t.uses one
+  pub another : new.last one ≢ old.last one
+
+-- The trace is there still, or outdated.
+abbrev pub IsSpared : (old new : Memories) → Instance ℕ → Trace → Type 0
+IsSpared old new i t = (new.traced i ≡ Some t) ⊎ IsOutdated old new t
+
+-- whether what is put so can't be kept again any more
+abbrev pub is_settled : Order → Bool
+is_settled order.AsTaken = true
+is_settled order.Any = true
+is_settled order.InTurns = false
+
+-- Where i was put, each other trace is spared; and no last value is another one but that of i, which has an entry then.
+pub record SparesOthers (i : Instance ℕ) (after : Entries) (old new : Memories) : Type 0 where
+  pub spares : (j : Instance ℕ) (t : Trace) → (i ≡ j → ⊥) → old.traced j ≡ Some t → IsSpared old new j t
+  pub last : (u : Instance ℕ) → (new.last u ≡ old.last u) ⊎ ((i ≡ u) × IsSome (after i))
+
+-- what a keeper remembers that traces nothing
+abbrev pub untraced_by : Entries → Memories
+untraced_by entries = record { traced = λ _. None; last = λ i. value_at (entries i) }
+
+-- the trace of i is there still, if there is one
+abbrev pub KeepsTrace : Instance ℕ → (old new : Memories) → Type 0
+KeepsTrace i old new = (t : Trace) → old.traced i ≡ Some t → new.traced i ≡ Some t
+
+-- An edit takes no trace but those for which a location with the answer `true` was looked at.
+abbrev pub SparesAtEdit : (says : Location ℕ → Bool → Type 0) (old new : Memories) → Type 0
+SparesAtEdit says old new = (i : Instance ℕ) (t : Trace) → old.traced i ≡ Some t
+    → (new.traced i ≡ Some t) ⊎ ((l : Location ℕ) × (t.reads l ≡ true) × says l true)
+
+-- the same traces, and the same last values
+pub record AreAlike (old new : Memories) : Type 0 where
+  pub traced : (i : Instance ℕ) → new.traced i ≡ old.traced i
+  pub last : (i : Instance ℕ) → new.last i ≡ old.last i
 
 -- a value of each of the instances is kept
 abbrev pub AreAllKept : Entries → List (Instance ℕ) → Type 0

@@ -15,8 +15,8 @@ use crate::table::Table;
 use at_body::Inst;
 use std::alloc::{AllocError, Global};
 
-/// Whether the entry of the instance is in the slot.
-pub fn is_its(entries: &Table, instance: &Inst, slot: Slot) -> bool
+// Whether the entry of the instance is in the slot.
+fn is_its(entries: &Table, instance: &Inst, slot: Slot) -> bool
     ensures { IsTrue result → HasSlot entries.now instance.now slot }
 {
     match entries.pair(slot) {
@@ -55,6 +55,16 @@ fn looked_up(entries: &Table, instance: &Inst) -> Option<Slot>
         Some(entry) => Some(entry.slot),
         None => None,
     }
+}
+
+/// The slot of the instance's entry, which may be this one.
+pub fn slot_by(entries: &Table, instance: &Inst, near: Slot) -> Option<Slot>
+    ensures { result ≡ option_map (λ e. e.slot) (lookup (same_instance instance.now) entries.now.entries.entries) }
+{
+    if is_its(entries, instance, near) {
+        return Some(near);
+    }
+    looked_up(entries, instance)
 }
 
 // The slot of the instance's entry, which may be at that place of these, or at the next one.

@@ -1,10 +1,12 @@
 //! Entries that stay in memory where they aren't kept.
 
-ghost use Rattle.std.specs.Prelude.{◌≡◌, option_copied};
+ghost use Rattle.std.specs.Prelude.{◌≡◌, Some, false, is_some, option_copied};
 ghost use Rattle.std.specs.Map.{lookup};
 ghost use Rattle.at_body.specs.Same.{same_instance};
+ghost use Rattle.at_cache.specs.Info.{Info, memory_of};
 ghost use Rattle.at_cache.specs.Standings.{but_for, held_of, is_shown, standing_of};
 
+use crate::again::slot_by;
 use crate::edge::Slot;
 use crate::entry::Entry;
 use crate::standing::{Standing, standing_at};
@@ -78,6 +80,26 @@ impl Cut {
             Some(entry)
         } else {
             None
+        }
+    }
+
+    /// Whether the entry in the slot can be kept again, if there is one.
+    pub fn is_traced(&self, slot: Slot) -> bool
+        ensures { result ≡ false → (e : Info) → memory_of self.now.entries slot ≡ Some e → (standing_of self.now.standings.items slot).traced ≡ false }
+    {
+        if !self.entries.is_taken(slot) {
+            return false;
+        }
+        standing_at(self.standings.as_slice(), slot).traced
+    }
+
+    /// Whether the entry of the instance is kept; it may be in this slot.
+    pub fn is_held(&self, instance: &Inst, near: Slot) -> bool
+        ensures { result ≡ is_some (held_of self.now.standings.items (lookup (same_instance instance.now) self.now.entries.entries.entries)) }
+    {
+        match slot_by(&self.entries, instance, near) {
+            Some(slot) => standing_at(self.standings.as_slice(), slot).holds,
+            None => false,
         }
     }
 

@@ -1,12 +1,13 @@
 //! The keeper that takes no more than a number of entries through an edit.
 
-ghost use Rattle.std.specs.Prelude.{◌≡◌, ◌≤◌, ◌-◌, ◌^◌, min, None, OnErr, IfOk, false, true, map, option_map};
+ghost use Rattle.std.specs.Prelude.{◌≡◌, ◌≤◌, ◌-◌, ◌^◌, min, None, OnErr, OnOk, IfOk, false, true, map, option_map};
 ghost use Rattle.at_body.specs.Values.{value_view};
 ghost use Rattle.at_store.specs.Located.{loc_view};
 ghost use Rattle.at_cache.specs.Info.{memory_of, table_len};
 ghost use Rattle.at_cache.specs.Stored.{reads_held};
 ghost use Rattle.at_cache.specs.Bound.{ForgetsOver, kept_by};
 ghost use Rattle.at_cache.specs.Folding.{LeavesKept};
+ghost use Rattle.at_cache.specs.Traced.{KeepsTrace, SparesOthers, is_settled, untraced_by};
 ghost use Rattle.at_cache.specs.Kept.{Answers, AreKept, AreNamed, HasPut, KeepsAll, LeavesUntouched, value_at};
 
 use crate::keep_recorded::KeepRecorded;
@@ -16,9 +17,9 @@ use at_store::{Loc, Places};
 use std::alloc::{AllocError, Global};
 use std::mem;
 
-/// Keeps what a `KeepRecorded` keeps, but folds entries into those that used them at an edit that finds more than a number, so that about three
-/// quarters of it are left, or fewer; where that can't be all is forgotten. One wants it where a session is long: values that are asked no
-/// more, and that no edit touches, else stay for ever.
+/// Keeps what a `KeepRecorded` keeps, but folds entries into those that used them at an edit that finds more than a number, so that about two
+/// thirds of it are left, three quarters where it finds many more, or fewer; where that can't be all is forgotten. One wants it where a session
+/// is long: values that are asked no more, and that no edit touches, else stay for ever.
 pub struct KeepAtMost {
     alloc: Global,
     most: usize,
@@ -39,6 +40,17 @@ impl Drop for KeepAtMost {
             limit: _,
         } = self;
     }
+}
+
+// How many entries are to be left of so many. Where there are more than an eighth beyond the bound, edits like the last one fold each,
+// however few are left, and so more are.
+fn count_left(most: usize, count: usize) -> usize {
+    let room = if count.saturating_sub(most) > most / 8 {
+        most / 4
+    } else {
+        most / 3
+    };
+    most.saturating_sub(room)
 }
 
 impl KeepAtMost {
@@ -67,8 +79,8 @@ impl KeepAtMost {
             return;
         }
         let keeper = mem::replace(&mut self.keeper, KeepRecorded::empty(self.alloc));
-        let Ok((keeper, limit)) = keeper.folded(self.most - self.most / 4, self.since, self.limit)
-        else {
+        let left = count_left(self.most, keeper.len());
+        let Ok((keeper, limit)) = keeper.folded(left, self.since, self.limit) else {
             return;
         };
         self.limit = limit;
@@ -122,6 +134,9 @@ impl Keeper for KeepAtMost {
         requires present { AreKept (kept_by self.old) uses.now }
         ensures puts { IfOk result (HasPut true (kept_by self.old) inst (option_map value_view value) (map loc_view reads.now) uses.now (kept_by self.new)) }
         ensures err { OnErr result (KeepsAll (kept_by self.old) (kept_by self.new)) }
+        ensures spares { SparesOthers inst (kept_by self.new) (untraced_by (kept_by self.old)) (untraced_by (kept_by self.new)) }
+        ensures own { is_settled order ≡ true → KeepsTrace inst (untraced_by (kept_by self.old)) (untraced_by (kept_by self.new)) }
+        ensures anew { is_settled order ≡ true → OnOk result ((untraced_by (kept_by self.old)).traced inst ≡ None) }
         ensures bound { self.new.most ≡ self.old.most }
     {
         self.keeper.put(inst, value, reads, uses, order)

@@ -1,17 +1,17 @@
 //! The keeper that takes what an edit may have changed as changed only where it did.
 
-ghost use Rattle.std.specs.Prelude.{◌≡◌, ◌≤◌, ◌^◌, IfOk, IfSome, length, None, true};
+ghost use Rattle.std.specs.Prelude.{◌≡◌, ◌≤◌, ◌^◌, IfOk, IfSome, length, None, Some, false, true};
 ghost use Rattle.at_cache.specs.Asking.{AreNoted};
-ghost use Rattle.at_cache.specs.Info.{memory_of, table_len};
+ghost use Rattle.at_cache.specs.Info.{Info, memory_of, table_len};
 ghost use Rattle.at_cache.specs.Kept.{Answers, AreNamed, KeepsAll, LeavesUntouched, LosesTouched};
 ghost use Rattle.at_cache.specs.Finding.{edges_to};
 ghost use Rattle.at_cache.specs.Recorded.{IsIndexed};
 ghost use Rattle.at_cache.specs.Shedding.{AreHeld, Shrinks, kept_cut, remembered_cut};
-ghost use Rattle.at_cache.specs.Standings.{AreValued, IsTied, held, kept_held, last_is, remembered};
+ghost use Rattle.at_cache.specs.Standings.{AreValued, IsTied, held, kept_held, last_is, remembered, standing_of};
 ghost use Rattle.at_cache.specs.Theirs.{HasSlot};
-ghost use Rattle.at_cache.specs.Traced.{FlushesTraces, TracesNothing};
+ghost use Rattle.at_cache.specs.Traced.{FlushesTraces, SparesAtEdit, TracesNothing, is_settled};
 
-use crate::again::is_its;
+use crate::again::slot_by;
 use crate::blocking::blocking;
 use crate::choosing::choose;
 use crate::cut::{Cut, Pass};
@@ -45,6 +45,8 @@ pub struct KeepCutOff {
     puts: u64,
     // Where the entry may be that is asked for next: the last one that was to be kept again. Nothing rests on it.
     near: Slot,
+    // Where that may be that stood in its way, or itself. Nothing rests on it.
+    stuck: Slot,
     // Whether there ever was an edit; before that there is nothing to be kept again. Nothing rests on it.
     doubtful: bool,
     ghost indexed: { IsIndexed (edges_to readers) puts (held cut.standings.items (memory_of cut.entries)) },
@@ -63,6 +65,7 @@ impl Drop for KeepCutOff {
             index_read: _,
             puts: _,
             near: _,
+            stuck: _,
             doubtful: _,
         } = self;
     }
@@ -90,6 +93,7 @@ impl KeepCutOff {
             index_read: Vec::new(alloc),
             puts: 0,
             near: 0,
+            stuck: 0,
             doubtful: false,
         }
     }
@@ -98,11 +102,18 @@ impl KeepCutOff {
     fn slot_of(&self, inst: &Inst) -> Option<Slot>
         ensures { IfSome result (HasSlot self.now.cut.entries inst.now) }
     {
-        if is_its(&self.cut.entries, inst, self.near) {
-            return Some(self.near);
+        slot_by(&self.cut.entries, inst, self.near)
+    }
+
+    // Whether what is in the slot can be kept again, where it is to be put as what can't.
+    fn is_waiting(&self, slot: Slot, order: Order) -> bool
+        ensures { result ≡ false → is_settled order ≡ true → (e : Info) → memory_of self.now.cut.entries slot ≡ Some e
+            → (standing_of self.now.cut.standings.items slot).traced ≡ false }
+    {
+        if !order.is_settled() {
+            return false;
         }
-        let entry = self.cut.entries.get(inst)?;
-        Some(entry.slot)
+        self.cut.is_traced(slot)
     }
 
     /// How many numbers were given.
@@ -140,6 +151,7 @@ impl KeepCutOff {
             index_read,
             puts,
             near,
+            stuck,
             doubtful,
         } = self;
         shed(&mut cut.entries, cut.standings.as_slice())?;
@@ -150,6 +162,7 @@ impl KeepCutOff {
             index_read,
             puts,
             near,
+            stuck,
             doubtful,
         })
     }
@@ -184,6 +197,7 @@ impl KeepCutOff {
             index_read,
             puts,
             near,
+            stuck,
             doubtful,
         } = self;
         fold(alloc, &mut cut.entries, &mut readers, plan)?;
@@ -195,6 +209,7 @@ impl KeepCutOff {
             index_read,
             puts,
             near,
+            stuck,
             doubtful,
         })
     }
@@ -222,7 +237,7 @@ impl Keeper for KeepCutOff {
     }
 
     fn stands(&self, inst: &Inst) -> bool {
-        self.cut.held(inst).is_some()
+        self.cut.is_held(inst, self.stuck)
     }
 
     fn put(
@@ -233,7 +248,12 @@ impl Keeper for KeepCutOff {
         uses: &[Inst],
         order: Order,
     ) -> Result<Put, AllocError> {
-        let slot = slot_for(&self.cut.entries, &inst)?;
+        let stuck = self.stuck;
+        let slot = slot_for(&self.cut.entries, &inst, stuck)?;
+        // Never so: what it used is kept where its evaluation has ended, and so it was kept again.
+        if self.is_waiting(slot, order) {
+            return Err(AllocError);
+        }
         let known = outdate(self.alloc, &mut self.cut, &mut self.puts, slot);
         let stamp = self.puts;
         if stamp == u64::MAX {
@@ -259,14 +279,13 @@ impl Keeper for KeepCutOff {
         if !self.doubtful {
             return work;
         }
-        let Some(entry) = self.cut.entries.get(inst) else {
+        let Some(slot) = self.slot_of(inst) else {
             return work;
         };
-        let slot = entry.slot;
-        self.near = slot;
         let mut counts = Counts {
             puts: self.puts,
             work,
+            stuck: slot,
         };
         settle_at(
             &self.cut.entries,
@@ -275,6 +294,8 @@ impl Keeper for KeepCutOff {
             slot,
             LEVELS,
         );
+        self.near = slot;
+        self.stuck = counts.stuck;
         self.puts = counts.puts;
         counts.work
     }
@@ -304,6 +325,8 @@ impl Keeper for KeepCutOff {
             (kept_cut (edges_to self.new.readers) self.new.cut self.new.puts) }
         ensures traces { FlushesTraces (Answers (F.post touched.now)) (remembered_cut (edges_to self.old.readers) self.old.cut)
             (remembered_cut (edges_to self.new.readers) self.new.cut) }
+        ensures spares { SparesAtEdit (Answers (F.post touched.now)) (remembered_cut (edges_to self.old.readers) self.old.cut)
+            (remembered_cut (edges_to self.new.readers) self.new.cut) }
         ensures len { table_len self.new.cut.entries ≡ table_len self.old.cut.entries }
     {
         self.doubtful = true;
@@ -320,6 +343,8 @@ impl Keeper for KeepCutOff {
         ensures loses { LosesTouched (Answers (F.post touched.now)) (kept_cut (edges_to self.old.readers) self.old.cut self.old.puts)
             (kept_cut (edges_to self.new.readers) self.new.cut self.new.puts) }
         ensures traces { FlushesTraces (Answers (F.post touched.now)) (remembered_cut (edges_to self.old.readers) self.old.cut)
+            (remembered_cut (edges_to self.new.readers) self.new.cut) }
+        ensures spares { SparesAtEdit (Answers (F.post touched.now)) (remembered_cut (edges_to self.old.readers) self.old.cut)
             (remembered_cut (edges_to self.new.readers) self.new.cut) }
         ensures len { table_len self.new.cut.entries ≡ table_len self.old.cut.entries }
     {

@@ -1,12 +1,12 @@
 //! What every keeper does.
 
-ghost use Rattle.std.specs.Prelude.{◌≡◌, ◌+◌, ◌-◌, ◌^◌, ℕ, Option, None, Some, Bool, IsTrue, IfOk, IfSome, OnErr, is_some, map, min};
+ghost use Rattle.std.specs.Prelude.{◌≡◌, ◌+◌, ◌-◌, ◌^◌, ℕ, Option, None, Some, Bool, IsTrue, IfOk, IfSome, OnErr, OnOk, is_some, map, min, true};
 ghost use Rattle.std.specs.Option.{option_map};
 ghost use Rattle.at_model.specs.Run.{Instance, Value};
 ghost use Rattle.at_body.specs.Values.{value_view};
 ghost use Rattle.at_store.specs.Located.{loc_view};
 ghost use Rattle.at_cache.specs.Kept.{AreNamed, Kept, KeepsAll, HasPut, AreKept, Answers, LeavesUntouched, LosesTouched, value_at};
-ghost use Rattle.at_cache.specs.Traced.{FlushesTraces, IsNext, Memories, PutsTrace, Settled, StayTraced};
+ghost use Rattle.at_cache.specs.Traced.{AreAlike, FlushesTraces, IsNext, KeepsTrace, Memories, PutsTrace, Settled, SparesAtEdit, SparesOthers, StayTraced, is_settled};
 
 use at_body::{Inst, Value};
 use at_store::{Loc, Places};
@@ -28,6 +28,21 @@ pub enum Order {
     AsTaken,
     /// In any order.
     Any,
+    /// In any order, by a question in turns, which looks for nothing that can be kept again.
+    InTurns,
+}
+
+impl Order {
+    /// Whether what is put so can't be kept again any more.
+    pub fn is_settled(self) -> bool
+        ensures { result ≡ is_settled self }
+    {
+        match self {
+            Order::AsTaken => true,
+            Order::Any => true,
+            Order::InTurns => false,
+        }
+    }
 }
 
 /// Keeps values of instances, each with the locations that it stands for. An entry may be without a value: then it only stands for
@@ -54,7 +69,8 @@ pub trait Keeper: Drop {
         ensures { result ≡ is_some (contents self.now inst.now) };
 
     /// Makes the entry of an instance that has none, with its value where that is kept, for the locations in `reads` and those of the
-    /// entries of `uses`; or leaves all as it is. An error where memory is wanting: what is kept is then as it was.
+    /// entries of `uses`; or leaves all as it is. An error where memory is wanting: what is kept is then as it was. What can be kept again is put
+    /// by a question in turns alone; what used it stays so where it has the value that it had.
     fn put(
         &mut self,
         inst: Inst,
@@ -67,14 +83,18 @@ pub trait Keeper: Drop {
         requires present { AreKept (contents self.old) uses.now }
         ensures puts { IfOk result (HasPut exact (contents self.old) inst (option_map value_view value) (map loc_view reads.now) uses.now (contents self.new)) }
         ensures err { OnErr result (KeepsAll (contents self.old) (contents self.new)) }
-        ensures traces { PutsTrace inst (option_map value_view value) (map loc_view reads.now) uses.now order (memories self.old) (memories self.new) };
+        ensures traces { PutsTrace inst (option_map value_view value) (map loc_view reads.now) uses.now order (memories self.old) (memories self.new) }
+        ensures spares { SparesOthers inst (contents self.new) (memories self.old) (memories self.new) }
+        ensures own { is_settled order ≡ true → KeepsTrace inst (memories self.old) (memories self.new) }
+        ensures anew { is_settled order ≡ true → OnOk result ((memories self.old).traced inst ≡ None) };
 
     /// Keeps again what can be kept with no evaluation, of the instance, what it used, and so on, and counts it: how much work was done
     /// then, where so much was done before. It stays at the greatest number.
     fn settle(&mut self, inst: &Inst, work: u64) -> u64
         ensures settled { (n : ℕ) × Settled exact (memories self.old) inst.now n (contents self.old) (contents self.new)
             × (result ≡ min (work + n) (2 ^ 64 - 1)) }
-        ensures stay { StayTraced (memories self.old) (memories self.new) };
+        ensures stay { StayTraced (memories self.old) (memories self.new) }
+        ensures alike { AreAlike (memories self.old) (memories self.new) };
 
     /// The first one that stands in the way of keeping the instance again, of what it used and so on: it isn't kept, and can't be with no
     /// evaluation. None where that is the instance itself, or where nothing stands in its way.
@@ -89,7 +109,8 @@ pub trait Keeper: Drop {
         requires { F.IsAlwaysCallable touched.now }
         ensures leaves { LeavesUntouched (Answers (F.post touched.now)) (contents self.old) (contents self.new) }
         ensures loses { IsTrue exact → LosesTouched (Answers (F.post touched.now)) (contents self.old) (contents self.new) }
-        ensures traces { FlushesTraces (Answers (F.post touched.now)) (memories self.old) (memories self.new) };
+        ensures traces { FlushesTraces (Answers (F.post touched.now)) (memories self.old) (memories self.new) }
+        ensures spares { IsTrue exact → SparesAtEdit (Answers (F.post touched.now)) (memories self.old) (memories self.new) };
 
     /// Forgets each entry that stands for a touched location. The places name all that is touched.
     fn flush_at<F: Fn(Loc) -> bool>(&mut self, places: &Places<'_>, touched: &F)
@@ -97,5 +118,6 @@ pub trait Keeper: Drop {
         requires named { AreNamed places.now (F.post touched.now) }
         ensures leaves { LeavesUntouched (Answers (F.post touched.now)) (contents self.old) (contents self.new) }
         ensures loses { IsTrue exact → LosesTouched (Answers (F.post touched.now)) (contents self.old) (contents self.new) }
-        ensures traces { FlushesTraces (Answers (F.post touched.now)) (memories self.old) (memories self.new) };
+        ensures traces { FlushesTraces (Answers (F.post touched.now)) (memories self.old) (memories self.new) }
+        ensures spares { IsTrue exact → SparesAtEdit (Answers (F.post touched.now)) (memories self.old) (memories self.new) };
 }

@@ -57,6 +57,7 @@ mod relinking;
 mod renewing;
 mod rerunning;
 mod rewriting;
+mod room;
 mod row;
 mod run;
 mod scope;

@@ -11,6 +11,7 @@ use crate::facet::small;
 use crate::folding::{does_stay, is_near, slots_at};
 use crate::lone::Lone;
 use crate::rewriting::rewrite_list;
+use crate::room::Room;
 use crate::table::Table;
 use std::alloc::{AllocError, Global};
 
@@ -111,6 +112,9 @@ fn all_links_of(alloc: Global, entries: &Table, plan: &[Links]) -> Result<Vec<Li
 fn make_distinct(list: &mut Links)
     ensures { HasSame list.old.items list.new.items }
 {
+    if list.len() < 2 {
+        return;
+    }
     list.as_mut_slice().sort_unstable();
     list.dedup();
 }
@@ -134,14 +138,14 @@ pub fn links_of(alloc: Global, entries: &Table, plan: &[Links]) -> Result<Vec<Li
     Ok(lists)
 }
 
-// What is in the slot has these links and what used those that are folded into it, if it stays. The slots are room for work.
+// What is in the slot has these links and what used those that are folded into it, if it stays.
 fn relink_at(
     alloc: Global,
     entries: &mut Table,
     plan: &[Links],
     links: &[Links],
     lone: &Lone,
-    slots: &mut Vec<Slot>,
+    room: &mut Room,
     slot: Slot,
 ) -> Result<(), AllocError>
     requires lone { AreLone (is_current (memory_of entries.old)) (slots_at plan.now) lone.now.none lone.now.stamps.items }
@@ -155,7 +159,7 @@ fn relink_at(
     }
     let list = Links::from_slice(alloc, slots_at(links, slot))?;
     let mut users = entries.exchange_users(slot, Edges::Empty);
-    rewrite_list(alloc, entries, plan, lone, slots, &mut users)?;
+    rewrite_list(alloc, entries, plan, lone, room, &mut users)?;
     entries.relink(slot, list, users);
     Ok(())
 }
@@ -171,10 +175,10 @@ pub fn relink(
     requires lone { AreLone (is_current (memory_of entries.old)) (slots_at plan.now) lone.now.none lone.now.stamps.items }
     ensures { OnOk result (Relinks (slots_at plan.now) (slots_at links.now) (memory_of entries.old) (memory_of entries.new)) }
 {
-    let mut slots = Vec::new(alloc);
+    let mut room = Room::new(alloc, plan.len())?;
     for number in 0..plan.len() {
         let slot = small(number)?;
-        relink_at(alloc, entries, plan, links, lone, &mut slots, slot)?;
+        relink_at(alloc, entries, plan, links, lone, &mut room, slot)?;
     }
     Ok(())
 }

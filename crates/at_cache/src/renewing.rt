@@ -15,9 +15,9 @@ ghost use Rattle.at_cache.specs.Finding.{edges_to};
 ghost use Rattle.at_cache.specs.Recorded.{IsIndexed};
 ghost use Rattle.at_cache.specs.Renewing.{Compares, IsAwaited, IsSlotFor, LosesUsers, PutsIn, StaysAwaited};
 ghost use Rattle.at_cache.specs.Standings.{AreValued, IsTied, held, kept_held, remembered};
-ghost use Rattle.at_cache.specs.Traced.{PutsTrace};
+ghost use Rattle.at_cache.specs.Traced.{PutsTrace, SparesOthers};
 
-use crate::again::slots_again;
+use crate::again::{slot_by, slots_again};
 use crate::cut::{Cut, Pass};
 use crate::cutting::{doom_users, forget_all, take_from};
 use crate::edge::{Edge, Slot};
@@ -39,16 +39,17 @@ fn is_traced(value: &Option<Value>, order: Order) -> bool
     match order {
         Order::AsTaken => value.is_some(),
         Order::Any => false,
+        Order::InTurns => false,
     }
 }
 
-/// The slot of the instance's entry, or that of the next one.
-pub fn slot_for(entries: &Table, inst: &Inst) -> Result<Slot, AllocError>
+/// The slot of the instance's entry, which may be this one, or that of the next one.
+pub fn slot_for(entries: &Table, inst: &Inst, near: Slot) -> Result<Slot, AllocError>
     ensures slot { IfOk result (λ slot. IsSlotFor entries.now inst.now slot) }
     ensures its { IfOk result (λ slot. (e : Info) → memory_of entries.now slot ≡ Some e → e.instance ≡ inst.now) }
 {
-    match entries.get(inst) {
-        Some(entry) => Ok(entry.slot),
+    match slot_by(entries, inst, near) {
+        Some(slot) => Ok(slot),
         None => entries.next(),
     }
 }
@@ -154,6 +155,9 @@ pub fn enter_held(
     ensures err { OnErr result (KeepsAll (kept_held (edges_to readers.old) cut.old.entries cut.old.standings.items edge.stamp)
         (kept_held (edges_to readers.new) cut.new.entries cut.new.standings.items (edge.stamp + 1))) }
     ensures traces { PutsTrace inst (option_map value_view value) (map loc_view reads.now) uses.now order
+        (remembered (edges_to readers.old) cut.old.entries cut.old.standings.items)
+        (remembered (edges_to readers.new) cut.new.entries cut.new.standings.items) }
+    ensures spares { SparesOthers inst (kept_held (edges_to readers.new) cut.new.entries cut.new.standings.items (edge.stamp + 1))
         (remembered (edges_to readers.old) cut.old.entries cut.old.standings.items)
         (remembered (edges_to readers.new) cut.new.entries cut.new.standings.items) }
 {

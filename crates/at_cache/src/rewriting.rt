@@ -1,10 +1,10 @@
 //! Edges that tell of entries which are folded tell of those into which they are.
 
-ghost use Rattle.std.specs.Prelude.{◌≡◌, ◌<◌, ◌∷◌, ◌++◌, [], ℕ, List, IfOk, OnOk, length, slice_get};
+ghost use Rattle.std.specs.Prelude.{◌≡◌, ◌<◌, ◌∷◌, ◌++◌, [], ℕ, List, OnOk, length, slice_get, true};
 ghost use Rattle.at_model.specs.Run.{Location};
 ghost use Rattle.at_cache.specs.declared.edge.Edge.{Edge};
 ghost use Rattle.at_cache.specs.Edges.{edges_in};
-ghost use Rattle.at_cache.specs.Folding.{AreEdgesTo, AreLone, AreRefolded, Gathered, IsRefolded, Refolded, slots_at};
+ghost use Rattle.at_cache.specs.Folding.{Added, AreLone, AreRefolded, Gathered, IsRefolded, Parted, Refolded, slots_at};
 ghost use Rattle.at_cache.specs.Info.{memory_of};
 ghost use Rattle.at_cache.specs.Putting.{is_current};
 ghost use Rattle.at_cache.specs.Readers.{edges_at};
@@ -16,6 +16,7 @@ use crate::facet::Facets;
 use crate::folding::slots_at;
 use crate::linking::add_to_many;
 use crate::lone::Lone;
+use crate::room::Room;
 use crate::row::Row;
 use crate::table::Table;
 use std::alloc::{AllocError, Global};
@@ -61,53 +62,109 @@ fn gather_row(
     Ok(())
 }
 
-// The same of all these rows.
-fn gather_rows(
+// How many rows the list has.
+fn rows_in(edges: &Edges) -> usize {
+    match edges {
+        Edges::Empty => 0,
+        Edges::Few(_, _, _, _) => 1,
+        Edges::More(rows) => rows.len(),
+    }
+}
+
+// The row comes into the new list, if all that it tells of stays by itself, and else the targets are gathered.
+fn part_row(
     entries: &Table,
     plan: &[Links],
     lone: &Lone,
-    slots: &mut Vec<Slot>,
-    rows: &[Row],
+    room: &mut Room,
+    rows: &mut Many,
+    row: &Row,
 ) -> Result<(), AllocError>
     requires lone { AreLone (is_current (memory_of entries.now)) (slots_at plan.now) lone.now.none lone.now.stamps.items }
-    ensures { OnOk result (Gathered (is_current (memory_of entries.now)) (slots_at plan.now) (edges_along rows.now) slots.old.items slots.new.items) }
+    ensures { (done : List Edge) → Parted (memory_of entries.now) (slots_at plan.now) done room.old.slots.items (edges_along rows.old.items)
+        → OnOk result (Parted (memory_of entries.now) (slots_at plan.now) (done ++ edges_of row.now) room.new.slots.items (edges_along rows.new.items)) }
 {
-    for row in rows {
-        gather_row(entries, plan, lone, slots, row)?;
+    if !lone.has_row(row) {
+        return gather_row(entries, plan, lone, &mut room.slots, row);
+    }
+    room.note_row(row, rows.len());
+    rows.push(*row)?;
+    Ok(())
+}
+
+// The same of all rows of the list.
+fn part_rows(
+    entries: &Table,
+    plan: &[Links],
+    lone: &Lone,
+    room: &mut Room,
+    rows: &mut Many,
+    list: &[Row],
+) -> Result<(), AllocError>
+    requires lone { AreLone (is_current (memory_of entries.now)) (slots_at plan.now) lone.now.none lone.now.stamps.items }
+    ensures { (done : List Edge) → Parted (memory_of entries.now) (slots_at plan.now) done room.old.slots.items (edges_along rows.old.items)
+        → OnOk result (Parted (memory_of entries.now) (slots_at plan.now) (done ++ edges_along list.now) room.new.slots.items (edges_along rows.new.items)) }
+{
+    for row in list {
+        part_row(entries, plan, lone, room, rows, row)?;
     }
     Ok(())
 }
 
-// The same of the list.
-fn gather(
+// The same of these edges.
+fn part(
     entries: &Table,
     plan: &[Links],
     lone: &Lone,
-    slots: &mut Vec<Slot>,
+    room: &mut Room,
+    rows: &mut Many,
     edges: &Edges,
 ) -> Result<(), AllocError>
     requires lone { AreLone (is_current (memory_of entries.now)) (slots_at plan.now) lone.now.none lone.now.stamps.items }
-    ensures { OnOk result (Gathered (is_current (memory_of entries.now)) (slots_at plan.now) (edges_in edges.now) slots.old.items slots.new.items) }
+    ensures { (done : List Edge) → Parted (memory_of entries.now) (slots_at plan.now) done room.old.slots.items (edges_along rows.old.items)
+        → OnOk result (Parted (memory_of entries.now) (slots_at plan.now) (done ++ edges_in edges.now) room.new.slots.items (edges_along rows.new.items)) }
 {
     match edges {
         Edges::Empty => Ok(()),
         Edges::Few(count, step, slot, stamp) => {
-            gather_row(
+            part_row(
                 entries,
                 plan,
                 lone,
-                slots,
+                room,
+                rows,
                 &Row::few(*count, *step, *slot, *stamp),
             )
         }
-        Edges::More(rows) => gather_rows(entries, plan, lone, slots, rows.as_slice()),
+        Edges::More(list) => part_rows(entries, plan, lone, room, rows, list.as_slice()),
     }
 }
 
-// One more edge, to the entry in the slot, if there is one.
-fn add_edge_to(entries: &Table, rows: &mut Many, slot: Slot) -> Result<(), AllocError>
-    ensures { (slots : List ℕ) → AreEdgesTo (memory_of entries.now) slots (edges_along rows.old.items)
-        → OnOk result (AreEdgesTo (memory_of entries.now) (slots ++ slot ∷ []) (edges_along rows.new.items)) }
+// One more edge, unless it is there.
+fn add_edge(entries: &Table, room: &mut Room, rows: &mut Many, edge: Edge) -> Result<(), AllocError>
+    ensures added { (kept : List Edge) (slots : List ℕ) → is_current (memory_of entries.now) edge ≡ true
+        → Added (memory_of entries.now) kept slots (edges_along rows.old.items)
+        → OnOk result (Added (memory_of entries.now) kept (slots ++ edge.slot ∷ []) (edges_along rows.new.items)) }
+    ensures slots { room.new.slots ≡ room.old.slots }
+{
+    if room.has(rows.as_slice(), edge) {
+        return Ok(());
+    }
+    add_to_many(entries, rows, edge)?;
+    room.note(edge.slot, rows.len().saturating_sub(1));
+    Ok(())
+}
+
+// The same of one to the entry in the slot, if there is one.
+fn add_edge_to(
+    entries: &Table,
+    room: &mut Room,
+    rows: &mut Many,
+    slot: Slot,
+) -> Result<(), AllocError>
+    ensures added { (kept : List Edge) (slots : List ℕ) → Added (memory_of entries.now) kept slots (edges_along rows.old.items)
+        → OnOk result (Added (memory_of entries.now) kept (slots ++ slot ∷ []) (edges_along rows.new.items)) }
+    ensures slots { room.new.slots ≡ room.old.slots }
 {
     match entries.pair(slot) {
         Some((_, entry)) => {
@@ -115,30 +172,31 @@ fn add_edge_to(entries: &Table, rows: &mut Many, slot: Slot) -> Result<(), Alloc
                 slot,
                 stamp: entry.stamp,
             };
-            add_to_many(entries, rows, edge)
+            add_edge(entries, room, rows, edge)
         }
         None => Ok(()),
     }
 }
 
-// Edges to the entries in these slots.
-fn edges_to(alloc: Global, entries: &Table, slots: &[Slot]) -> Result<Edges, AllocError>
-    ensures { IfOk result (λ edges. AreEdgesTo (memory_of entries.now) slots.now (edges_in edges)) }
+// The same of all slots that are gathered.
+fn add_edges_to(entries: &Table, room: &mut Room, rows: &mut Many) -> Result<(), AllocError>
+    ensures { OnOk result (Added (memory_of entries.now) (edges_along rows.old.items) room.old.slots.items (edges_along rows.new.items)) }
 {
-    let mut rows = Many::with_capacity(alloc, slots.len())?;
-    for slot in slots {
-        add_edge_to(entries, &mut rows, *slot)?;
+    for number in 0..room.slots.len() {
+        let slot = room.slots[number];
+        add_edge_to(entries, room, rows, slot)?;
     }
-    Edges::of_rows(alloc, rows)
+    Ok(())
 }
 
-/// The list tells of those into which the entries are folded of which it told. The slots are room for work.
+/// The list tells of those into which the entries are folded of which it told: rows whose edges all tell of what stays by itself are as they
+/// were.
 pub fn rewrite_list(
     alloc: Global,
     entries: &Table,
     plan: &[Links],
     lone: &Lone,
-    slots: &mut Vec<Slot>,
+    room: &mut Room,
     edges: &mut Edges,
 ) -> Result<(), AllocError>
     requires lone { AreLone (is_current (memory_of entries.now)) (slots_at plan.now) lone.now.none lone.now.stamps.items }
@@ -147,10 +205,12 @@ pub fn rewrite_list(
     if lone.has_all(edges) {
         return Ok(());
     }
-    slots.clear();
-    gather(entries, plan, lone, slots, edges)?;
-    slots.sort_unstable();
-    *edges = edges_to(alloc, entries, slots.as_slice())?;
+    room.slots.clear();
+    let mut rows = Many::with_capacity(alloc, rows_in(edges))?;
+    part(entries, plan, lone, room, &mut rows, edges)?;
+    room.slots.sort_unstable();
+    add_edges_to(entries, room, &mut rows)?;
+    *edges = Edges::of_rows(alloc, rows)?;
     Ok(())
 }
 
@@ -160,7 +220,7 @@ fn rewrite_at(
     entries: &Table,
     plan: &[Links],
     lone: &Lone,
-    slots: &mut Vec<Slot>,
+    room: &mut Room,
     readers: &mut Facets,
     place: usize,
 ) -> Result<(), AllocError>
@@ -172,7 +232,7 @@ fn rewrite_at(
     ensures len { length readers.new.items ≡ length readers.old.items }
 {
     let found = &mut readers.as_mut_slice()[place];
-    rewrite_list(alloc, entries, plan, lone, slots, &mut found.edges)
+    rewrite_list(alloc, entries, plan, lone, room, &mut found.edges)
 }
 
 // So do all of a node.
@@ -181,14 +241,14 @@ fn rewrite_node(
     entries: &Table,
     plan: &[Links],
     lone: &Lone,
-    slots: &mut Vec<Slot>,
+    room: &mut Room,
     readers: &mut Facets,
 ) -> Result<(), AllocError>
     requires lone { AreLone (is_current (memory_of entries.now)) (slots_at plan.now) lone.now.none lone.now.stamps.items }
     ensures { OnOk result (AreRefolded (is_current (memory_of entries.now)) (slots_at plan.now) readers.old.items readers.new.items) }
 {
     for place in 0..readers.len() {
-        rewrite_at(alloc, entries, plan, lone, slots, readers, place)?;
+        rewrite_at(alloc, entries, plan, lone, room, readers, place)?;
     }
     Ok(())
 }
@@ -206,10 +266,10 @@ pub fn rewrite(
         (edges_at readers.old.items l) (edges_at readers.new.items l)) }
     ensures len { length readers.new.items ≡ length readers.old.items }
 {
-    let mut slots = Vec::new(alloc);
+    let mut room = Room::new(alloc, plan.len())?;
     for number in 0..readers.len() {
         let list = &mut readers[number];
-        rewrite_node(alloc, entries, plan, lone, &mut slots, list)?;
+        rewrite_node(alloc, entries, plan, lone, &mut room, list)?;
     }
     readers.shrink_to_fit();
     Ok(())

@@ -26,6 +26,13 @@ fn way(step: u16, places: u16) -> u64
     u64::from(places) * u64::from(step)
 }
 
+// The same of so many steps as a row may not have.
+fn way_to(step: u16, place: u32) -> u64
+    ensures { result ≡ place * step }
+{
+    u64::from(place) * u64::from(step)
+}
+
 // Whether an edge lies so far behind the other one.
 fn lies(first: Edge, edge: Edge, way: u64) -> bool
     ensures slot { IsTrue result → edge.slot ≡ first.slot + way }
@@ -131,6 +138,20 @@ impl Row {
             Some(place) => lies(self.first(), edge, way(self.step, place)),
             None => false,
         }
+    }
+
+    /// Whether the edge is one of it.
+    pub fn has(&self, edge: Edge) -> bool
+        ensures { IsTrue result → Contains (edges_of self.now) edge }
+    {
+        let Some(distance) = edge.slot.checked_sub(self.slot) else {
+            return false;
+        };
+        let place = distance / u32::from(self.step.max(1));
+        if place >= u32::from(self.count) {
+            return false;
+        }
+        lies(self.first(), edge, way_to(self.step, place))
     }
 
     // The step of the row with this edge at its end: a row of one edge takes any that leads on and isn't too far.

@@ -1,6 +1,6 @@
 //! What is done to entries by their slots.
 
-ghost use Rattle.std.specs.Prelude.{◌≡◌, ◌<◌, ◌+◌, ◌&&◌, ◌++◌, ◌∷◌, [], not, ℕ, Option, None, Some, IsSome, option_copied, option_map, nat_eq, if◌then◌else◌, slice_get, OnSome, OnErr, OnOk, IfNone, IfOk, IfSome, IsTrue, MatchBool, is_some, ◌≢◌};
+ghost use Rattle.std.specs.Prelude.{◌≡◌, ◌<◌, ◌+◌, ◌&&◌, ◌++◌, ◌∷◌, [], not, ℕ, Option, None, Some, IsSome, option_copied, option_map, nat_eq, if◌then◌else◌, slice_get, OnSome, OnErr, OnOk, IfNone, IfOk, IfSome, IsTrue, MatchBool, is_some, ◌≢◌, false};
 ghost use Rattle.std.specs.Map.{lookup};
 ghost use Rattle.at_model.specs.Run.{Instance};
 ghost use Rattle.at_body.specs.Same.{same_instance};
@@ -191,7 +191,8 @@ impl Table {
 
     /// Whether the entry in the slot has that value, or none where it is none.
     pub fn has_value(&self, slot: Slot, value: &Option<Value>) -> bool
-        ensures { IsTrue result → (e : Info) × (memory_of self.now slot ≡ Some e) × (e.value ≡ option_map value_view value.now) }
+        ensures same { IsTrue result → (e : Info) × (memory_of self.now slot ≡ Some e) × (e.value ≡ option_map value_view value.now) }
+        ensures other { result ≡ false → (e : Info) → memory_of self.now slot ≡ Some e → e.value ≢ option_map value_view value.now }
     {
         match self.pair(slot) {
             Some((_, entry)) => are_same(&entry.value, value),
@@ -308,7 +309,8 @@ fn write_rest(entries: &mut IndexMap<Inst, Entry>, place: usize, links: Links, u
 
 // Whether the value is that one.
 fn is_value(old: &Option<Value>, new: &Value) -> bool
-    ensures { IsTrue result → option_map value_view old.now ≡ Some (value_view new.now) }
+    ensures same { IsTrue result → option_map value_view old.now ≡ Some (value_view new.now) }
+    ensures other { result ≡ false → option_map value_view old.now ≢ Some (value_view new.now) }
 {
     match old {
         Some(old) => *old == *new,
@@ -318,7 +320,8 @@ fn is_value(old: &Option<Value>, new: &Value) -> bool
 
 // Whether both are the same value, or none.
 fn are_same(old: &Option<Value>, new: &Option<Value>) -> bool
-    ensures { IsTrue result → option_map value_view old.now ≡ option_map value_view new.now }
+    ensures same { IsTrue result → option_map value_view old.now ≡ option_map value_view new.now }
+    ensures other { result ≡ false → option_map value_view old.now ≢ option_map value_view new.now }
 {
     match new {
         Some(new) => is_value(old, new),

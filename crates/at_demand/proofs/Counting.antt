@@ -72,7 +72,7 @@ pub counts_none : (entries : Entries) (w : ℕ) → w < 2 ^ 64 → Counts entrie
 counts_none entries w small = counts_same entries entries w small (λ i. refl)
 
 -- what comes first, and then
-among_parts : {A : Type 0} (xs ys : List A) (a : A) → Among a (xs ++ ys) → Among a xs ⊎ Among a ys
+pub among_parts : {A : Type 0} (xs ys : List A) (a : A) → Among a (xs ++ ys) → Among a xs ⊎ Among a ys
 among_parts [] ys a h = inr h
 among_parts (x ∷ xs) ys a (inl e) = inl (inl e)
 among_parts (x ∷ xs) ys a (inr h) = elim (among_parts xs ys a h) [ inl g ↦ inl (inr g) | inr g ↦ inr g ]
@@ -86,7 +86,7 @@ among_right : {A : Type 0} (xs ys : List A) (a : A) → Among a ys → Among a (
 among_right [] ys a h = h
 among_right (x ∷ xs) ys a h = inr (among_right xs ys a h)
 
-distinct_append : {A : Type 0} (xs ys : List A) → Distinct xs → Distinct ys → ((a : A) → Among a xs → Among a ys → ⊥) → Distinct (xs ++ ys)
+pub distinct_append : {A : Type 0} (xs ys : List A) → Distinct xs → Distinct ys → ((a : A) → Among a xs → Among a ys → ⊥) → Distinct (xs ++ ys)
 distinct_append [] ys d e apart = e
 distinct_append (x ∷ xs) ys d e apart = (λ h. elim (among_parts xs ys x h) [ inl g ↦ d.0 g | inr g ↦ apart x (inl refl) g ], distinct_append xs ys d.1 e (λ a h. apart a (inr h)))
 

@@ -4,5 +4,7 @@ pub mod Justified
 pub mod Settled
 pub mod OfTree
 pub mod Lazily
+pub mod Making
+pub mod MadeAgain
 pub mod Putting
 pub mod Untouched

@@ -1,5 +1,5 @@
 -- What a question is answered, and what becomes of what is kept.
-use Rattle.std.specs.Prelude.{◌≡◌, ◌+◌, ℕ, Bool, Option, Some, None, IsTrue, IfNone, IfOk, IfSome, OnErr, Result}
+use Rattle.std.specs.Prelude.{◌≡◌, ◌+◌, ℕ, Bool, false, Option, Some, None, IsTrue, IfNone, IfOk, IfSome, OnErr, Result}
 use Rattle.std.specs.Option.{option_map}
 use Rattle.at_model.specs.Run.{Contents, Instance, Location}
 use Rattle.at_model.specs.Rules.{Rules}
@@ -10,10 +10,11 @@ use Rattle.at_rules.specs.Circular.{HasNoneCircular}
 use Rattle.at_demand.specs.Meant.{AreRightValues}
 use Rattle.at_store.specs.Shown.{Shown, contents}
 use Rattle.at_cache.specs.Kept.{Entries, LeavesUntouched, LosesTouched}
-use Rattle.at_cache.specs.Traced.{FlushesTraces, Memories, StayTraced}
+use Rattle.at_cache.specs.Traced.{FlushesTraces, Memories, SparesAtEdit, StayTraced}
 use Rattle.at_demand.specs.declared.answer.Answer.{Answer as AnswerCode}
 use Rattle.at_demand.specs.declared.question.Question.{Question}
 use Rattle.at_demand.specs.declared.trials.Trials.{Trials}
+use Rattle.at_demand.specs.Made.{Makes}
 use Rattle.at_demand.specs.Known.{equations, meaning, kept_values, ArePlain, answer_view}
 use Rattle.at_demand.specs.Right.{AreRight, IsThere}
 use Rattle.at_demand.specs.Sparing.{AddsWorthy, AreSpare, Counts, HasWorthy, IsWork}
@@ -158,21 +159,23 @@ pub record HasTurnedOften {E : Type 0} (rules : Rules) (s : Shown) (exact : Bool
       → IfOk r (λ g. IsOfUse rules g.1 (IsSparingTurns rules (contents s) after new))
   pub counts : IsTrue exact → Counts before after earlier later
 
--- The instance has its answer; what can be kept again is right still, and of the tree.
+-- The instance has its answer; what can be kept again is right still, and of the tree. Unless turns were given, just what had a reason was made.
 pub record IsAnswered {E : Type 0} (rules : Rules) (s : Shown) (exact : Bool) (before after : Entries) (former latter : Memories)
-    (earlier later : ℕ) (i : Instance ℕ) (r : Result AnswerCode E) : Type 0 where
+    (earlier later : ℕ) (i : Instance ℕ) (r : Result AnswerCode E) (turned : Bool) (first next : ℕ) : Type 0 where
   pub answered : HasAnswered rules s exact before after earlier later i r
   pub traces : StayJustified rules s i former latter
+  pub makes : turned ≡ false → Makes before after former latter first next
 
 -- turns come to that, and trace nothing
 pub record TracesNothing (Turns : Type 0) (former latter : Memories) : Type 0 where
   pub turned : Turns
   pub traces : StayTraced former latter
 
--- an edit leaves all that it doesn't touch, an exact keeper loses the rest, and the work stays as it was
+-- an edit leaves all that it doesn't touch, an exact keeper loses the rest, and traces for which it was looked at alone; the work stays as it was
 pub record Forgets (says : Location ℕ → Bool → Type 0) (exact : Bool) (before after : Entries) (former latter : Memories) (earlier later : ℕ)
     : Type 0 where
   pub leaves : LeavesUntouched says before after
   pub loses : IsTrue exact → LosesTouched says before after
   pub traces : FlushesTraces says former latter
+  pub spares : IsTrue exact → SparesAtEdit says former latter
   pub work : later ≡ earlier

@@ -23,23 +23,26 @@ use Rattle.at_demand.specs.declared.direct.Direct.{Direct}
 use Rattle.at_demand.specs.declared.direct.Level.{Level}
 use Rattle.at_demand.specs.Known.{equations, meaning, kept_values, IsKept, KeepsEntries}
 use Rattle.at_demand.specs.Inner.{AreKnown, Gains, HasRecalled, HasTold, IsEvaluated, StayRemembered, is_inner, known_by}
+use Rattle.at_demand.specs.Made.{Makes}
 use Rattle.at_demand.specs.Right.{AreRight, IsThere}
 use Rattle.at_demand.specs.Sparing.{AreSpare, Counts, IsWorthKeeping}
 use Rattle.at_demand.specs.Traces.{AreJustified, AreOfTree, StayJustified}
 
--- What an evaluation in one go goes by: what is kept, what can be kept again, what is remembered for the question, and the work up to now.
+-- What an evaluation in one go goes by: what is kept, what can be kept again, what is remembered for the question, and the work up to now, with
+-- how many values were made.
 pub record Held : Type 0 where
   pub entries : Entries
   pub memories : Memories
   pub found : List (Instance ℕ × ValueCode)
   pub work : ℕ
+  pub made : ℕ
 
-abbrev pub held : Entries → Memories → List (Instance ℕ × ValueCode) → ℕ → Held
-held entries memories found work = record { entries = entries; memories = memories; found = found; work = work }
+abbrev pub held : Entries → Memories → List (Instance ℕ × ValueCode) → (work made : ℕ) → Held
+held entries memories found work made = record { entries = entries; memories = memories; found = found; work = work; made = made }
 
 -- what those of a question go by now
 abbrev pub held_by : {K : Type 0} → (K → Entries) → (K → Memories) → K → Direct → Held
-held_by entries memories keeper d = held (entries keeper) (memories keeper) d.found.entries d.work
+held_by entries memories keeper d = held (entries keeper) (memories keeper) d.found.entries d.work d.made
 
 -- the values that are known
 abbrev pub values_in : Held → Known ℕ
@@ -124,12 +127,14 @@ pub record HasGained {A : Type 0} (rules : Rules) (s : Shown) (exact : Bool) (r 
   pub there : AreDemandedThere rules s r → AreOfTree s old.memories → AreOfTree s new.memories
   pub spare : IsTrue exact → AreSpare rules (contents s) old.entries → AreSpare rules (contents s) new.entries
   pub counts : IsTrue exact → Counts old.entries new.entries old.work new.work
+  pub makes : Makes old.entries new.entries old.memories new.memories old.made new.made
 
 -- What was held was `old` and is `new` now, for the instance that is asked for: what came to be kept is worth keeping for it, what was
 -- remembered is so still, and all is right, what can be kept again, too.
 pub record HasGrown (rules : Rules) (s : Shown) (exact : Bool) (i : Instance ℕ) (old new : Held) : Type 0 where
   pub gains : Gains rules s exact i old.entries new.entries old.found new.found old.work new.work
   pub traces : StayJustified rules s i old.memories new.memories
+  pub makes : Makes old.entries new.entries old.memories new.memories old.made new.made
 
 -- all is right, for an instance whose attribute is lazy, or isn't, and isn't circular
 pub record IsHeldFor (rules : Rules) (look : Contents ℕ) (h : Held) (lazily : Bool) (i : Instance ℕ) : Type 0 where
@@ -205,14 +210,16 @@ pub record IsEmptied (l : Level) : Type 0 where
   pub reads : l.reads ≡ []
   pub uses : l.uses.items ≡ []
 
--- what was found stays, and the work
+-- what was found stays, and the work, and what was made
 pub record LeavesFinds (old new : Direct) : Type 0 where
   pub work : new.work ≡ old.work
+  pub made : new.made ≡ old.made
   pub found : new.found.entries ≡ old.found.entries
 
 -- so it does, and the level is empty
 pub record GivesLevel (old new : Direct) (l : Level) : Type 0 where
   pub work : new.work ≡ old.work
+  pub made : new.made ≡ old.made
   pub found : new.found.entries ≡ old.found.entries
   pub reads : l.reads ≡ []
   pub uses : l.uses.items ≡ []

@@ -25,5 +25,6 @@ pub mod Keeping
 pub mod Inner
 pub mod InParts
 pub mod Traces
+pub mod Made
 pub mod OneProof
 pub mod Answerable

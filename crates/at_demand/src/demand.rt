@@ -1,6 +1,6 @@
 //! Questions for the values of instances.
 
-ghost use Rattle.std.specs.Prelude.{◌≡◌, ◌<◌, ◌^◌, [], is_some, map, IfOk, IfSome, IsTrue, None};
+ghost use Rattle.std.specs.Prelude.{◌≡◌, ◌<◌, ◌^◌, [], is_some, map, IfOk, IfSome, IsTrue, None, true};
 ghost use Rattle.at_model.specs.of_fixpoints.Fixpoints.{HasValue};
 ghost use Rattle.at_store.specs.Located.{loc_view};
 ghost use Rattle.at_store.specs.Shown.{IsIdle, contents};
@@ -8,6 +8,7 @@ ghost use Rattle.at_body.specs.Values.{value_view};
 ghost use Rattle.at_cache.specs.Kept.{AreKept, AreNamed, Answers as Says, value_at};
 ghost use Rattle.at_demand.specs.Answerable.{CanBeAsked, CanBeKept, CanBeKeptLazily};
 ghost use Rattle.at_demand.specs.Known.{meaning};
+ghost use Rattle.at_demand.specs.Made.{Makes};
 ghost use Rattle.at_demand.specs.Keeping.{IsKeptWhereLazy, IsPlaced, IsPut};
 ghost use Rattle.at_demand.specs.Answered.{Forgets, IsAnswered};
 ghost use Rattle.at_demand.specs.Sparing.{AreSpare, HasWorthy};
@@ -45,6 +46,9 @@ pub struct Demand<K> {
     alloc: Global,
     keeper: K,
     work: u64,
+    made: u64,
+    // Whether the last question that wasn't kept was answered in turns.
+    in_turns: bool,
     sharing: Sharing,
     ghost few: { work < 2 ^ 64 },
 }
@@ -59,6 +63,8 @@ impl<K: Keeper> Demand<K> {
             alloc,
             keeper,
             work: 0,
+            made: 0,
+            in_turns: false,
             sharing: Sharing::new(alloc),
         }
     }
@@ -74,7 +80,7 @@ impl<K: Keeper> Demand<K> {
     ) -> Result<Answer, AllocError>
         requires { CanBeAsked rules.now store.now (K.contents self.old.keeper) (K.memories self.old.keeper) inst.now }
         ensures { IsAnswered rules.now store.now K.exact (K.contents self.old.keeper) (K.contents self.new.keeper)
-            (K.memories self.old.keeper) (K.memories self.new.keeper) self.old.work self.new.work inst.now result }
+            (K.memories self.old.keeper) (K.memories self.new.keeper) self.old.work self.new.work inst.now result self.new.in_turns self.old.made self.new.made }
     {
         if let Some(value) = self.keeper.get(inst) {
             return Ok(Answer::Value(value.copy()?));
@@ -99,12 +105,17 @@ impl<K: Keeper> Demand<K> {
     ) -> Result<Answer, AllocError>
         requires { CanBeAsked rules.now store.now (K.contents self.old.keeper) (K.memories self.old.keeper) inst.now }
         ensures { IsAnswered rules.now store.now K.exact (K.contents self.old.keeper) (K.contents self.new.keeper)
-            (K.memories self.old.keeper) (K.memories self.new.keeper) self.old.work self.new.work inst.now result }
+            (K.memories self.old.keeper) (K.memories self.new.keeper) self.old.work self.new.work inst.now result self.new.in_turns self.old.made self.new.made }
     {
+        self.in_turns = false;
         let at_once = self.answer_at_once(rules, store, inst)?;
         match at_once {
             Some(value) => Ok(Answer::Value(value)),
-            None => self.answer_looking_ahead(rules, store, inst),
+            None => {
+                let told = self.answer_looking_ahead(rules, store, inst);
+                self.in_turns = true;
+                told
+            }
         }
     }
 
@@ -116,16 +127,19 @@ impl<K: Keeper> Demand<K> {
         inst: &Inst,
     ) -> Result<Option<Value>, AllocError>
         requires idle { IsIdle store.now }
-        requires held { IsHeld rules.now (contents store.now) (held (K.contents self.old.keeper) (K.memories self.old.keeper) [] self.old.work) }
+        requires held { IsHeld rules.now (contents store.now) (held (K.contents self.old.keeper) (K.memories self.old.keeper) [] self.old.work self.old.made) }
         ensures value { IfOk result (λ o. IfSome o (λ v. HasValue (contents store.now) (meaning rules.now) inst.now (value_view v))) }
         ensures all { IsTrue K.exact → AreSpare rules.now (contents store.now) (K.contents self.old.keeper)
             → IfOk result (λ o. IfSome o (λ v. HasWorthy rules.now (contents store.now) inst.now (K.contents self.new.keeper))) }
         ensures gains { Gains rules.now store.now K.exact inst.now (K.contents self.old.keeper) (K.contents self.new.keeper) [] [] self.old.work self.new.work }
         ensures traces { StayJustified rules.now store.now inst.now (K.memories self.old.keeper) (K.memories self.new.keeper) }
+        ensures makes { Makes (K.contents self.old.keeper) (K.contents self.new.keeper) (K.memories self.old.keeper) (K.memories self.new.keeper)
+            self.old.made self.new.made }
     {
-        let mut direct = Direct::new(self.alloc, self.work);
+        let mut direct = Direct::new(self.alloc, self.work, self.made);
         let told = direct.answer(&mut self.keeper, &Basis { rules, store }, inst);
         self.work = direct.work;
+        self.made = direct.made;
         match told {
             Ok(value) => Ok(Some(value)),
             Err(Stop::GivesUp) => Ok(None),
@@ -143,7 +157,7 @@ impl<K: Keeper> Demand<K> {
     ) -> Result<Answer, AllocError>
         requires { CanBeAsked rules.now store.now (K.contents self.old.keeper) (K.memories self.old.keeper) inst.now }
         ensures { IsAnswered rules.now store.now K.exact (K.contents self.old.keeper) (K.contents self.new.keeper)
-            (K.memories self.old.keeper) (K.memories self.new.keeper) self.old.work self.new.work inst.now result }
+            (K.memories self.old.keeper) (K.memories self.new.keeper) self.old.work self.new.work inst.now result true self.old.made self.new.made }
     {
         let mut question = self.post(inst.copy(self.alloc)?)?;
         // Positions among the finds of one question say nothing of another one.
@@ -173,7 +187,7 @@ impl<K: Keeper> Demand<K> {
         due: usize,
     ) -> Result<usize, AllocError>
         requires idle { IsIdle store.now }
-        requires held { IsHeld rules.now (contents store.now) (held (K.contents self.old.keeper) (K.memories self.old.keeper) [] self.old.work) }
+        requires held { IsHeld rules.now (contents store.now) (held (K.contents self.old.keeper) (K.memories self.old.keeper) [] self.old.work self.old.made) }
         ensures gains { Gains rules.now store.now K.exact question.now.inst (K.contents self.old.keeper) (K.contents self.new.keeper) [] []
             self.old.work self.new.work }
         ensures traces { StayJustified rules.now store.now question.now.inst (K.memories self.old.keeper) (K.memories self.new.keeper) }
@@ -198,6 +212,21 @@ impl<K: Keeper> Demand<K> {
             (K.memories self.old.keeper) (K.memories self.new.keeper) self.old.work self.new.work }
     {
         self.keeper.flush_at(places, touched);
+    }
+
+    /// How many values of lazy attributes were made: found by an evaluation that ended, and put. What is kept again isn't made, with `work` all
+    /// the same. It stays at the greatest number.
+    pub fn made(&self) -> u64
+        ensures { result ≡ self.now.made }
+    {
+        self.made
+    }
+
+    /// Whether the last question that wasn't kept was answered in turns: its evaluation in one go gave up.
+    pub fn is_in_turns(&self) -> bool
+        ensures { result ≡ self.now.in_turns }
+    {
+        self.in_turns
     }
 
     /// How many times a question found a value of a lazy attribute that wasn't kept. It stays at the greatest number.
@@ -273,9 +302,10 @@ impl<K: Keeper> Demand<K> {
             Some(value.copy()?),
             reads,
             uses,
-            Order::Any,
+            Order::InTurns,
         )?;
         self.work = self.work.saturating_add(1);
+        self.made = self.made.saturating_add(1);
         Ok(put)
     }
 }

@@ -34,6 +34,7 @@ pub struct Direct {
     pub found: IndexMap<Inst, Value>,
     seen: Vec<bool>,
     pub work: u64,
+    pub made: u64,
     ghost few: { work < 2 ^ 64 },
 }
 
@@ -46,15 +47,16 @@ impl Drop for Direct {
             found: _,
             seen: _,
             work: _,
+            made: _,
         } = self;
     }
 }
 
 impl Direct {
-    // None yet, behind so much work.
-    pub fn new(alloc: Global, work: u64) -> Direct
+    // None yet, behind so much work, with so many values made.
+    pub fn new(alloc: Global, work: u64, made: u64) -> Direct
         requires few { work < 2 ^ 64 }
-        ensures { (result.work ≡ work) × (result.found.entries ≡ []) }
+        ensures { (result.work ≡ work) × (result.made ≡ made) × (result.found.entries ≡ []) }
     {
         Direct {
             alloc,
@@ -62,6 +64,7 @@ impl Direct {
             found: IndexMap::new(alloc),
             seen: Vec::new(alloc),
             work,
+            made,
         }
     }
 }

@@ -1,10 +1,10 @@
 //! Laws over the definitions: each is the contract of a function that does nothing.
 
-ghost use Rattle.std.specs.Prelude.{◌≡◌, ◌↔◌, ℕ, Ok, true};
+ghost use Rattle.std.specs.Prelude.{◌≡◌, ◌↔◌, ℕ, Ok, Some, true};
 ghost use Rattle.at_model.specs.Trees.{Tree, conforms};
 ghost use Rattle.at_model.specs.Paths.{Node};
 ghost use Rattle.at_model.specs.Run.{Contents, Instance, Location};
-ghost use Rattle.at_model.specs.Meaning.{Answer, Outcome};
+ghost use Rattle.at_model.specs.Meaning.{Among, Answer, Outcome};
 ghost use Rattle.at_model.specs.Meaning as plain;
 ghost use Rattle.at_model.specs.Support as support;
 ghost use Rattle.at_model.specs.of_fixpoints.Circles.{Answers};
@@ -26,7 +26,8 @@ ghost use Rattle.at_demand.specs.Sparing.{AddsWorthy, AreSpare, Counts, HasWorth
 ghost use Rattle.at_demand.specs.Called.{KeptBy, Keeps};
 ghost use Rattle.at_demand.specs.Touched.{Touches};
 ghost use Rattle.at_demand.specs.Traces.{AreJustified, AreOfTree, IsRemembered};
-ghost use Rattle.at_cache.specs.Traced.{FlushesTraces, Memories, StayTraced};
+ghost use Rattle.at_cache.specs.Traced.{FlushesTraces, Memories, StayTraced, Trace};
+ghost use Rattle.at_demand.specs.Made.{HasCause, Makes, Went, asked};
 
 /// Over an edit that is done, what is kept stays right where it stands for no location that the edit touches.
 pub fn what_is_kept_stays_right()
@@ -80,6 +81,13 @@ pub fn what_stays_traced_is_right()
     ensures justified { (rules : Rules) (s : Shown) (before later : Memories) → StayTraced before later → AreJustified rules (contents s) before
         → AreJustified rules (contents s) later }
     ensures there { (s : Shown) (before later : Memories) → StayTraced before later → AreOfTree s before → AreOfTree s later }
+{}
+
+/// What could be kept again is made by a question only if, since then, an edit touched what was looked at for its value, or a question put
+/// something that was used for it with another value.
+pub fn what_is_made_again_has_a_cause()
+    ensures { (old new later : Memories) (w : Went old new) (e f : Entries) (k l : ℕ) (x : Makes e f new later k l) (i : Instance ℕ) (t : Trace)
+        → old.traced i ≡ Some t → Among i x.made → HasCause old t later (asked new later e f k l w x) }
 {}
 
 /// Where no attribute is circular, what is said by formulas is what equations alone say: outcomes and answers, what an instance leads to, and

@@ -51,9 +51,16 @@ fn main(rt: HostRuntime) -> ExitCode {
     ended(&rt, &served, work)
 }
 
+/// How many values an engine found, and how many of them were made, where others are kept again.
+#[derive(Clone, Copy)]
+struct Work {
+    found: u64,
+    made: Option<u64>,
+}
+
 /// The end of what was served: its failure is told, and then the work, where there is one and memory didn't run out. A
 /// fault of standard error itself has no other place to be told.
-fn ended(rt: &HostRuntime, served: &Result<(), Failure>, work: Option<u64>) -> ExitCode {
+fn ended(rt: &HostRuntime, served: &Result<(), Failure>, work: Option<Work>) -> ExitCode {
     let mut code = 0;
     if let Err(failure) = served {
         code = status(failure);
@@ -62,13 +69,33 @@ fn ended(rt: &HostRuntime, served: &Result<(), Failure>, work: Option<u64>) -> E
     if let Some(work) = work
         && code != 4
     {
-        let _ = eprintln!(rt; "work {work}");
+        tell_work(rt, work);
     }
     ExitCode::from(code)
 }
 
+/// Tells the work.
+fn tell_work(rt: &HostRuntime, work: Work) {
+    let _ = eprintln!(rt; "work {}", work.found);
+    if let Some(made) = work.made {
+        let _ = eprintln!(rt; "made {made}");
+    }
+}
+
+/// The work of the engine.
+fn work_of<K: Keeper>(options: &Options, engine: &Engine<K>) -> Work {
+    Work {
+        found: engine.work(),
+        made: if options.cut_off {
+            Some(engine.made())
+        } else {
+            None
+        },
+    }
+}
+
 /// Serves what the words of the command line ask for, and notes the engine's work, where they ask for that.
-fn serve_words(rt: &HostRuntime, work: &mut Option<u64>) -> Result<(), Failure> {
+fn serve_words(rt: &HostRuntime, work: &mut Option<Work>) -> Result<(), Failure> {
     let options = asked(rt)?;
     let mut files = read_files(rt, &options)?;
     if options.cut_off {
@@ -91,7 +118,7 @@ fn serve_cutting(
     rt: &HostRuntime,
     options: &Options,
     files: &mut Files,
-    work: &mut Option<u64>,
+    work: &mut Option<Work>,
 ) -> Result<(), Failure> {
     match bounded_cutting(rt.alloc(), options) {
         Some(keeper) => serve_over(rt, options, files, keeper, work),
@@ -128,7 +155,7 @@ fn serve_over<K: Keeper>(
     options: &Options,
     files: &mut Files,
     keeper: K,
-    work: &mut Option<u64>,
+    work: &mut Option<Work>,
 ) -> Result<(), Failure>
     requires { KeepsNothing K.contents K.memories keeper }
 {
@@ -182,7 +209,7 @@ fn serve_standard<K: Keeper>(
     options: &Options,
     files: &mut Files,
     keeper: K,
-    work: &mut Option<u64>,
+    work: &mut Option<Work>,
 ) -> Result<(), Failure>
     requires { KeepsNothing K.contents K.memories keeper }
 {
@@ -204,7 +231,7 @@ fn serve_lines<K: Keeper, W: Output>(
     files: &mut Files,
     keeper: K,
     writer: &mut W,
-    work: &mut Option<u64>,
+    work: &mut Option<Work>,
 ) -> Result<(), Failure>
     requires { KeepsNothing K.contents K.memories keeper }
 {
@@ -220,7 +247,7 @@ fn serve_lines<K: Keeper, W: Output>(
     ) {
         Ok(answered) => {
             let Answered { run, engine } = answered;
-            *work = Some(engine.work());
+            *work = Some(work_of(options, &engine));
             // what it holds goes with the process, at once
             mem::forget(engine);
             match run {
@@ -240,7 +267,7 @@ fn serve_connections<K: Keeper>(
     options: &Options,
     files: &mut Files,
     keeper: K,
-    work: &mut Option<u64>,
+    work: &mut Option<Work>,
 ) -> Result<(), Failure>
     requires { KeepsNothing K.contents K.memories keeper }
 {
@@ -250,7 +277,7 @@ fn serve_connections<K: Keeper>(
     };
     engine.set_slice(options.slice);
     let served = serve_socket(rt, path, options, &mut engine);
-    *work = Some(engine.work());
+    *work = Some(work_of(options, &engine));
     mem::forget(engine);
     served
 }

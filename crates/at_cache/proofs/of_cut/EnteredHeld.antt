@@ -19,9 +19,9 @@ use Rattle.at_cache.specs.Putting.{AreListed, AreTaken, Reads, Uses, fresh_entry
 use Rattle.at_cache.specs.Recorded.{IsIndexed}
 use Rattle.at_cache.specs.Renewing.{IsSlotFor, PutsIn}
 use Rattle.at_cache.specs.Standings.{AreValued, IsTied, held, instances_in, kept_held, remembered, standing_of}
-use Rattle.at_cache.specs.Theirs.{AreTheirs}
-use Rattle.at_cache.specs.Traced.{PutsTrace}
-use Rattle.at_cache.proofs.of_cut.Enters.{enters_indexed, enters_puts, enters_tied, enters_traces, enters_valued}
+use Rattle.at_cache.specs.Theirs.{AreTheirs, HasSlot}
+use Rattle.at_cache.specs.Traced.{PutsTrace, SparesOthers}
+use Rattle.at_cache.proofs.of_cut.Enters.{enters_indexed, enters_puts, enters_spares, enters_tied, enters_traces, enters_valued}
 use Rattle.at_cache.proofs.of_cut.Goes.{instance_among}
 use Rattle.at_cache.proofs.of_cut.HeldSlots.{kept_none, off_slot, slot_of}
 use Rattle.at_cache.proofs.of_cut.Renewed.{among_is}
@@ -34,6 +34,18 @@ pub its_entry : (t : Table) (i : Instance ℕ) (x : Entry) → lookup (same_inst
 its_entry t i x found e there =
     let (f, had, is) = slot_of t i x found in
     ap (λ (n : Info). n.instance) (same_Some e f (sym there ∙ had)) ∙ is
+
+pub its_slot_is : (t : Table) (i : Instance ℕ) (slot : ℕ) → HasSlot t i slot
+    → (e : Info) → memory_of t slot ≡ Some e → e.instance ≡ i
+its_slot_is t i slot has = subst (λ s. (e : Info) → memory_of t s ≡ Some e → e.instance ≡ i) has.there
+    (its_entry t i has.entry has.found)
+
+pub is_slot : (t : Table) (i : Instance ℕ) (slot : ℕ) → HasSlot t i slot → IsSlotFor t i slot
+is_slot t i slot has = rw (IsSlotFor, has.found) (sym has.there)
+
+pub is_next : (t : Table) (i : Instance ℕ) (slot : ℕ) → lookup (same_instance i) t.entries.entries ≡ None
+    → slot ≡ t.places.vacant_key → IsSlotFor t i slot
+is_next t i slot none is = rw (IsSlotFor, none) is
 
 -- the slot of an instance is so also with edges to those that used others
 module _ (t mid : Table) {x : Edge} {links : List ℕ} (i : Instance ℕ) (slot : ℕ)
@@ -143,6 +155,7 @@ pub record HasEntered (lists later : Location ℕ → List Edge) (told tnew : Ta
   pub puts : Puts true (kept_held lists told before number) inst value reads uses (kept_held later tnew after
       (number + 1))
   pub traces : PutsTrace inst value reads uses o (remembered lists told before) (remembered later tnew after)
+  pub spares : SparesOthers inst (kept_held later tnew after (number + 1)) (remembered lists told before) (remembered later tnew after)
 
 module _ (lists later : Location ℕ → List Edge) (told tnew : Table) (mid : Memory)
     (zero_st one_st two_st ts : List Standing) (puts slot : ℕ)
@@ -191,4 +204,6 @@ module _ (lists later : Location ℕ → List Edge) (told tnew : Table) (mid : M
             (remembered later tnew ts)) are
             (enters_traces lists later told tnew mid zero_st one_st two_st ts puts slot inst value links reads
             standing o indexed tied valued absent named hold room r listed u1 used1 p stand since holds ordered has);
+        spares = enters_spares lists later told tnew mid zero_st one_st two_st ts puts slot inst value links reads
+            standing o indexed tied valued absent named hold room r listed u1 used1 p stand since holds ordered has;
       }

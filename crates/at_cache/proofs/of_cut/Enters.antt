@@ -1,5 +1,5 @@
 -- What a put leaves, over all its steps: edges of the locations, edges of what it used, the entry, and how that stands.
-use Rattle.std.proofs.Common.{◌≡◌, inl, inr, ◌<◌, ◌+◌, ℕ, List, Bool, true, false, Option, Some, None, IsSome, is_some, nat_eq, if◌then◌else◌, Contains, refl, sym, ap, ◌∙◌, subst, true≢false, eqb-true}
+use Rattle.std.proofs.Common.{◌≡◌, ◌⊎◌, [], arith, inl, inr, ◌<◌, ◌+◌, ℕ, List, Bool, true, false, Option, Some, None, IsSome, is_some, nat_eq, if◌then◌else◌, Contains, refl, sym, ap, ◌∙◌, subst, true≢false, eqb-true}
 use Rattle.std.specs.List.{list_any}
 use Rattle.std.proofs.lemmas.Bool.{cases_eq, eq-eqb, false_from_ne_true}
 use Rattle.std.proofs.lemmas.Option.{none-some, same_Some}
@@ -13,16 +13,23 @@ use Rattle.at_cache.specs.Info.{Info, Memory, memory_of}
 use Rattle.at_cache.specs.Kept.{Puts}
 use Rattle.at_cache.specs.Putting.{AreListed, Reads, Uses, users_at, with_users}
 use Rattle.at_cache.specs.Recorded.{IsIndexed, edge_to}
-use Rattle.at_cache.specs.Renewing.{PutsIn}
+use Rattle.at_cache.specs.Renewing.{IsAnother, IsUser, PutsIn}
 use Rattle.at_cache.specs.Standings.{AreValued, IsTied, held, instances_in, kept_held, remembered, standing_of}
-use Rattle.at_cache.specs.Traced.{PutsTrace}
+use Rattle.at_cache.specs.Traced.{IsOutdated, IsSpared, IsStill, IsTraceOf, PutsTrace, SparesOthers, Trace}
 use Rattle.at_cache.proofs.of_cut.Again.{tied_there}
 use Rattle.at_cache.proofs.of_cut.Comes.{Comes, comes_indexed, puts_comes}
 use Rattle.at_cache.proofs.Ending.{is_in}
+use Rattle.at_cache.proofs.Ending as ending
 use Rattle.at_cache.proofs.of_cut.HeldSlots.{kept_slot}
 use Rattle.at_cache.proofs.Listing.{users_of}
 use Rattle.at_cache.proofs.of_cut.Renewed.{renewed_tied}
-use Rattle.at_cache.proofs.of_cut.Retraced.{puts_traces}
+use Rattle.at_cache.proofs.of_cut.Goes.{instance_among}
+use Rattle.at_cache.proofs.of_cut.Retraced.{last_slot, puts_traces, trace_is, traced_in}
+use Rattle.at_cache.proofs.of_cut.Spared.{kept_trace, last_at}
+use Rattle.at_cache.proofs.Taking.{none_in}
+use Rattle.at_body.specs.Same.{same_instance}
+use Rattle.at_body.specs.Sameness.{instances_equiv}
+use Rattle.at_body.proofs.SamenessLemmas.{same_true}
 
 module _ (lists later : Location ℕ → List Edge) (told tnew : Table) (mid : Memory)
     (zero_st one_st two_st ts : List Standing) (puts slot : ℕ)
@@ -138,6 +145,59 @@ module _ (lists later : Location ℕ → List Edge) (told tnew : Table) (mid : M
             absurd (true≢false (sym on ∙ ap (λ (z : Standing). z.traced) (stands k differs) ∙ gone))
       ]
 
+  -- what lost its trace used what came, which has another value
+  used_by : (k : ℕ) (g f : Info) → memory_of told k ≡ Some g → f ≡ with_users f.users g → IsUser mid slot k f
+      → list_any (nat_eq slot) g.links ≡ true
+  used_by k g f had is user = elim (u.users.only slot user.edge user.among) [
+    | inl old ↦ was_used old (memory_of told slot) refl
+    | inr (one, at_slot) ↦
+        let known = tied.known k g had in
+        let a : g.stamp ≡ puts = sym (ap (λ (z : Info). z.stamp) is) ∙ user.stamp ∙ ap (λ (z : Edge). z.stamp) one in
+        absurd (omega (arith, known, a))
+  ]
+    where
+      its : memory_of told user.edge.slot ≡ Some g
+      its = ap (memory_of told) user.there ∙ had
+
+      was_used : Contains (users_at (memory_of told) slot) user.edge → (o : Option Info) → memory_of told slot ≡ o
+          → list_any (nat_eq slot) g.links ≡ true
+      was_used old None none = absurd (none_in user.edge (subst (λ es. Contains es user.edge)
+          (ap (λ (o : Option Info). elim o as (λ _. List Edge) [ None ↦ [] | Some e ↦ e.users ]) none) old))
+      was_used old (Some a) in_a = tied.uses slot a in_a user.edge
+          (ending.has a.users user.edge (subst (λ es. Contains es user.edge) (users_of (memory_of told) slot a in_a) old)) g its
+          (sym (ap (λ (z : Info). z.stamp) is) ∙ user.stamp)
+
+  spared_flag : (k : ℕ) (g : Info) → memory_of told k ≡ Some g → (k ≡ slot → ⊥) → (standing_of zero_st k).traced ≡ true
+      → ((standing_of ts k).traced ≡ true) ⊎ ((list_any (nat_eq slot) g.links ≡ true) × IsAnother (memory_of told) slot value)
+  spared_flag k g had differs on =
+      let (f, found, is) = u.there k g had in
+      elim (p.spared k f found differs (ap (λ (z : Standing). z.traced) (room k) ∙ on)) [
+        | inl still ↦ inl (ap (λ (z : Standing). z.traced) (stands k differs) ∙ still)
+        | inr (user, other) ↦ inr (
+          used_by k g f had is user,
+          λ old at_slot same. let (n, now, alike) = u.there slot old at_slot in
+              other n now (ap (λ (z : Info). z.value) alike ∙ same),
+        )
+      ]
+
+  outdates : (k : ℕ) (g : Info) (trace : Trace) → memory_of told k ≡ Some g → list_any (nat_eq slot) g.links ≡ true
+      → IsAnother (memory_of told) slot value → instances_in (memory_of told) g.links ≡ trace.uses
+      → IsOutdated (remembered lists told zero_st) (remembered later tnew ts) trace
+  outdates k g trace had uses other is =
+      let (a, in_a, edge) = tied_there (memory_of told) k g slot (tied.used k g had slot uses) in
+      record {
+        one = inst;
+        used = subst (λ us. Contains us inst) is (subst (Contains (instances_in (memory_of told) g.links)) (named a in_a)
+            (instance_among lists told g.links slot a in_a uses));
+        another = λ same. other a in_a (
+            sym (last_slot lists told zero_st slot a in_a)
+            ∙ ap (remembered lists told zero_st).last (named a in_a)
+            ∙ sym same
+            ∙ ap (remembered later tnew ts).last (sym its_instance)
+            ∙ last_slot later tnew ts slot p.entry p.here
+            ∙ p.put.0);
+      }
+
   pub enters_puts : Puts true (kept_held lists told zero_st puts) inst value reads
       (instances_in (memory_of told) links) (kept_held later tnew ts (puts + 1))
   enters_puts =
@@ -164,3 +224,49 @@ module _ (lists later : Location ℕ → List Edge) (told tnew : Table) (mid : M
       edge_is r) (subst (λ x. AreListed x reads later) edge_is listed)
       (λ g had. named g had ∙ sym its_instance) fewer alike o
       (λ on. ordered (ap (λ (z : Standing). z.traced) (sym stands_here) ∙ on)))))
+
+  spares_it : (j : Instance ℕ) (trace : Trace) → (inst ≡ j → ⊥) → (remembered lists told zero_st).traced j ≡ Some trace
+      → IsSpared (remembered lists told zero_st) (remembered later tnew ts) j trace
+  spares_it j trace apart traced =
+      let (k, g, had, its) = traced_in lists told zero_st j trace traced in
+      let differs : (k ≡ slot → ⊥) = λ same. apart (sym (named g (ap (memory_of told) (sym same) ∙ had)) ∙ its) in
+      let before = ap (remembered lists told zero_st).traced its ∙ traced in
+      let (v, on, value, is) = trace_is lists told zero_st k g had trace before in
+      let (f, now, it) = comes.stays k g had differs in
+      elim (spared_flag k g had differs on) [
+        | inl still ↦ inl (ap (remembered later tnew ts).traced (sym its) ∙ kept_trace lists later told tnew zero_st ts k g f
+            trace had now (ap (λ (z : Info). z.instance) it) (ap (λ (z : Info). z.value) it) still before
+            (λ w h. back_to g.instance w (λ e. apart (e ∙ its)) (enters_traces g.instance w h)))
+        | inr (uses, other) ↦ inr (outdates k g trace had uses other (ap (λ (x : Trace). x.uses) is))
+      ]
+    where
+      back_to : (i : Instance ℕ) (w : Trace) → (inst ≡ i → ⊥)
+          → (IsStill (remembered lists told zero_st) (remembered later tnew ts) i w
+          ⊎ ((inst ≡ i) × IsTraceOf inst value reads (instances_in (memory_of told) links) o (remembered later tnew ts) w))
+          → (remembered lists told zero_st).traced i ≡ Some w
+      back_to i w apart (inl still) = still.traced
+      back_to i w apart (inr its) = absurd (apart its.0)
+
+  last_other : (j : Instance ℕ) → (inst ≡ j → ⊥) → (remembered later tnew ts).last j ≡ (remembered lists told zero_st).last j
+  last_other j apart = last_at lists later told tnew zero_st ts j
+      (λ k g had its. let (f, now, it) = comes.stays k g had
+      (λ same. apart (sym (named g (ap (memory_of told) (sym same) ∙ had)) ∙ its)) in
+      (f, now, ap (λ (z : Info). z.instance) it))
+      (λ k f now its. let (g, had, it) = comes.was k f now
+      (λ same. apart (sym its_instance ∙ ap (λ (z : Info). z.instance)
+      (same_Some p.entry f (sym p.here ∙ ap (memory_of tnew) (sym same) ∙ now)) ∙ its)) in
+      (g, had, ap (λ (z : Info). z.instance) it, ap (λ (z : Info). z.value) it))
+
+  kept_now : IsSome (kept_held later tnew ts (puts + 1) inst)
+  kept_now = ap is_some (ap (kept_held later tnew ts (puts + 1)) (sym its_instance)
+      ∙ kept_slot later tnew ts (puts + 1) slot p.entry p.here comes.holds)
+
+  pub enters_spares : SparesOthers inst (kept_held later tnew ts (puts + 1)) (remembered lists told zero_st) (remembered later tnew ts)
+  enters_spares = record { spares = spares_it; last = λ u. by u (same_instance inst u) refl }
+    where
+      by : (u : Instance ℕ) (b : Bool) → same_instance inst u ≡ b
+          → ((remembered later tnew ts).last u ≡ (remembered lists told zero_st).last u)
+          ⊎ ((inst ≡ u) × IsSome (kept_held later tnew ts (puts + 1) inst))
+      by u true is = inr (same_true inst u is, kept_now)
+      by u false is = inl (last_other u (λ same. true≢false (sym (instances_equiv.refl inst)
+          ∙ ap (same_instance inst) same ∙ is)))

@@ -13,17 +13,17 @@ use Rattle.at_cache.specs.declared.edge.Edge.{Edge}
 use Rattle.at_cache.specs.declared.entry.Entry.{Entry}
 use Rattle.at_cache.specs.declared.standing.Standing.{Standing}
 use Rattle.at_cache.specs.declared.table.Table.{Table}
-use Rattle.at_cache.specs.Flushing.{Begins, IsChain, IsDoomed, Work}
+use Rattle.at_cache.specs.Flushing.{Begins, IsChain, IsDoomed, Reached, Work, by_start, by_user}
 use Rattle.at_cache.specs.Info.{Info, Memory, info, memory_of}
 use Rattle.at_cache.specs.Kept.{Kept, LeavesUntouched, LosesTouched}
 use Rattle.at_cache.specs.Marking.{TakesAway}
 use Rattle.at_cache.specs.Recorded.{IsIndexed, covers, edge_to, is_listed}
 use Rattle.at_cache.specs.Standings.{AreValued, IsTied, but_for, held, held_of, is_shown, kept_held, last_of, remembered, seen, shape, shown, standing_of, trace_at, trace_of}
-use Rattle.at_cache.specs.Traced.{FlushesTraces, Trace}
-use Rattle.at_cache.proofs.Ending.{has, indexed_after, is_in, leaves, loses}
+use Rattle.at_cache.specs.Traced.{FlushesTraces, SparesAtEdit, Trace}
+use Rattle.at_cache.proofs.Ending.{has, has_edge, indexed_after, is_in, leaves, loses}
 use Rattle.at_cache.proofs.Index as index
 use Rattle.at_cache.proofs.Index.{kept_at}
-use Rattle.at_cache.proofs.of_cut.Passing.{seen_is}
+use Rattle.at_cache.proofs.of_cut.Passing.{not_seen, seen_is}
 use Rattle.at_cache.proofs.Showing.{AreShown, leaves_of, loses_of}
 use Rattle.at_cache.proofs.Shown.{found_by, held_by}
 use Rattle.at_cache.proofs.Taking.{none_in}
@@ -219,3 +219,44 @@ module _ (says : Location ℕ → Bool → Type 0) (lists : Location ℕ → Lis
         },
         λ l reads. untouched says t.begins t.works s (shape pass.Traces (standing_of b.standings.items s) f) here l (ap (λ (x : Trace). x.reads l) is ∙ reads),
       )
+
+  -- a trace that is there no more looked at what was touched
+  pub spares_edit : SparesAtEdit says (remembered lists a.entries a.standings.items) (remembered lists c.entries c.standings.items)
+  spares_edit i tr h =
+      let (e, j, there, alike, at_slot) = traced_by lists a.entries a.standings.items i tr h in
+      let (f, found, on, (v, some, is)) = trace_is lists a.standings.items (memory_of a.entries) e.slot tr at_slot in
+      let same_f : info (j, e) ≡ f = same_Some (info (j, e)) f (sym there ∙ found) in
+      let alike_f = ap (λ (x : Info). same_instance i x.instance) (sym same_f) ∙ alike in
+      by e.slot f v found on some is alike_f (standing_of c.standings.items e.slot).traced refl
+    where
+      touched_by : (s : ℕ) (f : Info) → memory_of a.entries s ≡ Some f
+          → Reached (seen pass.Traces a.standings.items (memory_of a.entries)) t.start s
+          → (l : Location ℕ) × (is_listed (edge_to s f) (lists l) ≡ true) × says l true
+      touched_by _ f found (by_start x c g at_x stamp) =
+          let (k, in_m, on, is) = seen_is pass.Traces (standing_of a.standings.items x.slot) (memory_of a.entries x.slot) g at_x in
+          let (l, said, listed) = t.begins.from x c in (
+            l,
+            has_edge (lists l) x f listed (ap (λ (z : Info). z.stamp) (same_Some f k (sym found ∙ in_m))
+                ∙ sym (ap (λ (z : Info). z.stamp) is) ∙ stamp),
+            said,
+          )
+      touched_by _ f found (by_user p r g at_p x c k at_x stamp) =
+          let (h, in_m, on, is) = seen_is pass.Traces (standing_of a.standings.items p) (memory_of a.entries p) g at_p in
+          absurd (none_in x (subst (λ es. Contains es x) (ap (λ (z : Info). z.users) is) c))
+
+      by : (s : ℕ) (f : Info) (v : Value ℕ) → memory_of a.entries s ≡ Some f → (standing_of a.standings.items s).traced ≡ true
+          → f.value ≡ Some v → trace_of lists (memory_of a.entries) s f v ≡ tr → same_instance i f.instance ≡ true
+          → (b : Bool) → (standing_of c.standings.items s).traced ≡ b
+          → ((remembered lists c.entries c.standings.items).traced i ≡ Some tr)
+          ⊎ ((l : Location ℕ) × (tr.reads l ≡ true) × says l true)
+      by s f v found on some is alike true still =
+          inl (traced_of lists c.entries c.standings.items i s f tr (same_memory s ∙ found) alike
+          (trace_there lists c.standings.items (memory_of c.entries) s f v (same_memory s ∙ found) still some
+          ∙ ap (λ (m : Memory). Some (trace_of lists m s f v)) (sym all_same) ∙ ap Some is))
+      by s f w found on some is alike false gone =
+          let off : (standing_of b.standings.items s).traced ≡ false = ap (λ (x : Standing). x.traced) (sym (v.stand s)) ∙ gone in
+          let before = ap (option_and_then (shown pass.Traces (standing_of a.standings.items s))) found
+          ∙ shown_is pass.Traces (standing_of a.standings.items s) f on in
+          let (l, listed, said) = touched_by s f found (t.works.gone s (shape pass.Traces (standing_of a.standings.items s) f)
+          before (not_seen pass.Traces (standing_of b.standings.items s) (memory_of b.entries s) off)) in
+          inr (l, ap (λ (x : Trace). x.reads l) (sym is) ∙ listed, said)

@@ -17,7 +17,8 @@ use Rattle.at_cache.specs.Placed.{at}
 use Rattle.at_cache.specs.Kept.{value_at, PutsBy}
 use Rattle.at_cache.specs.Settling.{AreTraces, CanKeep, GoesOn, HasSettled, IsWhole}
 use Rattle.at_cache.specs.Standings.{IsTied, instances_in, kept_held, remembered, standing_of, trace_at, trace_of, held}
-use Rattle.at_cache.specs.Traced.{AreAllKept, Memories, Settled, StayTraced, Trace, itself}
+use Rattle.at_cache.specs.Theirs.{HasSlot}
+use Rattle.at_cache.specs.Traced.{AreAlike, AreAllKept, Memories, Settled, StayTraced, Trace, itself}
 use Rattle.at_cache.proofs.of_cut.Behind.{KeepsOn, all_kept_on, settles_below, settles_itself, settles_none, settles_on, settles_then}
 use Rattle.at_cache.proofs.Dooming.{head_of}
 use Rattle.std.proofs.lemmas.Bool.{cases_eq, eq-eqb, eqb-true, false_from_ne_true}
@@ -47,6 +48,15 @@ module _ (lists : Location ℕ → List Edge) (t : Table) where
   pub goes_none : (i : Instance ℕ) (st : List Standing) (c : Counts) → IsWhole lists t st c → GoesOn lists t i st c st c
   goes_none i st c whole = record {
     whole = whole;
+    traced = λ k. refl;
+    settles = λ m are. settles_none m i (kept_held lists t st c.puts) c.work whole.few;
+  }
+
+  -- wherever it is stuck
+  pub goes_stuck : (i : Instance ℕ) (st : List Standing) (c : Counts) (s : ℕ) → IsWhole lists t st c
+      → GoesOn lists t i st c st (record c { stuck = s })
+  goes_stuck i st c s whole = record {
+    whole = record { indexed = whole.indexed; tied = whole.tied; valued = whole.valued; few = whole.few };
     traced = λ k. refl;
     settles = λ m are. settles_none m i (kept_held lists t st c.puts) c.work whole.few;
   }
@@ -285,11 +295,12 @@ module _ (lists : Location ℕ → List Edge) (t : Table) (slots : List ℕ) (n 
       )
 
 -- from an instance that has an entry
-module _ (lists : Location ℕ → List Edge) (t : Table) (i : Instance ℕ) (x : Entry)
-    (found : lookup (same_instance i) t.entries.entries ≡ Some x) (a b : List Standing)
-    (y z : Counts) (result : Bool) (settled : HasSettled lists t x.slot a y result b z) where
+module _ (lists : Location ℕ → List Edge) (t : Table) (i : Instance ℕ) (s : ℕ) (has : HasSlot t i s)
+    (a b : List Standing) (y z : Counts) (result : Bool) (settled : HasSettled lists t s a y result b z) where
   pub goes_from : GoesOn lists t i a y b z
-  goes_from = let (e, there, is) = slot_of t i x found in subst (λ j. GoesOn lists t j a y b z) is (settled e there).0
+  goes_from =
+      let (e, there, is) = slot_of t i has.entry has.found in
+      subst (λ j. GoesOn lists t j a y b z) is (settled e (subst (λ n. memory_of t n ≡ Some e) has.there there)).0
 
   pub settled_from : (n : ℕ) × Settled true (remembered lists t a) i n (kept_held lists t a y.puts)
       (kept_held lists t b z.puts) × (z.work ≡ min (y.work + n) (2 ^ 64 - 1))
@@ -300,6 +311,12 @@ module _ (lists : Location ℕ → List Edge) (t : Table) (i : Instance ℕ) (x 
     traced = traces_same lists t a b goes_from.traced (remembered lists t a) (λ j. refl) j ∙ traced;
     value = refl;
     uses = λ u among. refl;
+  }
+
+  pub alike_from : AreAlike (remembered lists t a) (remembered lists t b)
+  alike_from = record {
+    traced = λ j. sym (traces_same lists t a b goes_from.traced (remembered lists t a) (λ i. refl) j);
+    last = λ j. refl;
   }
 
 -- where all stays

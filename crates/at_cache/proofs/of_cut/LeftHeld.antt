@@ -13,14 +13,15 @@ use Rattle.at_cache.specs.declared.keeper.Order.{Order}
 use Rattle.at_cache.specs.declared.standing.Standing.{Standing}
 use Rattle.at_cache.specs.declared.table.Table.{Table}
 use Rattle.at_cache.specs.Info.{Info, Memory, memory_of}
-use Rattle.at_cache.specs.Kept.{Kept, KeepsAll}
+use Rattle.at_cache.specs.Kept.{Entries, Kept, KeepsAll}
 use Rattle.at_cache.specs.Putting.{Reads, Uses, with_users}
 use Rattle.at_cache.specs.Recorded.{IsIndexed, covers}
 use Rattle.at_cache.specs.Standings.{AreValued, IsTied, held, kept_held, remembered, shown, standing_of}
-use Rattle.at_cache.specs.Traced.{PutsTrace}
+use Rattle.at_cache.specs.Traced.{KeepsTrace, PutsTrace, SparesOthers, Trace}
 use Rattle.at_cache.proofs.of_cut.Lifting.{kept_still, stale_held}
 use Rattle.at_cache.proofs.Listing.{reads_none, uses_none}
-use Rattle.at_cache.proofs.of_cut.Retraced.{stale_traces}
+use Rattle.at_cache.proofs.of_cut.Retraced.{stale_traces, trace_is, traced_in}
+use Rattle.at_cache.proofs.of_cut.Spared.{kept_trace, last_at}
 use Rattle.at_cache.proofs.of_cut.Tying.{tied_still}
 
 -- what memories show by standings that are the same
@@ -54,6 +55,7 @@ pub record Left (lists later : Location ℕ → List Edge) (told tnew : Table) (
   pub traces : (i : Instance ℕ) (v : Option (Value ℕ)) (reads : List (Location ℕ)) (uses : List (Instance ℕ))
       (o : Order)
       → PutsTrace i v reads uses o (remembered lists told st) (remembered later tnew ts)
+  pub spares : (i : Instance ℕ) (after : Entries) → SparesOthers i after (remembered lists told st) (remembered later tnew ts)
 
 module _ (lists later : Location ℕ → List Edge) (told tnew : Table)
     (st ts : List Standing) {puts : ℕ} {x : Edge} {reads : List (Location ℕ)} {links : List ℕ}
@@ -73,6 +75,24 @@ module _ (lists later : Location ℕ → List Edge) (told tnew : Table)
           let one : g ≡ f = same_Some g f (sym had ∙ found) in
           (e, there, subst (λ (n : Info). n ≡ with_users n.users e) one is)
 
+  trace_left : (j : Instance ℕ) → KeepsTrace j (remembered lists told st) (remembered later tnew ts)
+  trace_left j trace traced =
+      let (k, g, had, named) = traced_in lists told st j trace traced in
+      let its = ap (remembered lists told st).traced named ∙ traced in
+      let (v, on, value, is) = trace_is lists told st k g had trace its in
+      let (f, now, it) = u.there k g had in
+      ap (remembered later tnew ts).traced (sym named)
+      ∙ kept_trace lists later told tnew st ts k g f trace had now (ap (λ (n : Info). n.instance) it)
+      (ap (λ (n : Info). n.value) it) (ap (λ (z : Standing). z.traced) (same k) ∙ on) its
+      (λ w h. (stale_traces lists later told tnew st ts t stamp r u.there was
+      (λ n. ap (λ (z : Standing). z.traced) (same n)) g.instance w h).traced)
+
+  last_left : (j : Instance ℕ) → (remembered later tnew ts).last j ≡ (remembered lists told st).last j
+  last_left j = last_at lists later told tnew st ts j
+      (λ k g had its. let (f, now, it) = u.there k g had in (f, now, ap (λ (n : Info). n.instance) it))
+      (λ k f now its. let (g, had, it) = was k f now in
+      (g, had, ap (λ (n : Info). n.instance) it, ap (λ (n : Info). n.value) it))
+
   -- where only edges came
   pub left : Left lists later told tnew st ts puts
   left = record {
@@ -86,6 +106,10 @@ module _ (lists later : Location ℕ → List Edge) (told tnew : Table)
         ∙ kept_still st told tnew lists later puts x reads links i stamp r u j;
     traces = λ i v reads uses o j trace h. inl (stale_traces lists later told tnew st ts t stamp r u.there was
         (λ k. ap (λ (s : Standing). s.traced) (same k)) j trace h);
+    spares = λ i after. record {
+      spares = λ j trace apart traced. inl (trace_left j trace traced);
+      last = λ j. inl (last_left j);
+    };
   }
 
 -- where nothing came

@@ -12,15 +12,15 @@ use Rattle.at_body.specs.Same.{same_instance}
 use Rattle.at_cache.specs.declared.entry.Entry.{Entry}
 use Rattle.at_cache.specs.declared.table.Table.{Table}
 use Rattle.at_cache.specs.declared.standing.Standing.{Standing}
-use Rattle.at_cache.specs.Flushing.{IsChain, IsIdle, Work}
+use Rattle.at_cache.specs.Flushing.{IsChain, IsIdle, Reached, Work, by_start, by_user}
 use Rattle.at_cache.specs.Info.{Info, Memory, memory_of}
 use Rattle.at_cache.specs.Marking.{Passes}
 use Rattle.at_cache.specs.Putting.{Enters, fresh_entry, users_at}
-use Rattle.at_cache.specs.Renewing.{Compares, IsSlotFor, LosesUsers, PutsIn}
+use Rattle.at_cache.specs.Renewing.{Compares, IsAnother, IsSlotFor, IsUser, LosesUsers, PutsIn}
 use Rattle.at_cache.specs.Slots.{renewed}
 use Rattle.at_cache.specs.Standings.{IsTaken, but_for, is_shown, seen, shape, shown, standing_of}
 use Rattle.at_cache.proofs.of_cut.Flushed.{shown_is}
-use Rattle.at_cache.proofs.of_cut.Passing.{entries_after, seen_idle, seen_is}
+use Rattle.at_cache.proofs.of_cut.Passing.{entries_after, not_seen, seen_idle, seen_is}
 use Rattle.at_cache.proofs.of_cut.Seeing.{gone_shown, once}
 use Rattle.at_cache.proofs.Shown.{slot_there}
 use Rattle.at_cache.proofs.Taking.{begun, more, none_in}
@@ -72,8 +72,33 @@ module _ (slot : ℕ) (ss ts us : List Standing) (m n : Memory) (from : IsTaken 
         was_on k before;
     room = passes.room ∙ room;
     lost = λ x c e there stamp. by x c e there stamp (standing_of us x.slot).traced refl;
+    spared = λ k e there differs on. spared_at k e there differs on (standing_of us k).traced refl;
   }
     where
+      user : (k : ℕ) (e : Info) → m k ≡ Some e → Reached (seen pass.Traces ts m) (users_at m slot) k → IsUser m slot k e
+      user _ e there (by_start x c f found stamp) =
+          let (g, in_m, on, is) = seen_is pass.Traces (standing_of ts x.slot) (m x.slot) f found in
+          record {
+            edge = x;
+            among = c;
+            there = refl;
+            stamp = ap (λ (z : Info). z.stamp) (same_Some e g (sym there ∙ in_m)) ∙ sym (ap (λ (z : Info). z.stamp) is) ∙ stamp;
+          }
+      user _ e there (by_user p r f found x c h other stamp) =
+          let (g, in_m, on, is) = seen_is pass.Traces (standing_of ts p) (m p) f found in
+          absurd (none_in x (subst (λ es. Contains es x) (ap (λ (z : Info). z.users) is) c))
+
+      spared_at : (k : ℕ) (e : Info) → m k ≡ Some e → (k ≡ slot → ⊥) → (standing_of ss k).traced ≡ true
+          → (b : Bool) → (standing_of us k).traced ≡ b → ((standing_of us k).traced ≡ true) ⊎ IsUser m slot k e
+      spared_at k e there differs on true is = inl is
+      spared_at k e there differs on false off =
+          let before : (standing_of ts k).traced ≡ true = ap (λ (z : Standing). z.traced)
+          (from k ∙ ap (λ b. if b then but_for pass.Traces (standing_of ss k) else standing_of ss k) (ne_eqb k slot differs)) ∙ on in
+          let old : seen pass.Traces ts m k ≡ Some (shape pass.Traces (standing_of ts k) e) =
+          ap (option_and_then (shown pass.Traces (standing_of ts k))) there ∙ shown_is pass.Traces (standing_of ts k) e before in
+          inr (user k e there (w.gone k (shape pass.Traces (standing_of ts k) e) old
+          (not_seen pass.Traces (standing_of us k) (n k) off)))
+
       by : (x : Edge) → Contains (users_at m slot) x → (e : Info) → m x.slot ≡ Some e → e.stamp ≡ x.stamp → (b : Bool) → (standing_of us x.slot).traced ≡ b → (standing_of us x.slot).traced ≡ false
       by x c e there stamp false off = off
       by x c e there stamp true on =
@@ -91,15 +116,18 @@ compared_same slot value ss m (e, there, is) = record {
   fewer = λ k e there on. on;
   room = refl;
   changed = λ f found. inl (ap (λ (x : Info). x.value) (same_Some f e (sym found ∙ there)) ∙ is);
+  spared = λ k f found differs on. inl on;
 }
 
-pub compared_other : (slot : ℕ) (value : Option (Value ℕ)) (ss us : List Standing) (m n : Memory) → LosesUsers slot ss m us n → Compares slot value ss m us n
-compared_other slot value ss us m n l = record {
+pub compared_other : (slot : ℕ) (value : Option (Value ℕ)) (ss us : List Standing) (m n : Memory) → LosesUsers slot ss m us n → IsAnother m slot value
+    → Compares slot value ss m us n
+compared_other slot value ss us m n l other = record {
   entries = l.entries;
   stand = l.stand;
   fewer = l.fewer;
   room = l.room;
   changed = λ e there. inr (λ x c. l.lost x (subst (λ (es : List Edge). Contains es x) (sym (ap (λ (o : Option Info). elim o as (λ _. List Edge) [ None ↦ [] | Some e ↦ e.users ]) there)) c));
+  spared = λ k e there differs on. elim (l.spared k e there differs on) [ inl still ↦ inl still | inr user ↦ inr (user, other) ];
 }
 
 -- the entry is put anew
@@ -123,6 +151,7 @@ renewed_in slot i value links stamp ss us m mid n some idle compared written = b
       fewer = compared.fewer;
       room = compared.room;
       changed = compared.changed;
+      spared = compared.spared;
     }
 
 -- the entry comes into a slot that was free
@@ -138,6 +167,7 @@ entered_in slot i value links stamp ss m n e is enters = record {
   fewer = λ k f found on. on;
   room = refl;
   changed = λ f found. absurd (none-some f (sym enters.free ∙ found));
+  spared = λ k f found differs on. inl on;
 }
 
 -- the slot of an instance that has no entry, and of one that has one

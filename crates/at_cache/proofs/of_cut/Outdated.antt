@@ -19,7 +19,7 @@ use Rattle.at_cache.specs.Recorded.{IsIndexed, edge_to, is_listed}
 use Rattle.at_cache.specs.Renewing.{IsAwaited, IsSlotFor, StaysAwaited}
 use Rattle.at_cache.specs.Slots.{outdated}
 use Rattle.at_cache.specs.Standings.{IsTaken, IsTied, but_for, held, instances_in, is_tied, kept_held, last_of, remembered, shown, standing_of, trace_of}
-use Rattle.at_cache.specs.Traced.{Memories, PutsTrace, StayTraced, Trace}
+use Rattle.at_cache.specs.Traced.{KeepsTrace, Memories, PutsTrace, StayTraced, Trace}
 use Rattle.at_cache.proofs.Index.{kept_at}
 use Rattle.at_cache.proofs.of_cut.Again.{held_off, tied_there}
 use Rattle.at_cache.proofs.of_cut.Flushed.{shown_held}
@@ -27,6 +27,7 @@ use Rattle.at_cache.proofs.of_cut.Goes.{stay_traced}
 use Rattle.at_cache.proofs.of_cut.HeldSlots.{entry_in, kept_slot, slot_of}
 use Rattle.at_cache.proofs.of_cut.LeftHeld.{Left, left_alone}
 use Rattle.at_cache.proofs.of_cut.Retraced.{last_slot, names, trace_is, traced_in, traced_of, traced_slot}
+use Rattle.at_cache.proofs.of_cut.Spared.{kept_trace}
 use Rattle.at_cache.proofs.Showing.{same_of}
 
 -- where the same entries are there, with the same values, the last values are the same
@@ -270,6 +271,16 @@ module _ (lists : Location ℕ → List Edge) (told tnew : Table) (st ts : List 
         uses = λ u among. last_still lists told tnew st ts stays was u;
       }
 
+  others_stay : (j : Instance ℕ) → (inst ≡ j → ⊥) → KeepsTrace j (remembered lists told st) (remembered lists tnew ts)
+  others_stay j apart trace traced =
+      let (k, g, had, named) = traced_in lists told st j trace traced in
+      let differs : (k ≡ slot → ⊥) = λ same. apart (sym (a.its g (ap (memory_of told) (sym same) ∙ had)) ∙ named) in
+      let its = ap (remembered lists told st).traced named ∙ traced in
+      let (v, on, value, is) = trace_is lists told st k g had trace its in
+      ap (remembered lists tnew ts).traced (sym named)
+      ∙ kept_trace lists lists told tnew st ts k g g trace had (other k differs ∙ had) refl refl
+      (ap (λ (z : Standing). z.traced) (stands k differs) ∙ on) its (λ u h. (stay g.instance u h).traced)
+
   pub stays_awaited : StaysAwaited lists told st puts tnew ts (puts + 1) inst slot
   stays_awaited =
       let (x, found, at_s, value) = entry_in tnew slot it here in
@@ -287,6 +298,8 @@ module _ (lists : Location ℕ → List Edge) (told tnew : Table) (st ts : List 
         };
         keeps = keeps;
         traced = stay;
+        others = others_stay;
+        last = last_still lists told tnew st ts stays was;
       }
 
 -- where nothing has changed
@@ -296,6 +309,8 @@ awaited_still lists t st puts i slot a = record {
   awaited = a;
   keeps = λ j. refl;
   traced = stay_traced (remembered lists t st);
+  others = λ j apart trace traced. traced;
+  last = λ j. refl;
 }
 
 -- where each trace was there, nothing was put; and what is put then is put before

@@ -1,5 +1,5 @@
 -- The slot of an instance's entry.
-use Rattle.std.proofs.Common.{◌≡◌, ℕ, List, [], Option, None, Some, ap, option_map, refl, subst, sym, true, ◌∙◌}
+use Rattle.std.proofs.Common.{◌≡◌, ℕ, Bool, List, [], Option, None, Some, IfSome, ap, if◌then◌else◌, is_some, option_map, refl, subst, sym, false, true, ◌∙◌}
 use Rattle.std.specs.Map.{lookup}
 use Rattle.std.proofs.lemmas.Option.{none-some, same_Some}
 use Rattle.slab.specs.Slab.{get}
@@ -7,12 +7,14 @@ use Rattle.at_model.specs.Run.{Instance}
 use Rattle.at_body.specs.Same.{same_instance}
 use Rattle.at_body.proofs.SamenessLemmas.{same_true}
 use Rattle.at_cache.specs.declared.entry.Entry.{Entry}
+use Rattle.at_cache.specs.declared.standing.Standing.{Standing}
 use Rattle.at_cache.specs.declared.table.Table.{Table}
 use Rattle.at_cache.specs.declared.edge.Edge.{Edge}
 use Rattle.at_cache.specs.Edges.{edges_in}
 use Rattle.at_cache.specs.Info.{Info, info, memory_of}
 use Rattle.at_cache.specs.Placed.{at}
 use Rattle.at_cache.specs.Putting.{users_at}
+use Rattle.at_cache.specs.Standings.{held_of, standing_of}
 use Rattle.at_cache.specs.Theirs.{HasSlot}
 use Rattle.at_cache.proofs.of_cut.HeldSlots.{entry_in}
 
@@ -57,3 +59,27 @@ no_slot t i is = by (lookup (same_instance i) t.entries.entries) refl is
         → lookup (same_instance i) t.entries.entries ≡ None
     by None looked is = looked
     by (Some e) looked is = absurd (none-some e.slot is)
+
+pub has_slots : (t : Table) (i : Instance ℕ) (o : Option ℕ)
+    → o ≡ option_map (λ (e : Entry). e.slot) (lookup (same_instance i) t.entries.entries) → IfSome o (HasSlot t i)
+has_slots t i (Some s) is = has_slot t i s is
+has_slots t i None is = tt
+
+-- whether it is kept is told by its slot
+pub held_at : (t : Table) (i : Instance ℕ) (standings : List Standing) (s : ℕ) (r : Standing)
+    → Some s ≡ option_map (λ (e : Entry). e.slot) (lookup (same_instance i) t.entries.entries)
+    → r ≡ standing_of standings s
+    → r.holds ≡ is_some (held_of standings (lookup (same_instance i) t.entries.entries))
+held_at t i standings s r is stands =
+    let has = has_slot t i s is in
+    rw has.found (ap (λ (z : Standing). z.holds) stands ∙ ap (λ n. (standing_of standings n).holds) (sym has.there)
+    ∙ shown (standing_of standings has.entry.slot).holds has.entry)
+  where
+    shown : (b : Bool) (e : Entry) → b ≡ is_some (if b then Some e else None)
+    shown true e = refl
+    shown false e = refl
+
+pub none_held : (t : Table) (i : Instance ℕ) (standings : List Standing)
+    → None ≡ option_map (λ (e : Entry). e.slot) (lookup (same_instance i) t.entries.entries)
+    → false ≡ is_some (held_of standings (lookup (same_instance i) t.entries.entries))
+none_held t i standings is = rw (no_slot t i is) refl

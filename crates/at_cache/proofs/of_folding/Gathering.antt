@@ -1,15 +1,14 @@
 -- What is gathered for a list, and the list that is made of it.
-use Rattle.std.proofs.Common.{◌≡◌, ◌⊎◌, inl, inr, ℕ, List, [], ◌∷◌, ◌++◌, Bool, true, false, true≢false, nat_eq, Option, None, Some, Contains, IsPermutation, length, slice_get, refl, sym, ap, ◌∙◌, subst, eqb-true}
+use Rattle.std.proofs.Common.{◌≡◌, ◌⊎◌, inl, inr, ℕ, List, [], ◌∷◌, ◌++◌, Bool, true, false, true≢false, nat_eq, Option, None, Some, Contains, length, slice_get, refl, sym, ap, ◌∙◌, subst, eqb-true}
 use Rattle.std.specs.List.{list_any}
 use Rattle.std.proofs.lemmas.Bool.{eq-eqb}
 use Rattle.std.proofs.lemmas.Option.{none-some, same_Some}
-use Rattle.std.proofs.lemmas.List.Elements.{Contains-append_cases, Contains-append_left, Contains-append_right, Contains-push, Contains-push_cases}
-use Rattle.std.proofs.lemmas.List.Sorted.{Contains-permutation, IsPermutation-sym}
+use Rattle.std.proofs.lemmas.List.Elements.{Contains-append_cases, Contains-append_left, Contains-append_right}
 use Rattle.slab.proofs.SlabLemmas.{Contains-cons_cases}
 use Rattle.at_cache.specs.declared.edge.Edge.{Edge}
-use Rattle.at_cache.specs.Folding.{AreAlone, AreEdgesTo, AreLone, Gathered, HasUser, IsLone, Refolded, Stays, Tells}
+use Rattle.at_cache.specs.Folding.{AreAlone, AreLone, Gathered, HasUser, IsLone, Refolded, Stays, Tells}
 use Rattle.at_cache.specs.Info.{Info, Memory}
-use Rattle.at_cache.specs.Putting.{Lists, is_current}
+use Rattle.at_cache.specs.Putting.{is_current}
 use Rattle.at_cache.proofs.Dooming.{head_of}
 use Rattle.at_cache.proofs.Ending.{any_of, some_of}
 use Rattle.at_cache.proofs.Listing.{current}
@@ -123,32 +122,6 @@ module _ (there : Edge → Bool) (into : ℕ → List ℕ) where
     | inr (last, same) ↦ subst (λ k. IsLone there into none k x) (next ∙ sym last) (subst (IsLone there into none slot) same one)
   ]
 
--- the edges to what is in slots
-pub edges_none : (m : Memory) → AreEdgesTo m [] []
-edges_none m = record { has = λ y c is. absurd (none_in y.slot c); from = λ y c. absurd (none_in y c) }
-
-pub edges_same : (m : Memory) (slots : List ℕ) (s : ℕ) (edges : List Edge) → m s ≡ None → AreEdgesTo m slots edges → AreEdgesTo m (slots ++ s ∷ []) edges
-edges_same m slots s edges none a = record {
-  has = λ y c is. elim (Contains-push_cases slots s y.slot c) [
-    | inl d ↦ a.has y d is
-    | inr same ↦ let (e, found, stamp) = told m y is in absurd (none-some e (sym none ∙ ap m same ∙ found))
-  ];
-  from = λ y c. let (is, d) = a.from y c in (is, Contains-append_left slots (s ∷ []) y.slot d);
-}
-
-pub edges_more : (m : Memory) (slots : List ℕ) (x : Edge) (old new : List Edge) → is_current m x ≡ true → Lists m x old new → Contains new x
-    → AreEdgesTo m slots old → AreEdgesTo m (slots ++ x.slot ∷ []) new
-edges_more m slots x old new is lists has a = record {
-  has = λ y c k. elim (Contains-push_cases slots x.slot y.slot c) [
-    | inl d ↦ let (e, found, stamp) = told m y k in lists.keeps y (a.has y d k) e found stamp
-    | inr same ↦ subst (Contains new) (told_same m x y is k same) has
-  ];
-  from = λ y c. elim (lists.only y c) [
-    | inl d ↦ let (k, e) = a.from y d in (k, Contains-append_left slots (x.slot ∷ []) y.slot e)
-    | inr same ↦ subst (λ (z : Edge). (is_current m z ≡ true) × Contains (slots ++ x.slot ∷ []) z.slot) (sym same) (is, Contains-push slots x.slot)
-  ];
-}
-
 -- a list whose edges all tell of such as stay is as it was
 pub refolded_alone : (m : Memory) (into : ℕ → List ℕ) (xs : List Edge) → AreAlone (is_current m) into xs → Refolded (is_current m) into xs xs
 refolded_alone m into xs alone = record {
@@ -157,21 +130,4 @@ refolded_alone m into xs alone = record {
       let same : y.slot ≡ x.slot = only_one x.slot y.slot (subst (λ rs. Contains rs y.slot) ((alone x c).1) d) in
       subst (Contains xs) (told_same m x y is k (sym same)) c;
   from = λ y c. let (is, only) = alone y c in (is, (y, c, is, subst (λ rs. Contains rs y.slot) (sym only) (head_of y.slot [])));
-}
-
--- and else it is made anew
-pub refolded_by : (m : Memory) (into : ℕ → List ℕ) (xs new : List Edge) (none slots sorted read : List ℕ) → none ≡ [] → Gathered (is_current m) into xs none slots
-    → IsPermutation slots sorted → read ≡ sorted → AreEdgesTo m read new → Refolded (is_current m) into xs new
-refolded_by m into xs new none slots sorted read empty g shuffled same e = record {
-  has = λ y u k.
-      let (x, c, is, d) = u in
-      e.has y (subst (λ rs. Contains rs y.slot) (sym same) (Contains-permutation slots sorted y.slot shuffled (g.has x y.slot c is d))) k;
-  from = λ y c.
-      let (is, d) = e.from y c in (
-        is,
-        elim (g.from y.slot (Contains-permutation sorted slots y.slot (IsPermutation-sym slots sorted shuffled) (subst (λ rs. Contains rs y.slot) same d))) [
-          | inl f ↦ absurd (none_in y.slot (subst (λ rs. Contains rs y.slot) empty f))
-          | inr u ↦ u
-        ],
-      );
 }

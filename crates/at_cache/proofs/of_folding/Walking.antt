@@ -12,7 +12,7 @@ use Rattle.at_cache.specs.declared.edge.Edge.{Edge}
 use Rattle.at_cache.specs.declared.entry.Entry.{Entry}
 use Rattle.at_cache.specs.declared.row.Row.{Row}
 use Rattle.at_cache.specs.Edges.{edges_in}
-use Rattle.at_cache.specs.Folding.{AreAlone, AreEdgesTo, Folds, FoldsAt, Gathered, HasUser, IsBelow, Linked, LinkedTo, Stays, slots_at}
+use Rattle.at_cache.specs.Folding.{AreAlone, Folds, FoldsAt, Gathered, HasUser, IsBelow, Linked, LinkedTo, Stays, slots_at}
 use Rattle.at_cache.specs.Info.{Info, Memory, info}
 use Rattle.at_cache.specs.Putting.{is_current}
 use Rattle.at_cache.specs.Rows.{edges_along, edges_of}
@@ -31,7 +31,7 @@ all_more P xs i d less before here r c = elim (Contains-push_cases (take i xs) (
   | inr same ↦ subst P same here
 ]
 
-row_more : (rows : List Row) (i : ℕ) (d : Row) → i < length rows → edges_along (take (i + 1) rows) ≡ edges_along (take i rows) ++ edges_of (get_or rows i d)
+pub row_more : (rows : List Row) (i : ℕ) (d : Row) → i < length rows → edges_along (take (i + 1) rows) ≡ edges_along (take i rows) ++ edges_of (get_or rows i d)
 row_more rows i d less = ap edges_along (take_more rows i d less) ∙ along_end (take i rows) (get_or rows i d)
 
 module _ (there : Edge → Bool) (into : ℕ → List ℕ) where
@@ -113,7 +113,3 @@ module _ {into : ℕ → List ℕ} where
   pub to_more : (xs : List ℕ) (i d : ℕ) {links : List ℕ} (f g h : ℕ → List ℕ) → i < length xs → LinkedTo into (take i xs) links f g
       → LinkedTo into (get_or xs i d ∷ []) links g h → LinkedTo into (take (i + 1) xs) links f h
   to_more xs i d {links} f g h less a b = subst (λ ys. LinkedTo into ys links f h) (sym (take_more xs i d less)) (to_then (take i xs) (get_or xs i d ∷ []) a b)
-
--- edges to one slot more
-pub edges_push : (m : Memory) (xs : List ℕ) (i d : ℕ) (edges : List Edge) → i < length xs → AreEdgesTo m (take i xs ++ get_or xs i d ∷ []) edges → AreEdgesTo m (take (i + 1) xs) edges
-edges_push m xs i d edges less a = subst (λ ys. AreEdgesTo m ys edges) (sym (take_more xs i d less)) a

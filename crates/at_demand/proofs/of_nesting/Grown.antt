@@ -8,25 +8,27 @@ use Rattle.at_model.specs.Rules.{Rules, is_lazy, start_of}
 use Rattle.at_model.specs.Nested.{IsGround}
 use Rattle.at_model.specs.of_fixpoints.Fixpoints.{HasValue}
 use Rattle.at_model.specs.of_fixpoints.Resting.{Leads, stays, goes}
-use Rattle.at_model.proofs.of_nesting.Nesting.{own_comes, reaches_own, waits_apart}
+use Rattle.at_model.proofs.of_nesting.Nesting.{evaluates_more, own_comes, reaches_own, waits_apart}
 use Rattle.at_store.specs.Shown.{Shown, IsIdle, contents}
 use Rattle.at_body.specs.Same.{same_instance}
 use Rattle.at_body.specs.Values.{value_view}
 use Rattle.at_body.specs.declared.value.Value.{Value as ValueCode}
 use Rattle.at_cache.specs.Kept.{Entries, HasPut, KeepsAll}
-use Rattle.at_cache.specs.Traced.{Memories, PutsTrace, Settled, StayTraced}
+use Rattle.at_cache.specs.Traced.{AreAlike, Memories, PutsTrace, Settled, StayTraced}
 use Rattle.at_cache.specs.declared.keeper.Order.{Order}
 use Rattle.at_cache.specs.declared.keeper.Order.TheVariants as order
 use Rattle.at_cache.specs.declared.keeper.Put.{Put}
 use Rattle.at_demand.specs.declared.direct.Level.{Level}
 use Rattle.at_demand.specs.Known.{equations, kept_values, meaning}
-use Rattle.at_demand.specs.Inner.{AreLazy, Gains, is_inner, known_by}
-use Rattle.at_demand.specs.InParts.{HasGained, HasGrown, Held, IsEvaluatedFor, IsHeld, IsUnkept, held}
+use Rattle.at_demand.specs.Inner.{AreLazy, Gains, IsEvaluated, is_inner, known_by}
+use Rattle.at_demand.specs.InParts.{HasGained, HasGrown, Held, IsEvaluatedFor, IsHeld, IsUnkept, held, values_in}
+use Rattle.at_demand.specs.Made.{Makes}
 use Rattle.at_demand.specs.Sparing.{Counts}
 use Rattle.at_demand.proofs.Entered.{is_there}
 use Rattle.at_demand.proofs.of_nesting.Asked.{gains_evaluated, traced_evaluated}
 use Rattle.at_demand.proofs.of_nesting.InnerGains.{Found, counts_shared_so, gains_as, gains_more, gains_none, gains_put_so, gains_same, gains_then, gains_up, more_known, valued}
-use Rattle.at_demand.proofs.of_nesting.Remembered.{ground_by}
+use Rattle.at_demand.proofs.of_nesting.Remembered.{ground_by, known_on}
+use Rattle.at_demand.proofs.of_traces.Making.{makes_alike, makes_as, makes_from, makes_none, makes_then}
 use Rattle.at_demand.proofs.of_traces.Putting.{put_traced, stays_put, traced_on, traced_same, traced_then, traced_up}
 use Rattle.at_demand.proofs.of_traces.Settled.{LastKept, settled_gains}
 
@@ -36,6 +38,7 @@ pub grown_none : (rules : Rules) (s : Shown) (exact : Bool) (i : Instance ℕ) (
 grown_none rules s exact i h few is = record {
   gains = gains_none rules s exact i h.entries h.found h.work few is.known;
   traces = traced_same rules s i h.memories is.justified;
+  makes = makes_none h.entries h.memories h.made;
 }
 
 -- first one part comes, and then another one
@@ -45,6 +48,8 @@ grown_then {rules} {s} {exact} {i} {old} {mid} {new} a b = record {
   gains = gains_then rules s exact i old.entries mid.entries new.entries old.found mid.found new.found old.work mid.work
       new.work a.gains b.gains;
   traces = traced_then rules s i old.memories mid.memories new.memories a.traces b.traces;
+  makes = makes_then old.entries mid.entries new.entries old.memories mid.memories new.memories old.made mid.made new.made
+      a.gains.worthy.stays b.gains.worthy.stays a.makes b.makes;
 }
 
 -- what comes for an instance comes for one that leads to it
@@ -53,27 +58,29 @@ pub grown_up : {rules : Rules} {s : Shown} {exact : Bool} {i j : Instance ℕ} {
 grown_up {rules} {s} {exact} {i} {j} {old} {new} idle led a = record {
   gains = gains_up rules s exact idle i j old.entries new.entries old.found new.found old.work new.work led a.gains;
   traces = traced_up rules s idle i j old.memories new.memories led a.traces;
+  makes = a.makes;
 }
 
 -- from what was remembered and counted so before
 pub grown_from : {rules : Rules} {s : Shown} {exact : Bool} {i : Instance ℕ} {entries : Entries} {m : Memories} {f g : Found}
-    {w x : ℕ} {new : Held} → g ≡ f → x ≡ w →
-    HasGrown rules s exact i (held entries m g x) new → HasGrown rules s exact i (held entries m f w) new
-grown_from {rules} {s} {exact} {i} {entries} {m} {f} {g} {w} {x} {new} e d a = record {
+    {w x k l : ℕ} {new : Held} → g ≡ f → x ≡ w → l ≡ k →
+    HasGrown rules s exact i (held entries m g x l) new → HasGrown rules s exact i (held entries m f w k) new
+grown_from {rules} {s} {exact} {i} {entries} {m} {f} {g} {w} {x} {k} {l} {new} e d c a = record {
   gains = subst (λ (z : Found). Gains rules s exact i entries new.entries z new.found w new.work) e
       (subst (λ (z : ℕ). Gains rules s exact i entries new.entries g new.found z new.work) d a.gains);
   traces = a.traces;
+  makes = makes_from c a.makes;
 }
 
 -- behind what came for an instance, what came for one that it leads to, in a level that was given
 pub grown_aside : {rules : Rules} {s : Shown} {exact : Bool} {i j : Instance ℕ} {old new : Held} {entries : Entries}
-    {m : Memories} {f g : Found} {w x : ℕ} {o : Option (Instance ℕ)} → IsIdle s → o ≡ Some j →
-    IfSome o (Leads (contents s) (meaning rules) i) → HasGrown rules s exact i old (held entries m f w) →
-    g ≡ f → x ≡ w → HasGrown rules s exact j (held entries m g x) new → HasGrown rules s exact i old new
-grown_aside {rules} {s} {exact} {i} {j} {old} {new} {entries} {m} {f} {g} {w} {x} {o} idle is led a e d b =
+    {m : Memories} {f g : Found} {w x k l : ℕ} {o : Option (Instance ℕ)} → IsIdle s → o ≡ Some j →
+    IfSome o (Leads (contents s) (meaning rules) i) → HasGrown rules s exact i old (held entries m f w k) →
+    g ≡ f → x ≡ w → l ≡ k → HasGrown rules s exact j (held entries m g x l) new → HasGrown rules s exact i old new
+grown_aside {rules} {s} {exact} {i} {j} {old} {new} {entries} {m} {f} {g} {w} {x} {k} {l} {o} idle is led a e d c b =
     let leads : Leads (contents s) (meaning rules) i j =
     subst (λ (p : Option (Instance ℕ)). IfSome p (Leads (contents s) (meaning rules) i)) is led in
-    grown_then a (grown_up idle leads (grown_from e d b))
+    grown_then a (grown_up idle leads (grown_from e d c b))
 
 -- an instance that isn't circular, and has a value, isn't led to by another one to which it leads
 apart_from : (rules : Rules) (look : Contents ℕ) (known : Known ℕ) →
@@ -111,11 +118,12 @@ unkept_aside {rules} {s} {exact} i {j} {old} {new} {o} own is led other a none =
 pub grown_settled : (rules : Rules) (s : Shown) → IsIdle s → (exact : Bool) (i : Instance ℕ) (old : Held) (entries : Entries)
     (m : Memories) (n w : ℕ) → IsHeld rules (contents s) old → old.work < 2 ^ 64 → LastKept old.memories old.entries →
     Settled exact old.memories i n old.entries entries → w ≡ min (old.work + n) (2 ^ 64 - 1) → StayTraced old.memories m →
-    HasGrown rules s exact i old (held entries m old.found w)
-grown_settled rules s idle exact i old entries m n w is few last steps counted stay = record {
+    AreAlike old.memories m → HasGrown rules s exact i old (held entries m old.found w old.made)
+grown_settled rules s idle exact i old entries m n w is few last steps counted stay alike = record {
   gains = settled_gains rules s idle exact old.memories is.justified i n old.entries entries old.found old.work w
       steps few counted is.known last;
   traces = traced_on rules s i old.memories m stay is.justified;
+  makes = makes_alike old.entries entries old.memories m old.made alike;
 }
 
 -- then all is right still
@@ -129,6 +137,7 @@ pub grown_evaluated : (rules : Rules) (s : Shown) (exact : Bool) → IsIdle s �
 grown_evaluated rules s exact idle i old new own h = record {
   gains = gains_evaluated rules s exact idle i old new own h;
   traces = traced_evaluated rules s exact idle i old new own h;
+  makes = h.makes;
 }
 
 -- a lazy one was evaluated, and is kept or left: what comes so
@@ -137,7 +146,8 @@ module _ {rules : Rules} {s : Shown} {exact : Bool} {i : Instance ℕ} {old new 
     {us : List (Instance ℕ)} (same : us ≡ below.uses.items) (o : Order) (ordered : o ≡ order.AsTaken → AreLazy rules us)
     (last : LastKept new.memories new.entries)
     (puts : PutsTrace i (Some v) below.reads below.uses.items o old.memories new.memories)
-    (counts : IsTrue exact → Counts old.entries new.entries old.work new.work) where
+    (counts : IsTrue exact → Counts old.entries new.entries old.work new.work)
+    (makes : Makes old.entries new.entries old.memories new.memories old.made new.made) where
   pub grown_kept : old.entries i ≡ None → (p : Put) →
       HasPut exact old.entries i (Some v) below.reads below.uses.items new.entries p → HasGrown rules s exact i old new
   grown_kept absent p put = record {
@@ -149,6 +159,7 @@ module _ {rules : Rules} {s : Shown} {exact : Bool} {i : Instance ℕ} {old new 
         (λ e. subst (λ (xs : List (Instance ℕ)). AreLazy rules xs) same (ordered e))
         (stays_put exact old.entries new.entries i (Some v) below.reads below.uses.items p absent put) last puts
         is.held.justified;
+    makes = makes;
   }
 
   -- where memory was wanting
@@ -160,29 +171,43 @@ module _ {rules : Rules} {s : Shown} {exact : Bool} {i : Instance ℕ} {old new 
         new.memories is.held.known is.own is.come is.lazy
         (λ e. subst (λ (xs : List (Instance ℕ)). AreLazy rules xs) same (ordered e)) (λ j some. all j) last puts
         is.held.justified;
+    makes = makes;
   }
 
 -- one that isn't lazy was evaluated, and has an entry, or is left
 pub grown_entered : (rules : Rules) (s : Shown) {exact : Bool} {i : Instance ℕ} {v : Value ℕ} {below : Level}
-    {before after : Entries} {m n : Memories} {f : Found} {w : ℕ} → w < 2 ^ 64 →
-    IsEvaluatedFor rules (contents s) (held before m f w) false i v below → before i ≡ None → StayTraced m n → (p : Put) →
-    HasPut exact before i None below.reads below.uses.items after p →
-    HasGrown rules s exact i (held before m f w) (held after n f w)
-grown_entered rules s {exact} {i} {v} {below} {before} {after} {m} {n} {f} {w} few is absent stay p put = record {
+    {before after : Entries} {m n : Memories} {f : Found} {w k : ℕ} → w < 2 ^ 64 →
+    IsEvaluatedFor rules (contents s) (held before m f w k) false i v below → before i ≡ None → StayTraced m n →
+    Makes before after m n k k → (p : Put) → HasPut exact before i None below.reads below.uses.items after p →
+    HasGrown rules s exact i (held before m f w k) (held after n f w k)
+grown_entered rules s {exact} {i} {v} {below} {before} {after} {m} {n} {f} {w} {k} few is absent stay makes p put = record {
   gains = gains_put_so rules s exact i before after f v below.reads below.uses.items is.held.known is.own is.come None
       (inr (refl, is.lazy)) absent w w
       (λ k. counts_shared_so rules s exact before after i below.reads below.uses.items w few absent p put) p put;
   traces = traced_on rules s i m n stay is.held.justified;
+  makes = makes;
 }
 
 -- up to what was remembered and counted so before
 pub grown_as : {rules : Rules} {s : Shown} {exact : Bool} {i : Instance ℕ} {old : Held} {entries : Entries} {m : Memories}
-    {f g : Found} {w x : ℕ} → g ≡ f → x ≡ w →
-    HasGrown rules s exact i old (held entries m f w) → HasGrown rules s exact i old (held entries m g x)
-grown_as {rules} {s} {exact} {i} {old} {entries} {m} {f} {g} {w} {x} e d a = record {
+    {f g : Found} {w x k l : ℕ} → g ≡ f → x ≡ w → l ≡ k →
+    HasGrown rules s exact i old (held entries m f w k) → HasGrown rules s exact i old (held entries m g x l)
+grown_as {rules} {s} {exact} {i} {old} {entries} {m} {f} {g} {w} {x} {k} {l} e d c a = record {
   gains = gains_as rules s exact i old.entries entries old.found f g old.work w x e d a.gains;
   traces = a.traces;
+  makes = makes_as c a.makes;
 }
+
+-- where more is known its evaluation goes the same way
+pub evaluated_more : {rules : Rules} {s : Shown} {exact : Bool} {j : Instance ℕ} {old new : Held} → HasGrown rules s exact j old new →
+    IsHeld rules (contents s) old → (i : Instance ℕ) (v : Value ℕ) (ls : List (Location ℕ)) (us : List (Instance ℕ)) →
+    IsEvaluated rules (contents s) (values_in old) i v ls us → IsEvaluated rules (contents s) (values_in new) i v ls us
+evaluated_more {rules} {s} {exact} {j} {old} {new} a is i v ls us come = (
+  come.0,
+  evaluates_more (contents s) (equations rules) (values_in old) (is_inner rules) (values_in new)
+      (known_on rules (contents s) old.entries old.found is.known new.entries new.found a.gains.known a.gains.worthy.stays
+      a.gains.still) come.0 (equations rules i) v ls us come.1,
+)
 
 -- the instance has the value to which it was evaluated
 pub evaluated_has : (rules : Rules) (s : Shown) (exact : Bool) {h : Held} {lazily : Bool} {i : Instance ℕ} {v : Value ℕ}
@@ -192,13 +217,14 @@ evaluated_has rules s exact {h} {lazily} {i} {v} {below} is =
 
 -- its value is remembered, and known then
 module _ {rules : Rules} {s : Shown} {exact : Bool} {i : Instance ℕ} {old : Held} {entries : Entries} {m : Memories}
-    {f g : Found} {w : ℕ} (a : HasGrown rules s exact i old (held entries m f w)) (c : ValueCode)
+    {f g : Found} {w k : ℕ} (a : HasGrown rules s exact i old (held entries m f w k)) (c : ValueCode)
     (put : g ≡ insert_entry same_instance f i c) (has : HasValue (contents s) (meaning rules) i (value_view c))
     (some : IsSome (entries i)) (lazy : is_lazy rules i.attribute ≡ false) where
-  pub grown_more : HasGrown rules s exact i old (held entries m g w)
+  pub grown_more : HasGrown rules s exact i old (held entries m g w k)
   grown_more = record {
     gains = gains_more rules s exact i old.entries entries old.found f g old.work w c a.gains put has some lazy;
     traces = a.traces;
+    makes = a.makes;
   }
 
   pub grown_known : known_by entries g i ≡ Some (value_view c)

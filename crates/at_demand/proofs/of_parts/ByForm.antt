@@ -20,6 +20,7 @@ use Rattle.at_apply.specs.Parts.{beside_text, call_of, either_of, fold_of, one_o
 use Rattle.at_demand.specs.declared.direct.Level.{Level}
 use Rattle.at_demand.specs.Inner.{Gains, HasTold}
 use Rattle.at_demand.specs.InParts.{HasCome, HasGained, Held, demand, values_in}
+use Rattle.at_demand.specs.Made.{Makes}
 use Rattle.at_demand.specs.Traces.{StayJustified}
 use Rattle.at_demand.proofs.of_parts.Directly.{come_begun, come_end, come_then, gains_begun, gains_demand, gains_then, gains_within, grows, grows_then, told_come}
 
@@ -157,12 +158,13 @@ module _ (rules : Rules) (s : Shown) (exact : Bool) (p : Place) where
     module _ (n : ℕ) (vs : List ValueCode) (last : Held) (later : Level) (e : value_view v ≡ Ref (Some n))
         (t : HasCome rules (contents s) next between later (all_at rules p bs) (map value_view vs))
         (d : Gains rules s exact (asked n k vs) next.entries last.entries next.found last.found next.work last.work)
-        (j : StayJustified rules s (asked n k vs) next.memories last.memories) where
+        (j : StayJustified rules s (asked n k vs) next.memories last.memories)
+        (m : Makes next.entries last.entries next.memories last.memories next.made last.made) where
       demands : demand_of k (value_view v) (map value_view vs) ≡ demand (asked n k vs)
       demands = ap (λ z. demand_of k z (map value_view vs)) e
 
       asks : HasGained rules s exact (demand (asked n k vs)) next last
-      asks = gains_demand rules s exact (asked n k vs) next last d j
+      asks = gains_demand rules s exact (asked n k vs) next last d j m
 
       pub call_gains : HasGained rules s exact (call_of rules.classes p a k bs) first last
       call_gains = gains_then rules s exact (run_at rules p a) (behind_receiver rules p k bs) (value_view v)

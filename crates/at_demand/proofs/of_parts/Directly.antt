@@ -12,11 +12,13 @@ use Rattle.at_demand.specs.declared.direct.Level.{Level}
 use Rattle.at_demand.specs.Known.{equations, meaning, kept_values, IsKept, KeepsEntries}
 use Rattle.at_demand.specs.Inner.{Gains, HasTold, StayRemembered, is_inner}
 use Rattle.at_demand.specs.InParts.{Demanded, HasCome, HasGained, Held, IsHeld, demand, values_in}
+use Rattle.at_demand.specs.Made.{Makes}
 use Rattle.at_demand.specs.Sparing.{IsWorthKeeping}
 use Rattle.at_demand.specs.Traces.{StayJustified}
 use Rattle.at_demand.proofs.Counting.{counts_more, counts_none}
 use Rattle.at_demand.proofs.Entered.{entered_on, is_there, not_none}
 use Rattle.at_demand.proofs.of_nesting.Remembered.{ground_by, known_on}
+use Rattle.at_demand.proofs.of_traces.Making.{makes_none, makes_then}
 use Rattle.at_demand.proofs.of_parts.Looked.{looked, passes_behind, reaches_past}
 
 -- What was held stays, and all is right.
@@ -144,6 +146,7 @@ module _ (rules : Rules) (s : Shown) (exact : Bool) where
     there = λ all a. a;
     spare = λ e a. a;
     counts = λ e. counts_none h.entries h.work few;
+    makes = makes_none h.entries h.memories h.made;
   }
 
   -- what an evaluation demands another one demands, too
@@ -159,6 +162,7 @@ module _ (rules : Rules) (s : Shown) (exact : Bool) where
     there = λ all. g.there (λ m d. all m (wider m d));
     spare = g.spare;
     counts = g.counts;
+    makes = g.makes;
   }
 
   -- of the first part alone
@@ -188,6 +192,8 @@ module _ (rules : Rules) (s : Shown) (exact : Bool) where
     spare = λ e a. h.spare e (g.spare e a);
     counts = λ e. counts_more first.entries mid.entries last.entries first.work mid.work last.work (g.counts e)
         (h.counts e);
+    makes = makes_then first.entries mid.entries last.entries first.memories mid.memories last.memories first.made mid.made
+        last.made g.keeps h.keeps g.makes h.makes;
   }
     where
       within : (m : Instance ℕ) → Demanded rules (contents s) r m → Demanded rules (contents s) (r >>= k) m
@@ -208,8 +214,9 @@ module _ (rules : Rules) (s : Shown) (exact : Bool) where
   -- what came for an instance came for its demand
   pub gains_demand : (i : Instance ℕ) (old new : Held) →
       Gains rules s exact i old.entries new.entries old.found new.found old.work new.work →
-      StayJustified rules s i old.memories new.memories → HasGained rules s exact (demand i) old new
-  gains_demand i old new g t = record {
+      StayJustified rules s i old.memories new.memories →
+      Makes old.entries new.entries old.memories new.memories old.made new.made → HasGained rules s exact (demand i) old new
+  gains_demand i old new g t m = record {
     keeps = g.worthy.stays;
     still = g.still;
     worthy = λ j none some. (i, inl refl, g.worthy.worthy j none some);
@@ -218,4 +225,5 @@ module _ (rules : Rules) (s : Shown) (exact : Bool) where
     there = λ all. t.there (all i (inl refl));
     spare = g.spare;
     counts = g.counts;
+    makes = m;
   }

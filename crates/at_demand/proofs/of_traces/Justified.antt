@@ -52,6 +52,13 @@ stay_any i v reads uses old new puts j t is = elim (puts j t is) [
   | inr mine ↦ let never = mine.1.ordered in absurd cc
 ]
 
+pub stay_in_turns : (i : Instance ℕ) (v : Option (Value ℕ)) (reads : List (Location ℕ)) (uses : List (Instance ℕ))
+    (old new : Memories) → PutsTrace i v reads uses order.InTurns old new → StayTraced old new
+stay_in_turns i v reads uses old new puts j t is = elim (puts j t is) [
+  | inl still ↦ still
+  | inr mine ↦ let never = mine.1.ordered in absurd cc
+]
+
 -- and is right still
 pub justified_still : (rules : Rules) (look : Contents ℕ) (before later : Memories) → AreJustified rules look before →
     (i : Instance ℕ) (t : Trace) → IsStill before later i t →

@@ -182,7 +182,8 @@ impl Direct {
         Ok(None)
     }
 
-    // The value of a lazy instance that isn't kept, by an evaluation of its own; it is kept at its end, and taken then.
+    // The value of a lazy instance that isn't kept, by an evaluation of its own; it is kept at its end, and taken then. Where nothing that it used
+    // has changed it is kept again, and not made.
     #[cycle(direct)]
     fn afresh<K: Keeper>(
         &mut self,
@@ -198,6 +199,10 @@ impl Direct {
     {
         let mut below = self.level();
         let value = self.evaluate(keeper, basis, &mut below, &needed, above)?;
+        let again = self.keep_again(keeper, basis, level, &needed)?;
+        if let Some(known) = again {
+            return Ok(known);
+        }
         self.keep(keeper, basis, level, &below, needed, &value)?;
         self.spare.push(below)?;
         Ok(value)

@@ -9,11 +9,12 @@ ghost use Rattle.at_body.specs.Values.{value_view};
 ghost use Rattle.at_body.specs.Same.{same_instance};
 ghost use Rattle.indexmap.specs.IndexMap.{insert_entry};
 ghost use Rattle.at_cache.specs.Kept.{AreKept, HasPut, KeepsAll};
-ghost use Rattle.at_cache.specs.Traced.{PutsTrace};
+ghost use Rattle.at_cache.specs.Traced.{PutsTrace, is_settled};
 ghost use Rattle.at_cache.specs.declared.keeper.Order.TheVariants as order_code;
 ghost use Rattle.at_demand.specs.Known.{kept_values, meaning};
 ghost use Rattle.at_demand.specs.Inner.{AreKnown, AreLazy, HasRecalled, IsOneOf, known_by, remembered};
 ghost use Rattle.at_demand.specs.InParts.{EndsRecalled, EndsTaken, HasEntered, IsEvaluatedAfresh, IsEvaluatedFor, IsHeld, IsHeldAfresh, LeavesFinds, held_by};
+ghost use Rattle.at_demand.specs.Made.{CountsPut, Makes};
 ghost use Rattle.at_demand.specs.Meant.{AreCircularWell};
 ghost use Rattle.at_demand.specs.Sparing.{Counts};
 
@@ -88,6 +89,7 @@ impl Direct {
     }
 
     // The known value of an instance, which is taken then. Where a lazy one has none, none is kept.
+    #[inline(always)]
     pub(super) fn recall<K: Keeper>(
         &self,
         keeper: &K,
@@ -161,7 +163,7 @@ impl Direct {
         }
     }
 
-    // Puts a value to what is kept, for all that its evaluation looked at and took, and counts it.
+    // Puts a value to what is kept, for all that its evaluation looked at and took, and counts it. It is made, if it is there.
     fn put<K: Keeper>(
         &mut self,
         keeper: &mut K,
@@ -172,6 +174,7 @@ impl Direct {
     ) -> Result<Put, AllocError>
         requires absent { K.contents keeper.old inst.now ≡ None }
         requires present { AreKept (K.contents keeper.old) level.now.uses.items }
+        requires settled { is_settled order ≡ true }
         ensures puts { IfOk result (HasPut K.exact (K.contents keeper.old) inst.now (Some (value_view value.now)) level.now.reads
             level.now.uses.items (K.contents keeper.new)) }
         ensures err { OnErr result (KeepsAll (K.contents keeper.old) (K.contents keeper.new)) }
@@ -179,6 +182,7 @@ impl Direct {
         ensures found { self.new.found.entries ≡ self.old.found.entries }
         ensures traces { PutsTrace inst.now (Some (value_view value.now)) level.now.reads level.now.uses.items order
             (K.memories keeper.old) (K.memories keeper.new) }
+        ensures makes { Makes (K.contents keeper.old) (K.contents keeper.new) (K.memories keeper.old) (K.memories keeper.new) self.old.made self.new.made }
     {
         let reads = level.reads.as_slice();
         let uses = level.uses.as_slice();
@@ -190,6 +194,7 @@ impl Direct {
             order,
         )?;
         self.work = self.work.saturating_add(1);
+        self.made = counted(self.made, put);
         Ok(put)
     }
 
@@ -278,7 +283,8 @@ pub(super) fn is_circular(rules: &Rules, attribute: AttrId) -> bool
 
 // How the uses of an evaluation stand: as they were taken, where all are lazy. The value of another one is known for one question alone.
 fn order_of(rules: &Rules, uses: &[Inst]) -> Order
-    ensures { result ≡ order_code.AsTaken → AreLazy rules.now uses.now }
+    ensures lazy { result ≡ order_code.AsTaken → AreLazy rules.now uses.now }
+    ensures settled { is_settled result ≡ true }
 {
     for inst in uses {
         if !rules.is_lazy(inst.attribute()) {
@@ -286,6 +292,16 @@ fn order_of(rules: &Rules, uses: &[Inst]) -> Order
         }
     }
     Order::AsTaken
+}
+
+// How many values were made once one was put.
+fn counted(made: u64, put: Put) -> u64
+    ensures { CountsPut put made result }
+{
+    match put {
+        Put::Kept => made.saturating_add(1),
+        Put::Left => made,
+    }
 }
 
 // How many locations, and elements, a small evaluation looks at.

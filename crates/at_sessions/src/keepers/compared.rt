@@ -41,6 +41,11 @@ impl KeepCompared {
         }
     }
 
+    /// Whether it takes no entry any more.
+    fn takes_none(&self) -> bool {
+        self.models.differs || self.models.gone >= self.limit
+    }
+
     /// The models forget what is touched, and are compared with the keeper, which has done so.
     fn follow<F: Fn(Loc) -> bool>(&mut self, touched: &F)
         requires { F.IsAlwaysCallable touched.now }
@@ -77,7 +82,7 @@ impl Keeper for KeepCompared {
         uses: &[Inst],
         order: Order,
     ) -> Result<Put, AllocError> {
-        if self.models.differs || self.models.gone >= self.limit {
+        if self.takes_none() {
             return Err(AllocError);
         }
         let mut entry = self.models.entry(&inst, &value, reads)?;

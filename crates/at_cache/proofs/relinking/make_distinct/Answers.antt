@@ -5,6 +5,9 @@ use Rattle.at_cache.specs.Folding.{HasSame}
 use Rattle.at_cache.proofs.of_folding.Distinct.{same_sorted}
 use Rattle.at_cache.proofs.relinking.make_distinct.Goals as goal
 
+pub returns-then-len-lt2 : goal.returns-then-len-lt2
+returns-then-len-lt2 c = record { kept = λ p c. c; from = λ p c. c }
+
 pub returns : goal.returns
 returns c =
     let xs = c.args.list.now.items in

@@ -135,6 +135,36 @@ returns-in_err-put_in-clause-traces c = let kept = rw c.in_err-put_in.was at c.p
     (memory_of c.add_users.new.entries) (memory_of c.put_in.new.cut.entries) kept.0 c.add_users.ensures.uses)).traces
     c.args.inst (option_map value_view c.args.value) (map loc_view c.args.reads.now) c.args.uses.now c.args.order
 
+pub returns-in_err-links-clause-spares : goal.returns-in_err-links-clause-spares
+returns-in_err-links-clause-spares c = (left_alone (edges_to c.args.readers.now) c.args.cut.now.entries
+    c.args.cut.now.standings.items c.requires.awaited.indexed c.requires.awaited.tied c.requires.awaited.valued c.args.cut.now.standings.items
+    (λ k. refl)).spares c.args.inst _
+
+pub returns-in_err-make_standing-clause-spares : goal.returns-in_err-make_standing-clause-spares
+returns-in_err-make_standing-clause-spares c = (left_alone (edges_to c.args.readers.now) c.args.cut.now.entries
+    c.args.cut.now.standings.items c.requires.awaited.indexed c.requires.awaited.tied c.requires.awaited.valued
+    c.make_standing.new.standings.items c.make_standing.ensures.same).spares c.args.inst _
+
+pub returns-in_err-add_readers-clause-spares : goal.returns-in_err-add_readers-clause-spares
+returns-in_err-add_readers-clause-spares c = (left (edges_to c.args.readers.now)
+    (edges_to c.add_readers.new.readers) c.args.cut.now.entries c.args.cut.now.entries
+    c.args.cut.now.standings.items c.make_standing.new.standings.items c.requires.awaited.indexed c.requires.awaited.tied
+    c.requires.awaited.valued refl c.make_standing.ensures.same c.add_readers.ensures.reads (uses_none _ _)).spares c.args.inst _
+
+pub returns-in_err-add_users-clause-spares : goal.returns-in_err-add_users-clause-spares
+returns-in_err-add_users-clause-spares c = (left (edges_to c.args.readers.now)
+    (edges_to c.add_readers.new.readers) c.args.cut.now.entries c.add_users.new.entries
+    c.args.cut.now.standings.items c.make_standing.new.standings.items c.requires.awaited.indexed c.requires.awaited.tied
+    c.requires.awaited.valued refl c.make_standing.ensures.same c.add_readers.ensures.reads c.add_users.ensures.uses).spares c.args.inst _
+
+pub returns-in_err-put_in-clause-spares : goal.returns-in_err-put_in-clause-spares
+returns-in_err-put_in-clause-spares c = let kept = rw c.in_err-put_in.was at c.put_in.ensures.err in (left (edges_to c.args.readers.now)
+    (edges_to c.add_readers.new.readers) c.args.cut.now.entries c.put_in.new.cut.entries
+    c.args.cut.now.standings.items c.put_in.new.cut.standings.items c.requires.awaited.indexed c.requires.awaited.tied
+    c.requires.awaited.valued refl (λ k. ap (λ (ss : List Standing). standing_of ss k) kept.1
+    ∙ c.make_standing.ensures.same k) c.add_readers.ensures.reads (uses_alike (memory_of c.args.cut.now.entries)
+    (memory_of c.add_users.new.entries) (memory_of c.put_in.new.cut.entries) kept.0 c.add_users.ensures.uses)).spares c.args.inst _
+
 pub add_users-requires : goal.add_users-requires
 add_users-requires c = record {
   there = subst (AreTaken (memory_of c.args.cut.now.entries))
@@ -186,4 +216,5 @@ returns c =
       puts = done.puts;
       err = tt;
       traces = done.traces;
+      spares = done.spares;
     }

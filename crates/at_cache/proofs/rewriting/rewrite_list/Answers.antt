@@ -1,7 +1,10 @@
+use Rattle.std.proofs.Common.{[], ap}
 use Rattle.at_cache.specs.Folding.{slots_at}
 use Rattle.at_cache.specs.Info.{memory_of}
 use Rattle.at_cache.specs.Putting.{is_current}
-use Rattle.at_cache.proofs.of_folding.Gathering.{refolded_alone, refolded_by}
+use Rattle.at_cache.specs.Rows.{edges_along}
+use Rattle.at_cache.proofs.of_folding.Gathering.{refolded_alone}
+use Rattle.at_cache.proofs.of_folding.Parting.{parted_none, refolded_parted}
 use Rattle.at_cache.proofs.rewriting.rewrite_list.Goals as goal
 
 pub returns-then-has_all : goal.returns-then-has_all
@@ -9,5 +12,5 @@ returns-then-has_all c = refolded_alone _ _ _ (c.has_all.ensures (is_current (me
 
 pub returns : goal.returns
 returns c =
-    refolded_by _ _ _ _ _ _ _ _ c.clear.ensures.items c.in_ok-gather.ensures c.sort_unstable.ensures.permutation
-    c.as_slice.ensures.value c.in_ok-edges.ensures
+    rw c.in_ok-edges.ensures (refolded_parted _ _ _ _ _ _ _ c.sort_unstable.ensures.permutation
+    (c.in_ok-part.ensures [] (parted_none _ _ _ _ c.clear.ensures.items (ap edges_along c.in_ok-rows.ensures.items))) c.in_ok-add_edges_to.ensures)

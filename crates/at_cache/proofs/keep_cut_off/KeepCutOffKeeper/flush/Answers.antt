@@ -1,7 +1,7 @@
 use Rattle.std.proofs.Common.{◌∙◌}
 use Rattle.at_cache.specs.Kept.{Answers}
 use Rattle.at_cache.specs.Finding.{edges_to}
-use Rattle.at_cache.proofs.of_cut.Flushed.{flushes_traces, held_after, leaves_held, loses_held, tied_after, valued_after}
+use Rattle.at_cache.proofs.of_cut.Flushed.{flushes_traces, held_after, leaves_held, loses_held, spares_edit, tied_after, valued_after}
 use Rattle.at_cache.proofs.keep_cut_off.KeepCutOffKeeper.flush.Goals as goal
 
 pub invariant_of-self : goal.invariant_of-self
@@ -30,6 +30,11 @@ returns-clause-loses g c =
 pub returns-clause-traces : goal.returns-clause-traces
 returns-clause-traces g c =
     flushes_traces (Answers (goal.F-post g c.args.touched.now)) (edges_to c.args.self.now.readers) c.args.self.now.puts c.args.self.now.cut c.take_away.new.cut c.take_away-2.new.cut
+    c.take_away.ensures.takes c.take_away-2.ensures.takes
+
+pub returns-clause-spares : goal.returns-clause-spares
+returns-clause-spares g c =
+    spares_edit (Answers (goal.F-post g c.args.touched.now)) (edges_to c.args.self.now.readers) c.args.self.now.puts c.args.self.now.cut c.take_away.new.cut c.take_away-2.new.cut
     c.take_away.ensures.takes c.take_away-2.ensures.takes
 
 pub returns-clause-len : goal.returns-clause-len

@@ -1,8 +1,7 @@
-use Rattle.std.proofs.Common.{ap, sym, ◌∙◌}
-use Rattle.std.specs.Option.{option_copied}
 use Rattle.at_cache.specs.Finding.{edges_to}
 use Rattle.at_cache.specs.Settling.{IsWhole}
-use Rattle.at_cache.proofs.of_cut.Goes.{goes_from, settled_from, stay_from}
+use Rattle.at_cache.proofs.of_cut.Goes.{alike_from, goes_from, settled_from, stay_from}
+use Rattle.at_cache.proofs.of_cut.Spared.{alike_itself}
 use Rattle.at_cache.proofs.of_cut.Untraced.{settles_nothing}
 use Rattle.at_cache.proofs.keep_cut_off.KeepCutOffKeeper.settle.Goals as goal
 
@@ -12,14 +11,13 @@ returns-then-not-self-clause-settled c = settles_nothing _ _ _ _ c.args.work c.r
 pub returns-in_default-clause-settled : goal.returns-in_default-clause-settled
 returns-in_default-clause-settled c = settles_nothing _ _ _ _ c.args.work c.ranges.work.fits
 
-pub invariant_of-self-2 : goal.invariant_of-self-2
-invariant_of-self-2 c =
+pub invariant_of-self : goal.invariant_of-self
+invariant_of-self c =
     let k = c.args.self.now in
     let lists = edges_to k.readers in
-    let found = sym c.get.ensures.value ∙ ap option_copied c.in-Some.is in
-    let whole : IsWhole lists k.cut.entries k.cut.standings.items (record { puts = k.puts; work = c.args.work })
+    let whole : IsWhole lists k.cut.entries k.cut.standings.items (record { puts = k.puts; work = c.args.work; stuck = c.in-Some.slot })
     = record { indexed = k.indexed; tied = k.tied; valued = k.valued; few = c.ranges.work.fits } in
-    let goes = goes_from lists k.cut.entries c.args.inst.now _ found _ _ _ _ _ (c.settle_at.ensures lists whole) in
+    let goes = goes_from lists k.cut.entries c.args.inst.now _ c.in-Some.ensures _ _ _ _ _ (c.settle_at.ensures lists whole) in
     record {
       indexed = goes.whole.indexed;
       tied = goes.whole.tied;
@@ -31,16 +29,28 @@ pub returns-clause-settled : goal.returns-clause-settled
 returns-clause-settled c =
     let k = c.args.self.now in
     let lists = edges_to k.readers in
-    let found = sym c.get.ensures.value ∙ ap option_copied c.in-Some.is in
-    let whole : IsWhole lists k.cut.entries k.cut.standings.items (record { puts = k.puts; work = c.args.work })
+    let whole : IsWhole lists k.cut.entries k.cut.standings.items (record { puts = k.puts; work = c.args.work; stuck = c.in-Some.slot })
     = record { indexed = k.indexed; tied = k.tied; valued = k.valued; few = c.ranges.work.fits } in
-    settled_from lists k.cut.entries c.args.inst.now _ found _ _ _ _ _ (c.settle_at.ensures lists whole)
+    settled_from lists k.cut.entries c.args.inst.now _ c.in-Some.ensures _ _ _ _ _ (c.settle_at.ensures lists whole)
 
 pub returns-clause-stay : goal.returns-clause-stay
 returns-clause-stay c =
     let k = c.args.self.now in
     let lists = edges_to k.readers in
-    let found = sym c.get.ensures.value ∙ ap option_copied c.in-Some.is in
-    let whole : IsWhole lists k.cut.entries k.cut.standings.items (record { puts = k.puts; work = c.args.work })
+    let whole : IsWhole lists k.cut.entries k.cut.standings.items (record { puts = k.puts; work = c.args.work; stuck = c.in-Some.slot })
     = record { indexed = k.indexed; tied = k.tied; valued = k.valued; few = c.ranges.work.fits } in
-    stay_from lists k.cut.entries c.args.inst.now _ found _ _ _ _ _ (c.settle_at.ensures lists whole)
+    stay_from lists k.cut.entries c.args.inst.now _ c.in-Some.ensures _ _ _ _ _ (c.settle_at.ensures lists whole)
+
+pub returns-then-not-self-clause-alike : goal.returns-then-not-self-clause-alike
+returns-then-not-self-clause-alike c = alike_itself _
+
+pub returns-in_default-clause-alike : goal.returns-in_default-clause-alike
+returns-in_default-clause-alike c = alike_itself _
+
+pub returns-clause-alike : goal.returns-clause-alike
+returns-clause-alike c =
+    let k = c.args.self.now in
+    let lists = edges_to k.readers in
+    let whole : IsWhole lists k.cut.entries k.cut.standings.items (record { puts = k.puts; work = c.args.work; stuck = c.in-Some.slot })
+    = record { indexed = k.indexed; tied = k.tied; valued = k.valued; few = c.ranges.work.fits } in
+    alike_from lists k.cut.entries c.args.inst.now _ c.in-Some.ensures _ _ _ _ _ (c.settle_at.ensures lists whole)

@@ -1,6 +1,7 @@
-use Rattle.std.proofs.Common.{ℕ, Some, sym, ap, ◌∙◌}
+use Rattle.std.proofs.Common.{ℕ, Some, sym, ap, ◌∙◌, rules}
 use Rattle.at_model.specs.Run.{Value}
 use Rattle.at_demand.proofs.of_nesting.InnerAnswered.{answered_kept}
+use Rattle.at_demand.proofs.of_traces.Making.{makes_none}
 use Rattle.at_demand.proofs.demand.Demand.answer.Goals as goal
 
 pub returns-in-Some : goal.returns-in-Some
@@ -12,4 +13,14 @@ returns-in-Some g c = record {
       c.requires.answerable.plain
       (sym c.in-Some.ensures ∙ ap (λ (v : Value ℕ). Some v) (sym c.in_ok-copy.ensures));
   traces = record { justified = c.requires.justified; there = λ there all. all };
+  makes = λ plain. makes_none (g.K.Keeper.contents c.args.self.now.keeper) (g.K.Keeper.memories c.args.self.now.keeper)
+      c.args.self.now.made;
+}
+
+pub returns-in_err-copy : goal.returns-in_err-copy
+returns-in_err-copy g c = record {
+  answered = search rules;
+  traces = record { justified = c.requires.justified; there = λ there all. all };
+  makes = λ plain. makes_none (g.K.Keeper.contents c.args.self.now.keeper) (g.K.Keeper.memories c.args.self.now.keeper)
+      c.args.self.now.made;
 }

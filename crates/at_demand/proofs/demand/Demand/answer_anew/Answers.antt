@@ -1,4 +1,4 @@
-use Rattle.std.proofs.Common.{Option, subst}
+use Rattle.std.proofs.Common.{Option, subst, true≢false, rules}
 use Rattle.std.specs.Prelude.{IfSome}
 use Rattle.at_model.specs.of_fixpoints.Fixpoints.{HasValue}
 use Rattle.at_store.specs.Shown.{contents}
@@ -25,18 +25,20 @@ returns-in-Some g c = record {
       (λ k spare. subst (λ (o : Option ValueCode). IfSome o (λ v. HasWorthy rules (contents s) c.args.inst.now new))
       c.in-Some.is (c.in_ok-at_once.ensures.all k spare));
   traces = c.answer_at_once.ensures.traces;
+  makes = λ plain. c.answer_at_once.ensures.makes;
 }
 
 pub returns-in-None : goal.returns-in-None
 returns-in-None g c = record {
   answered =
-      answered_after c.args.rules.now c.args.store.now g.K.Keeper.exact c.args.inst.now c.answer_looking_ahead.result
+      answered_after c.args.rules.now c.args.store.now g.K.Keeper.exact c.args.inst.now c.answer_looking_ahead-told.result
       (g.K.Keeper.contents c.args.self.now.keeper) (g.K.Keeper.contents c.answer_at_once.new.self.keeper)
-      (g.K.Keeper.contents c.answer_looking_ahead.new.self.keeper)
-      c.args.self.now.work c.answer_at_once.new.self.work c.answer_looking_ahead.new.self.work c.answer_at_once.ensures.gains
-      c.answer_looking_ahead.ensures.answered;
+      (g.K.Keeper.contents c.answer_looking_ahead-told.new.self.keeper)
+      c.args.self.now.work c.answer_at_once.new.self.work c.answer_looking_ahead-told.new.self.work c.answer_at_once.ensures.gains
+      c.answer_looking_ahead-told.ensures.answered;
   traces = traced_then c.args.rules.now c.args.store.now c.args.inst.now (g.K.Keeper.memories c.args.self.now.keeper) (g.K.Keeper.memories c.answer_at_once.new.self.keeper)
-      (g.K.Keeper.memories c.answer_looking_ahead.new.self.keeper) c.answer_at_once.ensures.traces c.answer_looking_ahead.ensures.traces;
+      (g.K.Keeper.memories c.answer_looking_ahead-told.new.self.keeper) c.answer_at_once.ensures.traces c.answer_looking_ahead-told.ensures.traces;
+  makes = λ plain. absurd (true≢false plain);
 }
 
 pub answer_at_once-requires-clause-idle : goal.answer_at_once-requires-clause-idle
@@ -50,8 +52,8 @@ answer_at_once-requires-clause-held g c = record {
   justified = c.requires.justified;
 }
 
-pub answer_looking_ahead-requires : goal.answer_looking_ahead-requires
-answer_looking_ahead-requires g c = record {
+pub answer_looking_ahead-told-requires : goal.answer_looking_ahead-told-requires
+answer_looking_ahead-told-requires g c = record {
   answerable = record {
     basis = c.requires.answerable.basis;
     right = c.answer_at_once.ensures.gains.known.right;
@@ -62,4 +64,11 @@ answer_looking_ahead-requires g c = record {
   wholes = (sound_more c.args.rules.now c.args.store.now c.requires.answerable.basis c.args.inst.now c.requires.typed
       (g.K.Keeper.contents c.args.self.now.keeper) (g.K.Keeper.contents c.answer_at_once.new.self.keeper) c.requires.wholes
       c.answer_at_once.ensures.gains.known.right c.answer_at_once.ensures.gains.worthy).whole;
+}
+
+pub returns-in_err-at_once : goal.returns-in_err-at_once
+returns-in_err-at_once g c = record {
+  answered = search rules;
+  traces = c.answer_at_once.ensures.traces;
+  makes = λ plain. c.answer_at_once.ensures.makes;
 }

@@ -1,4 +1,4 @@
-use Rattle.std.proofs.Common.{ℕ, [], Option, Ok, sym, ap, ◌∙◌, subst}
+use Rattle.std.proofs.Common.{ℕ, [], Option, Ok, sym, ap, ◌∙◌, subst, true≢false}
 use Rattle.std.proofs.lemmas.Result.{err_from_is_err_and}
 use Rattle.std.specs.declared.alloc.AllocError.{AllocError}
 use Rattle.at_model.specs.Instances.{AnyText}
@@ -158,6 +158,7 @@ returns-in-Some g c =
           (g.K.Keeper.memories c.args.self.now.keeper) (g.K.Keeper.memories c.loop-given.self.keeper)
           (g.K.Keeper.memories c.look_ahead.new.self.keeper)
           (g.K.Keeper.memories c.turn_with.new.self.keeper) inv.traces c.look_ahead.ensures.traces c.turn_with.ensures.traces;
+      makes = λ plain. absurd (true≢false plain);
     }
 
 pub returns-in_err-told : goal.returns-in_err-told
@@ -186,6 +187,7 @@ returns-in_err-told g c =
           (g.K.Keeper.memories c.args.self.now.keeper) (g.K.Keeper.memories c.loop-given.self.keeper)
           (g.K.Keeper.memories c.look_ahead.new.self.keeper)
           (g.K.Keeper.memories c.turn_with.new.self.keeper) inv.traces c.look_ahead.ensures.traces c.turn_with.ensures.traces;
+      makes = λ plain. absurd (true≢false plain);
     }
 
 pub returns-in_err-next : goal.returns-in_err-next
@@ -212,6 +214,7 @@ returns-in_err-next g c =
           (g.K.Keeper.memories c.args.self.now.keeper) (g.K.Keeper.memories c.loop-given.self.keeper)
           (g.K.Keeper.memories c.look_ahead.new.self.keeper)
           inv.traces c.look_ahead.ensures.traces;
+      makes = λ plain. absurd (true≢false plain);
     }
 
 pub returns : goal.returns
@@ -220,6 +223,7 @@ returns g c = record {
       (g.K.Keeper.contents c.loop-given.self.keeper) c.args.self.now.work c.loop-given.self.work c.loop-given.invariant.gains tt
       (λ k spare. tt);
   traces = c.loop-given.invariant.traces;
+  makes = λ plain. absurd (true≢false plain);
 }
 
 pub returns-in_err-copy : goal.returns-in_err-copy
@@ -233,6 +237,7 @@ returns-in_err-copy g c = record {
       (gains_none rules s g.K.Keeper.exact c.args.inst.now entries [] c.args.self.now.work c.args.self.now.few
       (known_none rules (contents s) entries c.requires.answerable.basis.circular c.requires.answerable.right c.requires.answerable.plain)) (rw is tt) (λ k spare. rw is tt);
   traces = traced_same c.args.rules.now c.args.store.now c.args.inst.now (g.K.Keeper.memories c.args.self.now.keeper) c.requires.justified;
+  makes = λ plain. absurd (true≢false plain);
 }
 
 pub returns-in_err-question : goal.returns-in_err-question
@@ -246,4 +251,5 @@ returns-in_err-question g c = record {
       (gains_none rules s g.K.Keeper.exact c.args.inst.now entries [] c.args.self.now.work c.args.self.now.few
       (known_none rules (contents s) entries c.requires.answerable.basis.circular c.requires.answerable.right c.requires.answerable.plain)) (rw is tt) (λ k spare. rw is tt);
   traces = traced_same c.args.rules.now c.args.store.now c.args.inst.now (g.K.Keeper.memories c.args.self.now.keeper) c.requires.justified;
+  makes = λ plain. absurd (true≢false plain);
 }

@@ -11,7 +11,7 @@ use Rattle.at_demand.specs.InParts.{EvaluatesTo, HasCome, HasGained, MayHaveCome
 use Rattle.at_demand.specs.Known.{equations, kept_values}
 use Rattle.at_demand.proofs.Entered.{absent}
 use Rattle.at_demand.proofs.of_nesting.Asked.{evaluated_behind, evaluated_in, inner_told, reads_before, reads_longer, told_alike, unkept_result, uses_before, uses_longer}
-use Rattle.at_demand.proofs.of_nesting.Grown.{grown_aside, grown_evaluated, grown_from, grown_none, grown_then, held_after, unkept_aside}
+use Rattle.at_demand.proofs.of_nesting.Grown.{evaluated_more, grown_aside, grown_evaluated, grown_from, grown_none, grown_then, held_after, unkept_aside}
 use Rattle.std.proofs.lemmas.List.{nil_from_length}
 use Rattle.at_rules.specs.Bodies.{bodies_view, body_view}
 use Rattle.at_body.specs.Rest.{ev, ev_all, over, with_two}
@@ -37,22 +37,35 @@ told-recall-requires g n c = c.requires.known
 pub told-is_inner-requires : goal.told-is_inner-requires
 told-is_inner-requires g n c = c.requires.known.circular
 
-pub afresh-keep-requires : goal.afresh-keep-requires
-afresh-keep-requires g n c = record {
-  absent = absent c.args.basis.now.rules.now (g.K.Keeper.contents c.evaluate.new.keeper)
-      c.evaluate.ensures.grown.gains.known.plain c.args.needed c.requires.lazy
-      (c.in_ok-value.ensures.unkept c.requires.unkept);
-  evaluated = record {
-    lazy = c.requires.lazy;
-    own = c.requires.own;
-    held = held_after c.evaluate.ensures.grown;
-    come =
-        let h = held_by g.K.Keeper.contents g.K.Keeper.memories c.evaluate.new.keeper c.evaluate.new.self in
-        evaluated_in c.args.basis.now.rules.now c.args.basis.now.store.now g.K.Keeper.exact h c.level-below.result
-        c.evaluate.new.level c.args.needed (value_view c.in_ok-value.value) c.in_ok-value.ensures.come
-        c.level-below.ensures.reads c.level-below.ensures.uses;
-  };
+pub afresh-keep_again-requires : goal.afresh-keep_again-requires
+afresh-keep_again-requires g n c = record {
+  lazy = c.requires.lazy;
+  own = c.requires.own;
+  unkept = c.in_ok-value.ensures.unkept c.requires.unkept;
+  held = held_after c.evaluate.ensures.grown;
 }
+
+pub afresh-keep-requires : goal.afresh-keep-requires
+afresh-keep-requires g n c =
+    let rules = c.args.basis.now.rules.now in
+    let s = c.args.basis.now.store.now in
+    let i = c.args.needed in
+    let entries = g.K.Keeper.contents c.keep_again.new.keeper in
+    let first = held_by g.K.Keeper.contents g.K.Keeper.memories c.evaluate.new.keeper c.evaluate.new.self in
+    record {
+      absent = absent rules entries c.keep_again.ensures.grown.gains.known.plain i c.requires.lazy
+          (subst (λ (o : Option ValueCode). IfNone o (kept_values entries i ≡ None)) c.in_default.is c.in_ok-again.ensures.unkept);
+      evaluated = record {
+        lazy = c.requires.lazy;
+        own = c.requires.own;
+        held = held_after c.keep_again.ensures.grown;
+        come = evaluated_more c.keep_again.ensures.grown (held_after c.evaluate.ensures.grown) i
+            (value_view c.in_ok-value.value) c.evaluate.new.level.reads c.evaluate.new.level.uses.items
+            (evaluated_in rules s g.K.Keeper.exact first c.level-below.result c.evaluate.new.level i
+            (value_view c.in_ok-value.value) c.in_ok-value.ensures.come c.level-below.ensures.reads
+            c.level-below.ensures.uses);
+      };
+    }
 
 pub inner-remember-requires : goal.inner-remember-requires
 inner-remember-requires g n c = record {
@@ -140,7 +153,7 @@ verify-returns-in_err-afresh g n c = record {
   unkept = search rules;
   grown = grown_aside c.args.basis.now.idle c.in-Some-2.is c.in_ok-other.ensures.led
       (grown_then c.loop.invariant.grown c.keep_again.ensures.grown) c.level-aside.ensures.found
-      c.level-aside.ensures.work c.afresh.ensures.grown;
+      c.level-aside.ensures.work c.level-aside.ensures.made c.afresh.ensures.grown;
 }
 
 pub verify-returns-in_err-push : goal.verify-returns-in_err-push
@@ -149,14 +162,14 @@ verify-returns-in_err-push g n c = record {
   unkept = search rules;
   grown = grown_aside c.args.basis.now.idle c.in-Some-2.is c.in_ok-other.ensures.led
       (grown_then c.loop.invariant.grown c.keep_again.ensures.grown) c.level-aside.ensures.found
-      c.level-aside.ensures.work c.afresh.ensures.grown;
+      c.level-aside.ensures.work c.level-aside.ensures.made c.afresh.ensures.grown;
 }
 
 pub verify-loop-preserved : goal.verify-loop-preserved
 verify-loop-preserved g n c = record {
   grown = grown_aside c.args.basis.now.idle c.in-Some-2.is c.in_ok-other.ensures.led
       (grown_then c.loop.invariant.grown c.keep_again.ensures.grown) c.level-aside.ensures.found
-      c.level-aside.ensures.work c.afresh.ensures.grown;
+      c.level-aside.ensures.work c.level-aside.ensures.made c.afresh.ensures.grown;
   level = subst (λ (o : Option ValueCode). HasRecalled c.args.basis.now.rules.now (contents c.args.basis.now.store.now) (known_by
       (g.K.Keeper.contents c.keep_again.new.keeper) c.keep_again.new.self.found.entries) c.loop.level
       c.keep_again.new.level c.args.needed.now o) c.in_default.is c.in_ok-again.ensures.recalled ∙
@@ -194,31 +207,53 @@ told-returns-in-None g n c =
 pub afresh-returns-in_err-value : goal.afresh-returns-in_err-value
 afresh-returns-in_err-value g n c = record {
   told = search rules;
-  grown = grown_from c.level-below.ensures.found c.level-below.ensures.work c.evaluate.ensures.grown;
+  grown = grown_from c.level-below.ensures.found c.level-below.ensures.work c.level-below.ensures.made c.evaluate.ensures.grown;
+}
+
+pub afresh-returns-in_err-again : goal.afresh-returns-in_err-again
+afresh-returns-in_err-again g n c = record {
+  told = search rules;
+  grown = grown_then (grown_from c.level-below.ensures.found c.level-below.ensures.work c.level-below.ensures.made c.evaluate.ensures.grown) c.keep_again.ensures.grown;
+}
+
+pub afresh-returns-in-Some : goal.afresh-returns-in-Some
+afresh-returns-in-Some g n c = record {
+  told = subst (λ (o : Option ValueCode). HasRecalled c.args.basis.now.rules.now (contents c.args.basis.now.store.now) (known_by
+      (g.K.Keeper.contents c.keep_again.new.keeper) c.keep_again.new.self.found.entries) c.args.level.now
+      c.keep_again.new.level c.args.needed o) c.in-Some.is c.in_ok-again.ensures.recalled;
+  grown = grown_then (grown_from c.level-below.ensures.found c.level-below.ensures.work c.level-below.ensures.made c.evaluate.ensures.grown) c.keep_again.ensures.grown;
 }
 
 pub afresh-returns-in_err-keep : goal.afresh-returns-in_err-keep
 afresh-returns-in_err-keep g n c = record {
   told = search rules;
-  grown =
-      grown_then (grown_from c.level-below.ensures.found c.level-below.ensures.work c.evaluate.ensures.grown)
-      c.keep.ensures.grown;
+  grown = grown_then (grown_then (grown_from c.level-below.ensures.found c.level-below.ensures.work c.level-below.ensures.made c.evaluate.ensures.grown)
+      c.keep_again.ensures.grown) c.keep.ensures.grown;
 }
 
 pub afresh-returns-in_err-push : goal.afresh-returns-in_err-push
 afresh-returns-in_err-push g n c = record {
   told = search rules;
-  grown =
-      grown_then (grown_from c.level-below.ensures.found c.level-below.ensures.work c.evaluate.ensures.grown)
-      c.keep.ensures.grown;
+  grown = grown_then (grown_then (grown_from c.level-below.ensures.found c.level-below.ensures.work c.level-below.ensures.made c.evaluate.ensures.grown)
+      c.keep_again.ensures.grown) c.keep.ensures.grown;
 }
 
 pub afresh-returns : goal.afresh-returns
-afresh-returns g n c = record {
-  told = c.in_ok-keep.ensures.told;
-  grown = grown_then (grown_from c.level-below.ensures.found c.level-below.ensures.work c.evaluate.ensures.grown)
-      c.keep.ensures.grown;
-}
+afresh-returns g n c =
+    let rules = c.args.basis.now.rules.now in
+    let s = c.args.basis.now.store.now in
+    let i = c.args.needed in
+    let d = c.keep_again.new.self in
+    let e = c.keep.new.self in
+    let same : c.keep_again.new.level ≡ c.args.level.now = subst (λ (o : Option ValueCode). HasRecalled rules (contents s)
+    (known_by (g.K.Keeper.contents c.keep_again.new.keeper) d.found.entries) c.args.level.now c.keep_again.new.level i o)
+    c.in_default.is c.in_ok-again.ensures.recalled in
+    record {
+      told = subst (λ (l : Level). HasTold rules (contents s) (known_by (g.K.Keeper.contents c.keep.new.keeper)
+          e.found.entries) l c.keep.new.level i (value_view c.in_ok-value.value)) same c.in_ok-keep.ensures.told;
+      grown = grown_then (grown_then (grown_from c.level-below.ensures.found c.level-below.ensures.work c.level-below.ensures.made c.evaluate.ensures.grown)
+          c.keep_again.ensures.grown) c.keep.ensures.grown;
+    }
 
 -- inner
 pub inner-returns-then-is_small : goal.inner-returns-then-is_small
@@ -559,7 +594,7 @@ call-returns g n c = record {
       c.passed.new.self.found.entries c.told.new.self.found.entries c.passed.new.self.work c.told.new.self.work)
       c.new.ensures c.told.ensures.grown.gains) (subst (λ i. StayJustified c.args.basis.now.rules.now
       c.args.basis.now.store.now i (g.K.Keeper.memories c.passed.new.keeper) (g.K.Keeper.memories c.told.new.keeper))
-      c.new.ensures c.told.ensures.grown.traces) c.told.result c.told.new.level (subst (λ i. IfOk c.told.result (λ u.
+      c.new.ensures c.told.ensures.grown.traces) c.told.ensures.grown.makes c.told.result c.told.new.level (subst (λ i. IfOk c.told.result (λ u.
       HasTold c.args.basis.now.rules.now (contents c.args.basis.now.store.now) (values_in (held_by g.K.Keeper.contents
       g.K.Keeper.memories c.told.new.keeper c.told.new.self)) c.passed.new.level c.told.new.level i (value_view u)))
       c.new.ensures c.told.ensures.told);
@@ -574,7 +609,7 @@ call-returns g n c = record {
       c.passed.new.self.found.entries c.told.new.self.found.entries c.passed.new.self.work c.told.new.self.work)
       c.new.ensures c.told.ensures.grown.gains) (subst (λ i. StayJustified c.args.basis.now.rules.now
       c.args.basis.now.store.now i (g.K.Keeper.memories c.passed.new.keeper) (g.K.Keeper.memories c.told.new.keeper))
-      c.new.ensures c.told.ensures.grown.traces);
+      c.new.ensures c.told.ensures.grown.traces) c.told.ensures.grown.makes;
 }
 
 pub over-returns-in_err-value : goal.over-returns-in_err-value

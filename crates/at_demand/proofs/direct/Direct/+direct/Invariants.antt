@@ -65,8 +65,8 @@ decreases-call g l = 16 * l.above + 9
 abbrev pub invariant-verify-loop : goal.invariant-verify-loop
 invariant-verify-loop g l = record {
   grown : HasGrown l.basis.rules.now l.basis.store.now g.K.Keeper.exact l.needed
-      (held (g.K.Keeper.contents l.initial.keeper) (g.K.Keeper.memories l.initial.keeper) l.initial.self.found.entries l.initial.self.work)
-      (held (g.K.Keeper.contents l.keeper) (g.K.Keeper.memories l.keeper) l.self.found.entries l.self.work);
+      (held (g.K.Keeper.contents l.initial.keeper) (g.K.Keeper.memories l.initial.keeper) l.initial.self.found.entries l.initial.self.work l.initial.self.made)
+      (held (g.K.Keeper.contents l.keeper) (g.K.Keeper.memories l.keeper) l.self.found.entries l.self.work l.self.made);
   level : l.level ≡ l.initial.level;
   unkept : kept_values (g.K.Keeper.contents l.keeper) l.needed ≡ None;
 }
@@ -74,8 +74,8 @@ invariant-verify-loop g l = record {
 abbrev pub invariant-passed-loop-argument : goal.invariant-passed-loop-argument
 invariant-passed-loop-argument g l = GoesOn l.basis.rules.now l.basis.store.now g.K.Keeper.exact
     (held (g.K.Keeper.contents l.initial.keeper) (g.K.Keeper.memories l.initial.keeper) l.initial.self.found.entries
-    l.initial.self.work)
-    (held (g.K.Keeper.contents l.keeper) (g.K.Keeper.memories l.keeper) l.self.found.entries l.self.work)
+    l.initial.self.work l.initial.self.made)
+    (held (g.K.Keeper.contents l.keeper) (g.K.Keeper.memories l.keeper) l.self.found.entries l.self.work l.self.made)
     l.initial.level l.level (ev_all l.basis.rules.now.classes (bodies_view l.passed) (place_at l.here))
     (ev_all l.basis.rules.now.classes (bodies_view l.rest) (place_at l.here)) (λ vs. map value_view l.values.items ++ vs)
 
@@ -87,8 +87,8 @@ invariant-each-loop-node g l = record {
   place : place_at l.inside ≡ place_at l.here;
   goes : GoesOn l.basis.rules.now l.basis.store.now g.K.Keeper.exact
       (held (g.K.Keeper.contents l.initial.keeper) (g.K.Keeper.memories l.initial.keeper) l.initial.self.found.entries
-      l.initial.self.work)
-      (held (g.K.Keeper.contents l.keeper) (g.K.Keeper.memories l.keeper) l.self.found.entries l.self.work)
+      l.initial.self.work l.initial.self.made)
+      (held (g.K.Keeper.contents l.keeper) (g.K.Keeper.memories l.keeper) l.self.found.entries l.self.work l.self.made)
       l.fn.level l.level (over l.basis.rules.now.classes l.initial.going (body_view l.body) (place_at l.here) l.nodes)
       (over l.basis.rules.now.classes l.going (body_view l.body) (place_at l.here) l.rest) (λ v. v);
 }

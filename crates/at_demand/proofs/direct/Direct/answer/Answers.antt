@@ -8,6 +8,7 @@ use Rattle.at_demand.specs.Inner.{AreKnown}
 use Rattle.at_demand.specs.Known.{meaning}
 use Rattle.at_demand.specs.Sparing.{HasWorthy}
 use Rattle.at_demand.specs.Traces.{StayJustified}
+use Rattle.at_demand.proofs.of_traces.Making.{makes_as, makes_from, makes_none}
 use Rattle.at_demand.proofs.of_traces.Putting.{traced_same}
 use Rattle.at_demand.proofs.of_nesting.InnerGains.{Found, gains_as, gains_from, gains_none, told_holds, told_whole}
 use Rattle.at_demand.proofs.direct.Direct.answer.Goals as goal
@@ -53,6 +54,7 @@ returns-clause-grown g c = record {
       c.in_ok-needed.ensures c.level-asks.ensures.found c.level-asks.ensures.work c.told.ensures.grown.gains;
   traces = subst (λ (i : Instance ℕ). StayJustified c.args.basis.now.rules.now c.args.basis.now.store.now i (g.K.Keeper.memories
       c.args.keeper.now) (g.K.Keeper.memories c.told.new.keeper)) c.in_ok-needed.ensures c.told.ensures.grown.traces;
+  makes = makes_from c.level-asks.ensures.made c.told.ensures.grown.makes;
 }
 
 pub returns-in_err-needed-clause-grown : goal.returns-in_err-needed-clause-grown
@@ -68,4 +70,6 @@ returns-in_err-needed-clause-grown g c = record {
       self.work self.few c.requires.known);
   traces = traced_same c.args.basis.now.rules.now c.args.basis.now.store.now c.args.inst.now (g.K.Keeper.memories c.args.keeper.now)
       c.requires.justified;
+  makes = makes_as c.level-asks.ensures.made (makes_none (g.K.Keeper.contents c.args.keeper.now)
+      (g.K.Keeper.memories c.args.keeper.now) c.args.self.now.made);
 }

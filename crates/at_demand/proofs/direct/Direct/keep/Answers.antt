@@ -20,16 +20,16 @@ pub returns-in_err-put : goal.returns-in_err-put
 returns-in_err-put g c = record {
   told = search rules;
   grown = grown_unkept c.args.basis.now.idle c.requires.evaluated c.put.ensures.found c.as_slice.ensures.value
-      c.order_of-order.result c.order_of-order.ensures (g.K.Keeper.kept_last c.put.new.keeper) c.put.ensures.traces
-      c.put.ensures.counts c.in_err-put.ensures.err;
+      c.order_of-order.result c.order_of-order.ensures.lazy (g.K.Keeper.kept_last c.put.new.keeper) c.put.ensures.traces
+      c.put.ensures.counts c.put.ensures.makes c.in_err-put.ensures.err;
 }
 
 pub returns-in_err-push-in-Kept : goal.returns-in_err-push-in-Kept
 returns-in_err-push-in-Kept g c = record {
   told = search rules;
   grown = grown_kept c.args.basis.now.idle c.requires.evaluated c.put.ensures.found c.as_slice.ensures.value
-      c.order_of-order.result c.order_of-order.ensures (g.K.Keeper.kept_last c.put.new.keeper) c.put.ensures.traces
-      c.put.ensures.counts
+      c.order_of-order.result c.order_of-order.ensures.lazy (g.K.Keeper.kept_last c.put.new.keeper) c.put.ensures.traces
+      c.put.ensures.counts c.put.ensures.makes
       c.requires.absent c.in_ok-put.put c.in_ok-put.ensures.puts;
 }
 
@@ -52,8 +52,8 @@ returns-in_ok-push-in-Kept g c = record {
       (kept_now new c.put.new.self.found.entries c.args.needed v
       (put_kept g.K.Keeper.exact entries new c.args.needed v ls us puts)) refl c.in_ok-push-in-Kept.ensures.items;
   grown = grown_kept c.args.basis.now.idle c.requires.evaluated c.put.ensures.found c.as_slice.ensures.value
-      c.order_of-order.result c.order_of-order.ensures (g.K.Keeper.kept_last c.put.new.keeper) c.put.ensures.traces
-      c.put.ensures.counts
+      c.order_of-order.result c.order_of-order.ensures.lazy (g.K.Keeper.kept_last c.put.new.keeper) c.put.ensures.traces
+      c.put.ensures.counts c.put.ensures.makes
       c.requires.absent c.in_ok-put.put c.in_ok-put.ensures.puts;
 }
 
@@ -61,7 +61,7 @@ pub returns-in-Left : goal.returns-in-Left
 returns-in-Left g c = record {
   told = search rules;
   grown = grown_kept c.args.basis.now.idle c.requires.evaluated c.put.ensures.found c.as_slice.ensures.value
-      c.order_of-order.result c.order_of-order.ensures (g.K.Keeper.kept_last c.put.new.keeper) c.put.ensures.traces
-      c.put.ensures.counts
+      c.order_of-order.result c.order_of-order.ensures.lazy (g.K.Keeper.kept_last c.put.new.keeper) c.put.ensures.traces
+      c.put.ensures.counts c.put.ensures.makes
       c.requires.absent c.in_ok-put.put c.in_ok-put.ensures.puts;
 }

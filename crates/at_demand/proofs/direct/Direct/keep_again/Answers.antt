@@ -17,7 +17,7 @@ recall-requires g c =
     (g.K.Keeper.contents c.settle-count.new.self) (g.K.Keeper.memories c.settle-count.new.self) n
     c.saturating_add-self.result c.requires.held c.args.self.now.few (g.K.Keeper.kept_last c.args.keeper.now) steps
     (counted_more c.args.self.now.work n c.settle-count.result c.saturating_add-self.result counted
-    c.saturating_add-self.ensures) c.settle-count.ensures.stay in
+    c.saturating_add-self.ensures) c.settle-count.ensures.stay c.settle-count.ensures.alike in
     grown.gains.known
 
 pub returns-then-count-eq0 : goal.returns-then-count-eq0
@@ -34,7 +34,7 @@ returns-then-count-eq0 g c =
           c.args.needed.now (held_by g.K.Keeper.contents g.K.Keeper.memories c.args.keeper.now c.args.self.now)
           (g.K.Keeper.contents c.settle-count.new.self) (g.K.Keeper.memories c.settle-count.new.self) n
           c.args.self.now.work c.requires.held c.args.self.now.few (g.K.Keeper.kept_last c.args.keeper.now) steps
-          (counted_still c.args.self.now.work n c.args.self.now.few none) c.settle-count.ensures.stay;
+          (counted_still c.args.self.now.work n c.args.self.now.few none) c.settle-count.ensures.stay c.settle-count.ensures.alike;
     }
 
 pub returns : goal.returns
@@ -50,5 +50,5 @@ returns g c = record {
       (g.K.Keeper.contents c.settle-count.new.self) (g.K.Keeper.memories c.settle-count.new.self) n
       c.saturating_add-self.result c.requires.held c.args.self.now.few (g.K.Keeper.kept_last c.args.keeper.now) steps
       (counted_more c.args.self.now.work n c.settle-count.result c.saturating_add-self.result counted
-      c.saturating_add-self.ensures) c.settle-count.ensures.stay;
+      c.saturating_add-self.ensures) c.settle-count.ensures.stay c.settle-count.ensures.alike;
 }

@@ -1,9 +1,11 @@
-use Rattle.std.proofs.Common.{ℕ, Some, map, subst}
+use Rattle.std.proofs.Common.{◌≡◌, ℕ, Some, None, map, subst}
 use Rattle.at_model.specs.Run.{Instance}
 use Rattle.at_store.specs.Located.{loc_view}
 use Rattle.at_body.specs.Values.{value_view}
 use Rattle.at_cache.specs.Kept.{HasPut}
+use Rattle.at_cache.specs.Traced.{KeepsTrace, SparesOthers}
 use Rattle.at_demand.proofs.Counting.{counts_put}
+use Rattle.at_demand.proofs.of_traces.Making.{makes_none, makes_put, makes_unmade}
 use Rattle.at_demand.proofs.direct.Direct.put.Goals as goal
 
 pub returns-clause-counts : goal.returns-clause-counts
@@ -17,3 +19,40 @@ returns-clause-counts g c =
     c.in_ok-put.put) c.in_ok-copy.ensures c.in_ok-put.ensures.puts in
     λ is. counts_put old new exact c.args.inst.now _ reads uses c.args.self.now.work c.saturating_add-self.result is
     c.requires.absent c.in_ok-put.put puts c.saturating_add-self.ensures
+
+pub returns-clause-makes : goal.returns-clause-makes
+returns-clause-makes g c =
+    let exact = g.K.Keeper.exact in
+    let old = g.K.Keeper.contents c.args.keeper.now in
+    let new = g.K.Keeper.contents c.put.new.self in
+    let m = g.K.Keeper.memories c.args.keeper.now in
+    let n = g.K.Keeper.memories c.put.new.self in
+    let reads = map loc_view c.as_slice-reads.result.now in
+    let uses = c.as_slice-uses.result.now in
+    let is = c.in_ok-copy.ensures in
+    makes_put old new m n c.args.inst.now c.requires.absent
+    (subst (λ (i : Instance ℕ). SparesOthers i new m n) is c.put.ensures.spares)
+    (subst (λ (i : Instance ℕ). KeepsTrace i m n) is (c.put.ensures.own c.requires.settled))
+    exact (Some (value_view c.in_ok-copy-2.field-0)) reads uses
+    (subst (λ (i : Instance ℕ). m.traced i ≡ None) is (c.in_ok-put.ensures.anew c.requires.settled))
+    c.in_ok-put.put
+    (subst (λ (i : Instance ℕ). HasPut exact old i (Some (value_view c.in_ok-copy-2.field-0)) reads uses new
+    c.in_ok-put.put) is c.in_ok-put.ensures.puts)
+    c.args.self.now.made c.counted-self.result c.counted-self.ensures
+
+pub returns-in_err-put-clause-makes : goal.returns-in_err-put-clause-makes
+returns-in_err-put-clause-makes g c =
+    let new = g.K.Keeper.contents c.put.new.self in
+    let m = g.K.Keeper.memories c.args.keeper.now in
+    let n = g.K.Keeper.memories c.put.new.self in
+    let is = c.in_ok-copy.ensures in
+    makes_unmade (g.K.Keeper.contents c.args.keeper.now) new m n c.args.inst.now c.requires.absent
+    (subst (λ (i : Instance ℕ). SparesOthers i new m n) is c.put.ensures.spares)
+    (subst (λ (i : Instance ℕ). KeepsTrace i m n) is (c.put.ensures.own c.requires.settled))
+    c.args.self.now.made
+
+pub returns-in_err-copy-clause-makes : goal.returns-in_err-copy-clause-makes
+returns-in_err-copy-clause-makes g c = makes_none _ _ _
+
+pub returns-in_err-copy-2-clause-makes : goal.returns-in_err-copy-2-clause-makes
+returns-in_err-copy-2-clause-makes g c = makes_none _ _ _

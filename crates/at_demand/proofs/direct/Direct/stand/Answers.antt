@@ -10,6 +10,7 @@ use Rattle.at_demand.proofs.of_nesting.Grown.{grown_entered, grown_none, put_ali
 use Rattle.at_demand.proofs.of_nesting.InnerGains.{gains_same, put_there, taken}
 use Rattle.at_demand.proofs.of_traces.Justified.{stay_any}
 use Rattle.at_demand.proofs.of_traces.Putting.{traced_on}
+use Rattle.at_demand.proofs.of_traces.Making.{unmade}
 use Rattle.at_demand.proofs.direct.Direct.stand.Goals as goal
 
 pub put-requires-clause-present : goal.put-requires-clause-present
@@ -54,6 +55,10 @@ returns-in_err-put g c = record {
         let new = g.K.Keeper.memories c.put.new.self in
         traced_on c.args.basis.now.rules.now c.args.basis.now.store.now c.args.needed.now old new
         (stay_any _ _ _ _ old new c.put.ensures.traces) c.requires.held.justified;
+    makes = unmade (g.K.Keeper.contents c.args.keeper.now) (g.K.Keeper.contents c.put.new.self)
+        (g.K.Keeper.memories c.args.keeper.now) (g.K.Keeper.memories c.put.new.self) c.args.needed.now _ c.in_ok-copy.ensures (none_entered
+        (g.K.Keeper.contents c.args.keeper.now c.args.needed.now) c.stands.result c.stands.ensures c.if-stands.false)
+        c.put.ensures.spares (c.put.ensures.own refl) c.args.self.now.made;
   };
 }
 
@@ -72,7 +77,9 @@ returns-in-Kept g c =
       grown = grown_entered c.args.basis.now.rules.now c.args.basis.now.store.now c.args.self.now.few c.requires
           (none_entered (old i) c.stands.result c.stands.ensures c.if-stands.false)
           (stay_any _ _ _ _ (g.K.Keeper.memories c.args.keeper.now) (g.K.Keeper.memories c.put.new.self)
-          c.put.ensures.traces) c.in_ok-put.put puts;
+          c.put.ensures.traces) (unmade (g.K.Keeper.contents c.args.keeper.now) (g.K.Keeper.contents c.put.new.self)
+          (g.K.Keeper.memories c.args.keeper.now) (g.K.Keeper.memories c.put.new.self) i _ c.in_ok-copy.ensures (none_entered (old i) c.stands.result c.stands.ensures
+          c.if-stands.false) c.put.ensures.spares (c.put.ensures.own refl) c.args.self.now.made) c.in_ok-put.put puts;
     }
 
 pub returns-in-Left : goal.returns-in-Left
@@ -83,7 +90,10 @@ returns-in-Left g c = record {
       (none_entered (g.K.Keeper.contents c.args.keeper.now c.args.needed.now) c.stands.result c.stands.ensures
       c.if-stands.false)
       (stay_any _ _ _ _ (g.K.Keeper.memories c.args.keeper.now) (g.K.Keeper.memories c.put.new.self)
-      c.put.ensures.traces) c.in_ok-put.put
+      c.put.ensures.traces) (unmade (g.K.Keeper.contents c.args.keeper.now) (g.K.Keeper.contents c.put.new.self)
+      (g.K.Keeper.memories c.args.keeper.now) (g.K.Keeper.memories c.put.new.self) c.args.needed.now _ c.in_ok-copy.ensures (none_entered
+      (g.K.Keeper.contents c.args.keeper.now c.args.needed.now) c.stands.result c.stands.ensures c.if-stands.false)
+      c.put.ensures.spares (c.put.ensures.own refl) c.args.self.now.made) c.in_ok-put.put
       (put_alike g.K.Keeper.exact (g.K.Keeper.contents c.args.keeper.now) (g.K.Keeper.contents c.put.new.self) None
       c.in_ok-put.put c.in_ok-copy.ensures c.as_slice-reads.ensures c.as_slice-uses.ensures.value
       c.in_ok-put.ensures.puts);

@@ -1,0 +1,8 @@
+use Rattle.at_cache.proofs.of_cut.Spared.{alike_itself, spares_alike}
+use Rattle.at_sessions.proofs.keepers.compared.KeepComparedKeeper.put.Goals as goal
+
+pub returns-then-takes_none-clause-spares : goal.returns-then-takes_none-clause-spares
+returns-then-takes_none-clause-spares c = spares_alike c.args.inst _ _ _ (alike_itself _)
+
+pub returns-in_err-entry-clause-spares : goal.returns-in_err-entry-clause-spares
+returns-in_err-entry-clause-spares c = spares_alike c.args.inst _ _ _ (alike_itself _)
