@@ -347,23 +347,26 @@ class Meaning:
             values = new
 
     def circle(self, of: Instance) -> Instance:
-        """The instance to which a search from the question comes back: it is under way and has no outcome. Level by level, each
-        from one strict demand to the next."""
-        under = set[Instance]()
+        """The instance to which a search from the question comes back: it is under way and has no outcome."""
+        return self.looked_at(of)[-1]
+
+    def looked_at(self, of: Instance) -> List[Instance]:
+        """What a search from a question that a circle answers looks at, level by level, each from one strict demand to the next. The last
+        one is that to which it comes back."""
+        met, under = list[Instance](), set[Instance]()
         while True:
-            seen = set[Instance]()
             for it in self.search(of):
+                met.append(it)
                 if it in under and it not in self.outcomes:
-                    return it
-                seen.add(it)
+                    return met
                 own = self.own[it]
                 if isinstance(own, Wanting):
                     break
-            under |= seen
+            under.update(met)
             assert isinstance(own, Wanting)
-            if own.of in under:
-                return own.of
             of = own.of
+            if of in under:
+                return [*met, of]
 
 
 def shown(of: Instance) -> str:

@@ -1,5 +1,6 @@
 """Which values of circular and lazy attributes are found anew: all that a question leads to and that isn't kept since an earlier one.
-What is kept goes where an edit touches what it, or what it leads to, looked at."""
+Where a circle answers it, it is what the search had come to before: what it looked at, or an equation of that demanded, has an outcome
+and leads to it. What is kept goes where an edit touches what it, or what it leads to, looked at."""
 from __future__ import annotations
 
 from typing import Dict, Iterator, List, Set, Tuple
@@ -69,7 +70,7 @@ def of_list(node: Node) -> List[Tuple[Node, str]]:
 
 
 class Work:
-    """The work of the lines of a case, which asks at once, and for no circle."""
+    """The work of the lines of a case, which asks at once."""
 
     def __init__(self, case: Case) -> None:
         self.aspects, self.tree = case.aspects, node_of(case.term)
@@ -94,10 +95,23 @@ class Work:
     def find(self, asked: Instance) -> None:
         """Keeps what the question leads to, and counts what wasn't kept."""
         self.leading.meaning.reach(asked)
-        for it in self.leading.all(asked):
+        for it in self.met(asked):
             if it not in self.kept and self.is_kept(it):
                 self.kept[it] = self.leading.support(it)
                 self.done += 1
+
+    def met(self, asked: Instance) -> Set[Instance]:
+        """All that the question leads to; where a circle answers it, all to which its search had come that has an outcome, or is led to by
+        what has one."""
+        if self.is_settled(asked):
+            return self.leading.all(asked)
+        looked_at = self.leading.meaning.looked_at(asked)
+        settled = [it for by in looked_at for it in (by, *self.leading.seen(by).asks) if self.is_settled(it)]
+        return set[Instance]().union(*map(self.leading.all, settled))
+
+    def is_settled(self, of: Instance) -> bool:
+        """Whether it has an outcome."""
+        return of[1] in WAYS or of in self.leading.meaning.outcomes
 
     def is_kept(self, of: Instance) -> bool:
         """Whether the instance is of a lazy or circular attribute, and has a value."""

@@ -105,10 +105,8 @@ class Circular(KeepingTest):
 
     @staticmethod
     def at_once(case: Case) -> Case:
-        """The case without questions in turns, and without those that are answered by a circle: how much these keep no page tells."""
-        case = replace(case, lines=tuple(it for it in case.lines if it.split()[1] not in ("post", "wait")))
-        replies = zip(case.lines, Expected(case).by_line)
-        return replace(case, lines=tuple(line for line, reply in replies if reply and " circular " not in reply))
+        """The case without questions in turns."""
+        return replace(case, lines=tuple(it for it in case.lines if it.split()[1] not in ("post", "wait")))
 
     def differs_in_work(self, case: Case) -> bool:
         """Whether another number of values is found than weren't kept."""

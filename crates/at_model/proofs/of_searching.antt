@@ -9,3 +9,7 @@ pub mod Turned
 pub mod ByRules
 pub mod Closing
 pub mod FewTurns
+pub mod LookedAt
+pub mod PassedLooks
+pub mod LookedSteps
+pub mod LookedLevels

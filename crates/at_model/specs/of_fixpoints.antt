@@ -9,3 +9,4 @@ pub mod FixpointSamples
 pub mod FormKinds
 pub mod Searching
 pub mod Searched
+pub mod Met

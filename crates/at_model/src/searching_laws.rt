@@ -1,20 +1,22 @@
 //! Laws of questions of circular attributes that are given turns: each is the contract of a function that does nothing.
 
-ghost use Rattle.std.specs.Prelude.{None, Some, length, ◌*◌, ◌+◌, ◌≡◌, ◌≤◌, ℕ};
+ghost use Rattle.std.specs.Prelude.{Bool, List, None, Some, length, true, [], ◌*◌, ◌++◌, ◌+◌, ◌∷◌, ◌≡◌, ◌≤◌, ◌⊎◌, ℕ};
 ghost use Rattle.at_model.specs.Asking.{IsWellFormed};
 ghost use Rattle.at_model.specs.Instances.{instances};
-ghost use Rattle.at_model.specs.Meaning.{Answer, content};
+ghost use Rattle.at_model.specs.Meaning.{Among, Answer, content};
 ghost use Rattle.at_model.specs.Paths.{Node};
 ghost use Rattle.at_model.specs.Rules.{Rules};
 ghost use Rattle.at_model.specs.Run.{Contents, Instance, Known, Value};
 ghost use Rattle.at_model.specs.Trees.{Tree};
 ghost use Rattle.at_model.specs.WellFormed.{AreWellFormed, IsTreeSound};
-ghost use Rattle.at_model.specs.of_fixpoints.Circles.{Answers};
+ghost use Rattle.at_model.specs.of_fixpoints.Circles.{Answers, HasNone, IsOpen};
 ghost use Rattle.at_model.specs.of_fixpoints.Evaluations.{forms};
-ghost use Rattle.at_model.specs.of_fixpoints.Fixpoints.{HasValue};
-ghost use Rattle.at_model.specs.of_fixpoints.Formulas.{Forms};
-ghost use Rattle.at_model.specs.of_fixpoints.Searched.{IsOn};
-ghost use Rattle.at_model.specs.of_fixpoints.Searching.{Search, Silent, Turned, posted};
+ghost use Rattle.at_model.specs.of_fixpoints.Fixpoints.{End, EndsSo, HasValue};
+ghost use Rattle.at_model.specs.of_fixpoints.Formulas.{Formula, Forms};
+ghost use Rattle.at_model.specs.of_fixpoints.Met.{HasLookedAt, HaveLookedAt, IsLookedAt, LooksAt};
+ghost use Rattle.at_model.specs.of_fixpoints.Resting.{Leads};
+ghost use Rattle.at_model.specs.of_fixpoints.Searched.{AreClosed, AreStacked, IsMade, IsOn};
+ghost use Rattle.at_model.specs.of_fixpoints.Searching.{Level, Search, Silent, Turned, asked_in, posted, root_of, under};
 
 /// A question of circular attributes stands on its tree as it is posted, and, where what is kept is right, after each turn: each
 /// level is that of a demand of the one below, and its search, depth first, has come so far from its root.
@@ -43,4 +45,35 @@ pub fn an_answer_of_a_search_is_that_of_the_question()
         → ((i : Instance Node) (v : Value Node) → kept i ≡ Some v → HasValue (content t) (forms rules) i v)
         → (s new : Search Node) (a : Answer Node) → IsOn (content t) (forms rules) q s
         → Turned (content t) (forms rules) kept s new (Some a) → Answers (content t) (forms rules) q a }
+{}
+
+/// What a search looks at: what was asked leads to it. One that passes what was told, all to which formulas lead from that with it, looks
+/// beside that at the same as one that passes nothing, as it begins and after each step, and over levels of which none has an outcome; and
+/// where it comes back to one that is under way and has no outcome, that is the last one.
+pub fn what_a_search_looks_at()
+    ensures led { (look : Contents Node) (forms : Forms Node) (q i : Instance Node) → IsLookedAt look forms q i → Leads look forms q i }
+    ensures begun { (look : Contents Node) (forms : Forms Node) (told : Instance Node → Bool) (below : List (Instance Node)) (q : Instance Node)
+        → HasLookedAt look forms (λ k. told k ≡ true) below q [] (q ∷ []) }
+    ensures seen { (look : Contents Node) (forms : Forms Node) (told : Instance Node → Bool) (below : List (Instance Node)) (q : Instance Node)
+        (seen : List (Instance Node)) (i : Instance Node) (todo : List (Instance Node))
+        → HasLookedAt look forms (λ k. told k ≡ true) below q seen (i ∷ todo) → (IsOpen look forms below i → ⊥) → Among i seen
+        → HasLookedAt look forms (λ k. told k ≡ true) below q seen todo }
+    ensures passed { (look : Contents Node) (forms : Forms Node) (told : Instance Node → Bool) (below : List (Instance Node)) (q : Instance Node)
+        (seen : List (Instance Node)) (i : Instance Node) (todo : List (Instance Node))
+        → HasLookedAt look forms (λ k. told k ≡ true) below q seen (i ∷ todo) → (these : List (Instance Node)) → AreClosed (EndsSo look forms) IsMade these
+        → ((k : Instance Node) → Among k these → HasNone look forms k → ⊥) → ((k : Instance Node) → Among k these → told k ≡ true) → Among i these
+        → HasLookedAt look forms (λ k. told k ≡ true) below q seen todo }
+    ensures ended { (look : Contents Node) (forms : Forms Node) (told : Instance Node → Bool) (below : List (Instance Node)) (q : Instance Node)
+        (seen : List (Instance Node)) (i : Instance Node) (todo : List (Instance Node))
+        → HasLookedAt look forms (λ k. told k ≡ true) below q seen (i ∷ todo) → (e : End Node (Formula Node)) → EndsSo look forms i e → (Among i seen → ⊥)
+        → (IsOpen look forms below i → ⊥) → HasLookedAt look forms (λ k. told k ≡ true) below q (i ∷ seen) (asked_in e ++ todo) }
+    ensures levels { (look : Contents Node) (forms : Forms Node) (told : Instance Node → Bool) (root : Instance Node) (levels : List (Level Node))
+        → AreStacked look forms root levels → HasNone look forms root → HaveLookedAt look forms (λ k. told k ≡ true) levels → (x : Instance Node)
+        → Among x (under levels) → (told x ≡ true) ⊎ IsLookedAt look forms (root_of root levels) x }
+    ensures only { (look : Contents Node) (forms : Forms Node) (told : Instance Node → Bool) (root : Instance Node) (levels : List (Level Node))
+        → AreStacked look forms root levels → HasNone look forms root → HaveLookedAt look forms (λ k. told k ≡ true) levels → (x : Instance Node)
+        → IsLookedAt look forms (root_of root levels) x
+        → (told x ≡ true) ⊎ (Among x (under levels) ⊎ LooksAt look forms (under levels) [] (root ∷ []) x) }
+    ensures back { (look : Contents Node) (forms : Forms Node) (below seen todo : List (Instance Node)) (i x : Instance Node)
+        → IsOpen look forms below i → LooksAt look forms below seen (i ∷ todo) x → x ≡ i }
 {}

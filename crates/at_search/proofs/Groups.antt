@@ -20,8 +20,8 @@ use Rattle.at_search.specs.declared.system.System.{System}
 use Rattle.at_search.specs.LedTo.{AreClosedIn}
 use Rattle.at_search.specs.Recorded.{AreFacts, AreMarksRight, Recorded, end_of}
 use Rattle.at_search.specs.Systems.{IsFormed, IsSystem}
-use Rattle.at_search.specs.Solved.{AreAllTold, AreDerived, AreGroups, AreInOrder, AreRight, AreShut, AreTold, AreToldOrSpoilt, HasOpenedAll, HasSolved, IsSolvedIn}
-use Rattle.at_search.specs.Solved.{IsSpoilt, IsToldSome, is_open_at, solved_at, value_at}
+use Rattle.at_search.specs.Solved.{AreAllTold, AreDerived, AreGroups, AreInOrder, AreRight, AreShut, AreTold, AreToldOrSpoilt, AreToldOrStopped, HasOpenedAll, HasSolved, IsSolvedIn}
+use Rattle.at_search.specs.Solved.{IsSpoilt, IsStopped, IsToldSome, is_open_at, solved_at, value_at}
 use Rattle.at_search.proofs.Derived.{no_value, there_among}
 use Rattle.at_search.proofs.Piecewise.{at_last}
 use Rattle.at_search.proofs.Places.{item_at, read_at, same_or_not, within}
@@ -31,15 +31,6 @@ use Rattle.at_search.proofs.ToldValues.{told}
 -- it is told in the group at this place
 abbrev pub StandsIn : List (Vec Solved Global) → ℕ → ℕ → Type 0
 StandsIn solved k q = (g : Vec Solved Global) × (t : Solved) × (slice_get solved k ≡ Some g) × Among t g.items × (t.position ≡ q)
-
--- Formulas lead from it to one of these that has no formula, or whose formula asks for what isn't known and isn't among these.
-pub record IsStopped (known : Known ℕ) (ended : List (Instance ℕ × Ended)) (insts : List (Instance ℕ)) (i : Instance ℕ) : Type 0 where
-  pub by : Instance ℕ
-  pub among : Among by insts
-  pub unknown : known by ≡ None
-  pub led : LeadsOver (Recorded ended) i by
-  pub why : ((f : Formula ℕ) → Recorded ended by (Made f) → ⊥)
-      ⊎ ((f : Formula ℕ) × (j : Instance ℕ) × Recorded ended by (Made f) × Among j (atoms f) × (known j ≡ None) × (¬ (Among j insts)))
 
 -- So many groups of the first system were gone through: positions that are told aren't open, and lead to none but such, told with
 -- them or before; the others of these groups are open, and what is open is known, or leads to an equation that gives no formula.
@@ -344,7 +335,7 @@ module _ (known : Known ℕ) (ended : List (Instance ℕ × Ended)) (insts : Lis
     -- each is told some value, or is known, or stopped, once all groups were gone through
     all_gone : (leave : List Bool) (lists : List (Vec ℕ Global)) (n : ℕ) (s : System) (solved : List (Vec Solved Global)) →
         AreComponents first.edges.items (length first.edges.items) lists → length lists ≤ n → Solving leave lists n s solved →
-        (i : Instance ℕ) → Among i insts → IsToldSome insts solved i ⊎ (IsSome (known i) ⊎ IsStopped known ended insts i)
+        AreToldOrStopped known ended insts solved
     all_gone leave lists n s solved comps past x i a =
         let (q, at) = place_of insts i a in
         let less : q < length first.edges.items = subst (λ z. q < z) (sym system.all.edges) (within insts q i at) in
@@ -355,40 +346,6 @@ module _ (known : Known ℕ) (ended : List (Instance ℕ × Ended)) (insts : Lis
           | inr (k, (g, t, at_g, in_g, e)) ↦
               inl (t.value, (k, (g, t, at_g, in_g, subst (λ z. slice_get insts z ≡ Some i) (sym e) at, refl)))
         ]
-
-    -- and what is stopped is spoilt, where formulas lead to none but these and what is settled
-    spoilt_by : AreClosedIn known ended insts → (i : Instance ℕ) → IsStopped known ended insts i → IsSpoilt known ended i
-    spoilt_by shut i x = elim x.why [
-      | inl none ↦ by_fault (shut x.by x.among).end none (shut x.by x.among).ends
-      | inr (f, j, r, a, none, out) ↦
-          let w = shut x.by x.among in
-          let same : w.end ≡ Made f = one_end x.by w.end (Made f) w.ends r in
-          elim (w.next j (subst (λ z. Among j (asked_in z)) (sym same) a)) [
-            | inl there ↦ absurd (out there)
-            | inr settled ↦ elim settled [
-              | inl k ↦ absurd (no_value (known j) none k)
-              | inr marked ↦ record {
-                to = j;
-                led = leads_then (Recorded ended) i x.by j x.led (fixpoints.goes x.by j j f r a (fixpoints.stays j));
-                unknown = none;
-                why = inr marked;
-              }
-            ]
-          ]
-    ]
-      where
-        by_fault : (e : End ℕ (Formula ℕ)) → ((f : Formula ℕ) → Recorded ended x.by (Made f) → ⊥) → Recorded ended x.by e →
-            IsSpoilt known ended i
-        by_fault (Made f) none r = absurd (none f r)
-        by_fault (Spoilt k at) none r = record { to = x.by; led = x.led; unknown = x.unknown; why = inl (k, at, r) }
-
-    pub told_or_spoilt : (leave : List Bool) (lists : List (Vec ℕ Global)) (n : ℕ) (s : System) (solved : List (Vec Solved Global)) →
-        AreComponents first.edges.items (length first.edges.items) lists → length lists ≤ n → Solving leave lists n s solved →
-        AreClosedIn known ended insts → AreToldOrSpoilt known ended insts solved
-    told_or_spoilt leave lists n s solved comps past x shut i a = elim (all_gone leave lists n s solved comps past x i a) [
-      | inl told ↦ inl told
-      | inr u ↦ elim u [ inl k ↦ inr (inl k) | inr stopped ↦ inr (inr (spoilt_by shut i stopped)) ]
-    ]
 
     -- a group that isn't shut stops each member that isn't known
     module _ (leave : List Bool) (lists : List (Vec ℕ Global)) (n : ℕ) (s : System) (solved : List (Vec Solved Global))
@@ -584,13 +541,46 @@ module _ (known : Known ℕ) (ended : List (Instance ℕ × Ended)) (insts : Lis
       (subst (λ z. AreRight look forms z known ended insts) (sym system.all.start') right)
       (subst (λ z. (p : ℕ) → (get_or leave p false ≡ true) ↔ Derives z p) e derived) x
 
-  pub rest_at_end : (start : Bool) (first : System) (leave : List Bool) (lists lists' edges : List (Vec ℕ Global)) (n : ℕ) (s : System)
+  pub each_at_end : (start : Bool) (first : System) (leave : List Bool) (lists lists' edges : List (Vec ℕ Global)) (n : ℕ) (s : System)
       (solved : List (Vec Solved Global)) → IsSystem start known ended insts first → edges ≡ first.edges.items →
       AreComponents edges (length edges) lists → lists' ≡ lists → length lists' ≤ n →
-      IsSolving known ended insts first leave lists' n s solved → AreClosedIn known ended insts → AreToldOrSpoilt known ended insts solved
-  rest_at_end start first leave lists lists' edges n s solved system ee comps el past x shut =
-      told_or_spoilt first (own start first system) leave lists' n s solved
-      (subst (λ z. AreComponents z (length z) lists') ee (subst (λ z. AreComponents edges (length edges) z) (sym el) comps)) past x shut
+      IsSolving known ended insts first leave lists' n s solved → AreToldOrStopped known ended insts solved
+  each_at_end start first leave lists lists' edges n s solved system ee comps el past x =
+      all_gone first (own start first system) leave lists' n s solved
+      (subst (λ z. AreComponents z (length z) lists') ee (subst (λ z. AreComponents edges (length edges) z) (sym el) comps)) past x
+
+  -- and what is stopped is spoilt, where formulas lead to none but these and what is settled
+  spoilt_by : AreClosedIn known ended insts → (i : Instance ℕ) → IsStopped known ended insts i → IsSpoilt known ended i
+  spoilt_by shut i x = elim x.why [
+    | inl none ↦ by_fault (shut x.by x.among).end none (shut x.by x.among).ends
+    | inr (f, j, r, a, none, out) ↦
+        let w = shut x.by x.among in
+        let same : w.end ≡ Made f = one_end x.by w.end (Made f) w.ends r in
+        elim (w.next j (subst (λ z. Among j (asked_in z)) (sym same) a)) [
+          | inl there ↦ absurd (out there)
+          | inr settled ↦ elim settled [
+            | inl k ↦ absurd (no_value (known j) none k)
+            | inr marked ↦ record {
+              to = j;
+              led = leads_then (Recorded ended) i x.by j x.led (fixpoints.goes x.by j j f r a (fixpoints.stays j));
+              unknown = none;
+              why = inr marked;
+            }
+          ]
+        ]
+  ]
+    where
+      by_fault : (e : End ℕ (Formula ℕ)) → ((f : Formula ℕ) → Recorded ended x.by (Made f) → ⊥) → Recorded ended x.by e →
+          IsSpoilt known ended i
+      by_fault (Made f) none r = absurd (none f r)
+      by_fault (Spoilt k at) none r = record { to = x.by; led = x.led; unknown = x.unknown; why = inl (k, at, r) }
+
+  pub rest_of : (solved : List (Vec Solved Global)) → AreToldOrStopped known ended insts solved → AreClosedIn known ended insts →
+      AreToldOrSpoilt known ended insts solved
+  rest_of solved each shut i a = elim (each i a) [
+    | inl told ↦ inl told
+    | inr u ↦ elim u [ inl k ↦ inr (inl k) | inr stopped ↦ inr (inr (spoilt_by shut i stopped)) ]
+  ]
 
   pub groups_at_end : (start : Bool) (first : System) (leave : List Bool) (lists lists' edges : List (Vec ℕ Global)) (n : ℕ) (s : System)
       (solved : List (Vec Solved Global)) → IsSystem start known ended insts first → edges ≡ first.edges.items →

@@ -109,6 +109,20 @@ pub record IsSpoilt (known : Known ℕ) (ended : List (Instance ℕ × Ended)) (
   pub unknown : known to ≡ None
   pub why : HasFault ended to ⊎ IsMarked ended to
 
+-- Formulas lead from it to one of these that isn't known, and that has no formula, or asks for what isn't known and isn't one of these.
+pub record IsStopped (known : Known ℕ) (ended : List (Instance ℕ × Ended)) (insts : List (Instance ℕ)) (i : Instance ℕ) : Type 0 where
+  pub by : Instance ℕ
+  pub among : Among by insts
+  pub unknown : known by ≡ None
+  pub led : LeadsOver (Recorded ended) i by
+  pub why : ((f : Formula ℕ) → Recorded ended by (Made f) → ⊥)
+      ⊎ ((f : Formula ℕ) × (j : Instance ℕ) × Recorded ended by (Made f) × Among j (atoms f) × (known j ≡ None) × (¬ (Among j insts)))
+
+-- each by itself is told some value, or is known, or is stopped
+abbrev pub AreToldOrStopped : {Z : Type 0} → Known ℕ → List (Instance ℕ × Ended) → List (Instance ℕ) → List (Vec Solved Z) → Type 0
+AreToldOrStopped known ended insts groups = (i : Instance ℕ) → Among i insts →
+    IsToldSome insts groups i ⊎ (IsSome (known i) ⊎ IsStopped known ended insts i)
+
 -- each is told some value, or is known, or spoilt
 abbrev pub AreToldOrSpoilt : {Z : Type 0} → Known ℕ → List (Instance ℕ × Ended) → List (Instance ℕ) → List (Vec Solved Z) → Type 0
 AreToldOrSpoilt known ended insts groups = (i : Instance ℕ) → Among i insts →

@@ -6,7 +6,7 @@ ghost use Rattle.at_model.specs.Run.{Contents};
 ghost use Rattle.at_model.specs.of_fixpoints.Formulas.{Forms};
 ghost use Rattle.at_search.specs.LedTo.{AreClosedIn};
 ghost use Rattle.at_search.specs.Recorded.{AreMarksRight};
-ghost use Rattle.at_search.specs.Solved.{AreAllTold, AreGroups, AreInOrder, AreRight, AreTold, AreToldOrSpoilt, HasSolved, solved_at};
+ghost use Rattle.at_search.specs.Solved.{AreAllTold, AreGroups, AreInOrder, AreRight, AreTold, AreToldOrSpoilt, AreToldOrStopped, HasSolved, solved_at};
 
 use crate::ended::Ended;
 use crate::system::System;
@@ -23,8 +23,9 @@ pub struct Solved {
 }
 
 /// The values of those instances in the map from which formulas lead to formulas alone; all start so. They come in groups: in one,
-/// formulas lead from each to each; and what a group's formulas ask for is known, or stands in it or in a group before. Where formulas
-/// lead to none but these and what is settled, each that is neither told nor known is spoilt. An error where memory is wanting.
+/// formulas lead from each to each; and what a group's formulas ask for is known, or stands in it or in a group before. Each that is
+/// neither told nor known leads to one that has no formula, or asks for what isn't known and isn't in the map; where formulas lead to
+/// none but these and what is settled, it is spoilt. An error where memory is wanting.
 pub fn solve<K: Known>(
     alloc: Global,
     start: bool,
@@ -40,6 +41,7 @@ pub fn solve<K: Known>(
         → AreMarksRight look forms (K.value_of known.now) ended.now.entries
         → AreClosedIn (K.value_of known.now) ended.now.entries (keys_of seen.now.entries)
         → IfOk result (λ groups. AreAllTold look forms (K.value_of known.now) (keys_of seen.now.entries) groups.items) }
+    ensures each { IfOk result (λ groups. AreToldOrStopped (K.value_of known.now) ended.now.entries (keys_of seen.now.entries) groups.items) }
     ensures rest { AreClosedIn (K.value_of known.now) ended.now.entries (keys_of seen.now.entries)
         → IfOk result (λ groups. AreToldOrSpoilt (K.value_of known.now) ended.now.entries (keys_of seen.now.entries) groups.items) }
     ensures groups { IfOk result (λ groups. AreGroups (K.value_of known.now) ended.now.entries (keys_of seen.now.entries) groups.items) }

@@ -74,7 +74,7 @@ not_both look forms q j o (suc n, h) x =
     ]) x
 
 -- the first demand without an outcome is one
-first_unique : {N A : Type 0} (look : Contents N) (forms : Forms N) (r : Run N A) (i j : Instance N) →
+pub first_unique : {N A : Type 0} (look : Contents N) (forms : Forms N) (r : Run N A) (i j : Instance N) →
     ((n : ℕ) → Settles look forms n i → ⊥) → ((n : ℕ) → Settles look forms n j → ⊥) →
     Reaches look (HasValue look forms) r i → Reaches look (HasValue look forms) r j → i ≡ j
 first_unique look forms (Gives a) i j p q r s = absurd r

@@ -21,11 +21,11 @@ abbrev pub OpenWithin : {N : Type 0} → Contents N → Forms N → List (Instan
 OpenWithin {N} look forms these those = (i : Instance N) → HasNone look forms i → Among i these → Among i those
 
 module _ {N : Type 0} (look : Contents N) (forms : Forms N) where
-  also_open : (u v : List (Instance N)) → OpenWithin look forms u v → (i : Instance N) → IsOpen look forms u i →
+  pub also_open : (u v : List (Instance N)) → OpenWithin look forms u v → (i : Instance N) → IsOpen look forms u i →
       IsOpen look forms v i
   also_open u v p i (h, n) = (p i n h, n)
 
-  below_one : (u v : List (Instance N)) (i : Instance N) (seen : List (Instance N)) → OpenWithin look forms u v →
+  pub below_one : (u v : List (Instance N)) (i : Instance N) (seen : List (Instance N)) → OpenWithin look forms u v →
       OpenWithin look forms (i ∷ (seen ++ u)) (i ∷ (seen ++ v))
   below_one u v i seen p k n (inl e) = inl e
   below_one u v i seen p k n (inr h) = elim (either_among k seen u h) [
@@ -48,25 +48,25 @@ module _ {N : Type 0} (look : Contents N) (forms : Forms N) where
 
 module _ {N : Type 0} (look : Contents N) (forms : Forms N) (told : IsTold (Instance N)) (W : List (Instance N))
     (formed_all : IsFormed (EndsSo look forms) W) (valued : (i : Instance N) → Among i W → HasNone look forms i → ⊥) where
-  atoms_in : (i : Instance N) (f : Formula N) → Among i W → HasForm look forms i f → IsPart (atoms f) W
+  pub atoms_in : (i : Instance N) (f : Formula N) → Among i W → HasForm look forms i f → IsPart (atoms f) W
   atoms_in i f h x =
       let (g, y, p) = formed_all i h in
       let q : Made g ≡ Made f = ends_one look forms i (Made g) (Made f) y x in let q' : g ≡ f = cc in
       subst (λ z. IsPart (atoms z) W) q' p
 
-  spoilt_not : (i at : Instance N) (k : _) → Among i W → EndsSo look forms i (Spoilt k at) → ⊥
+  pub spoilt_not : (i at : Instance N) (k : _) → Among i W → EndsSo look forms i (Spoilt k at) → ⊥
   spoilt_not i at k h x =
       let (g, y, p) = formed_all i h in
       let q : Made g ≡ Spoilt k at = ends_one look forms i (Made g) (Spoilt k at) y x in cc
 
-  wants_not : (i k : Instance N) → Among i W → WantsNone look forms i k → ⊥
+  pub wants_not : (i k : Instance N) → Among i W → WantsNone look forms i k → ⊥
   wants_not i k h (r, n) =
       let (g, y, p) = formed_all i h in not_ended look forms i k (no_settling look forms k n) r (Made g) y
 
-  not_open : (u : List (Instance N)) (i : Instance N) → Among i W → IsOpen look forms u i → ⊥
+  pub not_open : (u : List (Instance N)) (i : Instance N) → Among i W → IsOpen look forms u i → ⊥
   not_open u i h (a, n) = valued i h n
 
-  wider : (u s s' : List (Instance N)) (i : Instance N) → IsPart s s' →
+  pub wider : (u s s' : List (Instance N)) (i : Instance N) → IsPart s s' →
       OpenWithin look forms (i ∷ (s ++ u)) (i ∷ (s' ++ u))
   wider u s s' i p k n (inl e) = inl e
   wider u s s' i p k n (inr h) = elim (either_among k s u h) [
@@ -74,7 +74,7 @@ module _ {N : Type 0} (look : Contents N) (forms : Forms N) (told : IsTold (Inst
     | inr a ↦ inr (back_among k s' u a)
   ]
 
-  narrower : (u s s' : List (Instance N)) (i : Instance N) → IsPartWith W s' s →
+  pub narrower : (u s s' : List (Instance N)) (i : Instance N) → IsPartWith W s' s →
       OpenWithin look forms (i ∷ (s' ++ u)) (i ∷ (s ++ u))
   narrower u s s' i q k n (inl e) = inl e
   narrower u s s' i q k n (inr h) = elim (either_among k s' u h) [
@@ -82,7 +82,7 @@ module _ {N : Type 0} (look : Contents N) (forms : Forms N) (told : IsTold (Inst
     | inr a ↦ inr (back_among k s u a)
   ]
 
-  off_both : (s s' : List (Instance N)) (i : Instance N) → IsPartWith W s' s → (¬ (Among i s)) → (¬ (Among i W)) →
+  pub off_both : (s s' : List (Instance N)) (i : Instance N) → IsPartWith W s' s → (¬ (Among i s)) → (¬ (Among i W)) →
       (¬ (Among i s'))
   off_both s s' i q n off a = elim (q i a) [ inl b ↦ n b | inr b ↦ off b ]
 

@@ -28,7 +28,7 @@ module _ {N : Type 0} (look : Contents N) (forms : Forms N) (told : IsTold (Inst
     led = λ i h. elim h [ inl e ↦ subst (λ z. LeadsOver (EndsSo look forms) q z) (sym e) (stays q) | inr u ↦ absurd u ];
   }
 
-  formed_of : (W : List (Instance N)) → AreClosed (EndsSo look forms) IsMade W → IsFormed (EndsSo look forms) W
+  pub formed_of : (W : List (Instance N)) → AreClosed (EndsSo look forms) IsMade W → IsFormed (EndsSo look forms) W
   formed_of W c j h = let x = c j h in made x.end x.ends x.good x.next
     where
       made : (e : End N (Formula N)) → EndsSo look forms j e → IsMade e → ((k : Instance N) → Among k (asked_in e) → Among k W) →

@@ -1,6 +1,6 @@
 use Rattle.std.proofs.Common.{◌∙◌}
 use Rattle.std.specs.Map.{keys_of}
-use Rattle.at_search.proofs.Groups.{all_told_of, begins, goes_on, groups_at_end, order_at_end, rest_at_end, told_at_end}
+use Rattle.at_search.proofs.Groups.{all_told_of, begins, each_at_end, goes_on, groups_at_end, order_at_end, rest_of, told_at_end}
 use Rattle.at_search.proofs.solving.solve.Goals as goal
 
 pub loop-group-init : goal.loop-group-init
@@ -25,12 +25,17 @@ returns-clause-told g c = λ look forms right.
     c.loop-group.solved.items c.as_slice.result.now c.in_ok-system.ensures (c.as_slice.ensures.value ∙ c.in_ok-all.ensures)
     c.in_ok-leave.ensures.known c.loop-group.invariant right
 
-pub returns-clause-rest : goal.returns-clause-rest
-returns-clause-rest g c =
-    rest_at_end (g.K.Known.value_of c.args.known.now) c.args.ended.now.entries (keys_of c.args.seen.now.entries) c.args.start
+pub returns-clause-each : goal.returns-clause-each
+returns-clause-each g c =
+    each_at_end (g.K.Known.value_of c.args.known.now) c.args.ended.now.entries (keys_of c.args.seen.now.entries) c.args.start
     c.in_ok-system.system c.in_ok-leave.leave.items c.in_ok-groups.groups.items c.deref-group-items.result.now c.edges.result.now
     c.loop-group.group-index c.loop-group.system c.loop-group.solved.items c.in_ok-system.ensures c.edges.ensures c.in_ok-groups.ensures
     c.deref-group-items.ensures.value c.loop-group-test.false c.loop-group.invariant
+
+pub returns-clause-rest : goal.returns-clause-rest
+returns-clause-rest g c =
+    rest_of (g.K.Known.value_of c.args.known.now) c.args.ended.now.entries (keys_of c.args.seen.now.entries) c.loop-group.solved.items
+    (returns-clause-each g c)
 
 pub returns-clause-groups : goal.returns-clause-groups
 returns-clause-groups g c =
