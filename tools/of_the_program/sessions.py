@@ -646,6 +646,28 @@ MADE = [
 0 ok 1
 0 = 20
 """, 185 + 5, 185 + 2),
+    Session("a class comes in at the top, and the question is posted: no more is made", """\
+0 ask / wrong()
+0 insert / Class 0 Class("New",[])
+0 post / wrong()
+0 wait 1
+""", """\
+0 = 20
+0 ok 1
+0 open 1
+0 done 1 1 = 20
+""", 185 + 186, 185 + 6),
+    Session("it is one that is used, in turns", """\
+0 ask / wrong()
+0 insert / Class 0 Class("u",[])
+0 post / wrong()
+0 wait 1
+""", """\
+0 = 20
+0 ok 1
+0 open 1
+0 done 1 1 = 0
+""", 185 + 186, 185 + 6 + 20 * 3),
     Session("what changes back in between is asked for by one of two", """\
 0 ask / wrong()
 0 token /Class:3 Name "w"

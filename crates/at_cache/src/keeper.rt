@@ -28,7 +28,7 @@ pub enum Order {
     AsTaken,
     /// In any order.
     Any,
-    /// In any order, by a question in turns, which looks for nothing that can be kept again.
+    /// In any order, by a question in turns: the instance may have a trace still, since it is settled before its evaluation and not behind it.
     InTurns,
 }
 

@@ -2,6 +2,8 @@
 pub mod Met
 pub mod Ahead
 pub mod Grown
+pub mod KeptAgain
+pub mod TurnedBehind
 pub mod Given
 pub mod Posted
 pub mod Counted

@@ -14,6 +14,7 @@ use Rattle.at_cache.specs.Traced.{FlushesTraces, Memories, SparesAtEdit, StayTra
 use Rattle.at_demand.specs.declared.answer.Answer.{Answer as AnswerCode}
 use Rattle.at_demand.specs.declared.question.Question.{Question}
 use Rattle.at_demand.specs.declared.trials.Trials.{Trials}
+use Rattle.at_demand.specs.Again.{KeepsAgain}
 use Rattle.at_demand.specs.Made.{Makes}
 use Rattle.at_demand.specs.Known.{equations, meaning, kept_values, ArePlain, answer_view}
 use Rattle.at_demand.specs.Right.{AreRight, IsThere}
@@ -58,11 +59,11 @@ pub record GainsBy (rules : Rules) (s : Shown) (before after : Entries) (q : Que
   pub searched : (u : Search ℕ) → StandsFor rules s before q u → GainsInTurn rules before after u
 
 -- where no attribute is circular, turns of the question's chain were given
-pub record HasGivenPlainly {E : Type 0} (rules : Rules) (s : Shown) (before after : Entries) (limit : ℕ) (old new : Question)
+pub record HasGivenPlainly {E : Type 0} (rules : Rules) (s : Shown) (m : Memories) (before after : Entries) (limit : ℕ) (old new : Question)
     (r : Result (ℕ × Option AnswerCode) E) : Type 0 where
   pub given : IfOk r (λ g. HasGiven (contents s) (equations rules) limit g.0 (under_way old) (under_way new) (option_map answer_view g.1))
-  pub each : IfOk r (λ g. AreTurnsOfChain rules s g.0 before (under_way old) after (under_way new) (option_map answer_view g.1))
-  pub broke : OnErr r (BreaksOffChain rules s limit before (under_way old) after)
+  pub each : IfOk r (λ g. AreTurnsOfChain rules s m g.0 before (under_way old) after (under_way new) (option_map answer_view g.1))
+  pub broke : OnErr r (BreaksOffChain rules s m limit before (under_way old) after)
 
 -- The instance has its answer. What is kept stays right; with an exact keeper it stays spare, where groups are kept whole, has all that is worth
 -- keeping, and the work counts that.
@@ -114,18 +115,21 @@ pub record HasTurnedOn {E : Type 0} (rules : Rules) (s : Shown) (exact : Bool) (
   pub answered : IfOk r (λ o. IfSome o (λ a. HasTurnedWith rules s exact before after earlier later old new t r))
   pub gains : GainsAtMost rules s exact before after earlier later old (KeepsGroups rules r)
 
--- The question was given a turn, and what answers it is right; where none does, that is counted, and it stands. At most its last instance
--- came to what is kept, which stays right and, with an exact keeper, spare.
-pub record HasTurned {E : Type 0} (rules : Rules) (s : Shown) (exact : Bool) (before after : Entries) (earlier later : ℕ)
+-- What can be kept again came to be kept, with no evaluation. Behind that the question was given a turn, and what answers it is right; where
+-- none does, that is counted, and it stands. At most its last instance came to what is kept by the turn; that stays right and, with an exact
+-- keeper, spare.
+pub record HasTurned {E : Type 0} (rules : Rules) (s : Shown) (exact : Bool) (m : Memories) (before after : Entries) (earlier later : ℕ)
     (old new : Question) (r : Result (Option AnswerCode) E) : Type 0 where
-  pub turned : HasTurnedBy rules s before after old new r
+  pub mid : Entries
+  pub again : KeepsAgain m before mid
+  pub turned : HasTurnedBy rules s mid after old new r
   pub counted : IfOk r (λ o. IfNone o (new.turns ≡ old.turns + 1))
   pub answers : IfOk r (λ o. IfSome o (λ a. Answers (contents s) (meaning rules) (asked_by old) (answer_view a)))
   pub standing : IfOk r (λ o. IsOfUse rules o (IsStanding rules s after new))
   pub right : AreRightValues (contents s) (meaning rules) (kept_values after)
   pub stays : IsThere s (asked_by old) → AreRight rules s before → AreRight rules s after
   pub plain : ArePlain rules after
-  pub last : GainsBy rules s before after old
+  pub last : GainsBy rules s mid after old
   pub worthy : AddsWorthy rules (contents s) (asked_by old) before after
   pub all : IsTrue exact → AreSpare rules (contents s) before → IsSparingTurns rules (contents s) before old
       → IfOk r (λ o. IfSome o (λ a. HasWorthyFor rules (contents s) (asked_by old) (answer_view a) after))
@@ -135,14 +139,15 @@ pub record HasTurned {E : Type 0} (rules : Rules) (s : Shown) (exact : Bool) (be
       → AreSpare rules (contents s) after
   pub counts : IsTrue exact → Counts before after earlier later
 
--- It was given as many turns as it may be, which are counted, or fewer where one of them answered it; so it is then, too.
-pub record HasTurnedOften {E : Type 0} (rules : Rules) (s : Shown) (exact : Bool) (before after : Entries) (earlier later limit : ℕ)
+-- It was given as many turns as it may be, which are counted, or fewer where one of them answered it; so it is then, too. What these memories
+-- have may be kept again before each of them.
+pub record HasTurnedOften {E : Type 0} (rules : Rules) (s : Shown) (exact : Bool) (m : Memories) (before after : Entries) (earlier later limit : ℕ)
     (old new : Question) (r : Result (ℕ × Option AnswerCode) E) : Type 0 where
-  pub plainly : HasNoneCircular rules → HasGivenPlainly rules s before after limit old new r
+  pub plainly : HasNoneCircular rules → HasGivenPlainly rules s m before after limit old new r
   pub given : (u : Search ℕ) → StandsFor rules s before old u → IfOk r (λ g. (v : Search ℕ)
       × HasGivenBy (contents s) (meaning rules) limit g.0 u v (option_map answer_view g.1)
-      × AreTurns rules s g.0 before u after v (option_map answer_view g.1) × (g.1 ≡ None → StandsFor rules s after new v))
-  pub broke : (u : Search ℕ) → StandsFor rules s before old u → OnErr r (BreaksOff rules s limit before u after)
+      × AreTurns rules s m g.0 before u after v (option_map answer_view g.1) × (g.1 ≡ None → StandsFor rules s after new v))
+  pub broke : (u : Search ℕ) → StandsFor rules s before old u → OnErr r (BreaksOff rules s m limit before u after)
   pub counted : IfOk r (λ g. IfNone g.1 (new.turns ≡ old.turns + g.0))
   pub same : IfOk r (λ g. IfNone g.1 (asked_by new ≡ asked_by old))
   pub all : IsTrue exact → AreSpare rules (contents s) before → IsSparingTurns rules (contents s) before old

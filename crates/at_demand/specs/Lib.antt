@@ -1,4 +1,5 @@
 pub mod Known
+pub mod Again
 pub mod Meant
 pub mod Sound
 pub mod UnderWay

@@ -16,6 +16,8 @@ use Rattle.at_store.specs.Shown.{Shown, contents}
 use Rattle.at_body.specs.Values.{value_view}
 use Rattle.at_body.specs.declared.value.Value.{Value as ValueCode}
 use Rattle.at_cache.specs.Kept.{Entries}
+use Rattle.at_cache.specs.Traced.{Memories}
+use Rattle.at_demand.specs.Again.{KeepsAgain}
 use Rattle.at_demand.specs.declared.evaluation.Find.{Find}
 use Rattle.at_demand.specs.declared.question.Question.{Question}
 use Rattle.at_rules.specs.Circular.{HasNoneCircular}
@@ -131,35 +133,39 @@ pub record GainsInChain (rules : Rules) (old new : Entries) (u : UnderWay ℕ) :
   pub others : (j : Instance ℕ) → IsSome (new j) → IsSome (old j) ⊎ (IsKept new j ⊎ Among j (keys u.found))
 
 -- So many single turns were given, one behind the other: each tried the one equation to which the question had come, and lets no more
--- come to what is kept than a turn may. None but the last one answers it.
-pub data AreTurns (rules : Rules) (s : Shown) : (given : ℕ) → (before : Entries) → Search ℕ → (after : Entries) → Search ℕ
+-- come to what is kept than a turn may. None but the last one answers it. Before each what could be kept again at the beginning may come to
+-- be kept, with no evaluation.
+pub data AreTurns (rules : Rules) (s : Shown) (m : Memories) : (given : ℕ) → (before : Entries) → Search ℕ → (after : Entries) → Search ℕ
     → Option (Answer ℕ) → Type 0 where
-  none : (e : Entries) (u : Search ℕ) → AreTurns rules s 0 e u e u None
-  more : (n : ℕ) (d e f : Entries) (u v w : Search ℕ) (o : Option (Answer ℕ)) → AreTurns rules s n d u e v None
-      → Turned (contents s) (meaning rules) (kept_values e) v w o → GainsInTurn rules e f v → AreTurns rules s (n + 1) d u f w o
+  none : (e : Entries) (u : Search ℕ) → AreTurns rules s m 0 e u e u None
+  again : (n : ℕ) (d e f : Entries) (u v : Search ℕ) → AreTurns rules s m n d u e v None → KeepsAgain m e f → AreTurns rules s m n d u f v None
+  more : (n : ℕ) (d e f : Entries) (u v w : Search ℕ) (o : Option (Answer ℕ)) → AreTurns rules s m n d u e v None
+      → Turned (contents s) (meaning rules) (kept_values e) v w o → GainsInTurn rules e f v → AreTurns rules s m (n + 1) d u f w o
 
 -- the same of a chain
-pub data AreTurnsOfChain (rules : Rules) (s : Shown) : (given : ℕ) → (before : Entries) → UnderWay ℕ → (after : Entries) → UnderWay ℕ
+pub data AreTurnsOfChain (rules : Rules) (s : Shown) (m : Memories) : (given : ℕ) → (before : Entries) → UnderWay ℕ → (after : Entries) → UnderWay ℕ
     → Option (Answer ℕ) → Type 0 where
-  none : (e : Entries) (u : UnderWay ℕ) → AreTurnsOfChain rules s 0 e u e u None
-  more : (n : ℕ) (d e f : Entries) (u v w : UnderWay ℕ) (o : Option (Answer ℕ)) → AreTurnsOfChain rules s n d u e v None
-      → ChainTurned (contents s) (equations rules) (kept_values e) v w o → GainsInChain rules e f v → AreTurnsOfChain rules s (n + 1) d u f w o
+  none : (e : Entries) (u : UnderWay ℕ) → AreTurnsOfChain rules s m 0 e u e u None
+  again : (n : ℕ) (d e f : Entries) (u v : UnderWay ℕ) → AreTurnsOfChain rules s m n d u e v None → KeepsAgain m e f
+      → AreTurnsOfChain rules s m n d u f v None
+  more : (n : ℕ) (d e f : Entries) (u v w : UnderWay ℕ) (o : Option (Answer ℕ)) → AreTurnsOfChain rules s m n d u e v None
+      → ChainTurned (contents s) (equations rules) (kept_values e) v w o → GainsInChain rules e f v → AreTurnsOfChain rules s m (n + 1) d u f w o
 
 -- Memory ran out in one of so many turns at most. Those before it were given so, and that one lets no more come to what is kept than
 -- a turn may.
-pub record BreaksOff (rules : Rules) (s : Shown) (limit : ℕ) (before : Entries) (u : Search ℕ) (after : Entries) : Type 0 where
+pub record BreaksOff (rules : Rules) (s : Shown) (m : Memories) (limit : ℕ) (before : Entries) (u : Search ℕ) (after : Entries) : Type 0 where
   pub given : ℕ
   pub fewer : given < limit
   pub mid : Entries
   pub way : Search ℕ
-  pub turns : AreTurns rules s given before u mid way None
+  pub turns : AreTurns rules s m given before u mid way None
   pub last : GainsInTurn rules mid after way
 
 -- the same of a chain
-pub record BreaksOffChain (rules : Rules) (s : Shown) (limit : ℕ) (before : Entries) (u : UnderWay ℕ) (after : Entries) : Type 0 where
+pub record BreaksOffChain (rules : Rules) (s : Shown) (m : Memories) (limit : ℕ) (before : Entries) (u : UnderWay ℕ) (after : Entries) : Type 0 where
   pub given : ℕ
   pub fewer : given < limit
   pub mid : Entries
   pub way : UnderWay ℕ
-  pub turns : AreTurnsOfChain rules s given before u mid way None
+  pub turns : AreTurnsOfChain rules s m given before u mid way None
   pub last : GainsInChain rules mid after way

@@ -177,8 +177,8 @@ impl<K: Keeper> Demand<K> {
         Err(AllocError)
     }
 
-    // Evaluates the last instance of a question in one go, where as many others wait, and says how many are to wait the next time. Where nothing
-    // comes to be kept so, that is the last time.
+    // Keeps the last instance of a question again, where that can be done with no evaluation; or evaluates it in one go, where as many others
+    // wait. Says how many are to wait the next time. Where nothing comes to be kept by an evaluation, that is the last time.
     fn look_ahead(
         &mut self,
         rules: &Rules,
@@ -192,6 +192,7 @@ impl<K: Keeper> Demand<K> {
             self.old.work self.new.work }
         ensures traces { StayJustified rules.now store.now question.now.inst (K.memories self.old.keeper) (K.memories self.new.keeper) }
     {
+        self.keep_again(&question.inst);
         let waiting = question.waiting.len();
         if waiting < due {
             return Ok(lowered(due, waiting));

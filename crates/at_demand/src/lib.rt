@@ -49,4 +49,5 @@ pub use laws::{
 pub use question::Question;
 pub use turning_laws::{
     a_question_has_few_turns, a_question_stands_while_more_is_kept, a_search_has_few_turns,
+    without_traces_nothing_is_kept_again,
 };

@@ -12,6 +12,8 @@ ghost use Rattle.at_model.specs.Turning.{IsOn, Silent, UnderWay, posted};
 ghost use Rattle.at_model.specs.of_fixpoints.Searching.{Search, Silent as SilentSearch, posted as search_posted};
 ghost use Rattle.at_store.specs.Shown.{IsIdle, Shown, contents, path, tree};
 ghost use Rattle.at_cache.specs.Kept.{Entries};
+ghost use Rattle.at_cache.specs.Traced.{Memories, TracesNothing};
+ghost use Rattle.at_demand.specs.Again.{KeepsAgain};
 ghost use Rattle.at_demand.specs.declared.question.Question.{Question};
 ghost use Rattle.at_demand.specs.Known.{equations, meaning};
 ghost use Rattle.at_demand.specs.Turns.{IsSparingTurns, IsStanding};
@@ -40,4 +42,9 @@ pub fn a_question_stands_while_more_is_kept()
         → IsStanding rules s entries q → IsStanding rules s more q }
     ensures spares { (rules : Rules) (s : Shown) (entries more : Entries) → ((i : Instance ℕ) → IsSome (entries i) → more i ≡ entries i) → (q : Question)
         → IsStanding rules s entries q → IsSparingTurns rules (contents s) entries q → IsSparingTurns rules (contents s) more q }
+{}
+
+/// Where nothing is traced nothing is kept again before a turn.
+pub fn without_traces_nothing_is_kept_again()
+    ensures { (m : Memories) (old new : Entries) → TracesNothing m → KeepsAgain m old new → (i : Instance ℕ) → new i ≡ old i }
 {}

@@ -54,14 +54,14 @@ plainly_whole rules (Ok report) none = inl none
 plainly_whole rules (Err fault) none = none
 
 -- and then others
-pub by_both : {K : Type 0} (exact : Bool) (entries : K → Entries) (old mid new : Engine K)
-    → GoesBy exact entries old mid → GoesBy exact entries mid new
-    → GoesBy exact entries old new
-by_both exact entries old mid _ first nowhere = first
-by_both exact entries old mid _ first (by_line next new line before after wants second served) =
-    by_line next new line before after wants (by_both exact entries old mid next first second) served
-by_both exact entries old mid _ first (by_turns next new limit before after spent second spends) =
-    by_turns next new limit before after spent (by_both exact entries old mid next first second) spends
+pub by_both : {K : Type 0} (exact : Bool) (entries : K → Entries) (memories : K → Memories) (old mid new : Engine K)
+    → GoesBy exact entries memories old mid → GoesBy exact entries memories mid new
+    → GoesBy exact entries memories old new
+by_both exact entries memories old mid _ first nowhere = first
+by_both exact entries memories old mid _ first (by_line next new line before after wants second served) =
+    by_line next new line before after wants (by_both exact entries memories old mid next first second) served
+by_both exact entries memories old mid _ first (by_turns next new limit before after spent second spends) =
+    by_turns next new limit before after spent (by_both exact entries memories old mid next first second) spends
 
 -- what belongs together is kept together in a call, where it is over the count of what was answered `memory`
 pub served_whole_so : (rules : Rules) (wants : Bool) (desk next : Desk) → next.memory ≡ desk.memory + (if wants then 1 else 0)
@@ -111,7 +111,7 @@ module _ {K W : Type 0} (exact : Bool) (entries : K → Entries) (memories : K �
   pub goes_wrote : {T U D : Type 0} {IsDone : T → Type 0} {a : T} (old new : Engine K) (desk next : Desk) (w x : W) (lines : ℕ) (out later : Vec ℕ Global) (result : Result U RunFault)
       → Calls {E = D} entries memories old new out later IsDone (Ok a)
       → (KeepWhole (rules_of old) desk next → IsTrue exact → IsSpare entries old → IsSpare entries new) → desk.memory ≤ next.memory → Remembers (failure w) (failure x) (is_err result) → OnOk result (waiting x ≡ false)
-      → GoesBy exact entries old new → countable next (state_of new) ≤ countable desk (state_of old) + 3 * lines
+      → GoesBy exact entries memories old new → countable next (state_of new) ≤ countable desk (state_of old) + 3 * lines
       → Goes exact entries memories failure waiting old new desk next w x lines result
   goes_wrote old new desk next w x lines out later result call spare wanted failed sent by grows = record {
     failed = failed;
@@ -145,7 +145,7 @@ module _ {K W : Type 0} (exact : Bool) (entries : K → Entries) (memories : K �
       → same.lines ≡ next.lines → same.memory ≡ next.memory → m + n ≤ lines → Goes exact entries memories failure waiting mid new same last x y n result → Goes exact entries memories failure waiting old new desk last w y lines result
   goes_on old mid new desk next same last w x y m n lines u result first same_lines same_memory few second = record {
     failed = then_calls (failure w) (failure x) (failure y) (is_err result) first.failed second.failed;
-    by = by_both exact entries old mid new first.by second.by;
+    by = by_both exact entries memories old mid new first.by second.by;
     sent = sends_later result (waiting w) (waiting x) (waiting y) first.sent second.sent;
     spare = λ whole exact spare.
         second.spare (later_whole old mid desk next same last first.rules same_memory first.wanted second.wanted whole) exact

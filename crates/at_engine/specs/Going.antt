@@ -47,7 +47,7 @@ pub record Goes {K W T : Type 0} (exact : Bool) (entries : K → Entries) (memor
     (failure : W → Option Bool) (waiting : W → Bool) (old new : Engine K) (desk next : Desk)
     (writer later : W) (lines : ℕ) (result : Result T RunFault) : Type 0 where
   pub failed : Remembers (failure writer) (failure later) (is_err result)
-  pub by : GoesBy exact entries old new
+  pub by : GoesBy exact entries memories old new
   pub sent : SendsOn result (waiting writer) (waiting later)
   pub spare : KeepWhole (rules_of old) desk next → IsTrue exact → IsSpare entries old → IsSpare entries new
   pub wanted : desk.memory ≤ next.memory

@@ -161,7 +161,7 @@ pub record RunsFor {K R W : Type 0} (exact : Bool) (entries : K → Entries) (me
   pub reads : MakesReads most_reads result (count reader) (count left)
   pub ended : TellsEnd result (ending reader) (ending left)
   pub sent : SendsAll result (waiting writer) (waiting later)
-  pub by : GoesBy exact entries old new
+  pub by : GoesBy exact entries memories old new
   pub keeps : IsTrue exact → IsSpare entries old → IfOk result (λ report. report.memory ≡ 0 → KeepsRun entries old new (remaining reader) (remaining left))
   pub work : IfOk result (λ report. report.work ≡ work_of new)
   pub spare : KeepsWhole (rules_of old) result → IsTrue exact → IsSpare entries old → IsSpare entries new

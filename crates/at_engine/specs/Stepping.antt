@@ -1,6 +1,7 @@
 -- What an engine has gone through: lines that were served, and turns that were given.
 use Rattle.std.specs.Prelude.{ℕ, Bool, List, Option}
 use Rattle.at_cache.specs.Kept.{Entries}
+use Rattle.at_cache.specs.Traced.{Memories}
 use Rattle.at_engine.specs.Serving.{IsServed}
 use Rattle.at_engine.specs.Turned.{Spends}
 use Rattle.at_engine.specs.declared.engine.Engine.{Engine}
@@ -8,9 +9,9 @@ use Rattle.at_engine.specs.declared.engine.turning.Spent.{Spent}
 
 -- Nothing but lines that were served and turns that were given lead from the one engine to the other, and each turn tried one
 -- equation.
-pub data GoesBy {K : Type 0} (exact : Bool) (entries : K → Entries) (old : Engine K) : Engine K → Type 0 where
-  nowhere : GoesBy exact entries old old
-  by_line : (mid new : Engine K) (line before after : List ℕ) (wants : Bool) → GoesBy exact entries old mid
-      → IsServed exact entries line mid new before after wants → GoesBy exact entries old new
-  by_turns : (mid new : Engine K) (limit : Option ℕ) (before after : List ℕ) (spent : Spent) → GoesBy exact entries old mid
-      → Spends exact entries limit mid new before after spent → GoesBy exact entries old new
+pub data GoesBy {K : Type 0} (exact : Bool) (entries : K → Entries) (memories : K → Memories) (old : Engine K) : Engine K → Type 0 where
+  nowhere : GoesBy exact entries memories old old
+  by_line : (mid new : Engine K) (line before after : List ℕ) (wants : Bool) → GoesBy exact entries memories old mid
+      → IsServed exact entries memories line mid new before after wants → GoesBy exact entries memories old new
+  by_turns : (mid new : Engine K) (limit : Option ℕ) (before after : List ℕ) (spent : Spent) → GoesBy exact entries memories old mid
+      → Spends exact entries memories limit mid new before after spent → GoesBy exact entries memories old new

@@ -4,6 +4,7 @@ use Rattle.std.specs.Option.{option_map}
 use Rattle.at_model.specs.Machine.{Given, text_of}
 use Rattle.at_model.specs.Replies.{Reply}
 use Rattle.at_cache.specs.Kept.{Entries}
+use Rattle.at_cache.specs.Traced.{Memories}
 use Rattle.at_demand.specs.declared.question.Question.{Question}
 use Rattle.at_engine.specs.Engines.{rules_of, state_of}
 use Rattle.at_engine.specs.Keeping.{IsSpare, KeepsWhole}
@@ -18,11 +19,11 @@ listed None = []
 listed (Some a) = a ∷ []
 
 -- What the turns of the question have tried, by what they tell: it stays open and has come so far; or it is told so.
-abbrev pub HasTried : {K : Type 0} → (exact : Bool) → (entries : K → Entries) → (limit : Option ℕ) → (old new : Engine K) → Posted → (others : List Posted)
+abbrev pub HasTried : {K : Type 0} → (exact : Bool) → (entries : K → Entries) → (memories : K → Memories) → (limit : Option ℕ) → (old new : Engine K) → Posted → (others : List Posted)
     → (given : ℕ) → Option (Bool × Reply) → Type 0
-HasTried exact entries limit old new p others given None =
-    (now : Option Question) × StaysOpen entries old new.demand p given now × (new.posts.items.items ≡ record p { question = now } ∷ others)
-HasTried exact entries limit old new p others given (Some told) = AnswersIn exact entries limit old new.demand p given told
+HasTried exact entries memories limit old new p others given None =
+    (now : Option Question) × StaysOpen entries memories old new.demand p given now × (new.posts.items.items ≡ record p { question = now } ∷ others)
+HasTried exact entries memories limit old new p others given (Some told) = AnswersIn exact entries memories limit old new.demand p given told
 
 -- an answer was told for want of memory
 abbrev pub is_memory : Option Bool → Bool
@@ -31,7 +32,7 @@ is_memory (Some wants) = wants
 
 -- Turns were given to the open question with the least number: as many as may be, or up to the one that had an answer, which is
 -- appended. Each tried one equation. What was kept spare is so still, where what belongs together is kept together.
-pub record Spends {K : Type 0} (exact : Bool) (entries : K → Entries) (limit : Option ℕ) (old new : Engine K) (before after : List ℕ) (spent : Spent)
+pub record Spends {K : Type 0} (exact : Bool) (entries : K → Entries) (memories : K → Memories) (limit : Option ℕ) (old new : Engine K) (before after : List ℕ) (spent : Spent)
     : Type 0 where
   pub first : Posted
   pub others : List Posted
@@ -43,16 +44,16 @@ pub record Spends {K : Type 0} (exact : Bool) (entries : K → Entries) (limit :
   pub turns : Given (rules_of old) given (state_of old) (listed told) (state_of new)
   pub appended : after ≡ before ++ text_of (listed told)
   pub named : option_map (λ (x : Bool × Reply). x.0) told ≡ spent.told
-  pub tried : HasTried exact entries limit old new first others given told
+  pub tried : HasTried exact entries memories limit old new first others given told
   pub spare : KeepsWhole (rules_of old) (is_memory spent.told) → IsTrue exact → IsSpare entries old → IsSpare entries new
 
 -- so it was; or no question is open, and nothing changes
-pub data HasGiven {K : Type 0} (exact : Bool) (entries : K → Entries) (limit : Option ℕ) (old new : Engine K) (before after : List ℕ) (spent : Spent)
+pub data HasGiven {K : Type 0} (exact : Bool) (entries : K → Entries) (memories : K → Memories) (limit : Option ℕ) (old new : Engine K) (before after : List ℕ) (spent : Spent)
     : Type 0 where
-  none_open : (state_of old).posted ≡ [] → new ≡ old → after ≡ before → spent.told ≡ None → HasGiven exact entries limit old new before after spent
-  gives : Spends exact entries limit old new before after spent → HasGiven exact entries limit old new before after spent
+  none_open : (state_of old).posted ≡ [] → new ≡ old → after ≡ before → spent.told ≡ None → HasGiven exact entries memories limit old new before after spent
+  gives : Spends exact entries memories limit old new before after spent → HasGiven exact entries memories limit old new before after spent
 
 -- one turn was given so, where a question is open
-abbrev pub HasTurned : {K : Type 0} → (exact : Bool) → (entries : K → Entries) → (old new : Engine K) → (before after : List ℕ) → Bool → Type 0
-HasTurned exact entries old new before after true = (spent : Spent) × Spends exact entries (Some 1) old new before after spent
-HasTurned exact entries old new before after false = ((state_of old).posted ≡ []) × (new ≡ old) × (after ≡ before)
+abbrev pub HasTurned : {K : Type 0} → (exact : Bool) → (entries : K → Entries) → (memories : K → Memories) → (old new : Engine K) → (before after : List ℕ) → Bool → Type 0
+HasTurned exact entries memories old new before after true = (spent : Spent) × Spends exact entries memories (Some 1) old new before after spent
+HasTurned exact entries memories old new before after false = ((state_of old).posted ≡ []) × (new ≡ old) × (after ≡ before)

@@ -9,6 +9,7 @@ ghost use Rattle.at_model.specs.Run.{Contents, Instance};
 ghost use Rattle.at_rules.specs.Circular.{HasNoneCircular};
 ghost use Rattle.at_store.specs.Shown.{Shown};
 ghost use Rattle.at_cache.specs.Kept.{Entries};
+ghost use Rattle.at_cache.specs.Traced.{Memories};
 ghost use Rattle.at_demand.specs.Answered.{HasWorthyFor};
 ghost use Rattle.at_demand.specs.Sparing.{HasWorthy};
 ghost use Rattle.at_demand.specs.Turns.{AreTurnsOfChain, BreaksOffChain, under_way};
@@ -20,11 +21,11 @@ ghost use Rattle.at_engine.specs.Turning.{AreTurns, BreaksOff};
 
 /// Where no attribute is circular, turns are those of a question's chain.
 pub fn turns_where_none_is_circular()
-    ensures turns { (rules : Rules) → HasNoneCircular rules → (s : Shown) (given : ℕ) (before after : Entries) (o : Option Question) (i : Instance ℕ)
-        (end : Question) (a : Option (Answer ℕ)) → AreTurns rules s given before o i after end a
-        → AreTurnsOfChain rules s given before (came_to o i) after (under_way end) a }
-    ensures breaks { (rules : Rules) → HasNoneCircular rules → (s : Shown) (limit : ℕ) (before after : Entries) (o : Option Question) (i : Instance ℕ)
-        → BreaksOff rules s limit before o i after → BreaksOffChain rules s limit before (came_to o i) after }
+    ensures turns { (rules : Rules) → HasNoneCircular rules → (s : Shown) (m : Memories) (given : ℕ) (before after : Entries) (o : Option Question) (i : Instance ℕ)
+        (end : Question) (a : Option (Answer ℕ)) → AreTurns rules s m given before o i after end a
+        → AreTurnsOfChain rules s m given before (came_to o i) after (under_way end) a }
+    ensures breaks { (rules : Rules) → HasNoneCircular rules → (s : Shown) (m : Memories) (limit : ℕ) (before after : Entries) (o : Option Question) (i : Instance ℕ)
+        → BreaksOff rules s m limit before o i after → BreaksOffChain rules s m limit before (came_to o i) after }
 {}
 
 /// Where no attribute is circular, each verdict is one of which all is said that is kept, and what belongs together is kept together, whether

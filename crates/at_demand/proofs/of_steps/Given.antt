@@ -1,5 +1,5 @@
 -- What turns that follow each other come to, none of which answers the question.
-use Rattle.std.proofs.Common.{◌≡◌, ◌+◌, ◌<◌, ◌≤◌, ◌^◌, ℕ, suc, Bool, Option, Some, None, Result, Ok, Err, refl, sym, ◌∙◌, subst, arith}
+use Rattle.std.proofs.Common.{◌≡◌, ◌+◌, ◌<◌, ◌≤◌, ◌^◌, ℕ, suc, Bool, [], Option, Some, None, Result, Ok, Err, refl, sym, ◌∙◌, subst, arith}
 use Rattle.std.specs.Prelude.{IsTrue}
 use Rattle.std.specs.declared.alloc.AllocError.{AllocError}
 use Rattle.at_model.specs.Rules.{Rules}
@@ -11,33 +11,42 @@ use Rattle.at_model.specs.of_fixpoints.Searching.{Search, Silent, none as search
 use Rattle.at_rules.specs.Circular.{HasNoneCircular}
 use Rattle.at_store.specs.Shown.{Shown, contents}
 use Rattle.at_cache.specs.Kept.{Entries}
+use Rattle.at_cache.specs.Traced.{Memories, StayTraced}
 use Rattle.at_demand.specs.declared.answer.Answer.{Answer as AnswerCode}
 use Rattle.at_demand.specs.declared.question.Question.{Question}
 use Rattle.at_demand.specs.declared.trials.Trials.{Trials}
 use Rattle.at_demand.specs.Answerable.{IsBasis}
+use Rattle.at_demand.specs.Again.{HasKeptAgain, KeepsAgain}
 use Rattle.at_demand.specs.Answered.{GainsAtMost, HasTurnedOften, HasTurnedWith, HasWorthyFor}
+use Rattle.at_demand.specs.Inner.{Gains}
 use Rattle.at_demand.specs.Known.{ArePlain, answer_view, equations, kept_values, meaning}
 use Rattle.at_demand.specs.Levels.{StandsFor, asked_by}
 use Rattle.at_demand.specs.Right.{AreRight, IsThere}
 use Rattle.at_demand.specs.Sound.{AreSound}
 use Rattle.at_demand.specs.Sparing.{AddsWorthy, AreSpare, Counts}
+use Rattle.at_demand.specs.Traces.{AreJustified}
 use Rattle.at_demand.specs.Turns.{AreTurns, AreTurnsOfChain, IsSparingTurns, IsStanding, under_way}
 use Rattle.at_demand.specs.Turns as turns
 use Rattle.at_demand.proofs.Counting.{counts_more, counts_none}
 use Rattle.at_demand.proofs.Gaining.{worthy_none}
-use Rattle.at_demand.proofs.Standing.{answers_right, asked_same, sound_after, worthy_both}
+use Rattle.at_demand.proofs.Standing.{answers_right, asked_same, last_led, sound_after, worthy_both}
+use Rattle.at_demand.proofs.of_nesting.InnerGains.{gains_up, known_none}
+use Rattle.at_demand.proofs.of_steps.Grown.{spares_grown, stands_grown, stands_more}
+use Rattle.at_demand.proofs.of_steps.KeptAgain.{again_before, gains_again, settled_again}
+use Rattle.at_demand.proofs.of_traces.Justified.{stay_justified}
+use Rattle.at_demand.proofs.of_traces.Settled.{LastKept}
 
 -- So many turns were given, and the question stands.
-pub record HasGivenSo (rules : Rules) (s : Shown) (exact : Bool) (first now : Entries) (w x given : ℕ) (old new : Question) : Type 0 where
+pub record HasGivenSo (rules : Rules) (s : Shown) (exact : Bool) (m : Memories) (first now : Entries) (w x given : ℕ) (old new : Question) : Type 0 where
   pub sound : AreSound rules s now
   pub plain : ArePlain rules now
   pub standing : IsStanding rules s now new
   pub same : asked_by new ≡ asked_by old
   pub turns : new.turns ≡ old.turns + given
-  pub plainly : HasNoneCircular rules → AreTurnsOfChain rules s given first (under_way old) now (under_way new) None
+  pub plainly : HasNoneCircular rules → AreTurnsOfChain rules s m given first (under_way old) now (under_way new) None
       × ChainSilent (contents s) (equations rules) given (under_way old) (under_way new)
   pub searched : (u : Search ℕ) → StandsFor rules s first old u → (v : Search ℕ) × Silent (contents s) (meaning rules) given u v
-      × AreTurns rules s given first u now v None × StandsFor rules s now new v
+      × AreTurns rules s m given first u now v None × StandsFor rules s now new v
   pub worthy : AddsWorthy rules (contents s) (asked_by old) first now
   pub stays : IsThere s (asked_by old) → AreRight rules s first → AreRight rules s now
   pub spare : IsTrue exact → AreSpare rules (contents s) first → IsSparingTurns rules (contents s) first old
@@ -51,9 +60,9 @@ one_up P n p = let e : suc n ≡ n + 1 = omega arith in subst P e p
 abbrev pub with_answer : ℕ → Option AnswerCode → ℕ × Option AnswerCode
 with_answer n o = (n, o)
 
-module _ (rules : Rules) (s : Shown) (exact : Bool) (basis : IsBasis rules s) (first : Entries) (w : ℕ) (old : Question) where
+module _ (rules : Rules) (s : Shown) (exact : Bool) (m : Memories) (basis : IsBasis rules s) (first : Entries) (w : ℕ) (old : Question) where
   abbrev So : Entries → ℕ → ℕ → Question → Type 0
-  So now x given new = HasGivenSo rules s exact first now w x given old new
+  So now x given new = HasGivenSo rules s exact m first now w x given old new
 
   pub given_none : w < 2 ^ 64 → AreSound rules s first → ArePlain rules first → IsStanding rules s first old → So first w 0 old
   given_none few sound plain st = record {
@@ -69,6 +78,45 @@ module _ (rules : Rules) (s : Shown) (exact : Bool) (basis : IsBasis rules s) (f
     spare = λ k spare sparing. (spare, sparing);
     counts = λ k. counts_none first w few;
   }
+
+  -- what was kept again for the last instance
+  module _ (mid : Entries) (x given : ℕ) (q : Question) (inv : So mid x given q) (new : Entries) (y : ℕ)
+      (gains : Gains rules s exact q.inst mid new [] [] x y) where
+    up : Gains rules s exact (asked_by q) mid new [] [] x y
+    up = gains_up rules s exact basis.idle (asked_by q) q.inst mid new [] [] x y
+        (last_led rules s basis mid q inv.sound inv.standing) gains
+
+    sound_again : AreSound rules s new
+    sound_again = sound_after rules s basis mid q inv.sound inv.standing new gains.known.right up.worthy
+
+    pub given_again : KeepsAgain m mid new → So new y given q
+    given_again again = record {
+      sound = sound_again;
+      plain = gains.known.plain;
+      standing = stands_grown rules s mid new gains.worthy.stays q inv.standing;
+      same = inv.same;
+      turns = inv.turns;
+      plainly = λ none.
+          let (each, silent) = inv.plainly none in (turns.again given first mid new (under_way old) (under_way q) each again, silent);
+      searched = λ u st.
+          let (v, silent, each, stands) = inv.searched u st in
+          (v, silent, turns.again given first mid new u v each again, stands_more rules s mid new gains.worthy.stays q sound_again v stands);
+      worthy = worthy_both rules (contents s) (asked_by old) first mid new inv.worthy
+          (subst (λ (i : Instance ℕ). AddsWorthy rules (contents s) i mid new) inv.same up.worthy);
+      stays = λ there right. up.stays (subst (λ (i : Instance ℕ). IsThere s i) (sym inv.same) there) (inv.stays there right);
+      spare = λ k spare sparing.
+          let both = inv.spare k spare sparing in (gains.spare k both.0, spares_grown rules s mid new gains.worthy.stays q both.1);
+      counts = λ k. counts_more first mid new w x y (inv.counts k) (gains.counts k);
+    }
+
+  -- by memories that were these at the beginning
+  pub given_settled : (mid : Entries) (x given : ℕ) (q : Question) → So mid x given q → (l n : Memories) (new : Entries) (y : ℕ) → x < 2 ^ 64
+      → StayTraced m l → AreJustified rules (contents s) m → LastKept l mid → HasKeptAgain exact l n mid new x y q.inst → So new y given q
+  given_settled mid x given q inv l n new y few stay justified last kept = given_again mid x given q inv new y
+      (gains_again rules s basis.idle exact l n mid new x y q.inst few
+      (known_none rules (contents s) mid basis.circular inv.sound.right inv.plain)
+      (stay_justified rules (contents s) m l stay justified) last kept)
+      (again_before m l mid new stay (settled_again exact l q.inst kept.count mid new kept.settled))
 
   module _ (mid : Entries) (x given : ℕ) (q : Question) (inv : So mid x given q) (new : Entries) (y : ℕ) (p : Question) (t : Trials) where
     module _ (Whole : Type 0) (g : GainsAtMost rules s exact mid new x y q Whole) where
@@ -120,7 +168,7 @@ module _ (rules : Rules) (s : Shown) (exact : Bool) (basis : IsBasis rules s) (f
     -- and the last one answers the question
     pub given_answered : (limit : ℕ) (a : AnswerCode) → given < limit →
         HasTurnedWith {E = AllocError} rules s exact mid new x y q p t (Ok (Some a)) →
-        HasTurnedOften {E = AllocError} rules s exact first new w y limit old p (Ok (with_answer (given + 1) (Some a)))
+        HasTurnedOften {E = AllocError} rules s exact m first new w y limit old p (Ok (with_answer (given + 1) (Some a)))
     given_answered limit a less e = record {
       plainly = λ none.
           let (each, silent) = inv.plainly none in
@@ -161,8 +209,8 @@ module _ (rules : Rules) (s : Shown) (exact : Bool) (basis : IsBasis rules s) (f
 
     -- or breaks off
     pub given_broken : (limit : ℕ) (r : Result (ℕ × Option AnswerCode) AllocError) (f : AllocError) → r ≡ Err f → given < limit →
-        {Whole : Type 0} → (HasNoneCircular rules → Whole) → GainsAtMost rules s exact mid new x y q Whole → HasTurnedOften {E = AllocError} rules s exact first new w y limit old p r
-    given_broken limit r f is less {Whole} keeps g = subst (λ z. HasTurnedOften {E = AllocError} rules s exact first new w y limit old p z) (sym is) (record {
+        {Whole : Type 0} → (HasNoneCircular rules → Whole) → GainsAtMost rules s exact mid new x y q Whole → HasTurnedOften {E = AllocError} rules s exact m first new w y limit old p r
+    given_broken limit r f is less {Whole} keeps g = subst (λ z. HasTurnedOften {E = AllocError} rules s exact m first new w y limit old p z) (sym is) (record {
       plainly = λ none. record {
         given = tt;
         each = tt;
@@ -188,7 +236,7 @@ module _ (rules : Rules) (s : Shown) (exact : Bool) (basis : IsBasis rules s) (f
 
   -- all of them were given
   pub given_all : (now : Entries) (x given limit : ℕ) (new : Question) → So now x given new → given ≡ limit →
-      HasTurnedOften {E = AllocError} rules s exact first now w x limit old new (Ok (with_answer given None))
+      HasTurnedOften {E = AllocError} rules s exact m first now w x limit old new (Ok (with_answer given None))
   given_all now x given limit new inv full = record {
     plainly = λ none. let (each, silent) = inv.plainly none in record { given = (full, silent); each = each; broke = tt };
     given = λ u st. let (v, silent, each, stands) = inv.searched u st in (v, (full, silent), each, λ e. stands);

@@ -8,6 +8,7 @@ ghost use Rattle.at_model.specs.of_fixpoints.Formulas.{Forms};
 ghost use Rattle.at_body.specs.Values.{fault_view, value_view};
 ghost use Rattle.at_search.specs.LedTo.{IsClosure, LeadsOut};
 ghost use Rattle.at_search.specs.Recorded.{AreFacts, AreWhole, IsSettled};
+ghost use Rattle.at_demand.specs.Again.{HasKeptAgain};
 ghost use Rattle.at_demand.specs.Levels.{known_to};
 
 use super::Demand;
@@ -20,6 +21,15 @@ use indexmap::IndexMap;
 use std::alloc::AllocError;
 
 impl<K: Keeper> Demand<K> {
+    // Keeps an instance again where that can be done with no evaluation, and before it what it used, and so on. What is kept again is counted.
+    pub(super) fn keep_again(&mut self, inst: &Inst)
+        ensures { HasKeptAgain K.exact (K.memories self.old.keeper) (K.memories self.new.keeper) (K.contents self.old.keeper)
+            (K.contents self.new.keeper) self.old.work self.new.work inst.now }
+    {
+        let count = self.keeper.settle(inst, 0);
+        self.work = self.work.saturating_add(count);
+    }
+
     // What is kept, and what the question found.
     pub(super) fn knowing<'q>(&'q self, question: &'q Question) -> Knowing<'q, K>
         ensures keeper { result.keeper.now ≡ self.now.keeper }

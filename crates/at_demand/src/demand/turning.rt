@@ -20,7 +20,7 @@ ghost use Rattle.at_demand.specs.Searches.{CanSpoil, CanTryLast, CanTurnOn, HasS
 ghost use Rattle.at_demand.specs.Tries.{CanCarryOn, HasCarriedOn};
 ghost use Rattle.at_demand.specs.KeptTrials.{Fit};
 ghost use Rattle.at_demand.specs.LastTried.{CanForm, HasFormed, IsDeeperLast, IsPassedLast, IsSettledLast};
-ghost use Rattle.at_demand.specs.Traces.{StaysTraced};
+ghost use Rattle.at_demand.specs.Traces.{AreJustified, StaysTraced};
 
 use super::Demand;
 use super::searching::Resolved;
@@ -52,23 +52,26 @@ impl<K: Keeper> Demand<K> {
     }
 
     /// One turn of a question that was posted on the tree as it is: its answer, or none, where its chain has one level more, or
-    /// the equation of its last instance has ended. At most one equation is tried, once, and at most the values of the last instance
-    /// and of those that searches under way have seen come to what is kept. An error where memory is wanting, or where no turn more can
-    /// be counted; then the question is of no use any more.
+    /// the equation of its last instance has ended. First what can be kept again with no evaluation is kept, of the last instance, what it
+    /// used, and so on. Then at most one equation is tried, once, and at most the values of the last instance and of those that searches
+    /// under way have seen come to what is kept. An error where memory is wanting, or where no turn more can be counted; then the question
+    /// is of no use any more.
     pub fn turn(
         &mut self,
         rules: &Rules,
         store: &Store,
         question: &mut Question,
     ) -> Result<Option<Answer>, AllocError>
-        requires { CanTurn rules.now store.now (K.contents self.old.keeper) question.old }
-        ensures { TracesNothing (HasTurned rules.now store.now K.exact (K.contents self.old.keeper) (K.contents self.new.keeper)
-            self.old.work self.new.work question.old question.new result)
+        requires can { CanTurn rules.now store.now (K.contents self.old.keeper) question.old }
+        requires justified { AreJustified rules.now (contents store.now) (K.memories self.old.keeper) }
+        ensures { TracesNothing (HasTurned rules.now store.now K.exact (K.memories self.old.keeper) (K.contents self.old.keeper)
+            (K.contents self.new.keeper) self.old.work self.new.work question.old question.new result)
             (K.memories self.old.keeper) (K.memories self.new.keeper) }
     {
         // Positions among the finds of one question say nothing of another one.
         self.sharing.clear();
         let mut trials = Trials::new(self.alloc);
+        self.keep_again(&question.inst);
         self.turn_with(rules, store, question, &mut trials)
     }
 
@@ -82,9 +85,10 @@ impl<K: Keeper> Demand<K> {
         question: &mut Question,
         limit: u64,
     ) -> Result<(u64, Option<Answer>), AllocError>
-        requires { CanTurn rules.now store.now (K.contents self.old.keeper) question.old }
-        ensures { TracesNothing (HasTurnedOften rules.now store.now K.exact (K.contents self.old.keeper) (K.contents self.new.keeper)
-            self.old.work self.new.work limit question.old question.new result)
+        requires can { CanTurn rules.now store.now (K.contents self.old.keeper) question.old }
+        requires justified { AreJustified rules.now (contents store.now) (K.memories self.old.keeper) }
+        ensures { TracesNothing (HasTurnedOften rules.now store.now K.exact (K.memories self.old.keeper) (K.contents self.old.keeper)
+            (K.contents self.new.keeper) self.old.work self.new.work limit question.old question.new result)
             (K.memories self.old.keeper) (K.memories self.new.keeper) }
     {
         // As in one turn.
@@ -92,6 +96,7 @@ impl<K: Keeper> Demand<K> {
         let mut trials = Trials::new(self.alloc);
         let mut given = 0;
         while given < limit {
+            self.keep_again(&question.inst);
             let told = self.turn_with(rules, store, question, &mut trials)?;
             given += 1;
             if let Some(answer) = told {

@@ -213,8 +213,8 @@ at_once_unless rules s bytes (Posts q) h none = tt
 at_once_unless rules s bytes (Waits number) h none = none (number, h)
 
 -- a line that was read
-pub line_spares : {K : Type 0} (entries : K → Entries) (old new : Engine K) (bytes : List ℕ) (exact : Bool) (l : Line) (told : Told) → Spells bytes l → Hears exact entries old new l told → SparesVerdict entries (verdict (rules_of old) (state_of old) l) told.form old new → SparesLine entries bytes told.form old new
-line_spares entries old new bytes exact l told spells heard spares = by told.form refl
+pub line_spares : {K : Type 0} (entries : K → Entries) (memories : K → Memories) (old new : Engine K) (bytes : List ℕ) (exact : Bool) (l : Line) (told : Told) → Spells bytes l → Hears exact entries memories old new l told → SparesVerdict entries (verdict (rules_of old) (state_of old) l) told.form old new → SparesLine entries bytes told.form old new
+line_spares entries memories old new bytes exact l told spells heard spares = by told.form refl
   where
     v : Verdict
     v = verdict (rules_of old) (state_of old) l
@@ -282,7 +282,7 @@ grows_so entries old new v off k = by v off k.0 k.1
 
 unwritten : {K : Type 0} (entries : K → Entries) (old new : Engine K) (bytes : List ℕ) → KeepsLine entries bytes old new → state_of new ≡ state_of old → GrowsLine entries bytes old new
 unwritten entries old new bytes k same =
-    weaker_grows (IsWorthFor (rules_of old) (state_of old) k.becomes) (IsWorthIn (rules_of old) (state_of old) bytes) (kept_of entries old) (kept_of entries new) (work_of old) (work_of new) (worth_in (rules_of old) (state_of old) bytes k.becomes k.is_verdict)
+    weaker_grows (IsWorthFor (rules_of old) (state_of old) k.becomes) (IsWorthIn (rules_of old) (state_of old) bytes) (kept_of entries old) (kept_of entries new) (work_of old) (work_of new) (worth_in (rules_of old) (state_of old) bytes k.becomes k g.K.Keeper.memories.is_verdict)
     (grows_so entries old new k.becomes (λ e t is. not_edited (state_of old) k.becomes e t (sym same ∙ k.state) is) k.keeps)
 
 -- a line that leaves the state, unless it waits for an open question, is one that waits, or leaves the state

@@ -77,8 +77,8 @@ writable_all rules s q (Ok f) answer = answer.writable
 writable_all rules s q (Err e) answer = tt
 
 -- a question at some position is open no longer
-module _ {K : Type 0} (kept : K → Entries) (e : Engine K) {memories : Memories}
-    (sound : IsSoundWith (rules_of e) e.store (marks_of e) e.posts (kept e.demand.keeper) memories) (position : ℕ) (p : Posted) (there : StandsAt e.posts.items.items position p) (m : Engine K) (rest : m ≡ record e { demand = m.demand; posts = m.posts })
+module _ {K : Type 0} (kept : K → Entries) (memories : K → Memories) (e : Engine K) {remembered : Memories}
+    (sound : IsSoundWith (rules_of e) e.store (marks_of e) e.posts (kept e.demand.keeper) remembered) (position : ℕ) (p : Posted) (there : StandsAt e.posts.items.items position p) (m : Engine K) (rest : m ≡ record e { demand = m.demand; posts = m.posts })
     (o : Option Question) (opens : Reopens position e.posts m.posts p o) where
   -- it stands there as it has come
   pub stands_open : StandsAt m.posts.items.items position (record p { question = o })
@@ -92,10 +92,10 @@ module _ {K : Type 0} (kept : K → Entries) (e : Engine K) {memories : Memories
         (items ∙ ap (λ (l : List Posted). remove l position) opens.items ∙ removed_anew e.posts.items.items position (record p { question = o }))
         (ap (λ (x : Engine K). x.posts.count) tells ∙ opens.count)
 
-    pub closed_so : (exact : Bool) (r : Result Form AllocError) → HasEnded exact kept e n.demand p r → (told : Told) → told ≡ told_of p m.version r
-        → IsClosed exact kept e n p told
+    pub closed_so : (exact : Bool) (r : Result Form AllocError) → HasEnded exact kept memories e n.demand p r → (told : Told) → told ≡ told_of p m.version r
+        → IsClosed exact kept memories e n p told
     closed_so exact r ended told is =
-        subst (IsClosed exact kept e n p) (sym (is ∙ ap (λ (v : ℕ). told_of p v r) (ap (λ (x : Engine K). x.version) rest))) (record {
+        subst (IsClosed exact kept memories e n p) (sym (is ∙ ap (λ (v : ℕ). told_of p v r) (ap (λ (x : Engine K). x.version) rest))) (record {
           there = is_numbered (rules_of e) e.store e.version (marks_of e) e.posts position p there sound.numbered;
           gone = state_gone;
           session = refl;
@@ -103,8 +103,8 @@ module _ {K : Type 0} (kept : K → Entries) (e : Engine K) {memories : Memories
           ended = ended;
         })
 
-module _ {K : Type 0} (exact : Bool) (kept : K → Entries) (e : Engine K) {memories : Memories}
-    (sound : IsSoundWith (rules_of e) e.store (marks_of e) e.posts (kept e.demand.keeper) memories) (p : Posted) (others : List Posted) (least : e.posts.items.items ≡ p ∷ others) where
+module _ {K : Type 0} (exact : Bool) (kept : K → Entries) (memories : K → Memories) (e : Engine K) {remembered : Memories}
+    (sound : IsSoundWith (rules_of e) e.store (marks_of e) e.posts (kept e.demand.keeper) remembered) (p : Posted) (others : List Posted) (least : e.posts.items.items ≡ p ∷ others) where
   abbrev view : Posted → PostedOf
   view = posted_view (path e.store)
 
@@ -181,9 +181,9 @@ module _ {K : Type 0} (exact : Bool) (kept : K → Entries) (e : Engine K) {memo
             → CountsTurns {A = Bool × Reply} limit given counted (Some (wants, reply))
             → Given (rules_of e) given (state_of e) ((wants, reply) ∷ []) (state_of n)
             → after ≡ before ++ reply_text reply
-            → HasTried exact kept limit e n p others given (Some (wants, reply))
+            → HasTried exact kept memories limit e n p others given (Some (wants, reply))
             → (KeepsWhole (rules_of e) wants → IsTrue exact → IsSpare kept e → IsSpare kept n)
-            → HasGiven exact kept limit e n before after (record { turns = counted; told = Some wants })
+            → HasGiven exact kept memories limit e n before after (record { turns = counted; told = Some wants })
         spent_so given counted wants reply some counts turns appended tried spare = gives (record {
           first = p;
           others = others;
@@ -201,14 +201,14 @@ module _ {K : Type 0} (exact : Bool) (kept : K → Entries) (e : Engine K) {memo
 
         -- the last of them answers it
         pub gives_told : (counted : ℕ) (f : Form)
-            → Came {E = AllocError} exact kept limit e m.demand p o (Ok (counted, Some f)) → (wants : Bool)
+            → Came {E = AllocError} exact kept memories limit e m.demand p o (Ok (counted, Some f)) → (wants : Bool)
             → IsSaid (told_of p m.version (Ok f)) wants before after
             → (IsTrue exact → IsSpare kept e → IsSpare kept n)
-            → HasGiven exact kept limit e n before after (record { turns = counted; told = Some wants })
+            → HasGiven exact kept memories limit e n before after (record { turns = counted; told = Some wants })
         gives_told counted f (given, counts, x, ends) wants said spare =
             let t = told_so wants before after f x said in
             let start = turns_given p.question in
-            let some = some_given exact kept e m.demand p given x.form ends in
+            let some = some_given exact kept memories e m.demand p given x.form ends in
             let turn = subst (λ (r : Reply). Turns (rules_of e) (at_turn (start + (given - 1))) p.number (state_of n)
             (Some (wants, r))) (sym t.reply_is)
             (turn_at (start + (given - 1)) wants x.form x.answers) in
@@ -223,39 +223,39 @@ module _ {K : Type 0} (exact : Bool) (kept : K → Entries) (e : Engine K) {memo
             (by given counted wants t.reply x.form t.is_form ends counts) (λ whole. spare)
           where
             by : (given counted : ℕ) (wants : Bool) (reply : Reply) (g : FormOf) → (wants ≡ false → reply.form ≡ g)
-                → EndsSo exact kept e m.demand p given g
+                → EndsSo exact kept memories e m.demand p given g
                 → CountsTurns limit given counted (Some f)
-                → HasTried exact kept limit e n p others given (Some (wants, reply))
+                → HasTried exact kept memories limit e n p others given (Some (wants, reply))
             by given counted false reply g is ends counts = subst (λ
-                (d : Demand K). EndsSo exact kept e d p given reply.form) (sym demand_end)
-                (subst (EndsSo exact kept e m.demand p given) (sym (is refl)) ends)
-            by given counted true reply g is ends counts = subst (λ (d : Demand K). RunsOut kept limit e d p)
+                (d : Demand K). EndsSo exact kept memories e d p given reply.form) (sym demand_end)
+                (subst (EndsSo exact kept memories e m.demand p given) (sym (is refl)) ends)
+            by given counted true reply g is ends counts = subst (λ (d : Demand K). RunsOut kept memories limit e d p)
                 (sym demand_end)
-                (out_behind exact kept limit e m.demand p given counted f g counts ends)
+                (out_behind exact kept memories limit e m.demand p given counted f g counts ends)
 
         -- or memory runs out
-        pub gives_failed : (e' : AllocError) → Came exact kept limit e m.demand p o (Err e') → IfSome limit (λ n. 0 < n)
+        pub gives_failed : (e' : AllocError) → Came exact kept memories limit e m.demand p o (Err e') → IfSome limit (λ n. 0 < n)
             → (wants : Bool)
             → IsSaid (told_of p m.version (Err e')) wants before after
             → (HasNoneCircular (rules_of e) → IsTrue exact → IsSpare kept e → IsSpare kept n)
-            → HasGiven exact kept limit e n before after (record { turns = 1; told = Some wants })
+            → HasGiven exact kept memories limit e n before after (record { turns = 1; told = Some wants })
         gives_failed e' out some wants said spare = by wants (failed_so wants before after e' said)
           where
             by : (wants : Bool) → (wants ≡ true) × TurnTold (rules_of e) (state_of e) (view p)
                 (state_of n) wants Memory before after
-                → HasGiven exact kept limit e n before after (record { turns = 1; told = Some wants })
+                → HasGiven exact kept memories limit e n before after (record { turns = 1; told = Some wants })
             by true (is, t) = spent_so 1 1 true t.reply (omega arith) (counts_refused {A = Bool × Reply} limit
                 (true, t.reply) some)
                 (telling (view p) (ap first_of viewed) t.turns (spent (state_of n))) t.appended
-                (subst (λ (d : Demand K). RunsOut kept limit e d p) (sym demand_end) out) spare
+                (subst (λ (d : Demand K). RunsOut kept memories limit e d p) (sym demand_end) out) spare
             by false (is, t) = absurd cc
 
     -- it has no answer yet
     pub gives_silent : (limit : Option ℕ) (o : Option Question) → Reopens 0 e.posts m.posts p o
         → (counted : ℕ) (before after : List ℕ) → after ≡ before
-        → IfSome limit (λ n. 0 < n) → Came {E = AllocError} exact kept limit e m.demand p o (Ok (counted, None))
+        → IfSome limit (λ n. 0 < n) → Came {E = AllocError} exact kept memories limit e m.demand p o (Ok (counted, None))
         → (IsTrue exact → IsSpare kept e → IsSpare kept m)
-        → HasGiven exact kept limit e m before after (record { turns = counted; told = None })
+        → HasGiven exact kept memories limit e m before after (record { turns = counted; told = None })
     gives_silent limit o opens counted before after same some (given, counts, still) spare =
         let start = turns_given p.question in
         let count : turns_given o ≡ start + given = ap turns_given still.holds.1 ∙ still.holds.2.counted in
@@ -280,23 +280,23 @@ module _ {K : Type 0} (exact : Bool) (kept : K → Entries) (e : Engine K) {memo
 
 -- no question is open, and nothing is done
 pub gives_nothing : {K : Type 0} (exact : Bool) (kept : K
-    → Entries) (limit : Option ℕ) (e : Engine K) (before after : List ℕ) → e.posts.items.items ≡ []
-    → after ≡ before → HasGiven exact kept limit e e before after (record { turns = 0; told = None })
-gives_nothing exact kept limit e before after none same = none_open (ap (map (posted_view
+    → Entries) (memories : K → Memories) (limit : Option ℕ) (e : Engine K) (before after : List ℕ) → e.posts.items.items ≡ []
+    → after ≡ before → HasGiven exact kept memories limit e e before after (record { turns = 0; told = None })
+gives_nothing exact kept memories limit e before after none same = none_open (ap (map (posted_view
     (path e.store))) none) refl same refl
 
 -- one turn, where a question is open
 pub turned_once : {K : Type 0} (exact : Bool) (kept : K
-    → Entries) (e n : Engine K) (before after : List ℕ) (it : Spent) (is_settled : Bool)
+    → Entries) (memories : K → Memories) (e n : Engine K) (before after : List ℕ) (it : Spent) (is_settled : Bool)
     → MatchBool is_settled (e.posts.items.items ≡ []) (0 < length e.posts.items.items)
-    → HasGiven exact kept (Some 1) e n before after it
-    → HasTurned exact kept e n before after (not is_settled)
-turned_once exact kept e n before after it true none (none_open posted same appended told) = (posted, same, appended)
-turned_once exact kept e n before after it true none
+    → HasGiven exact kept memories (Some 1) e n before after it
+    → HasTurned exact kept memories e n before after (not is_settled)
+turned_once exact kept memories e n before after it true none (none_open posted same appended told) = (posted, same, appended)
+turned_once exact kept memories e n before after it true none
     (gives s) = let no : s.first ∷ s.others ≡ [] = sym s.least ∙ none in absurd cc
-turned_once exact kept e n before after it false some (none_open posted same appended told) =
+turned_once exact kept memories e n before after it false some (none_open posted same appended told) =
     absurd (omega (arith, some, sym (length-map e.posts.items.items (posted_view (path e.store))) ∙ ap length posted))
-turned_once exact kept e n before after it false some (gives s) = (it, s)
+turned_once exact kept memories e n before after it false some (gives s) = (it, s)
 
 -- what is told of a question that was given all turns
 abbrev pub IsResult : Result (ℕ × Option Form) AllocError → Result Form AllocError → Type 0
@@ -311,21 +311,21 @@ whole_result rules (Ok g) form is whole = tt
 whole_result rules (Err e') form is whole = subst (λ (x : Result Form AllocError). KeepsGroups rules x) is whole
 
 module _ {K : Type 0} (exact : Bool) (kept : K
-    → Entries) (e : Engine K) (d : Demand K) (p : Posted) (o : Option Question) where
-  ends_with : (r : Result (ℕ × Option Form) AllocError) (form : Result Form AllocError) → IsResult r form → Came exact kept None e d p o r
-      → HasEnded exact kept e d p form
+    → Entries) (memories : K → Memories) (e : Engine K) (d : Demand K) (p : Posted) (o : Option Question) where
+  ends_with : (r : Result (ℕ × Option Form) AllocError) (form : Result Form AllocError) → IsResult r form → Came exact kept memories None e d p o r
+      → HasEnded exact kept memories e d p form
   ends_with (Ok (counted, None)) form is came = absurd is
-  ends_with (Ok (counted, Some f)) form is (given, counts, said, ends) = subst (HasEnded exact kept e d p) (sym is) (given, said, ends)
-  ends_with (Err e') form is came = subst (HasEnded exact kept e d p) (sym is) came
+  ends_with (Ok (counted, Some f)) form is (given, counts, said, ends) = subst (HasEnded exact kept memories e d p) (sym is) (given, said, ends)
+  ends_with (Err e') form is came = subst (HasEnded exact kept memories e d p) (sym is) came
 
 -- what a line that waits is told
 pub waited : {K : Type 0} (exact : Bool) (kept : K → Entries) (memories : K → Memories) (e : Engine K)
     → IsHeld kept memories e → (position : ℕ) → position < length e.posts.items.items → (m : Engine K)
     (r : Result (ℕ × Option Form) AllocError)
-    → Attends exact kept memories e m position (λ p. HasGone exact kept None e m position p r) (KeepsGroups (rules_of e) r)
+    → Attends exact kept memories e m position (λ p. HasGone exact kept memories None e m position p r) (KeepsGroups (rules_of e) r)
     → (form : Result Form AllocError) → IsResult r form → (n : Engine K) (told : Told)
     → TakesOff exact kept memories m n position (λ p. told ≡ told_of p m.version form)
-    → Attends exact kept memories e n position (λ p. IsClosed exact kept e n p told) (KeepsGroups (rules_of e) told.form)
+    → Attends exact kept memories e n position (λ p. IsClosed exact kept memories e n p told) (KeepsGroups (rules_of e) told.form)
 waited {K} exact kept memories e held position within m r a form is n told off = record {
   done = λ p there.
       let h = a.done p there in
@@ -333,7 +333,7 @@ waited {K} exact kept memories e held position within m r a form is n told off =
       let still = stands_open kept e held position p there m a.rest h.now h.reopens in
       let same : n.demand ≡ m.demand = ap (λ (x : Engine K). x.demand) off.rest in
       closed_so kept e held position p there m a.rest h.now h.reopens n off.rest off.items exact form
-      (subst (λ (x : Demand K). HasEnded exact kept e x p form) (sym same) ended) told
+      (subst (λ (x : Demand K). HasEnded exact kept memories e x p form) (sym same) ended) told
       (off.told (record p { question = h.now }) still);
   rest = rest_end e m n a.rest off.rest;
   spare = λ whole ex spare.
@@ -348,7 +348,7 @@ waited {K} exact kept memories e held position within m r a form is n told off =
 pub stays_there : {K : Type 0} (exact : Bool) (kept : K → Entries) (memories : K
     → Memories) (e : Engine K) (position : ℕ) → position < length e.posts.items.items
     → (m : Engine K) (r : Result (ℕ × Option Form) AllocError) {Whole : Type 0}
-    → Attends exact kept memories e m position (λ p. HasGone exact kept None e m position p r) Whole
+    → Attends exact kept memories e m position (λ p. HasGone exact kept memories None e m position p r) Whole
     → position < length m.posts.items.items
 stays_there exact kept memories e position within m r a =
     let (p, there) = there_at e.posts.items.items position within in
@@ -362,17 +362,17 @@ stays_there exact kept memories e position within m r a =
 pub never_silent : {K : Type 0} (exact : Bool) (kept : K → Entries) (memories : K
     → Memories) (e m : Engine K) (position : ℕ) → position < length e.posts.items.items
     → (counted : ℕ) (o : Option Form) {Whole : Type 0}
-    → Attends exact kept memories e m position (λ p. HasGone {E = AllocError} exact kept None e m position p (Ok
+    → Attends exact kept memories e m position (λ p. HasGone {E = AllocError} exact kept memories None e m position p (Ok
     (counted, o))) Whole → o ≡ None → ⊥
 never_silent exact kept memories e m position within counted o a is =
     let (p, there) = there_at e.posts.items.items position within in
     let h = a.done p there in
-    (subst (λ (x : Option Form). Came {E = AllocError} exact kept None e m.demand p h.now (Ok
+    (subst (λ (x : Option Form). Came {E = AllocError} exact kept memories None e m.demand p h.now (Ok
     (counted, x))) is h.came).1
 
 -- the first question was given turns
 pub record FirstGone {K E : Type 0} (exact : Bool) (kept : K
-    → Entries) (limit : Option ℕ) (e m : Engine K) (r : Result (ℕ × Option Form) E) : Type 0 where
+    → Entries) (memories : K → Memories) (limit : Option ℕ) (e m : Engine K) (r : Result (ℕ × Option Form) E) : Type 0 where
   pub p : Posted
   pub others : List Posted
   pub least : e.posts.items.items ≡ p ∷ others
@@ -381,12 +381,12 @@ pub record FirstGone {K E : Type 0} (exact : Bool) (kept : K
   pub reopens : Reopens 0 e.posts m.posts p now
   pub still : StandsAt m.posts.items.items 0 (record p { question = now })
   pub within : 0 < length m.posts.items.items
-  pub came : Came exact kept limit e m.demand p now r
+  pub came : Came exact kept memories limit e m.demand p now r
 
 pub first_gone : {K E : Type 0} (exact : Bool) (kept : K → Entries) (memories : K
     → Memories) (limit : Option ℕ) (e m : Engine K)
     (r : Result (ℕ × Option Form) E) {Whole : Type 0} → 0 < length e.posts.items.items
-    → Attends exact kept memories e m 0 (λ p. HasGone exact kept limit e m 0 p r) Whole → FirstGone exact kept limit e m r
+    → Attends exact kept memories e m 0 (λ p. HasGone exact kept memories limit e m 0 p r) Whole → FirstGone exact kept memories limit e m r
 first_gone exact kept memories limit e m r some a =
     let (p, others, least) = first_there e.posts.items.items some in
     let there : StandsAt e.posts.items.items 0 p = ap (λ (l : List Posted). slice_get l 0) least in

@@ -74,7 +74,7 @@ count_now (Some a) P h = tt
 module _ (E : Type 0) (exact : Bool) (rules : Rules) (s : Shown) (limit : ℕ) (before after : Entries)
     (work later : ℕ) (m n : Memories) (old new : Question) (standing : IsStanding rules s before old) (sound : AreSound rules s before) where
   abbrev Turned : Result (ℕ × Option AnswerCode) E → Type 0
-  Turned r = HasTurnedOften rules s exact before after work later limit old new r
+  Turned r = HasTurnedOften rules s exact m before after work later limit old new r
 
   stood : (u : Search ℕ) × StandsFor rules s before old u
   stood = standing.levels sound
@@ -85,7 +85,7 @@ module _ (E : Type 0) (exact : Bool) (rules : Rules) (s : Shown) (limit : ℕ) (
   of_answer g (Some a) u v (front, mid, kept, is, within, silent, turned) = (refl, within)
 
   turns_so : (g : ℕ × Option AnswerCode) → Turned (Ok g)
-      → AreTurns rules s g.0 before (Some old) (asked_by old) after new (option_map answer_view g.1)
+      → AreTurns rules s m g.0 before (Some old) (asked_by old) after new (option_map answer_view g.1)
   turns_so g h = record {
     stood = stood;
     searched = λ u is. let (v, given, each, stands) = h.given u is in (v, each, none_now g.1 (StandsFor rules s after new v) stands);
@@ -95,14 +95,14 @@ module _ (E : Type 0) (exact : Bool) (rules : Rules) (s : Shown) (limit : ℕ) (
 
   counted : (r : Result (ℕ × Option AnswerCode) E) → Turned r
       → IfOk r (λ g. (given : ℕ) × CountsTurns (Some limit) given g.0 (option_map answer_view g.1)
-      × AreTurns rules s given before (Some old) (asked_by old) after new (option_map answer_view g.1))
+      × AreTurns rules s m given before (Some old) (asked_by old) after new (option_map answer_view g.1))
   counted (Ok g) h =
       let (u, is) = stood in
       let (v, given, each, stands) = h.given u is in
       (g.0, of_answer g.0 g.1 u v given, turns_so g h)
   counted (Err e) h = tt
 
-  pub broken : (r : Result (ℕ × Option AnswerCode) E) → Turned r → OnErr r (BreaksOffIn rules s (Some limit) before (Some old) (asked_by old) after)
+  pub broken : (r : Result (ℕ × Option AnswerCode) E) → Turned r → OnErr r (BreaksOffIn rules s m (Some limit) before (Some old) (asked_by old) after)
   broken (Ok g) h = tt
   broken (Err e) h = (
     limit,

@@ -74,10 +74,10 @@ module _ {K : Type 0} (exact : Bool) (kept : K → Entries) (memories : K
     (rest : new ≡ record e { demand = new.demand; posts = new.posts })
     (sound : IsHeld kept memories new) where
   pub attended : {E : Type 0} (r : Result (ℕ × Option Form) E)
-      → (KeepsGroups (rules_of e) r → IsTrue exact → IsSpare kept e → IsSpare kept new) → Came exact kept limit e new.demand p now r
-      → Attends exact kept memories e new position (λ q. HasGone exact kept limit e new position q r) (KeepsGroups (rules_of e) r)
+      → (KeepsGroups (rules_of e) r → IsTrue exact → IsSpare kept e → IsSpare kept new) → Came exact kept memories limit e new.demand p now r
+      → Attends exact kept memories e new position (λ q. HasGone exact kept memories limit e new position q r) (KeepsGroups (rules_of e) r)
   attended r spare came = record {
-    done = λ q at. subst (λ (x : Posted). HasGone exact kept limit e new position x r)
+    done = λ q at. subst (λ (x : Posted). HasGone exact kept memories limit e new position x r)
         (same_there e.posts.items.items position p q there at)
         (record { now = now; reopens = reopens; came = came });
     rest = rest;
@@ -137,19 +137,19 @@ module _ {K : Type 0} (exact : Bool) (kept : K → Entries) (memories : K
 
   -- with nothing tried
   pub not_read : {E : Type 0} (r : Result (ℕ × Option Form) E) (e' : E) → r ≡ Err e'
-      → Attends exact kept memories e (record e { posts = t }) position (λ q. HasGone exact kept limit e
+      → Attends exact kept memories e (record e { posts = t }) position (λ q. HasGone exact kept memories limit e
       (record e { posts = t }) position q r) (KeepsGroups (rules_of e) r)
   not_read r e' is =
       let new : Engine K = record e { posts = t } in
       attended exact kept memories e position limit new it.posted it.there None it.opens refl sound_taken r
       (λ whole ex spare. spare_taken spare)
-      (subst (Came exact kept limit e new.demand it.posted None) (sym is) (inl refl))
+      (subst (Came exact kept memories limit e new.demand it.posted None) (sym is) (inl refl))
 
   pub was_refused : {E : Type 0} {b : Begun} → ((x : Posted) → StandsAt t.items.items position x
       → HasBegun (rules_of e) e.store entries x o
       → Begins (rules_of e) e.store entries x o b) → (f : Refusal) → b ≡ begun.Refused f → IfSome limit (λ n. 0 < n)
       → Attends exact kept memories e (record e { posts = t }) position
-      (λ q. HasGone {E = E} exact kept limit e (record e { posts = t }) position q (Ok (1, Some (form.Refused f)))) (Unit {0})
+      (λ q. HasGone {E = E} exact kept memories limit e (record e { posts = t }) position q (Ok (1, Some (form.Refused f)))) (Unit {0})
   was_refused {E} {b} begins f is some =
       let new : Engine K = record e { posts = t } in
       let words = subst (Begins (rules_of e) e.store entries bare o) is (begins bare there_still was_begun) in
@@ -240,16 +240,16 @@ module _ {K : Type 0} (exact : Bool) (kept : K → Entries) (memories : K
         module _ {E : Type 0} (result : Result (ℕ × Option Form) E) where
           abbrev HasAttended : Type 0
           HasAttended = Attends exact kept memories e (record e { posts = t; demand = d }) position
-              (λ p. HasGone exact kept limit e (record e { posts = t; demand = d }) position p result) (KeepsGroups (rules_of e) result)
+              (λ p. HasGone exact kept memories limit e (record e { posts = t; demand = d }) position p result) (KeepsGroups (rules_of e) result)
 
           without_memory : (e' : E) → result ≡ Err e' → (KeepsGroups (rules_of e) result → KeepsGroups (rules_of e) r)
-              → BreaksOffIn (rules_of e) e.store limit entries (Some q) (asked_by q) more → HasAttended
+              → BreaksOffIn (rules_of e) e.store (memories e.demand.keeper) limit entries (Some q) (asked_by q) more → HasAttended
           without_memory e' is keeps broke =
               let new : Engine K = record e { posts = t; demand = d } in
-              let from = breaks_from (rules_of e) e.store entries q more it.posted.question came limit broke in
+              let from = breaks_from (rules_of e) e.store (memories e.demand.keeper) entries q more it.posted.question came limit broke in
               attended exact kept memories e position limit new it.posted it.there None it.opens refl sound_more result
               (λ whole ex spare. spare_more (keeps whole) ex spare)
-              (subst (Came exact kept limit e new.demand it.posted None) (sym is)
+              (subst (Came exact kept memories limit e new.demand it.posted None) (sym is)
               (inr (record { inst = asked_by q; named = b.begun.named; words = b.begun.asks; like = b.begun.like; holds = from })))
 
           -- memory ran out in a turn, or behind the last one
@@ -261,7 +261,7 @@ module _ {K : Type 0} (exact : Bool) (kept : K → Entries) (memories : K
               broken : (x : Result (ℕ × Option AnswerCode) E') → x ≡ Err f
                   → HasTurnedUpTo exact (rules_of e) e.store limit entries more (memories e.demand.keeper)
                   (memories d.keeper) q later x
-                  → BreaksOffIn (rules_of e) e.store limit entries (Some q) (asked_by q) more
+                  → BreaksOffIn (rules_of e) e.store (memories e.demand.keeper) limit entries (Some q) (asked_by q) more
               broken (Ok g) failed h = absurd cc
               broken (Err f) failed h = h.broke
 
@@ -275,9 +275,9 @@ module _ {K : Type 0} (exact : Bool) (kept : K → Entries) (memories : K
             (memories d.keeper) q later (Ok (turns, Some a)))
             (result : Result (ℕ × Option Form) E) (e' : E) → result ≡ Err e'
             → Attends exact kept memories e (record e { posts = t; demand = d }) position
-            (λ p. HasGone exact kept limit e (record e { posts = t; demand = d }) position p result) (KeepsGroups (rules_of e) result)
+            (λ p. HasGone exact kept memories limit e (record e { posts = t; demand = d }) position p result) (KeepsGroups (rules_of e) result)
         untold {E} {E'} a h result e' is = without_memory {E' = E'} d later (Ok (turns, Some a)) h result e' is (λ whole. tt)
-            (breaks_behind (rules_of e) e.store entries (Some q) (asked_by q) grown later (answer_view a) limit turns h.each)
+            (breaks_behind (rules_of e) e.store (memories e.demand.keeper) entries (Some q) (asked_by q) grown later (answer_view a) limit turns h.each)
 
         -- it is told
         pub told : {E E' : Type 0} (a : AnswerCode)
@@ -286,7 +286,7 @@ module _ {K : Type 0} (exact : Bool) (kept : K → Entries) (memories : K
             (f : Form) → ((x : Answer Node) → AnswerLike (Names (path e.store)) (answer_view a) x
             → IsToldAs (rules_of e) (tree e.store) x f)
             → Attends exact kept memories e (record e { posts = t; demand = d }) position
-            (λ p. HasGone {E = E} exact kept limit e (record e { posts = t; demand = d }) position p (Ok (turns, Some f))) (Unit {0})
+            (λ p. HasGone {E = E} exact kept memories limit e (record e { posts = t; demand = d }) position p (Ok (turns, Some f))) (Unit {0})
         told {E} {E'} a h f tells =
             let new : Engine K = record e { posts = t; demand = d } in
             let (given, counts, each) = h.each in
@@ -315,7 +315,7 @@ module _ {K : Type 0} (exact : Bool) (kept : K → Entries) (memories : K
                   end = later;
                   answer = answer_view a;
                   named = x;
-                  turns = turns_from (rules_of e) e.store entries q grown it.posted.question came given later (Some (answer_view a)) each;
+                  turns = turns_from (rules_of e) e.store (memories e.demand.keeper) entries q grown it.posted.question came given later (Some (answer_view a)) each;
                   like = like;
                   form = refl;
                   all = λ ex spare. h.all ex spare.kept (sparing spare);
@@ -329,7 +329,7 @@ module _ {K : Type 0} (exact : Bool) (kept : K → Entries) (memories : K
             (memories d.keeper) q later (Ok (turns, None)))
             (k : Posts) → ((p : Posted) → slice_get t.items.items position ≡ Some p → Reopens position t k p (Some later))
             → Attends exact kept memories e (record e { posts = k; demand = d }) position
-            (λ p. HasGone {E = E} exact kept limit e (record e { posts = k; demand = d }) position p (Ok (turns, None))) (Unit {0})
+            (λ p. HasGone {E = E} exact kept memories limit e (record e { posts = k; demand = d }) position p (Ok (turns, None))) (Unit {0})
         not_yet {E} {E'} h k keeps =
             let new : Engine K = record e { posts = k; demand = d } in
             let (given, counts, each) = h.each in
@@ -368,7 +368,7 @@ module _ {K : Type 0} (exact : Bool) (kept : K → Entries) (memories : K
                 holds = (
                   later,
                   refl,
-                  turns_from (rules_of e) e.store entries q grown it.posted.question came given later None each,
+                  turns_from (rules_of e) e.store (memories e.demand.keeper) entries q grown it.posted.question came given later None each,
                 );
               },
             )

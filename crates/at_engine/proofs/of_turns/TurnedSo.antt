@@ -22,13 +22,13 @@ use Rattle.at_demand.proofs.Gaining.{worthy_none}
 use Rattle.at_demand.proofs.Standing.{sound_after, worthy_both}
 use Rattle.at_demand.proofs.of_traces.Justified.{stay_same, stay_then}
 use Rattle.at_engine.specs.Turning.{AreTurns, CanAnswer, HasTurnedUpTo, IsAskedOf}
-use Rattle.at_engine.proofs.of_turns.Counted.{breaks_later, turns_both, turns_none}
+use Rattle.at_engine.proofs.of_turns.Counted.{breaks_before, breaks_later, turns_before, turns_both, turns_none}
 use Rattle.at_engine.proofs.of_turns.Settling.{fewer_left, most_turns}
 
 -- so many turns were given without an answer, and the question stands
 pub record HasTurnedSo (exact : Bool) (rules : Rules) (s : Shown) (first now : Entries) (former latter : Memories) (old new : Question) : Type 0 where
   pub given : ℕ
-  pub each : AreTurns rules s given first (Some old) (asked_by old) now new None
+  pub each : AreTurns rules s former given first (Some old) (asked_by old) now new None
   pub standing : IsStanding rules s now new
   pub sound : AreSound rules s now
   pub plain : ArePlain rules now
@@ -52,7 +52,7 @@ module _ (E : Type 0) (exact : Bool) (rules : Rules) (s : Shown) (basis : IsBasi
       let sound : AreSound rules s first = record { right = can.turns.answerable.right; whole = can.turns.wholes } in
       record {
         given = 0;
-        each = turns_none rules s first old (can.turns.standing.levels sound);
+        each = turns_none rules s former first old (can.turns.standing.levels sound);
         standing = can.turns.standing;
         sound = sound;
         plain = can.turns.answerable.plain;
@@ -89,7 +89,8 @@ module _ (E : Type 0) (exact : Bool) (rules : Rules) (s : Shown) (basis : IsBasi
         let r : Result (ℕ × Option AnswerCode) E = Ok (with_answer n None) in
         record {
           given = inv.given + h.each.0;
-          each = turns_both rules s inv.given first now (Some old) (asked_by old) mid inv.each next (asked_by mid) h.each.0 p None h.each.2;
+          each = turns_both rules s former inv.given first now (Some old) (asked_by old) mid inv.each next (asked_by mid) h.each.0 p None
+              (turns_before rules s former latter inv.traces h.each.0 now next (Some mid) (asked_by mid) p None h.each.2);
           standing = h.standing;
           sound = sound_after rules s basis now mid inv.sound inv.standing next h.right h.worthy;
           plain = h.plain;
@@ -120,8 +121,9 @@ module _ (E : Type 0) (exact : Bool) (rules : Rules) (s : Shown) (basis : IsBasi
           each = (
             inv.given + h.each.0,
             tt,
-            turns_both rules s inv.given first now (Some old) (asked_by old) mid inv.each next (asked_by mid) h.each.0 p
-                (Some (answer_view a)) h.each.2,
+            turns_both rules s former inv.given first now (Some old) (asked_by old) mid inv.each next (asked_by mid) h.each.0 p
+                (Some (answer_view a))
+                (turns_before rules s former latter inv.traces h.each.0 now next (Some mid) (asked_by mid) p (Some (answer_view a)) h.each.2),
           );
           broke = tt;
           same = tt;
@@ -148,7 +150,8 @@ module _ (E : Type 0) (exact : Bool) (rules : Rules) (s : Shown) (basis : IsBasi
         broken : Turned (Err f) → HasTurnedUpTo {E = E} exact rules s None first next former last old p (Err f)
         broken h = record {
           each = tt;
-          broke = breaks_later rules s inv.given first now (Some old) (asked_by old) mid inv.each next (asked_by mid) h.broke.0 h.broke.2;
+          broke = breaks_later rules s former inv.given first now (Some old) (asked_by old) mid inv.each next (asked_by mid) h.broke.0
+              (breaks_before rules s former latter inv.traces h.broke.0 now next (Some mid) (asked_by mid) h.broke.2);
           same = tt;
           answers = tt;
           all = λ ex spare sparing. tt;

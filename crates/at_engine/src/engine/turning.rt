@@ -1,6 +1,8 @@
 //! Turns of open questions.
 
 ghost use Rattle.std.specs.Prelude.{None};
+ghost use Rattle.at_store.specs.Shown.{contents};
+ghost use Rattle.at_demand.specs.Traces.{AreJustified};
 ghost use Rattle.at_engine.specs.Turning.{CanAnswer, HasTurnedUpTo};
 
 use super::asking::Asked;
@@ -38,7 +40,8 @@ fn turns_up_to<K: Keeper>(
     question: &mut Question,
     limit: Option<u64>,
 ) -> Result<(u64, Option<Answer>), AllocError>
-    requires { CanAnswer rules.now store.now (K.contents demand.old.keeper) question.old }
+    requires can { CanAnswer rules.now store.now (K.contents demand.old.keeper) question.old }
+    requires justified { AreJustified rules.now (contents store.now) (K.memories demand.old.keeper) }
     ensures { HasTurnedUpTo K.exact rules.now store.now limit (K.contents demand.old.keeper) (K.contents demand.new.keeper)
         (K.memories demand.old.keeper) (K.memories demand.new.keeper) question.old question.new result }
 {
@@ -55,7 +58,8 @@ fn all_turns<K: Keeper>(
     store: &Store,
     question: &mut Question,
 ) -> Result<(u64, Option<Answer>), AllocError>
-    requires { CanAnswer rules.now store.now (K.contents demand.old.keeper) question.old }
+    requires can { CanAnswer rules.now store.now (K.contents demand.old.keeper) question.old }
+    requires justified { AreJustified rules.now (contents store.now) (K.memories demand.old.keeper) }
     ensures { HasTurnedUpTo K.exact rules.now store.now None (K.contents demand.old.keeper) (K.contents demand.new.keeper)
         (K.memories demand.old.keeper) (K.memories demand.new.keeper) question.old question.new result }
 {
@@ -91,7 +95,7 @@ impl<K: Keeper> Engine<K> {
     pub fn turn(&mut self, out: &mut Vec<u8>) -> Result<bool, AllocError>
         requires sound { IsSound K.contents K.memories self.old }
         ensures { Calls K.contents K.memories self.old self.new out.old out.new
-            (HasTurned K.exact K.contents self.old self.new out.old.items out.new.items) result }
+            (HasTurned K.exact K.contents K.memories self.old self.new out.old.items out.new.items) result }
     {
         let is_settled = self.posts.is_empty();
         self.give(Some(1), out)?;
@@ -114,7 +118,7 @@ impl<K: Keeper> Engine<K> {
     ) -> Result<Spent, AllocError>
         requires { CanSpend K.contents K.memories self.old limit }
         ensures { Calls K.contents K.memories self.old self.new out.old out.new
-            (HasGiven K.exact K.contents limit self.old self.new out.old.items out.new.items) result }
+            (HasGiven K.exact K.contents K.memories limit self.old self.new out.old.items out.new.items) result }
     {
         out.reserve(REPLY_ROOM)?;
         if self.posts.is_empty() {
@@ -143,7 +147,7 @@ impl<K: Keeper> Engine<K> {
     pub(super) fn wait(&mut self, position: usize) -> Told
         requires { CanTurn K.contents K.memories self.old position }
         ensures { Attends K.exact K.contents K.memories self.old self.new position
-            (λ p. IsClosed K.exact K.contents self.old self.new p result) (KeepsGroups (rules_of self.old) result.form) }
+            (λ p. IsClosed K.exact K.contents K.memories self.old self.new p result) (KeepsGroups (rules_of self.old) result.form) }
     {
         let (_, form) = match self.go_on(position, None) {
             Ok(gone) => gone,
@@ -193,7 +197,7 @@ impl<K: Keeper> Engine<K> {
     ) -> Result<(u64, Option<Form>), AllocError>
         requires { CanGoOn K.contents K.memories self.old position limit }
         ensures { Attends K.exact K.contents K.memories self.old self.new position
-            (λ p. HasGone K.exact K.contents limit self.old self.new position p result) (KeepsGroups (rules_of self.old) result) }
+            (λ p. HasGone K.exact K.contents K.memories limit self.old self.new position p result) (KeepsGroups (rules_of self.old) result) }
     {
         let begun = self.posts.take(position);
         let mut question = match self.begin(position, begun)? {

@@ -74,7 +74,7 @@ returns-in_err-finish g c = record {
       rw (p.1, p.2, f.0) (λ well none. absurd (true≢false well));
   keeps = λ exact spare. let p = err_from_is_err_and c.from_residual.result c.from_residual.ensures.1 in rw p.1 tt;
   work = let p = err_from_is_err_and c.from_residual.result c.from_residual.ensures.1 in rw p.1 tt;
-  by = by_both g.K.Keeper.exact g.K.Keeper.contents c.args.engine.now c.loop-turn.engine c.finish.new.engine c.loop-turn.invariant.by
+  by = by_both g.K.Keeper.exact g.K.Keeper.contents g.K.Keeper.memories c.args.engine.now c.loop-turn.engine c.finish.new.engine c.loop-turn.invariant.by
       c.in_err-finish.ensures.goes.by;
   spare = λ whole exact spare.
       let p = err_from_is_err_and c.from_residual.result c.from_residual.ensures.1 in
@@ -114,7 +114,7 @@ returns-then-count-eq0 g c = record {
       let p = inv.4 exact spare first in
       keeps_run g.K.Keeper.contents c.args.engine.now c.loop-turn.engine c.finish.new.engine inv.0 _ _ c.loop-turn.desk read c.loop-turn.invariant.rules p (λ open_none no_post. c.in_ok-finish.ensures.keeps exact (c.loop-turn.invariant.spare (inr first) exact spare) p.rest p.line open_none no_post later);
   work = c.report.ensures.work ∙ c.work.ensures;
-  by = by_both g.K.Keeper.exact g.K.Keeper.contents c.args.engine.now c.loop-turn.engine c.finish.new.engine c.loop-turn.invariant.by
+  by = by_both g.K.Keeper.exact g.K.Keeper.contents g.K.Keeper.memories c.args.engine.now c.loop-turn.engine c.finish.new.engine c.loop-turn.invariant.by
       c.in_ok-finish.ensures.goes.by;
   spare = λ whole exact spare.
       let f = c.in_ok-finish.ensures.goes in
@@ -163,7 +163,7 @@ returns-in_err-take_piece g c = record {
       rw (p.1, p.2, u.0) (λ well none. absurd (true≢false well));
   keeps = λ exact spare. let p = err_from_is_err_and c.from_residual-in_err-take_piece.result c.from_residual-in_err-take_piece.ensures.1 in rw p.1 tt;
   work = let p = err_from_is_err_and c.from_residual-in_err-take_piece.result c.from_residual-in_err-take_piece.ensures.1 in rw p.1 tt;
-  by = by_both g.K.Keeper.exact g.K.Keeper.contents c.args.engine.now c.loop-turn.engine c.take_piece.new.engine c.loop-turn.invariant.by
+  by = by_both g.K.Keeper.exact g.K.Keeper.contents g.K.Keeper.memories c.args.engine.now c.loop-turn.engine c.take_piece.new.engine c.loop-turn.invariant.by
       c.in_err-take_piece.ensures.takes.goes.by;
   spare = λ whole exact spare.
       let p = err_from_is_err_and c.from_residual-in_err-take_piece.result c.from_residual-in_err-take_piece.ensures.1 in
@@ -221,7 +221,7 @@ loop-turn-preserved g c =
       reads = counted_on _ _ _ c.loop-turn.turn 1 c.loop-turn.invariant.reads c.in-Ok-read.ensures.counted;
       written = then_calls _ _ _ false c.loop-turn.invariant.written c.in_ok-take_piece.ensures.takes.goes.failed;
       sent = λ none. c.in_ok-take_piece.ensures.sent (c.loop-turn.invariant.sent none);
-      by = by_both g.K.Keeper.exact g.K.Keeper.contents c.args.engine.now c.loop-turn.engine c.take_piece.new.engine c.loop-turn.invariant.by
+      by = by_both g.K.Keeper.exact g.K.Keeper.contents g.K.Keeper.memories c.args.engine.now c.loop-turn.engine c.take_piece.new.engine c.loop-turn.invariant.by
           c.in_ok-take_piece.ensures.takes.goes.by;
       spare = λ whole exact spare.
           let one = c.in_ok-take_piece.ensures.takes.goes in

@@ -25,7 +25,7 @@ invariant-loop-turn g l =
       reads : Counted (g.R.Input.reads l.fn.reader) (g.R.Input.reads l.reader) l.turn;
       written : Remembers (g.W.Output.failed l.fn.writer) (g.W.Output.failed l.writer) false;
       sent : g.W.Output.waits l.fn.writer ≡ false → g.W.Output.waits l.writer ≡ false;
-      by : GoesBy g.K.Keeper.exact g.K.Keeper.contents l.fn.engine l.engine;
+      by : GoesBy g.K.Keeper.exact g.K.Keeper.contents g.K.Keeper.memories l.fn.engine l.engine;
       spare : KeepWhole (rules_of l.fn.engine) l.initial.desk l.desk → IsTrue g.K.Keeper.exact → IsSpare g.K.Keeper.contents l.fn.engine → IsSpare g.K.Keeper.contents l.engine;
       wanted : l.initial.desk.memory ≤ l.desk.memory;
       rules : rules_of l.engine ≡ rules_of l.fn.engine;

@@ -3,17 +3,18 @@ use Rattle.std.proofs.lemmas.Result.{err_from_is_err_and}
 use Rattle.std.specs.declared.alloc.AllocError.{AllocError}
 use Rattle.at_demand.specs.declared.answer.Answer.{Answer as AnswerCode}
 use Rattle.at_demand.specs.Answered.{HasTurnedWith}
-use Rattle.at_demand.proofs.Fitting.{none_fit}
-use Rattle.at_demand.proofs.of_steps.Given.{given_all, given_answered, given_broken, given_more, given_none}
+use Rattle.at_demand.proofs.Fitting.{fit_grown, none_fit}
+use Rattle.at_demand.proofs.of_steps.Given.{given_all, given_answered, given_broken, given_more, given_none, given_settled}
+use Rattle.at_demand.proofs.of_steps.KeptAgain.{again_stays, settled_again}
 use Rattle.at_demand.proofs.of_levels.Resolving.{keeps_groups}
 use Rattle.at_demand.proofs.of_traces.Justified.{stay_same, stay_then}
 use Rattle.at_demand.proofs.demand.Demand.turns.Goals as goal
 
 pub loop-given-init : goal.loop-given-init
 loop-given-init g c = record {
-  so = given_none c.args.rules.now c.args.store.now g.K.Keeper.exact c.requires.answerable.basis (g.K.Keeper.contents c.args.self.now.keeper)
+  so = given_none c.args.rules.now c.args.store.now g.K.Keeper.exact (g.K.Keeper.memories c.args.self.now.keeper) c.requires.can.answerable.basis (g.K.Keeper.contents c.args.self.now.keeper)
       c.args.self.now.work c.args.question.now c.args.self.now.few
-      (record { right = c.requires.answerable.right; whole = c.requires.wholes }) c.requires.answerable.plain c.requires.standing;
+      (record { right = c.requires.can.answerable.right; whole = c.requires.can.wholes }) c.requires.can.answerable.plain c.requires.can.standing;
   fit = none_fit c.args.rules.now c.args.store.now (g.K.Keeper.contents c.args.self.now.keeper) c.args.question.now c.new-trials.result
       c.new-trials.ensures.frames c.new-trials.ensures.awaited;
   within = omega arith;
@@ -22,69 +23,102 @@ loop-given-init g c = record {
 
 pub loop-given-preserved : goal.loop-given-preserved
 loop-given-preserved g c =
+    let so = given_settled c.args.rules.now c.args.store.now g.K.Keeper.exact (g.K.Keeper.memories c.args.self.now.keeper)
+    c.requires.can.answerable.basis (g.K.Keeper.contents c.args.self.now.keeper) c.args.self.now.work c.args.question.now
+    (g.K.Keeper.contents c.loop-given.self.keeper) c.loop-given.self.work c.loop-given.given c.loop-given.question c.loop-given.invariant.so
+    (g.K.Keeper.memories c.loop-given.self.keeper) (g.K.Keeper.memories c.keep_again.new.self.keeper)
+    (g.K.Keeper.contents c.keep_again.new.self.keeper) c.keep_again.new.self.work c.loop-given.self.few c.loop-given.invariant.traces
+    c.requires.justified (g.K.Keeper.kept_last c.loop-given.self.keeper) c.keep_again.ensures in
     let e = subst (λ (o : Option AnswerCode). HasTurnedWith {E = AllocError} c.args.rules.now c.args.store.now g.K.Keeper.exact
-    (g.K.Keeper.contents c.loop-given.self.keeper) (g.K.Keeper.contents c.turn_with.new.self.keeper) c.loop-given.self.work
+    (g.K.Keeper.contents c.keep_again.new.self.keeper) (g.K.Keeper.contents c.turn_with.new.self.keeper) c.keep_again.new.self.work
     c.turn_with.new.self.work c.loop-given.question c.turn_with.new.question c.turn_with.new.trials (Ok o)) c.in_default.is
     c.in_ok-told.ensures.turned in
     record {
-      so = given_more c.args.rules.now c.args.store.now g.K.Keeper.exact c.requires.answerable.basis
-          (g.K.Keeper.contents c.args.self.now.keeper) c.args.self.now.work c.args.question.now (g.K.Keeper.contents c.loop-given.self.keeper)
-          c.loop-given.self.work c.loop-given.given c.loop-given.question c.loop-given.invariant.so
+      so = given_more c.args.rules.now c.args.store.now g.K.Keeper.exact (g.K.Keeper.memories c.args.self.now.keeper) c.requires.can.answerable.basis
+          (g.K.Keeper.contents c.args.self.now.keeper) c.args.self.now.work c.args.question.now (g.K.Keeper.contents c.keep_again.new.self.keeper)
+          c.keep_again.new.self.work c.loop-given.given c.loop-given.question so
           (g.K.Keeper.contents c.turn_with.new.self.keeper) c.turn_with.new.self.work c.turn_with.new.question c.turn_with.new.trials e;
       fit = e.fit;
       within = omega (arith, c.loop-given-test.true);
       traces = stay_then (g.K.Keeper.memories c.args.self.now.keeper) (g.K.Keeper.memories c.loop-given.self.keeper)
-          (g.K.Keeper.memories c.turn_with.new.self.keeper) c.loop-given.invariant.traces c.turn_with.ensures.traces;
+          (g.K.Keeper.memories c.turn_with.new.self.keeper) c.loop-given.invariant.traces
+          (stay_then (g.K.Keeper.memories c.loop-given.self.keeper) (g.K.Keeper.memories c.keep_again.new.self.keeper)
+          (g.K.Keeper.memories c.turn_with.new.self.keeper) c.keep_again.ensures.stay c.turn_with.ensures.traces);
     }
 
 pub returns-in_err-told : goal.returns-in_err-told
 returns-in_err-told g c =
+    let so = given_settled c.args.rules.now c.args.store.now g.K.Keeper.exact (g.K.Keeper.memories c.args.self.now.keeper)
+    c.requires.can.answerable.basis (g.K.Keeper.contents c.args.self.now.keeper) c.args.self.now.work c.args.question.now
+    (g.K.Keeper.contents c.loop-given.self.keeper) c.loop-given.self.work c.loop-given.given c.loop-given.question c.loop-given.invariant.so
+    (g.K.Keeper.memories c.loop-given.self.keeper) (g.K.Keeper.memories c.keep_again.new.self.keeper)
+    (g.K.Keeper.contents c.keep_again.new.self.keeper) c.keep_again.new.self.work c.loop-given.self.few c.loop-given.invariant.traces
+    c.requires.justified (g.K.Keeper.kept_last c.loop-given.self.keeper) c.keep_again.ensures in
     let is = (err_from_is_err_and c.from_residual.result c.from_residual.ensures.1).1 in
     record {
-      turned = given_broken c.args.rules.now c.args.store.now g.K.Keeper.exact c.requires.answerable.basis
-          (g.K.Keeper.contents c.args.self.now.keeper) c.args.self.now.work c.args.question.now (g.K.Keeper.contents c.loop-given.self.keeper)
-          c.loop-given.self.work c.loop-given.given c.loop-given.question c.loop-given.invariant.so
+      turned = given_broken c.args.rules.now c.args.store.now g.K.Keeper.exact (g.K.Keeper.memories c.args.self.now.keeper) c.requires.can.answerable.basis
+          (g.K.Keeper.contents c.args.self.now.keeper) c.args.self.now.work c.args.question.now (g.K.Keeper.contents c.keep_again.new.self.keeper)
+          c.keep_again.new.self.work c.loop-given.given c.loop-given.question so
           (g.K.Keeper.contents c.turn_with.new.self.keeper) c.turn_with.new.self.work c.turn_with.new.question c.turn_with.new.trials
           c.args.limit _ _ is (omega (arith, c.loop-given-test.true))
           (keeps_groups c.args.rules.now c.turn_with.result) c.turn_with.ensures.turned.gains;
       traces = stay_then (g.K.Keeper.memories c.args.self.now.keeper) (g.K.Keeper.memories c.loop-given.self.keeper)
-          (g.K.Keeper.memories c.turn_with.new.self.keeper) c.loop-given.invariant.traces c.turn_with.ensures.traces;
+          (g.K.Keeper.memories c.turn_with.new.self.keeper) c.loop-given.invariant.traces
+          (stay_then (g.K.Keeper.memories c.loop-given.self.keeper) (g.K.Keeper.memories c.keep_again.new.self.keeper)
+          (g.K.Keeper.memories c.turn_with.new.self.keeper) c.keep_again.ensures.stay c.turn_with.ensures.traces);
     }
 
 pub returns-in-Some : goal.returns-in-Some
 returns-in-Some g c =
+    let so = given_settled c.args.rules.now c.args.store.now g.K.Keeper.exact (g.K.Keeper.memories c.args.self.now.keeper)
+    c.requires.can.answerable.basis (g.K.Keeper.contents c.args.self.now.keeper) c.args.self.now.work c.args.question.now
+    (g.K.Keeper.contents c.loop-given.self.keeper) c.loop-given.self.work c.loop-given.given c.loop-given.question c.loop-given.invariant.so
+    (g.K.Keeper.memories c.loop-given.self.keeper) (g.K.Keeper.memories c.keep_again.new.self.keeper)
+    (g.K.Keeper.contents c.keep_again.new.self.keeper) c.keep_again.new.self.work c.loop-given.self.few c.loop-given.invariant.traces
+    c.requires.justified (g.K.Keeper.kept_last c.loop-given.self.keeper) c.keep_again.ensures in
     let e = subst (λ (o : Option AnswerCode). HasTurnedWith {E = AllocError} c.args.rules.now c.args.store.now g.K.Keeper.exact
-    (g.K.Keeper.contents c.loop-given.self.keeper) (g.K.Keeper.contents c.turn_with.new.self.keeper) c.loop-given.self.work
+    (g.K.Keeper.contents c.keep_again.new.self.keeper) (g.K.Keeper.contents c.turn_with.new.self.keeper) c.keep_again.new.self.work
     c.turn_with.new.self.work c.loop-given.question c.turn_with.new.question c.turn_with.new.trials (Ok o)) c.in-Some.is
     c.in_ok-told.ensures.turned in
     record {
-      turned = given_answered c.args.rules.now c.args.store.now g.K.Keeper.exact c.requires.answerable.basis
-          (g.K.Keeper.contents c.args.self.now.keeper) c.args.self.now.work c.args.question.now (g.K.Keeper.contents c.loop-given.self.keeper)
-          c.loop-given.self.work c.loop-given.given c.loop-given.question c.loop-given.invariant.so
+      turned = given_answered c.args.rules.now c.args.store.now g.K.Keeper.exact (g.K.Keeper.memories c.args.self.now.keeper) c.requires.can.answerable.basis
+          (g.K.Keeper.contents c.args.self.now.keeper) c.args.self.now.work c.args.question.now (g.K.Keeper.contents c.keep_again.new.self.keeper)
+          c.keep_again.new.self.work c.loop-given.given c.loop-given.question so
           (g.K.Keeper.contents c.turn_with.new.self.keeper) c.turn_with.new.self.work c.turn_with.new.question c.turn_with.new.trials
           c.args.limit c.in-Some.answer (omega (arith, c.loop-given-test.true)) e;
       traces = stay_then (g.K.Keeper.memories c.args.self.now.keeper) (g.K.Keeper.memories c.loop-given.self.keeper)
-          (g.K.Keeper.memories c.turn_with.new.self.keeper) c.loop-given.invariant.traces c.turn_with.ensures.traces;
+          (g.K.Keeper.memories c.turn_with.new.self.keeper) c.loop-given.invariant.traces
+          (stay_then (g.K.Keeper.memories c.loop-given.self.keeper) (g.K.Keeper.memories c.keep_again.new.self.keeper)
+          (g.K.Keeper.memories c.turn_with.new.self.keeper) c.keep_again.ensures.stay c.turn_with.ensures.traces);
     }
 
 pub returns : goal.returns
 returns g c = record {
-  turned = given_all c.args.rules.now c.args.store.now g.K.Keeper.exact c.requires.answerable.basis (g.K.Keeper.contents c.args.self.now.keeper)
+  turned = given_all c.args.rules.now c.args.store.now g.K.Keeper.exact (g.K.Keeper.memories c.args.self.now.keeper) c.requires.can.answerable.basis (g.K.Keeper.contents c.args.self.now.keeper)
       c.args.self.now.work c.args.question.now (g.K.Keeper.contents c.loop-given.self.keeper) c.loop-given.self.work c.loop-given.given
       c.args.limit c.loop-given.question c.loop-given.invariant.so (omega (arith, c.loop-given-test.false, c.loop-given.invariant.within));
   traces = c.loop-given.invariant.traces;
 }
 
 pub turn_with-requires : goal.turn_with-requires
-turn_with-requires g c = record {
-  turns = record {
-    answerable = record {
-      basis = c.requires.answerable.basis;
-      right = c.loop-given.invariant.so.sound.right;
-      plain = c.loop-given.invariant.so.plain;
-    };
-    standing = c.loop-given.invariant.so.standing;
-    wholes = c.loop-given.invariant.so.sound.whole;
-  };
-  fit = c.loop-given.invariant.fit;
-}
+turn_with-requires g c =
+    let so = given_settled c.args.rules.now c.args.store.now g.K.Keeper.exact (g.K.Keeper.memories c.args.self.now.keeper)
+    c.requires.can.answerable.basis (g.K.Keeper.contents c.args.self.now.keeper) c.args.self.now.work c.args.question.now
+    (g.K.Keeper.contents c.loop-given.self.keeper) c.loop-given.self.work c.loop-given.given c.loop-given.question c.loop-given.invariant.so
+    (g.K.Keeper.memories c.loop-given.self.keeper) (g.K.Keeper.memories c.keep_again.new.self.keeper)
+    (g.K.Keeper.contents c.keep_again.new.self.keeper) c.keep_again.new.self.work c.loop-given.self.few c.loop-given.invariant.traces
+    c.requires.justified (g.K.Keeper.kept_last c.loop-given.self.keeper) c.keep_again.ensures in
+    let l = g.K.Keeper.memories c.loop-given.self.keeper in
+    let old = g.K.Keeper.contents c.loop-given.self.keeper in
+    let mid = g.K.Keeper.contents c.keep_again.new.self.keeper in
+    let q = c.loop-given.question in
+    record {
+      turns = record {
+        answerable = record { basis = c.requires.can.answerable.basis; right = so.sound.right; plain = so.plain };
+        standing = so.standing;
+        wholes = so.sound.whole;
+      };
+      fit = fit_grown c.args.rules.now c.args.store.now old mid
+          (again_stays l old mid (settled_again g.K.Keeper.exact l q.inst c.keep_again.ensures.count old mid c.keep_again.ensures.settled))
+          q c.loop-given.trials.frames.items c.loop-given.trials.awaited c.loop-given.invariant.fit;
+    }

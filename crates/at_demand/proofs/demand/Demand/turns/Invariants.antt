@@ -6,7 +6,7 @@ use Rattle.at_demand.proofs.demand.Demand.turns.Given as goal
 
 abbrev pub invariant-loop-given : goal.invariant-loop-given
 invariant-loop-given g l = record {
-  so : HasGivenSo l.rules l.store g.K.Keeper.exact (g.K.Keeper.contents l.initial.self.keeper) (g.K.Keeper.contents l.self.keeper)
+  so : HasGivenSo l.rules l.store g.K.Keeper.exact (g.K.Keeper.memories l.initial.self.keeper) (g.K.Keeper.contents l.initial.self.keeper) (g.K.Keeper.contents l.self.keeper)
       l.initial.self.work l.self.work l.given l.initial.question l.question;
   fit : Fit l.rules l.store (g.K.Keeper.contents l.self.keeper) l.question l.trials;
   within : l.given ≤ l.limit;

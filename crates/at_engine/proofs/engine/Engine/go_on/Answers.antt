@@ -39,8 +39,8 @@ returns-in-Refused g c =
     was_refused g.K.Keeper.exact k m e c.args.position c.args.limit o t it c.in_ok-question.ensures.begins c.in-Refused.refusal
     c.in-Refused.is c.requires.some
 
-pub turns_up_to-requires : goal.turns_up_to-requires
-turns_up_to-requires g c =
+pub turns_up_to-requires-clause-can : goal.turns_up_to-requires-clause-can
+turns_up_to-requires-clause-can g c =
     let e = c.args.self.now in
     let k = g.K.Keeper.contents in
     let m = g.K.Keeper.memories in
@@ -49,6 +49,16 @@ turns_up_to-requires g c =
     let it = taken k m e c.requires.ready.sound c.args.position c.requires.ready.within o t c.take-begun.ensures in
     let b = begun_for g.K.Keeper.exact k m e c.args.position c.args.limit o t it c.in_ok-question.ensures.begins c.in-Question.question c.in-Question.is in
     can_answer g.K.Keeper.exact k m e c.args.position c.args.limit o t it c.requires.ready.typed c.in-Question.question b
+
+pub turns_up_to-requires-clause-justified : goal.turns_up_to-requires-clause-justified
+turns_up_to-requires-clause-justified g c =
+    let e = c.args.self.now in
+    let k = g.K.Keeper.contents in
+    let m = g.K.Keeper.memories in
+    let t = c.take-begun.new.self in
+    let o = c.take-begun.result in
+    let it = taken k m e c.requires.ready.sound c.args.position c.requires.ready.within o t c.take-begun.ensures in
+    it.held.remembered.justified
 
 pub told-requires : goal.told-requires
 told-requires g c =

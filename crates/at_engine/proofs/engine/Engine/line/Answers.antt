@@ -11,7 +11,7 @@ returns-then-is_empty g c =
     let later = c.reserve.new.self.items in
     let none : length line ≡ 0 = grind (arith, nat_tests) in
     record {
-      done = taken_nowhere g.K.Keeper.exact g.K.Keeper.contents e before later line none c.reserve.ensures.items;
+      done = taken_nowhere g.K.Keeper.exact g.K.Keeper.contents g.K.Keeper.memories e before later line none c.reserve.ensures.items;
       same = tt;
       full = tt;
       err = tt;
@@ -31,7 +31,7 @@ returns g c =
     let some : 0 < length line = grind (arith, nat_tests) in
     let s = c.in_ok-serve.ensures in
     record {
-      done = taken g.K.Keeper.exact g.K.Keeper.contents e before later new c.in_ok-serve.field-0 line some s.done;
+      done = taken g.K.Keeper.exact g.K.Keeper.contents g.K.Keeper.memories e before later new c.in_ok-serve.field-0 line some s.done;
       same = tt;
       full = tt;
       err = tt;

@@ -21,7 +21,7 @@ returns-in-Some-clause-hears g c =
     let is = c.at_once.ensures.form in
     let l = line_with c.args.session c.args.expected (command_view c.args.command.now) in
     let meets = c.in-Some.ensures l refl (sym c.has_used-is_marked.ensures) in
-    heard_at_once g.K.Keeper.exact g.K.Keeper.contents e e l c.at_once.result (Ok (form.Refused c.in-Some.refusal))
+    heard_at_once g.K.Keeper.exact g.K.Keeper.contents g.K.Keeper.memories e e l c.at_once.result (Ok (form.Refused c.in-Some.refusal))
     c.at_once.ensures.session c.at_once.ensures.done is meets tt
     (told_at_once (rules_of e) (state_of e) (verdict (rules_of e) (state_of e) l) (form.Refused c.in-Some.refusal) (state_of e) meets)
 
@@ -63,7 +63,7 @@ returns-in-None-clause-hears g c =
     let v = verdict (rules_of e) (state_of e) l in
     let o = obeyed (rules_of e) (state_of e) l.session l.command in
     let same = c.in_default.ensures l refl (sym c.has_used-is_marked.ensures) in
-    heard_at_once g.K.Keeper.exact g.K.Keeper.contents e c.command.new.self l c.at_once-in-None.result c.command.result c.at_once-in-None.ensures.session c.at_once-in-None.ensures.done c.at_once-in-None.ensures.form
+    heard_at_once g.K.Keeper.exact g.K.Keeper.contents g.K.Keeper.memories e c.command.new.self l c.at_once-in-None.result c.command.result c.at_once-in-None.ensures.session c.at_once-in-None.ensures.done c.at_once-in-None.ensures.form
     (IfOk-weaker c.command.result _ _ (λ f told. as_verdict (rules_of e) (state_of e) v o f (state_of c.command.new.self) same told) c.command.ensures.obeys) c.command.ensures.err
     (subst IsAtOnce (sym same) c.in-None.ensures)
 

@@ -13,7 +13,7 @@ say-requires g c =
     let t = c.outcome-told.result in
     record {
       room = c.in_ok-reserve.ensures.ok;
-      writable = writable_so (IsStep g.K.Keeper.exact g.K.Keeper.contents c.args.line.now e c.outcome-told.new.self) t.session t.done t.form c.outcome-told.ensures.gets;
+      writable = writable_so (IsStep g.K.Keeper.exact g.K.Keeper.contents g.K.Keeper.memories c.args.line.now e c.outcome-told.new.self) t.session t.done t.form c.outcome-told.ensures.gets;
     }
 
 pub returns : goal.returns
@@ -23,7 +23,7 @@ returns g c =
     let line = c.args.line.now in
     let t = c.outcome-told.result in
     let wants = c.say.result in
-    let a = answered (IsStep g.K.Keeper.exact g.K.Keeper.contents line e new) c.reserve.new.self.items c.say.new.out.items t t.form refl wants c.outcome-told.ensures.gets c.say.ensures.said in
+    let a = answered (IsStep g.K.Keeper.exact g.K.Keeper.contents g.K.Keeper.memories line e new) c.reserve.new.self.items c.say.new.out.items t t.form refl wants c.outcome-told.ensures.gets c.say.ensures.said in
     let stays = c.outcome-told.ensures.stays in
     record {
       done = record {

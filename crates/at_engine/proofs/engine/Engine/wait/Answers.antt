@@ -43,6 +43,6 @@ unreachable-requires g c =
     let i = c.args.position in
     let m = c.go_on.new.self in
     let a = subst (λ (r : Result (ℕ × Option Form) AllocError). Attends x k g.K.Keeper.memories e m i
-    (λ p. HasGone x k None e m i p r) (KeepsGroups (rules_of e) r)) c.in-Ok.is
+    (λ p. HasGone x k g.K.Keeper.memories None e m i p r) (KeepsGroups (rules_of e) r)) c.in-Ok.is
     c.go_on.ensures in
     never_silent x k g.K.Keeper.memories e m i c.requires.within c.in-Ok.gone.0 c.in-Ok.gone.1 a c.in-None.is

@@ -2,6 +2,8 @@ use Rattle.std.proofs.Common.{ℕ, Ok, Option, None, Some, arith, refl, subst}
 use Rattle.std.proofs.lemmas.Result.{err_from_is_err_and}
 use Rattle.std.specs.declared.alloc.AllocError.{AllocError}
 use Rattle.at_demand.specs.declared.answer.Answer.{Answer as AnswerCode}
+use Rattle.at_store.specs.Shown.{contents}
+use Rattle.at_demand.proofs.of_traces.Justified.{stay_justified}
 use Rattle.at_engine.specs.Turning.{HasTurnedUpTo}
 use Rattle.at_engine.proofs.of_turns.Settling.{as_one_record}
 use Rattle.at_engine.proofs.of_turns.TurnedSo.{so_answered, so_broken, so_fewer, so_more, so_none, with_answer}
@@ -9,8 +11,8 @@ use Rattle.at_engine.proofs.engine.turning.all_turns.Goals as goal
 
 pub loop-turns-init : goal.loop-turns-init
 loop-turns-init g c = record {
-  so = so_none AllocError g.K.Keeper.exact c.args.rules.now c.args.store.now c.requires.turns.answerable.basis
-      (g.K.Keeper.contents c.args.demand.now.keeper) (g.K.Keeper.memories c.args.demand.now.keeper) c.args.question.now c.requires;
+  so = so_none AllocError g.K.Keeper.exact c.args.rules.now c.args.store.now c.requires.can.turns.answerable.basis
+      (g.K.Keeper.contents c.args.demand.now.keeper) (g.K.Keeper.memories c.args.demand.now.keeper) c.args.question.now c.requires.can;
 }
 
 pub loop-turns-preserved : goal.loop-turns-preserved
@@ -31,7 +33,7 @@ loop-turns-preserved g c =
     let none = subst (λ (o : Option AnswerCode). HasTurnedUpTo {E = AllocError} g.K.Keeper.exact rules s (Some 18446744073709551615)
     (k old.keeper) (k new.keeper) (m old.keeper) (m new.keeper) q p (Ok (with_answer n o))) c.in_default.is h in
     record {
-      so = so_more AllocError g.K.Keeper.exact rules s c.requires.turns.answerable.basis (k c.args.demand.now.keeper)
+      so = so_more AllocError g.K.Keeper.exact rules s c.requires.can.turns.answerable.basis (k c.args.demand.now.keeper)
           (m c.args.demand.now.keeper) c.args.question.now (k old.keeper) (m old.keeper) q so 18446744073709551615 (k new.keeper)
           (m new.keeper) p n none;
     }
@@ -53,9 +55,9 @@ loop-turns-smaller g c =
     c.in_ok-turns.ensures.traces in
     let none = subst (λ (o : Option AnswerCode). HasTurnedUpTo {E = AllocError} g.K.Keeper.exact rules s (Some 18446744073709551615)
     (k old.keeper) (k new.keeper) (m old.keeper) (m new.keeper) q p (Ok (with_answer n o))) c.in_default.is h in
-    so_fewer AllocError g.K.Keeper.exact rules s c.requires.turns.answerable.basis (k c.args.demand.now.keeper)
+    so_fewer AllocError g.K.Keeper.exact rules s c.requires.can.turns.answerable.basis (k c.args.demand.now.keeper)
     (m c.args.demand.now.keeper) c.args.question.now (k old.keeper) (m old.keeper) q so 18446744073709551615 (k new.keeper)
-    (m new.keeper) p n (omega arith) c.requires.named none
+    (m new.keeper) p n (omega arith) c.requires.can.named none
 
 pub returns-in_err-turns : goal.returns-in_err-turns
 returns-in_err-turns g c =
@@ -70,7 +72,7 @@ returns-in_err-turns g c =
     let h = as_one_record AllocError g.K.Keeper.exact rules s 18446744073709551615 (k old.keeper) (k new.keeper) old.work new.work
     (m old.keeper) (m new.keeper) c.loop-turns.question c.turns.new.question so.standing so.sound _ c.in_err-turns.ensures.turned
     c.in_err-turns.ensures.traces in
-    rw is (so_broken AllocError g.K.Keeper.exact rules s c.requires.turns.answerable.basis (k c.args.demand.now.keeper)
+    rw is (so_broken AllocError g.K.Keeper.exact rules s c.requires.can.turns.answerable.basis (k c.args.demand.now.keeper)
     (m c.args.demand.now.keeper) c.args.question.now (k old.keeper) (m old.keeper) c.loop-turns.question so 18446744073709551615
     (k new.keeper) (m new.keeper) c.turns.new.question _ _ refl h)
 
@@ -91,15 +93,19 @@ returns-in-Some g c =
     c.in_ok-turns.ensures.traces in
     let some = subst (λ (o : Option AnswerCode). HasTurnedUpTo {E = AllocError} g.K.Keeper.exact rules s (Some 18446744073709551615)
     (k old.keeper) (k new.keeper) (m old.keeper) (m new.keeper) q p (Ok (with_answer n o))) c.in-Some.is h in
-    so_answered AllocError g.K.Keeper.exact rules s c.requires.turns.answerable.basis (k c.args.demand.now.keeper)
+    so_answered AllocError g.K.Keeper.exact rules s c.requires.can.turns.answerable.basis (k c.args.demand.now.keeper)
     (m c.args.demand.now.keeper) c.args.question.now (k old.keeper) (m old.keeper) q so 18446744073709551615 (k new.keeper)
     (m new.keeper) p n c.in-Some.answer some
 
-pub turns-requires : goal.turns-requires
-turns-requires g c =
+pub turns-requires-clause-can : goal.turns-requires-clause-can
+turns-requires-clause-can g c =
     let so = c.loop-turns.invariant.so in
     record {
-      answerable = record { basis = c.requires.turns.answerable.basis; right = so.sound.right; plain = so.plain };
+      answerable = record { basis = c.requires.can.turns.answerable.basis; right = so.sound.right; plain = so.plain };
       standing = so.standing;
       wholes = so.sound.whole;
     }
+
+pub turns-requires-clause-justified : goal.turns-requires-clause-justified
+turns-requires-clause-justified g c = stay_justified c.args.rules.now (contents c.args.store.now) (g.K.Keeper.memories c.args.demand.now.keeper)
+    (g.K.Keeper.memories c.loop-turns.demand.keeper) c.loop-turns.invariant.so.traces c.requires.justified

@@ -10,7 +10,7 @@ returns-in-Some g c =
     let m = g.K.Keeper.memories in
     let old = c.args.demand.now in
     let new = c.turns.new.self in
-    let can = c.requires.turns in
+    let can = c.requires.can.turns in
     subst (λ (limit : Option ℕ). HasTurnedUpTo {E = AllocError} g.K.Keeper.exact c.args.rules.now c.args.store.now limit
     (k old.keeper) (k new.keeper) (m old.keeper) (m new.keeper) c.args.question.now c.turns.new.question c.turns.result) (sym c.in-Some.is)
     (as_one_record AllocError g.K.Keeper.exact c.args.rules.now c.args.store.now c.in-Some.limit (k old.keeper) (k new.keeper) old.work new.work
@@ -27,5 +27,8 @@ returns-in-None g c =
     (g.K.Keeper.memories old.keeper) (g.K.Keeper.memories new.keeper) c.args.question.now c.all_turns.new.question c.all_turns.result) (sym c.in-None.is)
     c.all_turns.ensures
 
-pub turns-requires : goal.turns-requires
-turns-requires g c = c.requires.turns
+pub turns-requires-clause-can : goal.turns-requires-clause-can
+turns-requires-clause-can g c = c.requires.can.turns
+
+pub turns-requires-clause-justified : goal.turns-requires-clause-justified
+turns-requires-clause-justified g c = c.requires.justified

@@ -1,0 +1,86 @@
+-- What is kept again for the last instance of a question: it came with no evaluation, and is right and worth keeping.
+use Rattle.std.proofs.Common.{◌≡◌, ◌⊎◌, ◌<◌, ◌^◌, ℕ, Bool, true, false, [], None, Some, inl, inr, refl, sym, ap, ◌∙◌, subst, if◌then◌else◌}
+use Rattle.std.proofs.lemmas.Option.{none-some}
+use Rattle.at_model.specs.Rules.{Rules}
+use Rattle.at_model.specs.Run.{Instance}
+use Rattle.at_store.specs.Shown.{IsIdle, Shown, contents}
+use Rattle.at_body.specs.Same.{same_instance}
+use Rattle.at_cache.specs.Kept.{Entries, PutsBy, value_at}
+use Rattle.at_cache.specs.Traced.{Memories, Settled, StayTraced, Trace, TracesNothing, nothing, one_more}
+use Rattle.at_demand.specs.Again.{HasKeptAgain, KeepsAgain}
+use Rattle.at_demand.specs.Inner.{AreKnown, Gains}
+use Rattle.at_demand.specs.Known.{KeepsEntries, kept_values}
+use Rattle.at_demand.specs.Traces.{AreJustified}
+use Rattle.at_demand.proofs.Entered.{not_none}
+use Rattle.at_demand.proofs.Sameness.{same_true}
+use Rattle.at_demand.proofs.of_traces.Settled.{LastKept, settled_gains}
+
+-- nothing comes
+pub again_none : (m : Memories) (e : Entries) → KeepsAgain m e e
+again_none m e i = inl refl
+
+-- what becomes of the entry of an instance
+abbrev Comes : Memories → Instance ℕ → Entries → Entries → Type 0
+Comes m i x y = (y i ≡ x i) ⊎ ((x i ≡ None) × ((t : Trace) × (m.traced i ≡ Some t) × (kept_values y i ≡ Some t.value)))
+
+-- first some came, and then others
+pub again_then : (m : Memories) (d e f : Entries) → KeepsAgain m d e → KeepsAgain m e f → KeepsAgain m d f
+again_then m d e f a b i = by (a i) (b i)
+  where
+    by : Comes m i d e → Comes m i e f → Comes m i d f
+    by (inl same) (inl is) = inl (is ∙ same)
+    by (inl same) (inr (none, x)) = inr (sym same ∙ none, x)
+    by (inr (none, (t, traced, value))) (inl is) = inr (none, (t, traced, ap value_at is ∙ value))
+    by (inr (none, x)) (inr (gone, y)) = inr (none, y)
+
+-- of memories that were more before
+pub again_before : (m n : Memories) (e f : Entries) → StayTraced m n → KeepsAgain n e f → KeepsAgain m e f
+again_before m n e f stay a i = by (a i)
+  where
+    by : Comes n i e f → Comes m i e f
+    by (inl same) = inl same
+    by (inr (none, (t, traced, value))) = inr (none, (t, (stay i t traced).traced, value))
+
+-- one that had no entry, with the value of its trace
+again_one : (exact : Bool) (m : Memories) (e f : Entries) (i : Instance ℕ) (t : Trace) → m.traced i ≡ Some t → e i ≡ None
+    → PutsBy exact e i (Some t.value) t.reads t.uses f → KeepsAgain m e f
+again_one exact m e f i t traced absent puts j = by (same_instance i j) refl
+  where
+    by : (b : Bool) → same_instance i j ≡ b → Comes m j e f
+    by false at = inl (puts.adds j ∙ ap (λ (b : Bool). if b then Some puts.entry else e j) at)
+    by true at =
+        let here = puts.adds j ∙ ap (λ (b : Bool). if b then Some puts.entry else e j) at in
+        let same = same_true i j at in
+        inr (
+          subst (λ (x : Instance ℕ). e x ≡ None) same absent,
+          (t, subst (λ (x : Instance ℕ). m.traced x ≡ Some t) same traced, ap value_at here ∙ puts.value),
+        )
+
+-- so all came that was settled
+pub settled_again : (exact : Bool) (m : Memories) (q : Instance ℕ) (n : ℕ) (e f : Entries) → Settled exact m q n e f → KeepsAgain m e f
+settled_again exact m q _ e _ (nothing _) = again_none m e
+settled_again exact m q _ e f (one_more n _ mid _ i t before next traced absent all puts) = again_then m e mid f
+    (settled_again exact m q n e mid before) (again_one exact m mid f i t traced absent puts)
+
+-- and it is right, and worth keeping for the instance
+pub gains_again : (rules : Rules) (s : Shown) → IsIdle s → (exact : Bool) (m n : Memories) (e f : Entries) (w x : ℕ) (q : Instance ℕ)
+    → w < 2 ^ 64 → AreKnown rules (contents s) e [] → AreJustified rules (contents s) m → LastKept m e
+    → HasKeptAgain exact m n e f w x q → Gains rules s exact q e f [] [] w x
+gains_again rules s idle exact m n e f w x q few known justified last h = settled_gains rules s idle exact m justified q h.count e f [] w x
+    h.settled few h.counts known last
+
+-- what had an entry has it still
+pub again_stays : (m : Memories) (e f : Entries) → KeepsAgain m e f → KeepsEntries e f
+again_stays m e f again i some = by (again i)
+  where
+    by : Comes m i e f → f i ≡ e i
+    by (inl same) = same
+    by (inr (none, x)) = absurd (not_none (e i) some none)
+
+-- where nothing is traced nothing comes
+pub again_nothing : (m : Memories) (e f : Entries) → TracesNothing m → KeepsAgain m e f → (i : Instance ℕ) → f i ≡ e i
+again_nothing m e f none again i = by (again i)
+  where
+    by : Comes m i e f → f i ≡ e i
+    by (inl same) = same
+    by (inr (gone, (t, traced, value))) = absurd (none-some t (sym (none i) ∙ traced))
