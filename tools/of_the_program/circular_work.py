@@ -89,16 +89,20 @@ class Work:
             return
         gone = set(touched(self.tree, command))
         edited(self.tree, command)
-        self.kept = {it: rests for it, rests in self.kept.items() if not rests & gone}
+        self.forget(gone)
         self.leading = Leading(Meaning(self.aspects, self.tree))
 
-    def find(self, asked: Instance) -> None:
-        """Keeps what the question leads to, and counts what wasn't kept."""
+    def forget(self, gone: Set[Location]) -> None:
+        """Forgets what rests on something of this, which an edit touches."""
+        self.kept = {it: rests for it, rests in self.kept.items() if not rests & gone}
+
+    def find(self, asked: Instance) -> List[Instance]:
+        """Keeps what the question leads to: gives what wasn't kept, which is counted."""
         self.leading.meaning.reach(asked)
-        for it in self.met(asked):
-            if it not in self.kept and self.is_kept(it):
-                self.kept[it] = self.leading.support(it)
-                self.done += 1
+        found = [it for it in self.met(asked) if it not in self.kept and self.is_kept(it)]
+        self.kept.update((it, self.leading.support(it)) for it in found)
+        self.done += len(found)
+        return found
 
     def met(self, asked: Instance) -> Set[Instance]:
         """All that the question leads to; where a circle answers it, all to which its search had come that has an outcome, or is led to by
@@ -115,7 +119,11 @@ class Work:
 
     def is_kept(self, of: Instance) -> bool:
         """Whether the instance is of a lazy or circular attribute, and has a value."""
+        return self.is_lazy(of) and (of[1] in WAYS or isinstance(self.leading.meaning.outcomes.get(of), bool))
+
+    def is_lazy(self, of: Instance) -> bool:
+        """Whether the instance is of a lazy or circular attribute."""
         if of[1] in WAYS:
             return of[1] == "item" or of[1] == "to" and self.aspects.lazy_ways
         attribute = self.aspects.named(of[1])
-        return (attribute.lazy or attribute.start is not None) and isinstance(self.leading.meaning.outcomes.get(of), bool)
+        return attribute.lazy or attribute.start is not None
