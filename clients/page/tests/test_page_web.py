@@ -215,7 +215,8 @@ class Options(unittest.TestCase):
         with tempfile.TemporaryDirectory(prefix="attrd-page-test-") as folder:
             noted = Path(folder) / "words"
             with mock.patch.dict(os.environ, {"ATTRD": program(), "WORDS": str(noted)}):
-                for words, wanted in (((), "--work --keep 400000"), (("--keep", "7"), "--work --keep 7")):
+                for words, wanted in (((), "--work --keep 400000"), (("--keep", "7"), "--work --keep 7"),
+                                      (("--keep", "7", "--forms", "circular"), "--work --keep 7 --forms circular")):
                     Served("--program", keeping, *words).close()
                     self.assertEqual(noted.read_text(), wanted)
 
