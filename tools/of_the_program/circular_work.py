@@ -70,7 +70,7 @@ def of_list(node: Node) -> List[Tuple[Node, str]]:
 
 
 class Work:
-    """The work of the lines of a case, which asks at once."""
+    """The work of the lines of a case, where each question is answered behind its line."""
 
     def __init__(self, case: Case) -> None:
         self.aspects, self.tree = case.aspects, node_of(case.term)
@@ -82,10 +82,11 @@ class Work:
 
     def follow(self, command: str) -> None:
         """Follows a line."""
-        if command.startswith("ask "):
-            asked = instance(self.tree, self.aspects, command[4:])
-            assert asked is not None
-            self.find(asked)
+        word, _, rest = command.partition(" ")
+        if word in ("ask", "post", "wait"):
+            asked = None if word == "wait" else instance(self.tree, self.aspects, rest)
+            if asked is not None:
+                self.find(asked)
             return
         gone = set(touched(self.tree, command))
         edited(self.tree, command)

@@ -1,5 +1,6 @@
 """Which values are evaluated with `--cut-off`, by the reasons of the theorem: of those that a question finds, those that can't be kept again.
-One that was evaluated can be, as long as no edit touches what it looked at itself and nothing that it used comes to another value."""
+One that was evaluated can be, as long as no edit touches what it looked at itself and nothing that it used comes to another value, unless that
+was in a turn of a question that was posted."""
 from __future__ import annotations
 
 from typing import Dict, List, Optional, Set, Tuple, Union
@@ -15,14 +16,18 @@ Trace = Tuple[Set[Location], Set[Instance]]
 
 
 class Made(Work):
-    """The work of the lines of a case, which asks at once, and how much of it was made.
+    """The work of the lines of a case, where each question is answered behind its line, and how much of it was made.
 
     A node that has left may have given its number to another one, and so be the same value as that: whether it is, `numbered` says."""
 
     def __init__(self, case: Case, numbered: bool = False) -> None:
         self.traces, self.last = dict[Instance, Trace](), dict[Instance, Value]()
-        self.made, self.numbered = 0, numbered
+        self.made, self.numbered, self.in_turns = 0, numbered, False
         super().__init__(case)
+
+    def follow(self, command: str) -> None:
+        self.in_turns = command.startswith("post ")
+        super().follow(command)
 
     def forget(self, gone: Set[Location]) -> None:
         super().forget(gone)
@@ -35,7 +40,8 @@ class Made(Work):
         made = [it for it in found if it not in self.traces]
         self.made += len(made)
         self.last.update((it, self.value(it)) for it in made)
-        self.traces.update((it, self.trace(it)) for it in made)
+        if not self.in_turns:
+            self.traces.update((it, self.trace(it)) for it in made)
         return found
 
     def is_same(self, before: Value, now: Value) -> bool:

@@ -13,11 +13,13 @@ from tools.of_the_program.sessions import Sample
 # How many sessions there are, of so many lines, and how often a question is a new one; the variables give others.
 SESSIONS, LINES, NEW = 30, 150, 0.1
 SEED = 1989
+# So many turns answer each question behind its line.
+TURNS = 1_000_000
 COUNTING = ("over-edits", "cut-off")
 
 
 class MadeTest(KeepingTest):
-    """Sessions by chance without circular attributes, that ask at once."""
+    """Sessions by chance without circular attributes, where each question is answered behind its line."""
 
     def setUp(self) -> None:
         super().setUp()
@@ -26,7 +28,7 @@ class MadeTest(KeepingTest):
     def told_of(self, case: Case, keeper: str) -> Tuple[str, Dict[str, int]]:
         """The replies to the case's lines, and the numbers that are told of the work."""
         files = self.write(Sample(GRAMMAR, case.term, [case.aspects.text()]))
-        replies, work = self.played(keeper, 1, files, "".join(f"{it}\n" for it in case.lines))
+        replies, work = self.played(keeper, TURNS, files, "".join(f"{it}\n" for it in case.lines))
         words = work.split()
         return replies, dict(zip(words[::2], map(int, words[1::2])))
 
@@ -49,16 +51,15 @@ class MadeTest(KeepingTest):
     def test_what_is_made_has_a_reason(self) -> None:
         done = again = 0
         for number in range(self.count):
-            case = made(f"{self.seed}.{number}", LINES, PlainAspects, NEW)
-            lines = tuple(it for it in case.lines if it.split()[1] not in ("post", "wait"))
+            whole = made(f"{self.seed}.{number}", LINES, PlainAspects, NEW)
             # also behind some of its lines, so that no two differences make up for each other
-            for count in (len(lines) // 3, len(lines)):
-                case = replace(case, lines=lines[:count])
+            for count in (len(whole.lines) // 3, len(whole.lines)):
+                case = replace(whole, lines=whole.lines[:count])
                 with self.subTest(number):
                     if self.differs(case):
                         case = shorter(case, lambda it: bool(self.differs(it)))
                         self.fail("\n".join([self.differs(case), case.aspects.text(), case.term, *case.lines]))
-            model = Made(case)
+            model = Made(whole)
             done, again = done + model.done, again + model.done - model.made
         # where nothing is kept again, nothing is tested
         self.assertGreater(again * 30, done)
