@@ -45,7 +45,8 @@ class Running:
             except AttrdError:
                 raise await stream.fault() if stream.process is not None else AttrdError(f"{given.connect}: the server has ended") from None
             source = SourceText.load(given.parser, Grammar.load(given.grammar), given.source) if given.source else None
-            page = Page(hub, [given.grammar, given.tree, *given.aspects], given.program if stream.process is not None else None, source)
+            program = given.program if stream.process is not None else None
+            page = Page(hub, [given.grammar, given.tree, *given.aspects], program, source, given.forms)
             await page.begin()
         except BaseException:
             replies.cancel()
