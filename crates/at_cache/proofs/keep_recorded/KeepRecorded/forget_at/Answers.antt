@@ -1,10 +1,8 @@
 use Rattle.std.proofs.Common.{ap, subst, sym}
-use Rattle.at_cache.specs.Info.{memory_of}
 use Rattle.at_cache.specs.Finding.{edges_to}
 use Rattle.at_cache.specs.Kept.{Answers, LeavesUntouched, LosesTouched}
-use Rattle.at_cache.specs.Keeper.{Entries}
 use Rattle.at_cache.specs.Recorded.{IsIndexed, kept_in}
-use Rattle.at_cache.proofs.Moving.{kept_same}
+use Rattle.at_cache.proofs.Forgotten.{kept_same}
 use Rattle.at_cache.proofs.keep_recorded.KeepRecorded.forget_at.Goals as goal
 
 pub take_out_at-requires-clause-noted : goal.take_out_at-requires-clause-noted
@@ -22,7 +20,7 @@ returns-clause-leaves g c = subst
     (LeavesUntouched (Answers (goal.F-post g c.args.touched.now))
         (kept_in (edges_to c.args.self.now.readers) c.args.self.now.entries c.args.self.now.puts))
     (λ n i. sym (kept_same (edges_to c.args.self.now.readers) c.take_out_at.new.entries c.order_slots.new.self c.args.self.now.puts
-        (ap (λ m. m.entries) c.order_slots.ensures.entries) c.order_slots.ensures.same i) n)
+        c.order_slots.ensures.entries c.order_slots.ensures.same i) n)
     (c.take_out_at.ensures.leaves c.args.self.now.puts c.args.self.now.indexed)
 
 pub returns-clause-loses : goal.returns-clause-loses
@@ -30,5 +28,5 @@ returns-clause-loses g c = subst
     (LosesTouched (Answers (goal.F-post g c.args.touched.now))
         (kept_in (edges_to c.args.self.now.readers) c.args.self.now.entries c.args.self.now.puts))
     (λ n i. sym (kept_same (edges_to c.args.self.now.readers) c.take_out_at.new.entries c.order_slots.new.self c.args.self.now.puts
-        (ap (λ m. m.entries) c.order_slots.ensures.entries) c.order_slots.ensures.same i) n)
+        c.order_slots.ensures.entries c.order_slots.ensures.same i) n)
     (c.take_out_at.ensures.loses c.args.self.now.puts c.args.self.now.indexed)
