@@ -93,7 +93,8 @@ pub record Gathered (there : Edge → Bool) (into : ℕ → List ℕ) (edges : L
 -- Of a list some edges are kept, each of which tells of an entry that is folded into itself alone, and the slots are gathered of all into which
 -- those are folded that the others tell of.
 pub record Parted (m : Memory) (into : ℕ → List ℕ) (edges : List Edge) (slots : List ℕ) (kept : List Edge) : Type 0 where
-  pub has : (x y : Edge) → Contains edges x → is_current m x ≡ true → Contains (into x.slot) y.slot → is_current m y ≡ true → Contains kept y ⊎ Contains slots y.slot
+  pub has : (x y : Edge) → Contains edges x → is_current m x ≡ true → Contains (into x.slot) y.slot → is_current m y ≡ true
+      → Contains kept y ⊎ Contains slots y.slot
   pub from : (y : Edge) → Contains kept y → (is_current m y ≡ true) × HasUser (is_current m) into edges y.slot
   pub users : (r : ℕ) → Contains slots r → HasUser (is_current m) into edges r
 
