@@ -10,4 +10,5 @@ pub mod Places
 pub mod Reheld
 pub mod Relinking
 pub mod Rerun
+pub mod Single
 pub mod Walking
