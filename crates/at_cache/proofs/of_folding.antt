@@ -11,4 +11,5 @@ pub mod Reheld
 pub mod Relinking
 pub mod Rerun
 pub mod Single
+pub mod Taken
 pub mod Walking

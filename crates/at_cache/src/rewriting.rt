@@ -364,6 +364,7 @@ pub fn rewrite(
     entries: &Table,
     plan: &[Links],
     lone: &Lone,
+    room: &mut Room,
     readers: &mut Vec<Facets>,
 ) -> Result<(), AllocError>
     requires lone { AreLone (is_current (memory_of entries.now)) (slots_at plan.now) lone.now.none lone.now.stamps.items }
@@ -371,10 +372,9 @@ pub fn rewrite(
         (edges_at readers.old.items l) (edges_at readers.new.items l)) }
     ensures len { length readers.new.items ≡ length readers.old.items }
 {
-    let mut room = Room::new(alloc, plan.len())?;
     for number in 0..readers.len() {
         let list = &mut readers[number];
-        rewrite_node(alloc, entries, plan, lone, &mut room, list)?;
+        rewrite_node(alloc, entries, plan, lone, room, list)?;
     }
     readers.shrink_to_fit();
     Ok(())
