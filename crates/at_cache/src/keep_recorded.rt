@@ -223,6 +223,10 @@ impl Keeper for KeepRecorded {
         )
     }
 
+    fn has_trace(&self, _inst: &Inst) -> bool {
+        false
+    }
+
     fn settle(&mut self, _inst: &Inst, work: u64) -> u64 {
         work
     }

@@ -343,8 +343,8 @@ fn are_same(old: &Option<Value>, new: &Option<Value>) -> bool
     }
 }
 
-// The slot of what stands at the place, if anything does.
-fn slot_at(entries: &IndexMap<Inst, Entry>, place: usize) -> Option<Slot>
+/// The slot of what stands at the place, if anything does.
+pub fn slot_at(entries: &IndexMap<Inst, Entry>, place: usize) -> Option<Slot>
     ensures { result ≡ option_map (λ e. e.1.slot) (slice_get entries.now.entries place) }
 {
     match entries.get_index(place) {

@@ -80,7 +80,8 @@ impl<K: Keeper> Demand<K> {
     ) -> Result<Answer, AllocError>
         requires { CanBeAsked rules.now store.now (K.contents self.old.keeper) (K.memories self.old.keeper) inst.now }
         ensures { IsAnswered rules.now store.now K.exact (K.contents self.old.keeper) (K.contents self.new.keeper)
-            (K.memories self.old.keeper) (K.memories self.new.keeper) self.old.work self.new.work inst.now result self.new.in_turns self.old.made self.new.made }
+            (K.memories self.old.keeper) (K.memories self.new.keeper) self.old.work self.new.work inst.now result
+            self.new.in_turns self.old.made self.new.made }
     {
         if let Some(value) = self.keeper.get(inst) {
             return Ok(Answer::Value(value.copy()?));
@@ -105,7 +106,8 @@ impl<K: Keeper> Demand<K> {
     ) -> Result<Answer, AllocError>
         requires { CanBeAsked rules.now store.now (K.contents self.old.keeper) (K.memories self.old.keeper) inst.now }
         ensures { IsAnswered rules.now store.now K.exact (K.contents self.old.keeper) (K.contents self.new.keeper)
-            (K.memories self.old.keeper) (K.memories self.new.keeper) self.old.work self.new.work inst.now result self.new.in_turns self.old.made self.new.made }
+            (K.memories self.old.keeper) (K.memories self.new.keeper) self.old.work self.new.work inst.now result
+            self.new.in_turns self.old.made self.new.made }
     {
         self.in_turns = false;
         let at_once = self.answer_at_once(rules, store, inst)?;
@@ -303,7 +305,7 @@ impl<K: Keeper> Demand<K> {
             Some(value.copy()?),
             reads,
             uses,
-            Order::InTurns,
+            Order::Any,
         )?;
         self.work = self.work.saturating_add(1);
         self.made = self.made.saturating_add(1);

@@ -100,7 +100,7 @@ impl<K: Keeper> Demand<K> {
         let reads = sources.reads.as_slice();
         let put = self
             .keeper
-            .put(inst.copy(self.alloc)?, None, reads, uses, Order::InTurns)?;
+            .put(inst.copy(self.alloc)?, None, reads, uses, Order::Any)?;
         Ok(put == Put::Kept)
     }
 }
