@@ -54,6 +54,6 @@ pub kept_same : (lists : Location ℕ → List Edge) (old new : Table) (puts : �
     → ((k : ℕ) → memory_of new k ≡ memory_of old k) → (i : Instance ℕ) → kept_in lists new puts i ≡ kept_in lists old puts i
 kept_same lists old new puts entries same i =
     ap (λ (m : Memory). option_map (λ (e : Entry). record { value = option_map value_view e.value; covers = covers lists m puts e.slot })
-        (lookup (same_instance i) new.entries.entries)) (λ n k. same k n)
+    (lookup (same_instance i) new.entries.entries)) (λ n k. same k n)
     ∙ ap (λ es. option_map (λ (e : Entry). record { value = option_map value_view e.value; covers = covers lists (memory_of old) puts e.slot })
-        (lookup (same_instance i) es.entries)) entries
+    (lookup (same_instance i) es.entries)) entries

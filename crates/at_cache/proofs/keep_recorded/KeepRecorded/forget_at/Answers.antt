@@ -18,15 +18,15 @@ invariant_of-self g c = record {
 pub returns-clause-leaves : goal.returns-clause-leaves
 returns-clause-leaves g c = subst
     (LeavesUntouched (Answers (goal.F-post g c.args.touched.now))
-        (kept_in (edges_to c.args.self.now.readers) c.args.self.now.entries c.args.self.now.puts))
+    (kept_in (edges_to c.args.self.now.readers) c.args.self.now.entries c.args.self.now.puts))
     (λ n i. sym (kept_same (edges_to c.args.self.now.readers) c.take_out_at.new.entries c.order_slots.new.self c.args.self.now.puts
-        c.order_slots.ensures.entries c.order_slots.ensures.same i) n)
+    c.order_slots.ensures.entries c.order_slots.ensures.same i) n)
     (c.take_out_at.ensures.leaves c.args.self.now.puts c.args.self.now.indexed)
 
 pub returns-clause-loses : goal.returns-clause-loses
 returns-clause-loses g c = subst
     (LosesTouched (Answers (goal.F-post g c.args.touched.now))
-        (kept_in (edges_to c.args.self.now.readers) c.args.self.now.entries c.args.self.now.puts))
+    (kept_in (edges_to c.args.self.now.readers) c.args.self.now.entries c.args.self.now.puts))
     (λ n i. sym (kept_same (edges_to c.args.self.now.readers) c.take_out_at.new.entries c.order_slots.new.self c.args.self.now.puts
-        c.order_slots.ensures.entries c.order_slots.ensures.same i) n)
+    c.order_slots.ensures.entries c.order_slots.ensures.same i) n)
     (c.take_out_at.ensures.loses c.args.self.now.puts c.args.self.now.indexed)
