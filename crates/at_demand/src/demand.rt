@@ -81,7 +81,8 @@ impl<K: Keeper> Demand<K> {
     ) -> Result<Answer, AllocError>
         requires { CanBeAsked rules.now store.now (K.contents self.old.keeper) (K.memories self.old.keeper) inst.now }
         ensures { IsAnswered rules.now store.now K.exact (K.contents self.old.keeper) (K.contents self.new.keeper)
-            (K.memories self.old.keeper) (K.memories self.new.keeper) self.old.work self.new.work inst.now result self.new.in_turns self.old.made self.new.made }
+            (K.memories self.old.keeper) (K.memories self.new.keeper) self.old.work self.new.work inst.now result self.new.in_turns
+            self.old.made self.new.made }
     {
         if let Some(value) = self.keeper.get(inst) {
             return Ok(Answer::Value(value.copy()?));
@@ -106,7 +107,8 @@ impl<K: Keeper> Demand<K> {
     ) -> Result<Answer, AllocError>
         requires { CanBeAsked rules.now store.now (K.contents self.old.keeper) (K.memories self.old.keeper) inst.now }
         ensures { IsAnswered rules.now store.now K.exact (K.contents self.old.keeper) (K.contents self.new.keeper)
-            (K.memories self.old.keeper) (K.memories self.new.keeper) self.old.work self.new.work inst.now result self.new.in_turns self.old.made self.new.made }
+            (K.memories self.old.keeper) (K.memories self.new.keeper) self.old.work self.new.work inst.now result self.new.in_turns
+            self.old.made self.new.made }
     {
         self.in_turns = false;
         let at_once = self.answer_at_once(rules, store, inst)?;

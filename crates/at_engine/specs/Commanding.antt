@@ -19,7 +19,8 @@ pub record Continues {K : Type 0} (entries : K → Entries) (memories : K → Me
   pub known : Knows old → Knows new
 
 -- What is told follows from the verdict, and so does the state; where memory ran out, that is as it was. What was kept spare is
--- so still, and it is what the verdict leaves and adds; and what was made is made for a cause.
+-- so still, and it is what the verdict leaves and adds; and nothing but questions, turns and edits
+-- led to what can be kept again.
 pub record Fulfils {K E : Type 0} (exact : Bool) (entries : K → Entries) (memories : K → Memories)
     (old : Engine K) (v : Verdict) (result : Result Form E) (new : Engine K) : Type 0 where
   pub obeys : IfOk result (λ f. Follows (rules_of old) (state_of old) v f (state_of new))

@@ -11,7 +11,8 @@ use Rattle.at_engine.specs.Making.{WentOn}
 use Rattle.at_engine.specs.declared.engine.Engine.{Engine}
 
 -- A call that appends to `out` has done that; or room for 64 bytes was refused, and nothing has changed. The engine is sound, and its
--- rules and how many turns follow each line are as they were; and what was made is made for a cause.
+-- rules and how many turns follow each line are as they were; and nothing but questions, turns and edits
+-- led to what can be kept again.
 pub record Calls {K T E : Type 0} (exact : Bool) (entries : K → Entries) (memories : K → Memories)
     (old new : Engine K) (out next : Vec ℕ Global)
     (Done : T → Type 0) (result : Result T E) : Type 0 where

@@ -27,7 +27,7 @@ use Rattle.at_demand.proofs.Extending.{extends_on}
 use Rattle.at_demand.proofs.Sameness.{same_true}
 use Rattle.at_demand.proofs.There.{found_once}
 use Rattle.at_demand.proofs.of_groups.KeptOrFound.{found_known}
-use Rattle.at_demand.proofs.of_traces.InTurns.{puts_same, puts_then}
+use Rattle.at_demand.proofs.of_traces.TurnsPut.{puts_same, puts_then}
 
 -- what is looked up was found
 found_at : (fs : List (Instance ℕ × Find)) (i : Instance ℕ) (f : Find) → lookup (same_instance i) fs ≡ Some f →

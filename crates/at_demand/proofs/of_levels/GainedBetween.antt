@@ -29,7 +29,7 @@ use Rattle.at_demand.proofs.Entered.{entered, entered_on, is_there, kept_on, not
 use Rattle.at_demand.proofs.Extending.{extends_on, get_more}
 use Rattle.at_demand.proofs.Recalling.{known_found, known_kept}
 use Rattle.at_demand.proofs.There.{found_once, led_there}
-use Rattle.at_demand.proofs.of_traces.InTurns.{puts_same, puts_then}
+use Rattle.at_demand.proofs.of_traces.TurnsPut.{puts_same, puts_then}
 
 -- what is told is of instances that levels under way have seen, and to which what was asked leads
 module _ {Whole : Type 0} (rules : Rules) (s : Shown) (exact : Bool) (before after : Entries) (former latter : Memories) (earlier later : ℕ) (old new : Question)

@@ -48,7 +48,7 @@ use Rattle.at_demand.proofs.Entered.{is_there, kept_on, not_none}
 use Rattle.at_demand.proofs.Keys.{is_key, no_key}
 use Rattle.at_demand.proofs.Marking.{told_among}
 use Rattle.at_demand.proofs.Recalling.{known_kept}
-use Rattle.at_demand.proofs.of_traces.InTurns.{puts_same}
+use Rattle.at_demand.proofs.of_traces.TurnsPut.{puts_same}
 
 -- formulas lead on
 pub led_on : {N : Type 0} (E : Ending N) (i j k : Instance N) → LeadsOver E i j → LeadsOver E j k → LeadsOver E i k

@@ -41,7 +41,7 @@ use Rattle.at_demand.proofs.of_levels.StayingOn.{stays_same, stays_then, stays_t
 use Rattle.at_demand.proofs.of_steps.Met.{have_more, met_more}
 use Rattle.at_demand.proofs.of_steps.TriedTold.{adds_now, asked_told, followed_told, known_or_told, stands_since, told_now}
 use Rattle.at_demand.proofs.of_steps.TryUnderWay.{IsTrying, with_told}
-use Rattle.at_demand.proofs.of_traces.InTurns.{puts_then}
+use Rattle.at_demand.proofs.of_traces.TurnsPut.{puts_then}
 
 abbrev with_outcome : Outcome ℕ → Instance ℕ → Instance ℕ × Outcome ℕ
 with_outcome o i = (i, o)

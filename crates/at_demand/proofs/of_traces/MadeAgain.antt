@@ -10,7 +10,7 @@ use Rattle.at_demand.specs.InTurns.{CountsKept, PutsInTurns}
 use Rattle.at_demand.specs.Made.{Makes}
 use Rattle.at_demand.specs.Touched.{Touches}
 use Rattle.at_demand.specs.Went.{HasCause, Went, asked, before_edit, before_question, before_turns, begun, edited, outdated, put_in_turns, touched, turned}
-use Rattle.at_demand.proofs.of_traces.InTurns.{spared_in_turns}
+use Rattle.at_demand.proofs.of_traces.TurnsPut.{spared_in_turns}
 
 module _ (old : Memories) (first : ℕ) (i : Instance ℕ) (t : Trace) (before : old.traced i ≡ Some t) where
   at_question : (n o : Memories) (e f : Entries) (k l : ℕ) (w : Went old first n k) (x : Makes e f n o k l)

@@ -177,6 +177,7 @@ impl<K: Keeper> Demand<K> {
 
     // Tries the equation of the last instance, which isn't kept, up to its end or to the demand of an instance that isn't known and has no
     // fault yet.
+    #[tactic(auto, using(crate::proofs::of_traces::TurnsPut::puts_same))]
     fn try_last<'a>(
         &mut self,
         rules: &'a Rules,
@@ -272,6 +273,7 @@ impl<K: Keeper> Demand<K> {
     }
 
     // Goes on with the trial of an instance that isn't kept, up to its end or to an instance that isn't known.
+    #[tactic(auto, using(crate::proofs::of_traces::TurnsPut::puts_same))]
     fn carry_on<'a>(
         &mut self,
         rules: &'a Rules,

@@ -15,7 +15,7 @@ use Rattle.at_engine.specs.Telling.{IsToldOf}
 use Rattle.at_engine.specs.declared.engine.Engine.{Engine}
 use Rattle.at_engine.specs.declared.engine.editing.Obstacle.{Obstacle}
 use Rattle.at_engine.proofs.Storing.{on_err}
-use Rattle.at_engine.proofs.of_keeping.Going.{went_same}
+use Rattle.at_engine.proofs.of_keeping.GoneOn.{went_same}
 use Rattle.at_engine.proofs.of_keeping.KeepingLemmas.{IsQuiet, any_obstacle_quiet, failed_spares, quiet_spares, refused_quiet, stays_spare}
 
 -- where all is as it was

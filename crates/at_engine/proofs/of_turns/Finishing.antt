@@ -34,7 +34,7 @@ use Rattle.at_engine.specs.declared.engine.Engine.{Engine}
 use Rattle.at_engine.specs.declared.engine.saying.Told.{Told}
 use Rattle.at_engine.specs.declared.posts.Posted.{Posted}
 use Rattle.at_engine.specs.declared.engine.turning.Spent.{Spent}
-use Rattle.at_engine.proofs.of_keeping.Going.{went_along}
+use Rattle.at_engine.proofs.of_keeping.GoneOn.{went_along}
 use Rattle.at_engine.proofs.of_turns.Counted.{counts_refused, counts_same, out_behind, silent_same, some_given, some_silent}
 use Rattle.at_engine.proofs.of_turns.Openings.{TurnTold, gone, is_numbered, told_err, told_ok}
 use Rattle.at_engine.proofs.Positions.{get_set, there_at}

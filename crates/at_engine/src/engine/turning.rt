@@ -115,6 +115,7 @@ impl<K: Keeper> Engine<K> {
 
     /// Gives up to so many turns to the open question with the least number, or, without a limit, as many as it needs, and
     /// appends the line with its answer, where it has one.
+    #[tactic(auto, using(crate::proofs::of_keeping::GoneOn::went_still))]
     pub(crate) fn give(
         &mut self,
         limit: Option<u64>,

@@ -17,7 +17,7 @@ use Rattle.at_engine.proofs.of_turns.Giving.{few_open}
 use Rattle.at_engine.proofs.of_keeping.KeepingBytes.{keeps_more, keeps_none, keeps_run}
 use Rattle.at_engine.proofs.Remembering.{counted_on, no_call, none_counted, not_zero, then_calls}
 use Rattle.at_engine.proofs.Takings.{took_nothing, took_more, takes_under, stopped_later, stops_under}
-use Rattle.at_engine.proofs.of_keeping.Going.{went_over}
+use Rattle.at_engine.proofs.of_keeping.GoneOn.{went_over}
 use Rattle.at_engine.proofs.Runnings.{ended, broke_off, cut_off, cut_off_at_end, at_end, finished_under, finish_stops_under}
 use Rattle.at_engine.proofs.stream.run_with.Goals as goal
 

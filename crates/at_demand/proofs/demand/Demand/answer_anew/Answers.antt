@@ -9,7 +9,7 @@ use Rattle.at_demand.specs.Sparing.{HasWorthy}
 use Rattle.at_demand.proofs.Standing.{sound_more}
 use Rattle.at_demand.proofs.of_nesting.InnerAnswered.{answered_after, answered_by}
 use Rattle.at_demand.proofs.of_nesting.InnerGains.{known_none}
-use Rattle.at_demand.proofs.of_traces.InTurns.{went_made, went_then}
+use Rattle.at_demand.proofs.of_traces.TurnsPut.{went_made, went_then}
 use Rattle.at_demand.proofs.of_traces.Putting.{traced_then}
 use Rattle.at_demand.proofs.demand.Demand.answer_anew.Goals as goal
 

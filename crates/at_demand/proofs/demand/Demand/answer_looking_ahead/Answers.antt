@@ -20,7 +20,7 @@ use Rattle.at_demand.proofs.of_nesting.InnerAnswered.{answered_by}
 use Rattle.at_demand.proofs.of_nesting.InnerGains.{gains_none, known_none}
 use Rattle.at_demand.proofs.of_steps.Ahead.{broken_turned, gains_ahead, gains_turned, posted_asked, sound_ahead, sound_turned, spares_ahead, stands_ahead, traced_ahead, traced_turned}
 use Rattle.at_demand.proofs.of_levels.Resolving.{keeps_groups}
-use Rattle.at_demand.proofs.of_traces.InTurns.{puts_stay, went_then, went_turned}
+use Rattle.at_demand.proofs.of_traces.TurnsPut.{puts_stay, went_then, went_turned}
 use Rattle.at_demand.proofs.of_traces.Putting.{traced_same}
 use Rattle.at_demand.proofs.demand.Demand.answer_looking_ahead.Goals as goal
 

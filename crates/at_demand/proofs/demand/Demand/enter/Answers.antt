@@ -3,7 +3,7 @@ use Rattle.at_store.specs.Located.{loc_view}
 use Rattle.at_model.specs.Run.{Instance}
 use Rattle.at_cache.specs.Kept.{AreKept, HasPut}
 use Rattle.at_demand.proofs.Entering.{shares_none, shares_put}
-use Rattle.at_demand.proofs.of_traces.InTurns.{puts_one, puts_same}
+use Rattle.at_demand.proofs.of_traces.TurnsPut.{puts_one, puts_same}
 use Rattle.at_demand.proofs.demand.Demand.enter.Goals as goal
 
 pub put-requires-clause-present : goal.put-requires-clause-present

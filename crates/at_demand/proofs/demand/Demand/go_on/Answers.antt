@@ -16,7 +16,7 @@ use Rattle.at_demand.specs.Attempts.{HasFound}
 use Rattle.at_demand.proofs.Gaining.{gain_none, settled_still, worthy_none}
 use Rattle.at_demand.proofs.Counting.{counts_none}
 use Rattle.at_demand.proofs.Attempted.{has_found, has_failed, has_needed, right_added, right_stays, worthy_added, spare_added, settled_added}
-use Rattle.at_demand.proofs.of_traces.InTurns.{puts_same}
+use Rattle.at_demand.proofs.of_traces.TurnsPut.{puts_same}
 use Rattle.at_demand.proofs.demand.Demand.go_on.Goals as goal
 
 none_kept : (entries : Entries) → AreValued entries []

@@ -7,7 +7,7 @@ use Rattle.at_cache.specs.Kept.{AreKept, HasPut}
 use Rattle.at_demand.proofs.Entered.{absent, all_entered}
 use Rattle.at_demand.proofs.Gaining.{told_lazy}
 use Rattle.at_demand.proofs.Putting.{adds, gains, covers_all, covers_only, keeps_alone, keeps_with, left_out, none_below, placed_alone, placed_with, plain_after, put_as, says_alone, says_with}
-use Rattle.at_demand.proofs.of_traces.InTurns.{puts_same}
+use Rattle.at_demand.proofs.of_traces.TurnsPut.{puts_same}
 use Rattle.at_demand.proofs.demand.Demand.keep.Goals as goal
 
 pub keep_with-requires : goal.keep_with-requires

@@ -7,7 +7,7 @@ use Rattle.at_demand.proofs.Counting.{counts_after, counts_shared}
 use Rattle.at_demand.proofs.Entered.{absent}
 use Rattle.at_demand.proofs.Putting.{put_as}
 use Rattle.at_demand.proofs.Entering.{shares_none, shares_on}
-use Rattle.at_demand.proofs.of_traces.InTurns.{puts_then}
+use Rattle.at_demand.proofs.of_traces.TurnsPut.{puts_then}
 use Rattle.at_demand.proofs.demand.Demand.keep_with.Goals as goal
 
 pub put-requires-clause-present : goal.put-requires-clause-present

@@ -2,7 +2,7 @@ use Rattle.std.proofs.Common.{[]}
 use Rattle.at_demand.specs.InParts.{held}
 use Rattle.at_demand.proofs.of_nesting.Grown.{grown_settled, held_after}
 use Rattle.at_demand.proofs.of_nesting.InnerGains.{gains_then}
-use Rattle.at_demand.proofs.of_traces.InTurns.{went_again, went_made, went_then}
+use Rattle.at_demand.proofs.of_traces.TurnsPut.{went_again, went_made, went_then}
 use Rattle.at_demand.proofs.of_traces.Putting.{traced_then}
 use Rattle.at_demand.proofs.demand.Demand.look_ahead.Goals as goal
 

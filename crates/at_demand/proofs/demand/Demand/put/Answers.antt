@@ -5,7 +5,7 @@ use Rattle.at_store.specs.Located.{loc_view}
 use Rattle.at_body.specs.Values.{value_view}
 use Rattle.at_cache.specs.Kept.{HasPut}
 use Rattle.at_demand.proofs.Counting.{counts_none, counts_put, counts_same}
-use Rattle.at_demand.proofs.of_traces.InTurns.{puts_one, puts_same}
+use Rattle.at_demand.proofs.of_traces.TurnsPut.{puts_one, puts_same}
 use Rattle.at_demand.proofs.demand.Demand.put.Goals as goal
 
 pub returns : goal.returns

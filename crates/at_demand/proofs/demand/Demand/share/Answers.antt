@@ -2,7 +2,7 @@ use Rattle.std.proofs.Common.{false, refl, sym}
 use Rattle.at_demand.proofs.Gaining.{told_lazy}
 use Rattle.at_demand.proofs.Entered.{none_entered}
 use Rattle.at_demand.proofs.Entering.{shares_none}
-use Rattle.at_demand.proofs.of_traces.InTurns.{puts_same}
+use Rattle.at_demand.proofs.of_traces.TurnsPut.{puts_same}
 use Rattle.at_demand.proofs.demand.Demand.share.Goals as goal
 
 pub enter-requires : goal.enter-requires

@@ -1,6 +1,6 @@
 use Rattle.std.proofs.Common.{◌∙◌, refl}
 use Rattle.at_demand.proofs.Entering.{founds_on, shares_none, shares_on}
-use Rattle.at_demand.proofs.of_traces.InTurns.{puts_same, puts_then}
+use Rattle.at_demand.proofs.of_traces.TurnsPut.{puts_same, puts_then}
 use Rattle.at_demand.proofs.demand.Demand.share_all.Goals as goal
 
 pub loop-position-init : goal.loop-position-init

@@ -11,7 +11,7 @@ use Rattle.at_demand.proofs.of_steps.TryingOn.{can_carry, can_close_last, can_fa
 use Rattle.at_demand.proofs.of_steps.TryingOn.{carry_fails, closed_last, deeper_from, fails_last, forms_last, known_fewer, known_goes, resolve_fails, spoilt_last}
 use Rattle.at_demand.proofs.of_steps.TryUnderWay.{IsTrying}
 use Rattle.at_demand.proofs.of_steps.ValueTried.{found_last, kept_last}
-use Rattle.at_demand.proofs.of_traces.InTurns.{puts_then}
+use Rattle.at_demand.proofs.of_traces.TurnsPut.{puts_then}
 use Rattle.at_demand.proofs.demand.Demand.try_last.Goals as goal
 
 pub loop-value-init : goal.loop-value-init

@@ -1,7 +1,7 @@
 use Rattle.at_demand.specs.Went.{begun}
 use Rattle.at_demand.proofs.Fitting.{none_fit}
 use Rattle.at_demand.proofs.of_steps.TurnedBehind.{can_behind, turned_behind}
-use Rattle.at_demand.proofs.of_traces.InTurns.{puts_stay, went_on}
+use Rattle.at_demand.proofs.of_traces.TurnsPut.{puts_stay, went_on}
 use Rattle.at_demand.proofs.of_traces.Justified.{stay_then}
 use Rattle.at_demand.proofs.demand.Demand.turn.Goals as goal
 

@@ -5,7 +5,7 @@ use Rattle.at_demand.proofs.of_steps.Counted.{broken_on}
 use Rattle.at_demand.proofs.of_steps.KeptIn.{goes_along}
 use Rattle.at_demand.proofs.of_steps.PassedOn.{none_is, not_none_level, passed_over}
 use Rattle.at_demand.proofs.of_steps.Turning.{gains_none}
-use Rattle.at_demand.proofs.of_traces.InTurns.{puts_same}
+use Rattle.at_demand.proofs.of_traces.TurnsPut.{puts_same}
 use Rattle.at_demand.proofs.demand.Demand.turn_on.Goals as goal
 
 pub returns-in_err-value : goal.returns-in_err-value

@@ -4,7 +4,7 @@ use Rattle.at_model.specs.Run.{Instance}
 use Rattle.at_demand.specs.Known.{kept_values}
 use Rattle.at_demand.proofs.of_levels.Resolving.{keeps_groups}
 use Rattle.at_demand.proofs.of_steps.Turning.{answered_on, broken_off, counted_on, gains_none, kept_off}
-use Rattle.at_demand.proofs.of_traces.InTurns.{puts_same}
+use Rattle.at_demand.proofs.of_traces.TurnsPut.{puts_same}
 use Rattle.at_demand.proofs.demand.Demand.turn_unless_kept.Goals as goal
 
 pub returns-in_err-copy : goal.returns-in_err-copy

@@ -1,4 +1,4 @@
-use Rattle.at_demand.proofs.of_traces.InTurns.{counted_kept}
+use Rattle.at_demand.proofs.of_traces.TurnsPut.{counted_kept}
 use Rattle.at_demand.proofs.demand.Demand.turn_with.Goals as goal
 
 pub returns : goal.returns

@@ -8,7 +8,7 @@ use Rattle.at_demand.proofs.Fitting.{fit_grown, none_fit}
 use Rattle.at_demand.proofs.of_steps.Given.{given_all, given_answered, given_broken, given_more, given_none, given_settled}
 use Rattle.at_demand.proofs.of_steps.KeptAgain.{again_stays, settled_again}
 use Rattle.at_demand.proofs.of_levels.Resolving.{keeps_groups}
-use Rattle.at_demand.proofs.of_traces.InTurns.{puts_stay, went_on}
+use Rattle.at_demand.proofs.of_traces.TurnsPut.{puts_stay, went_on}
 use Rattle.at_demand.proofs.of_traces.Justified.{stay_same, stay_then}
 use Rattle.at_demand.proofs.demand.Demand.turns.Goals as goal
 

@@ -9,7 +9,7 @@ use Rattle.at_engine.specs.Engines.{rules_of}
 use Rattle.at_engine.specs.Keeping.{IsSpare}
 use Rattle.at_engine.specs.Telling.{IsSaid}
 use Rattle.at_engine.specs.Turning.{Came, told_of}
-use Rattle.at_engine.proofs.of_keeping.Going.{went_same}
+use Rattle.at_engine.proofs.of_keeping.GoneOn.{went_same}
 use Rattle.at_engine.proofs.of_turns.Finishing.{called, first_gone, gives_failed, gives_nothing, gives_silent, gives_told}
 use Rattle.at_engine.proofs.engine.Engine.give.Goals as goal
 

@@ -1,7 +1,7 @@
 use Rattle.std.proofs.Common.{◌≡◌, ◌<◌, length, arith, refl}
 use Rattle.std.proofs.lemmas.Bool.Decides.{nat_tests}
 use Rattle.at_engine.proofs.Attempting.{taken, taken_nowhere}
-use Rattle.at_engine.proofs.of_keeping.Going.{went_same}
+use Rattle.at_engine.proofs.of_keeping.GoneOn.{went_same}
 use Rattle.at_engine.proofs.engine.Engine.line.Goals as goal
 
 pub returns-then-is_empty : goal.returns-then-is_empty

@@ -5,7 +5,7 @@ use Rattle.at_demand.specs.Groups.{KeepsGroups}
 use Rattle.at_engine.specs.Engines.{rules_of}
 use Rattle.at_engine.specs.Turning.{Attends, HasGone}
 use Rattle.at_engine.specs.declared.engine.Engine.{Engine}
-use Rattle.at_engine.proofs.of_keeping.Going.{went_along}
+use Rattle.at_engine.proofs.of_keeping.GoneOn.{went_along}
 use Rattle.at_engine.proofs.of_turns.Finishing.{IsResult, never_silent, stays_there, waited}
 use Rattle.at_engine.proofs.engine.Engine.wait.Goals as goal
 

@@ -4,7 +4,7 @@ use Rattle.std.specs.declared.alloc.AllocError.{AllocError}
 use Rattle.at_demand.specs.declared.answer.Answer.{Answer as AnswerCode}
 use Rattle.at_store.specs.Shown.{contents}
 use Rattle.at_demand.specs.Went.{begun}
-use Rattle.at_demand.proofs.of_traces.InTurns.{went_then}
+use Rattle.at_demand.proofs.of_traces.TurnsPut.{went_then}
 use Rattle.at_demand.proofs.of_traces.Justified.{stay_justified}
 use Rattle.at_engine.specs.Turning.{HasTurnedUpTo}
 use Rattle.at_engine.proofs.of_turns.Settling.{as_one_record}

@@ -75,11 +75,14 @@ since_then k w x l most other d less is n more =
     summed k n (k + d) l most (omega (arith, all, less)) is (nat_lt (k + d) most) refl
 
 -- steps behind steps
+steps_then : (old : Memories) (j : ℕ) (mid : Memories) (k : ℕ) → Went old j mid k → (new : Memories) (l : ℕ) → Went mid k new l → Went old j new l
+steps_then old j mid k w _ _ begun = w
+steps_then old j mid k w _ _ (asked n o e f x y v h) = asked n o e f x y (steps_then old j mid k w n x v) h
+steps_then old j mid k w _ _ (turned n o e f x y v p c) = turned n o e f x y (steps_then old j mid k w n x v) p c
+steps_then old j mid k w _ _ (edited n o s x y v h) = edited n o s x y (steps_then old j mid k w n y v) h
+
 pub went_then : (old mid new : Memories) (j k l : ℕ) → Went old j mid k → Went mid k new l → Went old j new l
-went_then old mid _ j k _ w begun = w
-went_then old mid _ j k _ w (asked n o e f x y v h) = asked n o e f x y (went_then old mid n j k x w v) h
-went_then old mid _ j k _ w (turned n o e f x y v p c) = turned n o e f x y (went_then old mid n j k x w v) p c
-went_then old mid _ j k _ w (edited n o s x y v h) = edited n o s x y (went_then old mid n j k y w v) h
+went_then old mid new j k l w v = steps_then old j mid k w new l v
 
 pub went_made : (e f : Entries) (m n : Memories) (k l : ℕ) → Makes e f m n k l → Went m k n l
 went_made e f m n k l h = asked m n e f k l begun h

@@ -1,13 +1,16 @@
 -- How what can be kept again came to be what it is, over what an engine does.
-use Rattle.std.proofs.Common.{◌≡◌, Bool, refl, sym, subst}
+use Rattle.std.proofs.Common.{◌≡◌, ℕ, Bool, refl, sym, subst}
 use Rattle.at_cache.specs.Kept.{Entries}
 use Rattle.at_cache.specs.Traced.{Memories}
 use Rattle.at_demand.specs.declared.demand.Demand.{Demand}
 use Rattle.at_demand.specs.Went.{Went, begun}
-use Rattle.at_demand.proofs.of_traces.InTurns.{went_then}
+use Rattle.at_demand.proofs.of_traces.TurnsPut.{went_then}
 use Rattle.at_engine.specs.Making.{made_of, WentOn}
 use Rattle.at_engine.specs.Stepping.{GoesBy, by_line, by_turns, nowhere}
 use Rattle.at_engine.specs.declared.engine.Engine.{Engine}
+
+pub went_still : (m : Memories) (k : ℕ) → Went m k m k
+went_still m k = begun
 
 -- where it is the same for questions
 pub went_same : {K : Type 0} (exact : Bool) (memories : K → Memories) (old new : Engine K) → new.demand ≡ old.demand → WentOn exact memories old new
@@ -19,12 +22,6 @@ pub went_along : {K : Type 0} (exact : Bool) (memories : K → Memories) (old mi
     → WentOn exact memories old mid → WentOn exact memories old new
 went_along {K} exact memories old mid new same went is =
     subst (λ (d : Demand K). Went (memories old.demand.keeper) (made_of old) (memories d.keeper) d.made) (sym same) (went is)
-
--- or in front of it
-pub went_behind : {K : Type 0} (exact : Bool) (memories : K → Memories) (old mid new : Engine K) → mid.demand ≡ old.demand
-    → WentOn exact memories mid new → WentOn exact memories old new
-went_behind {K} exact memories old mid new same went is =
-    subst (λ (d : Demand K). Went (memories d.keeper) d.made (memories new.demand.keeper) (made_of new)) same (went is)
 
 went_both : {K : Type 0} (exact : Bool) (memories : K → Memories) (old mid new : Engine K) → WentOn exact memories old mid
     → WentOn exact memories mid new → WentOn exact memories old new
