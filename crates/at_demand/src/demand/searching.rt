@@ -211,7 +211,6 @@ impl<K: Keeper> Demand<K> {
     }
 
     // What is to be done with an instance that the search of the last level looks at.
-    #[tactic(auto, using(crate::proofs::of_traces::TurnsPut::puts_same))]
     fn look_at(
         &mut self,
         rules: &Rules,
@@ -231,7 +230,6 @@ impl<K: Keeper> Demand<K> {
 
     // What is known of an instance that isn't kept or found, and wasn't seen by the search that asks. Where all to which formulas lead from
     // it has ended it has an outcome, and else it is under way: it leads to the last one of its level.
-    #[tactic(auto, using(crate::proofs::of_traces::TurnsPut::puts_same))]
     pub(super) fn resolve(
         &mut self,
         rules: &Rules,
@@ -256,7 +254,6 @@ impl<K: Keeper> Demand<K> {
     }
 
     // What is known of an instance that isn't tried, and whose equation has ended, but isn't marked whole.
-    #[tactic(auto, using(crate::proofs::of_traces::TurnsPut::puts_same))]
     fn resolve_ended(
         &mut self,
         rules: &Rules,

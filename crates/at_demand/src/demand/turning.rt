@@ -177,7 +177,6 @@ impl<K: Keeper> Demand<K> {
 
     // Tries the equation of the last instance, which isn't kept, up to its end or to the demand of an instance that isn't known and has no
     // fault yet.
-    #[tactic(auto, using(crate::proofs::of_traces::TurnsPut::puts_same))]
     fn try_last<'a>(
         &mut self,
         rules: &'a Rules,

@@ -1,4 +1,4 @@
-use Rattle.std.proofs.Common.{Ok, refl, sym, subst}
+use Rattle.std.proofs.Common.{Ok, refl, rules, sym, subst}
 use Rattle.std.proofs.lemmas.Result.{err_from_is_err_and}
 use Rattle.std.specs.declared.alloc.AllocError.{AllocError}
 use Rattle.at_demand.specs.declared.demand.searching.Resolved.{Resolved}
@@ -11,7 +11,7 @@ use Rattle.at_demand.proofs.of_steps.TryingOn.{can_carry, can_close_last, can_fa
 use Rattle.at_demand.proofs.of_steps.TryingOn.{carry_fails, closed_last, deeper_from, fails_last, forms_last, known_fewer, known_goes, resolve_fails, spoilt_last}
 use Rattle.at_demand.proofs.of_steps.TryUnderWay.{IsTrying}
 use Rattle.at_demand.proofs.of_steps.ValueTried.{found_last, kept_last}
-use Rattle.at_demand.proofs.of_traces.TurnsPut.{puts_then}
+use Rattle.at_demand.proofs.of_traces.TurnsPut.{puts_same, puts_then}
 use Rattle.at_demand.proofs.demand.Demand.try_last.Goals as goal
 
 pub loop-value-init : goal.loop-value-init
@@ -277,3 +277,9 @@ returns-in-Open g c =
           c.deepen_last.new.question c.deepen_last.new.trials c.deepen_last.result c.deepen_last.ensures.none c.deepen_last.ensures.deeper;
       traces = (puts_then (g.K.Keeper.memories c.args.self.now.keeper) (g.K.Keeper.memories c.carry_on.new.self.keeper) (g.K.Keeper.memories c.resolve.new.self.keeper) (puts_then (g.K.Keeper.memories c.args.self.now.keeper) (g.K.Keeper.memories l.self.keeper) (g.K.Keeper.memories c.carry_on.new.self.keeper) l.invariant.gains.traces c.carry_on.ensures.traces) c.resolve.ensures.tells.traces);
     }
+
+pub returns-in_err-going : goal.returns-in_err-going
+returns-in_err-going g c = record {
+  turned = search rules;
+  traces = puts_same (g.K.Keeper.memories c.args.self.now.keeper);
+}

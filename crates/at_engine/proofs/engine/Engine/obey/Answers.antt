@@ -1,4 +1,4 @@
-use Rattle.std.proofs.Common.{◌∙◌, Result, Ok, refl, sym, subst}
+use Rattle.std.proofs.Common.{◌∙◌, Result, Ok, ap, refl, sym, subst}
 use Rattle.std.specs.declared.alloc.AllocError.{AllocError}
 use Rattle.std.proofs.lemmas.Option.{slice_get_within}
 use Rattle.std.proofs.lemmas.Result.{IfOk-weaker}
@@ -7,10 +7,11 @@ use Rattle.at_protocol.specs.LineView.{command_view, line_with}
 use Rattle.at_protocol.specs.declared.reply.Form.{Form}
 use Rattle.at_protocol.specs.declared.reply.Form.TheVariants as form
 use Rattle.at_demand.specs.Went.{begun}
-use Rattle.at_engine.specs.Engines.{rules_of, state_of}
+use Rattle.at_engine.specs.Engines.{rules_of, state_of, Knows}
 use Rattle.at_engine.specs.Keeping.{SparesVerdict}
 use Rattle.at_engine.specs.Following.{IsAtOnce}
 use Rattle.at_engine.specs.Hearing.{by_turns}
+use Rattle.at_engine.specs.declared.engine.Engine.{Engine}
 use Rattle.at_engine.proofs.Attempting.{heard_at_once}
 use Rattle.at_engine.proofs.FollowingLemmas.{as_verdict, told_at_once}
 use Rattle.at_engine.proofs.of_keeping.KeepingLemmas.{at_once_spares, refused_spares, turned_spares, waited_spares}
@@ -85,3 +86,13 @@ returns-in-Some-awaited-clause-went g c = c.wait.ensures.went
 
 pub returns-in-None-clause-went : goal.returns-in-None-clause-went
 returns-in-None-clause-went g c = c.command.ensures.went
+
+pub returns-in-Some-awaited-clause-stays : goal.returns-in-Some-awaited-clause-stays
+returns-in-Some-awaited-clause-stays g c =
+    let rest = c.wait.ensures.attends.rest in
+    record {
+      rules = ap (λ (x : Engine g.row.K.Denot). x.rules) rest;
+      slice = ap (λ (x : Engine g.row.K.Denot). x.slice) rest;
+      sound = c.wait.ensures.attends.sound;
+      known = λ k. subst (Knows {K = g.row.K.Denot}) (sym rest) k;
+    }
