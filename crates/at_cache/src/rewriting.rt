@@ -278,7 +278,7 @@ fn edges_in_place(entries: &Table, plan: &[Links], edges: &Edges) -> Option<Edge
     }
 }
 
-// A list that changes tells of those into which the entries are folded of which it told.
+// The list tells of those into which the entries are folded of which it told.
 #[inline(never)]
 fn change_list(
     alloc: Global,
@@ -300,7 +300,7 @@ fn change_list(
     }
 }
 
-/// The list tells of those into which the entries are folded of which it told. One that tells of nothing but what stays by itself is as it was.
+/// So does each list. One that tells of nothing but what stays by itself is as it was.
 #[inline(always)]
 pub fn rewrite_list(
     alloc: Global,
