@@ -1,5 +1,5 @@
 -- The trials that are kept beside a question fit its chain.
-use Rattle.std.proofs.Common.{◌≡◌, ℕ, List, [], ◌∷◌, ◌++◌, Option, Some, None, inl, inr, refl, sym, ap, ◌∙◌, subst, append_assoc, append-nil, arith}
+use Rattle.std.proofs.Common.{◌≡◌, ℕ, List, [], ◌∷◌, ◌++◌, Option, Some, None, inl, inr, refl, sym, ap, ◌∙◌, subst, append_assoc, append-nil, arith, true≢false}
 use Rattle.std.specs.Prelude.{IsSome}
 use Rattle.at_model.specs.Run.{Instance, Contents}
 use Rattle.at_model.specs.Rules.{Rules}
@@ -22,7 +22,7 @@ use Rattle.at_demand.specs.Covering.{Extends, IsTold}
 use Rattle.at_demand.specs.declared.trying.Going.{Going}
 use Rattle.at_demand.specs.declared.trying.Going.TheVariants as going
 use Rattle.at_demand.specs.Forming.{HasBegunTrying, waits_for}
-use Rattle.at_demand.specs.KeptTrials.{AllWait, AreTrials, Fit, FitAt, HasDropped, HasNoLast, HasTaken, frames_of, next_of, owners_of}
+use Rattle.at_demand.specs.KeptTrials.{AllWait, AreTrials, Fit, FitAt, HasDropped, HasEndedLast, HasNoLast, HasTaken, frames_of, next_of, owners_of}
 use Rattle.at_demand.specs.Known.{AreValued, KeepsEntries, meaning}
 use Rattle.at_demand.specs.Levels.{LevelCode, root_in}
 use Rattle.at_demand.specs.UnderWay.{left_of}
@@ -219,6 +219,22 @@ module _ (rules : Rules) (s : Shown) (entries : Entries) (q : Question) (old new
     | inr empty ↦ no_trials rules (class_shown s) (contents s) entries q.found.entries q.waiting.entries (root_in q.level q.inst) new.frames.items
         (t.frames ∙ empty)
   ])
+
+-- without the trial of the last one they fit its chain still
+pub ended_fit : (rules : Rules) (s : Shown) (entries : Entries) (q : Question) (old new : Trials) → HasEndedLast old
+    new → Fit rules s entries q old →
+    FitAt rules s entries q new.frames.items None
+ended_fit rules s entries q old new ended fit = elim ended.frames [
+  | inl (none, same) ↦ subst (λ fs. FitAt rules s entries q fs None) (sym same) (subst (λ o. FitAt rules s entries q
+      old.frames.items o) none fit)
+  | inr (some, dropped) ↦ by old.awaited some fit dropped
+]
+  where
+    by : (o : Option (Instance ℕ)) → IsSome o → FitAt rules s entries q old.frames.items o → HasDropped old new →
+        FitAt rules s entries q new.frames.items None
+    by None some h d = absurd (true≢false (sym some))
+    by (Some j) some h d = dropped_trials rules (class_shown s) (contents s) entries q.found.entries q.waiting.entries
+        (q.inst, q.level) j old new d h
 
 none_kept : (entries : Entries) → AreValued entries []
 none_kept entries u (n, less, at) = absurd (omega (arith, less))

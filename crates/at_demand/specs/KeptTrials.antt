@@ -1,5 +1,5 @@
 -- The trials that are kept beside a question while its turns follow each other.
-use Rattle.std.specs.Prelude.{◌≡◌, ◌⊎◌, ℕ, List, [], ◌∷◌, ◌++◌, map, Option, Some, None}
+use Rattle.std.specs.Prelude.{◌≡◌, ◌⊎◌, ℕ, List, [], ◌∷◌, ◌++◌, map, Option, Some, None, IsSome}
 use Rattle.at_model.specs.Run.{Instance, Contents}
 use Rattle.at_model.specs.Rules.{Rules}
 use Rattle.at_model.specs.TypedRuns.{ClassAt}
@@ -35,6 +35,12 @@ HasLast old new (Some p) = HasTaken old new p.0 p.1
 pub record HasDropped (old new : Trials) : Type 0 where
   pub none : new.awaited ≡ None
   pub frames : ((f : Trying) × (old.frames.items ≡ new.frames.items ++ f ∷ [])) ⊎ ((old.frames.items ≡ []) × (new.frames.items ≡ []))
+
+-- the trial of the last instance is gone, where there was one
+pub record HasEndedLast (old new : Trials) : Type 0 where
+  pub none : new.awaited ≡ None
+  pub frames : ((old.awaited ≡ None) × (new.frames.items ≡ old.frames.items)) ⊎ (IsSome old.awaited × HasDropped old
+      new)
 
 -- the root of the level of the first of these, or that one
 abbrev pub next_of : List ((Instance ℕ × LevelCode) × Trying) → Instance ℕ → Instance ℕ

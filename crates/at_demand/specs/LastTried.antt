@@ -16,7 +16,7 @@ use Rattle.at_demand.specs.declared.trying.Trying.{Trying}
 use Rattle.at_demand.specs.Answerable.{CanTurnWith}
 use Rattle.at_demand.specs.ChainSteps.{HasPassedOn, HasSettled, IsDeeper}
 use Rattle.at_demand.specs.Groups.{KeepsGroups}
-use Rattle.at_demand.specs.KeptTrials.{FitAfter}
+use Rattle.at_demand.specs.KeptTrials.{FitAfter, HasEndedLast}
 use Rattle.at_demand.specs.Known.{meaning}
 use Rattle.at_demand.specs.Levels.{IsFormOf}
 use Rattle.at_demand.specs.Searches.{GainsBetween, LeavesSo, TurnsBy}
@@ -28,6 +28,10 @@ AwaitsLast old t u = u ≡ record t { awaited = Some old.inst }
 -- the root of the last level is off with a value that came to be kept, and the trial of the one that waits is told of it
 abbrev pub IsPassedLast : (old new : Question) → (t u : Trials) → ValueCode → Option Answer → Type 0
 IsPassedLast old new t u v o = HasPassedOn old v new o × AwaitsLast old t u
+
+-- so it is with one that is kept, and is no longer tried
+abbrev pub IsPassedOver : (old new : Question) → (t u : Trials) → ValueCode → Option Answer → Type 0
+IsPassedOver old new t u v o = (mid : Trials) × HasEndedLast t mid × IsPassedLast old new mid u v o
 
 -- so it is with one that was found
 abbrev pub IsSettledLast : (old new : Question) → (t u : Trials) → Find → Option Answer → Type 0

@@ -1,7 +1,7 @@
 //! The trials that are kept beside a question while its turns follow each other, and what one try comes to.
 
 ghost use Rattle.std.specs.Prelude.{◌≡◌, ◌++◌, ◌∷◌, [], OnOk, None};
-ghost use Rattle.at_demand.specs.KeptTrials.{HasDropped, HasLast};
+ghost use Rattle.at_demand.specs.KeptTrials.{HasDropped, HasEndedLast, HasLast};
 
 use crate::evaluation::Find;
 use crate::trying::Trying;
@@ -67,6 +67,16 @@ impl<'a> Trials<'a> {
     {
         let _ = self.frames.pop();
         self.awaited = None;
+    }
+
+    // The trial of the last instance goes, where there is one; those of the others stay.
+    pub fn end_last(&mut self)
+        ensures { HasEndedLast self.old self.new }
+    {
+        if self.awaited.is_none() {
+            return;
+        }
+        self.drop_last();
     }
 
     // Lets all of them go.

@@ -19,7 +19,7 @@ ghost use Rattle.at_demand.specs.Attempts.{HasAttempted, IsGoing};
 ghost use Rattle.at_demand.specs.Searches.{CanSpoil, CanTryLast, CanTurnOn, HasSpoilt};
 ghost use Rattle.at_demand.specs.Tries.{CanCarryOn, HasCarriedOn};
 ghost use Rattle.at_demand.specs.KeptTrials.{Fit};
-ghost use Rattle.at_demand.specs.LastTried.{CanForm, HasFormed, IsDeeperLast, IsPassedLast, IsSettledLast};
+ghost use Rattle.at_demand.specs.LastTried.{CanForm, HasFormed, IsDeeperLast, IsPassedLast, IsPassedOver, IsSettledLast};
 ghost use Rattle.at_demand.specs.Traces.{AreJustified, StaysTraced};
 
 use super::Demand;
@@ -145,10 +145,10 @@ impl<K: Keeper> Demand<K> {
     {
         if let Some(value) = self.keeper.get(&question.inst) {
             let value = value.copy()?;
-            trials.forget();
             if question.level.is_none() {
-                return question.pass(value);
+                return pass_over(self.alloc, question, trials, value);
             }
+            trials.forget();
             return self.go_along(rules, store, question, trials);
         }
         self.try_last(rules, store, question, trials)
@@ -315,6 +315,19 @@ impl<K: Keeper> Demand<K> {
             Step::Need(needed) => Ok(Attempt::Needs(needed)),
         }
     }
+}
+
+// The last instance is kept with this value, and no longer tried: the trial of the one below is told of it.
+fn pass_over(
+    alloc: Global,
+    question: &mut Question,
+    trials: &mut Trials<'_>,
+    value: Value,
+) -> Result<Option<Answer>, AllocError>
+    ensures { IfOk result (IsPassedOver question.old question.new trials.old trials.new value) }
+{
+    trials.end_last();
+    pass_last(alloc, question, trials, value)
 }
 
 // The last instance came to be kept with this value: the trial of the one below is told of it.

@@ -38,8 +38,9 @@ returns-then-is_none g c =
     record {
       turned = passed_over c.args.rules.now c.args.store.now g.K.Keeper.exact a.answerable.basis entries c.args.self.now.work
           c.args.self.now.few a.answerable.plain (record { right = a.answerable.right; whole = a.wholes }) c.args.question.now a.standing
-          (none_is c.args.question.now.level c.is_none.result c.is_none.ensures c.if-is_none.true) c.in_ok-value.value kept c.pass.new.self c.forget.new.self
-          c.forget.ensures.frames c.forget.ensures.awaited c.pass.result c.pass.ensures;
+          (none_is c.args.question.now.level c.is_none.result c.is_none.ensures c.if-is_none.true) c.in_ok-value.value
+              kept c.pass_over.new.question
+          c.pass_over.new.trials c.args.trials.now c.requires.turns.fit c.pass_over.result c.pass_over.ensures;
       traces = stay_same (g.K.Keeper.memories c.args.self.now.keeper);
     }
 
