@@ -42,6 +42,7 @@ pub record IsDeeperLast (old new : Question) (t u : Trials) (f : Trying) (j : In
   pub deeper : IsDeeper old new j
   pub frames : u.frames.items ≡ t.frames.items ++ f ∷ []
   pub awaited : u.awaited ≡ t.awaited
+  pub noted : u.noted.entries ≡ t.noted.entries
 
 -- the equation of the last one gives that formula, which is recorded with what it looked at and took
 pub record CanForm (rules : Rules) (s : Shown) (entries : Entries) (q : Question) (t : Trials) (f : Formed) : Type 0 where

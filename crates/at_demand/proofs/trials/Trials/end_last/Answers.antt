@@ -9,10 +9,11 @@ none_of (Some x) b is e = absurd (true≢false (is ∙ ap not e))
 pub returns-then-is_none : goal.returns-then-is_none
 returns-then-is_none c =
     let none = none_of c.args.self.now.awaited c.is_none.result c.is_none.ensures c.if-is_none.true in
-    record { none = none; frames = inl (none, refl) }
+    record { none = none; frames = inl (none, refl); noted = refl }
 
 pub returns : goal.returns
 returns c = record {
   none = c.drop_last.ensures.none;
   frames = inr (c.is_none.ensures ∙ ap not c.if-is_none.false, c.drop_last.ensures);
+  noted = c.drop_last.ensures.noted;
 }
