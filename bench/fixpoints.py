@@ -35,6 +35,8 @@ STATEMENTS, LOOPS, VARIABLES, WANTED_LIVE = 1_000, 50, 8, 0.5
 MEMBERS = (1_000, 4_000, 16_000)
 # How much more of what is linear the largest may take for each than the smallest.
 GROWTH = 1.2
+# Of how many elements a fold is, and how much more each may take where a circular attribute asks for the fold than where it is asked for.
+ELEMENTS, ASKED = 2_000, 1.2
 # How many instructions more a program without circular attributes may take with the option.
 BESIDE = 1.03
 RING = """Ring ::= Item*;
@@ -49,6 +51,11 @@ RING_ASPECTS = """aspect Ring {
   inh Item Item.far();
   eq Ring.getItem(int i).far() = getItem((i * 7 + 3) % getNumItem());
   syn lazy boolean Item.isNoted() = getNote().equals("n");
+
+  syn lazy boolean Ring.hasOn() = exists (i : getItemList()) { i.isOn() };
+  syn boolean Item.isOn() = getOn();
+  syn boolean Ring.byKept() circular [false] = hasOn();
+  syn boolean Ring.byEach() circular [false] = exists (i : getItemList()) { i.isOn() };
 }
 """
 
@@ -170,19 +177,17 @@ class Fixpoints:
         print(f"for each value, {RULES[-1]} rules against {RULES[0]}: {self.bounds.at_most('nullable and first, growth', each[-1] / each[0], GROWTH)}")
 
     def sets(self) -> None:
-        """Nullable, first and follow of rings of rules; follow looks for the uses of a rule in all rules."""
+        """Nullable, first and follow of rings of rules; follow goes from one rule that names another to the next."""
         each: List[float] = []
         for count in RULES:
             files = self.grammar(count, sets_of(count))
             spent, (cost, unit), work = self.spent(files), self.cost(files), self.work(files)
-            # beside what is found: whether each symbol means each rule, and for each rule and sign whether each rule names it
-            demanded = work + 3 * count * count + len(SIGNS) * count * count
-            each.append(cost / demanded)
+            each.append(cost / work)
             told = f"{spent * 1000:.1f} ms"
             if count == WANTED_RULES:
                 told += f", {self.bounds.at_most('nullable, first and follow, in seconds', spent, WANTED_SETS)} s"
-            print(f"nullable, first and follow of {count} rules: {told}, {work:,} lazy values, {demanded:,} demands, {each[-1]:,.0f} {unit} for each", flush=True)
-        print(f"for each demand, {RULES[-1]} rules against {RULES[0]}: {self.bounds.at_most('sets, growth', each[-1] / each[0], GROWTH)}")
+            print(f"nullable, first and follow of {count} rules: {told}, {work:,} lazy values, {each[-1]:,.0f} {unit} for each", flush=True)
+        print(f"for each value, {RULES[-1]} rules against {RULES[0]}: {self.bounds.at_most('sets, growth', each[-1] / each[0], GROWTH)}")
 
     def live(self) -> None:
         """Live variables of a program with loops."""
@@ -205,6 +210,16 @@ class Fixpoints:
             each.append(cost / count)
             print(f"a component of {count:,} instances ({what}): {spent * 1000:.1f} ms, {each[-1]:,.0f} {unit} each", flush=True)
         print(f"  {MEMBERS[-1]:,} against {MEMBERS[0]:,}: {self.bounds.at_most(f'a component ({what}), growth', each[-1] / each[0], GROWTH)}")
+
+    def strictly(self) -> None:
+        """What the equation of a circular attribute wants as final values: a fold by an attribute that is kept, and a fold of its own."""
+        each: List[float] = []
+        for what in ("hasOn", "byKept", "byEach"):
+            cost, unit = self.cost(self.ring(ELEMENTS, f"0 ask / {what}()\n"))
+            each.append(cost / ELEMENTS)
+            print(f"a fold over {ELEMENTS:,} elements ({what}): {each[-1]:,.0f} {unit} each", flush=True)
+        ratio = self.bounds.at_most("a kept fold, asked for", each[1] / each[0], ASKED)
+        print(f"  asked for by a circular attribute, against by itself: {ratio}")
 
     def edits(self) -> None:
         """An edit beside a component evaluates none of it anew; one within it evaluates it once."""
@@ -236,6 +251,7 @@ def main(words: Sequence[str]) -> None:
         bench.edits()
         bench.component("hot")
         bench.component("cold")
+        bench.strictly()
         bench.live()
         bench.firsts()
         bench.sets()

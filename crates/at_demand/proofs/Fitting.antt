@@ -1,6 +1,10 @@
 -- The trials that are kept beside a question fit its chain.
-use Rattle.std.proofs.Common.{◌≡◌, ℕ, List, [], ◌∷◌, ◌++◌, Option, Some, None, inl, inr, refl, sym, ap, ◌∙◌, subst, append_assoc, append-nil, arith}
+use Rattle.std.proofs.Common.{◌≡◌, ℕ, List, [], ◌∷◌, ◌++◌, Option, Some, None, inl, inr, refl, sym, ap, ◌∙◌, subst, append_assoc, append-nil, arith, true≢false}
 use Rattle.std.specs.Prelude.{IsSome}
+use Rattle.std.specs.Map.{lookup}
+use Rattle.std.proofs.lemmas.Option.{none-some}
+use Rattle.at_body.specs.Same.{same_instance}
+use Rattle.at_search.specs.declared.ended.Fault.{Fault}
 use Rattle.at_model.specs.Run.{Instance, Contents}
 use Rattle.at_model.specs.Rules.{Rules}
 use Rattle.at_model.specs.TypedRuns.{ClassAt}
@@ -22,7 +26,7 @@ use Rattle.at_demand.specs.Covering.{Extends, IsTold}
 use Rattle.at_demand.specs.declared.trying.Going.{Going}
 use Rattle.at_demand.specs.declared.trying.Going.TheVariants as going
 use Rattle.at_demand.specs.Forming.{HasBegunTrying, waits_for}
-use Rattle.at_demand.specs.KeptTrials.{AllWait, AreTrials, Fit, FitAt, HasDropped, HasNoLast, HasTaken, frames_of, next_of, owners_of}
+use Rattle.at_demand.specs.KeptTrials.{AllWait, AreTrials, Fit, FitAt, HasDropped, HasEndedLast, HasNoLast, HasTaken, IsNotedRight, frames_of, next_of, owners_of}
 use Rattle.at_demand.specs.Known.{AreValued, KeepsEntries, meaning}
 use Rattle.at_demand.specs.Levels.{LevelCode, root_in}
 use Rattle.at_demand.specs.UnderWay.{left_of}
@@ -197,11 +201,27 @@ fit_grown rules s entries more grown q frames None fit = more_trials rules (clas
 fit_grown rules s entries more grown q frames (Some j) fit = more_trials rules (class_shown s) (contents s) entries more grown
     q.found.entries q.found.entries ([], sym (append-nil q.found.entries)) (q.waiting.entries ++ (q.inst, q.level) ∷ []) j frames fit
 
+-- where nothing is noted nothing is wrong
+pub none_noted : (rules : Rules) (look : Contents ℕ) (noted : List (Instance ℕ × Fault)) → noted ≡ [] → IsNotedRight
+    rules look noted
+none_noted rules look noted none i f is = let at = subst (λ ps. lookup (same_instance i) ps ≡ Some f) none is in
+    absurd (none-some f at)
+
+-- what is noted stays right
+pub noted_same : (rules : Rules) (look : Contents ℕ) (old new : List (Instance ℕ × Fault)) → new ≡ old → IsNotedRight
+    rules look old →
+    IsNotedRight rules look new
+noted_same rules look old new same right = subst (λ ps. IsNotedRight rules look ps) (sym same) right
+
 -- none fit any question
 pub none_fit : (rules : Rules) (s : Shown) (entries : Entries) (q : Question) (t : Trials) → t.frames.items ≡ [] → t.awaited ≡ None →
-    Fit rules s entries q t
-none_fit rules s entries q t none gone = subst (λ o. FitAt rules s entries q t.frames.items o) (sym gone)
-    (no_trials rules (class_shown s) (contents s) entries q.found.entries q.waiting.entries (root_in q.level q.inst) t.frames.items none)
+    IsNotedRight rules (contents s) t.noted.entries → Fit rules s entries q t
+none_fit rules s entries q t none gone noted = record {
+  chain = subst (λ o. FitAt rules s entries q t.frames.items o) (sym gone)
+      (no_trials rules (class_shown s) (contents s) entries q.found.entries q.waiting.entries (root_in q.level q.inst)
+          t.frames.items none);
+  noted = noted;
+}
 
 -- where the last one has a trial it was taken, and those of the others fit
 module _ (rules : Rules) (s : Shown) (entries : Entries) (q : Question) (old new : Trials) (fit : Fit rules s entries q old) where
@@ -209,16 +229,44 @@ module _ (rules : Rules) (s : Shown) (entries : Entries) (q : Question) (old new
       IsGoing rules (class_shown s) (contents s) entries q.found.entries q.inst (waits_for t j) × Fit rules s entries q new
   taken_fit t j taken =
       let there : FitAt rules s entries q (new.frames.items ++ t ∷ []) (Some j) =
-      subst (λ fs. FitAt rules s entries q fs (Some j)) taken.frames (subst (λ o. FitAt rules s entries q old.frames.items o) taken.awaited fit) in
-      let parts = pop_trial rules (class_shown s) (contents s) entries q.found.entries q.waiting.entries (q.inst, q.level) j new.frames.items t there in
-      (parts.1, subst (λ o. FitAt rules s entries q new.frames.items o) (sym taken.none) parts.0)
+      subst (λ fs. FitAt rules s entries q fs (Some j)) taken.frames (subst (λ o. FitAt rules s entries q
+          old.frames.items o) taken.awaited fit.chain) in
+      let parts = pop_trial rules (class_shown s) (contents s) entries q.found.entries q.waiting.entries (q.inst,
+          q.level) j new.frames.items t there in (
+        parts.1,
+        record {
+          chain = subst (λ o. FitAt rules s entries q new.frames.items o) (sym taken.none) parts.0;
+          noted = noted_same rules (contents s) old.noted.entries new.noted.entries taken.noted fit.noted;
+        },
+      )
 
   pub untaken_fit : HasNoLast old new → Fit rules s entries q new
-  untaken_fit t = subst (λ o. FitAt rules s entries q new.frames.items o) (sym t.none) (elim t.same [
-    | inl none ↦ subst (λ fs. FitAt rules s entries q fs None) (sym t.frames) (subst (λ o. FitAt rules s entries q old.frames.items o) none fit)
-    | inr empty ↦ no_trials rules (class_shown s) (contents s) entries q.found.entries q.waiting.entries (root_in q.level q.inst) new.frames.items
-        (t.frames ∙ empty)
-  ])
+  untaken_fit t = record {
+    chain = subst (λ o. FitAt rules s entries q new.frames.items o) (sym t.none) (elim t.same [
+      | inl none ↦ subst (λ fs. FitAt rules s entries q fs None) (sym t.frames) (subst (λ o. FitAt rules s entries q
+          old.frames.items o) none fit.chain)
+      | inr empty ↦ no_trials rules (class_shown s) (contents s) entries q.found.entries q.waiting.entries (root_in
+          q.level q.inst) new.frames.items
+          (t.frames ∙ empty)
+    ]);
+    noted = noted_same rules (contents s) old.noted.entries new.noted.entries t.noted fit.noted;
+  }
+
+-- without the trial of the last one they fit its chain still
+pub ended_fit : (rules : Rules) (s : Shown) (entries : Entries) (q : Question) (old new : Trials) → HasEndedLast old
+    new → Fit rules s entries q old →
+    FitAt rules s entries q new.frames.items None
+ended_fit rules s entries q old new ended fit = elim ended.frames [
+  | inl (none, same) ↦ subst (λ fs. FitAt rules s entries q fs None) (sym same) (subst (λ o. FitAt rules s entries q
+      old.frames.items o) none fit.chain)
+  | inr (some, dropped) ↦ by old.awaited some fit.chain dropped
+]
+  where
+    by : (o : Option (Instance ℕ)) → IsSome o → FitAt rules s entries q old.frames.items o → HasDropped old new →
+        FitAt rules s entries q new.frames.items None
+    by None some h d = absurd (true≢false (sym some))
+    by (Some j) some h d = dropped_trials rules (class_shown s) (contents s) entries q.found.entries q.waiting.entries
+        (q.inst, q.level) j old new d h
 
 none_kept : (entries : Entries) → AreValued entries []
 none_kept entries u (n, less, at) = absurd (omega (arith, less))

@@ -1,5 +1,6 @@
 -- Steps of a question.
 pub mod Met
+pub mod Noting
 pub mod Ahead
 pub mod Grown
 pub mod KeptAgain

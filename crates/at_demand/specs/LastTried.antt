@@ -16,7 +16,7 @@ use Rattle.at_demand.specs.declared.trying.Trying.{Trying}
 use Rattle.at_demand.specs.Answerable.{CanTurnWith}
 use Rattle.at_demand.specs.ChainSteps.{HasPassedOn, HasSettled, IsDeeper}
 use Rattle.at_demand.specs.Groups.{KeepsGroups}
-use Rattle.at_demand.specs.KeptTrials.{FitAfter}
+use Rattle.at_demand.specs.KeptTrials.{FitAfter, HasEndedLast}
 use Rattle.at_demand.specs.Known.{meaning}
 use Rattle.at_demand.specs.Levels.{IsFormOf}
 use Rattle.at_demand.specs.Searches.{GainsBetween, LeavesSo, TurnsBy}
@@ -29,6 +29,10 @@ AwaitsLast old t u = u ≡ record t { awaited = Some old.inst }
 abbrev pub IsPassedLast : (old new : Question) → (t u : Trials) → ValueCode → Option Answer → Type 0
 IsPassedLast old new t u v o = HasPassedOn old v new o × AwaitsLast old t u
 
+-- so it is with one that is kept, and is no longer tried
+abbrev pub IsPassedOver : (old new : Question) → (t u : Trials) → ValueCode → Option Answer → Type 0
+IsPassedOver old new t u v o = (mid : Trials) × HasEndedLast t mid × IsPassedLast old new mid u v o
+
 -- so it is with one that was found
 abbrev pub IsSettledLast : (old new : Question) → (t u : Trials) → Find → Option Answer → Type 0
 IsSettledLast old new t u f o = HasSettled old f new o × AwaitsLast old t u
@@ -38,6 +42,7 @@ pub record IsDeeperLast (old new : Question) (t u : Trials) (f : Trying) (j : In
   pub deeper : IsDeeper old new j
   pub frames : u.frames.items ≡ t.frames.items ++ f ∷ []
   pub awaited : u.awaited ≡ t.awaited
+  pub noted : u.noted.entries ≡ t.noted.entries
 
 -- the equation of the last one gives that formula, which is recorded with what it looked at and took
 pub record CanForm (rules : Rules) (s : Shown) (entries : Entries) (q : Question) (t : Trials) (f : Formed) : Type 0 where

@@ -1,5 +1,5 @@
 -- How a question's search goes on between two tries: what is known of an instance that is looked at or demanded, and where the search comes to.
-use Rattle.std.specs.Prelude.{◌≡◌, ◌⊎◌, ℕ, ◌+◌, ◌*◌, ◌<◌, ◌≤◌, cond, length, Bool, true, List, [], ◌∷◌, ◌++◌, Option, Some, None, IsSome, IsTrue, IfOk, IfSome, OnOk, Result}
+use Rattle.std.specs.Prelude.{◌≡◌, ◌⊎◌, ℕ, ◌+◌, ◌*◌, ◌<◌, ◌≤◌, cond, length, Bool, true, List, [], ◌∷◌, ◌++◌, Option, Some, None, IsSome, IsTrue, IfOk, IfSome, OnOk, Result, Ok}
 use Rattle.std.specs.Map.{keys_of, lookup}
 use Rattle.std.specs.Option.{option_map}
 use Rattle.at_model.specs.Instances.{AnyText}
@@ -45,7 +45,7 @@ use Rattle.at_demand.specs.Answered.{HasWorthyFor, IsOfUse}
 use Rattle.at_demand.specs.ChainSteps.{HasEnded, HasLostSeen, HasRisen, IsRisen, IsUnchanged, KeepsChain}
 use Rattle.at_demand.specs.Covering.{AreWhole}
 use Rattle.at_demand.specs.Groups.{KeepsGroups, Tells}
-use Rattle.at_demand.specs.KeptTrials.{Fit, FitAfter, HasDropped}
+use Rattle.at_demand.specs.KeptTrials.{Fit, FitAfter, HasDropped, HasNoted, IsNotedAs}
 use Rattle.at_demand.specs.Known.{ArePlain, FoundKept, IsFound, IsKept, KeepsEntries, answer_view, equations, kept_values, meaning}
 use Rattle.at_demand.specs.Levels.{AreFactsOf, AreWholeOrSeen, IsAbout, IsCovered, IsDoneIn, IsLevel, LevelCode, StandsFor}
 use Rattle.at_demand.specs.Levels.{all_levels, asked_by, fault_in, known_to, levels_of, root_in, seen_in, todo_in}
@@ -111,6 +111,23 @@ pub record HasResolved {E : Type 0} (rules : Rules) (s : Shown) (exact : Bool) (
   pub ended : IfOk r (TellsOfEnded old)
   pub since : (j : Instance ℕ) → IsSome (known_to after new j) → IsSome (known_to before old j) ⊎ Among j (keys_of old.ended.entries)
   pub idle : old.ended.entries ≡ [] → (after ≡ before) × (latter ≡ former) × (later ≡ earlier) × (new ≡ old)
+
+-- the fault was told of the instance, whose equation has ended
+abbrev pub WasTold : Question → Trials → Instance ℕ → Fault → Type 0
+WasTold q t i f = IsNotedAs t.noted.entries i f × Among i (keys_of q.ended.entries)
+
+-- the trials stay, and perhaps a fault for which this holds is noted of the instance
+pub record NotesWhere (Is : Fault → Type 0) (i : Instance ℕ) (t u : Trials) : Type 0 where
+  pub frames : u.frames.items ≡ t.frames.items
+  pub awaited : u.awaited ≡ t.awaited
+  pub noted : (u.noted.entries ≡ t.noted.entries) ⊎ ((f : Fault) × Is f × HasNoted t.noted.entries u.noted.entries i f)
+
+-- one that is known of it, or told
+abbrev pub NotesOf : Resolved → Instance ℕ → (t u : Trials) → Type 0
+NotesOf a i t u = NotesWhere (λ f. a ≡ resolved.Spoilt f) i t u
+
+abbrev pub NotesTold : {E : Type 0} → Result Resolved E → Instance ℕ → (t u : Trials) → Type 0
+NotesTold told i t u = NotesWhere (λ f. told ≡ Ok (resolved.Spoilt f)) i t u
 
 -- what is to be done with one that a search looks at
 abbrev pub IsLookedAt : Rules → Contents ℕ → (before after : Entries) → (old new : Question) → Instance ℕ → Look → Type 0

@@ -25,6 +25,7 @@ mod turning;
 
 use crate::answer::Answer;
 use crate::basis::Basis;
+use crate::caution::Caution;
 use crate::direct::Direct;
 use crate::evaluation::Find;
 use crate::question::Question;
@@ -41,6 +42,12 @@ use std::alloc::{AllocError, Global};
 // By how many instances the chain of a question gets longer until its last one is evaluated in one go.
 const AHEAD: usize = 128;
 
+// How deep expressions nest at most in an evaluation in one go, with those of the instances that they demand.
+const DEPTH: usize = 800;
+
+// The same where few others wait for what is evaluated: not much is lost where that gives up.
+const SHALLOW: usize = 80;
+
 /// Answers questions, and keeps the values of lazy attributes.
 #[derive(Drop)]
 pub struct Demand<K> {
@@ -51,6 +58,7 @@ pub struct Demand<K> {
     // Whether the last question that wasn't kept was answered in turns.
     in_turns: bool,
     sharing: Sharing,
+    caution: Caution,
     ghost few: { work < 2 ^ 64 },
 }
 
@@ -67,6 +75,7 @@ impl<K: Keeper> Demand<K> {
             made: 0,
             in_turns: false,
             sharing: Sharing::new(alloc),
+            caution: Caution::new(),
         }
     }
 
@@ -111,7 +120,7 @@ impl<K: Keeper> Demand<K> {
             self.old.made self.new.made }
     {
         self.in_turns = false;
-        let at_once = self.answer_at_once(rules, store, inst)?;
+        let at_once = self.answer_at_once(rules, store, inst, DEPTH)?;
         match at_once {
             Some(value) => Ok(Answer::Value(value)),
             None => {
@@ -122,12 +131,13 @@ impl<K: Keeper> Demand<K> {
         }
     }
 
-    // The value of an instance that isn't kept, by an evaluation in one go; none where that gives up.
+    // The value of an instance that isn't kept, by an evaluation in one go, which nests so deep at most; none where that gives up.
     fn answer_at_once(
         &mut self,
         rules: &Rules,
         store: &Store,
         inst: &Inst,
+        deepest: usize,
     ) -> Result<Option<Value>, AllocError>
         requires idle { IsIdle store.now }
         requires held { IsHeld rules.now (contents store.now) (held (K.contents self.old.keeper) (K.memories self.old.keeper) [] self.old.work self.old.made) }
@@ -140,7 +150,7 @@ impl<K: Keeper> Demand<K> {
             self.old.made self.new.made }
     {
         let mut direct = Direct::new(self.alloc, self.work, self.made);
-        let told = direct.answer(&mut self.keeper, &Basis { rules, store }, inst);
+        let told = direct.answer(&mut self.keeper, &Basis { rules, store }, inst, deepest);
         self.work = direct.work;
         self.made = direct.made;
         match told {
@@ -165,11 +175,13 @@ impl<K: Keeper> Demand<K> {
         let mut question = self.post(inst.copy(self.alloc)?)?;
         // Positions among the finds of one question say nothing of another one.
         self.sharing.clear();
+        self.caution.begin(rules, inst.attribute());
         let mut trials = Trials::new(self.alloc);
         let mut due = AHEAD;
         let mut given: u64 = 0;
         while given < u64::MAX {
-            let next = self.look_ahead(rules, store, &question, due)?;
+            let is_new = trials.awaited.is_none();
+            let next = self.look_ahead(rules, store, &question, is_new, due)?;
             let told = self.turn_with(rules, store, &mut question, &mut trials)?;
             due = next;
             given += 1;
@@ -180,13 +192,14 @@ impl<K: Keeper> Demand<K> {
         Err(AllocError)
     }
 
-    // Keeps the last instance of a question again, where that can be done with no evaluation; or evaluates it in one go, where as many others
-    // wait. Says how many are to wait the next time. Where nothing comes to be kept by an evaluation, that is the last time.
+    // Keeps the last instance of a question again, where that can be done with no evaluation; or evaluates it in one go, where that is worth it, or
+    // as many others wait. Says how many are to wait the next time. Where nothing comes to be kept by an evaluation, that is the last time.
     fn look_ahead(
         &mut self,
         rules: &Rules,
         store: &Store,
         question: &Question,
+        is_new: bool,
         due: usize,
     ) -> Result<usize, AllocError>
         requires idle { IsIdle store.now }
@@ -197,16 +210,15 @@ impl<K: Keeper> Demand<K> {
         ensures went { Went (K.memories self.old.keeper) self.old.made (K.memories self.new.keeper) self.new.made }
     {
         self.keep_again(&question.inst);
-        let waiting = question.waiting.len();
-        if waiting < due {
-            return Ok(lowered(due, waiting));
+        let worth = self.caution.is_worth(rules, question, is_new, due);
+        if !worth {
+            return Ok(lowered(due, question.waiting.len()));
         }
         let before = self.work;
-        self.answer_at_once(rules, store, &question.inst)?;
-        if self.work == before {
-            return Ok(usize::MAX);
-        }
-        Ok(waiting.saturating_add(AHEAD))
+        let deepest = depth_for(due, question.waiting.len());
+        let told = self.answer_at_once(rules, store, &question.inst, deepest)?;
+        self.caution.note(told.is_none());
+        Ok(due_next(due, question.waiting.len(), self.work == before))
     }
 
     /// Forgets what an edit touches, all of which the places name: called once the edit is decided, and before it is made.
@@ -312,6 +324,22 @@ impl<K: Keeper> Demand<K> {
         self.work = self.work.saturating_add(1);
         Ok(put)
     }
+}
+
+// How deep an evaluation in one go may nest where so many wait.
+fn depth_for(due: usize, waiting: usize) -> usize {
+    if waiting < due { SHALLOW } else { DEPTH }
+}
+
+// How many instances are to wait the next time, behind an evaluation in one go with so many that wait.
+fn due_next(due: usize, waiting: usize, is_idle: bool) -> usize {
+    if waiting < due {
+        return lowered(due, waiting);
+    }
+    if is_idle {
+        return usize::MAX;
+    }
+    waiting.saturating_add(AHEAD)
 }
 
 // How many instances are to wait the next time, where so many wait now: no more than if it had been now. Of the last time it stays as it is.

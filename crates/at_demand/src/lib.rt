@@ -14,7 +14,7 @@
 //!
 //! **Where to begin:** `Demand::answer` in `demand.rt`: a question is answered in one go by `direct.rt`, a recursion to which rules and tree are
 //! lent as one (`basis.rt`), or where that gives up by all turns of a question, which is `question.rt` and `demand/turning.rt`, with evaluations of `evaluation.rt`;
-//! the last instance of a long chain is evaluated in one go before its turn. It holds nothing of
+//! the last instance is evaluated in one go before its turn, where it is one of those that mostly can be (`caution.rt`), or where the chain is long. It holds nothing of
 //! rules or tree between turns. Once an equation ends by a formula its level is a search: `demand/searching.rt` goes on with it over what
 //! `at_search` says, and `demand/solving.rt` keeps what is solved. What many kept values rest on is gathered in `gathering.rt` and stands once by `demand/shared.rt`.
 //!
@@ -24,6 +24,7 @@
 
 mod answer;
 mod basis;
+mod caution;
 mod demand;
 mod direct;
 mod evaluation;

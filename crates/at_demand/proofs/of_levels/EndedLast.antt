@@ -84,11 +84,17 @@ module _ (rules : Rules) (s : Shown) (exact : Bool) (entries : Entries) (m : Mem
     off = off;
     search = record { looked = behind u (end_of e); stands = stands_mid u st };
     none = none;
-    fit = subst (λ a. FitAt rules s entries mid t.frames.items a) (sym none)
-        (subst (λ fs. AreTrials rules (class_shown s) (contents s) entries fs mid.waiting.entries (root_in mid.level mid.inst) t.frames.items) (sym h.found)
-        (subst (λ ws. AreTrials rules (class_shown s) (contents s) entries q.found.entries ws (root_in mid.level mid.inst) t.frames.items) (sym h.chain.waiting)
-        (subst (λ r. AreTrials rules (class_shown s) (contents s) entries q.found.entries q.waiting.entries r t.frames.items) (sym h.root)
-        (subst (λ a. FitAt rules s entries q t.frames.items a) none turns.fit))));
+    fit = record {
+      chain = subst (λ a. FitAt rules s entries mid t.frames.items a) (sym none)
+          (subst (λ fs. AreTrials rules (class_shown s) (contents s) entries fs mid.waiting.entries (root_in mid.level mid.inst)
+          t.frames.items) (sym h.found)
+          (subst (λ ws. AreTrials rules (class_shown s) (contents s) entries q.found.entries ws (root_in mid.level mid.inst)
+          t.frames.items) (sym h.chain.waiting)
+          (subst (λ r. AreTrials rules (class_shown s) (contents s) entries q.found.entries q.waiting.entries r
+          t.frames.items) (sym h.root)
+          (subst (λ a. FitAt rules s entries q t.frames.items a) none (let fitted = turns.fit in fitted.chain)))));
+      noted = (let fitted = turns.fit in fitted.noted);
+    };
   }
 
   under_mid : (i : Instance ℕ) → Among i (under (all_levels mid)) → Among i (under (all_levels q))

@@ -55,7 +55,7 @@ use Rattle.at_demand.proofs.of_levels.Resolving.{keeps_groups, recorded_key, sti
 use Rattle.at_demand.proofs.of_searches.Returning.{with_level}
 use Rattle.at_demand.proofs.of_levels.StayingOn.{stays_ended, stays_lost, stays_risen, stays_taken, stays_then, stays_told, stays_unchanged}
 use Rattle.at_demand.proofs.of_searches.Stepping.{tells_pending}
-use Rattle.at_demand.proofs.Fitting.{dropped_trials, more_trials}
+use Rattle.at_demand.proofs.Fitting.{dropped_trials, more_trials, noted_same}
 
 -- what is told is of more than these
 adds_wide : (look : Contents ℕ) (forms : Forms ℕ) (these those : List (Instance ℕ)) (told more : List (Instance ℕ × Outcome ℕ)) →
@@ -313,7 +313,7 @@ module _ (rules : Rules) (s : Shown) (exact : Bool) (before after : Entries) (fo
       AreTrials rules (class_shown s) (contents s) after new.found.entries old.waiting.entries (root_in old.level old.inst) trials.frames.items
   trials_now trials fit none = more_trials rules (class_shown s) (contents s) before after t.stays old.found.entries new.found.entries told_with.finds
       old.waiting.entries (root_in old.level old.inst) trials.frames.items
-      (subst (λ a. FitAt rules s before old trials.frames.items a) none fit)
+      (subst (λ a. FitAt rules s before old trials.frames.items a) none fit.chain)
 
   -- what was found is found still, and what was recorded recorded
   found_with : Extends old.found.entries new.found.entries
@@ -433,7 +433,10 @@ module _ (rules : Rules) (s : Shown) (exact : Bool) (before after : Entries) (fo
         (same : q3.found.entries ≡ q2.found.entries) where
       told_so : (o : Option Answer) → RisesSo after q2 q3 trials u o → HasLeftSo rules s before after old q3 u (left.Told o)
       told_so None (risen, awaits) = (
-        subst (λ z. Fit rules s after q3 z) (sym awaits) (trials_risen q3 (root_in q2.level q2.inst) risen trials along.fit along.none),
+        subst (λ z. Fit rules s after q3 z) (sym awaits) (let fit = along.fit in record {
+          chain = trials_risen q3 (root_in q2.level q2.inst) risen trials along.fit along.none;
+          noted = fit.noted;
+        }),
         λ first l stay st k. found_below first l stay st k none q3 (waits_risen_so q3 (root_in q2.level q2.inst) risen)
             (finds_risen q3 (root_in q2.level q2.inst) risen),
       )
@@ -478,7 +481,11 @@ module _ (rules : Rules) (s : Shown) (exact : Bool) (before after : Entries) (fo
           search =
               let (m, stands, kept, on) = below before can.looked stay_first can.stands held_first in record { looked = m; stands = stands };
           none = dropped.none;
-          fit = subst (λ a. FitAt rules s after q4 u.frames.items a) (sym dropped.none) trials_below;
+          fit = record {
+            chain = subst (λ a. FitAt rules s after q4 u.frames.items a) (sym dropped.none) trials_below;
+            noted = noted_same rules (contents s) trials.noted.entries u.noted.entries dropped.noted (let fit =
+                along.fit in fit.noted);
+          };
         };
         asked = asked_same q3 q4 ended.chain.waiting ended.root ∙ asked_risen_so;
         fewer = fewer_so;

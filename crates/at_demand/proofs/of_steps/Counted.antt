@@ -130,7 +130,7 @@ module _ (rules : Rules) (s : Shown) (exact : Bool) (basis : IsBasis rules s) (b
         passed = stands.passed;
         whole = stands.whole;
       };
-      fit = fit_recount rules s after new n t.frames.items t.awaited fit;
+      fit = record { chain = fit_recount rules s after new n t.frames.items t.awaited fit.chain; noted = fit.noted };
       all = λ k spare had. tt;
       sparing = λ k spare had. let y = sparing k spare had in record { lean = y.lean; settled = y.settled; met = y.met; followed = y.followed };
       gains = gains;

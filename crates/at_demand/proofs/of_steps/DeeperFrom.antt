@@ -42,7 +42,7 @@ use Rattle.at_demand.specs.Searches.{IsTried, TurnsBy}
 use Rattle.at_demand.specs.Sparing.{AreSettled}
 use Rattle.at_demand.specs.Turns.{HaveMet, IsMet, IsSparingTurns, IsStanding, found_of, passed_of, under_way}
 use Rattle.at_demand.proofs.Entered.{is_there, not_none, value_on}
-use Rattle.at_demand.proofs.Fitting.{push_trial}
+use Rattle.at_demand.proofs.Fitting.{noted_same, push_trial}
 use Rattle.at_demand.proofs.Keys.{keys_push, no_key}
 use Rattle.at_demand.proofs.Recalling.{known_kept}
 use Rattle.at_demand.proofs.of_levels.ClosedLevels.{risen_levels}
@@ -185,20 +185,30 @@ module _ (rules : Rules) (s : Shown) (exact : Bool) (before last : Entries) (f n
       ];
     }
 
-    fit_on : (u : Trials) → u.frames.items ≡ t.frames.items ++ waits ∷ [] → u.awaited ≡ t.awaited → Fit rules s last new u
-    fit_on u frames await = subst (λ o. FitAt rules s last new u.frames.items o) (sym (await ∙ c.none))
+    chain_on : (u : Trials) → u.frames.items ≡ t.frames.items ++ waits ∷ [] → u.awaited ≡ t.awaited → FitAt rules s
+        last new u.frames.items u.awaited
+    chain_on u frames await = subst (λ o. FitAt rules s last new u.frames.items o) (sym (await ∙ c.none))
         (subst (λ fs. FitAt rules s last new fs None) (sym frames)
         (subst (λ fs. AreTrials rules (class_shown s) (contents s) last fs new.waiting.entries (root_in new.level new.inst) (t.frames.items ++ waits ∷ [])) (sym h.finds.found)
         (subst (λ r. AreTrials rules (class_shown s) (contents s) last q.found.entries new.waiting.entries r (t.frames.items ++ waits ∷ [])) (sym root_new)
         (subst (λ ws. AreTrials rules (class_shown s) (contents s) last q.found.entries ws j (t.frames.items ++ waits ∷ [])) (sym waits_now)
         (push_trial rules (class_shown s) (contents s) last q.found.entries q.waiting.entries (with_level q.level q.inst) j t.frames.items waits
-        (let turns = c.turns in subst (λ o. FitAt rules s last q t.frames.items o) c.none turns.fit) going)))))
+        (let turns = c.turns in let fit = turns.fit in subst (λ o. FitAt rules s last q t.frames.items o) c.none
+            fit.chain) going)))))
+
+    fit_on : (u : Trials) → u.frames.items ≡ t.frames.items ++ waits ∷ [] → u.awaited ≡ t.awaited → u.noted.entries ≡
+        t.noted.entries → Fit rules s last new u
+    fit_on u frames await noted = record {
+      chain = chain_on u frames await;
+      noted = noted_same rules (contents s) t.noted.entries u.noted.entries noted (let turns = c.turns in let fit =
+          turns.fit in fit.noted);
+    }
 
     goes_deeper : (u : Trials) → IsDeeperLast q new t u waits j → HasTurnedOn {E = AllocError} rules s exact before last w y old new u (Ok None)
     goes_deeper u d = counted_so rules s exact turn.answerable.basis before last w y old new u gains (sound_at rules s before old turn) turn.standing
         (h.finds.turns ∙ (let stays = c.stays in stays.turns))
         (turned_by rules s exact before last last f n n w y y old q t g c new (Ok None) (Ok None) turns)
-        stands_so (fit_on u d.frames d.awaited) (λ k spare z. spares_on (c.sparing k z))
+        stands_so (fit_on u d.frames d.awaited d.noted) (λ k spare z. spares_on (c.sparing k z))
 
   -- whatever it comes to
   pub deeper_last : (new : Question) (u : Trials) (r : Result (Option AnswerCode) AllocError) → IfOk r (λ o. o ≡ None) →

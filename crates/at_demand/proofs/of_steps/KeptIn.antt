@@ -17,6 +17,7 @@ use Rattle.at_demand.specs.declared.question.Question.{Question}
 use Rattle.at_demand.specs.declared.trials.Trials.{Trials}
 use Rattle.at_demand.specs.Answerable.{IsAnswerable}
 use Rattle.at_demand.specs.Known.{kept_values, meaning}
+use Rattle.at_demand.specs.KeptTrials.{IsNotedRight}
 use Rattle.at_demand.specs.Levels.{IsCovered, IsRooted, LevelCode, StandsFor, asked_by, fault_in, known_to, level_of, root_in, seen_in, todo_in}
 use Rattle.at_demand.specs.Searches.{CanGoAlong, StandsBetween}
 use Rattle.at_demand.specs.Turns.{IsStanding}
@@ -103,10 +104,11 @@ module _ (rules : Rules) (s : Shown) (entries : Entries) (q : Question) (answera
   }
 
   -- so it can go along, with no trials
-  pub goes_along : (t : Trials) → t.frames.items ≡ [] → t.awaited ≡ None → CanGoAlong rules s entries q t
-  goes_along t none gone = record {
+  pub goes_along : (t : Trials) → t.frames.items ≡ [] → t.awaited ≡ None → IsNotedRight rules (contents s)
+      t.noted.entries → CanGoAlong rules s entries q t
+  goes_along t none gone noted = record {
     off = λ none. let p = st.plainly none in off p.level;
     search = record { looked = past u; stands = stands_past };
     none = gone;
-    fit = none_fit rules s entries q t none gone;
+    fit = none_fit rules s entries q t none gone noted;
   }

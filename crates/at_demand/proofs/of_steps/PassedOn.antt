@@ -16,6 +16,7 @@ use Rattle.at_model.proofs.of_machines.Bounded.{stays_on as chain_stays}
 use Rattle.at_rules.specs.Circular.{HasNoneCircular}
 use Rattle.at_store.specs.Shown.{Shown, contents}
 use Rattle.at_body.specs.Same.{same_instance}
+use Rattle.at_body.specs.Typed.{class_shown}
 use Rattle.at_body.specs.Values.{value_view}
 use Rattle.at_body.specs.declared.value.Value.{Value as ValueCode}
 use Rattle.at_cache.specs.Kept.{Entries}
@@ -23,18 +24,21 @@ use Rattle.at_demand.specs.declared.answer.Answer.{Answer as AnswerCode}
 use Rattle.at_demand.specs.declared.answer.Answer.TheVariants as answer
 use Rattle.at_demand.specs.declared.question.Question.{Question}
 use Rattle.at_demand.specs.declared.trials.Trials.{Trials}
+use Rattle.at_demand.specs.declared.trying.Trying.{Trying}
 use Rattle.at_demand.specs.Answerable.{IsBasis}
 use Rattle.at_demand.specs.Answered.{HasTurnedOn, HasWorthyFor}
 use Rattle.at_demand.specs.ChainSteps.{HasPassedOn, IsEnded, IsPassedTo, IsUnchanged}
 use Rattle.at_demand.specs.Covering.{AreWhole}
 use Rattle.at_demand.specs.Known.{ArePlain, FoundKept, answer_view, equations, kept_values, known_in, meaning}
+use Rattle.at_demand.specs.KeptTrials.{AreTrials, Fit, FitAt, IsNotedRight}
+use Rattle.at_demand.specs.LastTried.{AwaitsLast, IsPassedOver}
 use Rattle.at_demand.specs.Levels.{LevelCode, StandsFor, asked_by, known_to, level_of, levels_of, root_in}
 use Rattle.at_demand.specs.Only.{AreLean}
 use Rattle.at_demand.specs.Sound.{AreSound}
 use Rattle.at_demand.specs.Sparing.{AreSettled, AreSpare}
 use Rattle.at_demand.specs.Turns.{HasTurnedBy, HaveMet, IsMet, IsSparingTurns, IsStanding, found_of, passed_of, under_way}
 use Rattle.at_demand.proofs.Entered.{entered, is_there}
-use Rattle.at_demand.proofs.Fitting.{none_fit}
+use Rattle.at_demand.proofs.Fitting.{ended_fit, noted_same}
 use Rattle.at_demand.proofs.Gaining.{asked_kept}
 use Rattle.at_demand.proofs.Recalling.{known_kept}
 use Rattle.at_demand.proofs.Standing.{asked_typed, plain_holds}
@@ -151,9 +155,20 @@ module _ (rules : Rules) (s : Shown) (exact : Bool) (basis : IsBasis rules s) (e
       ];
     }
 
-    pub passes_on : t.frames.items ≡ [] → t.awaited ≡ None → HasTurnedOn {E = AllocError} rules s exact entries entries w w old new t (Ok None)
-    passes_on none gone = counted_so rules s exact basis entries entries w w old new t
-        (gains_none rules s exact entries w few old sound.right plain) sound st r.turns turned so (none_fit rules s entries new t none gone) (λ k spare x. sparing x)
+    -- the trials are those of the ones that wait, and the one that is the last now
+    fit_passed : (frames : List Trying) → FitAt rules s entries old frames None → FitAt rules s entries new frames
+        (Some old.inst)
+    fit_passed frames fit = subst (λ fs. AreTrials rules (class_shown s) (contents s) entries fs
+        (new.waiting.entries ++ with_level new.level new.inst ∷ []) old.inst frames) (sym r.found)
+        (subst (λ ws. AreTrials rules (class_shown s) (contents s) entries old.found.entries ws old.inst frames) waits
+        (subst (λ i. AreTrials rules (class_shown s) (contents s) entries old.found.entries old.waiting.entries i
+        frames) at_root fit))
+
+    pub passes_on : Fit rules s entries new t → HasTurnedOn {E = AllocError} rules s exact entries entries w w old new
+        t (Ok None)
+    passes_on fit = counted_so rules s exact basis entries entries w w old new t
+        (gains_none rules s exact entries w few old sound.right plain) sound st r.turns turned so fit (λ k spare x.
+        sparing x)
 
   -- or that answers the question
   module _ (r : IsUnchanged old new) (alone : old.waiting.entries ≡ []) where
@@ -182,18 +197,25 @@ module _ (rules : Rules) (s : Shown) (exact : Bool) (basis : IsBasis rules s) (e
         (asked_kept rules (contents s) old.inst entries (is_there (kept_values entries old.inst) (value_view v) kept) spare.deep))
         (λ k spare x none. sparing_same rules s entries old new r x)
 
-  -- whatever it comes to
-  pub passed_on : t.frames.items ≡ [] → t.awaited ≡ None → (o : Option AnswerCode) → HasPassedOn old v new o →
-      HasTurnedOn {E = AllocError} rules s exact entries entries w w old new t (Ok o)
-  passed_on none gone None r = passes_on r none gone
-  passed_on none gone (Some a) r = subst (λ b. HasTurnedOn {E = AllocError} rules s exact entries entries w w old new t (Ok (Some b))) (sym r.is)
-      (ends_on r.same r.alone)
+  -- whatever it comes to, where these fit without the trial of the last one
+  module _ (mid : Trials) (fit : FitAt rules s entries old mid.frames.items None) (noted : IsNotedRight rules
+      (contents s) mid.noted.entries)
+      (await : AwaitsLast old mid t) where
+    passed_on : (o : Option AnswerCode) → HasPassedOn old v new o → HasTurnedOn {E = AllocError} rules s exact entries
+        entries w w old new t (Ok o)
+    passed_on None r = passes_on r (subst (λ (z : Trials). Fit rules s entries new z) (sym await)
+        (record { chain = fit_passed r mid.frames.items fit; noted = noted }))
+    passed_on (Some a) r = subst (λ b. HasTurnedOn {E = AllocError} rules s exact entries entries w w old new t (Ok
+        (Some b))) (sym r.is)
+        (ends_on r.same r.alone)
 
   -- or memory is wanting
-  pub passed_over : t.frames.items ≡ [] → t.awaited ≡ None → (r : Result (Option AnswerCode) AllocError) → IfOk r (HasPassedOn old v new) →
+  pub passed_over : (u : Trials) → Fit rules s entries old u → (r : Result (Option AnswerCode) AllocError) → IfOk r
+      (IsPassedOver old new u t v) →
       HasTurnedOn {E = AllocError} rules s exact entries entries w w old new t r
-  passed_over none gone (Ok o) h = passed_on none gone o h
-  passed_over none gone (Err e) h = broken_on rules s exact basis entries entries w w old new t (Err e) e refl
+  passed_over u fit (Ok o) (mid, ended, (passed, await)) = passed_on mid (ended_fit rules s entries old u mid ended fit)
+      (noted_same rules (contents s) u.noted.entries mid.noted.entries ended.noted fit.noted) await o passed
+  passed_over u fit (Err e) h = broken_on rules s exact basis entries entries w w old new t (Err e) e refl
       (λ none. none) (gains_none rules s exact entries w few old sound.right plain)
 
 -- a level that is none

@@ -230,12 +230,18 @@ module _ (rules : Rules) (s : Shown) (exact : Bool) (before mid : Entries) (f m 
     }
 
     fit_now : Fit rules s last new t
-    fit_now = subst (λ o. FitAt rules s last new t.frames.items o) (sym c.none)
-        (subst (λ ws. AreTrials rules (class_shown s) (contents s) last new.found.entries ws (root_in new.level new.inst) t.frames.items) (sym tells.chain.waiting)
-        (subst (λ r. AreTrials rules (class_shown s) (contents s) last new.found.entries q.waiting.entries r t.frames.items) (sym root)
-        (more_trials rules (class_shown s) (contents s) mid last tells.stays q.found.entries new.found.entries tells.finds q.waiting.entries
-        (root_in q.level q.inst) t.frames.items
-        (let turns = c.turns in subst (λ o. FitAt rules s mid q t.frames.items o) c.none turns.fit))))
+    fit_now = let turns = c.turns in let fit = turns.fit in record {
+      chain = subst (λ o. FitAt rules s last new t.frames.items o) (sym c.none)
+          (subst (λ ws. AreTrials rules (class_shown s) (contents s) last new.found.entries ws (root_in new.level
+              new.inst) t.frames.items) (sym tells.chain.waiting)
+          (subst (λ r. AreTrials rules (class_shown s) (contents s) last new.found.entries q.waiting.entries r
+              t.frames.items) (sym root)
+          (more_trials rules (class_shown s) (contents s) mid last tells.stays q.found.entries new.found.entries
+              tells.finds q.waiting.entries
+          (root_in q.level q.inst) t.frames.items
+          (subst (λ o. FitAt rules s mid q t.frames.items o) c.none fit.chain))));
+      noted = fit.noted;
+    }
       where
         root : root_in new.level new.inst ≡ root_in q.level q.inst
         root = ap (λ d. root_in d new.inst) tells.level ∙ ap (λ j. root_in q.level j) tells.chain.inst

@@ -1,5 +1,5 @@
 -- A try of the last one that goes on: what it has told since it began.
-use Rattle.std.proofs.Common.{◌≡◌, ◌⊎◌, ℕ, Bool, List, ◌∷◌, Some, None}
+use Rattle.std.proofs.Common.{◌≡◌, ◌⊎◌, ◌∙◌, ℕ, Bool, List, ◌∷◌, Some, None, subst, sym}
 use Rattle.std.specs.Prelude.{IsTrue}
 use Rattle.std.specs.Map.{keys_of}
 use Rattle.at_model.specs.Meaning.{Among, Finds, Outcome}
@@ -14,6 +14,7 @@ use Rattle.at_demand.specs.declared.question.Question.{Question}
 use Rattle.at_demand.specs.declared.trials.Trials.{Trials}
 use Rattle.at_demand.specs.declared.trying.Going.{Going}
 use Rattle.at_demand.specs.Attempts.{IsGoing}
+use Rattle.at_demand.specs.KeptTrials.{FitAt, IsNotedRight}
 use Rattle.at_demand.specs.Known.{kept_values, meaning}
 use Rattle.at_demand.specs.Levels.{StandsFor, all_levels, asked_by, known_to}
 use Rattle.at_demand.specs.Answerable.{CanTurnWith}
@@ -47,3 +48,36 @@ pub record IsTrying (rules : Rules) (s : Shown) (exact : Bool) (before after : E
       × Adds (contents s) (meaning rules) (under (u.last ∷ u.below)) u.told told
       × ((i : Instance ℕ) (v : Value ℕ) → known_to after new i ≡ Some v → (kept_values before i ≡ Some v) ⊎ Among (with_outcome (Finds v) i) told)
   pub plainly : HasNoneCircular rules → (new ≡ old) × (after ≡ before)
+
+-- It goes on so with trials that stand alike, where what is noted there is right.
+pub trying_with : (rules : Rules) (s : Shown) (exact : Bool) (before after : Entries) (former latter : Memories)
+    (earlier later : ℕ)
+    (old new : Question) (t u : Trials) (g : Going) → IsTrying rules s exact before after former latter earlier later
+        old new t g →
+    u.frames.items ≡ t.frames.items → u.awaited ≡ t.awaited → IsNotedRight rules (contents s) u.noted.entries →
+    IsTrying rules s exact before after former latter earlier later old new u g
+trying_with rules s exact before after former latter earlier later old new t u g c frames awaited noted =
+    let turns = c.turns in
+    let fit = turns.fit in
+    record {
+      turns = record {
+        turns = turns.turns;
+        fit = record {
+          chain = subst (λ o. FitAt rules s after new u.frames.items o) (sym awaited)
+              (subst (λ fs. FitAt rules s after new fs t.awaited) (sym frames) fit.chain);
+          noted = noted;
+        };
+      };
+      unkept = c.unkept;
+      unknown = c.unknown;
+      none = awaited ∙ c.none;
+      going = c.going;
+      gains = c.gains;
+      stays = c.stays;
+      sparing = c.sparing;
+      asked = c.asked;
+      levels = c.levels;
+      ended = c.ended;
+      came = c.came;
+      plainly = c.plainly;
+    }

@@ -34,7 +34,7 @@ use Rattle.at_demand.specs.Attempts.{HasFound}
 use Rattle.at_demand.specs.ChainSteps.{IsEnded, IsPassedTo, IsSettledTo}
 use Rattle.at_demand.specs.Covering.{AreWhole, Extends, IsDemanded}
 use Rattle.at_demand.specs.Known.{AreValued, FoundKept, IsFound, IsKept, KeepsEntries, answer_view, equations, found_values, kept_values, known_in, meaning}
-use Rattle.at_demand.specs.KeptTrials.{Fit, FitAt}
+use Rattle.at_demand.specs.KeptTrials.{Fit, FitAt, IsNotedRight}
 use Rattle.at_demand.specs.LastTried.{AwaitsLast, IsPassedLast, IsSettledLast}
 use Rattle.at_demand.specs.Levels.{asked_by, known_to, root_in}
 use Rattle.at_demand.specs.Meant.{AreRightValues}
@@ -181,7 +181,11 @@ module _ (rules : Rules) (s : Shown) (exact : Bool) (before mid last : Entries) 
 
   -- the frames that wait
   fit_at : FitAt rules s mid q t.frames.items None
-  fit_at = let turns = c.turns in subst (λ o. FitAt rules s mid q t.frames.items o) c.none turns.fit
+  fit_at = let turns = c.turns in subst (λ o. FitAt rules s mid q t.frames.items o) c.none (let fit = turns.fit in
+      fit.chain)
+
+  noted_at : IsNotedRight rules (contents s) t.noted.entries
+  noted_at = let turns = c.turns in let fit = turns.fit in fit.noted
 
   gained : (i : Instance ℕ) → (kept_values last i ≡ kept_values mid i) ⊎ (q.inst ≡ i)
   gained i = let gains = h.gains in elim (gains.lazy i) [ inl e ↦ inl e | inr e ↦ inr e.0 ]
@@ -283,9 +287,16 @@ module _ (rules : Rules) (s : Shown) (exact : Bool) (before mid last : Entries) 
           (gained rules s exact before mid last f m l w x y old q t g c turn traced (tried.Kept v) h d has none) finds_kept known_kept_so only_kept more_kept
           (subst (λ fs. FoundKept last fs) (sym r.found) took) passed_now (subst (λ fs. AreWhole rules (contents s) fs) (sym r.found) st.whole))
           (subst (λ (z : Trials). Fit rules s last new z) (sym await)
-          (fit_risen rules s mid last q new (value_view d.value) valued_kept keeps_kept r.waits r.ended r.turns h.right
-          (gained rules s exact before mid last f m l w x y old q t g c turn traced (tried.Kept v) h d has none) finds_kept known_kept_so only_kept more_kept
-          t.frames.items (fit_at rules s exact before mid last f m l w x y old q t g c turn traced (tried.Kept v) h d has none)))
+          (record {
+            chain = fit_risen rules s mid last q new (value_view d.value) valued_kept keeps_kept r.waits r.ended
+                r.turns h.right
+                (gained rules s exact before mid last f m l w x y old q t g c turn traced (tried.Kept v) h d has none)
+                    finds_kept known_kept_so only_kept
+                more_kept t.frames.items (fit_at rules s exact before mid last f m l w x y old q t g c turn traced
+                    (tried.Kept v) h d has none);
+            noted = noted_at rules s exact before mid last f m l w x y old q t g c turn traced (tried.Kept v) h d has
+                none;
+          }))
           (λ k spare z. spares_risen rules s mid last q new (value_view d.value) valued_kept keeps_kept r.waits r.ended r.turns h.right
           (gained rules s exact before mid last f m l w x y old q t g c turn traced (tried.Kept v) h d has none) finds_kept known_kept_so only_kept more_kept
           (inl (entered last q.inst (is_there (kept_values last q.inst) (value_view v) kept)))
@@ -386,9 +397,16 @@ module _ (rules : Rules) (s : Shown) (exact : Bool) (before mid last : Entries) 
           took_now (λ i z b. value_on mid last keeps_found i z (st.passed i z (subst (λ ps. Among (with_view z i) (passed_of ps)) r.passed b)))
           (subst (λ fs. AreWhole rules (contents s) fs) (sym found_is) whole_found))
           (subst (λ (z : Trials). Fit rules s last new z) (sym await)
-          (fit_risen rules s mid last q new (value_view d.value) valued_found keeps_found r.waits r.ended r.turns h.right
-          (gained rules s exact before mid last f m l w x y old q t g c turn traced (tried.Found d) h d has none) finds_more known_now only_found more_found
-          t.frames.items (fit_at rules s exact before mid last f m l w x y old q t g c turn traced (tried.Found d) h d has none)))
+          (record {
+            chain = fit_risen rules s mid last q new (value_view d.value) valued_found keeps_found r.waits r.ended
+                r.turns h.right
+                (gained rules s exact before mid last f m l w x y old q t g c turn traced (tried.Found d) h d has
+                    none) finds_more known_now only_found
+                more_found t.frames.items (fit_at rules s exact before mid last f m l w x y old q t g c turn traced
+                    (tried.Found d) h d has none);
+            noted = noted_at rules s exact before mid last f m l w x y old q t g c turn traced (tried.Found d) h d has
+                none;
+          }))
           (λ k spare z. spares_risen rules s mid last q new (value_view d.value) valued_found keeps_found r.waits r.ended r.turns h.right
           (gained rules s exact before mid last f m l w x y old q t g c turn traced (tried.Found d) h d has none) finds_more known_now only_found more_found
           (inr (subst (λ fs. IsFound fs q.inst) (sym found_is) found_at))

@@ -15,7 +15,7 @@ use Rattle.at_demand.specs.Sparing.{Counts}
 use Rattle.at_demand.specs.Touched.{Touches}
 use Rattle.at_demand.specs.Went.{Went, asked, begun, edited, turned}
 use Rattle.at_demand.proofs.Sameness.{same_refl, same_true}
-use Rattle.at_demand.proofs.of_traces.Justified.{stay_in_turns, stay_same, stay_then}
+use Rattle.at_demand.proofs.of_traces.Justified.{stay_any, stay_same, stay_then}
 use Rattle.at_demand.proofs.of_traces.Making.{makes_alike}
 
 pub puts_same : (m : Memories) → PutsInTurns m m
@@ -27,8 +27,8 @@ puts_then first next _ p (one_more mid last i after q spares stay) = one_more mi
 
 -- one was put
 pub puts_one : (i : Instance ℕ) (v : Option (Value ℕ)) (reads : List (Location ℕ)) (uses : List (Instance ℕ)) (after : Entries)
-    (old new : Memories) → PutsTrace i v reads uses order.InTurns old new → SparesOthers i after old new → PutsInTurns old new
-puts_one i v reads uses after old new puts spares = one_more old new i after nothing spares (stay_in_turns i v reads uses old new puts)
+    (old new : Memories) → PutsTrace i v reads uses order.Any old new → SparesOthers i after old new → PutsInTurns old new
+puts_one i v reads uses after old new puts spares = one_more old new i after nothing spares (stay_any i v reads uses old new puts)
 
 -- nothing is traced by that
 pub puts_stay : (old new : Memories) → PutsInTurns old new → StayTraced old new

@@ -1,6 +1,6 @@
 //! Turns of a question: each tries one equation, once.
 
-ghost use Rattle.std.specs.Prelude.{◌≡◌, ◌≤◌, ◌⊎◌, ◌+◌, ◌-◌, ◌^◌, ℕ, IfOk, None, min};
+ghost use Rattle.std.specs.Prelude.{◌≡◌, ◌≤◌, ◌⊎◌, ◌+◌, ◌-◌, ◌^◌, ℕ, IfOk, IfSome, None, min};
 ghost use Rattle.at_model.specs.Run.{Contents};
 ghost use Rattle.at_model.specs.Instances.{AnyText};
 ghost use Rattle.at_model.specs.Rules.{Rules};
@@ -16,10 +16,10 @@ ghost use Rattle.at_demand.specs.Sound.{AreSound};
 ghost use Rattle.at_demand.specs.Turns.{IsStanding, IsSparingTurns, under_way};
 ghost use Rattle.at_demand.specs.Answered.{HasTurned, HasTurnedOften, HasTurnedOn, HasTurnedWith, TracesNothing};
 ghost use Rattle.at_demand.specs.Attempts.{HasAttempted, IsGoing};
-ghost use Rattle.at_demand.specs.Searches.{CanSpoil, CanTryLast, CanTurnOn, HasSpoilt};
+ghost use Rattle.at_demand.specs.Searches.{CanResolve, CanSpoil, CanTryLast, CanTurnOn, HasResolved, HasSpoilt, NotesOf, NotesTold, WasTold};
 ghost use Rattle.at_demand.specs.Tries.{CanCarryOn, HasCarriedOn};
-ghost use Rattle.at_demand.specs.KeptTrials.{Fit};
-ghost use Rattle.at_demand.specs.LastTried.{CanForm, HasFormed, IsDeeperLast, IsPassedLast, IsSettledLast};
+ghost use Rattle.at_demand.specs.KeptTrials.{Fit, IsNotedRight};
+ghost use Rattle.at_demand.specs.LastTried.{CanForm, HasFormed, IsDeeperLast, IsPassedLast, IsPassedOver, IsSettledLast};
 ghost use Rattle.at_demand.specs.InTurns.{PutsAndCounts, PutsInTurns, PutsSo};
 ghost use Rattle.at_demand.specs.Traces.{AreJustified};
 
@@ -166,10 +166,10 @@ impl<K: Keeper> Demand<K> {
     {
         if let Some(value) = self.keeper.get(&question.inst) {
             let value = value.copy()?;
-            trials.forget();
             if question.level.is_none() {
-                return question.pass(value);
+                return pass_over(self.alloc, question, trials, value);
             }
+            trials.forget();
             return self.go_along(rules, store, question, trials);
         }
         self.try_last(rules, store, question, trials)
@@ -200,7 +200,7 @@ impl<K: Keeper> Demand<K> {
                     return self.spoil(rules, store, question, trials, Fault { kind, at });
                 }
                 Tried::Waits(trying, needed) => {
-                    match self.resolve(rules, store, question, &needed)? {
+                    match self.resolve_noted(rules, store, question, trials, &needed)? {
                         Resolved::Known => going = trying.going(needed),
                         Resolved::Spoilt(fault) => {
                             return self.spoil(rules, store, question, trials, fault);
@@ -211,6 +211,32 @@ impl<K: Keeper> Demand<K> {
                 }
             }
         }
+    }
+
+    // What is known of an instance that isn't kept or found. A fault that was told before is told again, without a search for it.
+    fn resolve_noted<'a>(
+        &mut self,
+        rules: &Rules,
+        store: &Store,
+        question: &mut Question,
+        trials: &mut Trials<'a>,
+        inst: &Inst,
+    ) -> Result<Resolved, AllocError>
+        requires can { CanResolve rules.now store.now (K.contents self.old.keeper) question.old }
+        requires noted { IsNotedRight rules.now (contents store.now) trials.old.noted.entries }
+        ensures resolved { HasResolved rules.now store.now K.exact (K.contents self.old.keeper) (K.contents self.new.keeper) (K.memories self.old.keeper)
+            (K.memories self.new.keeper) self.old.work self.new.work question.old question.new inst.now result }
+        ensures frames { trials.new.frames.items ≡ trials.old.frames.items }
+        ensures awaited { trials.new.awaited ≡ trials.old.awaited }
+        ensures noted { IsNotedRight rules.now (contents store.now) trials.new.noted.entries }
+    {
+        let before = told_before(self.alloc, question, trials, inst)?;
+        if let Some(fault) = before {
+            return Ok(Resolved::Spoilt(fault));
+        }
+        let told = self.resolve(rules, store, question, inst);
+        note_told(self.alloc, trials, inst, &told);
+        told
     }
 
     // The equation of the last instance gives that formula: the search goes on behind it.
@@ -348,6 +374,61 @@ fn made_since(made: u64, before: u64, work: u64) -> u64
         return work;
     }
     made.saturating_add(work.saturating_sub(before))
+}
+
+// The fault that was told of the instance before, where its equation has ended.
+fn told_before(
+    alloc: Global,
+    question: &Question,
+    trials: &Trials<'_>,
+    inst: &Inst,
+) -> Result<Option<Fault>, AllocError>
+    ensures { IfOk result (λ o. IfSome o (WasTold question.now trials.now inst.now)) }
+{
+    if question.is_whole(inst).is_none() {
+        return Ok(None);
+    }
+    trials.noted_of(alloc, inst)
+}
+
+// A fault that is told of the instance is noted, where there is memory for that.
+fn note_told(
+    alloc: Global,
+    trials: &mut Trials<'_>,
+    inst: &Inst,
+    told: &Result<Resolved, AllocError>,
+)
+    ensures { NotesTold told.now inst.now trials.old trials.new }
+{
+    match told {
+        Ok(resolved) => note_resolved(alloc, trials, inst, resolved),
+        Err(_) => {}
+    }
+}
+
+// So it is where that is known of it.
+fn note_resolved(alloc: Global, trials: &mut Trials<'_>, inst: &Inst, resolved: &Resolved)
+    ensures { NotesOf resolved.now inst.now trials.old trials.new }
+{
+    match resolved {
+        Resolved::Spoilt(fault) => trials.note(alloc, inst, fault),
+        Resolved::Known => {}
+        Resolved::Back => {}
+        Resolved::Open => {}
+    }
+}
+
+// The last instance is kept with this value, and no longer tried: the trial of the one below is told of it.
+fn pass_over(
+    alloc: Global,
+    question: &mut Question,
+    trials: &mut Trials<'_>,
+    value: Value,
+) -> Result<Option<Answer>, AllocError>
+    ensures { IfOk result (IsPassedOver question.old question.new trials.old trials.new value) }
+{
+    trials.end_last();
+    pass_last(alloc, question, trials, value)
 }
 
 // The last instance came to be kept with this value: the trial of the one below is told of it.

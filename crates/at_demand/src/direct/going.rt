@@ -29,9 +29,6 @@ use at_rules::{AttrId, Body};
 use at_store::{Loc, Node};
 use std::alloc::AllocError;
 
-// How deep expressions nest at most, with those of the instances that they demand.
-const DEPTH: usize = 800;
-
 // How many instances are evaluated at most, one behind the other, so that one which used them may be kept again.
 const IN_THE_WAY: usize = 16;
 
@@ -62,12 +59,14 @@ impl Level {
 }
 
 impl Direct {
-    // The value of an instance that isn't kept; then all that is worth keeping for it is kept.
+    // The value of an instance that isn't kept, by expressions that nest so deep at most, with those of the instances that they demand; then all
+    // that is worth keeping for it is kept.
     pub fn answer<K: Keeper>(
         &mut self,
         keeper: &mut K,
         basis: &Basis<'_>,
         inst: &Inst,
+        deepest: usize,
     ) -> Result<Value, Stop>
         requires { IsHeld basis.now.rules.now (contents basis.now.store.now) (held_by K.contents K.memories keeper.old self.old) }
         ensures value { IfOk result (λ v. HasValue (contents basis.now.store.now) (meaning basis.now.rules.now) inst.now (value_view v)) }
@@ -78,7 +77,7 @@ impl Direct {
     {
         let mut asks = self.level();
         let needed = inst.copy(self.alloc)?;
-        self.told(keeper, basis, &mut asks, needed, DEPTH)
+        self.told(keeper, basis, &mut asks, needed, deepest)
     }
 
     // The level of an evaluation that ended, emptied, or a fresh one. One with room for many locations isn't used again: below a long chain each

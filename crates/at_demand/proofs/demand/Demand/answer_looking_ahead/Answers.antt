@@ -14,7 +14,7 @@ use Rattle.at_demand.specs.Answered.{HasTurnedWith, HasWorthyFor}
 use Rattle.at_demand.specs.Known.{answer_view, meaning}
 use Rattle.at_demand.specs.Levels.{IsSearch}
 use Rattle.at_demand.specs.Went.{begun}
-use Rattle.at_demand.proofs.Fitting.{fit_grown, none_fit}
+use Rattle.at_demand.proofs.Fitting.{fit_grown, none_fit, none_noted}
 use Rattle.at_demand.proofs.Standing.{answers_right, asked_same}
 use Rattle.at_demand.proofs.of_nesting.InnerAnswered.{answered_by}
 use Rattle.at_demand.proofs.of_nesting.InnerGains.{gains_none, known_none}
@@ -38,7 +38,8 @@ loop-given-init g c =
       sound = record { right = c.requires.answerable.right; whole = c.requires.wholes };
       standing = c.in_ok-question.ensures.standing entries rules s
           (subst (λ (i : Instance ℕ). IsWellTyped rules (class_shown s) AnyText i) (sym copied) c.requires.typed);
-      fit = none_fit rules s entries q t c.new-trials.ensures.frames c.new-trials.ensures.awaited;
+      fit = none_fit rules s entries q t c.new-trials.ensures.frames c.new-trials.ensures.awaited
+          (none_noted rules (contents s) t.noted.entries c.new-trials.ensures.noted);
       gains = gains_none rules s g.K.Keeper.exact c.args.inst.now entries [] c.args.self.now.work c.args.self.now.few
           (known_none rules (contents s) entries c.requires.answerable.basis.circular c.requires.answerable.right c.requires.answerable.plain);
       sparing = λ exact spare. c.in_ok-question.ensures.sparing entries rules (contents s);
@@ -81,7 +82,11 @@ turn_with-requires g c =
         standing = stands_ahead rules s exact i q inv.same basis first old mid w x y inv.gains inv.sound inv.standing ahead;
         wholes = (sound_ahead rules s exact i q inv.same basis first old mid w x y inv.gains inv.sound inv.standing ahead).whole;
       };
-      fit = fit_grown rules s old mid ahead.worthy.stays q c.loop-given.trials.frames.items c.loop-given.trials.awaited inv.fit;
+      fit = record {
+        chain = fit_grown rules s old mid ahead.worthy.stays q c.loop-given.trials.frames.items
+            c.loop-given.trials.awaited inv.fit.chain;
+        noted = inv.fit.noted;
+      };
     }
 
 pub loop-given-preserved : goal.loop-given-preserved

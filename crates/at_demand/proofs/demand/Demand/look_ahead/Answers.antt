@@ -19,8 +19,8 @@ answer_at_once-requires-clause-held g c =
     c.args.self.now.few (g.K.Keeper.kept_last c.args.self.now.keeper) k.settled k.counts k.stay k.alike in
     let is = held_after up in record { known = is.known; justified = is.justified }
 
-pub returns-then-waiting-due-clause-gains : goal.returns-then-waiting-due-clause-gains
-returns-then-waiting-due-clause-gains g c =
+pub returns-then-not-worth-clause-gains : goal.returns-then-not-worth-clause-gains
+returns-then-not-worth-clause-gains g c =
     let rules = c.args.rules.now in
     let s = c.args.store.now in
     let q = c.args.question.now.inst in
@@ -32,8 +32,8 @@ returns-then-waiting-due-clause-gains g c =
     c.args.self.now.few (g.K.Keeper.kept_last c.args.self.now.keeper) k.settled k.counts k.stay k.alike in
     up.gains
 
-pub returns-then-waiting-due-clause-traces : goal.returns-then-waiting-due-clause-traces
-returns-then-waiting-due-clause-traces g c =
+pub returns-then-not-worth-clause-traces : goal.returns-then-not-worth-clause-traces
+returns-then-not-worth-clause-traces g c =
     let rules = c.args.rules.now in
     let s = c.args.store.now in
     let q = c.args.question.now.inst in
@@ -45,8 +45,8 @@ returns-then-waiting-due-clause-traces g c =
     c.args.self.now.few (g.K.Keeper.kept_last c.args.self.now.keeper) k.settled k.counts k.stay k.alike in
     up.traces
 
-pub returns-in_err-answer_at_once-clause-gains : goal.returns-in_err-answer_at_once-clause-gains
-returns-in_err-answer_at_once-clause-gains g c =
+pub returns-in_err-told-clause-gains : goal.returns-in_err-told-clause-gains
+returns-in_err-told-clause-gains g c =
     let rules = c.args.rules.now in
     let s = c.args.store.now in
     let q = c.args.question.now.inst in
@@ -59,35 +59,8 @@ returns-in_err-answer_at_once-clause-gains g c =
     gains_then rules s g.K.Keeper.exact q before.entries mid (g.K.Keeper.contents c.answer_at_once.new.self.keeper) [] [] [] c.args.self.now.work
     c.keep_again.new.self.work c.answer_at_once.new.self.work up.gains c.answer_at_once.ensures.gains
 
-pub returns-in_err-answer_at_once-clause-traces : goal.returns-in_err-answer_at_once-clause-traces
-returns-in_err-answer_at_once-clause-traces g c =
-    let rules = c.args.rules.now in
-    let s = c.args.store.now in
-    let q = c.args.question.now.inst in
-    let before = held (g.K.Keeper.contents c.args.self.now.keeper) (g.K.Keeper.memories c.args.self.now.keeper) [] c.args.self.now.work c.args.self.now.made in
-    let mid = g.K.Keeper.contents c.keep_again.new.self.keeper in
-    let n = g.K.Keeper.memories c.keep_again.new.self.keeper in
-    let k = c.keep_again.ensures.kept in
-    let up = grown_settled rules s c.requires.idle g.K.Keeper.exact q before mid n k.count c.keep_again.new.self.work c.requires.held
-    c.args.self.now.few (g.K.Keeper.kept_last c.args.self.now.keeper) k.settled k.counts k.stay k.alike in
-    traced_then rules s q before.memories n (g.K.Keeper.memories c.answer_at_once.new.self.keeper) up.traces c.answer_at_once.ensures.traces
-
-pub returns-then-self-before-clause-gains : goal.returns-then-self-before-clause-gains
-returns-then-self-before-clause-gains g c =
-    let rules = c.args.rules.now in
-    let s = c.args.store.now in
-    let q = c.args.question.now.inst in
-    let before = held (g.K.Keeper.contents c.args.self.now.keeper) (g.K.Keeper.memories c.args.self.now.keeper) [] c.args.self.now.work c.args.self.now.made in
-    let mid = g.K.Keeper.contents c.keep_again.new.self.keeper in
-    let n = g.K.Keeper.memories c.keep_again.new.self.keeper in
-    let k = c.keep_again.ensures.kept in
-    let up = grown_settled rules s c.requires.idle g.K.Keeper.exact q before mid n k.count c.keep_again.new.self.work c.requires.held
-    c.args.self.now.few (g.K.Keeper.kept_last c.args.self.now.keeper) k.settled k.counts k.stay k.alike in
-    gains_then rules s g.K.Keeper.exact q before.entries mid (g.K.Keeper.contents c.answer_at_once.new.self.keeper) [] [] [] c.args.self.now.work
-    c.keep_again.new.self.work c.answer_at_once.new.self.work up.gains c.answer_at_once.ensures.gains
-
-pub returns-then-self-before-clause-traces : goal.returns-then-self-before-clause-traces
-returns-then-self-before-clause-traces g c =
+pub returns-in_err-told-clause-traces : goal.returns-in_err-told-clause-traces
+returns-in_err-told-clause-traces g c =
     let rules = c.args.rules.now in
     let s = c.args.store.now in
     let q = c.args.question.now.inst in
@@ -126,24 +99,13 @@ returns-clause-traces g c =
     c.args.self.now.few (g.K.Keeper.kept_last c.args.self.now.keeper) k.settled k.counts k.stay k.alike in
     traced_then rules s q before.memories n (g.K.Keeper.memories c.answer_at_once.new.self.keeper) up.traces c.answer_at_once.ensures.traces
 
-pub returns-then-waiting-due-clause-went : goal.returns-then-waiting-due-clause-went
-returns-then-waiting-due-clause-went g c = went_again (g.K.Keeper.contents c.args.self.now.keeper) (g.K.Keeper.memories c.args.self.now.keeper)
+pub returns-then-not-worth-clause-went : goal.returns-then-not-worth-clause-went
+returns-then-not-worth-clause-went g c = went_again (g.K.Keeper.contents c.args.self.now.keeper) (g.K.Keeper.memories c.args.self.now.keeper)
     (g.K.Keeper.memories c.keep_again.new.self.keeper) c.args.self.now.made c.keep_again.new.self.made c.keep_again.ensures.made
     c.keep_again.ensures.kept.alike
 
-pub returns-in_err-answer_at_once-clause-went : goal.returns-in_err-answer_at_once-clause-went
-returns-in_err-answer_at_once-clause-went g c =
-    let m = g.K.Keeper.memories c.args.self.now.keeper in
-    let n = g.K.Keeper.memories c.keep_again.new.self.keeper in
-    let o = g.K.Keeper.memories c.answer_at_once.new.self.keeper in
-    let mid = g.K.Keeper.contents c.keep_again.new.self.keeper in
-    went_then m n o c.args.self.now.made c.keep_again.new.self.made c.answer_at_once.new.self.made
-    (went_again mid m n c.args.self.now.made c.keep_again.new.self.made c.keep_again.ensures.made c.keep_again.ensures.kept.alike)
-    (went_made mid (g.K.Keeper.contents c.answer_at_once.new.self.keeper) n o c.keep_again.new.self.made c.answer_at_once.new.self.made
-    c.answer_at_once.ensures.makes)
-
-pub returns-then-self-before-clause-went : goal.returns-then-self-before-clause-went
-returns-then-self-before-clause-went g c =
+pub returns-in_err-told-clause-went : goal.returns-in_err-told-clause-went
+returns-in_err-told-clause-went g c =
     let m = g.K.Keeper.memories c.args.self.now.keeper in
     let n = g.K.Keeper.memories c.keep_again.new.self.keeper in
     let o = g.K.Keeper.memories c.answer_at_once.new.self.keeper in

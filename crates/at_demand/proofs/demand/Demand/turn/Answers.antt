@@ -1,5 +1,6 @@
 use Rattle.at_demand.specs.Went.{begun}
-use Rattle.at_demand.proofs.Fitting.{none_fit}
+use Rattle.at_store.specs.Shown.{contents}
+use Rattle.at_demand.proofs.Fitting.{none_fit, none_noted}
 use Rattle.at_demand.proofs.of_steps.TurnedBehind.{can_behind, turned_behind}
 use Rattle.at_demand.proofs.of_traces.TurnsPut.{puts_stay, went_on}
 use Rattle.at_demand.proofs.of_traces.Justified.{stay_then}
@@ -14,7 +15,9 @@ turn_with-requires g c =
           c.keep_again.new.self.work c.args.question.now c.requires.can c.requires.justified
           (g.K.Keeper.kept_last c.args.self.now.keeper) c.args.self.now.few c.keep_again.ensures.kept;
       fit = none_fit c.args.rules.now c.args.store.now mid c.args.question.now c.new-trials.result
-          c.new-trials.ensures.frames c.new-trials.ensures.awaited;
+          c.new-trials.ensures.frames c.new-trials.ensures.awaited
+          (none_noted c.args.rules.now (contents c.args.store.now) c.new-trials.result.noted.entries
+              c.new-trials.ensures.noted);
     }
 
 pub returns : goal.returns

@@ -1,5 +1,7 @@
 use Rattle.std.proofs.Common.{ℕ, Some, sym, ap, ◌∙◌}
 use Rattle.std.proofs.lemmas.Result.{err_from_is_err_and}
+use Rattle.at_store.specs.Shown.{contents}
+use Rattle.at_demand.proofs.Fitting.{noted_same}
 use Rattle.at_demand.proofs.of_steps.Along.{goes_past}
 use Rattle.at_demand.proofs.of_steps.Counted.{broken_on}
 use Rattle.at_demand.proofs.of_steps.KeptIn.{goes_along}
@@ -29,6 +31,9 @@ go_along-requires g c =
     goes_along c.args.rules.now c.args.store.now entries c.args.question.now a.answerable a.standing _ kept
     (not_none_level c.args.question.now.level c.is_none.result c.is_none.ensures c.if-is_none.false) u x
     c.forget.new.self c.forget.ensures.frames c.forget.ensures.awaited
+    (noted_same c.args.rules.now (contents c.args.store.now) c.args.trials.now.noted.entries
+        c.forget.new.self.noted.entries c.forget.ensures.noted
+    c.requires.turns.fit.noted)
 
 pub returns-then-is_none : goal.returns-then-is_none
 returns-then-is_none g c =
@@ -38,8 +43,9 @@ returns-then-is_none g c =
     record {
       turned = passed_over c.args.rules.now c.args.store.now g.K.Keeper.exact a.answerable.basis entries c.args.self.now.work
           c.args.self.now.few a.answerable.plain (record { right = a.answerable.right; whole = a.wholes }) c.args.question.now a.standing
-          (none_is c.args.question.now.level c.is_none.result c.is_none.ensures c.if-is_none.true) c.in_ok-value.value kept c.pass.new.self c.forget.new.self
-          c.forget.ensures.frames c.forget.ensures.awaited c.pass.result c.pass.ensures;
+          (none_is c.args.question.now.level c.is_none.result c.is_none.ensures c.if-is_none.true) c.in_ok-value.value
+          kept c.pass_over.new.question
+          c.pass_over.new.trials c.args.trials.now c.requires.turns.fit c.pass_over.result c.pass_over.ensures;
       traces = puts_same (g.K.Keeper.memories c.args.self.now.keeper);
     }
 

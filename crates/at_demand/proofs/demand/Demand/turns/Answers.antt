@@ -4,7 +4,8 @@ use Rattle.std.specs.declared.alloc.AllocError.{AllocError}
 use Rattle.at_demand.specs.declared.answer.Answer.{Answer as AnswerCode}
 use Rattle.at_demand.specs.Answered.{HasTurnedWith}
 use Rattle.at_demand.specs.Went.{begun}
-use Rattle.at_demand.proofs.Fitting.{fit_grown, none_fit}
+use Rattle.at_store.specs.Shown.{contents}
+use Rattle.at_demand.proofs.Fitting.{fit_grown, none_fit, none_noted}
 use Rattle.at_demand.proofs.of_steps.Given.{given_all, given_answered, given_broken, given_more, given_none, given_settled}
 use Rattle.at_demand.proofs.of_steps.KeptAgain.{again_stays, settled_again}
 use Rattle.at_demand.proofs.of_levels.Resolving.{keeps_groups}
@@ -18,7 +19,9 @@ loop-given-init g c = record {
       c.args.self.now.work c.args.question.now c.args.self.now.few
       (record { right = c.requires.can.answerable.right; whole = c.requires.can.wholes }) c.requires.can.answerable.plain c.requires.can.standing;
   fit = none_fit c.args.rules.now c.args.store.now (g.K.Keeper.contents c.args.self.now.keeper) c.args.question.now c.new-trials.result
-      c.new-trials.ensures.frames c.new-trials.ensures.awaited;
+      c.new-trials.ensures.frames c.new-trials.ensures.awaited
+      (none_noted c.args.rules.now (contents c.args.store.now) c.new-trials.result.noted.entries
+          c.new-trials.ensures.noted);
   within = omega arith;
   traces = stay_same (g.K.Keeper.memories c.args.self.now.keeper);
   went = λ exact. begun;
@@ -140,7 +143,11 @@ turn_with-requires g c =
         standing = so.standing;
         wholes = so.sound.whole;
       };
-      fit = fit_grown c.args.rules.now c.args.store.now old mid
-          (again_stays l old mid (settled_again g.K.Keeper.exact l q.inst c.keep_again.ensures.kept.count old mid c.keep_again.ensures.kept.settled))
-          q c.loop-given.trials.frames.items c.loop-given.trials.awaited c.loop-given.invariant.fit;
+      fit = record {
+        chain = fit_grown c.args.rules.now c.args.store.now old mid
+            (again_stays l old mid (settled_again g.K.Keeper.exact l q.inst c.keep_again.ensures.kept.count old mid
+                c.keep_again.ensures.kept.settled))
+            q c.loop-given.trials.frames.items c.loop-given.trials.awaited c.loop-given.invariant.fit.chain;
+        noted = c.loop-given.invariant.fit.noted;
+      };
     }

@@ -14,4 +14,5 @@ returns c =
       none = refl;
       frames = last_gone c.pop.result v.items c.pop.new.self.items c.pop.ensures.items
           (none_left c.pop.result v.items (vec_len v) c.pop.ensures.variant.1 (omega (arith, v.ok.0)));
+      noted = refl;
     }
