@@ -97,8 +97,8 @@ HaveDemanded rules look entries q = (i j : Instance ℕ) → Among i (keys_of q.
 abbrev pub IsBehind : Contents ℕ → Forms ℕ → Known ℕ → Instance ℕ → Type 0
 IsBehind look forms known k = (c : Instance ℕ) × IsSome (known c) × LeadsOver (EndsSo look forms) c k
 
--- What equations demand that have ended is followed; and the searches of the levels, which pass what is known, have looked at all that they
--- would have looked at if they passed nothing, so far as they have come, but for what is behind known ones.
+-- What equations demand that have ended is met, or has ended. And the searches of the levels, which pass what is known, have looked at what they
+-- look at where they pass nothing, so far as they have come, but for what is behind known ones.
 pub record IsFollowed (rules : Rules) (look : Contents ℕ) (entries : Entries) (q : Question) : Type 0 where
   pub demanded : HaveDemanded rules look entries q
   pub looked : HaveLookedAt look (meaning rules) (IsBehind look (meaning rules) (known_to entries q)) (all_levels q)
