@@ -132,8 +132,12 @@ class Aspects:
         else:
             places = ["Item", *(it for it in ("Leaf", "Pair", "Row") if self.chance.random() < 0.3)]
         for place in places:
-            scope = Scope(self, attribute, PLACES.get(place, place))
+            scope = self.scope(attribute, PLACES.get(place, place))
             attribute.equations[place] = scope.positive(self.chance.randint(1, 4))
+
+    def scope(self, attribute: Attribute, this: str) -> Scope:
+        """What makes the expressions of an equation of the attribute, where `this` has that class."""
+        return Scope(self, attribute, this)
 
 
 class Scope:
@@ -242,17 +246,21 @@ class Scope:
 
     def final(self) -> Expr:
         """A call of an attribute of a lower layer, or what asks for none."""
-        known = [it for it in self.aspects.attributes if it.layer < self.of.layer]
+        known = [it for it in self.any() if it.layer < self.of.layer]
         return self.called(known) if known else self.atom()
+
+    def any(self) -> List[Attribute]:
+        """All attributes that may be called here."""
+        return self.aspects.attributes
 
     def call(self, start: Optional[bool], node: Optional[Expr] = None) -> Expr:
         """A call of an attribute, mostly of one with that start that lies no higher."""
-        return self.called([it for it in self.aspects.attributes if it.start == start and it.layer <= self.of.layer], node)
+        return self.called([it for it in self.any() if it.start == start and it.layer <= self.of.layer], node)
 
     def called(self, known: Sequence[Attribute], node: Optional[Expr] = None) -> Expr:
         """A call of one of these attributes, or now and then of any."""
         if not known or self.often(self.aspects.wild):
-            known = self.aspects.attributes
+            known = self.any()
         asked = self.chance.choice(list(known))
         receiver = node or self.sure()
         given = [self.some_text() if kind == "String" else self.argument() for kind in asked.kinds]

@@ -4,7 +4,7 @@ from __future__ import annotations
 import random
 import re
 from dataclasses import dataclass, replace
-from typing import Callable, List, Optional, Tuple
+from typing import Callable, List, Optional, Tuple, Type
 
 from tools.of_the_program.circular_aspects import NAMES, Aspects, Attribute
 from tools.of_the_program.circular_meaning import Argument, Instance, Meaning
@@ -30,10 +30,10 @@ class Unfit(Exception):
     """A line names what isn't there."""
 
 
-def made(seed: str, count: int) -> Case:
-    """The case of this seed, with so many lines."""
+def made(seed: str, count: int, sort: Type[Aspects] = Aspects, new: float = 0.6) -> Case:
+    """The case of this seed, with so many lines, over aspects of that sort; how often a question is a new one."""
     chance = random.Random(seed)
-    aspects, tree = Aspects(chance), root(chance)
+    aspects, tree = sort(chance), root(chance)
     term, editing, asked, posts = tree.term(), Editing(tree, chance), list[str](), 0
     lines: List[str] = []
     for _ in range(count):
@@ -44,7 +44,7 @@ def made(seed: str, count: int) -> Case:
         elif kind == "wait" and posts:
             lines.append(f"0 wait {chance.randint(1, posts)}")
         elif kind in ("ask", "post"):
-            if not asked or chance.random() < 0.6:
+            if not asked or chance.random() < new:
                 asked.append(question(aspects, tree, chance))
             lines.append(f"0 {kind} {chance.choice(asked[-RECENT:])}")
             if instance(tree, aspects, lines[-1][len(f"0 {kind} "):]) is None:

@@ -70,7 +70,7 @@ def of_list(node: Node) -> List[Tuple[Node, str]]:
 
 
 class Work:
-    """The work of the lines of a case, which asks at once."""
+    """The work of the lines of a case, where each question is answered behind its line."""
 
     def __init__(self, case: Case) -> None:
         self.aspects, self.tree = case.aspects, node_of(case.term)
@@ -82,23 +82,28 @@ class Work:
 
     def follow(self, command: str) -> None:
         """Follows a line."""
-        if command.startswith("ask "):
-            asked = instance(self.tree, self.aspects, command[4:])
-            assert asked is not None
-            self.find(asked)
+        word, _, rest = command.partition(" ")
+        if word in ("ask", "post", "wait"):
+            asked = None if word == "wait" else instance(self.tree, self.aspects, rest)
+            if asked is not None:
+                self.find(asked)
             return
         gone = set(touched(self.tree, command))
         edited(self.tree, command)
-        self.kept = {it: rests for it, rests in self.kept.items() if not rests & gone}
+        self.forget(gone)
         self.leading = Leading(Meaning(self.aspects, self.tree))
 
-    def find(self, asked: Instance) -> None:
-        """Keeps what the question leads to, and counts what wasn't kept."""
+    def forget(self, gone: Set[Location]) -> None:
+        """Forgets what rests on something of this, which an edit touches."""
+        self.kept = {it: rests for it, rests in self.kept.items() if not rests & gone}
+
+    def find(self, asked: Instance) -> List[Instance]:
+        """Keeps what the question leads to: gives what wasn't kept, which is counted."""
         self.leading.meaning.reach(asked)
-        for it in self.met(asked):
-            if it not in self.kept and self.is_kept(it):
-                self.kept[it] = self.leading.support(it)
-                self.done += 1
+        found = [it for it in self.met(asked) if it not in self.kept and self.is_kept(it)]
+        self.kept.update((it, self.leading.support(it)) for it in found)
+        self.done += len(found)
+        return found
 
     def met(self, asked: Instance) -> Set[Instance]:
         """All that the question leads to; where a circle answers it, all to which its search had come that has an outcome, or is led to by
@@ -115,7 +120,11 @@ class Work:
 
     def is_kept(self, of: Instance) -> bool:
         """Whether the instance is of a lazy or circular attribute, and has a value."""
+        return self.is_lazy(of) and (of[1] in WAYS or isinstance(self.leading.meaning.outcomes.get(of), bool))
+
+    def is_lazy(self, of: Instance) -> bool:
+        """Whether the instance is of a lazy or circular attribute."""
         if of[1] in WAYS:
             return of[1] == "item" or of[1] == "to" and self.aspects.lazy_ways
         attribute = self.aspects.named(of[1])
-        return (attribute.lazy or attribute.start is not None) and isinstance(self.leading.meaning.outcomes.get(of), bool)
+        return attribute.lazy or attribute.start is not None

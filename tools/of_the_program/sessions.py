@@ -450,6 +450,21 @@ x version
 ]
 # What an edit may have changed is the same again, or isn't.
 KEPT_AGAIN = [
+    Session("the manual's: a number that is the same again, and another one", """\
+0 ask /Block/Stmt:1/Expr value()
+0 token /Block/Stmt:1/Expr/Right Value 5
+0 token /Block/Stmt:1/Expr/Right Value 2
+0 ask /Block/Stmt:1/Expr value()
+0 token /Block/Stmt:1/Expr/Right Value 7
+0 ask /Block/Stmt:1/Expr value()
+""", """\
+0 = 3
+0 ok 1
+0 ok 2
+0 = 3
+0 ok 3
+0 = 8
+""", 12, 11),
     Session("a token changes, and changes back", """\
 0 ask /Block/Stmt:1/Expr value()
 0 token /Block/Stmt:0/Init Value 4

@@ -8,9 +8,9 @@ import sys
 from contextlib import suppress
 from typing import List, Optional
 
-from attrd import KEPT, AttrdError, StartFault, explain, gathering_options, kept_for, known_options, lasting_options
+from attrd import KEPT, AttrdError, StartFault, explain, forms_options, gathering_options, kept_for, known_options, lasting_options
 from attrd.lexical import TREE_NODES
-from attrd.server import KEPT_A_NODE
+from attrd.server import FORMS_HELP, KEPT_A_NODE
 
 from .journal import SYNCS, JournalFault
 from .program import Unfit
@@ -47,6 +47,7 @@ def options() -> argparse.ArgumentParser:
     reader.add_argument("--half", metavar="SECONDS", type=float, default=30.0,
                         help="ends a client that is silent for so long in the middle of a line (%(default)s)")
     reader.add_argument("--program", default="attrd", help="the program (attrd on the PATH)")
+    reader.add_argument("--forms", metavar="WORDS", default="", help=FORMS_HELP)
     reader.add_argument("--nodes", metavar="N", type=int, default=TREE_NODES, help="how many nodes the tree may have (%(default)s)")
     reader.add_argument("--keep", metavar="N", type=int,
                         help=f"how many values the program keeps at most ({KEPT}, and {KEPT_A_NODE} for each node that the tree may have)")
@@ -65,7 +66,8 @@ def _tell_status(given: argparse.Namespace) -> int:
 def _settings(given: argparse.Namespace) -> Settings:
     """Raises AttrdError."""
     known = known_options(given.program)
-    words = [*lasting_options(known, kept_for(given.nodes) if given.keep is None else given.keep), *gathering_options(known)]
+    kept = kept_for(given.nodes) if given.keep is None else given.keep
+    words = [*lasting_options(known, kept), *gathering_options(known), *forms_options(given.forms)]
     if given.nodes != TREE_NODES:
         words += ["--nodes", str(given.nodes)]
     return Settings(given.program, given.files, [*words, "--slice", str(given.slice)], given.socket, given.mode, given.group, given.tcp,

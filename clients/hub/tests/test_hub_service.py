@@ -242,6 +242,18 @@ class Restarts(unittest.TestCase):
         self.assertEqual(status, 2)
         self.assertIn("0 is not in 1..=16777216", told)
 
+    def test_forms_that_are_left_out_else(self) -> None:
+        hub = self.hub()
+        hub.kill()
+        with open(hub.files[2], "a", encoding="utf-8") as aspects:
+            aspects.write("aspect Loop { syn boolean Block.loop() circular [true] = loop(); }\n")
+        status, told = run_hub("--socket", hub.socket, *hub.files)
+        self.assertEqual(status, 1)
+        self.assertIn("J10 form left out", told)
+        hub.words = ("--forms", "circular")
+        hub.start()
+        self.assertEqual(hub.client().ask("0 ask /Block loop()"), "0 = true")
+
     def test_a_journal_that_doesn_t_fit(self) -> None:
         hub = self.hub()
         hub.client().ask("0 drop /Block/Stmt:0")

@@ -30,10 +30,11 @@ def path_of(uri: str) -> Optional[Path]:
 
 @dataclass
 class Folder:
-    """A folder. `texts` are those of its files that are open in the editor, `versions` the editor's numbers for them; `told` are the
-    files of which faults are shown."""
+    """A folder. `forms` are those of aspects that are read, and left out else. `texts` are those of its files that are open in the editor,
+    `versions` the editor's numbers for them; `told` are the files of which faults are shown."""
 
     path: Path
+    forms: str = ""
     texts: Dict[Path, Text] = field(default_factory=dict)
     versions: Dict[Path, int] = field(default_factory=dict)
     told: Set[Path] = field(default_factory=set)
@@ -76,10 +77,10 @@ class Folder:
         """What all names mean. Raises NoGrammar."""
         if self._names is None:
             grammar, *aspects = self.sources()
-            self._names = Names(Specification(grammar, aspects))
+            self._names = Names(Specification(grammar, aspects, self.forms))
         return self._names
 
     def begin_check(self, program: str) -> None:
         """Begins to look for faults. Raises NoGrammar."""
         grammar, *aspects = self.sources()
-        self.check = checking(grammar, aspects, program)
+        self.check = checking(grammar, aspects, program, self.forms)

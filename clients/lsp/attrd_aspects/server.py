@@ -29,8 +29,8 @@ AT_PLACE: Dict[str, Tuple[Callable[[Folder, Path, int], Any], Any]] = {
 class Server:
     """Serves one editor."""
 
-    def __init__(self, inbox: Inbox, editor: Editor, program: str) -> None:
-        self.inbox, self.editor, self.program = inbox, editor, program
+    def __init__(self, inbox: Inbox, editor: Editor, program: str, forms: str = "") -> None:
+        self.inbox, self.editor, self.program, self.forms = inbox, editor, program, forms
         self.folders: Dict[Path, Folder] = {}
         self.due: List[Folder] = []
         self.status: Optional[int] = None
@@ -102,7 +102,7 @@ class Server:
 
     def folder(self, path: Path) -> Folder:
         """The folder of a file."""
-        return self.folders.setdefault(path.parent, Folder(path.parent))
+        return self.folders.setdefault(path.parent, Folder(path.parent, self.forms))
 
     def open(self, params: Any) -> None:
         """A document is open now. Raises Failure where the message isn't as it should be, as those below."""

@@ -66,8 +66,8 @@ class LanguageFiles:
         checks, why = self.checks()
         counts = [] if checks is None else [checks.aspect]
         try:
-            server = attrd.start(given[0], tree, *given[1:], *counts, program=self.program.file, options=options,
-                                 nodes=nodes if "--nodes" in known else None)
+            server = attrd.start(given[0], tree, *given[1:], *counts, program=self.program.file,
+                                 options=[*options, *attrd.forms_options(self.language.forms)], nodes=nodes if "--nodes" in known else None)
         except attrd.StartFault as fault:
             fault.file = self.named(fault.file)
             raise

@@ -24,8 +24,8 @@ def write_small(folder: Path) -> Path:
 class AspectsClient(Client):
     """An editor with files of one folder."""
 
-    def __init__(self, folder: Path, attrd: Optional[str] = None) -> None:
-        command = [sys.executable, "-m", "attrd_aspects", "--program", attrd or program()]
+    def __init__(self, folder: Path, attrd: Optional[str] = None, *options: str) -> None:
+        command = [sys.executable, "-m", "attrd_aspects", "--program", attrd or program(), *options]
         self.errors = tempfile.TemporaryFile()
         self.process = subprocess.Popen(command, stdin=subprocess.PIPE, stdout=subprocess.PIPE, stderr=self.errors,
                                         env={**os.environ, "PYTHONPATH": os.pathsep.join(PYTHONPATH)})

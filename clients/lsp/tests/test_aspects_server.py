@@ -108,6 +108,18 @@ class OfPlaces(unittest.TestCase):
         place = {"textDocument": {"uri": "file:///x.txt"}, "position": {"line": 0, "character": 0}}
         self.assertIsNone(self.client.ask("textDocument/hover", place))
 
+    def test_forms_that_are_left_out_else(self) -> None:
+        self.client.open("kinds.jrag")
+        self.client.change("kinds.jrag", "aspect", "aspect Loop { syn boolean Basic.a() circular [false] = a(); }\naspect")
+        self.assertEqual(self.client.diagnoses("kinds.jrag"), ["1 J10"])
+        client = AspectsClient(self.folder, None, "--forms", "circular")
+        self.addCleanup(client.close)
+        client.open("kinds.jrag")
+        client.change("kinds.jrag", "aspect", "aspect Loop { syn boolean Basic.a() circular [false] = a(); }\naspect")
+        self.assertEqual(client.diagnoses("kinds.jrag"), [])
+        client.change("kinds.jrag", "[false]", "[0]")
+        self.assertEqual(client.diagnoses("kinds.jrag"), ["1 J10"])
+
     def test_a_program_that_is_not_there(self) -> None:
         client = AspectsClient(self.folder, attrd="./nosuch")
         self.addCleanup(client.close)

@@ -11,6 +11,7 @@ from contextlib import suppress
 from typing import Any, List, Optional
 
 from attrd import KEPT, AttrdError, StartFault, explain
+from attrd.server import FORMS_HELP
 
 from .front import listen
 from .running import Running, Watched
@@ -27,6 +28,7 @@ def options(words: Optional[List[str]] = None) -> argparse.Namespace:
     reader.add_argument("--program", default="attrd", help="the program (attrd on the PATH, where none is given)")
     reader.add_argument("--keep", metavar="N", type=int,
                         help=f"how many values the program keeps at most, if it has the option ({KEPT} where none is given, more for large trees)")
+    reader.add_argument("--forms", metavar="WORDS", default="", help=FORMS_HELP)
     reader.add_argument("--connect", metavar="SOCKET", help="takes the program that runs at this socket already, over these files")
     reader.add_argument("--listen", metavar="SOCKET", help="has other clients speak the server's protocol at this socket, all at once")
     reader.add_argument("--port", type=int, default=0, help="the page's port at 127.0.0.1 (a random one, where none is given)")

@@ -7,7 +7,7 @@ from contextlib import suppress
 from pathlib import Path as FilePath
 from typing import Callable, Deque, List, Optional, Sequence, Set
 
-from attrd import Grammar, ProtocolFault, write_term
+from attrd import Grammar, ProtocolFault, forms_options, write_term
 from attrd.authoring import Source, Specification
 from attrd.declarations import Attribute, attributes_of
 from attrd.grammar import read_file
@@ -27,13 +27,15 @@ EDITS = 100
 class Page:
     """The windows over one hub. `names` are those of the files."""
 
-    def __init__(self, hub: Hub, files: Sequence[str], program: Optional[str], source: Optional[SourceText] = None) -> None:
-        """`files` are the grammar, the tree and the aspects; `program` counts the work, if it is there. Raises AttrdError."""
+    def __init__(self, hub: Hub, files: Sequence[str], program: Optional[str], source: Optional[SourceText] = None, forms: str = "") -> None:
+        """`files` are the grammar, the tree and the aspects, in which these forms are read; `program` counts the work, if it is there. Raises
+        AttrdError."""
         self.source = source
-        self.hub, self.files, self.program = hub, list(files), program
+        self.hub, self.files = hub, list(files)
+        self.program = None if program is None else [program, *forms_options(forms)]
         self.grammar = Grammar.load(files[0])
         sources = [Source(FilePath(name).name, read_file(name).decode("utf-8", "replace")) for name in (files[0], *files[2:])]
-        self.specification = Specification(sources[0], sources[1:])
+        self.specification = Specification(sources[0], sources[1:], forms)
         self.attributes: List[Attribute] = [it for source in sources[1:] for it in attributes_of(source.text)]
         self.names = [FilePath(it).name for it in files]
         self.mirror: Mirror

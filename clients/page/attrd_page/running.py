@@ -8,7 +8,8 @@ import tempfile
 from pathlib import Path as FilePath
 from typing import Any, Dict, List, Optional, Sequence
 
-from attrd import AttrdError, Grammar, gathering_options, kept_for, known_options, lasting_options, sizing_options, write_term
+from attrd import (AttrdError, Grammar, forms_options, gathering_options, kept_for, known_options, lasting_options, sizing_options,
+                   write_term)
 
 from .hub import Hub
 from .page import Page
@@ -44,7 +45,8 @@ class Running:
             except AttrdError:
                 raise await stream.fault() if stream.process is not None else AttrdError(f"{given.connect}: the server has ended") from None
             source = SourceText.load(given.parser, Grammar.load(given.grammar), given.source) if given.source else None
-            page = Page(hub, [given.grammar, given.tree, *given.aspects], given.program if stream.process is not None else None, source)
+            program = given.program if stream.process is not None else None
+            page = Page(hub, [given.grammar, given.tree, *given.aspects], program, source, given.forms)
             await page.begin()
         except BaseException:
             replies.cancel()
@@ -79,7 +81,7 @@ async def _upstream(given: argparse.Namespace, files: Sequence[str]) -> Upstream
         return await connect(given.connect)
     known = known_options(given.program)
     kept = kept_for(_most_nodes(files[1])) if given.keep is None else given.keep
-    options = ["--work", *lasting_options(known, kept), *sizing_options(known), *gathering_options(known)]
+    options = ["--work", *lasting_options(known, kept), *sizing_options(known), *gathering_options(known), *forms_options(given.forms)]
     return await start_program(given.program, files, options)
 
 

@@ -32,8 +32,9 @@ class Copy:
 Processes = Set[asyncio.subprocess.Process]
 
 
-async def count(program: str, grammar: str, aspects: Sequence[str], copy: Copy, running: Processes) -> Optional[int]:
-    """How many values of lazy attributes were evaluated for the probes after the edit; None where the copy couldn't be run.
+async def count(program: Sequence[str], grammar: str, aspects: Sequence[str], copy: Copy, running: Processes) -> Optional[int]:
+    """How many values of lazy attributes were evaluated for the probes after the edit; None where the copy couldn't be run. `program` are the
+    program and the options without which its files would be others.
 
     The process that runs it is among `running` meanwhile: where that is killed, there is no count. It isn't to be cancelled: a
     process that is cancelled while it is being created is waited for without end."""
@@ -41,7 +42,7 @@ async def count(program: str, grammar: str, aspects: Sequence[str], copy: Copy, 
     with tempfile.TemporaryDirectory(prefix="attrd-page-") as folder:
         tree = FilePath(folder) / "tree.txt"
         tree.write_text(copy.term, "utf-8")
-        words = [program, "--work", "--", grammar, str(tree), *aspects]
+        words = [*program, "--work", "--", grammar, str(tree), *aspects]
         before = await _work(words, asked, running)
         if before is None:
             return None

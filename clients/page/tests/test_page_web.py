@@ -15,7 +15,7 @@ from unittest import mock
 
 from page_support import CLONE, SECONDS, Served, program, until
 
-from attrd import known_options
+from attrd import forms_options, known_options
 from attrd_page.work import Copy, count
 
 
@@ -215,7 +215,8 @@ class Options(unittest.TestCase):
         with tempfile.TemporaryDirectory(prefix="attrd-page-test-") as folder:
             noted = Path(folder) / "words"
             with mock.patch.dict(os.environ, {"ATTRD": program(), "WORDS": str(noted)}):
-                for words, wanted in (((), "--work --keep 400000"), (("--keep", "7"), "--work --keep 7")):
+                for words, wanted in (((), "--work --keep 400000"), (("--keep", "7"), "--work --keep 7"),
+                                      (("--keep", "7", "--forms", "circular"), "--work --keep 7 --forms circular")):
                     Served("--program", keeping, *words).close()
                     self.assertEqual(noted.read_text(), wanted)
 
@@ -257,8 +258,18 @@ class Work(unittest.TestCase):
         term = (folder / "tree.txt").read_text("utf-8")
         question = "0 ask $p value()"
         copy = Copy(1, term, ["0 mark p /Block/Stmt:1/Expr"], [question], "token /Block/Stmt:1/Expr/Right Value 5")
-        found = asyncio.run(count(program(), str(folder / "calc.ast"), [str(folder / "calc.jrag")], copy, set()))
+        found = asyncio.run(count([program()], str(folder / "calc.ast"), [str(folder / "calc.jrag")], copy, set()))
         self.assertEqual(found, 2)
+
+    def test_the_work_of_an_edit_where_attributes_are_circular(self) -> None:
+        copy = Copy(1, "A(true)\n", [], ["0 ask / on()"], "token / On false")
+        with tempfile.TemporaryDirectory(prefix="attrd-page-test-") as name:
+            grammar, aspects = Path(name) / "a.ast", Path(name) / "a.jrag"
+            grammar.write_text("A ::= <On:boolean>;\n")
+            aspects.write_text("aspect O { syn boolean A.on() circular [false] = on() || getOn(); }\n")
+            words = [program(), *forms_options("circular")]
+            self.assertEqual(asyncio.run(count(words, str(grammar), [str(aspects)], copy, set())), 1)
+            self.assertIsNone(asyncio.run(count(words[:1], str(grammar), [str(aspects)], copy, set())))
 
 
 if __name__ == "__main__":

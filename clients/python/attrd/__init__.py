@@ -13,8 +13,8 @@ from .grammar import ClassOf, Grammar, Part, Shape
 from .measuring import measured
 from .paths import FromMark, Path, Step
 from .replies import (Answer, AskValue, Circular, Code, Done, Fault, FaultKind, Memory, Ok, Opened, RefusedReply, Reply, Value)
-from .server import (KEPT, Server, Text, connect, gathering_options, kept_for, known_options, lasting_options, nodes_of, program_version,
-                     sizing_options, start)
+from .server import (KEPT, Server, Text, connect, forms_options, gathering_options, kept_for, known_options, lasting_options, nodes_of,
+                     program_version, sizing_options, start)
 from .session import Mark, Question, Session
 from .terms import Node, read_term, write_term
 from .versions import VERSION, VersionWarning
@@ -29,6 +29,6 @@ __all__ = [
     "Reason", "Refused", "RefusedReply", "Reply", "ReplyTimeout", "Server", "ServerLost", "ServerRestarted", "Session",
     "SetNode", "SetToken", "Shape", "StartFault", "Step", "SyntaxFault", "TermFault", "Text", "TreeDiffers", "UnknownName",
     "Update", "VERSION", "Value", "VersionWarning", "View", "Views", "Why",
-    "accepted", "applied", "connect", "diagnostics", "difference", "explain", "gathering_options", "kept_for",
+    "accepted", "applied", "connect", "diagnostics", "difference", "explain", "forms_options", "gathering_options", "kept_for",
     "known_options", "lasting_options", "measured", "nodes_of", "program_version", "read_term", "sizing_options", "start", "write_term",
 ]

@@ -10,6 +10,7 @@ from .errors import AttrdError, StartFault
 from .explain import explain
 from .lexical import TREE_NODES
 from .prompt import Prompt
+from .server import FORMS_HELP
 
 
 def options(words: Optional[List[str]] = None) -> argparse.Namespace:
@@ -23,6 +24,7 @@ def options(words: Optional[List[str]] = None) -> argparse.Namespace:
     reader.add_argument("--program", default="attrd", help="the program (attrd on the PATH, where none is given)")
     reader.add_argument("--faults", metavar="ATTRIBUTE", action="append", default=[],
                         help="an attribute that tells a fault of its node; then the command 'faults' finds all of them")
+    reader.add_argument("--forms", metavar="WORDS", default="", help=FORMS_HELP)
     reader.add_argument("--nodes", metavar="N", type=int, help="how many nodes the tree may have (65536, where none is given)")
     return reader.parse_args(words)
 
@@ -35,7 +37,7 @@ def main(words: Optional[List[str]] = None) -> int:
     given = options(words)
     files = [given.grammar, given.tree, *given.aspects]
     try:
-        with Prompt.start(given.grammar, given.tree, given.aspects, given.program, given.faults, given.nodes) as prompt:
+        with Prompt.start(given.grammar, given.tree, given.aspects, given.program, given.faults, given.nodes, given.forms) as prompt:
             return prompt.run()
     except StartFault as fault:
         try:

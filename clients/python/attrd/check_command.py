@@ -8,6 +8,7 @@ from typing import List
 from .authoring import Source, check
 from .errors import AttrdError
 from .grammar import read_file
+from .server import FORMS_HELP
 
 
 def main(words: List[str]) -> int:
@@ -17,9 +18,10 @@ def main(words: List[str]) -> int:
     reader.add_argument("grammar", metavar="GRAMMAR")
     reader.add_argument("aspects", metavar="ASPECT", nargs="*")
     reader.add_argument("--program", default="attrd", help="the program (attrd on the PATH, where none is given)")
+    reader.add_argument("--forms", metavar="WORDS", default="", help=FORMS_HELP)
     given = reader.parse_args(words)
     try:
-        found, following = check(_source(given.grammar), [_source(it) for it in given.aspects], given.program)
+        found, following = check(_source(given.grammar), [_source(it) for it in given.aspects], given.program, given.forms)
     except AttrdError as fault:
         print(fault, file=sys.stderr)
         return 3

@@ -8,12 +8,12 @@ from typing import List, Tuple
 from .errors import text_of
 
 _PASSED_OVER = re.compile(r'//[^\n]*|/\*.*?\*/|"(?:[^"\\\n]|\\.)*"', re.S)
-_DECLARED = re.compile(r"\b(syn|inh)\s+(?:(lazy)\s+)?(\w+)\s+(\w+)\s*\.\s*(\w+)\s*\(([^()]*)\)")
+_DECLARED = re.compile(r"\b(syn|inh)\s+(?:(lazy)\s+)?(\w+)\s+(\w+)\s*\.\s*(\w+)\s*\(([^()]*)\)(\s*circular\b)?")
 
 
 @dataclass(frozen=True)
 class Attribute:
-    """A declared attribute: `kind` is int, boolean, String or a class; `parameters` are the kinds of its parameters."""
+    """A declared attribute: `kind` is int, boolean, String or a class; `parameters` are the kinds of its parameters. A circular one is lazy."""
 
     of: str
     name: str
@@ -30,7 +30,7 @@ def attributes_of(text: str) -> List[Attribute]:
     """
     plain = _PASSED_OVER.sub(lambda it: '""' if it[0].startswith('"') else " ", text_of("an aspect", text))
     found = []
-    for form, lazy, kind, of, name, parameters in _DECLARED.findall(plain):
+    for form, lazy, kind, of, name, parameters, circular in _DECLARED.findall(plain):
         kinds = tuple(it.split()[0] for it in parameters.split(",") if it.strip())
-        found.append(Attribute(of, name, kind, kinds, form == "inh", bool(lazy)))
+        found.append(Attribute(of, name, kind, kinds, form == "inh", bool(lazy or circular)))
     return found

@@ -44,7 +44,8 @@ SENTENCES: Dict[str, Tuple[str, str]] = {
     "J9": ("This equation is for an attribute that isn't declared.",
            "Declare it by `syn` for the class or one above it, or by `inh` where the equation is for a component."),
     "J10": ("This form of JastAdd is left out here.",
-            "There are `syn`, `inh` and `eq`, with `= E;` or `{ return E; }`; no statements, `nta`, `circular`, `refine` or imports."),
+            "There are `syn`, `inh` and `eq`, with `= E;` or `{ return E; }`; no statements, `nta`, `refine` or imports, and `circular` with "
+            "`--forms circular` alone."),
     "J11": ("The aspect is over a limit.",
             "Expressions nest at most 64 deep, 2,000 attributes may be declared, a text has at most 4,096 bytes, a file 4,194,304."),
     "J12": ("An attribute has the name of an accessor.", "Names such as getB, hasB, getNumB, equals and getChild are taken: use another one."),

@@ -16,7 +16,7 @@ from .errors import AttrdError
 from .grammar import Grammar, Shape, read_file
 from .paths import FromMark, Path
 from .replies import Done, Ok, Opened, Value
-from .server import Server, start
+from .server import Server, forms_options, start
 from .terms import Node
 from .why import Reason, Step, Why, read_instance
 
@@ -118,17 +118,21 @@ class Prompt:
 
     @staticmethod
     def start(grammar: str, tree: str, aspects: Sequence[str], program: str, faults: Sequence[str],
-              nodes: Optional[int] = None) -> Prompt:
-        """Starts the program, with so many nodes for its tree where that is said. Raises StartFault and AttrdError; a grammar that is refused is told by the program."""
+              nodes: Optional[int] = None, forms: str = "") -> Prompt:
+        """Starts the program, with so many nodes for its tree where that is said, and has it read these forms of aspects.
+
+        Raises StartFault and AttrdError; a grammar that is refused is told by the program."""
         texts = [read_file(it).decode("utf-8", "replace") for it in aspects]
-        server = start(grammar, tree, *aspects, program=program, nodes=nodes)
+        options = forms_options(forms)
+        server = start(grammar, tree, *aspects, program=program, options=options, nodes=nodes)
         known, sources = Grammar.load(grammar), [Source(name, text) for name, text in zip(aspects, texts)]
-        specification = Specification(Source(grammar, read_file(grammar).decode("utf-8")), sources)
+        specification = Specification(Source(grammar, read_file(grammar).decode("utf-8")), sources, forms)
         if not faults:
             return Prompt(server, known, specification, None)
         server.close()
         checks = diagnostics(known, texts, faults)
-        return Prompt(start(grammar, tree, *aspects, checks.aspect, program=program, nodes=nodes), known, specification, checks)
+        server = start(grammar, tree, *aspects, checks.aspect, program=program, options=options, nodes=nodes)
+        return Prompt(server, known, specification, checks)
 
     def __enter__(self) -> Prompt:
         return self

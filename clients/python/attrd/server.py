@@ -22,6 +22,7 @@ from .versions import VersionWarning, misfit
 # How many values a program that runs long keeps, by `--keep`: six for each node of the largest tree that it takes without `--nodes`.
 KEPT, KEPT_A_NODE = 400_000, 6
 HELP_SECONDS = 30.0
+FORMS_HELP = "which forms of aspects are read that are left out else, as `circular`, with commas between them"
 _VERSION = re.compile(r"attrd (\S+)\s*\Z")
 _OPTION = re.compile(r"--[a-z]+(?:-[a-z]+)*")
 # Programs of before refuse one of these beside the other: the help says where they don't.
@@ -146,6 +147,12 @@ def nodes_of(known: FrozenSet[str]) -> int:
 def sizing_options(known: FrozenSet[str], nodes: int = MOST_NODES) -> List[str]:
     """The option by which the tree may have so many nodes, where the program knows it."""
     return ["--nodes", str(nodes)] if "--nodes" in known else []
+
+
+def forms_options(forms: str) -> List[str]:
+    """The option by which these forms of aspects are read, which are left out else: words with commas between them, as `circular`; none
+    where there are none."""
+    return ["--forms", forms] if forms else []
 
 
 def kept_for(nodes: int) -> int:

@@ -77,7 +77,7 @@ class Aspects(unittest.TestCase):
                 (12, "J8"): "Program.getBlock() to Block.getStmt() to Decl.getInit() to Use",
                 (14, "J4"): "`==` doesn't stand between a String and a String",
                 (15, "J10"): "Give the equation in a class below",
-                (16, "J10"): "`circular` begins a form that is left out here. Ask along a tree instead",
+                (16, "J10"): "`circular` begins a form that is left out here. A boolean one is read with `--forms circular`",
                 (18, "J10"): "A body is one `return E;`",
                 (22, "J6"): "It stands already at bad.jrag:8",
                 (23, "J3"): "Have the node above say it: `inh",
@@ -96,6 +96,27 @@ class Aspects(unittest.TestCase):
                 aspects = [it for it in sorted((SAMPLES / folder).glob("*.jrag")) if it.name not in ("naive.jrag", "fixpoints.jrag")]
             found = check(Source("x.ast", grammar.read_text()), [Source(it.name, it.read_text()) for it in aspects], PROGRAM)
             self.assertEqual(found, ([], 0), folder)
+
+    def test_forms_that_are_left_out_else(self):
+        """With the form circular attributes are read; without it each of them is told, and nothing that follows."""
+        for folder, name in (("flow", "flow"), ("grammars", "grammars"), ("machines", "fixpoints")):
+            aspects = [Source(it.name, it.read_text()) for it in sorted((SAMPLES / folder).glob("*.jrag")) if it.stem in (name, folder)]
+            grammar = Source("x.ast", (SAMPLES / folder / f"{folder}.ast").read_text())
+            self.assertEqual(check(grammar, aspects, PROGRAM, "circular"), ([], 0), folder)
+            left_out = [(it.name, offset.start()) for it in aspects for offset in re.finditer(r"\bcircular(?= \[)", it.text)]
+            self.assertEqual([(it.file, it.start, it.code) for it in check(grammar, aspects, PROGRAM).findings],
+                             [(file, start, "J10") for file, start in left_out], folder)
+            self.assertGreater(len(left_out), 1)
+
+    def test_faults_of_circular_attributes(self):
+        text = "aspect F { syn boolean Block.a() circular [0] = a(); syn int Block.b() nta circular [false] = 1; " \
+               "syn boolean Block.c() circular [true] = c() && d(); }"
+        found = check(GRAMMAR, [Source("f.jrag", text)], PROGRAM, "circular").findings
+        told = ["`0` begins a form", "No aspect goes on with `nta` here", "Block has no attribute or accessor d"]
+        self.assertEqual([it.code for it in found], ["J10", "J1", "J3"])
+        for it, part in zip(found, told):
+            self.assertIn(part, it.message)
+        self.assertRaises(attrd.StartFault, check, GRAMMAR, [CALC], PROGRAM, "nix")
 
     def test_each_refused_file_of_the_manual(self):
         """The fault that the program tells is among those that are found, at its place."""

@@ -225,6 +225,6 @@ class Kinds(unittest.TestCase):
         self.assertRaises(attrd.AspectFault, Diagnostics, grammar, [Check("Nix", "a", "int")])
 
     def test_declarations(self):
-        text = 'aspect A { // syn int A.no();\n syn lazy int A.a(String n, B b) = "inh int A.no()".equals(n) ? 1 : 0; inh B\n A . b ( ); /* syn int A.no(); */ }'
+        text = 'aspect A { // syn int A.no();\n syn lazy int A.a(String n, B b) = "inh int A.no()".equals(n) ? 1 : 0; inh B\n A . b ( ); /* syn int A.no(); */ syn boolean A.c() circular [false] = c(); }'
         self.assertEqual([(it.of, it.name, it.kind, it.parameters, it.is_inherited, it.is_lazy) for it in attributes_of(text)],
-                         [("A", "a", "int", ("String", "B"), False, True), ("A", "b", "B", (), True, False)])
+                         [("A", "a", "int", ("String", "B"), False, True), ("A", "b", "B", (), True, False), ("A", "c", "boolean", (), False, True)])

@@ -6,7 +6,7 @@ import unittest
 from pathlib import Path as FilePath
 
 from attrd.prompt import Prompt
-from support import CALCULATOR, PROGRAM
+from support import CALCULATOR, PROGRAM, SAMPLES
 
 FILES = [str(CALCULATOR / it) for it in ("calc.ast", "tree.txt", "calc.jrag")]
 
@@ -60,6 +60,14 @@ class Process(unittest.TestCase):
     def test_pasted_from_the_manual(self):
         typed = "$ attrd calc.ast tree.txt calc.jrag\n> 0 version\n0 ok 0\n> 0 drop /Block/Stmt:0\n0 ok 1\nquit\n> 0 version\n"
         self.assertEqual(self.run_prompt(typed, *FILES), (0, "0 ok 0\n0 ok 1\n", ""))
+
+    def test_forms_that_are_left_out_else(self):
+        flow = SAMPLES / "flow"
+        files = [str(flow / it) for it in ("flow.ast", "tree.txt", "flow.jrag")]
+        self.assertEqual(self.run_prompt("version\n", "--forms", "circular", *files), (0, "0 ok 0\n", ""))
+        status, told, errors = self.run_prompt("version\n", *files)
+        self.assertEqual((status, told), (1, ""))
+        self.assertIn("J10 form left out.", errors)
 
     def test_faults(self):
         status, told, errors = self.run_prompt("", *FILES, str(CALCULATOR / "bad.jrag"))

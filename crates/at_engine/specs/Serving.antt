@@ -25,13 +25,15 @@ pub record Calls {K T E : Type 0} (entries : K → Entries) (memories : K → Me
 
 -- A line that isn't empty was served, and its reply, which may be `memory`, is appended. Where what is kept was spare, it is so still,
 -- where what belongs together is kept together; and just what the line leaves and adds is kept.
-pub record IsServed {K : Type 0} (exact : Bool) (entries : K → Entries) (memories : K → Memories) (line : List ℕ) (old new : Engine K) (before after : List ℕ)
-    (wants : Bool) : Type 0 where
+pub record IsServed {K : Type 0} (exact : Bool) (entries : K → Entries) (memories : K → Memories) (line : List ℕ) (old new : Engine K)
+    (before after : List ℕ) (wants : Bool) : Type 0 where
   pub served : (reply : Reply) × IsStep exact entries memories line old new (wants, reply) × (after ≡ before ++ reply_text reply)
   pub spare : KeepsWhole (rules_of old) wants → IsTrue exact → IsSpare entries old → IsSpare entries new
   pub keeps : IsTrue exact → IsSpare entries old → KeepsServed entries wants line old new
 
 -- so it was; but an empty line changes and appends nothing
-abbrev pub TakesLine : {K : Type 0} → (exact : Bool) → (entries : K → Entries) → (memories : K → Memories) → (line : List ℕ) → (old new : Engine K) → (before after : List ℕ) → Type 0
+abbrev pub TakesLine : {K : Type 0} → (exact : Bool) → (entries : K → Entries) → (memories : K → Memories) → (line : List ℕ)
+    → (old new : Engine K) → (before after : List ℕ) → Type 0
 TakesLine exact entries memories [] old new before after = (new ≡ old) × (after ≡ before)
-TakesLine exact entries memories (b ∷ bs) old new before after = (wants : Bool) × IsServed exact entries memories (b ∷ bs) old new before after wants
+TakesLine exact entries memories (b ∷ bs) old new before after =
+    (wants : Bool) × IsServed exact entries memories (b ∷ bs) old new before after wants

@@ -127,35 +127,37 @@ CountsTurns (Some limit) given counted (Some a) = (counted ≡ given) × (given 
 -- search, and they are turns of each one for which it stood; and where no attribute is circular, turns of its chain. Where none of
 -- them answers it, it stands for where these have come, and so many turns more are counted. Before each what these memories have may be
 -- kept again.
-pub record AreTurns (rules : Rules) (s : Shown) (m : Memories) (given : ℕ) (before : Entries) (o : Option Question) (i : Instance ℕ) (after : Entries)
-    (end : Question) (a : Option (Answer ℕ)) : Type 0 where
+pub record AreTurns (rules : Rules) (s : Shown) (m : Memories) (given : ℕ) (before : Entries) (o : Option Question) (i : Instance ℕ)
+    (after : Entries) (end : Question) (a : Option (Answer ℕ)) : Type 0 where
   pub stood : (u : Search ℕ) × StandsAs rules s before o i u
-  pub searched : (u : Search ℕ) → StandsAs rules s before o i u → (v : Search ℕ) × AreTurnsOfSearch rules s m given before u after v a
-      × IfNone a (StandsFor rules s after end v)
+  pub searched : (u : Search ℕ) → StandsAs rules s before o i u
+      → (v : Search ℕ) × AreTurnsOfSearch rules s m given before u after v a × IfNone a (StandsFor rules s after end v)
   pub plainly : HasNoneCircular rules → AreTurnsOfChain rules s m given before (came_to o i) after (under_way end) a
   pub counted : IfNone a (end.turns ≡ turns_given o + given)
 
 -- memory ran out in one of so many turns at most, and those before it were given so
-pub record BreaksOff (rules : Rules) (s : Shown) (m : Memories) (limit : ℕ) (before : Entries) (o : Option Question) (i : Instance ℕ) (after : Entries)
-    : Type 0 where
+pub record BreaksOff (rules : Rules) (s : Shown) (m : Memories) (limit : ℕ) (before : Entries) (o : Option Question) (i : Instance ℕ)
+    (after : Entries) : Type 0 where
   pub stood : (u : Search ℕ) × StandsAs rules s before o i u
   pub searched : (u : Search ℕ) → StandsAs rules s before o i u → BreaksOffSearch rules s m limit before u after
   pub plainly : HasNoneCircular rules → BreaksOffChain rules s m limit before (came_to o i) after
 
 -- memory ran out in one of the turns that may be given
-abbrev pub BreaksOffIn : Rules → Shown → Memories → (limit : Option ℕ) → Entries → Option Question → Instance ℕ → Entries → Type 0
+abbrev pub BreaksOffIn : Rules → Shown → Memories → (limit : Option ℕ) → Entries → Option Question → Instance ℕ → Entries
+    → Type 0
 BreaksOffIn rules s m limit before o i after = (n : ℕ) × IsWithin limit n × BreaksOff rules s m n before o i after
 
 -- From where the question for the instance had come the turns led there, and to these values that are kept.
-abbrev pub TurnsLead : {K : Type 0} → (entries : K → Entries) → (memories : K → Memories) → Engine K → Demand K → Posted → (given : ℕ) → Instance ℕ → Question
-    → Option (Answer ℕ) → Type 0
+abbrev pub TurnsLead : {K : Type 0} → (entries : K → Entries) → (memories : K → Memories) → Engine K → Demand K → Posted
+    → (given : ℕ) → Instance ℕ → Question → Option (Answer ℕ) → Type 0
 TurnsLead entries memories e d p given i end o =
-    AreTurns (rules_of e) e.store (memories e.demand.keeper) given (entries e.demand.keeper) p.question i (entries d.keeper) end o
+    AreTurns (rules_of e) e.store (memories e.demand.keeper) given (entries e.demand.keeper) p.question i
+    (entries d.keeper) end o
 
 -- They led to the answer that is told so. With an exact keeper, all that is worth keeping for the instance is kept; for a circle, where
 -- no attribute is circular.
-pub record ComesToEnd {K : Type 0} (exact : Bool) (entries : K → Entries) (memories : K → Memories) (e : Engine K) (d : Demand K) (p : Posted) (given : ℕ) (told : FormOf)
-    (i : Instance ℕ) : Type 0 where
+pub record ComesToEnd {K : Type 0} (exact : Bool) (entries : K → Entries) (memories : K → Memories) (e : Engine K) (d : Demand K)
+    (p : Posted) (given : ℕ) (told : FormOf) (i : Instance ℕ) : Type 0 where
   pub end : Question
   pub answer : Answer ℕ
   pub named : Answer Node
@@ -165,21 +167,27 @@ pub record ComesToEnd {K : Type 0} (exact : Bool) (entries : K → Entries) (mem
   pub all : IsTrue exact → IsSpare entries e → HasWorthyFor (rules_of e) (contents e.store) i answer (entries d.keeper)
 
 -- By so many turns the question is answered so: its words are refused, and nothing was tried; or each tried one equation.
-abbrev pub EndsSo : {K : Type 0} → (exact : Bool) → (entries : K → Entries) → (memories : K → Memories) → Engine K → Demand K → Posted → (given : ℕ) → FormOf → Type 0
-EndsSo exact entries memories e d p given told = (AreRefused e p × (d ≡ e.demand) × (given ≡ 1)) ⊎ AreAsked e p (ComesToEnd exact entries memories e d p given told)
+abbrev pub EndsSo : {K : Type 0} → (exact : Bool) → (entries : K → Entries) → (memories : K → Memories) → Engine K → Demand K
+    → Posted → (given : ℕ) → FormOf → Type 0
+EndsSo exact entries memories e d p given told = (AreRefused e p × (d ≡ e.demand) × (given ≡ 1))
+    ⊎ AreAsked e p (ComesToEnd exact entries memories e d p given told)
 
 -- Memory ran out: before its words were looked at, and nothing was tried; or in a turn, or behind the last one.
-abbrev pub RunsOut : {K : Type 0} → (entries : K → Entries) → (memories : K → Memories) → (limit : Option ℕ) → Engine K → Demand K → Posted → Type 0
+abbrev pub RunsOut : {K : Type 0} → (entries : K → Entries) → (memories : K → Memories) → (limit : Option ℕ) → Engine K
+    → Demand K → Posted → Type 0
 RunsOut entries memories limit e d p = (d ≡ e.demand)
-    ⊎ AreAsked e p (λ i. BreaksOffIn (rules_of e) e.store (memories e.demand.keeper) limit (entries e.demand.keeper) p.question i (entries d.keeper))
+    ⊎ AreAsked e p (λ i. BreaksOffIn (rules_of e) e.store (memories e.demand.keeper) limit (entries e.demand.keeper)
+    p.question i (entries d.keeper))
 
 -- the question has no answer by so many turns, each of which tried one equation
-abbrev pub StaysOpen : {K : Type 0} → (entries : K → Entries) → (memories : K → Memories) → Engine K → Demand K → Posted → (given : ℕ) → Option Question → Type 0
-StaysOpen entries memories e d p given now = AreAsked e p (λ i. (q : Question) × (now ≡ Some q) × TurnsLead entries memories e d p given i q None)
+abbrev pub StaysOpen : {K : Type 0} → (entries : K → Entries) → (memories : K → Memories) → Engine K → Demand K → Posted
+    → (given : ℕ) → Option Question → Type 0
+StaysOpen entries memories e d p given now =
+    AreAsked e p (λ i. (q : Question) × (now ≡ Some q) × TurnsLead entries memories e d p given i q None)
 
 -- what turns of the question have done, and how many are counted
-abbrev pub Came : {K E : Type 0} → (exact : Bool) → (entries : K → Entries) → (memories : K → Memories) → (limit : Option ℕ) → Engine K → Demand K → Posted → Option Question
-    → Result (ℕ × Option Form) E → Type 0
+abbrev pub Came : {K E : Type 0} → (exact : Bool) → (entries : K → Entries) → (memories : K → Memories) → (limit : Option ℕ)
+    → Engine K → Demand K → Posted → Option Question → Result (ℕ × Option Form) E → Type 0
 Came exact entries memories limit e d p now (Ok (counted, None)) =
     (given : ℕ) × CountsTurns {A = Form} limit given counted None × StaysOpen entries memories e d p given now
 Came exact entries memories limit e d p now (Ok (counted, Some f)) =
@@ -188,22 +196,24 @@ Came exact entries memories limit e d p now (Ok (counted, Some f)) =
 Came exact entries memories limit e d p now (Err e') = RunsOut entries memories limit e d p
 
 -- so it is of the question at the position, which has come so far now
-pub record HasGone {K E : Type 0} (exact : Bool) (entries : K → Entries) (memories : K → Memories) (limit : Option ℕ) (old new : Engine K) (position : ℕ) (p : Posted)
-    (r : Result (ℕ × Option Form) E) : Type 0 where
+pub record HasGone {K E : Type 0} (exact : Bool) (entries : K → Entries) (memories : K → Memories) (limit : Option ℕ)
+    (old new : Engine K) (position : ℕ) (p : Posted) (r : Result (ℕ × Option Form) E) : Type 0 where
   pub now : Option Question
   pub reopens : Reopens position old.posts new.posts p now
   pub came : Came exact entries memories limit old new.demand p now r
 
 -- So many turns of the question have answered it, and it is told so; or they ended for want of memory.
-abbrev pub AnswersIn : {K : Type 0} → (exact : Bool) → (entries : K → Entries) → (memories : K → Memories) → (limit : Option ℕ) → Engine K → Demand K → Posted → (given : ℕ)
-    → Bool × Reply → Type 0
+abbrev pub AnswersIn : {K : Type 0} → (exact : Bool) → (entries : K → Entries) → (memories : K → Memories) → (limit : Option ℕ)
+    → Engine K → Demand K → Posted → (given : ℕ) → Bool × Reply → Type 0
 AnswersIn exact entries memories limit e d p given (false, reply) = EndsSo exact entries memories e d p given reply.form
 AnswersIn exact entries memories limit e d p given (true, reply) = RunsOut entries memories limit e d p
 
 -- so all turns have done that a question needs, whose answer is told
-abbrev pub HasEnded : {K E : Type 0} → (exact : Bool) → (entries : K → Entries) → (memories : K → Memories) → Engine K → Demand K → Posted → Result Form E → Type 0
+abbrev pub HasEnded : {K E : Type 0} → (exact : Bool) → (entries : K → Entries) → (memories : K → Memories) → Engine K → Demand K
+    → Posted → Result Form E → Type 0
 HasEnded exact entries memories e d p (Ok f) =
-    (given : ℕ) × (said : IsAnswerTo (rules_of e) (state_of e) (posted_view (path e.store) p) f) × EndsSo exact entries memories e d p given said.form
+    (given : ℕ) × (said : IsAnswerTo (rules_of e) (state_of e) (posted_view (path e.store) p) f)
+    × EndsSo exact entries memories e d p given said.form
 HasEnded exact entries memories e d p (Err e') = RunsOut entries memories None e d p
 
 -- what is told of the question, where this is its answer, on the tree of that version

@@ -21,10 +21,11 @@ ghost use Rattle.at_engine.specs.Turning.{AreTurns, BreaksOff};
 
 /// Where no attribute is circular, turns are those of a question's chain.
 pub fn turns_where_none_is_circular()
-    ensures turns { (rules : Rules) → HasNoneCircular rules → (s : Shown) (m : Memories) (given : ℕ) (before after : Entries) (o : Option Question) (i : Instance ℕ)
-        (end : Question) (a : Option (Answer ℕ)) → AreTurns rules s m given before o i after end a
+    ensures turns { (rules : Rules) → HasNoneCircular rules → (s : Shown) (m : Memories) (given : ℕ) (before after : Entries)
+        (o : Option Question) (i : Instance ℕ) (end : Question) (a : Option (Answer ℕ)) → AreTurns rules s m given before o i after end a
         → AreTurnsOfChain rules s m given before (came_to o i) after (under_way end) a }
-    ensures breaks { (rules : Rules) → HasNoneCircular rules → (s : Shown) (m : Memories) (limit : ℕ) (before after : Entries) (o : Option Question) (i : Instance ℕ)
+    ensures breaks { (rules : Rules) → HasNoneCircular rules → (s : Shown) (m : Memories) (limit : ℕ) (before after : Entries)
+        (o : Option Question) (i : Instance ℕ)
         → BreaksOff rules s m limit before o i after → BreaksOffChain rules s m limit before (came_to o i) after }
 {}
 

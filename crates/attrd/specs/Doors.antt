@@ -12,14 +12,14 @@ use Rattle.attrd.specs.declared.serving.ConnectionFault.{ConnectionFault}
 use Rattle.attrd.specs.declared.serving.ConnectionFault.TheVariants.{Socket, Run}
 
 -- how a connection ended that a run has served
-abbrev pub ending : Result Report RunFault → Result (Unit {0}) ConnectionFault
-ending (Ok report) = Ok tt
+abbrev pub ending : Result Report RunFault → Result Report ConnectionFault
+ending (Ok report) = Ok report
 ending (Err fault) = Err (Run fault)
 
 -- One has come, a run has served what can be read from it, and what that has written was sent to it; or the door
 -- refused it, and nothing was done. Either is told.
 pub data ServesNext (rules : Rules) (slice : ℕ) (old new : State) (door later : Seen)
-    (told : Result (Unit {0}) ConnectionFault) : Type 0 where
+    (told : Result Report ConnectionFault) : Type 0 where
   by_run : (run : Result Report RunFault) (opened : Seen) (readable left before after : Option (List ℕ))
       → Comes door opened readable before → Ran max_reads run rules slice old new readable left before after
       → IsServed opened later after → told ≡ ending run
@@ -32,6 +32,6 @@ pub data ServesAll (rules : Rules) (slice : ℕ) (old : State) (door : Seen) : (
     → Served → Type 0 where
   none : ServesAll rules slice old door 0 old door nobody
   one_more : {n : ℕ} {mid new : State} {between later : Seen} {served : Served}
-      {told : Result (Unit {0}) ConnectionFault}
+      {told : Result Report ConnectionFault}
       → ServesAll rules slice old door n mid between served → ServesNext rules slice mid new between later told
       → ServesAll rules slice old door (n + 1) new later (counted told served)

@@ -1,8 +1,8 @@
 //! The connections of a socket, served one after the other.
 ghost use Rattle.std.specs.Prelude.{◌≡◌, ◌≤◌, ◌+◌, ◌<◌, ◌^◌, ◌==◌, IsTrue};
-ghost use Rattle.at_engine.specs.Engines.{rules_of, slice_of, state_of, IsSound, NoneAreCircular};
-ghost use Rattle.at_engine.specs.Keeping.{IsSpare};
-ghost use Rattle.attrd.specs.Connections.{counted, faults, nobody};
+ghost use Rattle.at_engine.specs.Engines.{rules_of, slice_of, state_of, IsSound};
+ghost use Rattle.at_engine.specs.Keeping.{IsSpare, KeepsWhole};
+ghost use Rattle.attrd.specs.Connections.{counted, faults, lack, lacks, nobody};
 ghost use Rattle.attrd.specs.Doors.{ServesAll, ServesNext, ending};
 
 use crate::door::Door;
@@ -26,6 +26,8 @@ pub struct Served {
     pub memory: u16,
     /// The connection wasn't accepted.
     pub socket: u16,
+    /// How many were served to their end, where a line or a question was answered `memory`.
+    pub lacking: u16,
 }
 
 /// Why a connection ended before its input.
@@ -72,6 +74,7 @@ impl Served {
             reads: 0,
             memory: 0,
             socket: 0,
+            lacking: 0,
         }
     }
 
@@ -83,14 +86,18 @@ impl Served {
     }
 
     /// One more connection ended.
-    fn count(&mut self, ended: Result<(), ConnectionFault>)
+    fn count(&mut self, ended: Result<Report, ConnectionFault>)
         requires few { self.old.ended + 1 < 2 ^ 16 }
-        requires within { faults self.old ≤ self.old.ended }
+        requires within { faults self.old + self.old.lacking ≤ self.old.ended }
         ensures { self.new ≡ counted ended self.old }
     {
         self.ended += 1;
         match ended {
-            Ok(()) => {}
+            Ok(report) => {
+                if report.memory != 0 {
+                    self.lacking += 1;
+                }
+            }
             Err(ConnectionFault::Socket) => self.socket += 1,
             Err(ConnectionFault::Run(RunFault::Read)) => self.read += 1,
             Err(ConnectionFault::Run(RunFault::Write)) => self.write += 1,
@@ -106,9 +113,9 @@ pub fn serve<K: Keeper, D: Door>(engine: &mut Engine<K>, door: &mut D, n: u16) -
     requires sound { IsSound K.contents K.memories engine.old }
     ensures serves { ServesAll (rules_of engine.old) (slice_of engine.old) (state_of engine.old) (D.seen door.old) n
         (state_of engine.new) (D.seen door.new) result }
-    ensures spare { NoneAreCircular engine.old → IsTrue K.exact → IsSpare K.contents engine.old → IsSpare K.contents engine.new }
+    ensures spare { KeepsWhole (rules_of engine.old) (lack result) → IsTrue K.exact → IsSpare K.contents engine.old → IsSpare K.contents engine.new }
     ensures ended { result.ended ≡ n }
-    ensures faults { faults result ≤ n }
+    ensures faults { faults result + result.lacking ≤ n }
     ensures rules { rules_of engine.new ≡ rules_of engine.old }
     ensures slice { slice_of engine.new ≡ slice_of engine.old }
     ensures sound { IsSound K.contents K.memories engine.new }
@@ -125,11 +132,11 @@ pub fn serve<K: Keeper, D: Door>(engine: &mut Engine<K>, door: &mut D, n: u16) -
 fn serve_next<K: Keeper, D: Door>(
     engine: &mut Engine<K>,
     door: &mut D,
-) -> Result<(), ConnectionFault>
+) -> Result<Report, ConnectionFault>
     requires sound { IsSound K.contents K.memories engine.old }
     ensures serves { ServesNext (rules_of engine.old) (slice_of engine.old) (state_of engine.old) (state_of engine.new)
         (D.seen door.old) (D.seen door.new) result }
-    ensures spare { NoneAreCircular engine.old → IsTrue K.exact → IsSpare K.contents engine.old → IsSpare K.contents engine.new }
+    ensures spare { KeepsWhole (rules_of engine.old) (lacks result) → IsTrue K.exact → IsSpare K.contents engine.old → IsSpare K.contents engine.new }
     ensures rules { rules_of engine.new ≡ rules_of engine.old }
     ensures slice { slice_of engine.new ≡ slice_of engine.old }
     ensures sound { IsSound K.contents K.memories engine.new }
@@ -144,11 +151,11 @@ fn serve_next<K: Keeper, D: Door>(
 }
 
 /// How a connection ended that a run has served.
-fn ended(served: Result<Report, RunFault>) -> Result<(), ConnectionFault>
+fn ended(served: Result<Report, RunFault>) -> Result<Report, ConnectionFault>
     ensures { result ≡ ending served }
 {
     match served {
-        Ok(_) => Ok(()),
+        Ok(report) => Ok(report),
         Err(fault) => Err(ConnectionFault::Run(fault)),
     }
 }

@@ -17,10 +17,11 @@ BEHIND_CAST = (("sign", "("), ("reserved", "this"), ("reserved", "null"), *(("re
 
 
 class AspectReader(WordReader):
-    """Reads the declarations of a file."""
+    """Reads the declarations of a file; with the forms that are read, which are left out else, as `circular`, with commas between them."""
 
-    def __init__(self, text: str) -> None:
+    def __init__(self, text: str, forms: str = "") -> None:
         super().__init__(Scan(text, is_lenient=True))
+        self.forms = forms.split(",")
         self.bound: Tuple[Binding, ...] = ()
         self.made: List[Expression] = []
 
@@ -84,13 +85,14 @@ class AspectReader(WordReader):
             self.body(declared)
 
     def left_out(self, declared: Declaration, word: str) -> None:
-        """Passes over a word that is left out here, with what stands between brackets behind it."""
+        """Passes over a word that is left out here, if its form isn't read, with what stands between brackets behind it."""
         found = self.take("reserved", word)
         if found is not None:
             if self.take("sign", "["):
                 self.expression()
                 self.want("sign", "]")
-            declared.left_out.append((found.at, self.words[self.at - 1].end))
+            if word not in self.forms:
+                declared.left_out.append((found.at, self.words[self.at - 1].end))
 
     def equation(self, declared: Declaration) -> None:
         declared.of = self.want("name")
@@ -240,6 +242,6 @@ class AspectReader(WordReader):
         return self.make(Form.FOLD, word.at, word, [among, body])
 
 
-def read_aspects(text: str) -> List[Declaration]:
-    """The declarations of an aspect file, as far as they can be read."""
-    return AspectReader(text).file()
+def read_aspects(text: str, forms: str = "") -> List[Declaration]:
+    """The declarations of an aspect file, as far as they can be read, where these forms are."""
+    return AspectReader(text, forms).file()

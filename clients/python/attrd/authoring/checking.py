@@ -26,18 +26,19 @@ class Checked(NamedTuple):
     following: int
 
 
-def checking(grammar: Source, aspects: Sequence[Source], program: str = "attrd") -> Generator[None, None, Checked]:
-    """Finds the faults of a grammar and of aspects, and yields before each run of the program that may find one.
+def checking(grammar: Source, aspects: Sequence[Source], program: str = "attrd", forms: str = "") -> Generator[None, None, Checked]:
+    """Finds the faults of a grammar and of aspects, and yields before each run of the program that may find one. These forms of aspects are
+    read, which are left out else.
 
-    Raises AttrdError where the program can't be started.
+    Raises AttrdError where the program can't be started, or doesn't know a form.
     """
-    specification = Specification(grammar, aspects)
+    specification = Specification(grammar, aspects, forms)
     found = [_of_grammar(specification, it) for it in specification.whole.faults]
     found.sort(key=lambda it: it.start)
     if specification.whole.grammar is None:
         return Checked(found, 0)
     try:
-        judge = Judge(specification.grammar, program)
+        judge = Judge(specification.grammar, program, forms)
     except TermFault as fault:
         endless = Finding(grammar.name, "G", "no finite tree", 1, 1, 0, 0, fault.reason, "Have a list or an optional where the class comes again.")
         return Checked(found or [endless], 0)
@@ -53,9 +54,10 @@ def checking(grammar: Source, aspects: Sequence[Source], program: str = "attrd")
     return Checked(found + [advice.of_aspects(it) for it in told], len(refused) - len(told))
 
 
-def check(grammar: Source, aspects: Sequence[Source], program: str = "attrd") -> Checked:
-    """The faults of a grammar and of aspects. Raises AttrdError where the program can't be started."""
-    steps = checking(grammar, aspects, program)
+def check(grammar: Source, aspects: Sequence[Source], program: str = "attrd", forms: str = "") -> Checked:
+    """The faults of a grammar and of aspects, where these forms are read. Raises AttrdError where the program can't be started, or doesn't
+    know a form."""
+    steps = checking(grammar, aspects, program, forms)
     while True:
         try:
             next(steps)

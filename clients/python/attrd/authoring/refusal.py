@@ -6,7 +6,7 @@ from typing import List, NamedTuple, Optional, Sequence
 
 from ..errors import StartFault
 from ..grammar import Grammar
-from ..server import Text, start
+from ..server import Text, forms_options, start
 
 
 class Refusal(NamedTuple):
@@ -19,19 +19,21 @@ class Refusal(NamedTuple):
 
 
 class Judge:
-    """Has the program judge texts of aspects over one grammar. `runs` counts how often it was started."""
+    """Has the program judge texts of aspects over one grammar, where these forms are read. `runs` counts how often it was started."""
 
-    def __init__(self, grammar: Grammar, program: str) -> None:
+    def __init__(self, grammar: Grammar, program: str, forms: str = "") -> None:
         """Raises TermFault where no finite tree fits the grammar: then nothing can be judged."""
         self.tree = grammar.smallest(grammar.start)
         self.grammar, self.program, self.runs = written(grammar), program, 0
+        self.options = forms_options(forms)
 
     def refusal(self, texts: Sequence[str]) -> Optional[Refusal]:
         """The first fault of these aspects, or None where they are taken. Raises AttrdError where the program can't be started."""
         self.runs += 1
         names = [f"{number}.jrag" for number in range(len(texts))]
         try:
-            server = start(Text("grammar.ast", self.grammar), self.tree, *map(Text, names, texts), program=self.program)
+            server = start(Text("grammar.ast", self.grammar), self.tree, *map(Text, names, texts), program=self.program,
+                           options=self.options)
         except StartFault as fault:
             name = "" if fault.file is None else FilePath(fault.file).name
             if name not in names or fault.code is None or fault.line is None or fault.column is None:

@@ -35,16 +35,16 @@ class Accessor(NamedTuple):
 
 
 class Specification:
-    """What a grammar and aspects declare, whether they are right or not: what can't be read is passed over."""
+    """What a grammar and aspects declare, whether they are right or not, where these forms are read: what can't be read is passed over."""
 
-    def __init__(self, grammar: Source, aspects: Sequence[Source]) -> None:
+    def __init__(self, grammar: Source, aspects: Sequence[Source], forms: str = "") -> None:
         self.grammar_file, self.aspects = grammar, list(aspects)
         self.whole = WholeGrammar(grammar.text)
         self.grammar: Grammar = self.whole.grammar or WholeGrammar("Nothing;").grammar  # type: ignore[assignment]
         self.classes: Dict[str, Declared] = {}
         for it in self.whole.declared:
             self.classes.setdefault(it.name.text, it)
-        self.declarations = [Placed(file.name, it) for file in self.aspects for it in read_aspects(file.text)]
+        self.declarations = [Placed(file.name, it) for file in self.aspects for it in read_aspects(file.text, forms)]
         self._named: Dict[str, List[Placed]] = {}
         for placed in self.declarations:
             if placed.declaration.is_declaring and placed.declaration.name is not None:

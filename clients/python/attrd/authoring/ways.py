@@ -6,7 +6,8 @@ from typing import Dict, Optional
 
 # By the word with which a form begins, or that stands in it.
 WAYS: Dict[str, str] = {
-    "circular": "Ask along a tree instead, or count steps: an attribute with a node as its counter goes one step further for each element of a list.",
+    "circular": "A boolean one is read with `--forms circular`. Else ask along a tree, or count steps: an attribute with a node as its counter "
+                "goes one step further for each element of a list.",
     "nta": "Make it a child in the grammar, and let the client put the node there.",
     "coll": "Count or gather by folds: `sum (s : getStmtList()) { s.count() }`, class by class.",
     "refine": "Give the equation in a class below, or change it where it stands.",

@@ -24,6 +24,7 @@ use Rattle.at_store.specs.Shown.{contents, numbers, path, tree}
 use Rattle.at_store.specs.declared.edit.Refusal.{Refusal as EditRefusal}
 use Rattle.at_store.specs.declared.edit.Refusal.TheVariants as reason
 use Rattle.at_cache.specs.Kept.{Entries, Kept, KeepsAll}
+use Rattle.at_cache.specs.Traced.{Memories}
 use Rattle.at_demand.specs.Known.{IsKept}
 use Rattle.at_demand.specs.Sparing.{AreSpare}
 use Rattle.at_demand.proofs.Entered.{entered}
@@ -283,7 +284,7 @@ grows_so entries old new v off k = by v off k.0 k.1
 
 unwritten : {K : Type 0} (entries : K → Entries) (old new : Engine K) (bytes : List ℕ) → KeepsLine entries bytes old new → state_of new ≡ state_of old → GrowsLine entries bytes old new
 unwritten entries old new bytes k same =
-    weaker_grows (IsWorthFor (rules_of old) (state_of old) k.becomes) (IsWorthIn (rules_of old) (state_of old) bytes) (kept_of entries old) (kept_of entries new) (work_of old) (work_of new) (worth_in (rules_of old) (state_of old) bytes k.becomes k g.K.Keeper.memories.is_verdict)
+    weaker_grows (IsWorthFor (rules_of old) (state_of old) k.becomes) (IsWorthIn (rules_of old) (state_of old) bytes) (kept_of entries old) (kept_of entries new) (work_of old) (work_of new) (worth_in (rules_of old) (state_of old) bytes k.becomes k.is_verdict)
     (grows_so entries old new k.becomes (λ e t is. not_edited (state_of old) k.becomes e t (sym same ∙ k.state) is) k.keeps)
 
 -- a line that leaves the state, unless it waits for an open question, is one that waits, or leaves the state

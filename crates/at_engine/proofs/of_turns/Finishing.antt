@@ -77,7 +77,7 @@ writable_all rules s q (Ok f) answer = answer.writable
 writable_all rules s q (Err e) answer = tt
 
 -- a question at some position is open no longer
-module _ {K : Type 0} (kept : K → Entries) (memories : K → Memories) (e : Engine K) {remembered : Memories}
+module _ {K : Type 0} (kept : K → Entries) (e : Engine K) {remembered : Memories}
     (sound : IsSoundWith (rules_of e) e.store (marks_of e) e.posts (kept e.demand.keeper) remembered) (position : ℕ) (p : Posted) (there : StandsAt e.posts.items.items position p) (m : Engine K) (rest : m ≡ record e { demand = m.demand; posts = m.posts })
     (o : Option Question) (opens : Reopens position e.posts m.posts p o) where
   -- it stands there as it has come
@@ -92,9 +92,9 @@ module _ {K : Type 0} (kept : K → Entries) (memories : K → Memories) (e : En
         (items ∙ ap (λ (l : List Posted). remove l position) opens.items ∙ removed_anew e.posts.items.items position (record p { question = o }))
         (ap (λ (x : Engine K). x.posts.count) tells ∙ opens.count)
 
-    pub closed_so : (exact : Bool) (r : Result Form AllocError) → HasEnded exact kept memories e n.demand p r → (told : Told) → told ≡ told_of p m.version r
+    pub closed_so : (exact : Bool) (memories : K → Memories) (r : Result Form AllocError) → HasEnded exact kept memories e n.demand p r → (told : Told) → told ≡ told_of p m.version r
         → IsClosed exact kept memories e n p told
-    closed_so exact r ended told is =
+    closed_so exact memories r ended told is =
         subst (IsClosed exact kept memories e n p) (sym (is ∙ ap (λ (v : ℕ). told_of p v r) (ap (λ (x : Engine K). x.version) rest))) (record {
           there = is_numbered (rules_of e) e.store e.version (marks_of e) e.posts position p there sound.numbered;
           gone = state_gone;
@@ -329,10 +329,10 @@ pub waited : {K : Type 0} (exact : Bool) (kept : K → Entries) (memories : K �
 waited {K} exact kept memories e held position within m r a form is n told off = record {
   done = λ p there.
       let h = a.done p there in
-      let ended = ends_with exact kept e m.demand p h.now r form is h.came in
+      let ended = ends_with exact kept memories e m.demand p h.now r form is h.came in
       let still = stands_open kept e held position p there m a.rest h.now h.reopens in
       let same : n.demand ≡ m.demand = ap (λ (x : Engine K). x.demand) off.rest in
-      closed_so kept e held position p there m a.rest h.now h.reopens n off.rest off.items exact form
+      closed_so kept e held position p there m a.rest h.now h.reopens n off.rest off.items exact memories form
       (subst (λ (x : Demand K). HasEnded exact kept memories e x p form) (sym same) ended) told
       (off.told (record p { question = h.now }) still);
   rest = rest_end e m n a.rest off.rest;

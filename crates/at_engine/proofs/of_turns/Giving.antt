@@ -213,7 +213,7 @@ pub quiet_leaves : {K : Type 0} (exact : Bool) (kept : K
     → IfSome limit (λ n. 0 < n)
     → next.lines ≡ desk.lines → next.memory ≡ desk.memory
     → GivesSome (rules_of old) limit 0 (state_of old) (state_of new) desk next w w
-quiet_leaves {K} exact kept None old new before after it desk next w is
+quiet_leaves {K} exact kept memories None old new before after it desk next w is
     (none_open none same appended told) some l m = record {
       turns = 0;
       gives = gave_nothing (rules_of old) (state_of old) (state_of new) desk next w (ap (state_of {K = K}) same) l m;
@@ -222,7 +222,7 @@ quiet_leaves {K} exact kept None old new before after it desk next w is
 quiet_leaves exact kept memories None old new before after it desk next w is (gives s) some l m = absurd (subst (λ (o : Option
     (Bool × Reply)). CountsTurns None s.given it.turns o)
     (none_told s.told (s.named ∙ is)) s.counts)
-quiet_leaves {K} exact kept (Some limit) old new before after it desk next w is
+quiet_leaves {K} exact kept memories (Some limit) old new before after it desk next w is
     (none_open none same appended told) some l m = record {
       turns = limit;
       gives = gave_none (rules_of old) limit (state_of old) (state_of new) desk next w

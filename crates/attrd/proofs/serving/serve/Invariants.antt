@@ -1,8 +1,8 @@
-use Rattle.std.proofs.Common.{◌≡◌, ◌≤◌}
+use Rattle.std.proofs.Common.{◌≡◌, ◌+◌, ◌≤◌}
 use Rattle.std.specs.Prelude.{IsTrue}
-use Rattle.at_engine.specs.Engines.{rules_of, slice_of, state_of, IsSound, NoneAreCircular}
-use Rattle.at_engine.specs.Keeping.{IsSpare}
-use Rattle.attrd.specs.Connections.{faults}
+use Rattle.at_engine.specs.Engines.{rules_of, slice_of, state_of, IsSound}
+use Rattle.at_engine.specs.Keeping.{IsSpare, KeepsWhole}
+use Rattle.attrd.specs.Connections.{faults, lack}
 use Rattle.attrd.specs.Doors.{ServesAll}
 use Rattle.attrd.proofs.serving.serve.Given as goal
 
@@ -10,9 +10,9 @@ use Rattle.attrd.proofs.serving.serve.Given as goal
 abbrev pub invariant-loop-turn : goal.invariant-loop-turn
 invariant-loop-turn g l = record {
   serves : ServesAll (rules_of l.fn.engine) (slice_of l.fn.engine) (state_of l.fn.engine) (g.D.Door.seen l.fn.door) l.turn (state_of l.engine) (g.D.Door.seen l.door) l.served;
-  spare : NoneAreCircular l.fn.engine → IsTrue g.K.Keeper.exact → IsSpare g.K.Keeper.contents l.fn.engine → IsSpare g.K.Keeper.contents l.engine;
+  spare : KeepsWhole (rules_of l.fn.engine) (lack l.served) → IsTrue g.K.Keeper.exact → IsSpare g.K.Keeper.contents l.fn.engine → IsSpare g.K.Keeper.contents l.engine;
   ended : l.served.ended ≡ l.turn;
-  faults : faults l.served ≤ l.turn;
+  faults : faults l.served + l.served.lacking ≤ l.turn;
   rules : rules_of l.engine ≡ rules_of l.fn.engine;
   slice : slice_of l.engine ≡ slice_of l.fn.engine;
   sound : IsSound g.K.Keeper.contents g.K.Keeper.memories l.engine;

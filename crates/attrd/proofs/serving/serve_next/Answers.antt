@@ -1,7 +1,7 @@
 use Rattle.std.proofs.Common.{refl}
 use Rattle.at_engine.specs.Engines.{rules_of}
-use Rattle.at_engine.proofs.GoingLemmas.{plainly_whole}
 use Rattle.attrd.specs.Doors.{by_run, not_accepted}
+use Rattle.attrd.proofs.DoorsLemmas.{run_whole}
 use Rattle.attrd.proofs.serving.serve_next.Goals as goal
 
 pub returns-clause-serves : goal.returns-clause-serves
@@ -12,5 +12,6 @@ pub returns-in_default-clause-serves : goal.returns-in_default-clause-serves
 returns-in_default-clause-serves g c = not_accepted refl c.in_default.ensures.refused refl
 
 pub returns-clause-spare : goal.returns-clause-spare
-returns-clause-spare g c none exact spare =
-    c.run_gathering-served.ensures.spare (plainly_whole (rules_of c.args.engine.now) c.run_gathering-served.result none) exact spare
+returns-clause-spare g c whole exact spare =
+    c.run_gathering-served.ensures.spare (run_whole (rules_of c.args.engine.now) c.run_gathering-served.result c.ended.result
+    c.ended.ensures whole) exact spare

@@ -47,7 +47,7 @@ returns-in-Some-clause-gets g c =
     let soon = asked_at_once (rules_of e) (state_of e) e.last.session None (From_root steps) c.in-Some.attribute.now [] in
     let hears = heard_at_once g.K.Keeper.exact k g.K.Keeper.memories e new l told c.ask_of-form.result
     c.at_once.ensures.session c.at_once.ensures.done c.at_once.ensures.form done.obeys done.err soon in
-    got g.K.Keeper.exact k e new c.args.line.now l spelled told hears
+    got g.K.Keeper.exact k g.K.Keeper.memories e new c.args.line.now l spelled told hears
 
 pub returns-in-Some-clause-spares : goal.returns-in-Some-clause-spares
 returns-in-Some-clause-spares g c exact spare =
@@ -87,7 +87,7 @@ returns-in-Ok-Command-clause-gets g c =
     let q = c.in-Ok-Command in
     let is : q.field-0.request ≡ request.Command q.command = cc in
     let spelled = subst (Spells c.args.line.now) (is_told q.field-0 q.command is) q.ensures.found in
-    got g.K.Keeper.exact g.K.Keeper.contents e c.obey.new.self c.args.line.now _ spelled c.obey.result c.obey.ensures.hears
+    got g.K.Keeper.exact g.K.Keeper.contents g.K.Keeper.memories e c.obey.new.self c.args.line.now _ spelled c.obey.result c.obey.ensures.hears
 
 pub returns-in-Ok-Command-clause-spares : goal.returns-in-Ok-Command-clause-spares
 returns-in-Ok-Command-clause-spares g c exact spare =
@@ -111,7 +111,7 @@ returns-in-Ok-Ask-clause-gets g c =
     (asked_at_once (rules_of e) (state_of e) q.field-0.session q.field-0.expected (place_view q.place) q.attribute.now (arguments_view q.arguments.items)) in
     let hears = heard_at_once g.K.Keeper.exact k g.K.Keeper.memories e new (line_view q.field-0) told c.question.result
     c.at_once-in-Ok-Ask.ensures.session c.at_once-in-Ok-Ask.ensures.done c.at_once-in-Ok-Ask.ensures.form done.obeys done.err soon in
-    got g.K.Keeper.exact k e new c.args.line.now (line_view q.field-0) q.ensures.found told hears
+    got g.K.Keeper.exact k g.K.Keeper.memories e new c.args.line.now (line_view q.field-0) q.ensures.found told hears
 
 pub returns-in-Ok-Ask-clause-spares : goal.returns-in-Ok-Ask-clause-spares
 returns-in-Ok-Ask-clause-spares g c exact spare =
