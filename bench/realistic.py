@@ -2,16 +2,17 @@
 """A realistic program: how fast all errors are told of a program as people write them, and after each keystroke, beside Java.
 
     python3 bench/realistic.py [PROGRAM] [--nodes N ..] [--rounds N] [--seed N] [--row NAME] [--cut-off]
-        [--keep N] [--quarter] [--instructions] [--hold]
+        [--keep N] [--quarter] [--instructions] [--before PROGRAM] [--hold]
 
 PROGRAM is ./attrd where none is given; the programs have 1,000, 10,000 and 60,000 nodes of the tutorial's language. The Java program has
 the form that JastAdd2 generates, forgets all at each edit, and is warm, in one process; where there is no `javac`, attrd is measured
 alone. All answers of the two are compared. Times are processor times, the least of several rounds by turns; values are those of lazy
 attributes that --work counts; instructions are counted where there is `valgrind`, of keystrokes only with --instructions, which takes
 minutes. --row measures the rows whose names have that in them; --cut-off and --keep give the program these options. With --quarter the
-rows are measured with --keep, too, for a quarter of the values that the first question evaluates, foldings with them. What is wanted is
-told beside what was measured, for the programs of the first seed; with --hold the status is 1 where it isn't reached. It takes ten
-minutes.
+rows are measured with --keep, too, for a quarter of the values that the first question evaluates, foldings with them. With --before that
+program, of version 0.23, is measured by turns with the other one, and a keystroke is held to what it takes and not to the multiples of
+Java's time that it took once. What is wanted is told beside what was measured, for the programs of the first seed; with --hold the status
+is 1 where it isn't reached. It takes ten minutes.
 """
 from __future__ import annotations
 
@@ -99,6 +100,7 @@ class Figures:
     """The least times that were measured, by row, in seconds."""
 
     attrd: Dict[str, float] = field(default_factory=dict)
+    before: Dict[str, float] = field(default_factory=dict)
     bounded: Dict[str, float] = field(default_factory=dict)
     java: Dict[str, float] = field(default_factory=dict)
 
@@ -116,6 +118,7 @@ class Bench:
 
     def __init__(self, program: str, folder: str, nodes: int, arguments: argparse.Namespace) -> None:
         self.program, self.folder, self.nodes = program, folder, nodes
+        self.before: Optional[str] = arguments.before
         self.is_known = arguments.seed == SEED and not arguments.keep
         self.options = [*(["--cut-off"] if arguments.cut_off else []), *(["--keep", str(arguments.keep)] if arguments.keep else [])]
         grammar = Grammar.load(GRAMMAR)
@@ -139,8 +142,15 @@ class Bench:
         spent, replies = run.answered(ASK)
         self.figures.note(self.figures.attrd, COLD, spent)
         self.peak = min(self.peak, run.peak())
+        before = Served(self.before, self.folder, self.words) if self.before else None
+        if before:
+            before.spent(ASK)
         for it in self.rows:
             self.typed(run, it)
+            if before:
+                self.measured(before, it, self.figures.before)
+        if before:
+            before.end()
         if self.java:
             seconds, errors = self.java.cold(SECONDS)
             self.figures.note(self.figures.java, COLD, seconds)
@@ -155,8 +165,9 @@ class Bench:
             self.figures.note(self.figures.bounded, it.name, run.spent(it.lines * REPEATED) / it.edits / REPEATED)
         run.end()
 
-    def typed(self, run: Served, it: Keystrokes) -> None:
-        """Measures one row: the least time of those that fit, as of Java. A few alone tell too much of what else the machine does."""
+    def measured(self, run: Served, it: Keystrokes, least: Dict[str, float]) -> List[str]:
+        """Measures one row: the least time of those that fit, as of Java. A few alone tell too much of what else the machine does. Gives
+        the replies."""
         seconds, replies = 0.0, list[str]()
         for count in range(MOST_REPEATED):
             if count >= REPEATED and seconds > SECONDS:
@@ -164,8 +175,13 @@ class Bench:
             spent, replies = run.answered(it.lines)
             if spent:
                 # Where the system hasn't counted yet no time is told.
-                self.figures.note(self.figures.attrd, it.name, spent / it.edits)
+                self.figures.note(least, it.name, spent / it.edits)
             seconds += spent
+        return replies
+
+    def typed(self, run: Served, it: Keystrokes) -> None:
+        """Measures one row, attrd and then Java."""
+        replies = self.measured(run, it, self.figures.attrd)
         if self.java:
             file = Path(self.folder) / "lines"
             file.write_text(it.lines, encoding="utf-8")
@@ -250,14 +266,20 @@ def against(counted: Optional[float], before: Optional[float]) -> str:
     return millions(counted) + (f" ({counted / 1e6 / before:.2f} of 0.23's)" if counted and before else "")
 
 
-def wanted_of(bench: Bench, bounds: Bounds, name: str, ratio: Optional[float], before: Optional[float]) -> str:
+def share_of(bench: Bench, name: str, before: Optional[float]) -> Optional[float]:
+    """What a row takes of what version 0.23 takes: of its program's time where that was measured, else of its multiple of Java's."""
+    if bench.before:
+        return bench.figures.attrd[name] / bench.figures.before[name]
+    ratio = bench.figures.ratio(name)
+    return ratio / before if ratio and before else None
+
+
+def wanted_of(bench: Bench, bounds: Bounds, name: str, before: Optional[float]) -> str:
     """What a row takes against what is wanted: with --cut-off beside Java, else beside version 0.23."""
-    most = known_of(CUT_OFF, bench, name) if bench.options else None
+    most, ratio, share = known_of(CUT_OFF, bench, name) if bench.options else None, bench.figures.ratio(name), share_of(bench, name, before)
     if ratio and most:
         return bounds.at_most(f"{name}, {bench.size:,} nodes, against Java", ratio, most)
-    if ratio and before:
-        return bounds.at_most(f"{name}, {bench.size:,} nodes, against version 0.23", ratio / before, SHARE)
-    return "-"
+    return bounds.at_most(f"{name}, {bench.size:,} nodes, against version 0.23", share, SHARE) if share else "-"
 
 
 def anew(cold: Dict[str, int], told: Dict[str, int], edits: int) -> List[str]:
@@ -273,7 +295,7 @@ def tell_rows(benches: List[Bench], bounds: Bounds, is_counted: bool) -> None:
         cold = bench.told(ASK)
         for it in bench.rows:
             ratio, before = bench.figures.ratio(it.name), known_of(BEFORE, bench, it.name)
-            told = wanted_of(bench, bounds, it.name, ratio, before)
+            told = wanted_of(bench, bounds, it.name, before)
             counted = bench.counted(ASK, it.lines, it.edits) if is_counted else None
             row(it.name, microseconds(bench.figures.attrd[it.name]), microseconds(bench.figures.java.get(it.name)), short(ratio), short(before), told,
                 *anew(cold, bench.told(ASK + it.lines), it.edits), against(counted, known_of(COUNTED_BEFORE, bench, it.name)))
@@ -302,10 +324,13 @@ def read_arguments() -> argparse.Namespace:
     parser.add_argument("--keep", type=int, default=0, help="nothing is wanted of it")
     parser.add_argument("--quarter", action="store_true", help="not with --cut-off or --keep")
     parser.add_argument("--instructions", action="store_true")
+    parser.add_argument("--before", metavar="PROGRAM", help="one of version 0.23; not with --cut-off or --keep")
     parser.add_argument("--hold", action="store_true")
     arguments = parser.parse_args()
     if arguments.quarter and (arguments.cut_off or arguments.keep):
         parser.error("--quarter is measured beside runs without --cut-off and --keep")
+    if arguments.before and (arguments.cut_off or arguments.keep):
+        parser.error("version 0.23 has no --cut-off, and is measured without --keep")
     return arguments
 
 

@@ -1,12 +1,20 @@
 -- A keeper with a bound.
-use Rattle.std.proofs.Common.{◌≡◌, ℕ, Bool, None, Some, sym, ◌∙◌, subst}
+use Rattle.std.proofs.Common.{◌≡◌, ◌∙◌, ℕ, Bool, List, None, Some, ap, option_map, sym, subst}
+use Rattle.std.specs.Map.{lookup}
 use Rattle.std.proofs.lemmas.Option.{none-some}
-use Rattle.at_model.specs.Run.{Location}
+use Rattle.at_model.specs.Run.{Instance, Location}
+use Rattle.at_body.specs.Same.{same_instance}
+use Rattle.at_body.specs.Values.{value_view}
+use Rattle.at_cache.specs.declared.edge.Edge.{Edge}
+use Rattle.at_cache.specs.declared.entry.Entry.{Entry}
+use Rattle.at_cache.specs.declared.table.Table.{Table}
 use Rattle.at_cache.specs.declared.keep_cut_off.KeepCutOff.{KeepCutOff}
 use Rattle.at_cache.specs.declared.keep_recorded.KeepRecorded.{KeepRecorded}
 use Rattle.at_cache.specs.Finding.{edges_to}
 use Rattle.at_cache.specs.Folding.{LeavesKept}
+use Rattle.at_cache.specs.Info.{Memory, memory_of}
 use Rattle.at_cache.specs.Keeping.{recorded_by}
+use Rattle.at_cache.specs.Recorded.{covers, kept_in}
 use Rattle.at_cache.specs.Kept.{Entries, KeepsAll, LeavesUntouched, LosesTouched}
 use Rattle.at_cache.specs.Standings.{kept_held, remembered}
 use Rattle.at_cache.specs.Traced.{Memories, StayTraced}
@@ -40,3 +48,12 @@ leaves_cut old mid new same = subst (λ (k : KeepCutOff). LeavesKept (cut_kept k
 
 pub stays_cut : (old mid : KeepCutOff) (new : Memories) → mid ≡ old → StayTraced (cut_memories mid) new → StayTraced (cut_memories old) new
 stays_cut old mid new same = subst (λ (k : KeepCutOff). StayTraced (cut_memories k) new) same
+
+-- where the entries are those that there were, and so is what is seen of memory, slots may come to be free in another order
+pub kept_same : (lists : Location ℕ → List Edge) (old new : Table) (puts : ℕ) → new.entries ≡ old.entries
+    → ((k : ℕ) → memory_of new k ≡ memory_of old k) → (i : Instance ℕ) → kept_in lists new puts i ≡ kept_in lists old puts i
+kept_same lists old new puts entries same i =
+    ap (λ (m : Memory). option_map (λ (e : Entry). record { value = option_map value_view e.value; covers = covers lists m puts e.slot })
+    (lookup (same_instance i) new.entries.entries)) (λ n k. same k n)
+    ∙ ap (λ es. option_map (λ (e : Entry). record { value = option_map value_view e.value; covers = covers lists (memory_of old) puts e.slot })
+    (lookup (same_instance i) es.entries)) entries

@@ -10,4 +10,6 @@ pub mod Places
 pub mod Reheld
 pub mod Relinking
 pub mod Rerun
+pub mod Single
+pub mod Taken
 pub mod Walking

@@ -15,6 +15,10 @@ use Rattle.at_cache.specs.Recorded.{edge_to}
 abbrev pub slots_at : List (SmallVec ℕ) → ℕ → List ℕ
 slots_at lists s = elim (slice_get lists s) [ None ↦ [] | Some v ↦ v.items ]
 
+-- each entry is in one of these slots
+abbrev pub AreTaken : Memory → (slots : List ℕ) → Type 0
+AreTaken m slots = (s : ℕ) (e : Info) → m s ≡ Some e → Contains slots s
+
 -- an entry that is folded into itself stays
 abbrev pub Stays : (into : ℕ → List ℕ) → ℕ → Type 0
 Stays into s = Contains (into s) s
@@ -93,7 +97,8 @@ pub record Gathered (there : Edge → Bool) (into : ℕ → List ℕ) (edges : L
 -- Of a list some edges are kept, each of which tells of an entry that is folded into itself alone, and the slots are gathered of all into which
 -- those are folded that the others tell of.
 pub record Parted (m : Memory) (into : ℕ → List ℕ) (edges : List Edge) (slots : List ℕ) (kept : List Edge) : Type 0 where
-  pub has : (x y : Edge) → Contains edges x → is_current m x ≡ true → Contains (into x.slot) y.slot → is_current m y ≡ true → Contains kept y ⊎ Contains slots y.slot
+  pub has : (x y : Edge) → Contains edges x → is_current m x ≡ true → Contains (into x.slot) y.slot → is_current m y ≡ true
+      → Contains kept y ⊎ Contains slots y.slot
   pub from : (y : Edge) → Contains kept y → (is_current m y ≡ true) × HasUser (is_current m) into edges y.slot
   pub users : (r : ℕ) → Contains slots r → HasUser (is_current m) into edges r
 
@@ -133,16 +138,16 @@ pub record LinkedTo (into : ℕ → List ℕ) (targets links : List ℕ) (old ne
   pub has : (r p : ℕ) → Contains targets r → Contains links p → Stays into p → Contains (new r) p
   pub from : (r p : ℕ) → Contains (new r) p → Contains (old r) p ⊎ (Contains targets r × Stays into p × Contains links p)
 
--- Each into which the entry in the slot is folded, if there is one, has those of its links that stay.
+-- Each other one into which the entry in the slot is folded, if there is one, has those of its links that stay.
 pub record HasLinked (m : Memory) (into : ℕ → List ℕ) (s : ℕ) (old new : ℕ → List ℕ) : Type 0 where
   pub kept : (r p : ℕ) → Contains (old r) p → Contains (new r) p
-  pub has : (e : Info) → m s ≡ Some e → (r p : ℕ) → Contains (into s) r → Contains e.links p → Stays into p → Contains (new r) p
+  pub has : (e : Info) → m s ≡ Some e → (r p : ℕ) → Contains (into s) r → (r ≡ s → ⊥) → Contains e.links p → Stays into p → Contains (new r) p
   pub from : (r p : ℕ) → Contains (new r) p
       → Contains (old r) p ⊎ ((e : Info) × (m s ≡ Some e) × Contains (into s) r × Stays into p × Contains e.links p)
 
--- The links of each are those that stay of what was used by an entry that is folded into it.
+-- The links of each are of those that stay of what was used by an entry that is folded into it: all where that is another one.
 pub record AreLinks (m : Memory) (into links : ℕ → List ℕ) : Type 0 where
-  pub has : (r p : ℕ) → HasUsed m into p r → Contains (links r) p
+  pub has : (s r p : ℕ) (e : Info) → m s ≡ Some e → Contains (into s) r → (r ≡ s → ⊥) → Contains e.links p → Stays into p → Contains (links r) p
   pub from : (r p : ℕ) → Contains (links r) p → HasUsed m into p r
 
 -- The lists have the same slots, in whatever order and however often.
@@ -154,10 +159,10 @@ pub record HasSame (old new : List ℕ) : Type 0 where
 abbrev pub relinked : (links : List ℕ) → (users : List Edge) → Info → Info
 relinked links users e = record e { links = links; users = users }
 
--- an entry, if there is one, has these links, and its users are rewritten
+-- an entry, if there is one, has these links beside those of its own that stay, and its users are rewritten
 abbrev pub IsRelinked : (there : Edge → Bool) → (into : ℕ → List ℕ) → (links : List ℕ) → Option Info → Option Info → Type 0
 IsRelinked there into links None o = o ≡ None
-IsRelinked there into links (Some e) o = (f : Info) × (o ≡ Some f) × IsLeft e f × (f.links ≡ links) × Refolded there into e.users f.users
+IsRelinked there into links (Some e) o = (f : Info) × (o ≡ Some f) × IsLeft e f × Linked into e.links links f.links × Refolded there into e.users f.users
 
 -- The entry in the slot is so, if it stays; the others are as they were.
 pub record RelinksAt (into : ℕ → List ℕ) (links : List ℕ) (slot : ℕ) (old new : Memory) : Type 0 where

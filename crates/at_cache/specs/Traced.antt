@@ -21,6 +21,10 @@ pub record Memories : Type 0 where
 abbrev pub TracesNothing : Memories → Type 0
 TracesNothing m = (i : Instance ℕ) → m.traced i ≡ None
 
+-- only what has an entry is traced
+abbrev pub TracesKept : Entries → Memories → Type 0
+TracesKept entries m = (i : Instance ℕ) (t : Trace) → m.traced i ≡ Some t → IsSome (entries i)
+
 -- The trace of i was there, and its last value and those of what it used are the same.
 pub record IsStill (old new : Memories) (i : Instance ℕ) (t : Trace) : Type 0 where
   pub traced : old.traced i ≡ Some t
@@ -60,12 +64,6 @@ pub record IsOutdated (old new : Memories) (t : Trace) : Type 0 where
 -- The trace is there still, or outdated.
 abbrev pub IsSpared : (old new : Memories) → Instance ℕ → Trace → Type 0
 IsSpared old new i t = (new.traced i ≡ Some t) ⊎ IsOutdated old new t
-
--- whether what is put so can't be kept again any more
-abbrev pub is_settled : Order → Bool
-is_settled order.AsTaken = true
-is_settled order.Any = true
-is_settled order.InTurns = false
 
 -- Where i was put, each other trace is spared; and no last value is another one but that of i, which has an entry then.
 pub record SparesOthers (i : Instance ℕ) (after : Entries) (old new : Memories) : Type 0 where

@@ -3,14 +3,13 @@
 ghost use Rattle.std.specs.Prelude.{◌≡◌, ◌⊎◌, ℕ, Contains, IsTrue, Some, true};
 ghost use Rattle.at_cache.specs.declared.edge.Edge.{Edge};
 ghost use Rattle.at_cache.specs.Edges.{edges_in};
-ghost use Rattle.at_cache.specs.Folding.{FoldsAt, HasUser, IsBelow, slots_at};
+ghost use Rattle.at_cache.specs.Folding.{AreTaken, FoldsAt, HasUser, IsBelow, slots_at};
 ghost use Rattle.at_cache.specs.Info.{Info, memory_of};
 ghost use Rattle.at_cache.specs.Putting.{is_current};
 ghost use Rattle.at_cache.specs.Rows.{edges_along, edges_of};
 
 use crate::edge::{Edge, Edges, Slot};
 use crate::entry::{Entry, Links};
-use crate::facet::small;
 use crate::folding::{does_stay, has, slots_at};
 use crate::row::Row;
 use crate::table::Table;
@@ -150,15 +149,13 @@ fn is_sound_at(entries: &Table, plan: &[Links], slot: Slot) -> bool
     }
 }
 
-/// Whether each entry may be folded by the plan.
-pub fn is_sound(entries: &Table, plan: &[Links]) -> bool
+/// Whether each entry may be folded by the plan: they are in these slots.
+pub fn is_sound(entries: &Table, plan: &[Links], taken: &[Slot]) -> bool
+    requires taken { AreTaken (memory_of entries.now) taken.now }
     ensures { IsTrue result → (s : ℕ) (e : Info) → memory_of entries.now s ≡ Some e → FoldsAt (memory_of entries.now) (slots_at plan.now) s e }
 {
-    for number in 0..plan.len() {
-        let Ok(slot) = small(number) else {
-            return false;
-        };
-        if !is_sound_at(entries, plan, slot) {
+    for slot in taken {
+        if !is_sound_at(entries, plan, *slot) {
             return false;
         }
     }

@@ -1,10 +1,12 @@
 //! Entries that stay in memory where they aren't kept.
 
-ghost use Rattle.std.specs.Prelude.{◌≡◌, Some, false, is_some, option_copied};
+ghost use Rattle.std.specs.Prelude.{◌≡◌, ℕ, List, None, Some, false, is_some, option_copied};
 ghost use Rattle.std.specs.Map.{lookup};
+ghost use Rattle.at_model.specs.Run.{Location};
 ghost use Rattle.at_body.specs.Same.{same_instance};
+ghost use Rattle.at_cache.specs.declared.edge.Edge.{Edge};
 ghost use Rattle.at_cache.specs.Info.{Info, memory_of};
-ghost use Rattle.at_cache.specs.Standings.{but_for, held_of, is_shown, standing_of};
+ghost use Rattle.at_cache.specs.Standings.{but_for, held_of, is_shown, remembered, standing_of};
 
 use crate::again::slot_by;
 use crate::edge::Slot;
@@ -91,6 +93,17 @@ impl Cut {
             return false;
         }
         standing_at(self.standings.as_slice(), slot).traced
+    }
+
+    /// Whether the instance has a trace; its entry may be in this slot.
+    pub fn has_trace(&self, instance: &Inst, near: Slot) -> bool
+        ensures { (lists : Location ℕ → List Edge) → result ≡ false
+            → (remembered lists self.now.entries self.now.standings.items).traced instance.now ≡ None }
+    {
+        match slot_by(&self.entries, instance, near) {
+            Some(slot) => self.is_traced(slot),
+            None => false,
+        }
     }
 
     /// Whether the entry of the instance is kept; it may be in this slot.

@@ -110,6 +110,16 @@ impl Edges {
         }
     }
 
+    /// Its edge, where it is just one, in sixteen bytes.
+    pub fn only(&self) -> Option<Edge>
+        ensures { IfSome result (λ edge. edges_in self.now ≡ edge ∷ []) }
+    {
+        match self.row() {
+            Some(row) => row.only(),
+            None => None,
+        }
+    }
+
     /// The edges of these rows, in no more memory than they need.
     pub fn of_rows(alloc: Global, rows: Many) -> Result<Edges, AllocError>
         ensures { IfOk result (λ edges. edges_in edges ≡ edges_along rows.items) }

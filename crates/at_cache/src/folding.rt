@@ -3,11 +3,11 @@
 //! A plan has for each slot those of the entries that its entry is folded into: itself where it stays, none where it goes whole. Any plan that
 //! passes `is_sound` is right, so that which one is made is a matter of speed alone.
 
-ghost use Rattle.std.specs.Prelude.{◌≡◌, ℕ, Contains, IsTrue, List, OnOk, nat_eq};
+ghost use Rattle.std.specs.Prelude.{◌≡◌, ℕ, Contains, IfOk, IsTrue, List, OnOk, nat_eq};
 ghost use Rattle.std.specs.List.{list_any};
 ghost use Rattle.at_cache.specs.Asking.{AreNoted};
 ghost use Rattle.at_cache.specs.Finding.{edges_to};
-ghost use Rattle.at_cache.specs.Folding.{LeavesKept, slots_at};
+ghost use Rattle.at_cache.specs.Folding.{AreTaken, LeavesKept, slots_at};
 ghost use Rattle.at_cache.specs.Info.{memory_of};
 ghost use Rattle.at_cache.specs.Recorded.{IsIndexed, kept_in};
 ghost use Rattle.at_cache.specs.Shedding.{AreHeld, FoldsHeld};
@@ -21,7 +21,9 @@ use crate::lone::lone_of;
 use crate::relinking::{links_of, relink, remove_folded};
 use crate::rerunning::rerun;
 use crate::rewriting::rewrite;
+use crate::room::Room;
 use crate::run::AllReaders;
+use crate::slots::slot_at;
 use crate::table::Table;
 use std::alloc::{AllocError, Global};
 
@@ -64,6 +66,20 @@ pub fn does_stay(plan: &[Links], slot: Slot) -> bool
     has(slots_at(plan, slot), slot)
 }
 
+/// The slots of all entries: of many slots most may be free.
+pub fn taken_of(alloc: Global, entries: &Table) -> Result<Vec<Slot>, AllocError>
+    ensures { IfOk result (λ slots. AreTaken (memory_of entries.now) slots.items) }
+{
+    let mut slots = Vec::with_capacity(alloc, entries.entries.len())?;
+    for place in 0..entries.entries.len() {
+        let Some(slot) = slot_at(&entries.entries, place) else {
+            return Err(AllocError);
+        };
+        slots.push(slot)?;
+    }
+    Ok(slots)
+}
+
 /// Folds the entries by the plan: those that don't stay go, and those into which they are folded have what these looked at and used. An error
 /// where memory is wanting, or the plan isn't sound: what is left then means nothing.
 pub fn fold(
@@ -81,13 +97,16 @@ pub fn fold(
         → OnOk result (FoldsHeld standings puts (edges_to readers.old) entries.old (edges_to readers.new) entries.new) }
     ensures noted { (nodes : List ℕ) → AreNoted (edges_to readers.old) nodes → OnOk result (AreNoted (edges_to readers.new) nodes) }
 {
-    if !is_sound(entries, plan) {
+    let taken = taken_of(alloc, entries)?;
+    let slots = taken.as_slice();
+    if !is_sound(entries, plan, slots) {
         return Err(AllocError);
     }
-    let links = links_of(alloc, entries, plan)?;
+    let links = links_of(alloc, entries, plan, slots)?;
     let lone = lone_of(alloc, entries, plan)?;
-    rewrite(alloc, entries, plan, &lone, &mut readers.own)?;
+    let mut room = Room::new(alloc, plan.len())?;
+    rewrite(alloc, entries, plan, &lone, &mut room, &mut readers.own)?;
     rerun(alloc, entries, plan, &mut readers.runs)?;
-    relink(alloc, entries, plan, links.as_slice(), &lone)?;
-    remove_folded(entries, plan)
+    relink(alloc, entries, plan, links.as_slice(), &lone, &mut room)?;
+    remove_folded(alloc, entries, plan)
 }

@@ -1,13 +1,13 @@
 //! The keeper that takes no more than a number of entries through an edit.
 
-ghost use Rattle.std.specs.Prelude.{◌≡◌, ◌≤◌, ◌-◌, ◌^◌, min, None, OnErr, OnOk, IfOk, false, true, map, option_map};
+ghost use Rattle.std.specs.Prelude.{◌≡◌, ◌≤◌, ◌-◌, ◌^◌, min, None, OnErr, IfOk, false, true, map, option_map};
 ghost use Rattle.at_body.specs.Values.{value_view};
 ghost use Rattle.at_store.specs.Located.{loc_view};
 ghost use Rattle.at_cache.specs.Info.{memory_of, table_len};
 ghost use Rattle.at_cache.specs.Stored.{reads_held};
 ghost use Rattle.at_cache.specs.Bound.{ForgetsOver, kept_by};
 ghost use Rattle.at_cache.specs.Folding.{LeavesKept};
-ghost use Rattle.at_cache.specs.Traced.{KeepsTrace, SparesOthers, is_settled, untraced_by};
+ghost use Rattle.at_cache.specs.Traced.{SparesOthers, untraced_by};
 ghost use Rattle.at_cache.specs.Kept.{Answers, AreKept, AreNamed, HasPut, KeepsAll, LeavesUntouched, value_at};
 
 use crate::keep_recorded::KeepRecorded;
@@ -135,11 +135,13 @@ impl Keeper for KeepAtMost {
         ensures puts { IfOk result (HasPut true (kept_by self.old) inst (option_map value_view value) (map loc_view reads.now) uses.now (kept_by self.new)) }
         ensures err { OnErr result (KeepsAll (kept_by self.old) (kept_by self.new)) }
         ensures spares { SparesOthers inst (kept_by self.new) (untraced_by (kept_by self.old)) (untraced_by (kept_by self.new)) }
-        ensures own { is_settled order ≡ true → KeepsTrace inst (untraced_by (kept_by self.old)) (untraced_by (kept_by self.new)) }
-        ensures anew { is_settled order ≡ true → OnOk result ((untraced_by (kept_by self.old)).traced inst ≡ None) }
         ensures bound { self.new.most ≡ self.old.most }
     {
         self.keeper.put(inst, value, reads, uses, order)
+    }
+
+    fn has_trace(&self, _inst: &Inst) -> bool {
+        false
     }
 
     fn settle(&mut self, _inst: &Inst, work: u64) -> u64 {

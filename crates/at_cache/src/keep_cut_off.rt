@@ -1,15 +1,15 @@
 //! The keeper that takes what an edit may have changed as changed only where it did.
 
-ghost use Rattle.std.specs.Prelude.{◌≡◌, ◌≤◌, ◌^◌, IfOk, IfSome, length, None, Some, false, true};
+ghost use Rattle.std.specs.Prelude.{◌≡◌, ◌≤◌, ◌^◌, IfOk, IfSome, length, None, false, true};
 ghost use Rattle.at_cache.specs.Asking.{AreNoted};
-ghost use Rattle.at_cache.specs.Info.{Info, memory_of, table_len};
+ghost use Rattle.at_cache.specs.Info.{memory_of, table_len};
 ghost use Rattle.at_cache.specs.Kept.{Answers, AreNamed, KeepsAll, LeavesUntouched, LosesTouched};
 ghost use Rattle.at_cache.specs.Finding.{edges_to};
 ghost use Rattle.at_cache.specs.Recorded.{IsIndexed};
 ghost use Rattle.at_cache.specs.Shedding.{AreHeld, Shrinks, kept_cut, remembered_cut};
-ghost use Rattle.at_cache.specs.Standings.{AreValued, IsTied, held, kept_held, last_is, remembered, standing_of};
+ghost use Rattle.at_cache.specs.Standings.{AreValued, IsTied, held, kept_held, last_is, remembered};
 ghost use Rattle.at_cache.specs.Theirs.{HasSlot};
-ghost use Rattle.at_cache.specs.Traced.{FlushesTraces, SparesAtEdit, TracesNothing, is_settled};
+ghost use Rattle.at_cache.specs.Traced.{FlushesTraces, SparesAtEdit, TracesKept, TracesNothing};
 
 use crate::again::slot_by;
 use crate::blocking::blocking;
@@ -47,12 +47,14 @@ pub struct KeepCutOff {
     near: Slot,
     // Where that may be that stood in its way, or itself. Nothing rests on it.
     stuck: Slot,
-    // Whether there ever was an edit; before that there is nothing to be kept again. Nothing rests on it.
+    // Whether there may be something to be kept again: not before the first edit, unless memory was wanting.
     doubtful: bool,
     ghost indexed: { IsIndexed (edges_to readers) puts (held cut.standings.items (memory_of cut.entries)) },
     ghost tied: { IsTied (edges_to readers) puts (memory_of cut.entries) },
     ghost valued: { AreValued cut.standings.items (memory_of cut.entries) },
     ghost noted: { AreNoted (edges_to readers) index_read.items },
+    ghost sure: { doubtful ≡ false → TracesKept (kept_held (edges_to readers) cut.entries cut.standings.items puts)
+        (remembered (edges_to readers) cut.entries cut.standings.items) },
 }
 
 /// One call, where each exit that lets it go would else have a case for each field.
@@ -105,17 +107,6 @@ impl KeepCutOff {
         slot_by(&self.cut.entries, inst, self.near)
     }
 
-    // Whether what is in the slot can be kept again, where it is to be put as what can't.
-    fn is_waiting(&self, slot: Slot, order: Order) -> bool
-        ensures { result ≡ false → is_settled order ≡ true → (e : Info) → memory_of self.now.cut.entries slot ≡ Some e
-            → (standing_of self.now.cut.standings.items slot).traced ≡ false }
-    {
-        if !order.is_settled() {
-            return false;
-        }
-        self.cut.is_traced(slot)
-    }
-
     /// How many numbers were given.
     pub fn puts(&self) -> u64 {
         self.puts
@@ -152,7 +143,7 @@ impl KeepCutOff {
             puts,
             near,
             stuck,
-            doubtful,
+            doubtful: _,
         } = self;
         shed(&mut cut.entries, cut.standings.as_slice())?;
         Ok(KeepCutOff {
@@ -163,7 +154,7 @@ impl KeepCutOff {
             puts,
             near,
             stuck,
-            doubtful,
+            doubtful: true,
         })
     }
 
@@ -198,7 +189,7 @@ impl KeepCutOff {
             puts,
             near,
             stuck,
-            doubtful,
+            doubtful: _,
         } = self;
         fold(alloc, &mut cut.entries, &mut readers, plan)?;
         lose_traces(&mut cut.standings)?;
@@ -210,7 +201,7 @@ impl KeepCutOff {
             puts,
             near,
             stuck,
-            doubtful,
+            doubtful: true,
         })
     }
 
@@ -250,17 +241,16 @@ impl Keeper for KeepCutOff {
     ) -> Result<Put, AllocError> {
         let stuck = self.stuck;
         let slot = slot_for(&self.cut.entries, &inst, stuck)?;
-        // Never so: what it used is kept where its evaluation has ended, and so it was kept again.
-        if self.is_waiting(slot, order) {
-            return Err(AllocError);
-        }
+        // Where memory is wanting on the way, that isn't sure any more.
+        let doubtful = self.doubtful;
+        self.doubtful = true;
         let known = outdate(self.alloc, &mut self.cut, &mut self.puts, slot);
         let stamp = self.puts;
         if stamp == u64::MAX {
             return Err(AllocError);
         }
         self.puts = stamp + 1;
-        enter_held(
+        let put = enter_held(
             self.alloc,
             &mut self.cut,
             &mut self.readers,
@@ -272,7 +262,16 @@ impl Keeper for KeepCutOff {
             reads,
             uses,
             order,
-        )
+        )?;
+        self.doubtful = doubtful;
+        Ok(put)
+    }
+
+    fn has_trace(&self, inst: &Inst) -> bool {
+        if !self.doubtful {
+            return false;
+        }
+        self.cut.has_trace(inst, self.near)
     }
 
     fn settle(&mut self, inst: &Inst, work: u64) -> u64 {

@@ -114,6 +114,10 @@ impl Keeper for KeepCutOffAtMost {
         self.keeper.put(inst, value, reads, uses, order)
     }
 
+    fn has_trace(&self, inst: &Inst) -> bool {
+        self.keeper.has_trace(inst)
+    }
+
     fn settle(&mut self, inst: &Inst, work: u64) -> u64 {
         self.keeper.settle(inst, work)
     }

@@ -47,6 +47,10 @@ impl Keeper for KeepNone {
         Ok(Put::Left)
     }
 
+    fn has_trace(&self, _inst: &Inst) -> bool {
+        false
+    }
+
     fn settle(&mut self, _inst: &Inst, work: u64) -> u64 {
         work
     }

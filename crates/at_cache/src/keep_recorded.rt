@@ -158,6 +158,7 @@ impl KeepRecorded {
             (kept_in (edges_to self.new.readers) self.new.entries self.new.puts) }
         ensures fewer { table_len self.new.entries ≤ table_len self.old.entries }
     {
+        let before = self.entries.entries.len();
         take_out_at(
             &mut self.entries,
             &self.readers,
@@ -165,6 +166,7 @@ impl KeepRecorded {
             places,
             touched,
         );
+        self.entries.order_slots(before);
     }
 
     /// How many direct reads the entries have, each location as often as an edge tells of it: of an entry once, however
@@ -219,6 +221,10 @@ impl Keeper for KeepRecorded {
             reads,
             uses,
         )
+    }
+
+    fn has_trace(&self, _inst: &Inst) -> bool {
+        false
     }
 
     fn settle(&mut self, _inst: &Inst, work: u64) -> u64 {

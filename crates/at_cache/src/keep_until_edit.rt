@@ -59,6 +59,10 @@ impl Keeper for KeepUntilEdit {
         Ok(Put::Kept)
     }
 
+    fn has_trace(&self, _inst: &Inst) -> bool {
+        false
+    }
+
     fn settle(&mut self, _inst: &Inst, work: u64) -> u64 {
         work
     }

@@ -1,12 +1,12 @@
 //! What every keeper does.
 
-ghost use Rattle.std.specs.Prelude.{◌≡◌, ◌+◌, ◌-◌, ◌^◌, ℕ, Option, None, Some, Bool, IsTrue, IfOk, IfSome, OnErr, OnOk, is_some, map, min, true};
+ghost use Rattle.std.specs.Prelude.{◌≡◌, ◌+◌, ◌-◌, ◌^◌, ℕ, Option, None, Some, Bool, IsTrue, IfOk, IfSome, OnErr, false, is_some, map, min};
 ghost use Rattle.std.specs.Option.{option_map};
 ghost use Rattle.at_model.specs.Run.{Instance, Value};
 ghost use Rattle.at_body.specs.Values.{value_view};
 ghost use Rattle.at_store.specs.Located.{loc_view};
 ghost use Rattle.at_cache.specs.Kept.{AreNamed, Kept, KeepsAll, HasPut, AreKept, Answers, LeavesUntouched, LosesTouched, value_at};
-ghost use Rattle.at_cache.specs.Traced.{AreAlike, FlushesTraces, IsNext, KeepsTrace, Memories, PutsTrace, Settled, SparesAtEdit, SparesOthers, StayTraced, is_settled};
+ghost use Rattle.at_cache.specs.Traced.{AreAlike, FlushesTraces, IsNext, Memories, PutsTrace, Settled, SparesAtEdit, SparesOthers, StayTraced};
 
 use at_body::{Inst, Value};
 use at_store::{Loc, Places};
@@ -28,21 +28,6 @@ pub enum Order {
     AsTaken,
     /// In any order.
     Any,
-    /// In any order, by a question in turns: the instance may have a trace still, since it is settled before its evaluation and not behind it.
-    InTurns,
-}
-
-impl Order {
-    /// Whether what is put so can't be kept again any more.
-    pub fn is_settled(self) -> bool
-        ensures { result ≡ is_settled self }
-    {
-        match self {
-            Order::AsTaken => true,
-            Order::Any => true,
-            Order::InTurns => false,
-        }
-    }
 }
 
 /// Keeps values of instances, each with the locations that it stands for. An entry may be without a value: then it only stands for
@@ -69,8 +54,8 @@ pub trait Keeper: Drop {
         ensures { result ≡ is_some (contents self.now inst.now) };
 
     /// Makes the entry of an instance that has none, with its value where that is kept, for the locations in `reads` and those of the
-    /// entries of `uses`; or leaves all as it is. An error where memory is wanting: what is kept is then as it was. What can be kept again is put
-    /// by a question in turns alone; what used it stays so where it has the value that it had.
+    /// entries of `uses`; or leaves all as it is. An error where memory is wanting: what is kept is then as it was. What used it can be kept
+    /// again still where it has the value that it had. A trace of its own goes.
     fn put(
         &mut self,
         inst: Inst,
@@ -84,9 +69,11 @@ pub trait Keeper: Drop {
         ensures puts { IfOk result (HasPut exact (contents self.old) inst (option_map value_view value) (map loc_view reads.now) uses.now (contents self.new)) }
         ensures err { OnErr result (KeepsAll (contents self.old) (contents self.new)) }
         ensures traces { PutsTrace inst (option_map value_view value) (map loc_view reads.now) uses.now order (memories self.old) (memories self.new) }
-        ensures spares { SparesOthers inst (contents self.new) (memories self.old) (memories self.new) }
-        ensures own { is_settled order ≡ true → KeepsTrace inst (memories self.old) (memories self.new) }
-        ensures anew { is_settled order ≡ true → OnOk result ((memories self.old).traced inst ≡ None) };
+        ensures spares { SparesOthers inst (contents self.new) (memories self.old) (memories self.new) };
+
+    /// Whether an instance that has no entry has a trace: it can be kept again once all that was used for it is.
+    fn has_trace(&self, inst: &Inst) -> bool
+        ensures { result ≡ false → contents self.now inst.now ≡ None → (memories self.now).traced inst.now ≡ None };
 
     /// Keeps again what can be kept with no evaluation, of the instance, what it used, and so on, and counts it: how much work was done
     /// then, where so much was done before. It stays at the greatest number.

@@ -24,8 +24,8 @@ pub struct Lone {
     stamps: Vec<u64>,
 }
 
-// Whether that slot is the only one.
-fn is_only(slots: &[Slot], slot: Slot) -> bool
+/// Whether that slot is the only one.
+pub fn is_only(slots: &[Slot], slot: Slot) -> bool
     ensures { IsTrue result → slots.now ≡ slot ∷ [] }
 {
     match slots {
@@ -88,8 +88,8 @@ impl Lone {
         }
     }
 
-    /// Whether each of the row does.
-    pub fn has_row(&self, row: &Row) -> bool
+    // Whether each of the row does.
+    fn has_row(&self, row: &Row) -> bool
         ensures { (there : Edge → Bool) (into : ℕ → List ℕ) → AreLone there into self.now.none self.now.stamps.items
             → IsTrue result → AreAlone there into (edges_of row.now) }
     {

@@ -1,15 +1,17 @@
 //! Entries that stay use what those used that are folded into them, and the others go.
 
-ghost use Rattle.std.specs.Prelude.{◌≡◌, ◌<◌, ◌∷◌, [], ℕ, IfOk, OnOk, length};
-ghost use Rattle.at_cache.specs.Folding.{AreLinks, AreLone, HasLinked, HasSame, Linked, LinkedTo, Relinks, RelinksAt, Remains, RemovesAt, slots_at};
-ghost use Rattle.at_cache.specs.Info.{memory_of};
+ghost use Rattle.std.specs.Prelude.{◌≡◌, ◌<◌, ◌∷◌, [], ℕ, Bool, Contains, IfOk, IsTrue, List, OnOk, Some, length};
+ghost use Rattle.at_cache.specs.declared.edge.Edge.{Edge};
+ghost use Rattle.at_cache.specs.Edges.{edges_in};
+ghost use Rattle.at_cache.specs.Folding.{AreAlone, AreLinks, AreLone, AreTaken, HasLinked, HasSame, IsRelinked, Linked, LinkedTo, Relinks, RelinksAt, Remains, RemovesAt, Stays, slots_at};
+ghost use Rattle.at_cache.specs.Info.{Info, memory_of};
 ghost use Rattle.at_cache.specs.Putting.{is_current};
 
 use crate::edge::{Edges, Slot};
-use crate::entry::Links;
+use crate::entry::{Entry, Links};
 use crate::facet::small;
-use crate::folding::{does_stay, is_near, slots_at};
-use crate::lone::Lone;
+use crate::folding::{does_stay, is_near, slots_at, taken_of};
+use crate::lone::{Lone, is_only};
 use crate::rewriting::rewrite_list;
 use crate::room::Room;
 use crate::table::Table;
@@ -70,7 +72,7 @@ fn link_each(
     Ok(())
 }
 
-// What the entry in the slot used is linked to each of those into which it is folded.
+// What the entry in the slot used is linked to each other one into which it is folded.
 fn link_from(
     entries: &Table,
     plan: &[Links],
@@ -79,8 +81,12 @@ fn link_from(
 ) -> Result<(), AllocError>
     ensures { OnOk result (HasLinked (memory_of entries.now) (slots_at plan.now) slot (slots_at lists.old.items) (slots_at lists.new.items)) }
 {
+    let targets = slots_at(plan, slot);
+    if is_only(targets, slot) {
+        return Ok(());
+    }
     match entries.pair(slot) {
-        Some((_, entry)) => link_each(lists, plan, slots_at(plan, slot), entry.links.as_slice()),
+        Some((_, entry)) => link_each(lists, plan, targets, entry.links.as_slice()),
         None => Ok(()),
     }
 }
@@ -96,14 +102,19 @@ fn empty_lists(alloc: Global, count: usize) -> Result<Vec<Links>, AllocError>
     Ok(lists)
 }
 
-// The links of each entry that stays.
-fn all_links_of(alloc: Global, entries: &Table, plan: &[Links]) -> Result<Vec<Links>, AllocError>
+/// What each entry that stays is linked to for others that are folded into it, where the entries are in these slots.
+pub fn links_of(
+    alloc: Global,
+    entries: &Table,
+    plan: &[Links],
+    taken: &[Slot],
+) -> Result<Vec<Links>, AllocError>
+    requires taken { AreTaken (memory_of entries.now) taken.now }
     ensures { IfOk result (λ links. AreLinks (memory_of entries.now) (slots_at plan.now) (slots_at links.items)) }
 {
     let mut lists = empty_lists(alloc, plan.len())?;
-    for number in 0..plan.len() {
-        let slot = small(number)?;
-        link_from(entries, plan, &mut lists, slot)?;
+    for slot in taken {
+        link_from(entries, plan, &mut lists, *slot)?;
     }
     Ok(lists)
 }
@@ -119,26 +130,105 @@ fn make_distinct(list: &mut Links)
     list.dedup();
 }
 
-// So it is in all of these lists.
-fn make_each_distinct(lists: &mut Vec<Links>)
-    ensures { (r : ℕ) → HasSame (slots_at lists.old.items r) (slots_at lists.new.items r) }
+// What the entry in the slot used that stays, if there is one, is added to the list.
+fn add_own(list: &mut Links, entries: &Table, plan: &[Links], slot: Slot) -> Result<(), AllocError>
+    ensures { OnOk result ((e : Info) → memory_of entries.now slot ≡ Some e → Linked (slots_at plan.now) e.links list.old.items list.new.items) }
 {
-    for number in 0..lists.len() {
-        let list = &mut lists[number];
-        make_distinct(list);
+    match entries.pair(slot) {
+        Some((_, entry)) => add_links(list, plan, entry.links.as_slice()),
+        None => Ok(()),
     }
 }
 
-/// The links of each entry that stays, each once.
-pub fn links_of(alloc: Global, entries: &Table, plan: &[Links]) -> Result<Vec<Links>, AllocError>
-    ensures { IfOk result (λ links. AreLinks (memory_of entries.now) (slots_at plan.now) (slots_at links.items)) }
+// These links, and with them what the entry in the slot used that stays, each once.
+fn joined(
+    alloc: Global,
+    entries: &Table,
+    plan: &[Links],
+    links: &[Slot],
+    slot: Slot,
+) -> Result<Links, AllocError>
+    ensures { IfOk result (λ list. (e : Info) → memory_of entries.now slot ≡ Some e → Linked (slots_at plan.now) e.links links.now list.items) }
 {
-    let mut lists = all_links_of(alloc, entries, plan)?;
-    make_each_distinct(&mut lists);
-    Ok(lists)
+    let mut list = Links::from_slice(alloc, links)?;
+    add_own(&mut list, entries, plan, slot)?;
+    make_distinct(&mut list);
+    Ok(list)
 }
 
-// What is in the slot has these links and what used those that are folded into it, if it stays.
+// Whether all of these stay.
+fn do_stay(plan: &[Links], slots: &[Slot]) -> bool
+    ensures { IsTrue result → (p : ℕ) → Contains slots.now p → Stays (slots_at plan.now) p }
+{
+    for slot in slots {
+        if !does_stay(plan, *slot) {
+            return false;
+        }
+    }
+    true
+}
+
+// Whether all that the entry used stays, and what used it stays by itself.
+fn is_left(plan: &[Links], lone: &Lone, entry: &Entry) -> bool
+    ensures stay { IsTrue result → (p : ℕ) → Contains entry.now.links.items p → Stays (slots_at plan.now) p }
+    ensures alone { (there : Edge → Bool) (into : ℕ → List ℕ) → AreLone there into lone.now.none lone.now.stamps.items
+        → IsTrue result → AreAlone there into (edges_in entry.now.users) }
+{
+    if !do_stay(plan, entry.links.as_slice()) {
+        return false;
+    }
+    lone.has_all(&entry.users)
+}
+
+// Whether there is none.
+fn are_none(slots: &[Slot]) -> bool
+    ensures { IsTrue result → slots.now ≡ [] }
+{
+    match slots {
+        [] => true,
+        _ => false,
+    }
+}
+
+// Whether the entry in the slot, if there is one, is as it is to be with these links.
+fn is_settled(entries: &Table, plan: &[Links], links: &[Slot], lone: &Lone, slot: Slot) -> bool
+    requires lone { AreLone (is_current (memory_of entries.now)) (slots_at plan.now) lone.now.none lone.now.stamps.items }
+    ensures { IsTrue result → IsRelinked (is_current (memory_of entries.now)) (slots_at plan.now) links.now
+        (memory_of entries.now slot) (memory_of entries.now slot) }
+{
+    if !are_none(links) {
+        return false;
+    }
+    match entries.pair(slot) {
+        Some((_, entry)) => is_left(plan, lone, entry),
+        None => false,
+    }
+}
+
+// What is in the slot, if anything is, has these links beside its own that stay, and what used those that are folded into it.
+fn relink_one(
+    alloc: Global,
+    entries: &mut Table,
+    plan: &[Links],
+    links: &[Slot],
+    lone: &Lone,
+    room: &mut Room,
+    slot: Slot,
+) -> Result<(), AllocError>
+    requires lone { AreLone (is_current (memory_of entries.old)) (slots_at plan.now) lone.now.none lone.now.stamps.items }
+    ensures { OnOk result (RelinksAt (slots_at plan.now) links.now slot (memory_of entries.old) (memory_of entries.new)) }
+{
+    if !entries.is_taken(slot) {
+        return Ok(());
+    }
+    let list = joined(alloc, entries, plan, links, slot)?;
+    let mut users = entries.exchange_users(slot, Edges::Empty);
+    rewrite_list(alloc, entries, plan, lone, room, &mut users)?;
+    entries.relink(slot, list, users);
+    Ok(())
+}
+
+// So it is, if it stays.
 fn relink_at(
     alloc: Global,
     entries: &mut Table,
@@ -154,14 +244,11 @@ fn relink_at(
     if !does_stay(plan, slot) {
         return Ok(());
     }
-    if !entries.is_taken(slot) {
+    let gained = slots_at(links, slot);
+    if is_settled(entries, plan, gained, lone, slot) {
         return Ok(());
     }
-    let list = Links::from_slice(alloc, slots_at(links, slot))?;
-    let mut users = entries.exchange_users(slot, Edges::Empty);
-    rewrite_list(alloc, entries, plan, lone, room, &mut users)?;
-    entries.relink(slot, list, users);
-    Ok(())
+    relink_one(alloc, entries, plan, gained, lone, room, slot)
 }
 
 /// Each entry that stays has its links, and is used by those into which its users are folded.
@@ -171,14 +258,14 @@ pub fn relink(
     plan: &[Links],
     links: &[Links],
     lone: &Lone,
+    room: &mut Room,
 ) -> Result<(), AllocError>
     requires lone { AreLone (is_current (memory_of entries.old)) (slots_at plan.now) lone.now.none lone.now.stamps.items }
     ensures { OnOk result (Relinks (slots_at plan.now) (slots_at links.now) (memory_of entries.old) (memory_of entries.new)) }
 {
-    let mut room = Room::new(alloc, plan.len())?;
     for number in 0..plan.len() {
         let slot = small(number)?;
-        relink_at(alloc, entries, plan, links, lone, &mut room, slot)?;
+        relink_at(alloc, entries, plan, links, lone, room, slot)?;
     }
     Ok(())
 }
@@ -196,25 +283,22 @@ fn remove_at(entries: &mut Table, plan: &[Links], slot: Slot)
     let _ = entries.remove(slot);
 }
 
-// What doesn't stay goes. An error where there are more slots than the plan has.
-fn remove_each(entries: &mut Table, plan: &[Links]) -> Result<(), AllocError>
-    ensures { OnOk result (Remains (slots_at plan.now) (memory_of entries.old) (memory_of entries.new)) }
+// What doesn't stay of these slots goes.
+fn remove_each(entries: &mut Table, plan: &[Links], taken: &[Slot])
+    requires taken { AreTaken (memory_of entries.old) taken.now }
+    ensures { Remains (slots_at plan.now) (memory_of entries.old) (memory_of entries.new) }
 {
-    if entries.places.capacity() > plan.len() {
-        return Err(AllocError);
+    for slot in taken {
+        remove_at(entries, plan, *slot);
     }
-    for number in 0..plan.len() {
-        let slot = small(number)?;
-        remove_at(entries, plan, slot);
-    }
-    Ok(())
 }
 
-/// What doesn't stay goes, with the memory that it took. An error where there are more slots than the plan has.
-pub fn remove_folded(entries: &mut Table, plan: &[Links]) -> Result<(), AllocError>
+/// What doesn't stay goes, with the memory that it took. An error where memory is wanting.
+pub fn remove_folded(alloc: Global, entries: &mut Table, plan: &[Links]) -> Result<(), AllocError>
     ensures { OnOk result (Remains (slots_at plan.now) (memory_of entries.old) (memory_of entries.new)) }
 {
-    remove_each(entries, plan)?;
+    let taken = taken_of(alloc, entries)?;
+    remove_each(entries, plan, taken.as_slice());
     entries.shrink();
     Ok(())
 }

@@ -1,6 +1,6 @@
 //! An entry comes that stays in memory, or is put anew.
 
-ghost use Rattle.std.specs.Prelude.{◌≡◌, ◌≤◌, ◌+◌, ◌^◌, ℕ, List, true, None, Some, Contains, IfOk, IsSome, IsTrue, OnErr, OnOk, length, map, option_map};
+ghost use Rattle.std.specs.Prelude.{◌≡◌, ◌≤◌, ◌^◌, ℕ, List, None, Some, Contains, IfOk, IsSome, IsTrue, OnErr, OnOk, length, map, option_map};
 ghost use Rattle.at_model.specs.Run.{Instance, Location};
 ghost use Rattle.at_body.specs.Values.{value_view};
 ghost use Rattle.at_store.specs.Located.{loc_view};
@@ -9,13 +9,11 @@ ghost use Rattle.at_cache.specs.declared.keeper.Order.TheVariants as orders;
 ghost use Rattle.at_cache.specs.Asking.{AreNoted};
 ghost use Rattle.at_cache.specs.Flushing.{IsIdle};
 ghost use Rattle.at_cache.specs.Info.{Info, info, memory_of};
-ghost use Rattle.at_cache.specs.Kept.{AreKept, HasPut, KeepsAll};
+ghost use Rattle.at_cache.specs.Kept.{AreKept};
 ghost use Rattle.at_cache.specs.Putting.{fresh_entry};
 ghost use Rattle.at_cache.specs.Finding.{edges_to};
-ghost use Rattle.at_cache.specs.Recorded.{IsIndexed};
-ghost use Rattle.at_cache.specs.Renewing.{Compares, IsAwaited, IsSlotFor, LosesUsers, PutsIn, StaysAwaited};
-ghost use Rattle.at_cache.specs.Standings.{AreValued, IsTied, held, kept_held, remembered};
-ghost use Rattle.at_cache.specs.Traced.{PutsTrace, SparesOthers};
+ghost use Rattle.at_cache.specs.Renewing.{Compares, EntersHeld, IsAwaited, IsSlotFor, LosesUsers, PutsIn, StaysAwaited};
+ghost use Rattle.at_cache.specs.Shedding.{kept_cut};
 
 use crate::again::{slot_by, slots_again};
 use crate::cut::{Cut, Pass};
@@ -39,7 +37,6 @@ fn is_traced(value: &Option<Value>, order: Order) -> bool
     match order {
         Order::AsTaken => value.is_some(),
         Order::Any => false,
-        Order::InTurns => false,
     }
 }
 
@@ -144,22 +141,10 @@ pub fn enter_held(
     order: Order,
 ) -> Result<Put, AllocError>
     requires awaited { IsAwaited (edges_to readers.old) cut.old.entries cut.old.standings.items edge.stamp inst edge.slot }
-    requires present { AreKept (kept_held (edges_to readers.old) cut.old.entries cut.old.standings.items edge.stamp) uses.now }
-    ensures indexed { IsIndexed (edges_to readers.new) (edge.stamp + 1) (held cut.new.standings.items (memory_of cut.new.entries)) }
-    ensures tied { IsTied (edges_to readers.new) (edge.stamp + 1) (memory_of cut.new.entries) }
-    ensures valued { AreValued cut.new.standings.items (memory_of cut.new.entries) }
+    requires present { AreKept (kept_cut (edges_to readers.old) cut.old edge.stamp) uses.now }
+    ensures enters { EntersHeld inst (option_map value_view value) (map loc_view reads.now) uses.now order edge.stamp
+        (edges_to readers.old) cut.old (edges_to readers.new) cut.new result }
     ensures noted { AreNoted (edges_to readers.old) index_read.old.items → AreNoted (edges_to readers.new) index_read.new.items }
-    ensures puts { IfOk result (HasPut true (kept_held (edges_to readers.old) cut.old.entries cut.old.standings.items edge.stamp) inst
-        (option_map value_view value) (map loc_view reads.now) uses.now
-        (kept_held (edges_to readers.new) cut.new.entries cut.new.standings.items (edge.stamp + 1))) }
-    ensures err { OnErr result (KeepsAll (kept_held (edges_to readers.old) cut.old.entries cut.old.standings.items edge.stamp)
-        (kept_held (edges_to readers.new) cut.new.entries cut.new.standings.items (edge.stamp + 1))) }
-    ensures traces { PutsTrace inst (option_map value_view value) (map loc_view reads.now) uses.now order
-        (remembered (edges_to readers.old) cut.old.entries cut.old.standings.items)
-        (remembered (edges_to readers.new) cut.new.entries cut.new.standings.items) }
-    ensures spares { SparesOthers inst (kept_held (edges_to readers.new) cut.new.entries cut.new.standings.items (edge.stamp + 1))
-        (remembered (edges_to readers.old) cut.old.entries cut.old.standings.items)
-        (remembered (edges_to readers.new) cut.new.entries cut.new.standings.items) }
 {
     let links = slots_again(alloc, &cut.entries, uses, known)?;
     make_standing(&mut cut.standings, edge.slot)?;

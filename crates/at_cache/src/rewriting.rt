@@ -1,13 +1,14 @@
 //! Edges that tell of entries which are folded tell of those into which they are.
 
-ghost use Rattle.std.specs.Prelude.{◌≡◌, ◌<◌, ◌∷◌, ◌++◌, [], ℕ, List, OnOk, length, slice_get, true};
+ghost use Rattle.std.specs.Prelude.{◌≡◌, ◌<◌, ◌∷◌, ◌++◌, [], ℕ, Bool, IfSome, IsTrue, List, OnOk, Some, length, slice_get, true};
 ghost use Rattle.at_model.specs.Run.{Location};
 ghost use Rattle.at_cache.specs.declared.edge.Edge.{Edge};
 ghost use Rattle.at_cache.specs.Edges.{edges_in};
-ghost use Rattle.at_cache.specs.Folding.{Added, AreLone, AreRefolded, Gathered, IsRefolded, Parted, Refolded, slots_at};
-ghost use Rattle.at_cache.specs.Info.{memory_of};
+ghost use Rattle.at_cache.specs.Folding.{Added, AreAlone, AreLone, AreRefolded, Gathered, IsRefolded, Parted, Refolded, slots_at};
+ghost use Rattle.at_cache.specs.Info.{Info, memory_of};
 ghost use Rattle.at_cache.specs.Putting.{is_current};
 ghost use Rattle.at_cache.specs.Readers.{edges_at};
+ghost use Rattle.at_cache.specs.Recorded.{edge_to};
 ghost use Rattle.at_cache.specs.Rows.{edges_along, edges_of};
 
 use crate::edge::{Edge, Edges, Many, Slot};
@@ -71,7 +72,25 @@ fn rows_in(edges: &Edges) -> usize {
     }
 }
 
+// Whether all that the row tells of stays by itself. The room knows then that it stands at that place.
+fn is_kept(lone: &Lone, room: &mut Room, row: &Row, place: usize) -> bool
+    ensures alone { (there : Edge → Bool) (into : ℕ → List ℕ) → AreLone there into lone.now.none lone.now.stamps.items
+        → IsTrue result → AreAlone there into (edges_of row.now) }
+    ensures slots { room.new.slots ≡ room.old.slots }
+{
+    let mut rest = *row;
+    while let Some((edge, others)) = rest.split_first() {
+        if !lone.has(edge) {
+            return false;
+        }
+        room.note(edge.slot, place);
+        rest = others;
+    }
+    true
+}
+
 // The row comes into the new list, if all that it tells of stays by itself, and else the targets are gathered.
+#[inline(always)]
 fn part_row(
     entries: &Table,
     plan: &[Links],
@@ -84,10 +103,9 @@ fn part_row(
     ensures { (done : List Edge) → Parted (memory_of entries.now) (slots_at plan.now) done room.old.slots.items (edges_along rows.old.items)
         → OnOk result (Parted (memory_of entries.now) (slots_at plan.now) (done ++ edges_of row.now) room.new.slots.items (edges_along rows.new.items)) }
 {
-    if !lone.has_row(row) {
+    if !is_kept(lone, room, row, rows.len()) {
         return gather_row(entries, plan, lone, &mut room.slots, row);
     }
-    room.note_row(row, rows.len());
     rows.push(*row)?;
     Ok(())
 }
@@ -189,8 +207,101 @@ fn add_edges_to(entries: &Table, room: &mut Room, rows: &mut Many) -> Result<(),
     Ok(())
 }
 
-/// The list tells of those into which the entries are folded of which it told: rows whose edges all tell of what stays by itself are as they
-/// were.
+// The list is made anew, and tells of those into which the entries are folded of which it told: rows whose edges all tell of what stays by
+// itself are as they were.
+fn make_anew(
+    alloc: Global,
+    entries: &Table,
+    plan: &[Links],
+    lone: &Lone,
+    room: &mut Room,
+    edges: &mut Edges,
+) -> Result<(), AllocError>
+    requires lone { AreLone (is_current (memory_of entries.now)) (slots_at plan.now) lone.now.none lone.now.stamps.items }
+    ensures { OnOk result (Refolded (is_current (memory_of entries.now)) (slots_at plan.now) (edges_in edges.old) (edges_in edges.new)) }
+{
+    room.slots.clear();
+    let mut rows = Many::with_capacity(alloc, rows_in(edges))?;
+    part(entries, plan, lone, room, &mut rows, edges)?;
+    room.slots.sort_unstable();
+    add_edges_to(entries, room, &mut rows)?;
+    *edges = Edges::of_rows(alloc, rows)?;
+    Ok(())
+}
+
+// The only one of these slots, if it is just one.
+fn only_slot(slots: &[Slot]) -> Option<Slot>
+    ensures { IfSome result (λ slot. slots.now ≡ slot ∷ []) }
+{
+    match slots {
+        [only] => Some(*only),
+        _ => None,
+    }
+}
+
+// The edge to the entry in the slot alone, if there is one.
+fn edges_to(entries: &Table, slot: Slot) -> Option<Edges>
+    ensures { IfSome result (λ edges. (e : Info) × (memory_of entries.now slot ≡ Some e) × (edges_in edges ≡ edge_to slot e ∷ [])) }
+{
+    match entries.pair(slot) {
+        Some((_, entry)) => {
+            let edge = Edge {
+                slot,
+                stamp: entry.stamp,
+            };
+            Some(Edges::of(edge))
+        }
+        None => None,
+    }
+}
+
+// What comes in the place of an edge that tells of no entry, or of one that is folded into one alone: most lists that change have just that.
+fn edges_for(entries: &Table, plan: &[Links], edge: Edge) -> Option<Edges>
+    ensures { IfSome result (λ edges. Refolded (is_current (memory_of entries.now)) (slots_at plan.now) (edge ∷ []) (edges_in edges)) }
+{
+    if !entries.is_current(&edge) {
+        return Some(Edges::Empty);
+    }
+    match only_slot(slots_at(plan, edge.slot)) {
+        Some(slot) => edges_to(entries, slot),
+        None => None,
+    }
+}
+
+// The same of a list with just one.
+fn edges_in_place(entries: &Table, plan: &[Links], edges: &Edges) -> Option<Edges>
+    ensures { IfSome result (λ new. Refolded (is_current (memory_of entries.now)) (slots_at plan.now) (edges_in edges.now) (edges_in new)) }
+{
+    match edges.only() {
+        Some(edge) => edges_for(entries, plan, edge),
+        None => None,
+    }
+}
+
+// A list that changes tells of those into which the entries are folded of which it told.
+#[inline(never)]
+fn change_list(
+    alloc: Global,
+    entries: &Table,
+    plan: &[Links],
+    lone: &Lone,
+    room: &mut Room,
+    edges: &mut Edges,
+) -> Result<(), AllocError>
+    requires lone { AreLone (is_current (memory_of entries.now)) (slots_at plan.now) lone.now.none lone.now.stamps.items }
+    ensures { OnOk result (Refolded (is_current (memory_of entries.now)) (slots_at plan.now) (edges_in edges.old) (edges_in edges.new)) }
+{
+    match edges_in_place(entries, plan, edges) {
+        Some(new) => {
+            *edges = new;
+            Ok(())
+        }
+        None => make_anew(alloc, entries, plan, lone, room, edges),
+    }
+}
+
+/// The list tells of those into which the entries are folded of which it told. One that tells of nothing but what stays by itself is as it was.
+#[inline(always)]
 pub fn rewrite_list(
     alloc: Global,
     entries: &Table,
@@ -205,13 +316,7 @@ pub fn rewrite_list(
     if lone.has_all(edges) {
         return Ok(());
     }
-    room.slots.clear();
-    let mut rows = Many::with_capacity(alloc, rows_in(edges))?;
-    part(entries, plan, lone, room, &mut rows, edges)?;
-    room.slots.sort_unstable();
-    add_edges_to(entries, room, &mut rows)?;
-    *edges = Edges::of_rows(alloc, rows)?;
-    Ok(())
+    change_list(alloc, entries, plan, lone, room, edges)
 }
 
 // So does the one at that place of those of a node.
@@ -259,6 +364,7 @@ pub fn rewrite(
     entries: &Table,
     plan: &[Links],
     lone: &Lone,
+    room: &mut Room,
     readers: &mut Vec<Facets>,
 ) -> Result<(), AllocError>
     requires lone { AreLone (is_current (memory_of entries.now)) (slots_at plan.now) lone.now.none lone.now.stamps.items }
@@ -266,10 +372,9 @@ pub fn rewrite(
         (edges_at readers.old.items l) (edges_at readers.new.items l)) }
     ensures len { length readers.new.items ≡ length readers.old.items }
 {
-    let mut room = Room::new(alloc, plan.len())?;
     for number in 0..readers.len() {
         let list = &mut readers[number];
-        rewrite_node(alloc, entries, plan, lone, &mut room, list)?;
+        rewrite_node(alloc, entries, plan, lone, room, list)?;
     }
     readers.shrink_to_fit();
     Ok(())

@@ -42,17 +42,6 @@ impl Room {
         }
     }
 
-    /// The same of all edges of the row.
-    pub fn note_row(&mut self, row: &Row, place: usize)
-        ensures { self.new.slots ≡ self.old.slots }
-    {
-        let mut rest = *row;
-        while let Some((edge, others)) = rest.split_first() {
-            self.note(edge.slot, place);
-            rest = others;
-        }
-    }
-
     /// Whether the edge stands in one of the rows, as far as is known.
     pub fn has(&self, rows: &[Row], edge: Edge) -> bool
         ensures { IsTrue result → Contains (edges_along rows.now) edge }

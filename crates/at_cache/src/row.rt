@@ -93,6 +93,16 @@ impl Row {
         Some((self.first(), rest))
     }
 
+    /// Its edge, where it is just one.
+    pub fn only(self) -> Option<Edge>
+        ensures { IfSome result (λ edge. edges_of self ≡ edge ∷ []) }
+    {
+        if self.count == 1 {
+            return Some(self.first());
+        }
+        None
+    }
+
     // The edge with which it begins.
     fn first(&self) -> Edge
         ensures { result ≡ first_of self.now }

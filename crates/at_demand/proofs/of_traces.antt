@@ -5,6 +5,7 @@ pub mod Settled
 pub mod OfTree
 pub mod Lazily
 pub mod Making
+pub mod TurnsPut
 pub mod MadeAgain
 pub mod Putting
 pub mod Untouched

@@ -17,6 +17,7 @@ use Rattle.at_demand.specs.declared.question.Question.{Question}
 use Rattle.at_demand.specs.declared.trials.Trials.{Trials}
 use Rattle.at_demand.specs.Again.{KeepsAgain}
 use Rattle.at_demand.specs.Made.{Makes}
+use Rattle.at_demand.specs.Went.{Went}
 use Rattle.at_demand.specs.Known.{equations, meaning, kept_values, ArePlain, IsKept, answer_view}
 use Rattle.at_demand.specs.Right.{AreRight, IsThere}
 use Rattle.at_demand.specs.Sparing.{AddsWorthy, AreSpare, Counts, HasWorthy, IsWork, IsWorthKeeping}
@@ -170,23 +171,28 @@ pub record HasTurnedOften {E : Type 0} (rules : Rules) (s : Shown) (exact : Bool
       → IfOk r (λ g. IsOfUse rules g.1 (IsSparingTurns rules (contents s) after new))
   pub counts : IsTrue exact → Counts before after earlier later
 
--- The instance has its answer; what can be kept again is right still, and of the tree. Unless turns were given, just what had a reason was made.
+-- The instance has its answer; what can be kept again is right still, and of the tree. Unless turns were given, just what had a reason was made;
+-- else that was made by steps, some of which are turns.
 pub record IsAnswered {E : Type 0} (rules : Rules) (s : Shown) (exact : Bool) (before after : Entries) (former latter : Memories)
     (earlier later : ℕ) (i : Instance ℕ) (r : Result AnswerCode E) (turned : Bool) (first next : ℕ) : Type 0 where
   pub answered : HasAnswered rules s exact before after earlier later i r
   pub traces : StayJustified rules s i former latter
   pub makes : turned ≡ false → Makes before after former latter first next
+  pub went : IsTrue exact → Went former first latter next
 
--- turns come to that, and trace nothing
-pub record TracesNothing (Turns : Type 0) (former latter : Memories) : Type 0 where
+-- turns come to that, and trace nothing; what they put, they put as turns do
+pub record TracesNothing (exact : Bool) (Turns : Type 0) (former latter : Memories) (first next : ℕ) : Type 0 where
   pub turned : Turns
   pub traces : StayTraced former latter
+  pub went : IsTrue exact → Went former first latter next
 
--- an edit leaves all that it doesn't touch, an exact keeper loses the rest, and traces for which it was looked at alone; the work stays as it was
-pub record Forgets (says : Location ℕ → Bool → Type 0) (exact : Bool) (before after : Entries) (former latter : Memories) (earlier later : ℕ)
-    : Type 0 where
+-- an edit leaves all that it doesn't touch, an exact keeper loses the rest, and traces for which it was looked at alone; the work stays as it was, and
+-- nothing is made
+pub record Forgets (says : Location ℕ → Bool → Type 0) (exact : Bool) (before after : Entries) (former latter : Memories)
+    (earlier later first next : ℕ) : Type 0 where
   pub leaves : LeavesUntouched says before after
   pub loses : IsTrue exact → LosesTouched says before after
   pub traces : FlushesTraces says former latter
   pub spares : IsTrue exact → SparesAtEdit says former latter
   pub work : later ≡ earlier
+  pub made : next ≡ first

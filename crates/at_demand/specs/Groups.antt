@@ -18,7 +18,7 @@ use Rattle.at_body.specs.declared.formula.Piece.{Piece}
 use Rattle.at_body.specs.declared.value.Value.TheVariants as value
 use Rattle.indexmap.specs.IndexMap.{insert_entry}
 use Rattle.at_cache.specs.Kept.{Entries}
-use Rattle.at_cache.specs.Traced.{Memories, StayTraced}
+use Rattle.at_cache.specs.Traced.{Memories}
 use Rattle.at_search.specs.LedTo.{AreClosedIn}
 use Rattle.at_search.specs.Recorded.{IsRecordedForm, Recorded}
 use Rattle.at_search.specs.Solved.{IsSpoilt, IsStopped}
@@ -28,6 +28,7 @@ use Rattle.at_search.specs.declared.solving.Solved.{Solved}
 use Rattle.at_demand.specs.declared.evaluation.Demanded.{Demanded}
 use Rattle.at_demand.specs.declared.evaluation.Find.{Find}
 use Rattle.at_demand.specs.declared.question.Question.{Question}
+use Rattle.at_demand.specs.InTurns.{PutsInTurns}
 use Rattle.at_demand.specs.Answerable.{IsAnswerable, RestsOnKept}
 use Rattle.at_demand.specs.ChainSteps.{HasMarkedAll, KeepsChain}
 use Rattle.at_demand.specs.Covering.{AreCovered, AreWhole, IsDemanded, IsWhole}
@@ -80,7 +81,7 @@ pub record Tells (rules : Rules) (s : Shown) (exact : Bool) (before after : Entr
   pub spare : Whole → IsTrue exact → AreSpare rules (contents s) before → AreLean rules (contents s) old.found.entries
       → AreSettled rules before old.found.entries → AreSpare rules (contents s) after
   pub counts : IsTrue exact → Counts before after earlier later
-  pub traces : StayTraced former latter
+  pub traces : PutsInTurns former latter
 
 -- Instances can be solved: all start alike; and what is known and recorded holds.
 pub record CanBeSolved (rules : Rules) (s : Shown) (entries : Entries) (q : Question) (insts : List (Instance ℕ)) : Type 0 where
@@ -231,7 +232,7 @@ pub record IsKeptOrFound (rules : Rules) (exact : Bool) (before after : Entries)
       → AreOnly rules look before → AreOnly rules look after
   pub plain : ArePlain rules after
   pub counts : IsTrue exact → Counts before after earlier later
-  pub traces : StayTraced former latter
+  pub traces : PutsInTurns former latter
   pub finds : (new.found.entries ≡ old.found.entries) ⊎ ((new.found.entries ≡ insert_entry same_instance old.found.entries i f)
       × (IsTrue exact → is_lazy rules i.attribute ≡ true → IsKept after i))
   pub same : new ≡ record old { found = new.found }

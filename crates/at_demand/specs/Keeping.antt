@@ -6,11 +6,12 @@ use Rattle.at_store.specs.Located.{loc_view}
 use Rattle.at_body.specs.Values.{value_view}
 use Rattle.at_body.specs.declared.value.Value.{Value as ValueCode}
 use Rattle.at_cache.specs.Kept.{AreKept, Entries, HasPut, KeepsAll}
-use Rattle.at_cache.specs.Traced.{Memories, StayTraced}
+use Rattle.at_cache.specs.Traced.{Memories}
 use Rattle.at_cache.specs.declared.keeper.Put.{Put}
 use Rattle.at_cache.specs.declared.keeper.Put.TheVariants as put
 use Rattle.at_demand.specs.declared.evaluation.Find.{Find}
 use Rattle.at_demand.specs.declared.gathering.Sources.{Sources}
+use Rattle.at_demand.specs.InTurns.{PutsInTurns}
 use Rattle.at_demand.specs.Known.{kept_values, ArePlain, IsFound, IsKept, KeepsEntries, MayAdd}
 use Rattle.at_demand.specs.Covering.{AreCovered, AreGathered, AreWhole, IsWhole}
 use Rattle.at_demand.specs.Only.{AreFrom, AreLean, IsLean}
@@ -61,7 +62,7 @@ pub record SharesAlone (rules : Rules) (exact : Bool) (found : List (Instance �
     (earlier later : ℕ) : Type 0 where
   pub shares : Shares rules exact found before after
   pub work : later ≡ earlier
-  pub traces : StayTraced former latter
+  pub traces : PutsInTurns former latter
 
 -- so it is once the sources of a find are gathered
 pub record IsGathered {E : Type 0} (rules : Rules) (exact : Bool) (before after : Entries) (former latter : Memories) (earlier later : ℕ)
@@ -69,7 +70,7 @@ pub record IsGathered {E : Type 0} (rules : Rules) (exact : Bool) (before after 
   pub shares : Shares rules exact found before after
   pub work : later ≡ earlier
   pub sources : IfOk r (HasGathered after found f)
-  pub traces : StayTraced former latter
+  pub traces : PutsInTurns former latter
 
 -- the find is placed, or what is shared has its entries; the work counts it, and nothing is traced
 pub record IsPlaced {E : Type 0} (rules : Rules) (exact : Bool) (before after : Entries) (former latter : Memories) (earlier later : ℕ)
@@ -77,7 +78,7 @@ pub record IsPlaced {E : Type 0} (rules : Rules) (exact : Bool) (before after : 
   pub placed : IfOk r (HasPlaced rules exact before found i f after)
   pub err : OnErr r (Shares rules exact found before after)
   pub counts : IsTrue exact → Counts before after earlier later
-  pub traces : StayTraced former latter
+  pub traces : PutsInTurns former latter
 
 -- the value is put, for these locations and uses, or all stays; the work counts it, and nothing is traced
 pub record IsPut {E : Type 0} (exact : Bool) (before after : Entries) (former latter : Memories) (earlier later : ℕ) (i : Instance ℕ)
@@ -85,10 +86,10 @@ pub record IsPut {E : Type 0} (exact : Bool) (before after : Entries) (former la
   pub puts : IfOk r (HasPut exact before i (Some (value_view v)) ls us after)
   pub err : OnErr r (KeepsAll before after)
   pub counts : IsTrue exact → Counts before after earlier later
-  pub traces : StayTraced former latter
+  pub traces : PutsInTurns former latter
 
 -- the find is kept where its attribute is lazy, and nothing is traced
 pub record IsKeptWhereLazy {E : Type 0} (rules : Rules) (exact : Bool) (before after : Entries) (former latter : Memories) (earlier later : ℕ)
     (found : List (Instance ℕ × Find)) (i : Instance ℕ) (f : Find) (r : Result Put E) : Type 0 where
   pub keeps : KeepsWhereLazy rules exact before after earlier later found i f r
-  pub traces : StayTraced former latter
+  pub traces : PutsInTurns former latter

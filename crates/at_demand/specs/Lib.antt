@@ -27,5 +27,7 @@ pub mod Inner
 pub mod InParts
 pub mod Traces
 pub mod Made
+pub mod InTurns
+pub mod Went
 pub mod OneProof
 pub mod Answerable

@@ -20,7 +20,7 @@ use Rattle.at_body.specs.Same.{same_instance}
 use Rattle.at_body.specs.Typed.{class_shown}
 use Rattle.at_body.specs.Values.{fault_view}
 use Rattle.at_cache.specs.Kept.{Entries}
-use Rattle.at_cache.specs.Traced.{Memories, StayTraced}
+use Rattle.at_cache.specs.Traced.{Memories}
 use Rattle.at_search.specs.LedTo.{LeadsOut}
 use Rattle.at_search.specs.Recorded.{IsMarked, IsSettled, MetFrom, cost_of, is_in}
 use Rattle.at_search.specs.declared.ended.Ended.{Ended}
@@ -39,6 +39,7 @@ use Rattle.at_demand.specs.declared.demand.searching.Searched.TheVariants as sea
 use Rattle.at_demand.specs.declared.evaluation.Find.{Find}
 use Rattle.at_demand.specs.declared.question.Question.{Question}
 use Rattle.at_demand.specs.declared.trials.Trials.{Trials}
+use Rattle.at_demand.specs.InTurns.{PutsInTurns}
 use Rattle.at_demand.specs.Answerable.{CanTurnWith, IsAnswerable}
 use Rattle.at_demand.specs.Answered.{HasWorthyFor, IsOfUse}
 use Rattle.at_demand.specs.ChainSteps.{HasEnded, HasLostSeen, HasRisen, IsRisen, IsUnchanged, KeepsChain}
@@ -247,7 +248,7 @@ pub record GainsBetween (rules : Rules) (s : Shown) (exact : Bool) (before after
   pub lean : IsTrue exact → AreLean rules (contents s) old.found.entries → AreLean rules (contents s) new.found.entries
   pub settled : IsTrue exact → AreSettled rules before old.found.entries → AreSettled rules after new.found.entries
   pub counts : IsTrue exact → Counts before after earlier later
-  pub traces : StayTraced former latter
+  pub traces : PutsInTurns former latter
 
 -- from there it follows so for the model, where these values are kept
 abbrev pub FollowsSo : Rules → Contents ℕ → Entries → Looked ℕ → Search ℕ → Option (ModelAnswer ℕ) → Type 0

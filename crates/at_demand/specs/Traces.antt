@@ -7,7 +7,7 @@ use Rattle.at_model.specs.Meaning.{Among, Equations}
 use Rattle.at_model.specs.Nested.{Evaluates}
 use Rattle.at_model.specs.Touches.{node_of}
 use Rattle.at_store.specs.Shown.{Shown, contents, path}
-use Rattle.at_cache.specs.Traced.{Memories, StayTraced, Trace}
+use Rattle.at_cache.specs.Traced.{Memories, Trace}
 use Rattle.at_demand.specs.Known.{equations}
 use Rattle.at_demand.specs.Inner.{is_inner}
 use Rattle.at_demand.specs.Right.{IsThere}
@@ -42,7 +42,3 @@ pub record IsRemembered (rules : Rules) (s : Shown) (m : Memories) : Type 0 wher
 pub record StayJustified (rules : Rules) (s : Shown) (i : Instance ℕ) (before after : Memories) : Type 0 where
   pub justified : AreJustified rules (contents s) after
   pub there : IsThere s i → AreOfTree s before → AreOfTree s after
-
--- each trace that the keeper has was there, over the same last values
-abbrev pub StaysTraced : {K : Type 0} → (memories : K → Memories) → (old new : K) → Type 0
-StaysTraced memories old new = StayTraced (memories old) (memories new)

@@ -9,6 +9,7 @@ ghost use Rattle.at_cache.specs.Kept.{AreKept, AreNamed, Answers as Says, value_
 ghost use Rattle.at_demand.specs.Answerable.{CanBeAsked, CanBeKept, CanBeKeptLazily};
 ghost use Rattle.at_demand.specs.Known.{meaning};
 ghost use Rattle.at_demand.specs.Made.{Makes};
+ghost use Rattle.at_demand.specs.Went.{Went};
 ghost use Rattle.at_demand.specs.Keeping.{IsKeptWhereLazy, IsPlaced, IsPut};
 ghost use Rattle.at_demand.specs.Answered.{Forgets, IsAnswered};
 ghost use Rattle.at_demand.specs.Sparing.{AreSpare, HasWorthy};
@@ -80,7 +81,8 @@ impl<K: Keeper> Demand<K> {
     ) -> Result<Answer, AllocError>
         requires { CanBeAsked rules.now store.now (K.contents self.old.keeper) (K.memories self.old.keeper) inst.now }
         ensures { IsAnswered rules.now store.now K.exact (K.contents self.old.keeper) (K.contents self.new.keeper)
-            (K.memories self.old.keeper) (K.memories self.new.keeper) self.old.work self.new.work inst.now result self.new.in_turns self.old.made self.new.made }
+            (K.memories self.old.keeper) (K.memories self.new.keeper) self.old.work self.new.work inst.now result self.new.in_turns
+            self.old.made self.new.made }
     {
         if let Some(value) = self.keeper.get(inst) {
             return Ok(Answer::Value(value.copy()?));
@@ -105,7 +107,8 @@ impl<K: Keeper> Demand<K> {
     ) -> Result<Answer, AllocError>
         requires { CanBeAsked rules.now store.now (K.contents self.old.keeper) (K.memories self.old.keeper) inst.now }
         ensures { IsAnswered rules.now store.now K.exact (K.contents self.old.keeper) (K.contents self.new.keeper)
-            (K.memories self.old.keeper) (K.memories self.new.keeper) self.old.work self.new.work inst.now result self.new.in_turns self.old.made self.new.made }
+            (K.memories self.old.keeper) (K.memories self.new.keeper) self.old.work self.new.work inst.now result self.new.in_turns
+            self.old.made self.new.made }
     {
         self.in_turns = false;
         let at_once = self.answer_at_once(rules, store, inst)?;
@@ -191,6 +194,7 @@ impl<K: Keeper> Demand<K> {
         ensures gains { Gains rules.now store.now K.exact question.now.inst (K.contents self.old.keeper) (K.contents self.new.keeper) [] []
             self.old.work self.new.work }
         ensures traces { StayJustified rules.now store.now question.now.inst (K.memories self.old.keeper) (K.memories self.new.keeper) }
+        ensures went { Went (K.memories self.old.keeper) self.old.made (K.memories self.new.keeper) self.new.made }
     {
         self.keep_again(&question.inst);
         let waiting = question.waiting.len();
@@ -210,7 +214,7 @@ impl<K: Keeper> Demand<K> {
         requires callable { F.IsAlwaysCallable touched.now }
         requires named { AreNamed places.now (F.post touched.now) }
         ensures { Forgets (Says (F.post touched.now)) K.exact (K.contents self.old.keeper) (K.contents self.new.keeper)
-            (K.memories self.old.keeper) (K.memories self.new.keeper) self.old.work self.new.work }
+            (K.memories self.old.keeper) (K.memories self.new.keeper) self.old.work self.new.work self.old.made self.new.made }
     {
         self.keeper.flush_at(places, touched);
     }
@@ -303,10 +307,9 @@ impl<K: Keeper> Demand<K> {
             Some(value.copy()?),
             reads,
             uses,
-            Order::InTurns,
+            Order::Any,
         )?;
         self.work = self.work.saturating_add(1);
-        self.made = self.made.saturating_add(1);
         Ok(put)
     }
 }

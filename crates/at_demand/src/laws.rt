@@ -27,7 +27,8 @@ ghost use Rattle.at_demand.specs.Called.{KeptBy, Keeps};
 ghost use Rattle.at_demand.specs.Touched.{Touches};
 ghost use Rattle.at_demand.specs.Traces.{AreJustified, AreOfTree, IsRemembered};
 ghost use Rattle.at_cache.specs.Traced.{FlushesTraces, Memories, StayTraced, Trace};
-ghost use Rattle.at_demand.specs.Made.{HasCause, Makes, Went, asked};
+ghost use Rattle.at_demand.specs.Made.{Makes};
+ghost use Rattle.at_demand.specs.Went.{HasCause, Went, asked};
 
 /// Over an edit that is done, what is kept stays right where it stands for no location that the edit touches.
 pub fn what_is_kept_stays_right()
@@ -83,11 +84,11 @@ pub fn what_stays_traced_is_right()
     ensures there { (s : Shown) (before later : Memories) → StayTraced before later → AreOfTree s before → AreOfTree s later }
 {}
 
-/// What could be kept again is made by a question only if, since then, an edit touched what was looked at for its value, or a question put
-/// something that was used for it with another value.
+/// What could be kept again is made by a question only if, since then, an edit touched what was looked at for its value, or something that was
+/// used for it was put with another value, or a turn put it itself.
 pub fn what_is_made_again_has_a_cause()
-    ensures { (old new later : Memories) (w : Went old new) (e f : Entries) (k l : ℕ) (x : Makes e f new later k l) (i : Instance ℕ) (t : Trace)
-        → old.traced i ≡ Some t → Among i x.made → HasCause old t later (asked new later e f k l w x) }
+    ensures { (old new later : Memories) (first k l : ℕ) (w : Went old first new k) (e f : Entries) (x : Makes e f new later k l)
+        → (i : Instance ℕ) (t : Trace) → old.traced i ≡ Some t → Among i x.made → HasCause old first i t later l (asked new later e f k l w x) }
 {}
 
 /// Where no attribute is circular, what is said by formulas is what equations alone say: outcomes and answers, what an instance leads to, and

@@ -6,7 +6,7 @@
 //! much comes, `Advancing` what an evaluation comes to and `Answered` a question, `Touched` and `Spared` what an edit leaves,
 //! `Called` the same by paths. `Inner` is what instances are told that are evaluated in one go, and what comes of it, `InParts` the same of an
 //! expression, part by part, and how each function of it ends, and `Traces` when what can be kept again with no evaluation is right; `Made` says which values
-//! are evaluated all the same, and why. What a value may carry: `OneProof`. Of questions in turns, `Turns` shows one in the words of `at_model`, `Attempts` is what
+//! are evaluated all the same, and why, `InTurns` what turns put, and `Went` how that goes on over questions, turns and edits. What a value may carry: `OneProof`. Of questions in turns, `Turns` shows one in the words of `at_model`, `Attempts` is what
 //! one try comes to, `ChainSteps` what that does to the chain, `KeptTrials` the trials that stay while turns follow
 //! each other. `Answerable` says once on which conditions all of that is asked for. Where attributes are circular a question goes level by
 //! level: `Meant` and `Levels` say what stands between turns, `Forming` and `Tries` what a try comes to, `Groups` what becomes of instances

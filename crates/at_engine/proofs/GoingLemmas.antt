@@ -58,10 +58,10 @@ pub by_both : {K : Type 0} (exact : Bool) (entries : K → Entries) (memories : 
     → GoesBy exact entries memories old mid → GoesBy exact entries memories mid new
     → GoesBy exact entries memories old new
 by_both exact entries memories old mid _ first nowhere = first
-by_both exact entries memories old mid _ first (by_line next new line before after wants second served) =
-    by_line next new line before after wants (by_both exact entries memories old mid next first second) served
-by_both exact entries memories old mid _ first (by_turns next new limit before after spent second spends) =
-    by_turns next new limit before after spent (by_both exact entries memories old mid next first second) spends
+by_both exact entries memories old mid _ first (by_line next new line before after wants second served went) =
+    by_line next new line before after wants (by_both exact entries memories old mid next first second) served went
+by_both exact entries memories old mid _ first (by_turns next new limit before after spent second spends went) =
+    by_turns next new limit before after spent (by_both exact entries memories old mid next first second) spends went
 
 -- what belongs together is kept together in a call, where it is over the count of what was answered `memory`
 pub served_whole_so : (rules : Rules) (wants : Bool) (desk next : Desk) → next.memory ≡ desk.memory + (if wants then 1 else 0)
@@ -109,7 +109,7 @@ module _ {K W : Type 0} (exact : Bool) (entries : K → Entries) (memories : K �
 
   -- the engine was called, and what that told was written, or could not be
   pub goes_wrote : {T U D : Type 0} {IsDone : T → Type 0} {a : T} (old new : Engine K) (desk next : Desk) (w x : W) (lines : ℕ) (out later : Vec ℕ Global) (result : Result U RunFault)
-      → Calls {E = D} entries memories old new out later IsDone (Ok a)
+      → Calls {E = D} exact entries memories old new out later IsDone (Ok a)
       → (KeepWhole (rules_of old) desk next → IsTrue exact → IsSpare entries old → IsSpare entries new) → desk.memory ≤ next.memory → Remembers (failure w) (failure x) (is_err result) → OnOk result (waiting x ≡ false)
       → GoesBy exact entries memories old new → countable next (state_of new) ≤ countable desk (state_of old) + 3 * lines
       → Goes exact entries memories failure waiting old new desk next w x lines result

@@ -3,6 +3,7 @@ pub mod KeptLines
 pub mod KeepingAll
 pub mod Growing
 pub mod Gained
+pub mod GoneOn
 pub mod KeepingLemmas
 pub mod KeepingBytes
 pub mod Fulfilling

@@ -7,6 +7,7 @@ pub mod Tallied
 pub mod Posted
 pub mod PostedFor
 pub mod Holding
+pub mod Making
 pub mod Serving
 pub mod Stepping
 pub mod Following

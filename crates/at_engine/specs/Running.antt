@@ -9,6 +9,7 @@ use Rattle.at_rules.specs.Circular.{HasNoneCircular}
 use Rattle.at_cache.specs.Kept.{Entries}
 use Rattle.at_cache.specs.Traced.{Memories}
 use Rattle.at_engine.specs.Engines.{rules_of, slice_of, state_of, IsSound}
+use Rattle.at_engine.specs.Making.{WentOn}
 use Rattle.at_engine.specs.Keeping.{IsSpare, work_of}
 use Rattle.at_engine.specs.KeepingRuns.{KeepsRun}
 use Rattle.at_engine.specs.declared.engine.Engine.{Engine}
@@ -167,4 +168,5 @@ pub record RunsFor {K R W : Type 0} (exact : Bool) (entries : K → Entries) (me
   pub spare : KeepsWhole (rules_of old) result → IsTrue exact → IsSpare entries old → IsSpare entries new
   pub rules : rules_of new ≡ rules_of old
   pub slice : slice_of new ≡ slice_of old
+  pub went : WentOn exact memories old new
   pub sound : IsSound entries memories new

@@ -7,11 +7,13 @@ use Rattle.at_cache.specs.Traced.{Memories}
 use Rattle.at_engine.specs.Engines.{rules_of, slice_of, IsSound}
 use Rattle.at_engine.specs.Hearing.{IsStep}
 use Rattle.at_engine.specs.Keeping.{IsSpare, KeepsServed, KeepsWhole}
+use Rattle.at_engine.specs.Making.{WentOn}
 use Rattle.at_engine.specs.declared.engine.Engine.{Engine}
 
 -- A call that appends to `out` has done that; or room for 64 bytes was refused, and nothing has changed. The engine is sound, and its
--- rules and how many turns follow each line are as they were.
-pub record Calls {K T E : Type 0} (entries : K → Entries) (memories : K → Memories)
+-- rules and how many turns follow each line are as they were; and nothing but questions, turns and edits
+-- led to what can be kept again.
+pub record Calls {K T E : Type 0} (exact : Bool) (entries : K → Entries) (memories : K → Memories)
     (old new : Engine K) (out next : Vec ℕ Global)
     (Done : T → Type 0) (result : Result T E) : Type 0 where
   pub done : IfOk result Done
@@ -22,6 +24,7 @@ pub record Calls {K T E : Type 0} (entries : K → Entries) (memories : K → Me
   pub rules : rules_of new ≡ rules_of old
   pub slice : slice_of new ≡ slice_of old
   pub sound : IsSound entries memories new
+  pub went : WentOn exact memories old new
 
 -- A line that isn't empty was served, and its reply, which may be `memory`, is appended. Where what is kept was spare, it is so still,
 -- where what belongs together is kept together; and just what the line leaves and adds is kept.

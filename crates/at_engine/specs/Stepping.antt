@@ -2,6 +2,7 @@
 use Rattle.std.specs.Prelude.{ℕ, Bool, List, Option}
 use Rattle.at_cache.specs.Kept.{Entries}
 use Rattle.at_cache.specs.Traced.{Memories}
+use Rattle.at_engine.specs.Making.{WentOn}
 use Rattle.at_engine.specs.Serving.{IsServed}
 use Rattle.at_engine.specs.Turned.{Spends}
 use Rattle.at_engine.specs.declared.engine.Engine.{Engine}
@@ -12,6 +13,6 @@ use Rattle.at_engine.specs.declared.engine.turning.Spent.{Spent}
 pub data GoesBy {K : Type 0} (exact : Bool) (entries : K → Entries) (memories : K → Memories) (old : Engine K) : Engine K → Type 0 where
   nowhere : GoesBy exact entries memories old old
   by_line : (mid new : Engine K) (line before after : List ℕ) (wants : Bool) → GoesBy exact entries memories old mid
-      → IsServed exact entries memories line mid new before after wants → GoesBy exact entries memories old new
+      → IsServed exact entries memories line mid new before after wants → WentOn exact memories mid new → GoesBy exact entries memories old new
   by_turns : (mid new : Engine K) (limit : Option ℕ) (before after : List ℕ) (spent : Spent) → GoesBy exact entries memories old mid
-      → Spends exact entries memories limit mid new before after spent → GoesBy exact entries memories old new
+      → Spends exact entries memories limit mid new before after spent → WentOn exact memories mid new → GoesBy exact entries memories old new

@@ -1,21 +1,25 @@
 -- What stays where an entry that was to come doesn't.
-use Rattle.std.proofs.Common.{◌≡◌, inl, [], ℕ, ◌+◌, List, Bool, true, false, Option, None, Some, is_some, option_map, if◌then◌else◌, refl, sym, ap, ◌∙◌, subst}
+use Rattle.std.proofs.Common.{◌≡◌, inl, [], ℕ, ◌+◌, List, Bool, true, false, Option, None, Some, Result, Ok, Err, IfOk, OnErr, is_some, option_map, if◌then◌else◌, refl, sym, ap, ◌∙◌, subst}
 use Rattle.std.specs.Map.{lookup}
 use Rattle.std.specs.Option.{option_and_then}
 use Rattle.std.proofs.lemmas.Option.{none-some, same_Some}
 use Rattle.at_model.specs.Run.{Instance, Location, Value}
 use Rattle.at_body.specs.Same.{same_instance}
 use Rattle.at_body.specs.Values.{value_view}
+use Rattle.at_cache.specs.declared.cut.Cut.{Cut}
 use Rattle.at_cache.specs.declared.cut.Pass.TheVariants as pass
 use Rattle.at_cache.specs.declared.edge.Edge.{Edge}
 use Rattle.at_cache.specs.declared.entry.Entry.{Entry}
 use Rattle.at_cache.specs.declared.keeper.Order.{Order}
+use Rattle.at_cache.specs.declared.keeper.Put.{Put}
 use Rattle.at_cache.specs.declared.standing.Standing.{Standing}
 use Rattle.at_cache.specs.declared.table.Table.{Table}
 use Rattle.at_cache.specs.Info.{Info, Memory, memory_of}
-use Rattle.at_cache.specs.Kept.{Entries, Kept, KeepsAll}
+use Rattle.at_cache.specs.Kept.{Entries, HasPut, Kept, KeepsAll}
 use Rattle.at_cache.specs.Putting.{Reads, Uses, with_users}
 use Rattle.at_cache.specs.Recorded.{IsIndexed, covers}
+use Rattle.at_cache.specs.Renewing.{EntersHeld}
+use Rattle.at_cache.specs.Shedding.{kept_cut}
 use Rattle.at_cache.specs.Standings.{AreValued, IsTied, held, kept_held, remembered, shown, standing_of}
 use Rattle.at_cache.specs.Traced.{KeepsTrace, PutsTrace, SparesOthers, Trace}
 use Rattle.at_cache.proofs.of_cut.Lifting.{kept_still, stale_held}
@@ -120,3 +124,28 @@ module _ (lists : Location ℕ → List Edge) (told : Table) (st : List Standing
       → Left lists lists told told st ts puts
   left_alone ts same = left lists lists told told st ts {x = record { slot = 0; stamp = puts }} i t v refl same
       (reads_none _ _ _) (uses_none _ _)
+
+-- so the entry didn't come to be kept
+pub enters_none : {E : Type 0} (i : Instance ℕ) (v : Option (Value ℕ)) (looked : List (Location ℕ))
+    (taken : List (Instance ℕ)) (o : Order) (number : ℕ) (lists : Location ℕ → List Edge) (old : Cut)
+    (later : Location ℕ → List Edge) (new : Cut)
+    → Left lists later old.entries new.entries old.standings.items new.standings.items number
+    → (r : Result Put E) → IfOk r (λ p. ⊥) → EntersHeld i v looked taken o number lists old later new r
+enters_none {E = E} i v looked taken o number lists old later new k r off = record {
+  indexed = k.indexed;
+  tied = k.tied;
+  valued = k.valued;
+  puts = puts r off;
+  err = err r;
+  traces = k.traces i v looked taken o;
+  spares = k.spares i (kept_cut later new (number + 1));
+}
+  where
+    puts : (r : Result Put E) → IfOk r (λ p. ⊥)
+        → IfOk r (HasPut true (kept_cut lists old number) i v looked taken (kept_cut later new (number + 1)))
+    puts (Ok p) off = absurd off
+    puts (Err e) off = tt
+
+    err : (r : Result Put E) → OnErr r (KeepsAll (kept_cut lists old number) (kept_cut later new (number + 1)))
+    err (Ok p) = tt
+    err (Err e) = k.err

@@ -1,18 +1,23 @@
 -- What can be kept again stays so.
-use Rattle.std.proofs.Common.{◌≡◌, ◌⊎◌, inl, inr, ℕ, List, Bool, true, false, Option, None, Some, IsSome, option_map, Contains, refl, sym, ap, ◌∙◌, subst}
+use Rattle.std.proofs.Common.{◌≡◌, ◌⊎◌, inl, inr, ℕ, List, Bool, true, false, Option, None, Some, IsSome, is_some, if◌then◌else◌, option_map, Contains, refl, sym, ap, ◌∙◌, subst, true≢false}
 use Rattle.std.specs.Map.{lookup}
 use Rattle.std.specs.Option.{option_and_then}
 use Rattle.std.proofs.lemmas.Option.{none-some, same_Some}
 use Rattle.at_model.specs.Run.{Instance, Location, Value}
 use Rattle.at_body.specs.Same.{same_instance}
+use Rattle.at_body.specs.Sameness.{instances_equiv}
+use Rattle.at_body.proofs.SamenessLemmas.{same_true}
 use Rattle.at_cache.specs.declared.edge.Edge.{Edge}
 use Rattle.at_cache.specs.declared.entry.Entry.{Entry}
+use Rattle.at_cache.specs.declared.keeper.Order.{Order}
+use Rattle.at_cache.specs.declared.keeper.Put.{Put}
+use Rattle.at_cache.specs.declared.keeper.Put.TheVariants as put
 use Rattle.at_cache.specs.declared.standing.Standing.{Standing}
 use Rattle.at_cache.specs.declared.table.Table.{Table}
 use Rattle.at_cache.specs.Info.{Info, Memory, memory_of}
-use Rattle.at_cache.specs.Kept.{Entries}
+use Rattle.at_cache.specs.Kept.{Entries, HasPut}
 use Rattle.at_cache.specs.Standings.{last_of, remembered, standing_of, trace_at, trace_of}
-use Rattle.at_cache.specs.Traced.{AreAlike, IsOutdated, IsSpared, KeepsTrace, Memories, SparesOthers, Trace}
+use Rattle.at_cache.specs.Traced.{AreAlike, IsOutdated, IsSpared, IsStill, IsTraceOf, KeepsTrace, Memories, PutsTrace, SparesOthers, Trace, TracesKept}
 use Rattle.at_cache.proofs.of_cut.HeldSlots.{entry_in, slot_of}
 use Rattle.at_cache.proofs.of_cut.Retraced.{last_slot, trace_is, traced_of, traced_slot}
 
@@ -97,3 +102,36 @@ untraced_at lists t st i slot place off = by (lookup (same_instance i) t.entries
         ∙ traced_slot lists t st x.slot e there
         ∙ ap (λ b. traced_of lists (memory_of t) x.slot b e)
         (ap (λ n. (standing_of st n).traced) (sym is) ∙ off e (ap (memory_of t) is ∙ there))
+
+-- nor has it one where it has no entry
+pub untraced_none : (lists : Location ℕ → List Edge) (t : Table) (st : List Standing) (i : Instance ℕ)
+    → lookup (same_instance i) t.entries.entries ≡ None → (remembered lists t st).traced i ≡ None
+untraced_none lists t st i none = ap (λ (o : Option Entry). option_and_then (λ (x : Entry).
+    trace_at lists st (memory_of t) x.slot) o) none
+
+-- where only what has an entry is traced
+pub untraced_sure : (entries : Entries) (m : Memories) → TracesKept entries m → (i : Instance ℕ) → entries i ≡ None →
+    m.traced i ≡ None
+untraced_sure entries m kept i absent = by (m.traced i) refl
+  where
+    by : (o : Option Trace) → m.traced i ≡ o → m.traced i ≡ None
+    by None is = is
+    by (Some t) is = absurd (true≢false (sym (subst IsSome absent (kept i t is))))
+
+-- so it is once one more was put
+pub sure_put : (old new : Entries) (m n : Memories) (i : Instance ℕ) (v : Option (Value ℕ)) (ls : List (Location ℕ))
+    (us : List (Instance ℕ)) (o : Order) (p : Put) → HasPut true old i v ls us new p → PutsTrace i v ls us o m n →
+    TracesKept old m → TracesKept new n
+sure_put old new m n i v ls us o put.Left h traces kept = λ j t is. absurd (true≢false h.0)
+sure_put old new m n i v ls us o put.Kept h traces kept = λ j t is. by j t (traces j t is)
+  where
+    here : IsSome (new i)
+    here = ap is_some (h.adds i ∙ ap (λ b. if b then Some h.entry else old i) (instances_equiv.refl i))
+
+    there : (j : Instance ℕ) (b : Bool) → same_instance i j ≡ b → IsSome (old j) → IsSome (new j)
+    there j true same some = subst (λ x. IsSome (new x)) (same_true i j same) here
+    there j false same some = ap is_some (h.adds j ∙ ap (λ b. if b then Some h.entry else old j) same) ∙ some
+
+    by : (j : Instance ℕ) (t : Trace) → IsStill m n j t ⊎ ((i ≡ j) × IsTraceOf i v ls us o n t) → IsSome (new j)
+    by j t (inl still) = there j (same_instance i j) refl (kept j t still.traced)
+    by j t (inr its) = subst (λ x. IsSome (new x)) its.0 here

@@ -39,8 +39,3 @@ pub others_untraced : {E : Type 0} (exact : Bool) (old new : Entries) (i : Insta
 others_untraced exact old new i v ls us (Ok put.Kept) h e = others_put exact old new i v ls us h
 others_untraced exact old new i v ls us (Ok put.Left) h e = others_same old new i h.1
 others_untraced exact old new i v ls us (Err x) h e = others_same old new i e
-
--- whatever comes out
-pub always : {A E : Type 0} (r : Result A E) (P : Type 0) → P → OnOk r P
-always (Ok a) P p = p
-always (Err e) P p = tt

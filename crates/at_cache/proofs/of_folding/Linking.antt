@@ -113,49 +113,24 @@ planned lists s r c = by (slice_get lists s) refl c
     by None is d = absurd (none_in r d)
     by (Some v) is d = within lists s v is
 
--- The links of the entries in the first slots are there.
-pub record LinksBelow (m : Memory) (into : ℕ → List ℕ) (n : ℕ) (links : ℕ → List ℕ) : Type 0 where
-  pub has : (s : ℕ) (e : Info) → s < n → m s ≡ Some e → (r p : ℕ) → Contains (into s) r → Contains e.links p → Stays into p → Contains (links r) p
-  pub from : (r p : ℕ) → Contains (links r) p → HasUsed m into p r
-
 module _ {m : Memory} {into : ℕ → List ℕ} where
   pub from_entry : (s : ℕ) (e : Info) {old new : ℕ → List ℕ} → m s ≡ Some e → LinkedTo into (into s) e.links old new → HasLinked m into s old new
   from_entry s e there a = record {
     kept = a.kept;
-    has = λ f found r p c d k. a.has r p c (subst (λ (i : Info). Contains i.links p) (same_Some f e (sym found ∙ there)) d) k;
+    has = λ f found r p c differs d k. a.has r p c (subst (λ (i : Info). Contains i.links p) (same_Some f e (sym found ∙ there)) d) k;
     from = λ r p c. elim (a.from r p c) [ inl d ↦ inl d | inr (d, k, u) ↦ inr (e, there, d, k, u) ];
   }
 
   pub from_nothing : (s : ℕ) (old : ℕ → List ℕ) → m s ≡ None → HasLinked m into s old old
   from_nothing s old none = record {
     kept = λ r p c. c;
-    has = λ e there r p c d k. absurd (none-some e (sym none ∙ there));
+    has = λ e there r p c differs d k. absurd (none-some e (sym none ∙ there));
     from = λ r p c. inl c;
   }
 
-  pub links_start : (links : ℕ → List ℕ) → ((r : ℕ) → links r ≡ []) → LinksBelow m into 0 links
-  links_start links none = record {
-    has = λ s e less. absurd (omega (arith, less));
-    from = λ r p c. absurd (none_in p (subst (λ xs. Contains xs p) (none r) c));
+  pub from_itself : (s : ℕ) (old : ℕ → List ℕ) → into s ≡ s ∷ [] → HasLinked m into s old old
+  from_itself s old only = record {
+    kept = λ r p c. c;
+    has = λ e there r p c differs d k. absurd (differs (only_one s r (subst (λ rs. Contains rs r) only c)));
+    from = λ r p c. inl c;
   }
-
-  pub links_more : (n : ℕ) {old new : ℕ → List ℕ} → LinksBelow m into n old → HasLinked m into n old new → LinksBelow m into (n + 1) new
-  links_more n {old} {new} a b = record {
-    has = λ s e less there r p c d k. elim (cases_eq s n) [
-      | inl same ↦ b.has e (ap m (sym same) ∙ there) r p (subst (λ j. Contains (into j) r) same c) d k
-      | inr differs ↦ b.kept r p (a.has s e (below s less differs) there r p c d k)
-    ];
-    from = λ r p c. elim (b.from r p c) [
-      | inl d ↦ a.from r p d
-      | inr (e, there, d, k, u) ↦ (k, (n, e, there, d, u))
-    ];
-  }
-    where
-      below : (s : ℕ) → s < n + 1 → (s ≡ n → ⊥) → s < n
-      below s less differs = elim (cases_lt s n) [ inl is ↦ is | inr over ↦ absurd (differs (omega (arith, less, over))) ]
-
-pub links_end : (m : Memory) (plan : List (SmallVec ℕ)) (n : ℕ) (links : ℕ → List ℕ) → length plan ≤ n → LinksBelow m (slots_at plan) n links → AreLinks m (slots_at plan) links
-links_end m plan n links all a = record {
-  has = λ r p u. let (k, (s, e, there, c, d)) = u in let less = planned plan s r c in a.has s e (omega (arith, less, all)) there r p c d k;
-  from = a.from;
-}

@@ -1,10 +1,11 @@
 -- What comes of a folding: the entries that stay stand for what they stood for.
 use Rattle.std.proofs.Common.{◌≡◌, ◌⊎◌, inl, inr, ℕ, zero, suc, ◌<◌, ◌≤◌, ◌+◌, List, Bool, true, false, Option, None, Some, option_map, Contains, refl, sym, ap, ◌∙◌, subst, arith}
+use Rattle.std.proofs.lemmas.Bool.{cases_eq}
 use Rattle.std.proofs.lemmas.Option.{none-some, same_Some}
 use Rattle.at_model.specs.Run.{Instance, Location}
 use Rattle.at_cache.specs.declared.edge.Edge.{Edge}
 use Rattle.at_cache.specs.declared.table.Table.{Table}
-use Rattle.at_cache.specs.Folding.{AreLinks, Folded, Folds, HasUsed, IsLeft, IsRelinked, LeavesKept, Refolded, Relinks, Remains, Rewritten, Stays}
+use Rattle.at_cache.specs.Folding.{AreLinks, Folded, Folds, HasUsed, IsLeft, IsRelinked, LeavesKept, Linked, Refolded, Relinks, Remains, Rewritten, Stays}
 use Rattle.at_cache.specs.Info.{Info, Memory, memory_of}
 use Rattle.at_cache.specs.Kept.{Kept}
 use Rattle.at_cache.specs.Putting.{is_current}
@@ -32,7 +33,7 @@ module _ {lists later : Location ℕ → List Edge} {puts : ℕ} {m mid n : Memo
     e : Info
     there : m r ≡ Some e
     same : IsLeft e f
-    its_links : f.links ≡ links r
+    its_links : Linked into e.links (links r) f.links
     users : Refolded (is_current m) into e.users f.users
 
   -- what is left was there
@@ -52,7 +53,7 @@ module _ {lists later : Location ℕ → List Edge} {puts : ℕ} {m mid n : Memo
             e = e;
             there = there;
             same = subst (IsLeft e) one same;
-            its_links = subst (λ (h : Info). h.links ≡ links r) one its;
+            its_links = subst (λ (h : Info). Linked into e.links (links r) h.links) one its;
             users = subst (λ (h : Info). Refolded (is_current m) into e.users h.users) one users;
           }
 
@@ -88,8 +89,16 @@ module _ {lists later : Location ℕ → List Edge} {puts : ℕ} {m mid n : Memo
     from = λ r f here. let l = left_of r f here in (left.only r f here, (l.e, l.there, l.same, rewritten l.e.users f.users l.users));
     stays = left_there;
     readers = λ l. rewritten (lists l) (later l) (readers l);
-    links = λ r f here p u. let l = left_of r f here in subst (λ ls. Contains ls p) (sym l.its_links) (linked.has r p u);
-    link = λ r f here p c. let l = left_of r f here in linked.from r p (subst (λ ls. Contains ls p) l.its_links c);
+    links = λ r f here p u.
+        let l = left_of r f here in
+        let (stays, (s, e, there, c, used)) = u in
+        elim (cases_eq r s) [
+          | inl same ↦ l.its_links.has p (subst (λ (x : Info). Contains x.links p) (same_Some e l.e (sym there ∙ ap m (sym same) ∙ l.there)) used) stays
+          | inr other ↦ l.its_links.kept p (linked.has s r p e there c other used stays)
+        ];
+    link = λ r f here p c.
+        let l = left_of r f here in
+        elim (l.its_links.from p c) [ inl d ↦ linked.from r p d | inr (stays, used) ↦ (stays, (r, l.e, l.there, left.only r f here, used)) ];
   }
 
   pub indexed_then : Index later puts n

@@ -68,16 +68,16 @@ module _ (st : List Standing) where
         below = λ p c. (at s g there).below p (subst (λ ls. Contains ls p) (sym (ap (λ (x : Info). x.links) is)) c);
       }
 
-  used_back : (m : Memory) (into : ℕ → List ℕ) (p r : ℕ) → HasUsed (renumbered m) into p r → HasUsed m into p r
-  used_back m into p r (stays, (s, e, h, c, link)) =
-      let (g, there, is) = was m s e h in
-      (stays, (s, g, there, c, subst (λ ls. Contains ls p) (sym (ap (λ (x : Info). x.links) is)) link))
-
   used_on : (m : Memory) (into : ℕ → List ℕ) (p r : ℕ) → HasUsed m into p r → HasUsed (renumbered m) into p r
   used_on m into p r (stays, (s, e, there, c, link)) = (stays, (s, held_as st s e, found m s e there, c, link))
 
   links_renumbered : (m : Memory) (into links : ℕ → List ℕ) → AreLinks m into links → AreLinks (renumbered m) into links
-  links_renumbered m into links a = record { has = λ r p u. a.has r p (used_back m into p r u); from = λ r p c. used_on m into p r (a.from r p c) }
+  links_renumbered m into links a = record {
+    has = λ s r p e h c other d k.
+        let (g, there, is) = was m s e h in
+        a.has s r p g there c other (subst (λ ls. Contains ls p) (sym (ap (λ (x : Info). x.links) is)) d) k;
+    from = λ r p c. used_on m into p r (a.from r p c);
+  }
 
   relinks_renumbered : (m mid : Memory) (into links : ℕ → List ℕ) → Relinks into links m mid → Relinks into links (renumbered m) (renumbered mid)
   relinks_renumbered m mid into links h k stays =

@@ -6,11 +6,13 @@ use Rattle.slab.specs.Slab.{Slab, get}
 use Rattle.smallvec.specs.SmallVec.{SmallVec}
 use Rattle.at_cache.specs.declared.edge.Edge.{Edge}
 use Rattle.at_cache.specs.declared.table.Table.{Table}
-use Rattle.at_cache.specs.Folding.{IsRelinked, Refolded, Relinks, RelinksAt, Remains, RemovesAt, Stays, relinked, slots_at}
+use Rattle.at_cache.specs.Folding.{AreAlone, IsRelinked, Linked, Refolded, Relinks, RelinksAt, Remains, RemovesAt, Stays, relinked, slots_at}
 use Rattle.at_cache.specs.Info.{Info, Memory, info, memory_of}
 use Rattle.at_cache.specs.Placed.{at}
 use Rattle.at_cache.specs.Putting.{is_current, reused, users_at, with_users}
 use Rattle.at_cache.proofs.Moving.{at_none, within}
+use Rattle.at_cache.proofs.Taking.{none_in}
+use Rattle.at_cache.proofs.of_folding.Gathering.{refolded_alone}
 use Rattle.at_cache.proofs.of_folding.Linking.{planned}
 
 -- what is written at one slot
@@ -61,6 +63,17 @@ current_taken slot m mid taken = λ i x. current_by m mid stamps x i
         by true (Some e) = refl
         by false o = refl
 
+-- an entry that has no more to get, and is used by such as stay by themselves
+pub relinks_settled : (into : ℕ → List ℕ) (links : List ℕ) (slot : ℕ) (m : Memory) (e : Info) → links ≡ [] → m slot ≡ Some e → ((p : ℕ) → Contains e.links p → Stays into p)
+    → AreAlone (is_current m) into e.users → IsRelinked (is_current m) into links (m slot) (m slot)
+relinks_settled into links slot m e none there stay alone = subst (λ o. IsRelinked (is_current m) into links o o) (sym there) (
+  e,
+  refl,
+  record { instance = refl; value = refl; stamp = refl; since = refl; going = refl },
+  record { kept = λ p c. absurd (none_in p (subst (λ ls. Contains ls p) none c)); has = λ p c s. c; from = λ p c. inr (stay p c, c) },
+  refolded_alone m into e.users alone,
+)
+
 module _ {into : ℕ → List ℕ} where
   pub relinks_nothing : (links : List ℕ) (slot : ℕ) (m : Memory) → (Stays into slot → ⊥) → RelinksAt into links slot m m
   relinks_nothing links slot m goes = record { here = λ s. absurd (goes s); others = λ k differs. refl; current = λ x. refl }
@@ -72,10 +85,14 @@ module _ {into : ℕ → List ℕ} where
     current = λ x. refl;
   }
 
+  pub relinks_same : (links : List ℕ) (slot : ℕ) (m : Memory) → IsRelinked (is_current m) into links (m slot) (m slot) → RelinksAt into links slot m m
+  relinks_same links slot m same = record { here = λ s. same; others = λ k differs. refl; current = λ x. refl }
+
   -- an entry is taken its users, and gets others and these links
-  pub relinks_one : (links : List ℕ) (slot : ℕ) (m mid new : Memory) (users later : List Edge) → ((k : ℕ) → mid k ≡ reused slot [] m k) → users ≡ users_at m slot
-      → Refolded (is_current mid) into users later → ((k : ℕ) → new k ≡ (if nat_eq k slot then option_map (relinked links later) (mid k) else mid k)) → RelinksAt into links slot m new
-  relinks_one links slot m mid new users later taken were lists written = record {
+  pub relinks_one : (links list : List ℕ) (slot : ℕ) (m mid new : Memory) (users later : List Edge) → ((k : ℕ) → mid k ≡ reused slot [] m k) → users ≡ users_at m slot
+      → Refolded (is_current mid) into users later → ((k : ℕ) → new k ≡ (if nat_eq k slot then option_map (relinked list later) (mid k) else mid k))
+      → ((e : Info) → m slot ≡ Some e → Linked into e.links links list) → RelinksAt into links slot m new
+  relinks_one links list slot m mid new users later taken were lists written own = record {
     here = λ s. by (m slot) refl;
     others = λ k differs. written k ∙ off_slot k slot _ _ differs ∙ taken k ∙ off_slot k slot _ _ differs;
     current = λ x. current_by mid new stamps_new x ∙ ap (λ t. t x) same;
@@ -84,7 +101,7 @@ module _ {into : ℕ → List ℕ} where
       stamps_new : (k : ℕ) → stamp_at (new k) ≡ stamp_at (mid k)
       stamps_new k = ap stamp_at (written k) ∙ by (nat_eq k slot) (mid k)
         where
-          by : (t : Bool) (o : Option Info) → stamp_at (if t then option_map (relinked links later) o else o) ≡ stamp_at o
+          by : (t : Bool) (o : Option Info) → stamp_at (if t then option_map (relinked list later) o else o) ≡ stamp_at o
           by true None = refl
           by true (Some e) = refl
           by false o = refl
@@ -92,16 +109,16 @@ module _ {into : ℕ → List ℕ} where
       same : is_current mid ≡ is_current m
       same = current_taken slot m mid taken
 
-      new_is : (o : Option Info) → m slot ≡ o → new slot ≡ option_map (relinked links later) (option_map (with_users []) o)
-      new_is o is = written slot ∙ at_slot slot slot _ _ refl ∙ ap (option_map (relinked links later)) (taken slot ∙ at_slot slot slot _ _ refl ∙ ap (option_map (with_users [])) is)
+      new_is : (o : Option Info) → m slot ≡ o → new slot ≡ option_map (relinked list later) (option_map (with_users []) o)
+      new_is o is = written slot ∙ at_slot slot slot _ _ refl ∙ ap (option_map (relinked list later)) (taken slot ∙ at_slot slot slot _ _ refl ∙ ap (option_map (with_users [])) is)
 
       by : (o : Option Info) → m slot ≡ o → IsRelinked (is_current m) into links o (new slot)
       by None is = new_is None is
       by (Some e) is = (
-        relinked links later e,
+        relinked list later e,
         new_is (Some e) is,
         record { instance = refl; value = refl; stamp = refl; since = refl; going = refl },
-        refl,
+        own e is,
         subst (λ us. Refolded (is_current m) into us later) (were ∙ ap (λ (o : Option Info). elim o [ None ↦ [] | Some f ↦ f.users ]) is) (subst (λ t. Refolded t into users later) same lists),
       )
 
@@ -137,12 +154,6 @@ module _ {into links : ℕ → List ℕ} where
 pub relinks_end : (plan : List (SmallVec ℕ)) (links : ℕ → List ℕ) (n : ℕ) (old new : Memory) → length plan ≤ n → RelinksBelow (slots_at plan) links n old new → Relinks (slots_at plan) links old new
 relinks_end plan links n old new all a k stays = let less = planned plan k k stays in a.done k (omega (arith, less, all)) stays
 
--- What doesn't stay of the first slots is gone.
-pub record RemainsBelow (into : ℕ → List ℕ) (n : ℕ) (old new : Memory) : Type 0 where
-  pub stays : (k : ℕ) → Stays into k → new k ≡ old k
-  pub only : (k : ℕ) (f : Info) → k < n → new k ≡ Some f → Stays into k
-  pub rest : (k : ℕ) → n ≤ k → new k ≡ old k
-
 module _ {into : ℕ → List ℕ} where
   pub removes_nothing : (slot : ℕ) (m : Memory) → Stays into slot → RemovesAt into slot m m
   removes_nothing slot m stays = record { stays = λ s. refl; gone = λ f h. stays; others = λ k differs. refl }
@@ -158,25 +169,6 @@ module _ {into : ℕ → List ℕ} where
   removes_by slot m new A None goes there none gone others = absurd (true≢false (sym there ∙ ap is_some (none.0)))
   removes_by slot m new A (Some e) goes there none gone others = removes_one slot m new goes gone others
 
-  pub remains_start : (m : Memory) → RemainsBelow into 0 m m
-  remains_start m = record { stays = λ k s. refl; only = λ k f less. absurd (omega (arith, less)); rest = λ k over. refl }
-
-  pub remains_more : (n : ℕ) (m mid new : Memory) → RemainsBelow into n m mid → RemovesAt into n mid new → RemainsBelow into (n + 1) m new
-  remains_more n m mid new a b = record {
-    stays = λ k s. elim (cases_eq k n) [
-      | inl same ↦ subst (λ j. new j ≡ mid j) (sym same) (b.stays (subst (Stays into) same s)) ∙ a.stays k s
-      | inr differs ↦ b.others k differs ∙ a.stays k s
-    ];
-    only = λ k f less h. elim (cases_eq k n) [
-      | inl same ↦ subst (Stays into) (sym same) (b.gone f (ap new (sym same) ∙ h))
-      | inr differs ↦ a.only k f (below k less differs) (sym (b.others k differs) ∙ h)
-    ];
-    rest = λ k over. b.others k (λ same. absurd (omega (arith, over, same))) ∙ a.rest k (omega (arith, over));
-  }
-    where
-      below : (k : ℕ) → k < n + 1 → (k ≡ n → ⊥) → k < n
-      below k less differs = elim (cases_lt k n) [ inl is ↦ is | inr over ↦ absurd (differs (omega (arith, less, over))) ]
-
 -- an entry's slot is one of those of the slab
 pub slot_within : (t : Table) (k : ℕ) (f : Info) → memory_of t k ≡ Some f → k < length t.places.slots
 slot_within t k f h = elim (cases_lt k (length t.places.slots)) [
@@ -188,13 +180,3 @@ slot_within t k f h = elim (cases_lt k (length t.places.slots)) [
     past [] k over = refl
     past (x ∷ xs) zero over = absurd (omega (arith, over))
     past (x ∷ xs) (suc k) over = past xs k (omega (arith, over))
-
-pub remains_end : (t : Table) (plan : List (SmallVec ℕ)) (n count : ℕ) (new : Memory) → length t.places.slots ≤ count → count ≤ n
-    → RemainsBelow (slots_at plan) n (memory_of t) new → Remains (slots_at plan) (memory_of t) new
-remains_end t plan n count new a b r = record {
-  stays = r.stays;
-  only = λ k f h. elim (cases_lt k n) [
-    | inl less ↦ r.only k f less h
-    | inr over ↦ let inside = slot_within t k f (sym (r.rest k over) ∙ h) in absurd (omega (arith, inside, over, a, b))
-  ];
-}

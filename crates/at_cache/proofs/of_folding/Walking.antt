@@ -87,24 +87,6 @@ folds_by {lists} {puts} {m} {into} i at = record {
   below = λ s r e there c p d. elim ((at s e there).below p d) [ inl stays ↦ inl stays | inr all ↦ inr (all r c) ];
 }
 
--- the first slots are sound, and one more; those past the plan are
-pub sound_more : (m : Memory) (into : ℕ → List ℕ) (n : ℕ) → ((s : ℕ) (e : Info) → s < n → m s ≡ Some e → FoldsAt m into s e) → ((e : Info) → m n ≡ Some e → FoldsAt m into n e)
-    → (s : ℕ) (e : Info) → s < n + 1 → m s ≡ Some e → FoldsAt m into s e
-sound_more m into n before here s e less there = elim (cases_lt s n) [
-  | inl is ↦ before s e is there
-  | inr over ↦ let same : n ≡ s = omega (arith, less, over) in subst (λ k. (f : Info) → m k ≡ Some f → FoldsAt m into k f) same here e there
-]
-
-pub sound_all : (m : Memory) (plan : List (SmallVec ℕ)) (n : ℕ) → length plan ≤ n → ((s : ℕ) (e : Info) → s < n → m s ≡ Some e → FoldsAt m (slots_at plan) s e)
-    → (s : ℕ) (e : Info) → m s ≡ Some e → FoldsAt m (slots_at plan) s e
-sound_all m plan n all before s e there = elim (cases_lt s n) [
-  | inl is ↦ before s e is there
-  | inr over ↦ record {
-    used = λ r c. let less = planned plan s r c in absurd (omega (arith, less, over, all));
-    below = λ p c. inr (λ r d. let less = planned plan s r d in absurd (omega (arith, less, over, all)));
-  }
-]
-
 -- one link more, and one target more
 module _ {into : ℕ → List ℕ} where
   pub linked_more : (xs : List ℕ) (i d : ℕ) (old mid new : List ℕ) → i < length xs → Linked into (take i xs) old mid → Linked into (get_or xs i d ∷ []) mid new → Linked into (take (i + 1) xs) old new

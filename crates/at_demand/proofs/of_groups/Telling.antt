@@ -27,7 +27,7 @@ use Rattle.at_demand.proofs.Extending.{extends_on}
 use Rattle.at_demand.proofs.Sameness.{same_true}
 use Rattle.at_demand.proofs.There.{found_once}
 use Rattle.at_demand.proofs.of_groups.KeptOrFound.{found_known}
-use Rattle.at_demand.proofs.of_traces.Justified.{stay_same, stay_then}
+use Rattle.at_demand.proofs.of_traces.TurnsPut.{puts_same, puts_then}
 
 -- what is looked up was found
 found_at : (fs : List (Instance ℕ × Find)) (i : Instance ℕ) (f : Find) → lookup (same_instance i) fs ≡ Some f →
@@ -93,7 +93,7 @@ module _ (rules : Rules) (s : Shown) (exact : Bool) where
     only = λ e l h. h;
     spare = λ whole e a l h. a;
     counts = λ e. counts_none entries w few;
-    traces = stay_same m;
+    traces = puts_same m;
   }
 
   -- where all stays as it is
@@ -234,5 +234,5 @@ module _ (rules : Rules) (s : Shown) (exact : Bool) where
       only = λ e l h. q.only e (p.lean e l) (p.only e l h);
       spare = λ whole e a l h. let w = both whole in q.spare w.1 e (p.spare w.0 e a l h) (p.lean e l) (p.settled e h);
       counts = λ e. counts_more before between after earlier meanwhile later (p.counts e) (q.counts e);
-      traces = stay_then former among' latter p.traces q.traces;
+      traces = puts_then former among' latter p.traces q.traces;
     }

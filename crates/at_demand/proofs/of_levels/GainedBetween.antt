@@ -29,7 +29,7 @@ use Rattle.at_demand.proofs.Entered.{entered, entered_on, is_there, kept_on, not
 use Rattle.at_demand.proofs.Extending.{extends_on, get_more}
 use Rattle.at_demand.proofs.Recalling.{known_found, known_kept}
 use Rattle.at_demand.proofs.There.{found_once, led_there}
-use Rattle.at_demand.proofs.of_traces.Justified.{stay_same, stay_then}
+use Rattle.at_demand.proofs.of_traces.TurnsPut.{puts_same, puts_then}
 
 -- what is told is of instances that levels under way have seen, and to which what was asked leads
 module _ {Whole : Type 0} (rules : Rules) (s : Shown) (exact : Bool) (before after : Entries) (former latter : Memories) (earlier later : ℕ) (old new : Question)
@@ -136,7 +136,7 @@ gains_nothing rules s exact entries m w old new answerable small same = record {
   lean = λ on z. subst (λ fs. AreLean rules (contents s) fs) (sym same) z;
   settled = λ on z. subst (λ fs. AreSettled rules entries fs) (sym same) z;
   counts = λ on. counts_none entries w small;
-  traces = stay_same m;
+  traces = puts_same m;
 }
 
 -- and then more
@@ -183,7 +183,7 @@ module _ {Whole : Type 0} (rules : Rules) (s : Shown) (exact : Bool) (first mid 
     lean = λ on z. h.lean on (g.lean on z);
     settled = λ on z. h.settled on (g.settled on z);
     counts = λ on. counts_more first mid last w x y (g.counts on) (h.counts on);
-    traces = stay_then f m n g.traces h.traces;
+    traces = puts_then f m n g.traces h.traces;
   }
 
 -- under another condition

@@ -50,7 +50,7 @@ use Rattle.at_demand.proofs.Entered.{is_there, kept_on, not_none}
 use Rattle.at_demand.proofs.Keys.{is_key, no_key}
 use Rattle.at_demand.proofs.Marking.{told_among}
 use Rattle.at_demand.proofs.Recalling.{known_kept}
-use Rattle.at_demand.proofs.of_traces.Justified.{stay_same}
+use Rattle.at_demand.proofs.of_traces.TurnsPut.{puts_same}
 
 -- formulas lead on
 pub led_on : {N : Type 0} (E : Ending N) (i j k : Instance N) → LeadsOver E i j → LeadsOver E j k → LeadsOver E i k
@@ -491,7 +491,7 @@ module _ (rules : Rules) (s : Shown) (exact : Bool) (entries : Entries) (m : Mem
     only = λ on l all. all;
     spare = λ whole on l lean settled. l;
     counts = λ on. counts_none entries w small;
-    traces = stay_same m;
+    traces = puts_same m;
   }
 
   on_ok : {A : Type 0} (r : Result A AllocError) → OnOk r (CanResolve rules s entries q)

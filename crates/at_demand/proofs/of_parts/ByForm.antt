@@ -19,7 +19,7 @@ use Rattle.at_apply.specs.Looking.{HasBegun, HasLooked}
 use Rattle.at_apply.specs.Parts.{beside_text, call_of, either_of, fold_of, one_of, or_truth, two_of}
 use Rattle.at_demand.specs.declared.direct.Level.{Level}
 use Rattle.at_demand.specs.Inner.{Gains, HasTold}
-use Rattle.at_demand.specs.InParts.{HasCome, HasGained, Held, demand, values_in}
+use Rattle.at_demand.specs.InParts.{EndsTold, EvaluatesTo, HasCome, HasGained, Held, demand, values_in}
 use Rattle.at_demand.specs.Made.{Makes}
 use Rattle.at_demand.specs.Traces.{StayJustified}
 use Rattle.at_demand.proofs.of_parts.Directly.{come_begun, come_end, come_then, gains_begun, gains_demand, gains_then, gains_within, grows, grows_then, told_come}
@@ -139,6 +139,11 @@ module _ (rules : Rules) (s : Shown) (exact : Bool) (p : Place) where
         (grows rules s exact r mid last t) c
     either_come (Err f) new c = tt
 
+    pub either_ends : {E : Type 0} (res : Result ValueCode E) (new : Level) →
+        IfOk res (λ z. HasCome rules (contents s) last between new r (value_view z)) →
+        EvaluatesTo rules s exact (either_of rules.classes p a these those) value_view first last old new res
+    either_ends res new c = record { come = either_come res new c; gains = either_gains }
+
   pub call_gains_first : (a : Body) (k : ℕ) (bs : List Body) (old new : Held) →
       HasGained rules s exact (run_at rules p a) old new → HasGained rules s exact (call_of rules.classes p a k bs) old
       new
@@ -186,6 +191,21 @@ module _ (rules : Rules) (s : Shown) (exact : Bool) (p : Place) where
           (told_come rules s last later new (asked n k vs) (value_view u) c))
       call_come (Err f) new c = tt
 
+    -- by what the instance is told that it asks for
+    pub call_ends : (n : ℕ) (vs : List ValueCode) (last : Held) (later : Level) → value_view v ≡ Ref (Some n) →
+        HasCome rules (contents s) next between later (all_at rules p bs) (map value_view vs) → (i : Instance ℕ) →
+        i ≡ asked n k vs → {E : Type 0} (res : Result ValueCode E) (new : Level) →
+        EndsTold rules s exact i next last later new res →
+        EvaluatesTo rules s exact (call_of rules.classes p a k bs) value_view first last old new res
+    call_ends n vs last later e t i is res new ends =
+        let told : EndsTold rules s exact (asked n k vs) next last later new res = subst (λ (j : Instance ℕ). EndsTold
+        rules s exact j next last later new res) is ends in
+        let grown = told.grown in
+        record {
+          come = call_come n vs last later e t grown.gains grown.traces grown.makes res new told.told;
+          gains = call_gains n vs last later e t grown.gains grown.traces grown.makes;
+        }
+
   pub fold_gains_first : (f : Fold) (a : Body) (part : ℕ) (b : Body) (old new : Held) →
       HasGained rules s exact (run_at rules p a) old new →
       HasGained rules s exact (fold_of rules.classes p f a part b) old new
@@ -229,6 +249,11 @@ module _ (rules : Rules) (s : Shown) (exact : Bool) (p : Place) where
         (come_begun rules s last between later new (behind_node rules p f part b (value_view v)) (over rules.classes f
         (body_view b) p ns) (value_view u) same begun t)
     fold_come (Err x) new same t = tt
+
+    pub fold_ends : {E : Type 0} (res : Result ValueCode E) (new : Level) → later.uses.items ≡ between.uses.items →
+        IfOk res (λ u. HasCome rules (contents s) last later new (over rules.classes f (body_view b) p ns) (value_view
+        u)) → EvaluatesTo rules s exact (fold_of rules.classes p f a part b) value_view first last old new res
+    fold_ends res new same t = record { come = fold_come res new same t; gains = fold_gains }
 
 -- where an expression has that form
 module _ (rules : Rules) (s : Shown) (exact : Bool) where

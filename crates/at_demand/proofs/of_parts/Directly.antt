@@ -7,11 +7,13 @@ use Rattle.at_model.specs.Nested.{Tells, Evaluates, gives, told}
 use Rattle.at_model.specs.Rules.{Rules}
 use Rattle.at_model.proofs.of_nesting.Nesting.{binds, evaluates_more, evaluates_deeper, reaches_behind, reaches_within}
 use Rattle.at_store.specs.Shown.{Shown, contents}
-use Rattle.at_apply.specs.Looking.{HasBegun, HasLooked}
+use Rattle.at_body.specs.Values.{value_view}
+use Rattle.at_body.specs.declared.value.Value.{Value as ValueCode}
+use Rattle.at_apply.specs.Looking.{HasBegun, HasLooked, MayHaveLooked}
 use Rattle.at_demand.specs.declared.direct.Level.{Level}
 use Rattle.at_demand.specs.Known.{equations, meaning, kept_values, IsKept, KeepsEntries}
 use Rattle.at_demand.specs.Inner.{Gains, HasTold, StayRemembered, is_inner}
-use Rattle.at_demand.specs.InParts.{Demanded, HasCome, HasGained, Held, IsHeld, demand, values_in}
+use Rattle.at_demand.specs.InParts.{Demanded, EvaluatesTo, HasCome, HasGained, Held, IsHeld, demand, values_in}
 use Rattle.at_demand.specs.Made.{Makes}
 use Rattle.at_demand.specs.Sparing.{IsWorthKeeping}
 use Rattle.at_demand.specs.Traces.{StayJustified}
@@ -227,3 +229,24 @@ module _ (rules : Rules) (s : Shown) (exact : Bool) where
     counts = g.counts;
     makes = m;
   }
+
+  -- it came to a value at once, by looks alone, or was gone on with where nothing was looked at
+  pub at_once_some : {E : Type 0} (r : Run ℕ (Value ℕ)) (h : Held) (old : Level) (reads : List (Location ℕ))
+      (o : Option ValueCode) (v : ValueCode) → h.work < 2 ^ 64 → IsHeld rules (contents s) h →
+      MayHaveLooked (contents s) old.reads reads r o → o ≡ Some v →
+      EvaluatesTo {E = E} rules s exact r value_view h h old (record { reads = reads; uses = old.uses }) (Ok v)
+  at_once_some r h old reads o v few is looked some = record {
+    come = come_looked rules s h old (record { reads = reads; uses = old.uses }) r (value_view v) refl
+        (subst (λ o. MayHaveLooked (contents s) old.reads reads r o) some looked);
+    gains = nothing_gained r h few is;
+  }
+
+  pub at_once_none : {E : Type 0} (r : Run ℕ (Value ℕ)) (first last : Held) (old : Level) (reads : List (Location ℕ))
+      (o : Option ValueCode) → MayHaveLooked (contents s) old.reads reads r o → o ≡ None → (new : Level)
+      (x : Result ValueCode E) →
+      EvaluatesTo rules s exact r value_view first last (record { reads = reads; uses = old.uses }) new x →
+      EvaluatesTo rules s exact r value_view first last old new x
+  at_once_none r first last old reads o looked none new x ends =
+      subst (λ (ls : List (Location ℕ)). EvaluatesTo rules s exact r value_view first last
+      (record { reads = ls; uses = old.uses }) new x) (subst (λ o. MayHaveLooked (contents s) old.reads reads r o) none
+      looked) ends

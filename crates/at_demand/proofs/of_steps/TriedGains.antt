@@ -17,12 +17,13 @@ use Rattle.at_store.specs.Shown.{Shown, contents}
 use Rattle.at_body.specs.Values.{value_view}
 use Rattle.at_body.specs.declared.value.Value.{Value as ValueCode}
 use Rattle.at_cache.specs.Kept.{Entries}
-use Rattle.at_cache.specs.Traced.{Memories, StayTraced}
+use Rattle.at_cache.specs.Traced.{Memories}
 use Rattle.at_demand.specs.declared.evaluation.Find.{Find}
 use Rattle.at_demand.specs.declared.question.Question.{Question}
 use Rattle.at_demand.specs.declared.trials.Trials.{Trials}
 use Rattle.at_demand.specs.declared.trying.Going.{Going}
 use Rattle.at_demand.specs.declared.trying.Tried.{Tried}
+use Rattle.at_demand.specs.InTurns.{PutsInTurns}
 use Rattle.at_demand.specs.Answered.{GainsAtMost}
 use Rattle.at_demand.specs.Known.{IsFound, IsKept, found_values, kept_values, meaning}
 use Rattle.at_demand.specs.Levels.{StandsFor, asked_by, known_to, level_of}
@@ -127,7 +128,7 @@ module _ {Whole : Type 0} (rules : Rules) (s : Shown) (exact : Bool) (before las
 
 module _ (rules : Rules) (s : Shown) (exact : Bool) (before mid last : Entries) (f m l : Memories) (w x y : ℕ) (old q : Question) (t : Trials) (g : Going)
     (c : IsTrying rules s exact before mid f m w x old q t g) (r : Result Tried AllocError)
-    (h : HasCarriedOn {E = AllocError} rules s exact mid last x y q.found.entries q.inst r) (traced : StayTraced m l) where
+    (h : HasCarriedOn {E = AllocError} rules s exact mid last x y q.found.entries q.inst r) (traced : PutsInTurns m l) where
   grows : MayGain rules q.found.entries mid last q.inst
   grows = h.gains
 

@@ -14,13 +14,14 @@ use Rattle.at_rules.specs.Circular.{HasNoneCircular}
 use Rattle.at_store.specs.Shown.{Shown, contents}
 use Rattle.at_body.specs.Typed.{class_shown}
 use Rattle.at_cache.specs.Kept.{Entries}
-use Rattle.at_cache.specs.Traced.{Memories, StayTraced}
+use Rattle.at_cache.specs.Traced.{Memories}
 use Rattle.at_demand.specs.declared.demand.searching.Resolved.{Resolved}
 use Rattle.at_demand.specs.declared.evaluation.Find.{Find}
 use Rattle.at_demand.specs.declared.question.Question.{Question}
 use Rattle.at_demand.specs.declared.trials.Trials.{Trials}
 use Rattle.at_demand.specs.declared.trying.Going.{Going}
 use Rattle.at_demand.specs.declared.trying.Trying.{Trying}
+use Rattle.at_demand.specs.InTurns.{PutsInTurns}
 use Rattle.at_demand.specs.Answerable.{CanTurn, CanTurnWith, IsAnswerable}
 use Rattle.at_demand.specs.Attempts.{IsGoing}
 use Rattle.at_demand.specs.Forming.{waits_for}
@@ -40,7 +41,7 @@ use Rattle.at_demand.proofs.of_levels.StayingOn.{stays_same, stays_then, stays_t
 use Rattle.at_demand.proofs.of_steps.Met.{have_more, met_more}
 use Rattle.at_demand.proofs.of_steps.TriedTold.{adds_now, asked_told, followed_told, known_or_told, stands_since, told_now}
 use Rattle.at_demand.proofs.of_steps.TryUnderWay.{IsTrying, with_told}
-use Rattle.at_demand.proofs.of_traces.Justified.{stay_then}
+use Rattle.at_demand.proofs.of_traces.TurnsPut.{puts_then}
 
 abbrev with_outcome : Outcome ℕ → Instance ℕ → Instance ℕ × Outcome ℕ
 with_outcome o i = (i, o)
@@ -112,7 +113,7 @@ begins_trying rules s exact entries m w q v can small t none fit g going =
 module _ (rules : Rules) (s : Shown) (exact : Bool) (before mid : Entries) (f m : Memories) (w x : ℕ) (old q : Question) (t : Trials) (g : Going)
     (c : IsTrying rules s exact before mid f m w x old q t g) where
   -- it has come to where it waits, and nothing is kept since
-  pub waits_trying : (after : Entries) (l : Memories) (y : ℕ) → StayTraced m l → after ≡ mid → y ≡ x → (h : Going) →
+  pub waits_trying : (after : Entries) (l : Memories) (y : ℕ) → PutsInTurns m l → after ≡ mid → y ≡ x → (h : Going) →
       IsGoing rules (class_shown s) (contents s) mid q.found.entries q.inst h → IsTrying rules s exact before after f l w y old q t h
   waits_trying after l y traced same counted h going =
       subst (λ es. IsTrying rules s exact before es f l w y old q t h) (sym same)
@@ -137,7 +138,7 @@ module _ (rules : Rules) (s : Shown) (exact : Bool) (before mid : Entries) (f m 
           lean = b.lean;
           settled = b.settled;
           counts = b.counts;
-          traces = stay_then f m l b.traces traced;
+          traces = puts_then f m l b.traces traced;
         };
         stays = c.stays;
         sparing = c.sparing;

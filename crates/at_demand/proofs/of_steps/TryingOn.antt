@@ -12,7 +12,7 @@ use Rattle.at_rules.specs.Circular.{HasNoneCircular}
 use Rattle.at_store.specs.Shown.{Shown, contents}
 use Rattle.at_body.specs.Typed.{class_shown}
 use Rattle.at_cache.specs.Kept.{Entries}
-use Rattle.at_cache.specs.Traced.{Memories, StayTraced}
+use Rattle.at_cache.specs.Traced.{Memories}
 use Rattle.at_search.specs.declared.ended.Fault.{Fault}
 use Rattle.at_search.specs.declared.ended.Formed.{Formed}
 use Rattle.at_body.specs.Values.{FaultCode, fault_view}
@@ -25,6 +25,7 @@ use Rattle.at_demand.specs.declared.trying.Going.{Going}
 use Rattle.at_demand.specs.declared.trying.Tried.{Tried}
 use Rattle.at_demand.specs.declared.trying.Tried.TheVariants as tried
 use Rattle.at_demand.specs.declared.trying.Trying.{Trying}
+use Rattle.at_demand.specs.InTurns.{PutsInTurns}
 use Rattle.at_demand.specs.Answerable.{CanBeTried, CanTurn}
 use Rattle.at_demand.specs.Answered.{HasTurnedOn}
 use Rattle.at_demand.specs.Forming.{waits_for}
@@ -69,7 +70,7 @@ module _ (rules : Rules) (s : Shown) (exact : Bool) (before mid : Entries) (f m 
         unkept = c.unkept;
       }
 
-  module _ (last : Entries) (l : Memories) (y : ℕ) (traced : StayTraced m l) (turn : CanTurn rules s before old) where
+  module _ (last : Entries) (l : Memories) (y : ℕ) (traced : PutsInTurns m l) (turn : CanTurn rules s before old) where
     -- memory is wanting as the try goes on
     pub carry_fails : (a : Result Tried AllocError) → HasCarriedOn {E = AllocError} rules s exact mid last x y q.found.entries q.inst a → (new : Question)
         (u : Trials) (r : Result (Option AnswerCode) AllocError) (e : AllocError) → r ≡ Err e →

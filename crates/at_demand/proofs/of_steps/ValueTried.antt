@@ -19,7 +19,7 @@ use Rattle.at_body.specs.Same.{same_instance}
 use Rattle.at_body.specs.Values.{value_view}
 use Rattle.at_body.specs.declared.value.Value.{Value as ValueCode}
 use Rattle.at_cache.specs.Kept.{Entries}
-use Rattle.at_cache.specs.Traced.{Memories, StayTraced}
+use Rattle.at_cache.specs.Traced.{Memories}
 use Rattle.at_demand.specs.declared.answer.Answer.{Answer as AnswerCode}
 use Rattle.at_demand.specs.declared.evaluation.Find.{Find}
 use Rattle.at_demand.specs.declared.question.Question.{Question}
@@ -27,6 +27,7 @@ use Rattle.at_demand.specs.declared.trials.Trials.{Trials}
 use Rattle.at_demand.specs.declared.trying.Going.{Going}
 use Rattle.at_demand.specs.declared.trying.Tried.{Tried}
 use Rattle.at_demand.specs.declared.trying.Tried.TheVariants as tried
+use Rattle.at_demand.specs.InTurns.{PutsInTurns}
 use Rattle.at_demand.specs.Answerable.{CanTurn, IsBasis}
 use Rattle.at_demand.specs.Answered.{HasTurnedOn, HasWorthyFor}
 use Rattle.at_demand.specs.Attempts.{HasFound}
@@ -137,7 +138,7 @@ known_last rules s entries found i d right has none = by (kept_values entries i)
     ]
 
 module _ (rules : Rules) (s : Shown) (exact : Bool) (before mid last : Entries) (f m l : Memories) (w x y : ℕ) (old q : Question) (t : Trials) (g : Going)
-    (c : IsTrying rules s exact before mid f m w x old q t g) (turn : CanTurn rules s before old) (traced : StayTraced m l) (a : Tried)
+    (c : IsTrying rules s exact before mid f m w x old q t g) (turn : CanTurn rules s before old) (traced : PutsInTurns m l) (a : Tried)
     (h : HasCarriedOn {E = AllocError} rules s exact mid last x y q.found.entries q.inst (Ok a)) (d : Find)
     (has : HasFound rules (contents s) mid q.found.entries q.inst d) (none : start_of rules q.inst.attribute ≡ None) where
   basis : IsBasis rules s
@@ -222,7 +223,7 @@ module _ (rules : Rules) (s : Shown) (exact : Bool) (before mid last : Entries) 
 
 -- It came to be kept.
 module _ (rules : Rules) (s : Shown) (exact : Bool) (before mid last : Entries) (f m l : Memories) (w x y : ℕ) (old q : Question) (t : Trials) (g : Going)
-    (c : IsTrying rules s exact before mid f m w x old q t g) (turn : CanTurn rules s before old) (traced : StayTraced m l) (v : ValueCode)
+    (c : IsTrying rules s exact before mid f m w x old q t g) (turn : CanTurn rules s before old) (traced : PutsInTurns m l) (v : ValueCode)
     (h : HasCarriedOn {E = AllocError} rules s exact mid last x y q.found.entries q.inst (Ok (tried.Kept v))) (new : Question) (u : Trials) where
   settled_kept : IsTrue exact → AreSpare rules (contents s) before → IsSparingTurns rules (contents s) before old → AreSettled rules last q.found.entries
   settled_kept k spare z = let y = c.sparing k z in h.settles k (let gains = c.gains in gains.spare tt k spare z.lean z.settled) y.settled
@@ -313,7 +314,7 @@ module _ (rules : Rules) (s : Shown) (exact : Bool) (before mid last : Entries) 
 
 -- It was found.
 module _ (rules : Rules) (s : Shown) (exact : Bool) (before mid last : Entries) (f m l : Memories) (w x y : ℕ) (old q : Question) (t : Trials) (g : Going)
-    (c : IsTrying rules s exact before mid f m w x old q t g) (turn : CanTurn rules s before old) (traced : StayTraced m l) (d : Find)
+    (c : IsTrying rules s exact before mid f m w x old q t g) (turn : CanTurn rules s before old) (traced : PutsInTurns m l) (d : Find)
     (h : HasCarriedOn {E = AllocError} rules s exact mid last x y q.found.entries q.inst (Ok (tried.Found d))) (new : Question) (u : Trials) where
   settled_found : IsTrue exact → AreSpare rules (contents s) before → IsSparingTurns rules (contents s) before old →
       AreSettled rules last (q.found.entries ++ with_find d q.inst ∷ [])

@@ -1,11 +1,11 @@
 -- A trace stays justified over other last values of what it didn't use, and over a tree that shows the same where it
 -- looked.
-use Rattle.std.proofs.Common.{◌≡◌, ℕ, Bool, true, List, [], ◌∷◌, Option, inl, inr, refl, sym, ◌∙◌, subst}
+use Rattle.std.proofs.Common.{◌≡◌, ℕ, Bool, true, false, List, [], ◌∷◌, Option, None, Some, inl, inr, refl, sym, ◌∙◌, subst, true≢false}
 use Rattle.std.specs.Prelude.{Contains}
 use Rattle.std.proofs.lemmas.List.Elements.{Contains-append_left, Contains-append_right, Contains-push}
 use Rattle.at_model.specs.Run.{Value, Instance, Location, Contents, Known}
 use Rattle.at_model.specs.Meaning.{Among, Equations}
-use Rattle.at_model.specs.Rules.{Rules}
+use Rattle.at_model.specs.Rules.{Rules, is_lazy}
 use Rattle.at_store.specs.Shown.{Shown}
 use Rattle.at_cache.specs.declared.keeper.Order.TheVariants as order
 use Rattle.at_cache.specs.Traced.{IsStill, Memories, PutsTrace, StayTraced, Trace}
@@ -52,14 +52,16 @@ stay_any i v reads uses old new puts j t is = elim (puts j t is) [
   | inr mine ↦ let never = mine.1.ordered in absurd cc
 ]
 
-pub stay_in_turns : (i : Instance ℕ) (v : Option (Value ℕ)) (reads : List (Location ℕ)) (uses : List (Instance ℕ))
-    (old new : Memories) → PutsTrace i v reads uses order.InTurns old new → StayTraced old new
-stay_in_turns i v reads uses old new puts j t is = elim (puts j t is) [
-  | inl still ↦ still
-  | inr mine ↦ let never = mine.1.ordered in absurd cc
-]
+-- what isn't lazy has no trace
+pub untraced_inner : (rules : Rules) (look : Contents ℕ) (m : Memories) → AreJustified rules look m → (i : Instance ℕ)
+    → is_lazy rules i.attribute ≡ false → m.traced i ≡ None
+untraced_inner rules look m r i inner = by (m.traced i) refl
+  where
+    by : (o : Option Trace) → m.traced i ≡ o → m.traced i ≡ None
+    by None is = is
+    by (Some t) is = absurd (true≢false (sym (r.lazily i t is) ∙ inner))
 
--- and is right still
+-- what is traced still is right still
 pub justified_still : (rules : Rules) (look : Contents ℕ) (before later : Memories) → AreJustified rules look before →
     (i : Instance ℕ) (t : Trace) → IsStill before later i t →
     IsJustified look (equations rules) later.last (is_inner rules) i t

@@ -9,7 +9,7 @@ use Rattle.at_body.specs.Same.{same_instance}
 use Rattle.at_cache.specs.declared.keeper.Put.{Put}
 use Rattle.at_cache.specs.declared.keeper.Put.TheVariants as put
 use Rattle.at_cache.specs.Kept.{Entries, HasPut, Kept}
-use Rattle.at_cache.specs.Traced.{AreAlike, IsOutdated, IsSpared, KeepsTrace, Memories, SparesOthers, Trace}
+use Rattle.at_cache.specs.Traced.{AreAlike, IsOutdated, IsSpared, Memories, SparesOthers, Trace}
 use Rattle.at_demand.specs.Known.{KeepsEntries}
 use Rattle.at_demand.specs.Made.{CountsPut, Makes}
 use Rattle.at_demand.proofs.Counting.{among_parts, distinct_append}
@@ -119,8 +119,9 @@ module _ (e f g : Entries) (m n o : Memories) (j k l : ℕ) (first : KeepsEntrie
     count = summed j k l (length a.made) (length b.made) (length (a.made ++ b.made)) (length-append a.made b.made) a.count b.count;
   }
 
--- an instance was put, which has no trace or keeps it
-module _ (e f : Entries) (m n : Memories) (i : Instance ℕ) (absent : e i ≡ None) (s : SparesOthers i f m n) (own : KeepsTrace i m n) where
+-- an instance was put that had no trace
+module _ (e f : Entries) (m n : Memories) (i : Instance ℕ) (absent : e i ≡ None) (s : SparesOthers i f m n)
+    (none : m.traced i ≡ None) where
   apart : (j : Instance ℕ) → same_instance i j ≡ false → i ≡ j → ⊥
   apart j off same = true≢false (sym (same_refl i) ∙ ap (same_instance i) same ∙ off)
 
@@ -128,8 +129,7 @@ module _ (e f : Entries) (m n : Memories) (i : Instance ℕ) (absent : e i ≡ N
   spares_put j t h = by (same_instance i j) refl
     where
       by : (b : Bool) → same_instance i j ≡ b → IsSpared m n j t
-      by true is = inl (subst (λ x. n.traced x ≡ Some t) (same_true i j is)
-          (own t (subst (λ x. m.traced x ≡ Some t) (sym (same_true i j is)) h)))
+      by true is = absurd (none-some t (sym none ∙ subst (λ x. m.traced x ≡ Some t) (sym (same_true i j is)) h))
       by false is = s.spares j t (apart j is) h
 
   last_put : (u : Instance ℕ) → (n.last u ≡ m.last u) ⊎ ((e u ≡ None) × IsSome (f u))
@@ -151,8 +151,8 @@ module _ (e f : Entries) (m n : Memories) (i : Instance ℕ) (absent : e i ≡ N
     count = inl (no_more k);
   }
 
-  makes_one : m.traced i ≡ None → IsSome (f i) → (k l : ℕ) → (l ≡ k + 1) ⊎ (2 ^ 64 - 1 ≤ l) → Makes e f m n k l
-  makes_one none some k l more = record {
+  makes_one : IsSome (f i) → (k l : ℕ) → (l ≡ k + 1) ⊎ (2 ^ 64 - 1 ≤ l) → Makes e f m n k l
+  makes_one some k l more = record {
     made = i ∷ [];
     came = came_one;
     once = (λ h. h, tt);
@@ -171,10 +171,10 @@ module _ (e f : Entries) (m n : Memories) (i : Instance ℕ) (absent : e i ≡ N
       reason_one j t (inr x) h = absurd x
 
   -- it is, where it is there
-  pub makes_put : (exact : Bool) (o : Option (Value ℕ)) (ls : List (Location ℕ)) (us : List (Instance ℕ)) → m.traced i ≡ None → (p : Put)
+  pub makes_put : (exact : Bool) (o : Option (Value ℕ)) (ls : List (Location ℕ)) (us : List (Instance ℕ)) → (p : Put)
       → HasPut exact e i o ls us f p → (k l : ℕ) → CountsPut p k l → Makes e f m n k l
-  makes_put exact o ls us none put.Kept h k l more = makes_one none (put_there exact e f i o ls us h) k l more
-  makes_put exact o ls us none put.Left h k l more = makes_as more (makes_unmade k)
+  makes_put exact o ls us put.Kept h k l more = makes_one (put_there exact e f i o ls us h) k l more
+  makes_put exact o ls us put.Left h k l more = makes_as more (makes_unmade k)
 
 -- one more, up to the greatest number
 one_more : (k l most : ℕ) → l ≡ min (k + 1) most → (b : Bool) → nat_lt (k + 1) most ≡ b → (l ≡ k + 1) ⊎ (most ≤ l)
@@ -188,10 +188,10 @@ pub counted_put : (k l : ℕ) → l ≡ min (k + 1) (2 ^ 64 - 1) → CountsPut p
 counted_put k l is = up_to k l (2 ^ 64 - 1) is
 
 -- the same of an instance that is that one
-pub unmade : (e f : Entries) (m n : Memories) (i j : Instance ℕ) → j ≡ i → e i ≡ None → SparesOthers j f m n → KeepsTrace j m n → (k : ℕ)
+pub unmade : (e f : Entries) (m n : Memories) (i j : Instance ℕ) → j ≡ i → e i ≡ None → SparesOthers j f m n → m.traced
+    i ≡ None → (k : ℕ)
     → Makes e f m n k k
-unmade e f m n i j is absent s own k = makes_unmade e f m n i absent (subst (λ x. SparesOthers x f m n) is s)
-    (subst (λ x. KeepsTrace x m n) is own) k
+unmade e f m n i j is absent s none k = makes_unmade e f m n i absent (subst (λ x. SparesOthers x f m n) is s) none k
 
 -- how a put counts, as it ended
 pub kept_counts : (p : Put) (k l : ℕ) → p ≡ put.Kept → l ≡ min (k + 1) (2 ^ 64 - 1) → CountsPut p k l

@@ -23,8 +23,9 @@ use std::alloc::AllocError;
 impl<K: Keeper> Demand<K> {
     // Keeps an instance again where that can be done with no evaluation, and before it what it used, and so on. What is kept again is counted.
     pub(super) fn keep_again(&mut self, inst: &Inst)
-        ensures { HasKeptAgain K.exact (K.memories self.old.keeper) (K.memories self.new.keeper) (K.contents self.old.keeper)
+        ensures kept { HasKeptAgain K.exact (K.memories self.old.keeper) (K.memories self.new.keeper) (K.contents self.old.keeper)
             (K.contents self.new.keeper) self.old.work self.new.work inst.now }
+        ensures made { self.new.made ≡ self.old.made }
     {
         let count = self.keeper.settle(inst, 0);
         self.work = self.work.saturating_add(count);

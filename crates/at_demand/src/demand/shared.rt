@@ -84,6 +84,7 @@ impl<K: Keeper> Demand<K> {
     }
 
     // Puts an entry without a value for the find, and says whether it is there.
+    #[tactic(auto, using(crate::proofs::of_traces::TurnsPut::puts_same))]
     fn enter(
         &mut self,
         rules: &Rules,
@@ -100,7 +101,7 @@ impl<K: Keeper> Demand<K> {
         let reads = sources.reads.as_slice();
         let put = self
             .keeper
-            .put(inst.copy(self.alloc)?, None, reads, uses, Order::InTurns)?;
+            .put(inst.copy(self.alloc)?, None, reads, uses, Order::Any)?;
         Ok(put == Put::Kept)
     }
 }

@@ -1,6 +1,6 @@
 //! Turns of a question: each tries one equation, once.
 
-ghost use Rattle.std.specs.Prelude.{◌≡◌, ℕ, IfOk, None};
+ghost use Rattle.std.specs.Prelude.{◌≡◌, ◌≤◌, ◌⊎◌, ◌+◌, ◌-◌, ◌^◌, ℕ, IfOk, None, min};
 ghost use Rattle.at_model.specs.Run.{Contents};
 ghost use Rattle.at_model.specs.Instances.{AnyText};
 ghost use Rattle.at_model.specs.Rules.{Rules};
@@ -20,7 +20,8 @@ ghost use Rattle.at_demand.specs.Searches.{CanSpoil, CanTryLast, CanTurnOn, HasS
 ghost use Rattle.at_demand.specs.Tries.{CanCarryOn, HasCarriedOn};
 ghost use Rattle.at_demand.specs.KeptTrials.{Fit};
 ghost use Rattle.at_demand.specs.LastTried.{CanForm, HasFormed, IsDeeperLast, IsPassedLast, IsSettledLast};
-ghost use Rattle.at_demand.specs.Traces.{AreJustified, StaysTraced};
+ghost use Rattle.at_demand.specs.InTurns.{PutsAndCounts, PutsInTurns, PutsSo};
+ghost use Rattle.at_demand.specs.Traces.{AreJustified};
 
 use super::Demand;
 use super::searching::Resolved;
@@ -64,9 +65,9 @@ impl<K: Keeper> Demand<K> {
     ) -> Result<Option<Answer>, AllocError>
         requires can { CanTurn rules.now store.now (K.contents self.old.keeper) question.old }
         requires justified { AreJustified rules.now (contents store.now) (K.memories self.old.keeper) }
-        ensures { TracesNothing (HasTurned rules.now store.now K.exact (K.memories self.old.keeper) (K.contents self.old.keeper)
+        ensures { TracesNothing K.exact (HasTurned rules.now store.now K.exact (K.memories self.old.keeper) (K.contents self.old.keeper)
             (K.contents self.new.keeper) self.old.work self.new.work question.old question.new result)
-            (K.memories self.old.keeper) (K.memories self.new.keeper) }
+            (K.memories self.old.keeper) (K.memories self.new.keeper) self.old.made self.new.made }
     {
         // Positions among the finds of one question say nothing of another one.
         self.sharing.clear();
@@ -87,9 +88,9 @@ impl<K: Keeper> Demand<K> {
     ) -> Result<(u64, Option<Answer>), AllocError>
         requires can { CanTurn rules.now store.now (K.contents self.old.keeper) question.old }
         requires justified { AreJustified rules.now (contents store.now) (K.memories self.old.keeper) }
-        ensures { TracesNothing (HasTurnedOften rules.now store.now K.exact (K.memories self.old.keeper) (K.contents self.old.keeper)
+        ensures { TracesNothing K.exact (HasTurnedOften rules.now store.now K.exact (K.memories self.old.keeper) (K.contents self.old.keeper)
             (K.contents self.new.keeper) self.old.work self.new.work limit question.old question.new result)
-            (K.memories self.old.keeper) (K.memories self.new.keeper) }
+            (K.memories self.old.keeper) (K.memories self.new.keeper) self.old.made self.new.made }
     {
         // As in one turn.
         self.sharing.clear();
@@ -107,7 +108,7 @@ impl<K: Keeper> Demand<K> {
     }
 
     // A turn, which goes on with the trial of the last instance where it is there, and leaves those of the others; it is counted where it
-    // doesn't answer the question. An error where memory is wanting, or where no turn more can be counted.
+    // doesn't answer the question, and so is what it put. An error where memory is wanting, or where no turn more can be counted.
     pub(super) fn turn_with<'a>(
         &mut self,
         rules: &'a Rules,
@@ -116,7 +117,27 @@ impl<K: Keeper> Demand<K> {
         trials: &mut Trials<'a>,
     ) -> Result<Option<Answer>, AllocError>
         requires { CanTurnWith rules.now store.now (K.contents self.old.keeper) question.old trials.old }
-        ensures { TracesNothing (HasTurnedWith rules.now store.now K.exact (K.contents self.old.keeper) (K.contents self.new.keeper)
+        ensures { PutsAndCounts K.exact (HasTurnedWith rules.now store.now K.exact (K.contents self.old.keeper) (K.contents self.new.keeper)
+            self.old.work self.new.work question.old question.new trials.new result) (K.contents self.old.keeper) (K.contents self.new.keeper)
+            (K.memories self.old.keeper) (K.memories self.new.keeper) self.old.made self.new.made }
+    {
+        let before = self.work;
+        let made = self.made;
+        let told = self.turn_unless_kept(rules, store, question, trials);
+        self.made = made_since(made, before, self.work);
+        told
+    }
+
+    // The same, where what it put isn't counted yet.
+    fn turn_unless_kept<'a>(
+        &mut self,
+        rules: &'a Rules,
+        store: &'a Store,
+        question: &mut Question,
+        trials: &mut Trials<'a>,
+    ) -> Result<Option<Answer>, AllocError>
+        requires { CanTurnWith rules.now store.now (K.contents self.old.keeper) question.old trials.old }
+        ensures { PutsSo (HasTurnedWith rules.now store.now K.exact (K.contents self.old.keeper) (K.contents self.new.keeper)
             self.old.work self.new.work question.old question.new trials.new result)
             (K.memories self.old.keeper) (K.memories self.new.keeper) }
     {
@@ -139,7 +160,7 @@ impl<K: Keeper> Demand<K> {
         trials: &mut Trials<'a>,
     ) -> Result<Option<Answer>, AllocError>
         requires { CanTurnOn rules.now store.now (K.contents self.old.keeper) question.old trials.old }
-        ensures { TracesNothing (HasTurnedOn rules.now store.now K.exact (K.contents self.old.keeper) (K.contents self.new.keeper)
+        ensures { PutsSo (HasTurnedOn rules.now store.now K.exact (K.contents self.old.keeper) (K.contents self.new.keeper)
             self.old.work self.new.work question.old question.new trials.new result)
             (K.memories self.old.keeper) (K.memories self.new.keeper) }
     {
@@ -164,7 +185,7 @@ impl<K: Keeper> Demand<K> {
         trials: &mut Trials<'a>,
     ) -> Result<Option<Answer>, AllocError>
         requires { CanTryLast rules.now store.now (K.contents self.old.keeper) question.old trials.old }
-        ensures { TracesNothing (HasTurnedOn rules.now store.now K.exact (K.contents self.old.keeper) (K.contents self.new.keeper)
+        ensures { PutsSo (HasTurnedOn rules.now store.now K.exact (K.contents self.old.keeper) (K.contents self.new.keeper)
             self.old.work self.new.work question.old question.new trials.new result)
             (K.memories self.old.keeper) (K.memories self.new.keeper) }
     {
@@ -251,6 +272,7 @@ impl<K: Keeper> Demand<K> {
     }
 
     // Goes on with the trial of an instance that isn't kept, up to its end or to an instance that isn't known.
+    #[tactic(auto, using(crate::proofs::of_traces::TurnsPut::puts_same))]
     fn carry_on<'a>(
         &mut self,
         rules: &'a Rules,
@@ -262,7 +284,7 @@ impl<K: Keeper> Demand<K> {
         requires { CanCarryOn rules.now store.now (K.contents self.old.keeper) found.now.entries inst.now going }
         ensures tried { HasCarriedOn rules.now store.now K.exact (K.contents self.old.keeper) (K.contents self.new.keeper) self.old.work self.new.work
             found.now.entries inst.now result }
-        ensures traces { StaysTraced K.memories self.old.keeper self.new.keeper }
+        ensures traces { PutsInTurns (K.memories self.old.keeper) (K.memories self.new.keeper) }
     {
         match going {
             Going::Value(frame, step) => {
@@ -299,7 +321,7 @@ impl<K: Keeper> Demand<K> {
         requires { CanGoOn rules.now store.now (K.contents self.old.keeper) found.now.entries inst.now frame.old step }
         ensures attempted { HasAttempted rules.now store.now K.exact (K.contents self.old.keeper) (K.contents self.new.keeper) self.old.work self.new.work
             found.now.entries inst.now frame.new result }
-        ensures traces { StaysTraced K.memories self.old.keeper self.new.keeper }
+        ensures traces { PutsInTurns (K.memories self.old.keeper) (K.memories self.new.keeper) }
     {
         let step = frame.go_on(self.alloc, &self.keeper, found, rules, store, step)?;
         match step {
@@ -315,6 +337,17 @@ impl<K: Keeper> Demand<K> {
             Step::Need(needed) => Ok(Attempt::Needs(needed)),
         }
     }
+}
+
+// How many values were made, where so many were before, and the work has grown from that by those that turns put. Once the work has come to the
+// greatest number, so has this.
+fn made_since(made: u64, before: u64, work: u64) -> u64
+    ensures { (n : ℕ) → work ≡ min (before + n) (2 ^ 64 - 1) → (result ≡ made + n) ⊎ (2 ^ 64 - 1 ≤ result) }
+{
+    if work == u64::MAX {
+        return work;
+    }
+    made.saturating_add(work.saturating_sub(before))
 }
 
 // The last instance came to be kept with this value: the trial of the one below is told of it.

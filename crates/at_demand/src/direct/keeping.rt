@@ -9,7 +9,7 @@ ghost use Rattle.at_body.specs.Values.{value_view};
 ghost use Rattle.at_body.specs.Same.{same_instance};
 ghost use Rattle.indexmap.specs.IndexMap.{insert_entry};
 ghost use Rattle.at_cache.specs.Kept.{AreKept, HasPut, KeepsAll};
-ghost use Rattle.at_cache.specs.Traced.{PutsTrace, is_settled};
+ghost use Rattle.at_cache.specs.Traced.{PutsTrace};
 ghost use Rattle.at_cache.specs.declared.keeper.Order.TheVariants as order_code;
 ghost use Rattle.at_demand.specs.Known.{kept_values, meaning};
 ghost use Rattle.at_demand.specs.Inner.{AreKnown, AreLazy, HasRecalled, IsOneOf, known_by, remembered};
@@ -152,6 +152,10 @@ impl Direct {
         ensures { EndsTaken basis.now.rules.now basis.now.store.now K.exact needed (value_view value.now)
             (held_by K.contents K.memories keeper.old self.old) (held_by K.contents K.memories keeper.new self.new) level.old level.new result }
     {
+        // Never so: what was used for it is kept where its evaluation has ended, and so it was kept again. It is put by turns then.
+        if keeper.has_trace(&needed) {
+            return Err(Stop::GivesUp);
+        }
         let order = order_of(basis.rules, below.uses.as_slice());
         let put = self.put(keeper, &needed, value, below, order)?;
         match put {
@@ -174,7 +178,7 @@ impl Direct {
     ) -> Result<Put, AllocError>
         requires absent { K.contents keeper.old inst.now ≡ None }
         requires present { AreKept (K.contents keeper.old) level.now.uses.items }
-        requires settled { is_settled order ≡ true }
+        requires anew { (K.memories keeper.old).traced inst.now ≡ None }
         ensures puts { IfOk result (HasPut K.exact (K.contents keeper.old) inst.now (Some (value_view value.now)) level.now.reads
             level.now.uses.items (K.contents keeper.new)) }
         ensures err { OnErr result (KeepsAll (K.contents keeper.old) (K.contents keeper.new)) }
@@ -283,8 +287,7 @@ pub(super) fn is_circular(rules: &Rules, attribute: AttrId) -> bool
 
 // How the uses of an evaluation stand: as they were taken, where all are lazy. The value of another one is known for one question alone.
 fn order_of(rules: &Rules, uses: &[Inst]) -> Order
-    ensures lazy { result ≡ order_code.AsTaken → AreLazy rules.now uses.now }
-    ensures settled { is_settled result ≡ true }
+    ensures { result ≡ order_code.AsTaken → AreLazy rules.now uses.now }
 {
     for inst in uses {
         if !rules.is_lazy(inst.attribute()) {

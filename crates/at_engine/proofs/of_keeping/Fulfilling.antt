@@ -15,6 +15,7 @@ use Rattle.at_engine.specs.Telling.{IsToldOf}
 use Rattle.at_engine.specs.declared.engine.Engine.{Engine}
 use Rattle.at_engine.specs.declared.engine.editing.Obstacle.{Obstacle}
 use Rattle.at_engine.proofs.Storing.{on_err}
+use Rattle.at_engine.proofs.of_keeping.GoneOn.{went_same}
 use Rattle.at_engine.proofs.of_keeping.KeepingLemmas.{IsQuiet, any_obstacle_quiet, failed_spares, quiet_spares, refused_quiet, stays_spare}
 
 -- where all is as it was
@@ -26,6 +27,7 @@ module _ {K : Type 0} (exact : Bool) (entries : K → Entries) (memories : K →
     err = on_err result _ refl;
     spares = λ h spare. stays_spare entries e v spare result quiet;
     stays = record { rules = refl; slice = refl; sound = held; known = λ k. k };
+    went = went_same exact memories e e refl;
   }
 
   pub refused_so : {E : Type 0} (r : Refusal) → Follows (rules_of e) (state_of e) v (form.Refused r) (state_of e) → Fulfils {E = E} exact entries memories e v (Ok (form.Refused r)) e
@@ -41,6 +43,7 @@ module _ {K : Type 0} (exact : Bool) (entries : K → Entries) (memories : K →
         err = refl;
         spares = λ h spare. failed_spares entries e v spare;
         stays = record { rules = refl; slice = refl; sound = held; known = λ k. k };
+        went = went_same exact memories e e refl;
       } in
       subst (λ (r : Result Form E). Fulfils exact entries memories e v r e) (sym is) all
 
@@ -52,6 +55,7 @@ quiet_so exact entries memories old new v result same_numbers same_tree same_dem
   err = err;
   spares = λ h was. quiet_spares entries old new same_numbers same_tree stays.rules same_demand result v quiet (spare was);
   stays = stays;
+  went = went_same exact memories old new same_demand;
 }
 
 -- the verdict comes to another one

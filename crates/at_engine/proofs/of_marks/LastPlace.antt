@@ -56,4 +56,5 @@ module _ {K : Type 0} (entries : K → Entries) (memories : K → Memories)
         err = same.err;
         spares = λ h spare. spared v result new (same.spares h spare);
         stays = record { rules = same.stays.rules; slice = same.stays.slice; sound = same.stays.sound; known = λ k. same.stays.known known };
+        went = same.went;
       }

@@ -24,6 +24,7 @@ use Rattle.at_engine.specs.Engines.{marks_of, rules_of, state_of, IsHeld, IsSoun
 use Rattle.at_engine.specs.Holding.{state_in, IsSoundWith}
 use Rattle.at_engine.specs.Posted.{posted_view, turns_given}
 use Rattle.at_engine.specs.Keeping.{IsSpare, KeepsWhole}
+use Rattle.at_engine.specs.Making.{WentOn}
 use Rattle.at_engine.specs.Serving.{Calls}
 use Rattle.at_engine.specs.Hearing.{IsClosed}
 use Rattle.at_engine.specs.Telling.{IsAnswerTo, IsSaid}
@@ -33,6 +34,7 @@ use Rattle.at_engine.specs.declared.engine.Engine.{Engine}
 use Rattle.at_engine.specs.declared.engine.saying.Told.{Told}
 use Rattle.at_engine.specs.declared.posts.Posted.{Posted}
 use Rattle.at_engine.specs.declared.engine.turning.Spent.{Spent}
+use Rattle.at_engine.proofs.of_keeping.GoneOn.{went_along}
 use Rattle.at_engine.proofs.of_turns.Counted.{counts_refused, counts_same, out_behind, silent_same, some_given, some_silent}
 use Rattle.at_engine.proofs.of_turns.Openings.{TurnTold, gone, is_numbered, told_err, told_ok}
 use Rattle.at_engine.proofs.Positions.{get_set, there_at}
@@ -407,14 +409,14 @@ first_gone exact kept memories limit e m r some a =
     }
 
 -- what a call promises that gives turns
-pub called : {K T E : Type 0} (kept : K → Entries) (memories : K
+pub called : {K T E : Type 0} (exact : Bool) (kept : K → Entries) (memories : K
     → Memories) (e m n : Engine K) (out next : Vec ℕ Global) (Done : T → Type 0) (t : T)
-    → IsSound kept memories e → m ≡ record e { demand = m.demand; posts = m.posts }
+    → WentOn exact memories e m → IsSound kept memories e → m ≡ record e { demand = m.demand; posts = m.posts }
     → n ≡ record m { posts = record n.posts { count = m.posts.count } }
     → IsHeld kept memories n → vec_capacity out ≤ vec_capacity next
     → Done t
-    → Calls {E = E} kept memories e n out next Done (Ok t)
-called {K} kept memories e m n out next Done t sound rest tells held room done = record {
+    → Calls {E = E} exact kept memories e n out next Done (Ok t)
+called {K} exact kept memories e m n out next Done t went sound rest tells held room done = record {
   done = done;
   same = tt;
   full = tt;
@@ -427,4 +429,5 @@ called {K} kept memories e m n out next Done t sound rest tells held room done =
     typed = typed_end m n tells (typed_rest e m rest sound.typed);
     known = subst (Knows {K = K}) (sym tells) (subst (Knows {K = K}) (sym rest) sound.known);
   };
+  went = went_along exact memories e m n (ap (λ (x : Engine K). x.demand) tells) went;
 }

@@ -1,8 +1,9 @@
 //! Turns of open questions.
 
-ghost use Rattle.std.specs.Prelude.{None};
+ghost use Rattle.std.specs.Prelude.{None, IsTrue};
 ghost use Rattle.at_store.specs.Shown.{contents};
 ghost use Rattle.at_demand.specs.Traces.{AreJustified};
+ghost use Rattle.at_demand.specs.Went.{Went};
 ghost use Rattle.at_engine.specs.Turning.{CanAnswer, HasTurnedUpTo};
 
 use super::asking::Asked;
@@ -42,8 +43,9 @@ fn turns_up_to<K: Keeper>(
 ) -> Result<(u64, Option<Answer>), AllocError>
     requires can { CanAnswer rules.now store.now (K.contents demand.old.keeper) question.old }
     requires justified { AreJustified rules.now (contents store.now) (K.memories demand.old.keeper) }
-    ensures { HasTurnedUpTo K.exact rules.now store.now limit (K.contents demand.old.keeper) (K.contents demand.new.keeper)
+    ensures turned { HasTurnedUpTo K.exact rules.now store.now limit (K.contents demand.old.keeper) (K.contents demand.new.keeper)
         (K.memories demand.old.keeper) (K.memories demand.new.keeper) question.old question.new result }
+    ensures went { IsTrue K.exact → Went (K.memories demand.old.keeper) demand.old.made (K.memories demand.new.keeper) demand.new.made }
 {
     match limit {
         Some(limit) => demand.turns(rules, store, question, limit),
@@ -60,8 +62,9 @@ fn all_turns<K: Keeper>(
 ) -> Result<(u64, Option<Answer>), AllocError>
     requires can { CanAnswer rules.now store.now (K.contents demand.old.keeper) question.old }
     requires justified { AreJustified rules.now (contents store.now) (K.memories demand.old.keeper) }
-    ensures { HasTurnedUpTo K.exact rules.now store.now None (K.contents demand.old.keeper) (K.contents demand.new.keeper)
+    ensures turned { HasTurnedUpTo K.exact rules.now store.now None (K.contents demand.old.keeper) (K.contents demand.new.keeper)
         (K.memories demand.old.keeper) (K.memories demand.new.keeper) question.old question.new result }
+    ensures went { IsTrue K.exact → Went (K.memories demand.old.keeper) demand.old.made (K.memories demand.new.keeper) demand.new.made }
 {
     loop {
         let (turns, answer) = demand.turns(rules, store, question, u64::MAX)?;
@@ -78,6 +81,7 @@ impl<K: Keeper> Engine<K> {
     ghost use Rattle.at_engine.specs.Engines.{rules_of, IsSound};
     ghost use Rattle.at_engine.specs.Holding.{HasBegun};
     ghost use Rattle.at_engine.specs.Keeping.{IsSparingOn};
+    ghost use Rattle.at_engine.specs.Making.{WentOn};
     ghost use Rattle.at_engine.specs.declared.posts.Posted.{Posted};
     ghost use Rattle.at_engine.specs.Hearing.{IsClosed};
     ghost use Rattle.at_engine.specs.Telling.{IsSaid};
@@ -94,7 +98,7 @@ impl<K: Keeper> Engine<K> {
     /// Where room for 64 bytes is refused, and then nothing has changed. Every other want of memory is an answer.
     pub fn turn(&mut self, out: &mut Vec<u8>) -> Result<bool, AllocError>
         requires sound { IsSound K.contents K.memories self.old }
-        ensures { Calls K.contents K.memories self.old self.new out.old out.new
+        ensures { Calls K.exact K.contents K.memories self.old self.new out.old out.new
             (HasTurned K.exact K.contents K.memories self.old self.new out.old.items out.new.items) result }
     {
         let is_settled = self.posts.is_empty();
@@ -111,13 +115,14 @@ impl<K: Keeper> Engine<K> {
 
     /// Gives up to so many turns to the open question with the least number, or, without a limit, as many as it needs, and
     /// appends the line with its answer, where it has one.
+    #[tactic(auto, using(crate::proofs::of_keeping::GoneOn::went_still))]
     pub(crate) fn give(
         &mut self,
         limit: Option<u64>,
         out: &mut Vec<u8>,
     ) -> Result<Spent, AllocError>
         requires { CanSpend K.contents K.memories self.old limit }
-        ensures { Calls K.contents K.memories self.old self.new out.old out.new
+        ensures { Calls K.exact K.contents K.memories self.old self.new out.old out.new
             (HasGiven K.exact K.contents K.memories limit self.old self.new out.old.items out.new.items) result }
     {
         out.reserve(REPLY_ROOM)?;
@@ -146,8 +151,9 @@ impl<K: Keeper> Engine<K> {
     /// What is told of a line that waits for the question at the position, which is given turns until it is answered.
     pub(super) fn wait(&mut self, position: usize) -> Told
         requires { CanTurn K.contents K.memories self.old position }
-        ensures { Attends K.exact K.contents K.memories self.old self.new position
+        ensures attends { Attends K.exact K.contents K.memories self.old self.new position
             (λ p. IsClosed K.exact K.contents K.memories self.old self.new p result) (KeepsGroups (rules_of self.old) result.form) }
+        ensures went { WentOn K.exact K.memories self.old self.new }
     {
         let (_, form) = match self.go_on(position, None) {
             Ok(gone) => gone,
@@ -196,8 +202,9 @@ impl<K: Keeper> Engine<K> {
         limit: Option<u64>,
     ) -> Result<(u64, Option<Form>), AllocError>
         requires { CanGoOn K.contents K.memories self.old position limit }
-        ensures { Attends K.exact K.contents K.memories self.old self.new position
+        ensures attends { Attends K.exact K.contents K.memories self.old self.new position
             (λ p. HasGone K.exact K.contents K.memories limit self.old self.new position p result) (KeepsGroups (rules_of self.old) result) }
+        ensures went { WentOn K.exact K.memories self.old self.new }
     {
         let begun = self.posts.take(position);
         let mut question = match self.begin(position, begun)? {

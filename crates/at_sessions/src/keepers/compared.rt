@@ -92,6 +92,10 @@ impl Keeper for KeepCompared {
         Ok(put)
     }
 
+    fn has_trace(&self, inst: &Inst) -> bool {
+        self.keeper.has_trace(inst)
+    }
+
     fn settle(&mut self, inst: &Inst, work: u64) -> u64 {
         self.keeper.settle(inst, work)
     }

@@ -1,7 +1,7 @@
 use Rattle.std.proofs.Common.{◌≤◌, ◌^◌, subst, sym}
 use Rattle.std.proofs.lemmas.Result.{on_ok_weaker}
 use Rattle.at_cache.specs.Finding.{edges_to}
-use Rattle.at_cache.specs.Folding.{slots_at}
+use Rattle.at_cache.specs.Folding.{AreTaken, slots_at}
 use Rattle.at_cache.specs.Info.{memory_of}
 use Rattle.at_cache.proofs.Testing.{indexed_by, tested}
 use Rattle.at_cache.proofs.of_folding.Made.{indexed_then, kept_then, leaves_folded}
@@ -10,6 +10,12 @@ use Rattle.at_cache.proofs.of_folding.Reheld.{folds_held}
 use Rattle.at_cache.proofs.of_folding.Rerun.{all_rerun}
 use Rattle.at_cache.proofs.of_folding.Walking.{folds_by}
 use Rattle.at_cache.proofs.folding.fold.Goals as goal
+
+pub is_sound-requires : goal.is_sound-requires
+is_sound-requires c = record { taken = subst (AreTaken (memory_of c.args.entries.now)) (sym c.as_slice-slots.ensures.value) c.in_ok-taken.ensures }
+
+pub links_of-requires : goal.links_of-requires
+links_of-requires c = record { taken = subst (AreTaken (memory_of c.args.entries.now)) (sym c.as_slice-slots.ensures.value) c.in_ok-taken.ensures }
 
 pub invariant_of-readers-2 : goal.invariant_of-readers-2
 invariant_of-readers-2 c = record {

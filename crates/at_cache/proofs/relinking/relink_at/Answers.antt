@@ -1,30 +1,19 @@
-use Rattle.std.proofs.Common.{◌∙◌, subst, sym}
-use Rattle.at_cache.specs.Edges.{edges_in}
-use Rattle.at_cache.specs.Folding.{AreLone, RelinksAt, slots_at}
+use Rattle.std.proofs.Common.{◌∙◌, OnOk, subst, sym}
+use Rattle.at_cache.specs.Folding.{RelinksAt, slots_at}
 use Rattle.at_cache.specs.Info.{memory_of}
 use Rattle.at_cache.proofs.of_folding.Gathering.{is_none}
-use Rattle.at_cache.proofs.of_folding.Relinking.{current_taken, relinks_none, relinks_nothing, relinks_one}
+use Rattle.at_cache.proofs.of_folding.Relinking.{relinks_nothing, relinks_same}
 use Rattle.at_cache.proofs.relinking.relink_at.Goals as goal
 
 pub returns-then-not-does_stay : goal.returns-then-not-does_stay
 returns-then-not-does_stay c = relinks_nothing _ c.args.slot _ (is_none _ c.args.slot (sym c.does_stay.ensures ∙ c.if-not-does_stay.true))
 
-pub returns-then-not-is_taken : goal.returns-then-not-is_taken
-returns-then-not-is_taken c = relinks_none _ c.args.slot _ (sym c.is_taken.ensures ∙ c.if-not-is_taken.true)
-
-pub exchange_users-users-requires : goal.exchange_users-users-requires
-exchange_users-users-requires c = record { there = sym c.is_taken.ensures ∙ c.if-not-is_taken.false }
-
-pub rewrite_list-requires : goal.rewrite_list-requires
-rewrite_list-requires c = record {
-  lone = subst (λ t. AreLone t (slots_at c.args.plan.now) c.args.lone.now.none c.args.lone.now.stamps.items)
-      (sym (current_taken c.args.slot _ _ c.exchange_users-users.ensures.written)) c.requires.lone;
-}
+pub returns-then-is_settled : goal.returns-then-is_settled
+returns-then-is_settled c =
+    subst (λ ls. RelinksAt (slots_at c.args.plan.now) ls c.args.slot (memory_of c.args.entries.now) (memory_of c.args.entries.now)) c.slots_at-gained.ensures
+    (relinks_same _ c.args.slot (memory_of c.args.entries.now) (c.is_settled.ensures c.if-is_settled.true))
 
 pub returns : goal.returns
 returns c =
-    subst (λ ls. RelinksAt (slots_at c.args.plan.now) ls c.args.slot (memory_of c.args.entries.now) (memory_of c.relink.new.self))
-    (c.in_ok-list.ensures.ok ∙ c.slots_at.ensures)
-    (relinks_one c.in_ok-list.list.items c.args.slot (memory_of c.args.entries.now) (memory_of c.exchange_users-users.new.self) (memory_of c.relink.new.self)
-    (edges_in c.exchange_users-users.result) (edges_in c.rewrite_list.new.edges) c.exchange_users-users.ensures.written c.exchange_users-users.ensures.was
-    c.in_ok-rewrite_list.ensures c.relink.ensures)
+    subst (λ ls. OnOk c.relink_one.result (RelinksAt (slots_at c.args.plan.now) ls c.args.slot (memory_of c.args.entries.now) (memory_of c.relink_one.new.entries)))
+    c.slots_at-gained.ensures c.relink_one.ensures

@@ -9,161 +9,46 @@ use Rattle.at_cache.specs.Renewing.{IsSlotFor}
 use Rattle.at_cache.specs.Standings.{standing_of}
 use Rattle.at_cache.proofs.of_cut.EnteredHeld.{has_entered, made_so, puts_so, slot_still}
 use Rattle.at_cache.proofs.of_cut.Goes.{has_shown}
-use Rattle.at_cache.proofs.of_cut.LeftHeld.{left, left_alone, uses_alike}
+use Rattle.at_cache.proofs.of_cut.LeftHeld.{enters_none, left, left_alone, uses_alike}
 use Rattle.at_cache.proofs.Listing.{uses_none}
 use Rattle.at_cache.proofs.renewing.enter_held.Goals as goal
 
-pub returns-in_err-links-clause-err : goal.returns-in_err-links-clause-err
-returns-in_err-links-clause-err c = let k = (left_alone (edges_to c.args.readers.now) c.args.cut.now.entries
-    c.args.cut.now.standings.items c.requires.awaited.indexed c.requires.awaited.tied c.requires.awaited.valued c.args.cut.now.standings.items
-    (λ k. refl)).err in search rules
-
-pub returns-in_err-make_standing-clause-indexed : goal.returns-in_err-make_standing-clause-indexed
-returns-in_err-make_standing-clause-indexed c = (left_alone (edges_to c.args.readers.now) c.args.cut.now.entries
-    c.args.cut.now.standings.items c.requires.awaited.indexed c.requires.awaited.tied c.requires.awaited.valued
-    c.make_standing.new.standings.items c.make_standing.ensures.same).indexed
-
-pub returns-in_err-make_standing-clause-err : goal.returns-in_err-make_standing-clause-err
-returns-in_err-make_standing-clause-err c = let k = (left_alone
+-- where the entry doesn't come
+pub returns-in_err-links-clause-enters : goal.returns-in_err-links-clause-enters
+returns-in_err-links-clause-enters c = enters_none c.args.inst _ _ _ c.args.order _ _ _ _ _ (left_alone
     (edges_to c.args.readers.now) c.args.cut.now.entries c.args.cut.now.standings.items c.requires.awaited.indexed
-    c.requires.awaited.tied c.requires.awaited.valued c.make_standing.new.standings.items c.make_standing.ensures.same).err in
-    search rules
+    c.requires.awaited.tied c.requires.awaited.valued c.args.cut.now.standings.items (λ k. refl)) _ (search rules)
 
-pub returns-in_err-make_standing-clause-traces : goal.returns-in_err-make_standing-clause-traces
-returns-in_err-make_standing-clause-traces c = (left_alone (edges_to c.args.readers.now) c.args.cut.now.entries
-    c.args.cut.now.standings.items c.requires.awaited.indexed c.requires.awaited.tied c.requires.awaited.valued
-    c.make_standing.new.standings.items c.make_standing.ensures.same).traces c.args.inst
-    (option_map value_view c.args.value) (map loc_view c.args.reads.now) c.args.uses.now c.args.order
+pub returns-in_err-make_standing-clause-enters : goal.returns-in_err-make_standing-clause-enters
+returns-in_err-make_standing-clause-enters c = enters_none c.args.inst _ _ _ c.args.order _ _ _ _ _ (left_alone
+    (edges_to c.args.readers.now) c.args.cut.now.entries c.args.cut.now.standings.items c.requires.awaited.indexed
+    c.requires.awaited.tied c.requires.awaited.valued c.make_standing.new.standings.items
+    c.make_standing.ensures.same) _ (search rules)
 
-pub returns-in_err-add_readers-clause-indexed : goal.returns-in_err-add_readers-clause-indexed
-returns-in_err-add_readers-clause-indexed c = (left (edges_to c.args.readers.now)
-    (edges_to c.add_readers.new.readers) c.args.cut.now.entries c.args.cut.now.entries
-    c.args.cut.now.standings.items c.make_standing.new.standings.items c.requires.awaited.indexed c.requires.awaited.tied
-    c.requires.awaited.valued refl c.make_standing.ensures.same c.add_readers.ensures.reads (uses_none _ _)).indexed
+pub returns-in_err-add_readers-clause-enters : goal.returns-in_err-add_readers-clause-enters
+returns-in_err-add_readers-clause-enters c = enters_none c.args.inst _ _ _ c.args.order _ _ _ _ _ (left
+    (edges_to c.args.readers.now) (edges_to c.add_readers.new.readers) c.args.cut.now.entries c.args.cut.now.entries
+    c.args.cut.now.standings.items c.make_standing.new.standings.items c.requires.awaited.indexed
+    c.requires.awaited.tied c.requires.awaited.valued refl c.make_standing.ensures.same c.add_readers.ensures.reads
+    (uses_none _ _)) _ (search rules)
 
-pub returns-in_err-add_readers-clause-tied : goal.returns-in_err-add_readers-clause-tied
-returns-in_err-add_readers-clause-tied c = (left (edges_to c.args.readers.now)
-    (edges_to c.add_readers.new.readers) c.args.cut.now.entries c.args.cut.now.entries
-    c.args.cut.now.standings.items c.make_standing.new.standings.items c.requires.awaited.indexed c.requires.awaited.tied
-    c.requires.awaited.valued refl c.make_standing.ensures.same c.add_readers.ensures.reads (uses_none _ _)).tied
+pub returns-in_err-add_users-clause-enters : goal.returns-in_err-add_users-clause-enters
+returns-in_err-add_users-clause-enters c = enters_none c.args.inst _ _ _ c.args.order _ _ _ _ _ (left
+    (edges_to c.args.readers.now) (edges_to c.add_readers.new.readers) c.args.cut.now.entries c.add_users.new.entries
+    c.args.cut.now.standings.items c.make_standing.new.standings.items c.requires.awaited.indexed
+    c.requires.awaited.tied c.requires.awaited.valued refl c.make_standing.ensures.same c.add_readers.ensures.reads
+    c.add_users.ensures.uses) _ (search rules)
 
-pub returns-in_err-add_readers-clause-err : goal.returns-in_err-add_readers-clause-err
-returns-in_err-add_readers-clause-err c = let k = (left (edges_to c.args.readers.now)
-    (edges_to c.add_readers.new.readers) c.args.cut.now.entries c.args.cut.now.entries
-    c.args.cut.now.standings.items c.make_standing.new.standings.items c.requires.awaited.indexed c.requires.awaited.tied
-    c.requires.awaited.valued refl c.make_standing.ensures.same c.add_readers.ensures.reads (uses_none _ _)).err in search rules
-
-pub returns-in_err-add_readers-clause-traces : goal.returns-in_err-add_readers-clause-traces
-returns-in_err-add_readers-clause-traces c = (left (edges_to c.args.readers.now)
-    (edges_to c.add_readers.new.readers) c.args.cut.now.entries c.args.cut.now.entries
-    c.args.cut.now.standings.items c.make_standing.new.standings.items c.requires.awaited.indexed c.requires.awaited.tied
-    c.requires.awaited.valued refl c.make_standing.ensures.same c.add_readers.ensures.reads
-    (uses_none _ _)).traces c.args.inst (option_map value_view c.args.value)
-    (map loc_view c.args.reads.now) c.args.uses.now c.args.order
-
-pub returns-in_err-add_users-clause-indexed : goal.returns-in_err-add_users-clause-indexed
-returns-in_err-add_users-clause-indexed c = (left (edges_to c.args.readers.now)
-    (edges_to c.add_readers.new.readers) c.args.cut.now.entries c.add_users.new.entries
-    c.args.cut.now.standings.items c.make_standing.new.standings.items c.requires.awaited.indexed c.requires.awaited.tied
-    c.requires.awaited.valued refl c.make_standing.ensures.same c.add_readers.ensures.reads c.add_users.ensures.uses).indexed
-
-pub returns-in_err-add_users-clause-tied : goal.returns-in_err-add_users-clause-tied
-returns-in_err-add_users-clause-tied c = (left (edges_to c.args.readers.now)
-    (edges_to c.add_readers.new.readers) c.args.cut.now.entries c.add_users.new.entries
-    c.args.cut.now.standings.items c.make_standing.new.standings.items c.requires.awaited.indexed c.requires.awaited.tied
-    c.requires.awaited.valued refl c.make_standing.ensures.same c.add_readers.ensures.reads c.add_users.ensures.uses).tied
-
-pub returns-in_err-add_users-clause-valued : goal.returns-in_err-add_users-clause-valued
-returns-in_err-add_users-clause-valued c = (left (edges_to c.args.readers.now)
-    (edges_to c.add_readers.new.readers) c.args.cut.now.entries c.add_users.new.entries
-    c.args.cut.now.standings.items c.make_standing.new.standings.items c.requires.awaited.indexed c.requires.awaited.tied
-    c.requires.awaited.valued refl c.make_standing.ensures.same c.add_readers.ensures.reads c.add_users.ensures.uses).valued
-
-pub returns-in_err-add_users-clause-err : goal.returns-in_err-add_users-clause-err
-returns-in_err-add_users-clause-err c = let k = (left (edges_to c.args.readers.now)
-    (edges_to c.add_readers.new.readers) c.args.cut.now.entries c.add_users.new.entries
-    c.args.cut.now.standings.items c.make_standing.new.standings.items c.requires.awaited.indexed c.requires.awaited.tied
-    c.requires.awaited.valued refl c.make_standing.ensures.same c.add_readers.ensures.reads c.add_users.ensures.uses).err in
-    search rules
-
-pub returns-in_err-add_users-clause-traces : goal.returns-in_err-add_users-clause-traces
-returns-in_err-add_users-clause-traces c = (left (edges_to c.args.readers.now)
-    (edges_to c.add_readers.new.readers) c.args.cut.now.entries c.add_users.new.entries
-    c.args.cut.now.standings.items c.make_standing.new.standings.items c.requires.awaited.indexed c.requires.awaited.tied
-    c.requires.awaited.valued refl c.make_standing.ensures.same c.add_readers.ensures.reads c.add_users.ensures.uses).traces
-    c.args.inst (option_map value_view c.args.value) (map loc_view c.args.reads.now) c.args.uses.now c.args.order
-
-pub returns-in_err-put_in-clause-indexed : goal.returns-in_err-put_in-clause-indexed
-returns-in_err-put_in-clause-indexed c = let kept = rw c.in_err-put_in.was at c.put_in.ensures.err in (left
+pub returns-in_err-put_in-clause-enters : goal.returns-in_err-put_in-clause-enters
+returns-in_err-put_in-clause-enters c = let kept = rw c.in_err-put_in.was at c.put_in.ensures.err in enters_none
+    c.args.inst _ _ _ c.args.order _ _ _ _ _ (left
     (edges_to c.args.readers.now) (edges_to c.add_readers.new.readers) c.args.cut.now.entries
-    c.put_in.new.cut.entries c.args.cut.now.standings.items c.put_in.new.cut.standings.items c.requires.awaited.indexed
-    c.requires.awaited.tied c.requires.awaited.valued refl (λ k. ap (λ (ss : List Standing). standing_of ss k) kept.1
-    ∙ c.make_standing.ensures.same k) c.add_readers.ensures.reads (uses_alike (memory_of c.args.cut.now.entries)
-    (memory_of c.add_users.new.entries) (memory_of c.put_in.new.cut.entries) kept.0 c.add_users.ensures.uses)).indexed
-
-pub returns-in_err-put_in-clause-tied : goal.returns-in_err-put_in-clause-tied
-returns-in_err-put_in-clause-tied c = let kept = rw c.in_err-put_in.was at c.put_in.ensures.err in (left
-    (edges_to c.args.readers.now) (edges_to c.add_readers.new.readers) c.args.cut.now.entries
-    c.put_in.new.cut.entries c.args.cut.now.standings.items c.put_in.new.cut.standings.items c.requires.awaited.indexed
-    c.requires.awaited.tied c.requires.awaited.valued refl (λ k. ap (λ (ss : List Standing). standing_of ss k) kept.1
-    ∙ c.make_standing.ensures.same k) c.add_readers.ensures.reads (uses_alike (memory_of c.args.cut.now.entries)
-    (memory_of c.add_users.new.entries) (memory_of c.put_in.new.cut.entries) kept.0 c.add_users.ensures.uses)).tied
-
-pub returns-in_err-put_in-clause-valued : goal.returns-in_err-put_in-clause-valued
-returns-in_err-put_in-clause-valued c = let kept = rw c.in_err-put_in.was at c.put_in.ensures.err in (left
-    (edges_to c.args.readers.now) (edges_to c.add_readers.new.readers) c.args.cut.now.entries
-    c.put_in.new.cut.entries c.args.cut.now.standings.items c.put_in.new.cut.standings.items c.requires.awaited.indexed
-    c.requires.awaited.tied c.requires.awaited.valued refl (λ k. ap (λ (ss : List Standing). standing_of ss k) kept.1
-    ∙ c.make_standing.ensures.same k) c.add_readers.ensures.reads (uses_alike (memory_of c.args.cut.now.entries)
-    (memory_of c.add_users.new.entries) (memory_of c.put_in.new.cut.entries) kept.0 c.add_users.ensures.uses)).valued
-
-pub returns-in_err-put_in-clause-err : goal.returns-in_err-put_in-clause-err
-returns-in_err-put_in-clause-err c = let kept = rw c.in_err-put_in.was at c.put_in.ensures.err in let k = (left
-    (edges_to c.args.readers.now) (edges_to c.add_readers.new.readers) c.args.cut.now.entries
-    c.put_in.new.cut.entries c.args.cut.now.standings.items c.put_in.new.cut.standings.items c.requires.awaited.indexed
-    c.requires.awaited.tied c.requires.awaited.valued refl (λ k. ap (λ (ss : List Standing). standing_of ss k) kept.1
-    ∙ c.make_standing.ensures.same k) c.add_readers.ensures.reads (uses_alike (memory_of c.args.cut.now.entries)
-    (memory_of c.add_users.new.entries) (memory_of c.put_in.new.cut.entries) kept.0 c.add_users.ensures.uses)).err in
-    search rules
-
-pub returns-in_err-put_in-clause-traces : goal.returns-in_err-put_in-clause-traces
-returns-in_err-put_in-clause-traces c = let kept = rw c.in_err-put_in.was at c.put_in.ensures.err in (left
-    (edges_to c.args.readers.now) (edges_to c.add_readers.new.readers) c.args.cut.now.entries
-    c.put_in.new.cut.entries c.args.cut.now.standings.items c.put_in.new.cut.standings.items c.requires.awaited.indexed
-    c.requires.awaited.tied c.requires.awaited.valued refl (λ k. ap (λ (ss : List Standing). standing_of ss k) kept.1
-    ∙ c.make_standing.ensures.same k) c.add_readers.ensures.reads (uses_alike (memory_of c.args.cut.now.entries)
-    (memory_of c.add_users.new.entries) (memory_of c.put_in.new.cut.entries) kept.0 c.add_users.ensures.uses)).traces
-    c.args.inst (option_map value_view c.args.value) (map loc_view c.args.reads.now) c.args.uses.now c.args.order
-
-pub returns-in_err-links-clause-spares : goal.returns-in_err-links-clause-spares
-returns-in_err-links-clause-spares c = (left_alone (edges_to c.args.readers.now) c.args.cut.now.entries
-    c.args.cut.now.standings.items c.requires.awaited.indexed c.requires.awaited.tied c.requires.awaited.valued c.args.cut.now.standings.items
-    (λ k. refl)).spares c.args.inst _
-
-pub returns-in_err-make_standing-clause-spares : goal.returns-in_err-make_standing-clause-spares
-returns-in_err-make_standing-clause-spares c = (left_alone (edges_to c.args.readers.now) c.args.cut.now.entries
-    c.args.cut.now.standings.items c.requires.awaited.indexed c.requires.awaited.tied c.requires.awaited.valued
-    c.make_standing.new.standings.items c.make_standing.ensures.same).spares c.args.inst _
-
-pub returns-in_err-add_readers-clause-spares : goal.returns-in_err-add_readers-clause-spares
-returns-in_err-add_readers-clause-spares c = (left (edges_to c.args.readers.now)
-    (edges_to c.add_readers.new.readers) c.args.cut.now.entries c.args.cut.now.entries
-    c.args.cut.now.standings.items c.make_standing.new.standings.items c.requires.awaited.indexed c.requires.awaited.tied
-    c.requires.awaited.valued refl c.make_standing.ensures.same c.add_readers.ensures.reads (uses_none _ _)).spares c.args.inst _
-
-pub returns-in_err-add_users-clause-spares : goal.returns-in_err-add_users-clause-spares
-returns-in_err-add_users-clause-spares c = (left (edges_to c.args.readers.now)
-    (edges_to c.add_readers.new.readers) c.args.cut.now.entries c.add_users.new.entries
-    c.args.cut.now.standings.items c.make_standing.new.standings.items c.requires.awaited.indexed c.requires.awaited.tied
-    c.requires.awaited.valued refl c.make_standing.ensures.same c.add_readers.ensures.reads c.add_users.ensures.uses).spares c.args.inst _
-
-pub returns-in_err-put_in-clause-spares : goal.returns-in_err-put_in-clause-spares
-returns-in_err-put_in-clause-spares c = let kept = rw c.in_err-put_in.was at c.put_in.ensures.err in (left (edges_to c.args.readers.now)
-    (edges_to c.add_readers.new.readers) c.args.cut.now.entries c.put_in.new.cut.entries
-    c.args.cut.now.standings.items c.put_in.new.cut.standings.items c.requires.awaited.indexed c.requires.awaited.tied
-    c.requires.awaited.valued refl (λ k. ap (λ (ss : List Standing). standing_of ss k) kept.1
-    ∙ c.make_standing.ensures.same k) c.add_readers.ensures.reads (uses_alike (memory_of c.args.cut.now.entries)
-    (memory_of c.add_users.new.entries) (memory_of c.put_in.new.cut.entries) kept.0 c.add_users.ensures.uses)).spares c.args.inst _
+    c.put_in.new.cut.entries c.args.cut.now.standings.items c.put_in.new.cut.standings.items
+    c.requires.awaited.indexed c.requires.awaited.tied c.requires.awaited.valued refl
+    (λ k. ap (λ (ss : List Standing). standing_of ss k) kept.1 ∙ c.make_standing.ensures.same k)
+    c.add_readers.ensures.reads (uses_alike (memory_of c.args.cut.now.entries)
+    (memory_of c.add_users.new.entries) (memory_of c.put_in.new.cut.entries) kept.0 c.add_users.ensures.uses)) _
+    (search rules)
 
 pub add_users-requires : goal.add_users-requires
 add_users-requires c = record {
@@ -209,12 +94,14 @@ returns c =
     put c.set_standing.ensures within refl refl (λ on. (c.is_traced.ensures on).0)
     (λ on. has_shown value_view c.args.value ∙ (c.is_traced.ensures on).1) in
     record {
-      indexed = done.indexed;
-      tied = done.tied;
-      valued = done.valued;
+      enters = record {
+        indexed = done.indexed;
+        tied = done.tied;
+        valued = done.valued;
+        puts = done.puts;
+        err = tt;
+        traces = done.traces;
+        spares = done.spares;
+      };
       noted = c.add_readers.ensures.noted;
-      puts = done.puts;
-      err = tt;
-      traces = done.traces;
-      spares = done.spares;
     }

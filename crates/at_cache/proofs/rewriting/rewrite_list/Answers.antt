@@ -1,16 +1,8 @@
-use Rattle.std.proofs.Common.{[], ap}
 use Rattle.at_cache.specs.Folding.{slots_at}
 use Rattle.at_cache.specs.Info.{memory_of}
 use Rattle.at_cache.specs.Putting.{is_current}
-use Rattle.at_cache.specs.Rows.{edges_along}
 use Rattle.at_cache.proofs.of_folding.Gathering.{refolded_alone}
-use Rattle.at_cache.proofs.of_folding.Parting.{parted_none, refolded_parted}
 use Rattle.at_cache.proofs.rewriting.rewrite_list.Goals as goal
 
 pub returns-then-has_all : goal.returns-then-has_all
 returns-then-has_all c = refolded_alone _ _ _ (c.has_all.ensures (is_current (memory_of c.args.entries.now)) (slots_at c.args.plan.now) c.requires.lone c.if-has_all.true)
-
-pub returns : goal.returns
-returns c =
-    rw c.in_ok-edges.ensures (refolded_parted _ _ _ _ _ _ _ c.sort_unstable.ensures.permutation
-    (c.in_ok-part.ensures [] (parted_none _ _ _ _ c.clear.ensures.items (ap edges_along c.in_ok-rows.ensures.items))) c.in_ok-add_edges_to.ensures)

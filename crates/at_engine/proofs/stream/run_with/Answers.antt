@@ -17,6 +17,7 @@ use Rattle.at_engine.proofs.of_turns.Giving.{few_open}
 use Rattle.at_engine.proofs.of_keeping.KeepingBytes.{keeps_more, keeps_none, keeps_run}
 use Rattle.at_engine.proofs.Remembering.{counted_on, no_call, none_counted, not_zero, then_calls}
 use Rattle.at_engine.proofs.Takings.{took_nothing, took_more, takes_under, stopped_later, stops_under}
+use Rattle.at_engine.proofs.of_keeping.GoneOn.{went_over}
 use Rattle.at_engine.proofs.Runnings.{ended, broke_off, cut_off, cut_off_at_end, at_end, finished_under, finish_stops_under}
 use Rattle.at_engine.proofs.stream.run_with.Goals as goal
 
@@ -76,6 +77,9 @@ returns-in_err-finish g c = record {
   work = let p = err_from_is_err_and c.from_residual.result c.from_residual.ensures.1 in rw p.1 tt;
   by = by_both g.K.Keeper.exact g.K.Keeper.contents g.K.Keeper.memories c.args.engine.now c.loop-turn.engine c.finish.new.engine c.loop-turn.invariant.by
       c.in_err-finish.ensures.goes.by;
+  went = went_over g.K.Keeper.exact g.K.Keeper.contents g.K.Keeper.memories c.args.engine.now c.finish.new.engine
+      (by_both g.K.Keeper.exact g.K.Keeper.contents g.K.Keeper.memories c.args.engine.now c.loop-turn.engine c.finish.new.engine c.loop-turn.invariant.by
+      c.in_err-finish.ensures.goes.by);
   spare = λ whole exact spare.
       let p = err_from_is_err_and c.from_residual.result c.from_residual.ensures.1 in
       let none = subst (λ (r : Result Report RunFault). KeepsWhole (rules_of c.args.engine.now) r) p.1 whole in
@@ -116,6 +120,9 @@ returns-then-count-eq0 g c = record {
   work = c.report.ensures.work ∙ c.work.ensures;
   by = by_both g.K.Keeper.exact g.K.Keeper.contents g.K.Keeper.memories c.args.engine.now c.loop-turn.engine c.finish.new.engine c.loop-turn.invariant.by
       c.in_ok-finish.ensures.goes.by;
+  went = went_over g.K.Keeper.exact g.K.Keeper.contents g.K.Keeper.memories c.args.engine.now c.finish.new.engine
+      (by_both g.K.Keeper.exact g.K.Keeper.contents g.K.Keeper.memories c.args.engine.now c.loop-turn.engine c.finish.new.engine c.loop-turn.invariant.by
+      c.in_ok-finish.ensures.goes.by);
   spare = λ whole exact spare.
       let f = c.in_ok-finish.ensures.goes in
       let i = c.loop-turn.invariant in
@@ -165,6 +172,9 @@ returns-in_err-take_piece g c = record {
   work = let p = err_from_is_err_and c.from_residual-in_err-take_piece.result c.from_residual-in_err-take_piece.ensures.1 in rw p.1 tt;
   by = by_both g.K.Keeper.exact g.K.Keeper.contents g.K.Keeper.memories c.args.engine.now c.loop-turn.engine c.take_piece.new.engine c.loop-turn.invariant.by
       c.in_err-take_piece.ensures.takes.goes.by;
+  went = went_over g.K.Keeper.exact g.K.Keeper.contents g.K.Keeper.memories c.args.engine.now c.take_piece.new.engine
+      (by_both g.K.Keeper.exact g.K.Keeper.contents g.K.Keeper.memories c.args.engine.now c.loop-turn.engine c.take_piece.new.engine c.loop-turn.invariant.by
+      c.in_err-take_piece.ensures.takes.goes.by);
   spare = λ whole exact spare.
       let p = err_from_is_err_and c.from_residual-in_err-take_piece.result c.from_residual-in_err-take_piece.ensures.1 in
       let none = subst (λ (r : Result Report RunFault). KeepsWhole (rules_of c.args.engine.now) r) p.1 whole in
@@ -187,6 +197,8 @@ returns-in-Err g c = record {
   keeps = λ exact spare. tt;
   work = tt;
   by = c.loop-turn.invariant.by;
+  went = went_over g.K.Keeper.exact g.K.Keeper.contents g.K.Keeper.memories c.args.engine.now c.loop-turn.engine
+      c.loop-turn.invariant.by;
   spare = λ none. c.loop-turn.invariant.spare (inl none);
   rules = c.loop-turn.invariant.rules;
   slice = c.loop-turn.invariant.slice;
@@ -250,6 +262,8 @@ returns g c = record {
   keeps = λ exact spare. tt;
   work = tt;
   by = c.loop-turn.invariant.by;
+  went = went_over g.K.Keeper.exact g.K.Keeper.contents g.K.Keeper.memories c.args.engine.now c.loop-turn.engine
+      c.loop-turn.invariant.by;
   spare = λ none. c.loop-turn.invariant.spare (inl none);
   rules = c.loop-turn.invariant.rules;
   slice = c.loop-turn.invariant.slice;
@@ -264,6 +278,8 @@ returns-in_default g c = record {
   ended = no_call _;
   sent = λ well none. none;
   by = nowhere;
+  went = went_over g.K.Keeper.exact g.K.Keeper.contents g.K.Keeper.memories c.args.engine.now c.args.engine.now
+      nowhere;
   keeps = λ exact spare. tt;
   work = tt;
   spare = λ none exact spare. spare;

@@ -1,4 +1,4 @@
-use Rattle.std.proofs.Common.{sym, ◌∙◌}
+use Rattle.std.proofs.Common.{sym, true≢false, ◌∙◌}
 use Rattle.at_cache.specs.Finding.{edges_to}
 use Rattle.at_cache.specs.Info.{memory_of}
 use Rattle.at_cache.proofs.of_cut.Shed.{indexed_untraced, keeps_untraced, stay_untraced, there_untraced, tied_held, valued_untraced}
@@ -19,6 +19,7 @@ invariant_of-result c =
       tied = tied_held lists ts (memory_of left) k.puts (there_untraced lists left ss ts k.puts lost folds.there) indexed;
       valued = valued_untraced lists left ss ts k.puts lost;
       noted = c.in_ok-fold.ensures.noted k.index_read.items k.noted;
+      sure = λ off. absurd (true≢false off);
     }
 
 pub returns : goal.returns

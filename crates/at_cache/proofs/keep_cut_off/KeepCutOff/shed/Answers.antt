@@ -1,4 +1,4 @@
-use Rattle.std.proofs.Common.{sym, ◌∙◌}
+use Rattle.std.proofs.Common.{sym, true≢false, ◌∙◌}
 use Rattle.at_cache.specs.Finding.{edges_to}
 use Rattle.at_cache.proofs.of_cut.Shed.{indexed_shed, keeps_shed, stay_shed, tied_shed, valued_shed}
 use Rattle.at_cache.proofs.keep_cut_off.KeepCutOff.shed.Goals as goal
@@ -12,6 +12,7 @@ invariant_of-result c =
       tied = tied_shed (edges_to k.readers) k.cut.entries c.shed.new.entries k.cut.standings.items k.puts sheds k.indexed;
       valued = valued_shed (edges_to k.readers) k.cut.entries c.shed.new.entries k.cut.standings.items k.puts sheds k.valued;
       noted = k.noted;
+      sure = λ off. absurd (true≢false off);
     }
 
 pub returns-clause-held : goal.returns-clause-held

@@ -1,4 +1,4 @@
-use Rattle.std.proofs.Common.{◌∙◌}
+use Rattle.std.proofs.Common.{true≢false, ◌∙◌}
 use Rattle.at_cache.specs.Kept.{Answers}
 use Rattle.at_cache.specs.Finding.{edges_to}
 use Rattle.at_cache.proofs.of_cut.Flushed.{flushes_traces, held_after, leaves_held, loses_held, spares_edit, tied_after, valued_after}
@@ -15,6 +15,7 @@ invariant_of-self g c =
       tied = tied_after says lists c.args.self.now.puts c.args.self.now.cut c.take_away.new.cut c.take_away-2.new.cut t v c.args.self.now.tied;
       valued = valued_after says lists c.args.self.now.puts c.args.self.now.cut c.take_away.new.cut c.take_away-2.new.cut t v c.args.self.now.valued;
       noted = c.args.self.now.noted;
+      sure = λ off. absurd (true≢false off);
     }
 
 pub returns-clause-leaves : goal.returns-clause-leaves

@@ -1,3 +1,4 @@
+use Rattle.std.proofs.Common.{sym, true≢false, ◌∙◌}
 use Rattle.at_cache.specs.Finding.{edges_to}
 use Rattle.at_cache.specs.Settling.{IsWhole}
 use Rattle.at_cache.proofs.of_cut.Goes.{alike_from, goes_from, settled_from, stay_from}
@@ -23,6 +24,7 @@ invariant_of-self c =
       tied = goes.whole.tied;
       valued = goes.whole.valued;
       noted = k.noted;
+      sure = λ off. absurd (true≢false (sym c.if-not-self.false ∙ off));
     }
 
 pub returns-clause-settled : goal.returns-clause-settled

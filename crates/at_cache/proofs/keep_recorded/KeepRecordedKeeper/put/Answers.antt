@@ -1,11 +1,11 @@
-use Rattle.std.proofs.Common.{◌+◌, map, option_map, refl, true}
+use Rattle.std.proofs.Common.{◌+◌, map, option_map, true}
 use Rattle.at_body.specs.Values.{value_view}
 use Rattle.at_store.specs.Located.{loc_view}
 use Rattle.at_cache.specs.Recorded.{kept_in}
 use Rattle.at_cache.specs.Finding.{edges_to}
 use Rattle.at_cache.proofs.Shown.{absent_entry}
 use Rattle.at_cache.proofs.of_cut.Spared.{alike_itself, spares_alike}
-use Rattle.at_cache.proofs.of_cut.Untraced.{always, others_untraced}
+use Rattle.at_cache.proofs.of_cut.Untraced.{others_untraced}
 use Rattle.at_cache.proofs.keep_recorded.KeepRecordedKeeper.put.Goals as goal
 
 pub enter_with-requires : goal.enter_with-requires
@@ -25,12 +25,6 @@ returns-clause-spares c = others_untraced true (kept_in (edges_to c.args.self.no
     (kept_in (edges_to c.enter_with.new.readers) c.enter_with.new.entries (c.args.self.now.puts + 1)) c.args.inst
     (option_map value_view c.args.value) (map loc_view c.args.reads.now) c.args.uses.now c.enter_with.result
     (c.enter_with.ensures.puts c.args.self.now.indexed) (c.enter_with.ensures.err c.args.self.now.indexed)
-
-pub returns-clause-own : goal.returns-clause-own
-returns-clause-own c = λ settled t h. h
-
-pub returns-clause-anew : goal.returns-clause-anew
-returns-clause-anew c = λ settled. always c.enter_with.result _ refl
 
 pub returns-then-stamp-clause-spares : goal.returns-then-stamp-clause-spares
 returns-then-stamp-clause-spares c = spares_alike c.args.inst _ _ _ (alike_itself _)

@@ -1,5 +1,6 @@
 use Rattle.std.proofs.Common.{ℕ, Some, sym, ap, ◌∙◌, rules}
 use Rattle.at_model.specs.Run.{Value}
+use Rattle.at_demand.specs.Went.{begun}
 use Rattle.at_demand.proofs.of_nesting.InnerAnswered.{answered_kept}
 use Rattle.at_demand.proofs.of_traces.Making.{makes_none}
 use Rattle.at_demand.proofs.demand.Demand.answer.Goals as goal
@@ -15,6 +16,7 @@ returns-in-Some g c = record {
   traces = record { justified = c.requires.justified; there = λ there all. all };
   makes = λ plain. makes_none (g.K.Keeper.contents c.args.self.now.keeper) (g.K.Keeper.memories c.args.self.now.keeper)
       c.args.self.now.made;
+  went = λ exact. begun;
 }
 
 pub returns-in_err-copy : goal.returns-in_err-copy
@@ -23,4 +25,5 @@ returns-in_err-copy g c = record {
   traces = record { justified = c.requires.justified; there = λ there all. all };
   makes = λ plain. makes_none (g.K.Keeper.contents c.args.self.now.keeper) (g.K.Keeper.memories c.args.self.now.keeper)
       c.args.self.now.made;
+  went = λ exact. begun;
 }

@@ -9,6 +9,7 @@ use Rattle.at_demand.specs.Sparing.{HasWorthy}
 use Rattle.at_demand.proofs.Standing.{sound_more}
 use Rattle.at_demand.proofs.of_nesting.InnerAnswered.{answered_after, answered_by}
 use Rattle.at_demand.proofs.of_nesting.InnerGains.{known_none}
+use Rattle.at_demand.proofs.of_traces.TurnsPut.{went_made, went_then}
 use Rattle.at_demand.proofs.of_traces.Putting.{traced_then}
 use Rattle.at_demand.proofs.demand.Demand.answer_anew.Goals as goal
 
@@ -26,6 +27,9 @@ returns-in-Some g c = record {
       c.in-Some.is (c.in_ok-at_once.ensures.all k spare));
   traces = c.answer_at_once.ensures.traces;
   makes = λ plain. c.answer_at_once.ensures.makes;
+  went = λ exact. went_made (g.K.Keeper.contents c.args.self.now.keeper) (g.K.Keeper.contents c.answer_at_once.new.self.keeper)
+      (g.K.Keeper.memories c.args.self.now.keeper) (g.K.Keeper.memories c.answer_at_once.new.self.keeper) c.args.self.now.made
+      c.answer_at_once.new.self.made c.answer_at_once.ensures.makes;
 }
 
 pub returns-in-None : goal.returns-in-None
@@ -39,6 +43,12 @@ returns-in-None g c = record {
   traces = traced_then c.args.rules.now c.args.store.now c.args.inst.now (g.K.Keeper.memories c.args.self.now.keeper) (g.K.Keeper.memories c.answer_at_once.new.self.keeper)
       (g.K.Keeper.memories c.answer_looking_ahead-told.new.self.keeper) c.answer_at_once.ensures.traces c.answer_looking_ahead-told.ensures.traces;
   makes = λ plain. absurd (true≢false plain);
+  went = λ exact. went_then (g.K.Keeper.memories c.args.self.now.keeper) (g.K.Keeper.memories c.answer_at_once.new.self.keeper)
+      (g.K.Keeper.memories c.answer_looking_ahead-told.new.self.keeper) c.args.self.now.made c.answer_at_once.new.self.made
+      c.answer_looking_ahead-told.new.self.made (went_made (g.K.Keeper.contents c.args.self.now.keeper)
+      (g.K.Keeper.contents c.answer_at_once.new.self.keeper) (g.K.Keeper.memories c.args.self.now.keeper)
+      (g.K.Keeper.memories c.answer_at_once.new.self.keeper) c.args.self.now.made c.answer_at_once.new.self.made c.answer_at_once.ensures.makes)
+      (c.answer_looking_ahead-told.ensures.went exact);
 }
 
 pub answer_at_once-requires-clause-idle : goal.answer_at_once-requires-clause-idle
@@ -71,4 +81,7 @@ returns-in_err-at_once g c = record {
   answered = search rules;
   traces = c.answer_at_once.ensures.traces;
   makes = λ plain. c.answer_at_once.ensures.makes;
+  went = λ exact. went_made (g.K.Keeper.contents c.args.self.now.keeper) (g.K.Keeper.contents c.answer_at_once.new.self.keeper)
+      (g.K.Keeper.memories c.args.self.now.keeper) (g.K.Keeper.memories c.answer_at_once.new.self.keeper) c.args.self.now.made
+      c.answer_at_once.new.self.made c.answer_at_once.ensures.makes;
 }

@@ -13,12 +13,14 @@ use Rattle.at_demand.specs.declared.answer.Answer.{Answer as AnswerCode}
 use Rattle.at_demand.specs.Answered.{HasTurnedWith, HasWorthyFor}
 use Rattle.at_demand.specs.Known.{answer_view, meaning}
 use Rattle.at_demand.specs.Levels.{IsSearch}
+use Rattle.at_demand.specs.Went.{begun}
 use Rattle.at_demand.proofs.Fitting.{fit_grown, none_fit}
 use Rattle.at_demand.proofs.Standing.{answers_right, asked_same}
 use Rattle.at_demand.proofs.of_nesting.InnerAnswered.{answered_by}
 use Rattle.at_demand.proofs.of_nesting.InnerGains.{gains_none, known_none}
 use Rattle.at_demand.proofs.of_steps.Ahead.{broken_turned, gains_ahead, gains_turned, posted_asked, sound_ahead, sound_turned, spares_ahead, stands_ahead, traced_ahead, traced_turned}
 use Rattle.at_demand.proofs.of_levels.Resolving.{keeps_groups}
+use Rattle.at_demand.proofs.of_traces.TurnsPut.{puts_stay, went_then, went_turned}
 use Rattle.at_demand.proofs.of_traces.Putting.{traced_same}
 use Rattle.at_demand.proofs.demand.Demand.answer_looking_ahead.Goals as goal
 
@@ -41,6 +43,7 @@ loop-given-init g c =
           (known_none rules (contents s) entries c.requires.answerable.basis.circular c.requires.answerable.right c.requires.answerable.plain);
       sparing = λ exact spare. c.in_ok-question.ensures.sparing entries rules (contents s);
       traces = traced_same rules s c.args.inst.now (g.K.Keeper.memories c.args.self.now.keeper) c.requires.justified;
+      went = λ k. begun;
     }
 
 pub look_ahead-requires-clause-idle : goal.look_ahead-requires-clause-idle
@@ -118,7 +121,12 @@ loop-given-preserved g c =
       traces = traced_turned rules s exact i q inv.same basis first old mid w x y inv.gains inv.sound inv.standing ahead
           (g.K.Keeper.memories c.args.self.now.keeper) (g.K.Keeper.memories c.loop-given.self.keeper)
           (g.K.Keeper.memories c.look_ahead.new.self.keeper)
-          (g.K.Keeper.memories c.turn_with.new.self.keeper) inv.traces c.look_ahead.ensures.traces c.turn_with.ensures.traces;
+          (g.K.Keeper.memories c.turn_with.new.self.keeper) inv.traces c.look_ahead.ensures.traces
+          (puts_stay (g.K.Keeper.memories c.look_ahead.new.self.keeper) (g.K.Keeper.memories c.turn_with.new.self.keeper) c.turn_with.ensures.traces);
+      went = λ k. went_turned exact mid new (g.K.Keeper.memories c.args.self.now.keeper) (g.K.Keeper.memories c.loop-given.self.keeper)
+          (g.K.Keeper.memories c.look_ahead.new.self.keeper) (g.K.Keeper.memories c.turn_with.new.self.keeper) c.args.self.now.made
+          c.loop-given.self.made c.look_ahead.new.self.made c.turn_with.new.self.made (inv.went k) c.look_ahead.ensures.went
+          c.turn_with.ensures.traces c.turn_with.ensures.counts k;
     }
 
 pub returns-in-Some : goal.returns-in-Some
@@ -157,7 +165,12 @@ returns-in-Some g c =
       traces = traced_turned rules s exact i q inv.same basis first old mid w x y inv.gains inv.sound inv.standing ahead
           (g.K.Keeper.memories c.args.self.now.keeper) (g.K.Keeper.memories c.loop-given.self.keeper)
           (g.K.Keeper.memories c.look_ahead.new.self.keeper)
-          (g.K.Keeper.memories c.turn_with.new.self.keeper) inv.traces c.look_ahead.ensures.traces c.turn_with.ensures.traces;
+          (g.K.Keeper.memories c.turn_with.new.self.keeper) inv.traces c.look_ahead.ensures.traces
+          (puts_stay (g.K.Keeper.memories c.look_ahead.new.self.keeper) (g.K.Keeper.memories c.turn_with.new.self.keeper) c.turn_with.ensures.traces);
+      went = λ k. went_turned exact mid new (g.K.Keeper.memories c.args.self.now.keeper) (g.K.Keeper.memories c.loop-given.self.keeper)
+          (g.K.Keeper.memories c.look_ahead.new.self.keeper) (g.K.Keeper.memories c.turn_with.new.self.keeper) c.args.self.now.made
+          c.loop-given.self.made c.look_ahead.new.self.made c.turn_with.new.self.made (inv.went k) c.look_ahead.ensures.went
+          c.turn_with.ensures.traces c.turn_with.ensures.counts k;
       makes = λ plain. absurd (true≢false plain);
     }
 
@@ -186,7 +199,12 @@ returns-in_err-told g c =
       traces = traced_turned rules s exact i q inv.same basis first old mid w x y inv.gains inv.sound inv.standing ahead
           (g.K.Keeper.memories c.args.self.now.keeper) (g.K.Keeper.memories c.loop-given.self.keeper)
           (g.K.Keeper.memories c.look_ahead.new.self.keeper)
-          (g.K.Keeper.memories c.turn_with.new.self.keeper) inv.traces c.look_ahead.ensures.traces c.turn_with.ensures.traces;
+          (g.K.Keeper.memories c.turn_with.new.self.keeper) inv.traces c.look_ahead.ensures.traces
+          (puts_stay (g.K.Keeper.memories c.look_ahead.new.self.keeper) (g.K.Keeper.memories c.turn_with.new.self.keeper) c.turn_with.ensures.traces);
+      went = λ k. went_turned exact mid new (g.K.Keeper.memories c.args.self.now.keeper) (g.K.Keeper.memories c.loop-given.self.keeper)
+          (g.K.Keeper.memories c.look_ahead.new.self.keeper) (g.K.Keeper.memories c.turn_with.new.self.keeper) c.args.self.now.made
+          c.loop-given.self.made c.look_ahead.new.self.made c.turn_with.new.self.made (inv.went k) c.look_ahead.ensures.went
+          c.turn_with.ensures.traces c.turn_with.ensures.counts k;
       makes = λ plain. absurd (true≢false plain);
     }
 
@@ -214,6 +232,9 @@ returns-in_err-next g c =
           (g.K.Keeper.memories c.args.self.now.keeper) (g.K.Keeper.memories c.loop-given.self.keeper)
           (g.K.Keeper.memories c.look_ahead.new.self.keeper)
           inv.traces c.look_ahead.ensures.traces;
+      went = λ k. went_then (g.K.Keeper.memories c.args.self.now.keeper) (g.K.Keeper.memories c.loop-given.self.keeper)
+          (g.K.Keeper.memories c.look_ahead.new.self.keeper) c.args.self.now.made c.loop-given.self.made c.look_ahead.new.self.made (inv.went k)
+          c.look_ahead.ensures.went;
       makes = λ plain. absurd (true≢false plain);
     }
 
@@ -223,6 +244,7 @@ returns g c = record {
       (g.K.Keeper.contents c.loop-given.self.keeper) c.args.self.now.work c.loop-given.self.work c.loop-given.invariant.gains tt
       (λ k spare. tt);
   traces = c.loop-given.invariant.traces;
+  went = c.loop-given.invariant.went;
   makes = λ plain. absurd (true≢false plain);
 }
 
@@ -237,6 +259,7 @@ returns-in_err-copy g c = record {
       (gains_none rules s g.K.Keeper.exact c.args.inst.now entries [] c.args.self.now.work c.args.self.now.few
       (known_none rules (contents s) entries c.requires.answerable.basis.circular c.requires.answerable.right c.requires.answerable.plain)) (rw is tt) (λ k spare. rw is tt);
   traces = traced_same c.args.rules.now c.args.store.now c.args.inst.now (g.K.Keeper.memories c.args.self.now.keeper) c.requires.justified;
+  went = λ k. begun;
   makes = λ plain. absurd (true≢false plain);
 }
 
@@ -251,5 +274,6 @@ returns-in_err-question g c = record {
       (gains_none rules s g.K.Keeper.exact c.args.inst.now entries [] c.args.self.now.work c.args.self.now.few
       (known_none rules (contents s) entries c.requires.answerable.basis.circular c.requires.answerable.right c.requires.answerable.plain)) (rw is tt) (λ k spare. rw is tt);
   traces = traced_same c.args.rules.now c.args.store.now c.args.inst.now (g.K.Keeper.memories c.args.self.now.keeper) c.requires.justified;
+  went = λ k. begun;
   makes = λ plain. absurd (true≢false plain);
 }

@@ -2,7 +2,7 @@ use Rattle.std.proofs.Common.{refl}
 use Rattle.std.proofs.lemmas.Result.{err_from_is_err_and}
 use Rattle.at_demand.proofs.Entered.{entered_on, valued_on}
 use Rattle.at_demand.proofs.Entering.{founds_on, shares_none}
-use Rattle.at_demand.proofs.of_traces.Justified.{stay_same}
+use Rattle.at_demand.proofs.of_traces.TurnsPut.{puts_same}
 use Rattle.at_demand.proofs.demand.Demand.gather.Goals as goal
 
 pub share_all-requires : goal.share_all-requires
@@ -12,7 +12,7 @@ pub returns-in_err-sources : goal.returns-in_err-sources
 returns-in_err-sources g c =
     let is = (err_from_is_err_and c.from_residual.result c.from_residual.ensures.1).1 in
     let old = g.K.Keeper.contents c.args.self.now.keeper in
-    record { shares = shares_none c.args.rules.now g.K.Keeper.exact c.args.found.now.entries old old (λ i. refl); work = refl; sources = rw is tt; traces = stay_same (g.K.Keeper.memories c.args.self.now.keeper) }
+    record { shares = shares_none c.args.rules.now g.K.Keeper.exact c.args.found.now.entries old old (λ i. refl); work = refl; sources = rw is tt; traces = puts_same (g.K.Keeper.memories c.args.self.now.keeper) }
 
 pub returns-then-is_empty : goal.returns-then-is_empty
 returns-then-is_empty g c =
@@ -22,7 +22,7 @@ returns-then-is_empty g c =
       shares = shares_none c.args.rules.now g.K.Keeper.exact c.args.found.now.entries old old (λ i. refl);
       work = refl;
       sources = record { gathered = e.gathered; from = e.only; kept = e.kept c.requires.finds c.requires.kept };
-      traces = stay_same (g.K.Keeper.memories c.args.self.now.keeper);
+      traces = puts_same (g.K.Keeper.memories c.args.self.now.keeper);
     }
 
 pub returns-in_err-any : goal.returns-in_err-any

@@ -16,7 +16,7 @@ use Rattle.at_demand.specs.Attempts.{HasFound}
 use Rattle.at_demand.proofs.Gaining.{gain_none, settled_still, worthy_none}
 use Rattle.at_demand.proofs.Counting.{counts_none}
 use Rattle.at_demand.proofs.Attempted.{has_found, has_failed, has_needed, right_added, right_stays, worthy_added, spare_added, settled_added}
-use Rattle.at_demand.proofs.of_traces.Justified.{stay_same}
+use Rattle.at_demand.proofs.of_traces.TurnsPut.{puts_same}
 use Rattle.at_demand.proofs.demand.Demand.go_on.Goals as goal
 
 none_kept : (entries : Entries) → AreValued entries []
@@ -28,7 +28,7 @@ returns-in_err-step g c = record {
       let is = (err_from_is_err_and c.from_residual.result c.from_residual.ensures.1).1 in
       let entries = g.K.Keeper.contents c.args.self.now.keeper in
       record { tried = rw is tt; right = c.requires.answerable.right; stays = λ there finds right. right; plain = c.requires.answerable.plain; gains = gain_none c.args.rules.now (contents c.args.store.now) c.args.found.now.entries entries c.args.inst.now; worthy = worthy_none c.args.rules.now (contents c.args.store.now) c.args.inst.now entries; spare = λ exact spare lean settled. spare; settles = λ exact spare settled. rw is tt; counts = λ exact. counts_none entries c.args.self.now.work c.args.self.now.few; keeps = rw is tt; waits = rw is tt; idle = rw is tt };
-  traces = stay_same (g.K.Keeper.memories c.args.self.now.keeper);
+  traces = puts_same (g.K.Keeper.memories c.args.self.now.keeper);
 }
 
 pub go_on-requires-clause-basis : goal.go_on-requires-clause-basis
@@ -165,7 +165,7 @@ returns-in-Fault g c = record {
       let passed = subst (λ (s : Step). HasPassedTo rules look found inst c.go_on.new.self s) c.in-Fault.is (c.in_ok-step.ensures.passed inst c.requires.standing.passed) in
       let takes = c.in_ok-step.ensures.only inst c.requires.own c.requires.standing.stepped c.requires.standing.takes in
       record { tried = has_failed rules look entries found inst c.go_on.new.self.trial c.in-Fault.kind c.requires.own stepped; right = c.requires.answerable.right; stays = λ there finds right. right; plain = c.requires.answerable.plain; gains = gain_none rules look found entries inst; worthy = worthy_none rules look inst entries; spare = λ exact spare lean settled. spare; settles = λ exact spare settled. settled; counts = λ exact. counts_none entries c.args.self.now.work c.args.self.now.few; keeps = tt; waits = record { stepped = stepped; passed = passed; takes = takes; typed = typed; kept = c.in_ok-step.ensures.kept }; idle = (refl, refl) };
-  traces = stay_same (g.K.Keeper.memories c.args.self.now.keeper);
+  traces = puts_same (g.K.Keeper.memories c.args.self.now.keeper);
 }
 
 pub returns-in-Need : goal.returns-in-Need
@@ -183,5 +183,5 @@ returns-in-Need g c = record {
       let passed = subst (λ (s : Step). HasPassedTo rules look found inst c.go_on.new.self s) c.in-Need.is (c.in_ok-step.ensures.passed inst c.requires.standing.passed) in
       let takes = c.in_ok-step.ensures.only inst c.requires.own c.requires.standing.stepped c.requires.standing.takes in
       record { tried = has_needed rules look entries found inst (class_shown c.args.store.now) trial c.in-Need.needed c.requires.own stepped unknown typed; right = c.requires.answerable.right; stays = λ there finds right. right; plain = c.requires.answerable.plain; gains = gain_none rules look found entries inst; worthy = worthy_none rules look inst entries; spare = λ exact spare lean settled. spare; settles = λ exact spare settled. settled; counts = λ exact. counts_none entries c.args.self.now.work c.args.self.now.few; keeps = tt; waits = record { stepped = stepped; passed = passed; takes = takes; typed = typed; kept = c.in_ok-step.ensures.kept }; idle = (refl, refl) };
-  traces = stay_same (g.K.Keeper.memories c.args.self.now.keeper);
+  traces = puts_same (g.K.Keeper.memories c.args.self.now.keeper);
 }

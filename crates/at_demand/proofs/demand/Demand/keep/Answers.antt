@@ -7,7 +7,7 @@ use Rattle.at_cache.specs.Kept.{AreKept, HasPut}
 use Rattle.at_demand.proofs.Entered.{absent, all_entered}
 use Rattle.at_demand.proofs.Gaining.{told_lazy}
 use Rattle.at_demand.proofs.Putting.{adds, gains, covers_all, covers_only, keeps_alone, keeps_with, left_out, none_below, placed_alone, placed_with, plain_after, put_as, says_alone, says_with}
-use Rattle.at_demand.proofs.of_traces.Justified.{stay_same}
+use Rattle.at_demand.proofs.of_traces.TurnsPut.{puts_same}
 use Rattle.at_demand.proofs.demand.Demand.keep.Goals as goal
 
 pub keep_with-requires : goal.keep_with-requires
@@ -40,7 +40,7 @@ returns-then-not-is_lazy g c = record {
       c.if-not-is_lazy.true in
       left_out rules g.K.Keeper.exact (g.K.Keeper.contents c.args.self.now.keeper) c.args.self.now.work
       c.args.found.now.entries i c.args.find.now other c.requires.plain c.args.self.now.few;
-  traces = stay_same (g.K.Keeper.memories c.args.self.now.keeper);
+  traces = puts_same (g.K.Keeper.memories c.args.self.now.keeper);
 }
 
 pub returns-then-is_empty : goal.returns-then-is_empty

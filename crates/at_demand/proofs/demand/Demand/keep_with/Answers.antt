@@ -7,7 +7,7 @@ use Rattle.at_demand.proofs.Counting.{counts_after, counts_shared}
 use Rattle.at_demand.proofs.Entered.{absent}
 use Rattle.at_demand.proofs.Putting.{put_as}
 use Rattle.at_demand.proofs.Entering.{shares_none, shares_on}
-use Rattle.at_demand.proofs.of_traces.Justified.{stay_then}
+use Rattle.at_demand.proofs.of_traces.TurnsPut.{puts_then}
 use Rattle.at_demand.proofs.demand.Demand.keep_with.Goals as goal
 
 pub put-requires-clause-present : goal.put-requires-clause-present
@@ -37,7 +37,7 @@ returns-in_err-put g c =
       placed = rw is tt;
       err = rw is (shares_on c.args.rules.now g.K.Keeper.exact c.args.found.now.entries old mid new e.shares (shares_none c.args.rules.now g.K.Keeper.exact c.args.found.now.entries mid new c.in_err-put.ensures.err));
       counts = λ exact. counts_after old mid new c.args.self.now.work c.gather.new.self.work c.put.new.self.work e.work c.args.self.now.few e.shares.stays e.shares.same (c.put.ensures.counts exact);
-      traces = stay_then (g.K.Keeper.memories c.args.self.now.keeper) (g.K.Keeper.memories c.gather.new.self.keeper) (g.K.Keeper.memories c.put.new.self.keeper) c.gather.ensures.traces c.put.ensures.traces;
+      traces = puts_then (g.K.Keeper.memories c.args.self.now.keeper) (g.K.Keeper.memories c.gather.new.self.keeper) (g.K.Keeper.memories c.put.new.self.keeper) c.gather.ensures.traces c.put.ensures.traces;
     }
 
 pub returns : goal.returns
@@ -53,7 +53,7 @@ returns g c =
       placed = (mid, e.shares, s, c.in_ok-sources.ensures.sources, puts);
       err = tt;
       counts = λ exact. counts_after old mid new c.args.self.now.work c.gather.new.self.work c.put.new.self.work e.work c.args.self.now.few e.shares.stays e.shares.same (c.put.ensures.counts exact);
-      traces = stay_then (g.K.Keeper.memories c.args.self.now.keeper) (g.K.Keeper.memories c.gather.new.self.keeper) (g.K.Keeper.memories c.put.new.self.keeper) c.gather.ensures.traces c.put.ensures.traces;
+      traces = puts_then (g.K.Keeper.memories c.args.self.now.keeper) (g.K.Keeper.memories c.gather.new.self.keeper) (g.K.Keeper.memories c.put.new.self.keeper) c.gather.ensures.traces c.put.ensures.traces;
     }
 
 pub gather-requires : goal.gather-requires

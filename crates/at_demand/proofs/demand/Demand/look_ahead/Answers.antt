@@ -2,6 +2,7 @@ use Rattle.std.proofs.Common.{[]}
 use Rattle.at_demand.specs.InParts.{held}
 use Rattle.at_demand.proofs.of_nesting.Grown.{grown_settled, held_after}
 use Rattle.at_demand.proofs.of_nesting.InnerGains.{gains_then}
+use Rattle.at_demand.proofs.of_traces.TurnsPut.{went_again, went_made, went_then}
 use Rattle.at_demand.proofs.of_traces.Putting.{traced_then}
 use Rattle.at_demand.proofs.demand.Demand.look_ahead.Goals as goal
 
@@ -13,7 +14,7 @@ answer_at_once-requires-clause-held g c =
     let before = held (g.K.Keeper.contents c.args.self.now.keeper) (g.K.Keeper.memories c.args.self.now.keeper) [] c.args.self.now.work c.args.self.now.made in
     let mid = g.K.Keeper.contents c.keep_again.new.self.keeper in
     let n = g.K.Keeper.memories c.keep_again.new.self.keeper in
-    let k = c.keep_again.ensures in
+    let k = c.keep_again.ensures.kept in
     let up = grown_settled rules s c.requires.idle g.K.Keeper.exact q before mid n k.count c.keep_again.new.self.work c.requires.held
     c.args.self.now.few (g.K.Keeper.kept_last c.args.self.now.keeper) k.settled k.counts k.stay k.alike in
     let is = held_after up in record { known = is.known; justified = is.justified }
@@ -26,7 +27,7 @@ returns-then-waiting-due-clause-gains g c =
     let before = held (g.K.Keeper.contents c.args.self.now.keeper) (g.K.Keeper.memories c.args.self.now.keeper) [] c.args.self.now.work c.args.self.now.made in
     let mid = g.K.Keeper.contents c.keep_again.new.self.keeper in
     let n = g.K.Keeper.memories c.keep_again.new.self.keeper in
-    let k = c.keep_again.ensures in
+    let k = c.keep_again.ensures.kept in
     let up = grown_settled rules s c.requires.idle g.K.Keeper.exact q before mid n k.count c.keep_again.new.self.work c.requires.held
     c.args.self.now.few (g.K.Keeper.kept_last c.args.self.now.keeper) k.settled k.counts k.stay k.alike in
     up.gains
@@ -39,7 +40,7 @@ returns-then-waiting-due-clause-traces g c =
     let before = held (g.K.Keeper.contents c.args.self.now.keeper) (g.K.Keeper.memories c.args.self.now.keeper) [] c.args.self.now.work c.args.self.now.made in
     let mid = g.K.Keeper.contents c.keep_again.new.self.keeper in
     let n = g.K.Keeper.memories c.keep_again.new.self.keeper in
-    let k = c.keep_again.ensures in
+    let k = c.keep_again.ensures.kept in
     let up = grown_settled rules s c.requires.idle g.K.Keeper.exact q before mid n k.count c.keep_again.new.self.work c.requires.held
     c.args.self.now.few (g.K.Keeper.kept_last c.args.self.now.keeper) k.settled k.counts k.stay k.alike in
     up.traces
@@ -52,7 +53,7 @@ returns-in_err-answer_at_once-clause-gains g c =
     let before = held (g.K.Keeper.contents c.args.self.now.keeper) (g.K.Keeper.memories c.args.self.now.keeper) [] c.args.self.now.work c.args.self.now.made in
     let mid = g.K.Keeper.contents c.keep_again.new.self.keeper in
     let n = g.K.Keeper.memories c.keep_again.new.self.keeper in
-    let k = c.keep_again.ensures in
+    let k = c.keep_again.ensures.kept in
     let up = grown_settled rules s c.requires.idle g.K.Keeper.exact q before mid n k.count c.keep_again.new.self.work c.requires.held
     c.args.self.now.few (g.K.Keeper.kept_last c.args.self.now.keeper) k.settled k.counts k.stay k.alike in
     gains_then rules s g.K.Keeper.exact q before.entries mid (g.K.Keeper.contents c.answer_at_once.new.self.keeper) [] [] [] c.args.self.now.work
@@ -66,7 +67,7 @@ returns-in_err-answer_at_once-clause-traces g c =
     let before = held (g.K.Keeper.contents c.args.self.now.keeper) (g.K.Keeper.memories c.args.self.now.keeper) [] c.args.self.now.work c.args.self.now.made in
     let mid = g.K.Keeper.contents c.keep_again.new.self.keeper in
     let n = g.K.Keeper.memories c.keep_again.new.self.keeper in
-    let k = c.keep_again.ensures in
+    let k = c.keep_again.ensures.kept in
     let up = grown_settled rules s c.requires.idle g.K.Keeper.exact q before mid n k.count c.keep_again.new.self.work c.requires.held
     c.args.self.now.few (g.K.Keeper.kept_last c.args.self.now.keeper) k.settled k.counts k.stay k.alike in
     traced_then rules s q before.memories n (g.K.Keeper.memories c.answer_at_once.new.self.keeper) up.traces c.answer_at_once.ensures.traces
@@ -79,7 +80,7 @@ returns-then-self-before-clause-gains g c =
     let before = held (g.K.Keeper.contents c.args.self.now.keeper) (g.K.Keeper.memories c.args.self.now.keeper) [] c.args.self.now.work c.args.self.now.made in
     let mid = g.K.Keeper.contents c.keep_again.new.self.keeper in
     let n = g.K.Keeper.memories c.keep_again.new.self.keeper in
-    let k = c.keep_again.ensures in
+    let k = c.keep_again.ensures.kept in
     let up = grown_settled rules s c.requires.idle g.K.Keeper.exact q before mid n k.count c.keep_again.new.self.work c.requires.held
     c.args.self.now.few (g.K.Keeper.kept_last c.args.self.now.keeper) k.settled k.counts k.stay k.alike in
     gains_then rules s g.K.Keeper.exact q before.entries mid (g.K.Keeper.contents c.answer_at_once.new.self.keeper) [] [] [] c.args.self.now.work
@@ -93,7 +94,7 @@ returns-then-self-before-clause-traces g c =
     let before = held (g.K.Keeper.contents c.args.self.now.keeper) (g.K.Keeper.memories c.args.self.now.keeper) [] c.args.self.now.work c.args.self.now.made in
     let mid = g.K.Keeper.contents c.keep_again.new.self.keeper in
     let n = g.K.Keeper.memories c.keep_again.new.self.keeper in
-    let k = c.keep_again.ensures in
+    let k = c.keep_again.ensures.kept in
     let up = grown_settled rules s c.requires.idle g.K.Keeper.exact q before mid n k.count c.keep_again.new.self.work c.requires.held
     c.args.self.now.few (g.K.Keeper.kept_last c.args.self.now.keeper) k.settled k.counts k.stay k.alike in
     traced_then rules s q before.memories n (g.K.Keeper.memories c.answer_at_once.new.self.keeper) up.traces c.answer_at_once.ensures.traces
@@ -106,7 +107,7 @@ returns-clause-gains g c =
     let before = held (g.K.Keeper.contents c.args.self.now.keeper) (g.K.Keeper.memories c.args.self.now.keeper) [] c.args.self.now.work c.args.self.now.made in
     let mid = g.K.Keeper.contents c.keep_again.new.self.keeper in
     let n = g.K.Keeper.memories c.keep_again.new.self.keeper in
-    let k = c.keep_again.ensures in
+    let k = c.keep_again.ensures.kept in
     let up = grown_settled rules s c.requires.idle g.K.Keeper.exact q before mid n k.count c.keep_again.new.self.work c.requires.held
     c.args.self.now.few (g.K.Keeper.kept_last c.args.self.now.keeper) k.settled k.counts k.stay k.alike in
     gains_then rules s g.K.Keeper.exact q before.entries mid (g.K.Keeper.contents c.answer_at_once.new.self.keeper) [] [] [] c.args.self.now.work
@@ -120,7 +121,45 @@ returns-clause-traces g c =
     let before = held (g.K.Keeper.contents c.args.self.now.keeper) (g.K.Keeper.memories c.args.self.now.keeper) [] c.args.self.now.work c.args.self.now.made in
     let mid = g.K.Keeper.contents c.keep_again.new.self.keeper in
     let n = g.K.Keeper.memories c.keep_again.new.self.keeper in
-    let k = c.keep_again.ensures in
+    let k = c.keep_again.ensures.kept in
     let up = grown_settled rules s c.requires.idle g.K.Keeper.exact q before mid n k.count c.keep_again.new.self.work c.requires.held
     c.args.self.now.few (g.K.Keeper.kept_last c.args.self.now.keeper) k.settled k.counts k.stay k.alike in
     traced_then rules s q before.memories n (g.K.Keeper.memories c.answer_at_once.new.self.keeper) up.traces c.answer_at_once.ensures.traces
+
+pub returns-then-waiting-due-clause-went : goal.returns-then-waiting-due-clause-went
+returns-then-waiting-due-clause-went g c = went_again (g.K.Keeper.contents c.args.self.now.keeper) (g.K.Keeper.memories c.args.self.now.keeper)
+    (g.K.Keeper.memories c.keep_again.new.self.keeper) c.args.self.now.made c.keep_again.new.self.made c.keep_again.ensures.made
+    c.keep_again.ensures.kept.alike
+
+pub returns-in_err-answer_at_once-clause-went : goal.returns-in_err-answer_at_once-clause-went
+returns-in_err-answer_at_once-clause-went g c =
+    let m = g.K.Keeper.memories c.args.self.now.keeper in
+    let n = g.K.Keeper.memories c.keep_again.new.self.keeper in
+    let o = g.K.Keeper.memories c.answer_at_once.new.self.keeper in
+    let mid = g.K.Keeper.contents c.keep_again.new.self.keeper in
+    went_then m n o c.args.self.now.made c.keep_again.new.self.made c.answer_at_once.new.self.made
+    (went_again mid m n c.args.self.now.made c.keep_again.new.self.made c.keep_again.ensures.made c.keep_again.ensures.kept.alike)
+    (went_made mid (g.K.Keeper.contents c.answer_at_once.new.self.keeper) n o c.keep_again.new.self.made c.answer_at_once.new.self.made
+    c.answer_at_once.ensures.makes)
+
+pub returns-then-self-before-clause-went : goal.returns-then-self-before-clause-went
+returns-then-self-before-clause-went g c =
+    let m = g.K.Keeper.memories c.args.self.now.keeper in
+    let n = g.K.Keeper.memories c.keep_again.new.self.keeper in
+    let o = g.K.Keeper.memories c.answer_at_once.new.self.keeper in
+    let mid = g.K.Keeper.contents c.keep_again.new.self.keeper in
+    went_then m n o c.args.self.now.made c.keep_again.new.self.made c.answer_at_once.new.self.made
+    (went_again mid m n c.args.self.now.made c.keep_again.new.self.made c.keep_again.ensures.made c.keep_again.ensures.kept.alike)
+    (went_made mid (g.K.Keeper.contents c.answer_at_once.new.self.keeper) n o c.keep_again.new.self.made c.answer_at_once.new.self.made
+    c.answer_at_once.ensures.makes)
+
+pub returns-clause-went : goal.returns-clause-went
+returns-clause-went g c =
+    let m = g.K.Keeper.memories c.args.self.now.keeper in
+    let n = g.K.Keeper.memories c.keep_again.new.self.keeper in
+    let o = g.K.Keeper.memories c.answer_at_once.new.self.keeper in
+    let mid = g.K.Keeper.contents c.keep_again.new.self.keeper in
+    went_then m n o c.args.self.now.made c.keep_again.new.self.made c.answer_at_once.new.self.made
+    (went_again mid m n c.args.self.now.made c.keep_again.new.self.made c.keep_again.ensures.made c.keep_again.ensures.kept.alike)
+    (went_made mid (g.K.Keeper.contents c.answer_at_once.new.self.keeper) n o c.keep_again.new.self.made c.answer_at_once.new.self.made
+    c.answer_at_once.ensures.makes)

@@ -1,10 +1,10 @@
-use Rattle.std.proofs.Common.{sym, ◌∙◌, Ok}
+use Rattle.std.proofs.Common.{sym, ◌∙◌, Ok, inr, refl}
 use Rattle.std.proofs.lemmas.Result.{err_from_is_err_and}
 use Rattle.std.specs.Map.{keys_of}
 use Rattle.at_demand.specs.declared.demand.searching.Resolved.TheVariants as resolved
 use Rattle.at_demand.specs.Levels.{known_to}
 use Rattle.at_demand.proofs.Entered.{none_entered}
-use Rattle.at_demand.proofs.of_levels.Resolving.{closure_solvable, failed_resolved, solved_resolved, spoilt_then}
+use Rattle.at_demand.proofs.of_levels.Resolving.{closure_solvable, failed_resolved, nothing_resolved, solved_resolved, spoilt_then}
 use Rattle.at_demand.proofs.demand.Demand.resolve_ended.Goals as goal
 
 pub solve_and_mark-requires : goal.solve_and_mark-requires
@@ -74,3 +74,18 @@ returns g c =
     spoilt_then rules s before old set i c.requires.can closure g.K.Keeper.exact after former latter m.work n.work new c.requires.ended c.in_ok-solve_and_mark.field-0
     c.in_ok-solve_and_mark.ensures (none_entered (known_to after new i) c.is_known.result c.is_known.ensures c.if-is_known.false) c.spoilt_by.result
     c.spoilt_by.ensures
+
+pub returns-in_err-seen : goal.returns-in_err-seen
+returns-in_err-seen g c =
+    let m = c.args.self.now in
+    let is = (err_from_is_err_and c.from_residual.result c.from_residual.ensures.1).1 in
+    nothing_resolved c.args.rules.now c.args.store.now g.K.Keeper.exact (g.K.Keeper.contents m.keeper) (g.K.Keeper.memories m.keeper) m.work
+    c.args.question.now c.requires.can m.few c.args.inst.now c.from_residual.result (rw is tt) (rw is tt)
+
+pub returns-in_default : goal.returns-in_default
+returns-in_default g c =
+    let m = c.args.self.now in
+    let out = rw c.in_default.is at c.in_ok-seen.ensures.none in
+    nothing_resolved c.args.rules.now c.args.store.now g.K.Keeper.exact (g.K.Keeper.contents m.keeper) (g.K.Keeper.memories m.keeper) m.work
+    c.args.question.now c.requires.can m.few c.args.inst.now (Ok resolved.Back)
+    (inr (c.requires.ended, c.requires.unmarked, out), refl) tt

@@ -2,7 +2,7 @@ use Rattle.std.proofs.Common.{false, refl, sym}
 use Rattle.at_demand.proofs.Gaining.{told_lazy}
 use Rattle.at_demand.proofs.Entered.{none_entered}
 use Rattle.at_demand.proofs.Entering.{shares_none}
-use Rattle.at_demand.proofs.of_traces.Justified.{stay_same}
+use Rattle.at_demand.proofs.of_traces.TurnsPut.{puts_same}
 use Rattle.at_demand.proofs.demand.Demand.share.Goals as goal
 
 pub enter-requires : goal.enter-requires
@@ -16,13 +16,13 @@ enter-requires g c = record {
 }
 
 pub returns-then-is_lazy : goal.returns-then-is_lazy
-returns-then-is_lazy g c = let old = g.K.Keeper.contents c.args.self.now.keeper in record { shares = shares_none c.args.rules.now g.K.Keeper.exact c.args.found.now.entries old old (λ i. refl); work = refl; traces = stay_same (g.K.Keeper.memories c.args.self.now.keeper) }
+returns-then-is_lazy g c = let old = g.K.Keeper.contents c.args.self.now.keeper in record { shares = shares_none c.args.rules.now g.K.Keeper.exact c.args.found.now.entries old old (λ i. refl); work = refl; traces = puts_same (g.K.Keeper.memories c.args.self.now.keeper) }
 
 pub returns-then-stands : goal.returns-then-stands
-returns-then-stands g c = let old = g.K.Keeper.contents c.args.self.now.keeper in record { shares = shares_none c.args.rules.now g.K.Keeper.exact c.args.found.now.entries old old (λ i. refl); work = refl; traces = stay_same (g.K.Keeper.memories c.args.self.now.keeper) }
+returns-then-stands g c = let old = g.K.Keeper.contents c.args.self.now.keeper in record { shares = shares_none c.args.rules.now g.K.Keeper.exact c.args.found.now.entries old old (λ i. refl); work = refl; traces = puts_same (g.K.Keeper.memories c.args.self.now.keeper) }
 
 pub returns-in_default : goal.returns-in_default
-returns-in_default g c = let old = g.K.Keeper.contents c.args.self.now.keeper in record { shares = shares_none c.args.rules.now g.K.Keeper.exact c.args.found.now.entries old old (λ i. refl); work = refl; traces = stay_same (g.K.Keeper.memories c.args.self.now.keeper) }
+returns-in_default g c = let old = g.K.Keeper.contents c.args.self.now.keeper in record { shares = shares_none c.args.rules.now g.K.Keeper.exact c.args.found.now.entries old old (λ i. refl); work = refl; traces = puts_same (g.K.Keeper.memories c.args.self.now.keeper) }
 
 pub returns : goal.returns
 returns g c = record { shares = c.enter.ensures.shares; work = c.enter.ensures.work; traces = c.enter.ensures.traces }

@@ -1,4 +1,4 @@
-use Rattle.std.proofs.Common.{Ok, refl, sym, subst}
+use Rattle.std.proofs.Common.{Ok, refl, rules, sym, subst}
 use Rattle.std.proofs.lemmas.Result.{err_from_is_err_and}
 use Rattle.std.specs.declared.alloc.AllocError.{AllocError}
 use Rattle.at_demand.specs.declared.demand.searching.Resolved.{Resolved}
@@ -11,7 +11,7 @@ use Rattle.at_demand.proofs.of_steps.TryingOn.{can_carry, can_close_last, can_fa
 use Rattle.at_demand.proofs.of_steps.TryingOn.{carry_fails, closed_last, deeper_from, fails_last, forms_last, known_fewer, known_goes, resolve_fails, spoilt_last}
 use Rattle.at_demand.proofs.of_steps.TryUnderWay.{IsTrying}
 use Rattle.at_demand.proofs.of_steps.ValueTried.{found_last, kept_last}
-use Rattle.at_demand.proofs.of_traces.Justified.{stay_then}
+use Rattle.at_demand.proofs.of_traces.TurnsPut.{puts_same, puts_then}
 use Rattle.at_demand.proofs.demand.Demand.try_last.Goals as goal
 
 pub loop-value-init : goal.loop-value-init
@@ -37,7 +37,7 @@ returns-in_err-value g c =
           l.trials l.going l.invariant
           (g.K.Keeper.contents c.carry_on.new.self.keeper) (g.K.Keeper.memories c.carry_on.new.self.keeper) c.carry_on.new.self.work
           c.carry_on.ensures.traces c.requires.turns.turns c.carry_on.result c.carry_on.ensures.tried l.question l.trials _ _ is;
-      traces = (stay_then (g.K.Keeper.memories c.args.self.now.keeper) (g.K.Keeper.memories l.self.keeper) (g.K.Keeper.memories c.carry_on.new.self.keeper) l.invariant.gains.traces c.carry_on.ensures.traces);
+      traces = (puts_then (g.K.Keeper.memories c.args.self.now.keeper) (g.K.Keeper.memories l.self.keeper) (g.K.Keeper.memories c.carry_on.new.self.keeper) l.invariant.gains.traces c.carry_on.ensures.traces);
     }
 
 pub returns-in-Kept : goal.returns-in-Kept
@@ -50,7 +50,7 @@ returns-in-Kept g c =
           (subst (λ (z : Tried). HasCarriedOn {E = AllocError} c.args.rules.now c.args.store.now g.K.Keeper.exact (g.K.Keeper.contents l.self.keeper)
           (g.K.Keeper.contents c.carry_on.new.self.keeper) l.self.work c.carry_on.new.self.work l.question.found.entries l.question.inst (Ok z)) c.in-Kept.is
           c.in_ok-value.ensures.tried) c.pass_last.new.question c.pass_last.new.trials c.pass_last.result c.pass_last.ensures;
-      traces = (stay_then (g.K.Keeper.memories c.args.self.now.keeper) (g.K.Keeper.memories l.self.keeper) (g.K.Keeper.memories c.carry_on.new.self.keeper) l.invariant.gains.traces c.carry_on.ensures.traces);
+      traces = (puts_then (g.K.Keeper.memories c.args.self.now.keeper) (g.K.Keeper.memories l.self.keeper) (g.K.Keeper.memories c.carry_on.new.self.keeper) l.invariant.gains.traces c.carry_on.ensures.traces);
     }
 
 pub returns-in-Found : goal.returns-in-Found
@@ -63,7 +63,7 @@ returns-in-Found g c =
           (subst (λ (z : Tried). HasCarriedOn {E = AllocError} c.args.rules.now c.args.store.now g.K.Keeper.exact (g.K.Keeper.contents l.self.keeper)
           (g.K.Keeper.contents c.carry_on.new.self.keeper) l.self.work c.carry_on.new.self.work l.question.found.entries l.question.inst (Ok z)) c.in-Found.is
           c.in_ok-value.ensures.tried) c.settle_last.new.question c.settle_last.new.trials c.settle_last.result c.settle_last.ensures;
-      traces = (stay_then (g.K.Keeper.memories c.args.self.now.keeper) (g.K.Keeper.memories l.self.keeper) (g.K.Keeper.memories c.carry_on.new.self.keeper) l.invariant.gains.traces c.carry_on.ensures.traces);
+      traces = (puts_then (g.K.Keeper.memories c.args.self.now.keeper) (g.K.Keeper.memories l.self.keeper) (g.K.Keeper.memories c.carry_on.new.self.keeper) l.invariant.gains.traces c.carry_on.ensures.traces);
     }
 
 pub form-requires-clause-can : goal.form-requires-clause-can
@@ -89,7 +89,7 @@ returns-in-Forms g c =
           (g.K.Keeper.contents c.carry_on.new.self.keeper) l.self.work c.carry_on.new.self.work l.question.found.entries l.question.inst (Ok z)) c.in-Forms.is
           c.in_ok-value.ensures.tried) (g.K.Keeper.contents c.form.new.self.keeper) (g.K.Keeper.memories c.form.new.self.keeper) c.form.new.self.work c.form.new.question
           c.form.new.trials c.form.result c.form.ensures;
-      traces = stay_then (g.K.Keeper.memories c.args.self.now.keeper) (g.K.Keeper.memories c.carry_on.new.self.keeper) (g.K.Keeper.memories c.form.new.self.keeper) (stay_then (g.K.Keeper.memories c.args.self.now.keeper) (g.K.Keeper.memories l.self.keeper) (g.K.Keeper.memories c.carry_on.new.self.keeper) l.invariant.gains.traces c.carry_on.ensures.traces) c.form.ensures.gains.traces;
+      traces = puts_then (g.K.Keeper.memories c.args.self.now.keeper) (g.K.Keeper.memories c.carry_on.new.self.keeper) (g.K.Keeper.memories c.form.new.self.keeper) (puts_then (g.K.Keeper.memories c.args.self.now.keeper) (g.K.Keeper.memories l.self.keeper) (g.K.Keeper.memories c.carry_on.new.self.keeper) l.invariant.gains.traces c.carry_on.ensures.traces) c.form.ensures.gains.traces;
     }
 
 pub returns-in_err-at-in-Fails : goal.returns-in_err-at-in-Fails
@@ -102,7 +102,7 @@ returns-in_err-at-in-Fails g c =
           l.trials l.going l.invariant
           (g.K.Keeper.contents c.carry_on.new.self.keeper) (g.K.Keeper.memories c.carry_on.new.self.keeper) c.carry_on.new.self.work
           c.carry_on.ensures.traces c.requires.turns.turns c.carry_on.result c.carry_on.ensures.tried l.question l.trials _ _ is;
-      traces = (stay_then (g.K.Keeper.memories c.args.self.now.keeper) (g.K.Keeper.memories l.self.keeper) (g.K.Keeper.memories c.carry_on.new.self.keeper) l.invariant.gains.traces c.carry_on.ensures.traces);
+      traces = (puts_then (g.K.Keeper.memories c.args.self.now.keeper) (g.K.Keeper.memories l.self.keeper) (g.K.Keeper.memories c.carry_on.new.self.keeper) l.invariant.gains.traces c.carry_on.ensures.traces);
     }
 
 pub spoil-requires : goal.spoil-requires
@@ -128,7 +128,7 @@ returns-in-Fails g c =
           (g.K.Keeper.contents c.carry_on.new.self.keeper) l.self.work c.carry_on.new.self.work l.question.found.entries l.question.inst (Ok z)) c.in-Fails.is
           c.in_ok-value.ensures.tried)
           (g.K.Keeper.contents c.spoil.new.self.keeper) (g.K.Keeper.memories c.spoil.new.self.keeper) c.spoil.new.self.work c.spoil.new.question c.spoil.new.trials (record { kind = c.in-Fails.kind; at = c.in_ok-at-in-Fails.at }) c.spoil.result c.spoil.ensures;
-      traces = stay_then (g.K.Keeper.memories c.args.self.now.keeper) (g.K.Keeper.memories c.carry_on.new.self.keeper) (g.K.Keeper.memories c.spoil.new.self.keeper) (stay_then (g.K.Keeper.memories c.args.self.now.keeper) (g.K.Keeper.memories l.self.keeper) (g.K.Keeper.memories c.carry_on.new.self.keeper) l.invariant.gains.traces c.carry_on.ensures.traces) c.spoil.ensures.gains.traces;
+      traces = puts_then (g.K.Keeper.memories c.args.self.now.keeper) (g.K.Keeper.memories c.carry_on.new.self.keeper) (g.K.Keeper.memories c.spoil.new.self.keeper) (puts_then (g.K.Keeper.memories c.args.self.now.keeper) (g.K.Keeper.memories l.self.keeper) (g.K.Keeper.memories c.carry_on.new.self.keeper) l.invariant.gains.traces c.carry_on.ensures.traces) c.spoil.ensures.gains.traces;
     }
 
 pub resolve-requires : goal.resolve-requires
@@ -155,7 +155,7 @@ returns-in_err-resolve-in-Waits g c =
           (g.K.Keeper.contents c.carry_on.new.self.keeper) l.self.work c.carry_on.new.self.work l.question.found.entries l.question.inst (Ok z)) c.in-Waits.is
           c.in_ok-value.ensures.tried)
           (g.K.Keeper.contents c.resolve.new.self.keeper) (g.K.Keeper.memories c.resolve.new.self.keeper) c.resolve.new.self.work c.resolve.new.question c.resolve.result c.resolve.ensures l.trials _ _ is;
-      traces = (stay_then (g.K.Keeper.memories c.args.self.now.keeper) (g.K.Keeper.memories c.carry_on.new.self.keeper) (g.K.Keeper.memories c.resolve.new.self.keeper) (stay_then (g.K.Keeper.memories c.args.self.now.keeper) (g.K.Keeper.memories l.self.keeper) (g.K.Keeper.memories c.carry_on.new.self.keeper) l.invariant.gains.traces c.carry_on.ensures.traces) c.resolve.ensures.tells.traces);
+      traces = (puts_then (g.K.Keeper.memories c.args.self.now.keeper) (g.K.Keeper.memories c.carry_on.new.self.keeper) (g.K.Keeper.memories c.resolve.new.self.keeper) (puts_then (g.K.Keeper.memories c.args.self.now.keeper) (g.K.Keeper.memories l.self.keeper) (g.K.Keeper.memories c.carry_on.new.self.keeper) l.invariant.gains.traces c.carry_on.ensures.traces) c.resolve.ensures.tells.traces);
     }
 
 pub loop-value-preserved : goal.loop-value-preserved
@@ -222,7 +222,7 @@ returns-in-Spoilt g c =
           (g.K.Keeper.memories c.resolve.new.self.keeper) c.carry_on.new.self.work c.resolve.new.self.work l.question c.resolve.new.question c.in-Waits.needed (Ok z))
           c.in-Spoilt.is c.in_ok-resolve-in-Waits.ensures)
           (g.K.Keeper.contents c.spoil-in-Spoilt.new.self.keeper) (g.K.Keeper.memories c.spoil-in-Spoilt.new.self.keeper) c.spoil-in-Spoilt.new.self.work c.spoil-in-Spoilt.new.question c.spoil-in-Spoilt.new.trials c.spoil-in-Spoilt.result c.spoil-in-Spoilt.ensures;
-      traces = stay_then (g.K.Keeper.memories c.args.self.now.keeper) (g.K.Keeper.memories c.resolve.new.self.keeper) (g.K.Keeper.memories c.spoil-in-Spoilt.new.self.keeper) (stay_then (g.K.Keeper.memories c.args.self.now.keeper) (g.K.Keeper.memories c.carry_on.new.self.keeper) (g.K.Keeper.memories c.resolve.new.self.keeper) (stay_then (g.K.Keeper.memories c.args.self.now.keeper) (g.K.Keeper.memories l.self.keeper) (g.K.Keeper.memories c.carry_on.new.self.keeper) l.invariant.gains.traces c.carry_on.ensures.traces) c.resolve.ensures.tells.traces) c.spoil-in-Spoilt.ensures.gains.traces;
+      traces = puts_then (g.K.Keeper.memories c.args.self.now.keeper) (g.K.Keeper.memories c.resolve.new.self.keeper) (g.K.Keeper.memories c.spoil-in-Spoilt.new.self.keeper) (puts_then (g.K.Keeper.memories c.args.self.now.keeper) (g.K.Keeper.memories c.carry_on.new.self.keeper) (g.K.Keeper.memories c.resolve.new.self.keeper) (puts_then (g.K.Keeper.memories c.args.self.now.keeper) (g.K.Keeper.memories l.self.keeper) (g.K.Keeper.memories c.carry_on.new.self.keeper) l.invariant.gains.traces c.carry_on.ensures.traces) c.resolve.ensures.tells.traces) c.spoil-in-Spoilt.ensures.gains.traces;
     }
 
 pub close-requires : goal.close-requires
@@ -256,7 +256,7 @@ returns-in-Back g c =
           (g.K.Keeper.memories c.resolve.new.self.keeper) c.carry_on.new.self.work c.resolve.new.self.work l.question c.resolve.new.question c.in-Waits.needed (Ok z))
           c.in-Back.is c.in_ok-resolve-in-Waits.ensures)
           (g.K.Keeper.contents c.close.new.self.keeper) (g.K.Keeper.memories c.close.new.self.keeper) c.close.new.self.work c.close.new.question l.trials c.close.result c.close.ensures;
-      traces = stay_then (g.K.Keeper.memories c.args.self.now.keeper) (g.K.Keeper.memories c.resolve.new.self.keeper) (g.K.Keeper.memories c.close.new.self.keeper) (stay_then (g.K.Keeper.memories c.args.self.now.keeper) (g.K.Keeper.memories c.carry_on.new.self.keeper) (g.K.Keeper.memories c.resolve.new.self.keeper) (stay_then (g.K.Keeper.memories c.args.self.now.keeper) (g.K.Keeper.memories l.self.keeper) (g.K.Keeper.memories c.carry_on.new.self.keeper) l.invariant.gains.traces c.carry_on.ensures.traces) c.resolve.ensures.tells.traces) c.close.ensures.gains.traces;
+      traces = puts_then (g.K.Keeper.memories c.args.self.now.keeper) (g.K.Keeper.memories c.resolve.new.self.keeper) (g.K.Keeper.memories c.close.new.self.keeper) (puts_then (g.K.Keeper.memories c.args.self.now.keeper) (g.K.Keeper.memories c.carry_on.new.self.keeper) (g.K.Keeper.memories c.resolve.new.self.keeper) (puts_then (g.K.Keeper.memories c.args.self.now.keeper) (g.K.Keeper.memories l.self.keeper) (g.K.Keeper.memories c.carry_on.new.self.keeper) l.invariant.gains.traces c.carry_on.ensures.traces) c.resolve.ensures.tells.traces) c.close.ensures.gains.traces;
     }
 
 pub returns-in-Open : goal.returns-in-Open
@@ -275,5 +275,11 @@ returns-in-Open g c =
           (g.K.Keeper.memories c.resolve.new.self.keeper) c.carry_on.new.self.work c.resolve.new.self.work l.question c.resolve.new.question c.in-Waits.needed (Ok z))
           c.in-Open.is c.in_ok-resolve-in-Waits.ensures)
           c.deepen_last.new.question c.deepen_last.new.trials c.deepen_last.result c.deepen_last.ensures.none c.deepen_last.ensures.deeper;
-      traces = (stay_then (g.K.Keeper.memories c.args.self.now.keeper) (g.K.Keeper.memories c.carry_on.new.self.keeper) (g.K.Keeper.memories c.resolve.new.self.keeper) (stay_then (g.K.Keeper.memories c.args.self.now.keeper) (g.K.Keeper.memories l.self.keeper) (g.K.Keeper.memories c.carry_on.new.self.keeper) l.invariant.gains.traces c.carry_on.ensures.traces) c.resolve.ensures.tells.traces);
+      traces = (puts_then (g.K.Keeper.memories c.args.self.now.keeper) (g.K.Keeper.memories c.carry_on.new.self.keeper) (g.K.Keeper.memories c.resolve.new.self.keeper) (puts_then (g.K.Keeper.memories c.args.self.now.keeper) (g.K.Keeper.memories l.self.keeper) (g.K.Keeper.memories c.carry_on.new.self.keeper) l.invariant.gains.traces c.carry_on.ensures.traces) c.resolve.ensures.tells.traces);
     }
+
+pub returns-in_err-going : goal.returns-in_err-going
+returns-in_err-going g c = record {
+  turned = search rules;
+  traces = puts_same (g.K.Keeper.memories c.args.self.now.keeper);
+}

@@ -5,7 +5,7 @@ use Rattle.at_demand.proofs.of_steps.Counted.{broken_on}
 use Rattle.at_demand.proofs.of_steps.KeptIn.{goes_along}
 use Rattle.at_demand.proofs.of_steps.PassedOn.{none_is, not_none_level, passed_over}
 use Rattle.at_demand.proofs.of_steps.Turning.{gains_none}
-use Rattle.at_demand.proofs.of_traces.Justified.{stay_same}
+use Rattle.at_demand.proofs.of_traces.TurnsPut.{puts_same}
 use Rattle.at_demand.proofs.demand.Demand.turn_on.Goals as goal
 
 pub returns-in_err-value : goal.returns-in_err-value
@@ -17,7 +17,7 @@ returns-in_err-value g c =
           c.args.self.now.work c.args.self.now.work c.args.question.now c.args.question.now c.args.trials.now _ _ is
           (λ none. none) (gains_none c.args.rules.now c.args.store.now g.K.Keeper.exact entries c.args.self.now.work c.args.self.now.few
           c.args.question.now c.requires.turns.turns.answerable.right c.requires.turns.turns.answerable.plain);
-      traces = stay_same (g.K.Keeper.memories c.args.self.now.keeper);
+      traces = puts_same (g.K.Keeper.memories c.args.self.now.keeper);
     }
 
 pub go_along-requires : goal.go_along-requires
@@ -40,7 +40,7 @@ returns-then-is_none g c =
           c.args.self.now.few a.answerable.plain (record { right = a.answerable.right; whole = a.wholes }) c.args.question.now a.standing
           (none_is c.args.question.now.level c.is_none.result c.is_none.ensures c.if-is_none.true) c.in_ok-value.value kept c.pass.new.self c.forget.new.self
           c.forget.ensures.frames c.forget.ensures.awaited c.pass.result c.pass.ensures;
-      traces = stay_same (g.K.Keeper.memories c.args.self.now.keeper);
+      traces = puts_same (g.K.Keeper.memories c.args.self.now.keeper);
     }
 
 pub returns-in-Some : goal.returns-in-Some

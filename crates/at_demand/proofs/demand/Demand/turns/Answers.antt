@@ -3,10 +3,12 @@ use Rattle.std.proofs.lemmas.Result.{err_from_is_err_and}
 use Rattle.std.specs.declared.alloc.AllocError.{AllocError}
 use Rattle.at_demand.specs.declared.answer.Answer.{Answer as AnswerCode}
 use Rattle.at_demand.specs.Answered.{HasTurnedWith}
+use Rattle.at_demand.specs.Went.{begun}
 use Rattle.at_demand.proofs.Fitting.{fit_grown, none_fit}
 use Rattle.at_demand.proofs.of_steps.Given.{given_all, given_answered, given_broken, given_more, given_none, given_settled}
 use Rattle.at_demand.proofs.of_steps.KeptAgain.{again_stays, settled_again}
 use Rattle.at_demand.proofs.of_levels.Resolving.{keeps_groups}
+use Rattle.at_demand.proofs.of_traces.TurnsPut.{puts_stay, went_on}
 use Rattle.at_demand.proofs.of_traces.Justified.{stay_same, stay_then}
 use Rattle.at_demand.proofs.demand.Demand.turns.Goals as goal
 
@@ -19,6 +21,7 @@ loop-given-init g c = record {
       c.new-trials.ensures.frames c.new-trials.ensures.awaited;
   within = omega arith;
   traces = stay_same (g.K.Keeper.memories c.args.self.now.keeper);
+  went = λ exact. begun;
 }
 
 pub loop-given-preserved : goal.loop-given-preserved
@@ -28,7 +31,7 @@ loop-given-preserved g c =
     (g.K.Keeper.contents c.loop-given.self.keeper) c.loop-given.self.work c.loop-given.given c.loop-given.question c.loop-given.invariant.so
     (g.K.Keeper.memories c.loop-given.self.keeper) (g.K.Keeper.memories c.keep_again.new.self.keeper)
     (g.K.Keeper.contents c.keep_again.new.self.keeper) c.keep_again.new.self.work c.loop-given.self.few c.loop-given.invariant.traces
-    c.requires.justified (g.K.Keeper.kept_last c.loop-given.self.keeper) c.keep_again.ensures in
+    c.requires.justified (g.K.Keeper.kept_last c.loop-given.self.keeper) c.keep_again.ensures.kept in
     let e = subst (λ (o : Option AnswerCode). HasTurnedWith {E = AllocError} c.args.rules.now c.args.store.now g.K.Keeper.exact
     (g.K.Keeper.contents c.keep_again.new.self.keeper) (g.K.Keeper.contents c.turn_with.new.self.keeper) c.keep_again.new.self.work
     c.turn_with.new.self.work c.loop-given.question c.turn_with.new.question c.turn_with.new.trials (Ok o)) c.in_default.is
@@ -43,7 +46,13 @@ loop-given-preserved g c =
       traces = stay_then (g.K.Keeper.memories c.args.self.now.keeper) (g.K.Keeper.memories c.loop-given.self.keeper)
           (g.K.Keeper.memories c.turn_with.new.self.keeper) c.loop-given.invariant.traces
           (stay_then (g.K.Keeper.memories c.loop-given.self.keeper) (g.K.Keeper.memories c.keep_again.new.self.keeper)
-          (g.K.Keeper.memories c.turn_with.new.self.keeper) c.keep_again.ensures.stay c.turn_with.ensures.traces);
+          (g.K.Keeper.memories c.turn_with.new.self.keeper) c.keep_again.ensures.kept.stay
+          (puts_stay (g.K.Keeper.memories c.keep_again.new.self.keeper) (g.K.Keeper.memories c.turn_with.new.self.keeper) c.turn_with.ensures.traces));
+      went = λ exact. went_on g.K.Keeper.exact (g.K.Keeper.contents c.keep_again.new.self.keeper) (g.K.Keeper.contents c.turn_with.new.self.keeper)
+          (g.K.Keeper.memories c.args.self.now.keeper) (g.K.Keeper.memories c.loop-given.self.keeper)
+          (g.K.Keeper.memories c.keep_again.new.self.keeper) (g.K.Keeper.memories c.turn_with.new.self.keeper) c.args.self.now.made
+          c.loop-given.self.made c.keep_again.new.self.made c.turn_with.new.self.made (c.loop-given.invariant.went exact)
+          c.keep_again.ensures.made c.keep_again.ensures.kept.alike c.turn_with.ensures.traces c.turn_with.ensures.counts exact;
     }
 
 pub returns-in_err-told : goal.returns-in_err-told
@@ -53,7 +62,7 @@ returns-in_err-told g c =
     (g.K.Keeper.contents c.loop-given.self.keeper) c.loop-given.self.work c.loop-given.given c.loop-given.question c.loop-given.invariant.so
     (g.K.Keeper.memories c.loop-given.self.keeper) (g.K.Keeper.memories c.keep_again.new.self.keeper)
     (g.K.Keeper.contents c.keep_again.new.self.keeper) c.keep_again.new.self.work c.loop-given.self.few c.loop-given.invariant.traces
-    c.requires.justified (g.K.Keeper.kept_last c.loop-given.self.keeper) c.keep_again.ensures in
+    c.requires.justified (g.K.Keeper.kept_last c.loop-given.self.keeper) c.keep_again.ensures.kept in
     let is = (err_from_is_err_and c.from_residual.result c.from_residual.ensures.1).1 in
     record {
       turned = given_broken c.args.rules.now c.args.store.now g.K.Keeper.exact (g.K.Keeper.memories c.args.self.now.keeper) c.requires.can.answerable.basis
@@ -65,7 +74,13 @@ returns-in_err-told g c =
       traces = stay_then (g.K.Keeper.memories c.args.self.now.keeper) (g.K.Keeper.memories c.loop-given.self.keeper)
           (g.K.Keeper.memories c.turn_with.new.self.keeper) c.loop-given.invariant.traces
           (stay_then (g.K.Keeper.memories c.loop-given.self.keeper) (g.K.Keeper.memories c.keep_again.new.self.keeper)
-          (g.K.Keeper.memories c.turn_with.new.self.keeper) c.keep_again.ensures.stay c.turn_with.ensures.traces);
+          (g.K.Keeper.memories c.turn_with.new.self.keeper) c.keep_again.ensures.kept.stay
+          (puts_stay (g.K.Keeper.memories c.keep_again.new.self.keeper) (g.K.Keeper.memories c.turn_with.new.self.keeper) c.turn_with.ensures.traces));
+      went = λ exact. went_on g.K.Keeper.exact (g.K.Keeper.contents c.keep_again.new.self.keeper) (g.K.Keeper.contents c.turn_with.new.self.keeper)
+          (g.K.Keeper.memories c.args.self.now.keeper) (g.K.Keeper.memories c.loop-given.self.keeper)
+          (g.K.Keeper.memories c.keep_again.new.self.keeper) (g.K.Keeper.memories c.turn_with.new.self.keeper) c.args.self.now.made
+          c.loop-given.self.made c.keep_again.new.self.made c.turn_with.new.self.made (c.loop-given.invariant.went exact)
+          c.keep_again.ensures.made c.keep_again.ensures.kept.alike c.turn_with.ensures.traces c.turn_with.ensures.counts exact;
     }
 
 pub returns-in-Some : goal.returns-in-Some
@@ -75,7 +90,7 @@ returns-in-Some g c =
     (g.K.Keeper.contents c.loop-given.self.keeper) c.loop-given.self.work c.loop-given.given c.loop-given.question c.loop-given.invariant.so
     (g.K.Keeper.memories c.loop-given.self.keeper) (g.K.Keeper.memories c.keep_again.new.self.keeper)
     (g.K.Keeper.contents c.keep_again.new.self.keeper) c.keep_again.new.self.work c.loop-given.self.few c.loop-given.invariant.traces
-    c.requires.justified (g.K.Keeper.kept_last c.loop-given.self.keeper) c.keep_again.ensures in
+    c.requires.justified (g.K.Keeper.kept_last c.loop-given.self.keeper) c.keep_again.ensures.kept in
     let e = subst (λ (o : Option AnswerCode). HasTurnedWith {E = AllocError} c.args.rules.now c.args.store.now g.K.Keeper.exact
     (g.K.Keeper.contents c.keep_again.new.self.keeper) (g.K.Keeper.contents c.turn_with.new.self.keeper) c.keep_again.new.self.work
     c.turn_with.new.self.work c.loop-given.question c.turn_with.new.question c.turn_with.new.trials (Ok o)) c.in-Some.is
@@ -89,7 +104,13 @@ returns-in-Some g c =
       traces = stay_then (g.K.Keeper.memories c.args.self.now.keeper) (g.K.Keeper.memories c.loop-given.self.keeper)
           (g.K.Keeper.memories c.turn_with.new.self.keeper) c.loop-given.invariant.traces
           (stay_then (g.K.Keeper.memories c.loop-given.self.keeper) (g.K.Keeper.memories c.keep_again.new.self.keeper)
-          (g.K.Keeper.memories c.turn_with.new.self.keeper) c.keep_again.ensures.stay c.turn_with.ensures.traces);
+          (g.K.Keeper.memories c.turn_with.new.self.keeper) c.keep_again.ensures.kept.stay
+          (puts_stay (g.K.Keeper.memories c.keep_again.new.self.keeper) (g.K.Keeper.memories c.turn_with.new.self.keeper) c.turn_with.ensures.traces));
+      went = λ exact. went_on g.K.Keeper.exact (g.K.Keeper.contents c.keep_again.new.self.keeper) (g.K.Keeper.contents c.turn_with.new.self.keeper)
+          (g.K.Keeper.memories c.args.self.now.keeper) (g.K.Keeper.memories c.loop-given.self.keeper)
+          (g.K.Keeper.memories c.keep_again.new.self.keeper) (g.K.Keeper.memories c.turn_with.new.self.keeper) c.args.self.now.made
+          c.loop-given.self.made c.keep_again.new.self.made c.turn_with.new.self.made (c.loop-given.invariant.went exact)
+          c.keep_again.ensures.made c.keep_again.ensures.kept.alike c.turn_with.ensures.traces c.turn_with.ensures.counts exact;
     }
 
 pub returns : goal.returns
@@ -98,6 +119,7 @@ returns g c = record {
       c.args.self.now.work c.args.question.now (g.K.Keeper.contents c.loop-given.self.keeper) c.loop-given.self.work c.loop-given.given
       c.args.limit c.loop-given.question c.loop-given.invariant.so (omega (arith, c.loop-given-test.false, c.loop-given.invariant.within));
   traces = c.loop-given.invariant.traces;
+  went = c.loop-given.invariant.went;
 }
 
 pub turn_with-requires : goal.turn_with-requires
@@ -107,7 +129,7 @@ turn_with-requires g c =
     (g.K.Keeper.contents c.loop-given.self.keeper) c.loop-given.self.work c.loop-given.given c.loop-given.question c.loop-given.invariant.so
     (g.K.Keeper.memories c.loop-given.self.keeper) (g.K.Keeper.memories c.keep_again.new.self.keeper)
     (g.K.Keeper.contents c.keep_again.new.self.keeper) c.keep_again.new.self.work c.loop-given.self.few c.loop-given.invariant.traces
-    c.requires.justified (g.K.Keeper.kept_last c.loop-given.self.keeper) c.keep_again.ensures in
+    c.requires.justified (g.K.Keeper.kept_last c.loop-given.self.keeper) c.keep_again.ensures.kept in
     let l = g.K.Keeper.memories c.loop-given.self.keeper in
     let old = g.K.Keeper.contents c.loop-given.self.keeper in
     let mid = g.K.Keeper.contents c.keep_again.new.self.keeper in
@@ -119,6 +141,6 @@ turn_with-requires g c =
         wholes = so.sound.whole;
       };
       fit = fit_grown c.args.rules.now c.args.store.now old mid
-          (again_stays l old mid (settled_again g.K.Keeper.exact l q.inst c.keep_again.ensures.count old mid c.keep_again.ensures.settled))
+          (again_stays l old mid (settled_again g.K.Keeper.exact l q.inst c.keep_again.ensures.kept.count old mid c.keep_again.ensures.kept.settled))
           q c.loop-given.trials.frames.items c.loop-given.trials.awaited c.loop-given.invariant.fit;
     }

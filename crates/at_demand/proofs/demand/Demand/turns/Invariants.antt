@@ -1,6 +1,8 @@
 use Rattle.std.proofs.Common.{◌≤◌, ◌-◌}
+use Rattle.std.specs.Prelude.{IsTrue}
 use Rattle.at_cache.specs.Traced.{StayTraced}
 use Rattle.at_demand.specs.KeptTrials.{Fit}
+use Rattle.at_demand.specs.Went.{Went}
 use Rattle.at_demand.proofs.of_steps.Given.{HasGivenSo}
 use Rattle.at_demand.proofs.demand.Demand.turns.Given as goal
 
@@ -11,6 +13,7 @@ invariant-loop-given g l = record {
   fit : Fit l.rules l.store (g.K.Keeper.contents l.self.keeper) l.question l.trials;
   within : l.given ≤ l.limit;
   traces : StayTraced (g.K.Keeper.memories l.initial.self.keeper) (g.K.Keeper.memories l.self.keeper);
+  went : IsTrue g.K.Keeper.exact → Went (g.K.Keeper.memories l.initial.self.keeper) l.initial.self.made (g.K.Keeper.memories l.self.keeper) l.self.made;
 }
 
 abbrev pub decreases-loop-given : goal.decreases-loop-given

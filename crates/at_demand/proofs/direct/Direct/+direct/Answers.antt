@@ -6,8 +6,8 @@ use Rattle.at_store.specs.Shown.{contents}
 use Rattle.at_body.specs.Values.{value_view}
 use Rattle.at_body.specs.declared.value.Value.{Value as ValueCode}
 use Rattle.at_demand.specs.declared.direct.Level.{Level}
-use Rattle.at_demand.specs.Inner.{Gains, HasRecalled, HasTold, IsEvaluated, known_by}
-use Rattle.at_demand.specs.InParts.{EvaluatesTo, HasCome, HasGained, MayHaveCome, held_by, values_in}
+use Rattle.at_demand.specs.Inner.{HasRecalled, HasTold, IsEvaluated, known_by}
+use Rattle.at_demand.specs.InParts.{EvaluatesTo, HasCome, HasGained, MayHaveCome, held_by}
 use Rattle.at_demand.specs.Known.{equations, kept_values}
 use Rattle.at_demand.proofs.Entered.{absent}
 use Rattle.at_demand.proofs.of_nesting.Asked.{evaluated_behind, evaluated_in, inner_told, reads_before, reads_longer, told_alike, unkept_result, uses_before, uses_longer}
@@ -15,12 +15,10 @@ use Rattle.at_demand.proofs.of_nesting.Grown.{evaluated_more, grown_aside, grown
 use Rattle.std.proofs.lemmas.List.{nil_from_length}
 use Rattle.at_rules.specs.Bodies.{bodies_view, body_view}
 use Rattle.at_body.specs.Rest.{ev, ev_all, over, with_two}
-use Rattle.at_apply.specs.Looking.{MayHaveLooked}
-use Rattle.at_apply.specs.Parts.{next_of, or_truth, two_of}
+use Rattle.at_apply.specs.Parts.{next_of, or_truth}
 use Rattle.at_apply.specs.Place.{place_at}
-use Rattle.at_demand.specs.Traces.{StayJustified}
-use Rattle.at_demand.proofs.of_parts.Directly.{come_begun, come_gives, come_looked, gains_begun, nothing_gained}
-use Rattle.at_demand.proofs.of_parts.ByForm.{beside_come, beside_gains, call_come, call_gains, call_gains_first, call_gains_second, either_come, either_gains, either_gains_test, fold_come, fold_gains, fold_gains_first, one_come, one_gains, two_come, two_gains, two_gains_first}
+use Rattle.at_demand.proofs.of_parts.Directly.{at_once_none, at_once_some, come_begun, come_gives, come_looked, gains_begun, nothing_gained}
+use Rattle.at_demand.proofs.of_parts.ByForm.{beside_come, beside_gains, call_ends, call_gains_first, call_gains_second, either_ends, either_gains_test, fold_ends, fold_gains_first, one_come, one_gains, two_come, two_gains, two_gains_first}
 use Rattle.at_demand.proofs.of_parts.PassedBy.{goes_past, less_left}
 use Rattle.at_demand.proofs.of_parts.Looping.{bound_at, each_all, each_ends, each_gains, each_on, gains_so_far, passed_all, passed_gains, passed_on, starts, unbound_at}
 use Rattle.at_demand.proofs.direct.Direct.+direct.Goals as goal
@@ -104,8 +102,7 @@ verify-in_the_way-requires g n c = held_after c.keep_again.ensures.grown
 
 pub verify-loop-init : goal.verify-loop-init
 verify-loop-init g n c = record {
-  grown = grown_none c.args.basis.now.rules.now c.args.basis.now.store.now g.K.Keeper.exact c.args.needed.now _
-      c.args.self.now.few c.requires.held;
+  grown = grown_none _ _ _ c.args.needed.now _ c.args.self.now.few c.requires.held;
   level = refl;
   unkept = c.requires.unkept;
 }
@@ -151,33 +148,33 @@ pub verify-returns-in_err-afresh : goal.verify-returns-in_err-afresh
 verify-returns-in_err-afresh g n c = record {
   recalled = search rules;
   unkept = search rules;
-  grown = grown_aside c.args.basis.now.idle c.in-Some-2.is c.in_ok-other.ensures.led
-      (grown_then c.loop.invariant.grown c.keep_again.ensures.grown) c.level-aside.ensures.found
-      c.level-aside.ensures.work c.level-aside.ensures.made c.afresh.ensures.grown;
+  grown = grown_aside c.args.basis.now.idle c.in-Some-2.is c.in_ok-other.ensures.led (grown_then c.loop.invariant.grown
+      c.keep_again.ensures.grown) c.level-aside.ensures.found c.level-aside.ensures.work c.level-aside.ensures.made
+      c.afresh.ensures.grown;
 }
 
 pub verify-returns-in_err-push : goal.verify-returns-in_err-push
 verify-returns-in_err-push g n c = record {
   recalled = search rules;
   unkept = search rules;
-  grown = grown_aside c.args.basis.now.idle c.in-Some-2.is c.in_ok-other.ensures.led
-      (grown_then c.loop.invariant.grown c.keep_again.ensures.grown) c.level-aside.ensures.found
-      c.level-aside.ensures.work c.level-aside.ensures.made c.afresh.ensures.grown;
+  grown = grown_aside c.args.basis.now.idle c.in-Some-2.is c.in_ok-other.ensures.led (grown_then c.loop.invariant.grown
+      c.keep_again.ensures.grown) c.level-aside.ensures.found c.level-aside.ensures.work c.level-aside.ensures.made
+      c.afresh.ensures.grown;
 }
 
 pub verify-loop-preserved : goal.verify-loop-preserved
 verify-loop-preserved g n c = record {
-  grown = grown_aside c.args.basis.now.idle c.in-Some-2.is c.in_ok-other.ensures.led
-      (grown_then c.loop.invariant.grown c.keep_again.ensures.grown) c.level-aside.ensures.found
-      c.level-aside.ensures.work c.level-aside.ensures.made c.afresh.ensures.grown;
-  level = subst (λ (o : Option ValueCode). HasRecalled c.args.basis.now.rules.now (contents c.args.basis.now.store.now) (known_by
-      (g.K.Keeper.contents c.keep_again.new.keeper) c.keep_again.new.self.found.entries) c.loop.level
+  grown = grown_aside c.args.basis.now.idle c.in-Some-2.is c.in_ok-other.ensures.led (grown_then c.loop.invariant.grown
+      c.keep_again.ensures.grown) c.level-aside.ensures.found c.level-aside.ensures.work c.level-aside.ensures.made
+      c.afresh.ensures.grown;
+  level = subst (λ (o : Option ValueCode). HasRecalled c.args.basis.now.rules.now (contents c.args.basis.now.store.now)
+      (known_by (g.K.Keeper.contents c.keep_again.new.keeper) c.keep_again.new.self.found.entries) c.loop.level
       c.keep_again.new.level c.args.needed.now o) c.in_default.is c.in_ok-again.ensures.recalled ∙
       c.loop.invariant.level;
   unkept = unkept_aside c.args.needed.now c.requires.own c.in-Some-2.is c.in_ok-other.ensures.led
-      c.in_ok-other.ensures.other c.afresh.ensures.grown
-      (subst (λ (o : Option ValueCode). IfNone o (kept_values (g.K.Keeper.contents c.keep_again.new.keeper)
-      c.args.needed.now ≡ None)) c.in_default.is c.in_ok-again.ensures.unkept);
+      c.in_ok-other.ensures.other c.afresh.ensures.grown (subst (λ (o : Option ValueCode). IfNone o (kept_values
+      (g.K.Keeper.contents c.keep_again.new.keeper) c.args.needed.now ≡ None)) c.in_default.is
+      c.in_ok-again.ensures.unkept);
 }
 
 -- told, where it isn't known and can't be kept again
@@ -207,35 +204,38 @@ told-returns-in-None g n c =
 pub afresh-returns-in_err-value : goal.afresh-returns-in_err-value
 afresh-returns-in_err-value g n c = record {
   told = search rules;
-  grown = grown_from c.level-below.ensures.found c.level-below.ensures.work c.level-below.ensures.made c.evaluate.ensures.grown;
+  grown = grown_from c.level-below.ensures.found c.level-below.ensures.work c.level-below.ensures.made
+      c.evaluate.ensures.grown;
 }
 
 pub afresh-returns-in_err-again : goal.afresh-returns-in_err-again
 afresh-returns-in_err-again g n c = record {
   told = search rules;
-  grown = grown_then (grown_from c.level-below.ensures.found c.level-below.ensures.work c.level-below.ensures.made c.evaluate.ensures.grown) c.keep_again.ensures.grown;
+  grown = grown_then (grown_from c.level-below.ensures.found c.level-below.ensures.work c.level-below.ensures.made
+      c.evaluate.ensures.grown) c.keep_again.ensures.grown;
 }
 
 pub afresh-returns-in-Some : goal.afresh-returns-in-Some
 afresh-returns-in-Some g n c = record {
-  told = subst (λ (o : Option ValueCode). HasRecalled c.args.basis.now.rules.now (contents c.args.basis.now.store.now) (known_by
-      (g.K.Keeper.contents c.keep_again.new.keeper) c.keep_again.new.self.found.entries) c.args.level.now
+  told = subst (λ (o : Option ValueCode). HasRecalled c.args.basis.now.rules.now (contents c.args.basis.now.store.now)
+      (known_by (g.K.Keeper.contents c.keep_again.new.keeper) c.keep_again.new.self.found.entries) c.args.level.now
       c.keep_again.new.level c.args.needed o) c.in-Some.is c.in_ok-again.ensures.recalled;
-  grown = grown_then (grown_from c.level-below.ensures.found c.level-below.ensures.work c.level-below.ensures.made c.evaluate.ensures.grown) c.keep_again.ensures.grown;
+  grown = grown_then (grown_from c.level-below.ensures.found c.level-below.ensures.work c.level-below.ensures.made
+      c.evaluate.ensures.grown) c.keep_again.ensures.grown;
 }
 
 pub afresh-returns-in_err-keep : goal.afresh-returns-in_err-keep
 afresh-returns-in_err-keep g n c = record {
   told = search rules;
-  grown = grown_then (grown_then (grown_from c.level-below.ensures.found c.level-below.ensures.work c.level-below.ensures.made c.evaluate.ensures.grown)
-      c.keep_again.ensures.grown) c.keep.ensures.grown;
+  grown = grown_then (grown_then (grown_from c.level-below.ensures.found c.level-below.ensures.work
+      c.level-below.ensures.made c.evaluate.ensures.grown) c.keep_again.ensures.grown) c.keep.ensures.grown;
 }
 
 pub afresh-returns-in_err-push : goal.afresh-returns-in_err-push
 afresh-returns-in_err-push g n c = record {
   told = search rules;
-  grown = grown_then (grown_then (grown_from c.level-below.ensures.found c.level-below.ensures.work c.level-below.ensures.made c.evaluate.ensures.grown)
-      c.keep_again.ensures.grown) c.keep.ensures.grown;
+  grown = grown_then (grown_then (grown_from c.level-below.ensures.found c.level-below.ensures.work
+      c.level-below.ensures.made c.evaluate.ensures.grown) c.keep_again.ensures.grown) c.keep.ensures.grown;
 }
 
 pub afresh-returns : goal.afresh-returns
@@ -312,13 +312,8 @@ pub evaluate-returns-in_err-begun : goal.evaluate-returns-in_err-begun
 evaluate-returns-in_err-begun g n c = record {
   come = search rules;
   unkept = search rules;
-  grown =
-      grown_evaluated c.args.basis.now.rules.now c.args.basis.now.store.now g.K.Keeper.exact c.args.basis.now.idle
-      c.args.inst.now (held_by g.K.Keeper.contents g.K.Keeper.memories c.args.keeper.now c.args.self.now) (held_by
-      g.K.Keeper.contents g.K.Keeper.memories c.args.keeper.now c.args.self.now) c.requires.own (nothing_gained
-      c.args.basis.now.rules.now c.args.basis.now.store.now g.K.Keeper.exact (equations c.args.basis.now.rules.now
-      c.args.inst.now) (held_by g.K.Keeper.contents g.K.Keeper.memories c.args.keeper.now c.args.self.now)
-      c.args.self.now.few c.requires.held);
+  grown = grown_evaluated _ _ _ c.args.basis.now.idle c.args.inst.now _ _ c.requires.own
+      (nothing_gained _ _ _ _ _ c.args.self.now.few c.requires.held);
 }
 
 pub evaluate-returns : goal.evaluate-returns
@@ -347,127 +342,67 @@ evaluate-returns g n c =
 pub operand-returns-in_err-at_once : goal.operand-returns-in_err-at_once
 operand-returns-in_err-at_once g n c = record {
   come = search rules;
-  gains =
-      nothing_gained c.args.basis.now.rules.now c.args.basis.now.store.now g.K.Keeper.exact
-      (ev c.args.basis.now.rules.now.classes (body_view c.args.body.now) (place_at c.args.here.now)) _ c.args.self.now.few c.requires;
+  gains = nothing_gained _ _ _ _ _ c.args.self.now.few c.requires;
 }
 
 pub operand-returns-in-Some : goal.operand-returns-in-Some
-operand-returns-in-Some g n c = record {
-  come =
-      come_looked c.args.basis.now.rules.now c.args.basis.now.store.now _ c.args.level.now (record {
-        reads = c.value_at_once.new.reads;
-        uses =
-            c.args.level.now.uses;
-      }) (ev c.args.basis.now.rules.now.classes (body_view c.args.body.now) (place_at c.args.here.now))
-      (value_view c.in-Some.value) refl (subst (λ o. MayHaveLooked (contents c.args.basis.now.store.now)
-      c.args.level.now.reads c.value_at_once.new.reads (ev c.args.basis.now.rules.now.classes (body_view c.args.body.now) (place_at c.args.here.now)) o) c.in-Some.is
-      c.in_ok-at_once.ensures);
-  gains =
-      nothing_gained c.args.basis.now.rules.now c.args.basis.now.store.now g.K.Keeper.exact
-      (ev c.args.basis.now.rules.now.classes (body_view c.args.body.now) (place_at c.args.here.now)) _ c.args.self.now.few c.requires;
-}
+operand-returns-in-Some g n c = at_once_some _ _ _ _ _ _ c.value_at_once.new.reads _ c.in-Some.value
+    c.args.self.now.few c.requires c.in_ok-at_once.ensures c.in-Some.is
 
 pub operand-returns-in-None : goal.operand-returns-in-None
-operand-returns-in-None g n c = record {
-  come =
-      subst (λ (ls : List (Location ℕ)). IfOk c.value.result (λ v. HasCome c.args.basis.now.rules.now (contents
-      c.args.basis.now.store.now) (held_by g.K.Keeper.contents g.K.Keeper.memories c.value.new.keeper c.value.new.self)
-      (record { reads = ls; uses = c.args.level.now.uses }) c.value.new.level (ev c.args.basis.now.rules.now.classes (body_view c.args.body.now) (place_at c.args.here.now))
-      (value_view v))) (subst (λ o. MayHaveLooked (contents c.args.basis.now.store.now) c.args.level.now.reads
-      c.value_at_once.new.reads (ev c.args.basis.now.rules.now.classes (body_view c.args.body.now) (place_at c.args.here.now)) o) c.in-None.is
-      c.in_ok-at_once.ensures) c.value.ensures.come;
-  gains = c.value.ensures.gains;
-}
+operand-returns-in-None g n c = at_once_none _ _ _ _ _ _ _ c.value_at_once.new.reads _ c.in_ok-at_once.ensures
+    c.in-None.is c.value.new.level c.value.result c.value.ensures
 
 pub one-returns-in_err-value : goal.one-returns-in_err-value
 one-returns-in_err-value g n c = record {
   come = search rules;
-  gains =
-      one_gains c.args.basis.now.rules.now c.args.basis.now.store.now g.K.Keeper.exact (place_at c.args.here.now)
-      c.args.unary c.args.operand.now _ _ c.operand.ensures.gains;
+  gains = one_gains _ _ _ (place_at c.args.here.now) c.args.unary c.args.operand.now _ _ c.operand.ensures.gains;
 }
 
 pub one-returns : goal.one-returns
 one-returns g n c = record {
-  come =
-      one_come c.args.basis.now.rules.now c.args.basis.now.store.now g.K.Keeper.exact (place_at c.args.here.now)
-      c.args.unary c.args.operand.now c.in_ok-value.value c.with_one.result _ _ _ _ _ refl c.operand.ensures.gains
-      c.in_ok-value.ensures.come c.with_one.ensures;
-  gains =
-      one_gains c.args.basis.now.rules.now c.args.basis.now.store.now g.K.Keeper.exact (place_at c.args.here.now)
-      c.args.unary c.args.operand.now _ _ c.operand.ensures.gains;
+  come = one_come _ _ _ (place_at c.args.here.now) c.args.unary c.args.operand.now c.in_ok-value.value c.with_one.result
+      _ _ _ _ _ refl c.operand.ensures.gains c.in_ok-value.ensures.come c.with_one.ensures;
+  gains = one_gains _ _ _ (place_at c.args.here.now) c.args.unary c.args.operand.now _ _ c.operand.ensures.gains;
 }
 
 pub two-returns-in_err-first : goal.two-returns-in_err-first
 two-returns-in_err-first g n c = record {
   come = search rules;
-  gains =
-      two_gains_first c.args.basis.now.rules.now c.args.basis.now.store.now g.K.Keeper.exact (place_at c.args.here.now)
-      c.args.binary c.args.left.now c.args.right.now _ _ c.operand.ensures.gains;
+  gains = two_gains_first _ _ _ (place_at c.args.here.now) c.args.binary c.args.left.now c.args.right.now _ _
+      c.operand.ensures.gains;
 }
 
 pub two-returns-in_err-second : goal.two-returns-in_err-second
 two-returns-in_err-second g n c = record {
   come = search rules;
-  gains =
-      two_gains c.args.basis.now.rules.now c.args.basis.now.store.now g.K.Keeper.exact (place_at c.args.here.now)
-      c.args.binary c.args.left.now c.args.right.now c.in_ok-first.first _ _ _ _ _ c.operand.ensures.gains
-      c.in_ok-first.ensures.come c.operand-2.ensures.gains;
+  gains = two_gains _ _ _ (place_at c.args.here.now) c.args.binary c.args.left.now c.args.right.now c.in_ok-first.first
+      _ _ _ _ _ c.operand.ensures.gains c.in_ok-first.ensures.come c.operand-2.ensures.gains;
 }
 
 pub two-returns : goal.two-returns
 two-returns g n c = record {
-  come =
-      two_come c.args.basis.now.rules.now c.args.basis.now.store.now g.K.Keeper.exact (place_at c.args.here.now)
-      c.args.binary c.args.left.now c.args.right.now c.in_ok-first.first c.in_ok-second.second c.with_two.result _ _ _ _
-      _ _ _ refl c.operand.ensures.gains c.in_ok-first.ensures.come c.operand-2.ensures.gains c.in_ok-second.ensures.come
-      c.with_two.ensures;
-  gains =
-      two_gains c.args.basis.now.rules.now c.args.basis.now.store.now g.K.Keeper.exact (place_at c.args.here.now)
-      c.args.binary c.args.left.now c.args.right.now c.in_ok-first.first _ _ _ _ _ c.operand.ensures.gains
-      c.in_ok-first.ensures.come c.operand-2.ensures.gains;
+  come = two_come _ _ _ (place_at c.args.here.now) c.args.binary c.args.left.now c.args.right.now c.in_ok-first.first
+      c.in_ok-second.second c.with_two.result _ _ _ _ _ _ _ refl c.operand.ensures.gains c.in_ok-first.ensures.come
+      c.operand-2.ensures.gains c.in_ok-second.ensures.come c.with_two.ensures;
+  gains = two_gains _ _ _ (place_at c.args.here.now) c.args.binary c.args.left.now c.args.right.now c.in_ok-first.first
+      _ _ _ _ _ c.operand.ensures.gains c.in_ok-first.ensures.come c.operand-2.ensures.gains;
 }
 
 pub compared-returns-in_err-at_once : goal.compared-returns-in_err-at_once
 compared-returns-in_err-at_once g n c = record {
   come = search rules;
-  gains =
-      nothing_gained c.args.basis.now.rules.now c.args.basis.now.store.now g.K.Keeper.exact (two_of
-      c.args.basis.now.rules.now.classes (place_at c.args.here.now) c.args.comparison c.args.left.now c.args.right.now)
-      _ c.args.self.now.few c.requires.held;
+  gains = nothing_gained _ _ _ _ _ c.args.self.now.few c.requires.held;
 }
 
 pub compared-returns-in-Some : goal.compared-returns-in-Some
-compared-returns-in-Some g n c = record {
-  come =
-      come_looked c.args.basis.now.rules.now c.args.basis.now.store.now _ c.args.level.now (record {
-        reads = c.compare.new.reads;
-        uses =
-            c.args.level.now.uses;
-      }) (two_of c.args.basis.now.rules.now.classes (place_at c.args.here.now) c.args.comparison
-      c.args.left.now c.args.right.now) (value_view c.in-Some.value) refl (subst (λ o. MayHaveLooked (contents
-      c.args.basis.now.store.now) c.args.level.now.reads c.compare.new.reads (two_of c.args.basis.now.rules.now.classes
-      (place_at c.args.here.now) c.args.comparison c.args.left.now c.args.right.now) o) c.in-Some.is
-      (c.in_ok-at_once.ensures c.args.basis.now.rules.now.classes));
-  gains =
-      nothing_gained c.args.basis.now.rules.now c.args.basis.now.store.now g.K.Keeper.exact (two_of
-      c.args.basis.now.rules.now.classes (place_at c.args.here.now) c.args.comparison c.args.left.now c.args.right.now)
-      _ c.args.self.now.few c.requires.held;
-}
+compared-returns-in-Some g n c = at_once_some _ _ _ _ _ _ c.compare.new.reads _ c.in-Some.value
+    c.args.self.now.few c.requires.held (c.in_ok-at_once.ensures c.args.basis.now.rules.now.classes) c.in-Some.is
 
 pub compared-returns-in-None : goal.compared-returns-in-None
-compared-returns-in-None g n c = record {
-  come =
-      subst (λ (ls : List (Location ℕ)). IfOk c.in_turn.result (λ v. HasCome c.args.basis.now.rules.now (contents
-      c.args.basis.now.store.now) (held_by g.K.Keeper.contents g.K.Keeper.memories c.in_turn.new.keeper c.in_turn.new.self)
-      (record { reads = ls; uses = c.args.level.now.uses }) c.in_turn.new.level (two_of c.args.basis.now.rules.now.classes
-      (place_at c.args.here.now) c.args.comparison c.args.left.now c.args.right.now) (value_view v))) (subst (λ o.
-      MayHaveLooked (contents c.args.basis.now.store.now) c.args.level.now.reads c.compare.new.reads (two_of
-      c.args.basis.now.rules.now.classes (place_at c.args.here.now) c.args.comparison c.args.left.now c.args.right.now)
-      o) c.in-None.is (c.in_ok-at_once.ensures c.args.basis.now.rules.now.classes)) c.in_turn.ensures.come;
-  gains = c.in_turn.ensures.gains;
-}
+compared-returns-in-None g n c = at_once_none _ _ _ _ _ _ _ c.compare.new.reads _
+    (c.in_ok-at_once.ensures c.args.basis.now.rules.now.classes) c.in-None.is c.in_turn.new.level c.in_turn.result
+    c.in_turn.ensures
 
 pub in_turn-returns-in-Some : goal.in_turn-returns-in-Some
 in_turn-returns-in-Some g n c =
@@ -480,258 +415,163 @@ in_turn-returns-in-Some g n c =
 pub beside-returns-in_err-value : goal.beside-returns-in_err-value
 beside-returns-in_err-value g n c = record {
   come = search rules;
-  gains =
-      beside_gains c.args.basis.now.rules.now c.args.basis.now.store.now g.K.Keeper.exact (place_at c.args.here.now)
-      c.args.comparison c.args.text.now c.args.left.now _ _ c.operand.ensures.gains;
+  gains = beside_gains _ _ _ (place_at c.args.here.now) c.args.comparison c.args.text.now c.args.left.now _ _
+      c.operand.ensures.gains;
 }
 
 pub beside-returns : goal.beside-returns
 beside-returns g n c = record {
-  come =
-      beside_come c.args.basis.now.rules.now c.args.basis.now.store.now g.K.Keeper.exact (place_at c.args.here.now)
-      c.args.comparison c.args.text.now c.args.left.now c.in_ok-value.value c.compare_with.result _ _ _ _
-      c.operand.ensures.gains c.in_ok-value.ensures.come c.compare_with.ensures;
-  gains =
-      beside_gains c.args.basis.now.rules.now c.args.basis.now.store.now g.K.Keeper.exact (place_at c.args.here.now)
-      c.args.comparison c.args.text.now c.args.left.now _ _ c.operand.ensures.gains;
+  come = beside_come _ _ _ (place_at c.args.here.now) c.args.comparison c.args.text.now c.args.left.now
+      c.in_ok-value.value c.compare_with.result _ _ _ _ c.operand.ensures.gains c.in_ok-value.ensures.come
+      c.compare_with.ensures;
+  gains = beside_gains _ _ _ (place_at c.args.here.now) c.args.comparison c.args.text.now c.args.left.now _ _
+      c.operand.ensures.gains;
 }
 
 pub either-returns-in_err-value : goal.either-returns-in_err-value
 either-returns-in_err-value g n c = record {
   come = search rules;
-  gains =
-      either_gains_test c.args.basis.now.rules.now c.args.basis.now.store.now g.K.Keeper.exact (place_at
-      c.args.here.now) c.args.test.now c.args.yes c.args.no _ _ c.value.ensures.gains;
+  gains = either_gains_test _ _ _ (place_at c.args.here.now) c.args.test.now c.args.yes c.args.no _ _
+      c.value.ensures.gains;
 }
 
 pub either-returns-in_err-holds : goal.either-returns-in_err-holds
 either-returns-in_err-holds g n c = record {
   come = search rules;
-  gains =
-      either_gains_test c.args.basis.now.rules.now c.args.basis.now.store.now g.K.Keeper.exact (place_at
-      c.args.here.now) c.args.test.now c.args.yes c.args.no _ _ c.value.ensures.gains;
+  gains = either_gains_test _ _ _ (place_at c.args.here.now) c.args.test.now c.args.yes c.args.no _ _
+      c.value.ensures.gains;
 }
 
 pub either-returns-in-Some : goal.either-returns-in-Some
-either-returns-in-Some g n c = record {
-  come =
-      either_come c.args.basis.now.rules.now c.args.basis.now.store.now g.K.Keeper.exact (place_at c.args.here.now)
-      c.args.test.now c.args.yes c.args.no c.in_ok-value.value c.in_ok-holds.holds (ev
-      c.args.basis.now.rules.now.classes (body_view c.in-Some.body.now) (place_at c.args.here.now)) _ _ _ _ _
-      c.in_ok-holds.ensures (ap (λ o. or_truth c.args.basis.now.rules.now.classes (place_at c.args.here.now) o
-      c.in_ok-holds.holds) (sym c.in-Some.is) ∙ c.chosen.ensures c.args.basis.now.rules.now.classes (place_at
-      c.args.here.now)) c.value.ensures.gains c.in_ok-value.ensures.come c.operand.ensures.gains
-      c.operand.result c.operand.new.level c.operand.ensures.come;
-  gains =
-      either_gains c.args.basis.now.rules.now c.args.basis.now.store.now g.K.Keeper.exact (place_at c.args.here.now)
-      c.args.test.now c.args.yes c.args.no c.in_ok-value.value c.in_ok-holds.holds (ev
-      c.args.basis.now.rules.now.classes (body_view c.in-Some.body.now) (place_at c.args.here.now)) _ _ _ _ _
-      c.in_ok-holds.ensures (ap (λ o. or_truth c.args.basis.now.rules.now.classes (place_at c.args.here.now) o
-      c.in_ok-holds.holds) (sym c.in-Some.is) ∙ c.chosen.ensures c.args.basis.now.rules.now.classes (place_at
-      c.args.here.now)) c.value.ensures.gains c.in_ok-value.ensures.come c.operand.ensures.gains;
-}
+either-returns-in-Some g n c = either_ends _ _ _ (place_at c.args.here.now) c.args.test.now c.args.yes c.args.no
+    c.in_ok-value.value c.in_ok-holds.holds (ev c.args.basis.now.rules.now.classes (body_view c.in-Some.body.now)
+    (place_at c.args.here.now)) _ _ _ _ _ c.in_ok-holds.ensures (ap (λ o. or_truth c.args.basis.now.rules.now.classes
+    (place_at c.args.here.now) o c.in_ok-holds.holds) (sym c.in-Some.is) ∙ c.chosen.ensures
+    c.args.basis.now.rules.now.classes (place_at c.args.here.now)) c.value.ensures.gains c.in_ok-value.ensures.come
+    c.operand.ensures.gains c.operand.result c.operand.new.level c.operand.ensures.come
 
 pub either-returns : goal.either-returns
-either-returns g n c = record {
-  come =
-      either_come c.args.basis.now.rules.now c.args.basis.now.store.now g.K.Keeper.exact (place_at c.args.here.now)
-      c.args.test.now c.args.yes c.args.no c.in_ok-value.value c.in_ok-holds.holds (Gives (Truth c.in_ok-holds.holds)) _
-      _ _ _ _ c.in_ok-holds.ensures (ap (λ o. or_truth c.args.basis.now.rules.now.classes (place_at c.args.here.now) o
-      c.in_ok-holds.holds) (sym c.in-None.is) ∙ c.chosen.ensures c.args.basis.now.rules.now.classes (place_at
-      c.args.here.now)) c.value.ensures.gains c.in_ok-value.ensures.come (nothing_gained c.args.basis.now.rules.now
-      c.args.basis.now.store.now g.K.Keeper.exact (Gives (Truth c.in_ok-holds.holds)) _ c.value.new.self.few
-      c.value.ensures.gains.right) {E = ℕ} (Ok (value.Bool c.in_ok-holds.holds)) c.value.new.level (come_gives
-      c.args.basis.now.rules.now c.args.basis.now.store.now _ c.value.new.level (Gives (Truth c.in_ok-holds.holds))
-      (Truth c.in_ok-holds.holds) refl);
-  gains =
-      either_gains c.args.basis.now.rules.now c.args.basis.now.store.now g.K.Keeper.exact (place_at c.args.here.now)
-      c.args.test.now c.args.yes c.args.no c.in_ok-value.value c.in_ok-holds.holds (Gives (Truth c.in_ok-holds.holds)) _
-      _ _ _ _ c.in_ok-holds.ensures (ap (λ o. or_truth c.args.basis.now.rules.now.classes (place_at c.args.here.now) o
-      c.in_ok-holds.holds) (sym c.in-None.is) ∙ c.chosen.ensures c.args.basis.now.rules.now.classes (place_at
-      c.args.here.now)) c.value.ensures.gains c.in_ok-value.ensures.come (nothing_gained c.args.basis.now.rules.now
-      c.args.basis.now.store.now g.K.Keeper.exact (Gives (Truth c.in_ok-holds.holds)) _ c.value.new.self.few
-      c.value.ensures.gains.right);
-}
+either-returns g n c = either_ends _ _ _ (place_at c.args.here.now) c.args.test.now c.args.yes c.args.no
+    c.in_ok-value.value c.in_ok-holds.holds (Gives (Truth c.in_ok-holds.holds)) _ _ _ _ _ c.in_ok-holds.ensures
+    (ap (λ o. or_truth c.args.basis.now.rules.now.classes (place_at c.args.here.now) o c.in_ok-holds.holds)
+    (sym c.in-None.is) ∙ c.chosen.ensures c.args.basis.now.rules.now.classes (place_at c.args.here.now))
+    c.value.ensures.gains c.in_ok-value.ensures.come (nothing_gained c.args.basis.now.rules.now
+    c.args.basis.now.store.now g.K.Keeper.exact (Gives (Truth c.in_ok-holds.holds)) _ c.value.new.self.few
+    c.value.ensures.gains.right) (Ok (value.Bool c.in_ok-holds.holds)) c.value.new.level (come_gives
+    c.args.basis.now.rules.now c.args.basis.now.store.now _ c.value.new.level (Gives (Truth c.in_ok-holds.holds))
+    (Truth c.in_ok-holds.holds) refl)
 
 pub call-returns-in_err-value : goal.call-returns-in_err-value
 call-returns-in_err-value g n c = record {
   come = search rules;
-  gains =
-      call_gains_first c.args.basis.now.rules.now c.args.basis.now.store.now g.K.Keeper.exact (place_at c.args.here.now)
-      c.args.receiver.now c.args.attribute c.args.passed.now _ _ c.operand.ensures.gains;
+  gains = call_gains_first _ _ _ (place_at c.args.here.now) c.args.receiver.now c.args.attribute c.args.passed.now _ _
+      c.operand.ensures.gains;
 }
 
 pub call-returns-in_err-arguments : goal.call-returns-in_err-arguments
 call-returns-in_err-arguments g n c = record {
   come = search rules;
-  gains =
-      call_gains_second c.args.basis.now.rules.now c.args.basis.now.store.now g.K.Keeper.exact (place_at
-      c.args.here.now) c.args.receiver.now c.args.attribute c.args.passed.now c.in_ok-value.value _ _ (held_by
-      g.K.Keeper.contents g.K.Keeper.memories c.passed.new.keeper c.passed.new.self) _ _ c.operand.ensures.gains
-      c.in_ok-value.ensures.come c.passed.ensures.gains;
+  gains = call_gains_second _ _ _ (place_at c.args.here.now) c.args.receiver.now c.args.attribute c.args.passed.now
+      c.in_ok-value.value _ _ (held_by g.K.Keeper.contents g.K.Keeper.memories c.passed.new.keeper c.passed.new.self) _
+      _ c.operand.ensures.gains c.in_ok-value.ensures.come c.passed.ensures.gains;
 }
 
 pub call-returns-in_err-node : goal.call-returns-in_err-node
 call-returns-in_err-node g n c = record {
   come = search rules;
-  gains =
-      call_gains_second c.args.basis.now.rules.now c.args.basis.now.store.now g.K.Keeper.exact (place_at
-      c.args.here.now) c.args.receiver.now c.args.attribute c.args.passed.now c.in_ok-value.value _ _ (held_by
-      g.K.Keeper.contents g.K.Keeper.memories c.passed.new.keeper c.passed.new.self) _ _ c.operand.ensures.gains
-      c.in_ok-value.ensures.come c.passed.ensures.gains;
+  gains = call_gains_second _ _ _ (place_at c.args.here.now) c.args.receiver.now c.args.attribute c.args.passed.now
+      c.in_ok-value.value _ _ (held_by g.K.Keeper.contents g.K.Keeper.memories c.passed.new.keeper c.passed.new.self) _
+      _ c.operand.ensures.gains c.in_ok-value.ensures.come c.passed.ensures.gains;
 }
 
 pub call-returns : goal.call-returns
-call-returns g n c = record {
-  come =
-      call_come c.args.basis.now.rules.now c.args.basis.now.store.now g.K.Keeper.exact (place_at c.args.here.now)
-      c.args.receiver.now c.args.attribute c.args.passed.now c.in_ok-value.value _ _ (held_by g.K.Keeper.contents
-      g.K.Keeper.memories c.passed.new.keeper c.passed.new.self) _ _ c.operand.ensures.gains c.in_ok-value.ensures.come
-      c.passed.ensures.gains c.in_ok-node.node c.in_ok-arguments.arguments (held_by g.K.Keeper.contents
-      g.K.Keeper.memories c.told.new.keeper c.told.new.self) c.passed.new.level c.in_ok-node.ensures
-      c.in_ok-arguments.ensures.come (subst (λ i. Gains c.args.basis.now.rules.now c.args.basis.now.store.now
-      g.K.Keeper.exact i (g.K.Keeper.contents c.passed.new.keeper) (g.K.Keeper.contents c.told.new.keeper)
-      c.passed.new.self.found.entries c.told.new.self.found.entries c.passed.new.self.work c.told.new.self.work)
-      c.new.ensures c.told.ensures.grown.gains) (subst (λ i. StayJustified c.args.basis.now.rules.now
-      c.args.basis.now.store.now i (g.K.Keeper.memories c.passed.new.keeper) (g.K.Keeper.memories c.told.new.keeper))
-      c.new.ensures c.told.ensures.grown.traces) c.told.ensures.grown.makes c.told.result c.told.new.level (subst (λ i. IfOk c.told.result (λ u.
-      HasTold c.args.basis.now.rules.now (contents c.args.basis.now.store.now) (values_in (held_by g.K.Keeper.contents
-      g.K.Keeper.memories c.told.new.keeper c.told.new.self)) c.passed.new.level c.told.new.level i (value_view u)))
-      c.new.ensures c.told.ensures.told);
-  gains =
-      call_gains c.args.basis.now.rules.now c.args.basis.now.store.now g.K.Keeper.exact (place_at c.args.here.now)
-      c.args.receiver.now c.args.attribute c.args.passed.now c.in_ok-value.value _ _ (held_by g.K.Keeper.contents
-      g.K.Keeper.memories c.passed.new.keeper c.passed.new.self) _ _ c.operand.ensures.gains c.in_ok-value.ensures.come
-      c.passed.ensures.gains c.in_ok-node.node c.in_ok-arguments.arguments (held_by g.K.Keeper.contents
-      g.K.Keeper.memories c.told.new.keeper c.told.new.self) c.passed.new.level c.in_ok-node.ensures
-      c.in_ok-arguments.ensures.come (subst (λ i. Gains c.args.basis.now.rules.now c.args.basis.now.store.now
-      g.K.Keeper.exact i (g.K.Keeper.contents c.passed.new.keeper) (g.K.Keeper.contents c.told.new.keeper)
-      c.passed.new.self.found.entries c.told.new.self.found.entries c.passed.new.self.work c.told.new.self.work)
-      c.new.ensures c.told.ensures.grown.gains) (subst (λ i. StayJustified c.args.basis.now.rules.now
-      c.args.basis.now.store.now i (g.K.Keeper.memories c.passed.new.keeper) (g.K.Keeper.memories c.told.new.keeper))
-      c.new.ensures c.told.ensures.grown.traces) c.told.ensures.grown.makes;
-}
+call-returns g n c = call_ends _ _ _ (place_at c.args.here.now) c.args.receiver.now c.args.attribute c.args.passed.now
+    c.in_ok-value.value _ _ (held_by g.K.Keeper.contents g.K.Keeper.memories c.passed.new.keeper c.passed.new.self) _ _
+    c.operand.ensures.gains c.in_ok-value.ensures.come c.passed.ensures.gains c.in_ok-node.node
+    c.in_ok-arguments.arguments (held_by g.K.Keeper.contents g.K.Keeper.memories c.told.new.keeper c.told.new.self)
+    c.passed.new.level c.in_ok-node.ensures c.in_ok-arguments.ensures.come _ c.new.ensures c.told.result
+    c.told.new.level c.told.ensures
 
 pub over-returns-in_err-value : goal.over-returns-in_err-value
 over-returns-in_err-value g n c = record {
   come = search rules;
-  gains =
-      fold_gains_first c.args.basis.now.rules.now c.args.basis.now.store.now g.K.Keeper.exact (place_at c.args.here.now)
-      c.args.fold c.args.of.now c.args.part c.args.body.now _ _ c.operand.ensures.gains;
+  gains = fold_gains_first _ _ _ (place_at c.args.here.now) c.args.fold c.args.of.now c.args.part c.args.body.now _ _
+      c.operand.ensures.gains;
 }
 
 pub over-returns-in_err-node : goal.over-returns-in_err-node
 over-returns-in_err-node g n c = record {
   come = search rules;
-  gains =
-      fold_gains_first c.args.basis.now.rules.now c.args.basis.now.store.now g.K.Keeper.exact (place_at c.args.here.now)
-      c.args.fold c.args.of.now c.args.part c.args.body.now _ _ c.operand.ensures.gains;
+  gains = fold_gains_first _ _ _ (place_at c.args.here.now) c.args.fold c.args.of.now c.args.part c.args.body.now _ _
+      c.operand.ensures.gains;
 }
 
 pub over-returns-in_err-push : goal.over-returns-in_err-push
 over-returns-in_err-push g n c = record {
   come = search rules;
-  gains =
-      fold_gains_first c.args.basis.now.rules.now c.args.basis.now.store.now g.K.Keeper.exact (place_at c.args.here.now)
-      c.args.fold c.args.of.now c.args.part c.args.body.now _ _ c.operand.ensures.gains;
+  gains = fold_gains_first _ _ _ (place_at c.args.here.now) c.args.fold c.args.of.now c.args.part c.args.body.now _ _
+      c.operand.ensures.gains;
 }
 
 pub over-returns : goal.over-returns
-over-returns g n c = record {
-  come =
-      fold_come c.args.basis.now.rules.now c.args.basis.now.store.now g.K.Keeper.exact (place_at c.args.here.now)
-      c.args.fold c.args.of.now c.args.part c.args.body.now c.in_ok-value.value c.in_ok-node.node c.children.result.now
-      _ _ _ _ _ (record {
-        reads =
-            c.push.new.self;
-        uses = c.operand.new.level.uses;
-      }) c.in_ok-node.ensures c.children.ensures.shown
-      c.in_ok-push.ensures.gained c.operand.ensures.gains c.in_ok-value.ensures.come c.each.ensures.gains c.each.result
-      c.each.new.level refl c.each.ensures.come;
-  gains =
-      fold_gains c.args.basis.now.rules.now c.args.basis.now.store.now g.K.Keeper.exact (place_at c.args.here.now)
-      c.args.fold c.args.of.now c.args.part c.args.body.now c.in_ok-value.value c.in_ok-node.node c.children.result.now
-      _ _ _ _ _ (record {
-        reads =
-            c.push.new.self;
-        uses = c.operand.new.level.uses;
-      }) c.in_ok-node.ensures c.children.ensures.shown
-      c.in_ok-push.ensures.gained c.operand.ensures.gains c.in_ok-value.ensures.come c.each.ensures.gains;
-}
+over-returns g n c = fold_ends _ _ _ (place_at c.args.here.now) c.args.fold c.args.of.now c.args.part c.args.body.now
+    c.in_ok-value.value c.in_ok-node.node c.children.result.now _ _ _ _ _
+    (record { reads = c.push.new.self; uses = c.operand.new.level.uses }) c.in_ok-node.ensures c.children.ensures.shown
+    c.in_ok-push.ensures.gained c.operand.ensures.gains c.in_ok-value.ensures.come c.each.ensures.gains c.each.result
+    c.each.new.level refl c.each.ensures.come
 
 pub passed-returns-then-hands_on : goal.passed-returns-then-hands_on
 passed-returns-then-hands_on g n c = record {
-  come =
-      IfOk-weaker c.handed_on.result _ _ (λ a h. come_gives c.args.basis.now.rules.now c.args.basis.now.store.now
+  come = IfOk-weaker c.handed_on.result _ _ (λ a h. come_gives c.args.basis.now.rules.now c.args.basis.now.store.now
       (held_by g.K.Keeper.contents g.K.Keeper.memories c.args.keeper.now c.args.self.now) c.args.level.now (ev_all
       c.args.basis.now.rules.now.classes (bodies_view c.args.passed.now) (place_at c.args.here.now)) (map value_view a)
       (c.hands_on.ensures c.if-hands_on.true c.args.basis.now.rules.now.classes ∙ ap (λ (vs : List ValueCode). Gives
       (map value_view vs)) (sym h))) c.handed_on.ensures;
-  gains =
-      nothing_gained c.args.basis.now.rules.now c.args.basis.now.store.now g.K.Keeper.exact (ev_all
-      c.args.basis.now.rules.now.classes (bodies_view c.args.passed.now) (place_at c.args.here.now)) _
-      c.args.self.now.few c.requires;
+  gains = nothing_gained _ _ _ _ _ c.args.self.now.few c.requires;
 }
 
 pub passed-loop-argument-init : goal.passed-loop-argument-init
 passed-loop-argument-init g n c =
-    starts c.args.basis.now.rules.now c.args.basis.now.store.now g.K.Keeper.exact _ c.args.level.now (ev_all
-    c.args.basis.now.rules.now.classes (bodies_view c.args.passed.now) (place_at c.args.here.now)) (λ vs. map value_view
-    c.new-values.result.items ++ vs) (λ vs. ap (λ (us : List ValueCode). map value_view us ++ vs)
-    c.new-values.ensures.items) c.requires
+    starts _ _ _ _ c.args.level.now _ (λ vs. map value_view c.new-values.result.items ++ vs)
+    (λ vs. ap (λ (us : List ValueCode). map value_view us ++ vs) c.new-values.ensures.items) c.requires
 
 pub passed-returns-in_err-value : goal.passed-returns-in_err-value
 passed-returns-in_err-value g n c = record {
   come = no_ok c.from_residual.result _ _ c.from_residual.ensures.1;
-  gains =
-      passed_gains c.args.basis.now.rules.now c.args.basis.now.store.now g.K.Keeper.exact (place_at c.args.here.now)
-      (ev_all c.args.basis.now.rules.now.classes (bodies_view c.args.passed.now) (place_at c.args.here.now)) _ _ _ _ _
-      c.value.new.level c.in-Some.argument.now c.in-Some.others.now c.loop-argument.rest.now c.in-Some.ensures.cases.0
-      c.loop-argument.values.items c.loop-argument.invariant c.value.ensures.gains;
+  gains = passed_gains _ _ _ (place_at c.args.here.now) _ _ _ _ _ _ c.value.new.level c.in-Some.argument.now
+      c.in-Some.others.now c.loop-argument.rest.now c.in-Some.ensures.cases.0 c.loop-argument.values.items
+      c.loop-argument.invariant c.value.ensures.gains;
 }
 
 pub passed-returns-in_err-push : goal.passed-returns-in_err-push
 passed-returns-in_err-push g n c = record {
   come = search rules;
-  gains =
-      passed_gains c.args.basis.now.rules.now c.args.basis.now.store.now g.K.Keeper.exact (place_at c.args.here.now)
-      (ev_all c.args.basis.now.rules.now.classes (bodies_view c.args.passed.now) (place_at c.args.here.now)) _ _ _ _ _
-      c.value.new.level c.in-Some.argument.now c.in-Some.others.now c.loop-argument.rest.now c.in-Some.ensures.cases.0
-      c.loop-argument.values.items c.loop-argument.invariant c.value.ensures.gains;
+  gains = passed_gains _ _ _ (place_at c.args.here.now) _ _ _ _ _ _ c.value.new.level c.in-Some.argument.now
+      c.in-Some.others.now c.loop-argument.rest.now c.in-Some.ensures.cases.0 c.loop-argument.values.items
+      c.loop-argument.invariant c.value.ensures.gains;
 }
 
 pub passed-loop-argument-preserved : goal.passed-loop-argument-preserved
 passed-loop-argument-preserved g n c =
-    passed_on c.args.basis.now.rules.now c.args.basis.now.store.now g.K.Keeper.exact (place_at c.args.here.now) (ev_all
-    c.args.basis.now.rules.now.classes (bodies_view c.args.passed.now) (place_at c.args.here.now)) _ _ _ _ _
-    c.value.new.level c.in-Some.argument.now c.in-Some.others.now c.loop-argument.rest.now c.in-Some.ensures.cases.0
-    c.loop-argument.values.items c.loop-argument.invariant c.value.ensures.gains c.in_ok-value.value
-    c.push.new.self.items c.in_ok-push.ensures.items c.in_ok-value.ensures.come
+    passed_on _ _ _ (place_at c.args.here.now) _ _ _ _ _ _ c.value.new.level c.in-Some.argument.now _ _
+    c.in-Some.ensures.cases.0 c.loop-argument.values.items c.loop-argument.invariant c.value.ensures.gains
+    c.in_ok-value.value c.push.new.self.items c.in_ok-push.ensures.items c.in_ok-value.ensures.come
 
 pub passed-returns-in_err-arguments : goal.passed-returns-in_err-arguments
 passed-returns-in_err-arguments g n c = record {
   come = search rules;
-  gains =
-      gains_so_far c.args.basis.now.rules.now c.args.basis.now.store.now g.K.Keeper.exact (ev_all
-      c.args.basis.now.rules.now.classes (bodies_view c.args.passed.now) (place_at c.args.here.now)) _ _ _ _ _ _
-      c.loop-argument.self.few c.loop-argument.invariant;
+  gains = gains_so_far _ _ _ _ _ _ _ _ _ _ c.loop-argument.self.few c.loop-argument.invariant;
 }
 
 pub passed-returns : goal.passed-returns
 passed-returns g n c = record {
-  come =
-      subst (λ (vs : List ValueCode). HasCome c.args.basis.now.rules.now (contents c.args.basis.now.store.now) (held_by
-      g.K.Keeper.contents g.K.Keeper.memories c.loop-argument.keeper c.loop-argument.self) c.args.level.now
+  come = subst (λ (vs : List ValueCode). HasCome c.args.basis.now.rules.now (contents c.args.basis.now.store.now)
+      (held_by g.K.Keeper.contents g.K.Keeper.memories c.loop-argument.keeper c.loop-argument.self) c.args.level.now
       c.loop-argument.level (ev_all c.args.basis.now.rules.now.classes (bodies_view c.args.passed.now) (place_at
-      c.args.here.now)) (map value_view vs)) (sym c.in_ok-arguments.ensures) (passed_all c.args.basis.now.rules.now
-      c.args.basis.now.store.now g.K.Keeper.exact (place_at c.args.here.now) (ev_all c.args.basis.now.rules.now.classes
-      (bodies_view c.args.passed.now) (place_at c.args.here.now)) _ _ c.args.level.now c.loop-argument.level
-      c.loop-argument.rest.now (nil_from_length _ c.in_default.ensures.cases) c.loop-argument.values.items
-      c.loop-argument.invariant);
-  gains =
-      gains_so_far c.args.basis.now.rules.now c.args.basis.now.store.now g.K.Keeper.exact (ev_all
-      c.args.basis.now.rules.now.classes (bodies_view c.args.passed.now) (place_at c.args.here.now)) _ _ _ _ _ _
-      c.loop-argument.self.few c.loop-argument.invariant;
+      c.args.here.now)) (map value_view vs)) (sym c.in_ok-arguments.ensures) (passed_all _ _ _ (place_at
+      c.args.here.now) _ _ _ c.args.level.now c.loop-argument.level c.loop-argument.rest.now (nil_from_length _
+      c.in_default.ensures.cases) c.loop-argument.values.items c.loop-argument.invariant);
+  gains = gains_so_far _ _ _ _ _ _ _ _ _ _ c.loop-argument.self.few c.loop-argument.invariant;
 }
 
 pub each-asked_inside-asked_here-requires : goal.each-asked_inside-asked_here-requires
@@ -750,19 +590,13 @@ each-behind-requires-in-Some g n c = c.inner_of_each-asked.ensures
 pub each-returns-in_err-rest : goal.each-returns-in_err-rest
 each-returns-in_err-rest g n c = record {
   come = search rules;
-  gains =
-      nothing_gained c.args.basis.now.rules.now c.args.basis.now.store.now g.K.Keeper.exact (over
-      c.args.basis.now.rules.now.classes c.args.fold (body_view c.args.body.now) (place_at c.args.here.now)
-      c.args.nodes.now) _ c.args.self.now.few c.requires;
+  gains = nothing_gained _ _ _ _ _ c.args.self.now.few c.requires;
 }
 
 pub each-returns-in_err-inside : goal.each-returns-in_err-inside
 each-returns-in_err-inside g n c = record {
   come = search rules;
-  gains =
-      nothing_gained c.args.basis.now.rules.now c.args.basis.now.store.now g.K.Keeper.exact (over
-      c.args.basis.now.rules.now.classes c.args.fold (body_view c.args.body.now) (place_at c.args.here.now)
-      c.args.nodes.now) _ c.args.self.now.few c.requires;
+  gains = nothing_gained _ _ _ _ _ c.args.self.now.few c.requires;
 }
 
 pub each-loop-node-init : goal.each-loop-node-init
@@ -781,116 +615,76 @@ each-loop-node-init g n c =
 pub each-returns-in_err-push : goal.each-returns-in_err-push
 each-returns-in_err-push g n c = record {
   come = search rules;
-  gains =
-      gains_so_far c.args.basis.now.rules.now c.args.basis.now.store.now g.K.Keeper.exact (over
-      c.args.basis.now.rules.now.classes c.args.fold (body_view c.args.body.now) (place_at c.args.here.now)
-      c.args.nodes.now) _ _ _ _ _ _ c.loop-node.self.few c.loop-node.invariant.goes;
+  gains = gains_so_far _ _ _ _ _ _ _ _ _ _ c.loop-node.self.few c.loop-node.invariant.goes;
 }
 
 pub each-returns-in_err-value : goal.each-returns-in_err-value
 each-returns-in_err-value g n c = record {
   come = search rules;
-  gains =
-      each_gains c.args.basis.now.rules.now c.args.basis.now.store.now g.K.Keeper.exact (place_at c.args.here.now) (over
-      c.args.basis.now.rules.now.classes c.args.fold (body_view c.args.body.now) (place_at c.args.here.now)
-      c.args.nodes.now) _ _ _ _ _ c.element.new.level c.loop-node.going c.args.body.now c.in-Some.node.now
-      c.in-Some.others.now c.loop-node.rest.now c.in-Some.ensures.cases.0 (place_at
-      (record c.loop-node.inside { bound = c.push.new.self })) (bound_at (place_at c.loop-node.inside) (place_at
-      c.args.here.now) c.in-Some.node.now c.push.new.self c.loop-node.invariant.place c.in_ok-push.ensures)
+  gains = each_gains _ _ _ (place_at c.args.here.now) _ _ _ _ _ _ c.element.new.level c.loop-node.going c.args.body.now
+      _ _ _ c.in-Some.ensures.cases.0 _ (bound_at _ _ _ _ c.loop-node.invariant.place c.in_ok-push.ensures)
       c.loop-node.invariant.goes c.element.ensures.gains;
 }
 
 pub each-returns-in_err-next : goal.each-returns-in_err-next
 each-returns-in_err-next g n c = record {
   come = search rules;
-  gains =
-      each_gains c.args.basis.now.rules.now c.args.basis.now.store.now g.K.Keeper.exact (place_at c.args.here.now) (over
-      c.args.basis.now.rules.now.classes c.args.fold (body_view c.args.body.now) (place_at c.args.here.now)
-      c.args.nodes.now) _ _ _ _ _ c.element.new.level c.loop-node.going c.args.body.now c.in-Some.node.now
-      c.in-Some.others.now c.loop-node.rest.now c.in-Some.ensures.cases.0 (place_at
-      (record c.loop-node.inside { bound = c.push.new.self })) (bound_at (place_at c.loop-node.inside) (place_at
-      c.args.here.now) c.in-Some.node.now c.push.new.self c.loop-node.invariant.place c.in_ok-push.ensures)
+  gains = each_gains _ _ _ (place_at c.args.here.now) _ _ _ _ _ _ c.element.new.level c.loop-node.going c.args.body.now
+      _ _ _ c.in-Some.ensures.cases.0 _ (bound_at _ _ _ _ c.loop-node.invariant.place c.in_ok-push.ensures)
       c.loop-node.invariant.goes c.element.ensures.gains;
 }
 
 pub each-returns-in_err-rest-2 : goal.each-returns-in_err-rest-2
 each-returns-in_err-rest-2 g n c = record {
   come = search rules;
-  gains =
-      each_gains c.args.basis.now.rules.now c.args.basis.now.store.now g.K.Keeper.exact (place_at c.args.here.now) (over
-      c.args.basis.now.rules.now.classes c.args.fold (body_view c.args.body.now) (place_at c.args.here.now)
-      c.args.nodes.now) _ _ _ _ _ c.element.new.level c.loop-node.going c.args.body.now c.in-Some.node.now
-      c.in-Some.others.now c.loop-node.rest.now c.in-Some.ensures.cases.0 (place_at
-      (record c.loop-node.inside { bound = c.push.new.self })) (bound_at (place_at c.loop-node.inside) (place_at
-      c.args.here.now) c.in-Some.node.now c.push.new.self c.loop-node.invariant.place c.in_ok-push.ensures)
+  gains = each_gains _ _ _ (place_at c.args.here.now) _ _ _ _ _ _ c.element.new.level c.loop-node.going c.args.body.now
+      _ _ _ c.in-Some.ensures.cases.0 _ (bound_at _ _ _ _ c.loop-node.invariant.place c.in_ok-push.ensures)
       c.loop-node.invariant.goes c.element.ensures.gains;
 }
 
 pub each-returns-in-End : goal.each-returns-in-End
 each-returns-in-End g n c = record {
-  come =
-      each_ends c.args.basis.now.rules.now c.args.basis.now.store.now g.K.Keeper.exact (place_at c.args.here.now) (over
-      c.args.basis.now.rules.now.classes c.args.fold (body_view c.args.body.now) (place_at c.args.here.now)
-      c.args.nodes.now) _ _ _ _ _ c.element.new.level c.loop-node.going c.args.body.now c.in-Some.node.now
-      c.in-Some.others.now c.loop-node.rest.now c.in-Some.ensures.cases.0 (place_at
-      (record c.loop-node.inside { bound = c.push.new.self })) (bound_at (place_at c.loop-node.inside) (place_at
-      c.args.here.now) c.in-Some.node.now c.push.new.self c.loop-node.invariant.place c.in_ok-push.ensures)
+  come = each_ends _ _ _ (place_at c.args.here.now) _ _ _ _ _ _ c.element.new.level c.loop-node.going c.args.body.now _
+      _ _ c.in-Some.ensures.cases.0 _ (bound_at _ _ _ _ c.loop-node.invariant.place c.in_ok-push.ensures)
       c.loop-node.invariant.goes c.element.ensures.gains (value_view c.in_ok-value.value) c.in_ok-value.ensures.come
       (value_view c.in-End.value) (c.in_ok-next.ensures c.args.basis.now.rules.now.classes (body_view c.args.body.now)
       (place_at c.args.here.now) c.in-Some.others.now ∙ ap (next_of c.args.basis.now.rules.now.classes (body_view
       c.args.body.now) (place_at c.args.here.now) c.in-Some.others.now) c.in-End.is);
-  gains =
-      each_gains c.args.basis.now.rules.now c.args.basis.now.store.now g.K.Keeper.exact (place_at c.args.here.now) (over
-      c.args.basis.now.rules.now.classes c.args.fold (body_view c.args.body.now) (place_at c.args.here.now)
-      c.args.nodes.now) _ _ _ _ _ c.element.new.level c.loop-node.going c.args.body.now c.in-Some.node.now
-      c.in-Some.others.now c.loop-node.rest.now c.in-Some.ensures.cases.0 (place_at
-      (record c.loop-node.inside { bound = c.push.new.self })) (bound_at (place_at c.loop-node.inside) (place_at
-      c.args.here.now) c.in-Some.node.now c.push.new.self c.loop-node.invariant.place c.in_ok-push.ensures)
+  gains = each_gains _ _ _ (place_at c.args.here.now) _ _ _ _ _ _ c.element.new.level c.loop-node.going c.args.body.now
+      _ _ _ c.in-Some.ensures.cases.0 _ (bound_at _ _ _ _ c.loop-node.invariant.place c.in_ok-push.ensures)
       c.loop-node.invariant.goes c.element.ensures.gains;
 }
 
 pub each-loop-node-preserved : goal.each-loop-node-preserved
 each-loop-node-preserved g n c =
+    let p = place_at c.args.here.now in
     record {
-      place = unbound_at (place_at c.loop-node.inside) (place_at c.args.here.now) c.in-Some.node.now
-          c.push.new.self c.pop.new.self c.loop-node.invariant.place c.in_ok-push.ensures c.pop.ensures.left;
-      goes = goes_past c.args.basis.now.rules.now c.args.basis.now.store.now g.K.Keeper.exact (place_at c.args.here.now) c.in-On.further
-          c.args.body.now (over c.args.basis.now.rules.now.classes c.args.fold (body_view c.args.body.now) (place_at
-          c.args.here.now) c.args.nodes.now) _ _ _ c.element.new.level c.behind-in-Some.new.level c.in-Some.others.now c.in_ok-rest-2.rest.now
-          c.element.new.self.few c.in_ok-rest-2.ensures
-          (each_on
-          c.args.basis.now.rules.now c.args.basis.now.store.now g.K.Keeper.exact (place_at c.args.here.now) (over
-          c.args.basis.now.rules.now.classes c.args.fold (body_view c.args.body.now) (place_at c.args.here.now)
-          c.args.nodes.now) _ _ _ _ _ c.element.new.level c.loop-node.going c.args.body.now c.in-Some.node.now
-          c.in-Some.others.now c.loop-node.rest.now c.in-Some.ensures.cases.0 (place_at
-          (record c.loop-node.inside { bound = c.push.new.self })) (bound_at (place_at c.loop-node.inside) (place_at
-          c.args.here.now) c.in-Some.node.now c.push.new.self c.loop-node.invariant.place c.in_ok-push.ensures)
-          c.loop-node.invariant.goes c.element.ensures.gains (value_view c.in_ok-value.value) c.in_ok-value.ensures.come
-          c.in-On.further (c.in_ok-next.ensures c.args.basis.now.rules.now.classes (body_view c.args.body.now) (place_at
-          c.args.here.now) c.in-Some.others.now ∙ ap (next_of c.args.basis.now.rules.now.classes (body_view
-          c.args.body.now) (place_at c.args.here.now) c.in-Some.others.now) c.in-On.is));
+      place = unbound_at _ p _ _ _ c.loop-node.invariant.place c.in_ok-push.ensures c.pop.ensures.left;
+      goes = goes_past _ _ _ p c.in-On.further c.args.body.now _ _ _ _ c.element.new.level
+          c.behind-in-Some.new.level c.in-Some.others.now c.in_ok-rest-2.rest.now c.element.new.self.few
+          c.in_ok-rest-2.ensures (each_on c.args.basis.now.rules.now c.args.basis.now.store.now g.K.Keeper.exact p _ _ _
+          _ _ _ c.element.new.level c.loop-node.going c.args.body.now _ _ _ c.in-Some.ensures.cases.0 _
+          (bound_at _ _ _ _ c.loop-node.invariant.place c.in_ok-push.ensures) c.loop-node.invariant.goes
+          c.element.ensures.gains (value_view c.in_ok-value.value) c.in_ok-value.ensures.come c.in-On.further
+          (c.in_ok-next.ensures c.args.basis.now.rules.now.classes (body_view c.args.body.now) p c.in-Some.others.now
+          ∙ ap (next_of c.args.basis.now.rules.now.classes (body_view c.args.body.now) p c.in-Some.others.now)
+          c.in-On.is));
     }
 
 pub each-loop-node-preserved-in_ok-rest-2 : goal.each-loop-node-preserved-in_ok-rest-2
 each-loop-node-preserved-in_ok-rest-2 g n c =
+    let p = place_at c.args.here.now in
     record {
-      place = unbound_at (place_at c.loop-node.inside) (place_at c.args.here.now) c.in-Some.node.now
-          c.push.new.self c.pop.new.self c.loop-node.invariant.place c.in_ok-push.ensures c.pop.ensures.left;
-      goes = goes_past c.args.basis.now.rules.now c.args.basis.now.store.now g.K.Keeper.exact (place_at c.args.here.now) c.in-On.further
-          c.args.body.now (over c.args.basis.now.rules.now.classes c.args.fold (body_view c.args.body.now) (place_at
-          c.args.here.now) c.args.nodes.now) _ _ _ c.element.new.level c.behind-in-Some.new.level c.in-Some.others.now c.in_ok-rest-2.rest.now
-          c.element.new.self.few c.in_ok-rest-2.ensures
-          (each_on
-          c.args.basis.now.rules.now c.args.basis.now.store.now g.K.Keeper.exact (place_at c.args.here.now) (over
-          c.args.basis.now.rules.now.classes c.args.fold (body_view c.args.body.now) (place_at c.args.here.now)
-          c.args.nodes.now) _ _ _ _ _ c.element.new.level c.loop-node.going c.args.body.now c.in-Some.node.now
-          c.in-Some.others.now c.loop-node.rest.now c.in-Some.ensures.cases.0 (place_at
-          (record c.loop-node.inside { bound = c.push.new.self })) (bound_at (place_at c.loop-node.inside) (place_at
-          c.args.here.now) c.in-Some.node.now c.push.new.self c.loop-node.invariant.place c.in_ok-push.ensures)
-          c.loop-node.invariant.goes c.element.ensures.gains (value_view c.in_ok-value.value) c.in_ok-value.ensures.come
-          c.in-On.further (c.in_ok-next.ensures c.args.basis.now.rules.now.classes (body_view c.args.body.now) (place_at
-          c.args.here.now) c.in-Some.others.now ∙ ap (next_of c.args.basis.now.rules.now.classes (body_view
-          c.args.body.now) (place_at c.args.here.now) c.in-Some.others.now) c.in-On.is));
+      place = unbound_at _ p _ _ _ c.loop-node.invariant.place c.in_ok-push.ensures c.pop.ensures.left;
+      goes = goes_past _ _ _ p c.in-On.further c.args.body.now _ _ _ _ c.element.new.level
+          c.behind-in-Some.new.level c.in-Some.others.now c.in_ok-rest-2.rest.now c.element.new.self.few
+          c.in_ok-rest-2.ensures (each_on c.args.basis.now.rules.now c.args.basis.now.store.now g.K.Keeper.exact p _ _ _
+          _ _ _ c.element.new.level c.loop-node.going c.args.body.now _ _ _ c.in-Some.ensures.cases.0 _
+          (bound_at _ _ _ _ c.loop-node.invariant.place c.in_ok-push.ensures) c.loop-node.invariant.goes
+          c.element.ensures.gains (value_view c.in_ok-value.value) c.in_ok-value.ensures.come c.in-On.further
+          (c.in_ok-next.ensures c.args.basis.now.rules.now.classes (body_view c.args.body.now) p c.in-Some.others.now
+          ∙ ap (next_of c.args.basis.now.rules.now.classes (body_view c.args.body.now) p c.in-Some.others.now)
+          c.in-On.is));
     }
 
 pub each-loop-node-smaller : goal.each-loop-node-smaller
@@ -907,17 +701,11 @@ each-loop-node-smaller-in_ok-rest-2 g n c =
 
 pub each-returns : goal.each-returns
 each-returns g n c = record {
-  come =
-      each_all c.args.basis.now.rules.now c.args.basis.now.store.now g.K.Keeper.exact (place_at c.args.here.now) (over
-      c.args.basis.now.rules.now.classes c.args.fold (body_view c.args.body.now) (place_at c.args.here.now)
-      c.args.nodes.now) _ _ c.args.level.now c.loop-node.level c.loop-node.going c.args.body.now c.loop-node.rest.now
-      (nil_from_length _ c.in_default.ensures.cases) (value_view c.come_to.result) (c.come_to.ensures
-      c.args.basis.now.rules.now.classes (body_view c.args.body.now) (place_at c.args.here.now))
+  come = each_all _ _ _ (place_at c.args.here.now) _ _ _ c.args.level.now c.loop-node.level c.loop-node.going
+      c.args.body.now c.loop-node.rest.now (nil_from_length _ c.in_default.ensures.cases) (value_view c.come_to.result)
+      (c.come_to.ensures c.args.basis.now.rules.now.classes (body_view c.args.body.now) (place_at c.args.here.now))
       c.loop-node.invariant.goes;
-  gains =
-      gains_so_far c.args.basis.now.rules.now c.args.basis.now.store.now g.K.Keeper.exact (over
-      c.args.basis.now.rules.now.classes c.args.fold (body_view c.args.body.now) (place_at c.args.here.now)
-      c.args.nodes.now) _ _ _ _ _ _ c.loop-node.self.few c.loop-node.invariant.goes;
+  gains = gains_so_far _ _ _ _ _ _ _ _ _ _ c.loop-node.self.few c.loop-node.invariant.goes;
 }
 
 -- element
@@ -927,23 +715,16 @@ element-plain_element-requires g n c = c.requires.0
 pub element-returns-in_err-at_once : goal.element-returns-in_err-at_once
 element-returns-in_err-at_once g n c = record {
   come = search rules;
-  gains =
-      nothing_gained c.args.basis.now.rules.now c.args.basis.now.store.now g.K.Keeper.exact (ev
-      c.args.basis.now.rules.now.classes (body_view c.args.body.now) (place_at c.args.inside.now)) _
-      c.args.self.now.few c.requires.1;
+  gains = nothing_gained _ _ _ _ _ c.args.self.now.few c.requires.1;
 }
 
 pub element-returns-in-Some : goal.element-returns-in-Some
 element-returns-in-Some g n c = record {
-  come =
-      subst (λ o. MayHaveCome c.args.basis.now.rules.now (contents c.args.basis.now.store.now) c.args.level.now
+  come = subst (λ o. MayHaveCome c.args.basis.now.rules.now (contents c.args.basis.now.store.now) c.args.level.now
       c.plain_element.new.level (ev c.args.basis.now.rules.now.classes (body_view c.args.body.now) (place_at
       c.args.inside.now)) o) c.in-Some.is c.in_ok-at_once.ensures (held_by g.K.Keeper.contents g.K.Keeper.memories
       c.args.keeper.now c.args.self.now);
-  gains =
-      nothing_gained c.args.basis.now.rules.now c.args.basis.now.store.now g.K.Keeper.exact (ev
-      c.args.basis.now.rules.now.classes (body_view c.args.body.now) (place_at c.args.inside.now)) _
-      c.args.self.now.few c.requires.1;
+  gains = nothing_gained _ _ _ _ _ c.args.self.now.few c.requires.1;
 }
 
 pub element-returns-in-None : goal.element-returns-in-None
@@ -961,10 +742,7 @@ element-returns-in-None g n c =
 pub value-returns-then-above-eq0 : goal.value-returns-then-above-eq0
 value-returns-then-above-eq0 g n c = record {
   come = search rules;
-  gains =
-      nothing_gained c.args.basis.now.rules.now c.args.basis.now.store.now g.K.Keeper.exact (ev
-      c.args.basis.now.rules.now.classes (body_view c.args.body.now) (place_at c.args.here.now)) _ c.args.self.now.few
-      c.requires;
+  gains = nothing_gained _ _ _ _ _ c.args.self.now.few c.requires;
 }
 
 pub value-returns-in-One : goal.value-returns-in-One
@@ -999,30 +777,22 @@ value-returns-in-Over g n c =
 
 pub value-returns-in-Plain : goal.value-returns-in-Plain
 value-returns-in-Plain g n c = record {
-  come =
-      IfOk-weaker c.value.result _ _ (λ v h. come_looked c.args.basis.now.rules.now c.args.basis.now.store.now (held_by
-      g.K.Keeper.contents g.K.Keeper.memories c.args.keeper.now c.args.self.now) c.args.level.now
+  come = IfOk-weaker c.value.result _ _ (λ v h. come_looked c.args.basis.now.rules.now c.args.basis.now.store.now
+      (held_by g.K.Keeper.contents g.K.Keeper.memories c.args.keeper.now c.args.self.now) c.args.level.now
       (record { reads = c.value.new.reads; uses = c.args.level.now.uses }) (ev c.args.basis.now.rules.now.classes
       (body_view c.args.body.now) (place_at c.args.here.now)) (value_view v) refl h) (c.value.ensures
       c.args.basis.now.rules.now.classes);
-  gains =
-      nothing_gained c.args.basis.now.rules.now c.args.basis.now.store.now g.K.Keeper.exact (ev
-      c.args.basis.now.rules.now.classes (body_view c.args.body.now) (place_at c.args.here.now)) _ c.args.self.now.few
-      c.requires;
+  gains = nothing_gained _ _ _ _ _ c.args.self.now.few c.requires;
 }
 
 pub told-returns-in_err-recalled : goal.told-returns-in_err-recalled
 told-returns-in_err-recalled g n c = record {
   told = search rules;
-  grown =
-      grown_none c.args.basis.now.rules.now c.args.basis.now.store.now g.K.Keeper.exact c.args.needed _
-      c.args.self.now.few c.requires;
+  grown = grown_none _ _ _ c.args.needed _ c.args.self.now.few c.requires;
 }
 
 pub told-returns-in-Some : goal.told-returns-in-Some
 told-returns-in-Some g n c = record {
   told = search rules;
-  grown =
-      grown_none c.args.basis.now.rules.now c.args.basis.now.store.now g.K.Keeper.exact c.args.needed _
-      c.args.self.now.few c.requires;
+  grown = grown_none _ _ _ c.args.needed _ c.args.self.now.few c.requires;
 }

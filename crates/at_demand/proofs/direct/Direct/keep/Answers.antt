@@ -4,7 +4,7 @@ use Rattle.at_cache.specs.Kept.{HasPut}
 use Rattle.at_cache.specs.declared.keeper.Put.{Put}
 use Rattle.at_demand.specs.Inner.{known_by}
 use Rattle.at_store.specs.Shown.{contents}
-use Rattle.at_demand.proofs.of_nesting.Grown.{grown_kept, grown_unkept}
+use Rattle.at_demand.proofs.of_nesting.Grown.{grown_kept, grown_none, grown_unkept}
 use Rattle.at_demand.proofs.of_nesting.InnerGains.{put_kept, taken, told_kept}
 use Rattle.at_demand.proofs.of_nesting.Remembered.{kept_now}
 use Rattle.at_demand.proofs.direct.Direct.keep.Goals as goal
@@ -16,11 +16,21 @@ put-requires-clause-present g c =
     c.args.self.now.found.entries (value_view c.args.value.now) c.args.below.now.reads
     c.args.below.now.uses.items c.requires.evaluated.held.known c.requires.evaluated.own c.requires.evaluated.come
 
+pub put-requires-clause-anew : goal.put-requires-clause-anew
+put-requires-clause-anew g c = c.has_trace.ensures c.if-has_trace.false c.requires.absent
+
+pub returns-then-has_trace : goal.returns-then-has_trace
+returns-then-has_trace g c = record {
+  told = search rules;
+  grown = grown_none c.args.basis.now.rules.now c.args.basis.now.store.now g.K.Keeper.exact c.args.needed _
+      c.args.self.now.few c.requires.evaluated.held;
+}
+
 pub returns-in_err-put : goal.returns-in_err-put
 returns-in_err-put g c = record {
   told = search rules;
   grown = grown_unkept c.args.basis.now.idle c.requires.evaluated c.put.ensures.found c.as_slice.ensures.value
-      c.order_of-order.result c.order_of-order.ensures.lazy (g.K.Keeper.kept_last c.put.new.keeper) c.put.ensures.traces
+      c.order_of-order.result c.order_of-order.ensures (g.K.Keeper.kept_last c.put.new.keeper) c.put.ensures.traces
       c.put.ensures.counts c.put.ensures.makes c.in_err-put.ensures.err;
 }
 
@@ -28,7 +38,7 @@ pub returns-in_err-push-in-Kept : goal.returns-in_err-push-in-Kept
 returns-in_err-push-in-Kept g c = record {
   told = search rules;
   grown = grown_kept c.args.basis.now.idle c.requires.evaluated c.put.ensures.found c.as_slice.ensures.value
-      c.order_of-order.result c.order_of-order.ensures.lazy (g.K.Keeper.kept_last c.put.new.keeper) c.put.ensures.traces
+      c.order_of-order.result c.order_of-order.ensures (g.K.Keeper.kept_last c.put.new.keeper) c.put.ensures.traces
       c.put.ensures.counts c.put.ensures.makes
       c.requires.absent c.in_ok-put.put c.in_ok-put.ensures.puts;
 }
@@ -52,7 +62,7 @@ returns-in_ok-push-in-Kept g c = record {
       (kept_now new c.put.new.self.found.entries c.args.needed v
       (put_kept g.K.Keeper.exact entries new c.args.needed v ls us puts)) refl c.in_ok-push-in-Kept.ensures.items;
   grown = grown_kept c.args.basis.now.idle c.requires.evaluated c.put.ensures.found c.as_slice.ensures.value
-      c.order_of-order.result c.order_of-order.ensures.lazy (g.K.Keeper.kept_last c.put.new.keeper) c.put.ensures.traces
+      c.order_of-order.result c.order_of-order.ensures (g.K.Keeper.kept_last c.put.new.keeper) c.put.ensures.traces
       c.put.ensures.counts c.put.ensures.makes
       c.requires.absent c.in_ok-put.put c.in_ok-put.ensures.puts;
 }
@@ -61,7 +71,7 @@ pub returns-in-Left : goal.returns-in-Left
 returns-in-Left g c = record {
   told = search rules;
   grown = grown_kept c.args.basis.now.idle c.requires.evaluated c.put.ensures.found c.as_slice.ensures.value
-      c.order_of-order.result c.order_of-order.ensures.lazy (g.K.Keeper.kept_last c.put.new.keeper) c.put.ensures.traces
+      c.order_of-order.result c.order_of-order.ensures (g.K.Keeper.kept_last c.put.new.keeper) c.put.ensures.traces
       c.put.ensures.counts c.put.ensures.makes
       c.requires.absent c.in_ok-put.put c.in_ok-put.ensures.puts;
 }

@@ -3,7 +3,7 @@ use Rattle.at_model.specs.Run.{Instance}
 use Rattle.at_store.specs.Located.{loc_view}
 use Rattle.at_body.specs.Values.{value_view}
 use Rattle.at_cache.specs.Kept.{HasPut}
-use Rattle.at_cache.specs.Traced.{KeepsTrace, SparesOthers}
+use Rattle.at_cache.specs.Traced.{SparesOthers}
 use Rattle.at_demand.proofs.Counting.{counts_put}
 use Rattle.at_demand.proofs.of_traces.Making.{makes_none, makes_put, makes_unmade}
 use Rattle.at_demand.proofs.direct.Direct.put.Goals as goal
@@ -32,10 +32,7 @@ returns-clause-makes g c =
     let is = c.in_ok-copy.ensures in
     makes_put old new m n c.args.inst.now c.requires.absent
     (subst (λ (i : Instance ℕ). SparesOthers i new m n) is c.put.ensures.spares)
-    (subst (λ (i : Instance ℕ). KeepsTrace i m n) is (c.put.ensures.own c.requires.settled))
-    exact (Some (value_view c.in_ok-copy-2.field-0)) reads uses
-    (subst (λ (i : Instance ℕ). m.traced i ≡ None) is (c.in_ok-put.ensures.anew c.requires.settled))
-    c.in_ok-put.put
+    c.requires.anew exact (Some (value_view c.in_ok-copy-2.field-0)) reads uses c.in_ok-put.put
     (subst (λ (i : Instance ℕ). HasPut exact old i (Some (value_view c.in_ok-copy-2.field-0)) reads uses new
     c.in_ok-put.put) is c.in_ok-put.ensures.puts)
     c.args.self.now.made c.counted-self.result c.counted-self.ensures
@@ -48,8 +45,7 @@ returns-in_err-put-clause-makes g c =
     let is = c.in_ok-copy.ensures in
     makes_unmade (g.K.Keeper.contents c.args.keeper.now) new m n c.args.inst.now c.requires.absent
     (subst (λ (i : Instance ℕ). SparesOthers i new m n) is c.put.ensures.spares)
-    (subst (λ (i : Instance ℕ). KeepsTrace i m n) is (c.put.ensures.own c.requires.settled))
-    c.args.self.now.made
+    c.requires.anew c.args.self.now.made
 
 pub returns-in_err-copy-clause-makes : goal.returns-in_err-copy-clause-makes
 returns-in_err-copy-clause-makes g c = makes_none _ _ _

@@ -8,7 +8,7 @@ use Rattle.at_demand.proofs.Counting.{counts_same}
 use Rattle.at_demand.proofs.Entered.{none_entered}
 use Rattle.at_demand.proofs.of_nesting.Grown.{grown_entered, grown_none, put_alike}
 use Rattle.at_demand.proofs.of_nesting.InnerGains.{gains_same, put_there, taken}
-use Rattle.at_demand.proofs.of_traces.Justified.{stay_any}
+use Rattle.at_demand.proofs.of_traces.Justified.{stay_any, untraced_inner}
 use Rattle.at_demand.proofs.of_traces.Putting.{traced_on}
 use Rattle.at_demand.proofs.of_traces.Making.{unmade}
 use Rattle.at_demand.proofs.direct.Direct.stand.Goals as goal
@@ -58,7 +58,7 @@ returns-in_err-put g c = record {
     makes = unmade (g.K.Keeper.contents c.args.keeper.now) (g.K.Keeper.contents c.put.new.self)
         (g.K.Keeper.memories c.args.keeper.now) (g.K.Keeper.memories c.put.new.self) c.args.needed.now _ c.in_ok-copy.ensures (none_entered
         (g.K.Keeper.contents c.args.keeper.now c.args.needed.now) c.stands.result c.stands.ensures c.if-stands.false)
-        c.put.ensures.spares (c.put.ensures.own refl) c.args.self.now.made;
+        c.put.ensures.spares (untraced_inner _ _ _ c.requires.held.justified c.args.needed.now c.requires.lazy) c.args.self.now.made;
   };
 }
 
@@ -79,7 +79,8 @@ returns-in-Kept g c =
           (stay_any _ _ _ _ (g.K.Keeper.memories c.args.keeper.now) (g.K.Keeper.memories c.put.new.self)
           c.put.ensures.traces) (unmade (g.K.Keeper.contents c.args.keeper.now) (g.K.Keeper.contents c.put.new.self)
           (g.K.Keeper.memories c.args.keeper.now) (g.K.Keeper.memories c.put.new.self) i _ c.in_ok-copy.ensures (none_entered (old i) c.stands.result c.stands.ensures
-          c.if-stands.false) c.put.ensures.spares (c.put.ensures.own refl) c.args.self.now.made) c.in_ok-put.put puts;
+          c.if-stands.false) c.put.ensures.spares (untraced_inner _ _ _ c.requires.held.justified c.args.needed.now c.requires.lazy)
+          c.args.self.now.made) c.in_ok-put.put puts;
     }
 
 pub returns-in-Left : goal.returns-in-Left
@@ -93,7 +94,8 @@ returns-in-Left g c = record {
       c.put.ensures.traces) (unmade (g.K.Keeper.contents c.args.keeper.now) (g.K.Keeper.contents c.put.new.self)
       (g.K.Keeper.memories c.args.keeper.now) (g.K.Keeper.memories c.put.new.self) c.args.needed.now _ c.in_ok-copy.ensures (none_entered
       (g.K.Keeper.contents c.args.keeper.now c.args.needed.now) c.stands.result c.stands.ensures c.if-stands.false)
-      c.put.ensures.spares (c.put.ensures.own refl) c.args.self.now.made) c.in_ok-put.put
+      c.put.ensures.spares (untraced_inner _ _ _ c.requires.held.justified c.args.needed.now c.requires.lazy) c.args.self.now.made)
+      c.in_ok-put.put
       (put_alike g.K.Keeper.exact (g.K.Keeper.contents c.args.keeper.now) (g.K.Keeper.contents c.put.new.self) None
       c.in_ok-put.put c.in_ok-copy.ensures c.as_slice-reads.ensures c.as_slice-uses.ensures.value
       c.in_ok-put.ensures.puts);

@@ -16,6 +16,6 @@ loop-inst-preserved c =
     lazy_more c.args.rules.now c.args.uses.now c.loop-inst.inst-index c.inst-item.result c.loop-inst-test.true
     c.inst-item.is is c.loop-inst.invariant
 
-pub returns-clause-lazy : goal.returns-clause-lazy
-returns-clause-lazy c = λ is. subst (λ (us : List (Instance ℕ)). AreLazy c.args.rules.now us) (take_all c.loop-inst.inst-index
+pub returns : goal.returns
+returns c = λ is. subst (λ (us : List (Instance ℕ)). AreLazy c.args.rules.now us) (take_all c.loop-inst.inst-index
     c.args.uses.now c.loop-inst-test.false) c.loop-inst.invariant

@@ -54,6 +54,7 @@ returns g c q like =
             (typed_more (rules_of e) e.store basis c.args.inst.now c.requires.well_typed before after told.worthy held.typed)
             (record { justified = c.answer.ensures.traces.justified; there = c.answer.ensures.traces.there c.requires.there held.remembered.there });
       };
+      went = c.answer.ensures.went;
     }
 
 pub returns-in_err-answer : goal.returns-in_err-answer
@@ -83,6 +84,7 @@ returns-in_err-answer g c q like =
             (typed_more (rules_of e) e.store basis c.args.inst.now c.requires.well_typed before after a.worthy held.typed)
             (record { justified = c.answer.ensures.traces.justified; there = c.answer.ensures.traces.there c.requires.there held.remembered.there });
       };
+      went = c.answer.ensures.went;
     }
 
 pub told-requires : goal.told-requires

@@ -9,13 +9,14 @@ use Rattle.at_engine.specs.Engines.{rules_of}
 use Rattle.at_engine.specs.Keeping.{IsSpare}
 use Rattle.at_engine.specs.Telling.{IsSaid}
 use Rattle.at_engine.specs.Turning.{Came, told_of}
+use Rattle.at_engine.proofs.of_keeping.GoneOn.{went_same}
 use Rattle.at_engine.proofs.of_turns.Finishing.{called, first_gone, gives_failed, gives_nothing, gives_silent, gives_told}
 use Rattle.at_engine.proofs.engine.Engine.give.Goals as goal
 
 pub returns-then-is_empty : goal.returns-then-is_empty
 returns-then-is_empty g c =
     let e = c.args.self.now in
-    called g.K.Keeper.contents g.K.Keeper.memories e e e c.args.out.now c.reserve.new.self _ _ c.requires.sound refl refl
+    called g.K.Keeper.exact g.K.Keeper.contents g.K.Keeper.memories e e e c.args.out.now c.reserve.new.self _ _ (went_same g.K.Keeper.exact g.K.Keeper.memories e e refl) c.requires.sound refl refl
     c.requires.sound.held c.reserve.ensures.capacity
     (gives_nothing g.K.Keeper.exact g.K.Keeper.contents g.K.Keeper.memories c.args.limit e c.args.out.now.items c.reserve.new.self.items c.if-is_empty.ensures c.reserve.ensures.items)
 
@@ -31,7 +32,7 @@ returns-in-Err g c =
     let k = g.K.Keeper.contents in
     let x = g.K.Keeper.exact in
     let m = c.go_on.new.self in
-    let f = first_gone x k g.K.Keeper.memories c.args.limit e m c.go_on.result c.if-is_empty.ensures c.go_on.ensures in
+    let f = first_gone x k g.K.Keeper.memories c.args.limit e m c.go_on.result c.if-is_empty.ensures c.go_on.ensures.attends in
     let n = c.tell.new.self in
     let off = c.tell.ensures.off in
     let came = subst (λ (r : Result (ℕ × Option Form) AllocError). Came x k g.K.Keeper.memories c.args.limit e m.demand f.p f.now r) c.in-Err.is f.came in
@@ -41,9 +42,9 @@ returns-in-Err g c =
     let room : vec_capacity c.args.out.now ≤ vec_capacity c.tell.new.out = omega
     (arith, c.reserve.ensures.capacity, c.tell.ensures.room) in
     let kept : HasNoneCircular (rules_of e) → IsTrue x → IsSpare k e → IsSpare k n =
-    λ none exact spare. off.spare exact (c.go_on.ensures.spare (keeps_groups (rules_of e) c.go_on.result none) exact spare) in
-    called k g.K.Keeper.memories e m n c.args.out.now c.tell.new.out _ _ c.requires.sound c.go_on.ensures.rest off.rest off.sound room
-    (gives_failed x k g.K.Keeper.memories e c.requires.sound.held f.p f.others f.least m c.go_on.ensures.rest n off.rest off.items f.now f.reopens c.args.limit c.args.out.now.items c.tell.new.out.items c.in-Err.error came c.requires.some
+    λ none exact spare. off.spare exact (c.go_on.ensures.attends.spare (keeps_groups (rules_of e) c.go_on.result none) exact spare) in
+    called x k g.K.Keeper.memories e m n c.args.out.now c.tell.new.out _ _ c.go_on.ensures.went c.requires.sound c.go_on.ensures.attends.rest off.rest off.sound room
+    (gives_failed x k g.K.Keeper.memories e c.requires.sound.held f.p f.others f.least m c.go_on.ensures.attends.rest n off.rest off.items f.now f.reopens c.args.limit c.args.out.now.items c.tell.new.out.items c.in-Err.error came c.requires.some
     c.tell.result said kept)
 
 pub tell-requires-clause-there : goal.tell-requires-clause-there
@@ -52,8 +53,8 @@ tell-requires-clause-there g c =
     let k = g.K.Keeper.contents in
     let x = g.K.Keeper.exact in
     let m = c.go_on.new.self in
-    let f = first_gone x k g.K.Keeper.memories c.args.limit e m c.go_on.result c.if-is_empty.ensures c.go_on.ensures in
-    record { sound = c.go_on.ensures.sound; within = f.within }
+    let f = first_gone x k g.K.Keeper.memories c.args.limit e m c.go_on.result c.if-is_empty.ensures c.go_on.ensures.attends in
+    record { sound = c.go_on.ensures.attends.sound; within = f.within }
 
 pub returns-in-None : goal.returns-in-None
 returns-in-None g c =
@@ -61,14 +62,14 @@ returns-in-None g c =
     let k = g.K.Keeper.contents in
     let x = g.K.Keeper.exact in
     let m = c.go_on.new.self in
-    let f = first_gone x k g.K.Keeper.memories c.args.limit e m c.go_on.result c.if-is_empty.ensures c.go_on.ensures in
+    let f = first_gone x k g.K.Keeper.memories c.args.limit e m c.go_on.result c.if-is_empty.ensures c.go_on.ensures.attends in
     let came = subst (λ (o : Option Form). Came {E = AllocError} x k g.K.Keeper.memories c.args.limit e m.demand f.p f.now (Ok
     (c.in-Ok.gone.0, o))) c.in-None.is
     (subst (λ (r : Result (ℕ × Option Form) AllocError). Came x k g.K.Keeper.memories c.args.limit e m.demand f.p f.now r) c.in-Ok.is f.came) in
-    called k g.K.Keeper.memories e m m c.args.out.now c.reserve.new.self _ _ c.requires.sound c.go_on.ensures.rest refl
-    c.go_on.ensures.sound c.reserve.ensures.capacity
-    (gives_silent x k g.K.Keeper.memories e c.requires.sound.held f.p f.others f.least m c.go_on.ensures.rest c.args.limit f.now f.reopens c.in-Ok.gone.0 c.args.out.now.items c.reserve.new.self.items c.reserve.ensures.items c.requires.some came
-    (λ exact spare. c.go_on.ensures.spare (subst (λ (r : Result (ℕ × Option Form) AllocError). KeepsGroups (rules_of e) r) (sym c.in-Ok.is) tt)
+    called x k g.K.Keeper.memories e m m c.args.out.now c.reserve.new.self _ _ c.go_on.ensures.went c.requires.sound c.go_on.ensures.attends.rest refl
+    c.go_on.ensures.attends.sound c.reserve.ensures.capacity
+    (gives_silent x k g.K.Keeper.memories e c.requires.sound.held f.p f.others f.least m c.go_on.ensures.attends.rest c.args.limit f.now f.reopens c.in-Ok.gone.0 c.args.out.now.items c.reserve.new.self.items c.reserve.ensures.items c.requires.some came
+    (λ exact spare. c.go_on.ensures.attends.spare (subst (λ (r : Result (ℕ × Option Form) AllocError). KeepsGroups (rules_of e) r) (sym c.in-Ok.is) tt)
     exact spare))
 
 pub returns-in-Some : goal.returns-in-Some
@@ -77,7 +78,7 @@ returns-in-Some g c =
     let k = g.K.Keeper.contents in
     let x = g.K.Keeper.exact in
     let m = c.go_on.new.self in
-    let f = first_gone x k g.K.Keeper.memories c.args.limit e m c.go_on.result c.if-is_empty.ensures c.go_on.ensures in
+    let f = first_gone x k g.K.Keeper.memories c.args.limit e m c.go_on.result c.if-is_empty.ensures c.go_on.ensures.attends in
     let n = c.tell-in-Some.new.self in
     let off = c.tell-in-Some.ensures.off in
     let came = subst (λ (o : Option Form). Came {E = AllocError} x k g.K.Keeper.memories c.args.limit e m.demand f.p f.now (Ok
@@ -89,9 +90,9 @@ returns-in-Some g c =
     let room : vec_capacity c.args.out.now ≤ vec_capacity c.tell-in-Some.new.out = omega
     (arith, c.reserve.ensures.capacity, c.tell-in-Some.ensures.room) in
     let kept : IsTrue x → IsSpare k e → IsSpare k n = λ exact spare. off.spare exact
-    (c.go_on.ensures.spare (subst (λ (r : Result (ℕ × Option Form) AllocError). KeepsGroups (rules_of e) r) (sym c.in-Ok.is) tt) exact spare) in
-    called k g.K.Keeper.memories e m n c.args.out.now c.tell-in-Some.new.out _ _ c.requires.sound c.go_on.ensures.rest off.rest off.sound room
-    (gives_told x k g.K.Keeper.memories e c.requires.sound.held f.p f.others f.least m c.go_on.ensures.rest n off.rest off.items f.now f.reopens c.args.limit c.args.out.now.items c.tell-in-Some.new.out.items c.in-Ok.gone.0 c.in-Some.form came
+    (c.go_on.ensures.attends.spare (subst (λ (r : Result (ℕ × Option Form) AllocError). KeepsGroups (rules_of e) r) (sym c.in-Ok.is) tt) exact spare) in
+    called x k g.K.Keeper.memories e m n c.args.out.now c.tell-in-Some.new.out _ _ c.go_on.ensures.went c.requires.sound c.go_on.ensures.attends.rest off.rest off.sound room
+    (gives_told x k g.K.Keeper.memories e c.requires.sound.held f.p f.others f.least m c.go_on.ensures.attends.rest n off.rest off.items f.now f.reopens c.args.limit c.args.out.now.items c.tell-in-Some.new.out.items c.in-Ok.gone.0 c.in-Some.form came
     c.tell-in-Some.result said kept)
 
 pub tell-requires-in-Some-clause-there : goal.tell-requires-in-Some-clause-there
@@ -100,8 +101,8 @@ tell-requires-in-Some-clause-there g c =
     let k = g.K.Keeper.contents in
     let x = g.K.Keeper.exact in
     let m = c.go_on.new.self in
-    let f = first_gone x k g.K.Keeper.memories c.args.limit e m c.go_on.result c.if-is_empty.ensures c.go_on.ensures in
-    record { sound = c.go_on.ensures.sound; within = f.within }
+    let f = first_gone x k g.K.Keeper.memories c.args.limit e m c.go_on.result c.if-is_empty.ensures c.go_on.ensures.attends in
+    record { sound = c.go_on.ensures.attends.sound; within = f.within }
 
 pub tell-requires-in-Some-clause-writable : goal.tell-requires-in-Some-clause-writable
 tell-requires-in-Some-clause-writable g c =
@@ -109,7 +110,7 @@ tell-requires-in-Some-clause-writable g c =
     let k = g.K.Keeper.contents in
     let x = g.K.Keeper.exact in
     let m = c.go_on.new.self in
-    let f = first_gone x k g.K.Keeper.memories c.args.limit e m c.go_on.result c.if-is_empty.ensures c.go_on.ensures in
+    let f = first_gone x k g.K.Keeper.memories c.args.limit e m c.go_on.result c.if-is_empty.ensures c.go_on.ensures.attends in
     let came = subst (λ (o : Option Form). Came {E = AllocError} x k g.K.Keeper.memories c.args.limit e m.demand f.p f.now (Ok
     (c.in-Ok.gone.0, o))) c.in-Some.is
     (subst (λ (r : Result (ℕ × Option Form) AllocError). Came x k g.K.Keeper.memories c.args.limit e m.demand f.p f.now r) c.in-Ok.is f.came) in

@@ -2,6 +2,7 @@ use Rattle.std.proofs.Common.{Option, None, Some, Ok, refl, subst, ℕ}
 use Rattle.std.proofs.lemmas.Result.{err_from_is_err_and}
 use Rattle.std.specs.declared.alloc.AllocError.{AllocError}
 use Rattle.at_demand.specs.declared.answer.Answer.{Answer as AnswerCode}
+use Rattle.at_demand.specs.Went.{begun}
 use Rattle.at_engine.specs.Engines.{rules_of}
 use Rattle.at_engine.specs.Turning.{HasTurnedUpTo}
 use Rattle.at_engine.proofs.of_turns.Trying.{begun_for, broke_off, can_answer, not_read, not_yet, ready_taken, sound_more, sparing_for, taken, told, untold, was_refused}
@@ -17,8 +18,8 @@ begin-requires g c =
     let it = taken k m e c.requires.ready.sound c.args.position c.requires.ready.within o t c.take-begun.ensures in
     ready_taken g.K.Keeper.exact k m e c.args.position c.args.limit o t it c.requires.ready.typed
 
-pub returns-in_err-question : goal.returns-in_err-question
-returns-in_err-question g c =
+pub returns-in_err-question-clause-attends : goal.returns-in_err-question-clause-attends
+returns-in_err-question-clause-attends g c =
     let e = c.args.self.now in
     let k = g.K.Keeper.contents in
     let m = g.K.Keeper.memories in
@@ -28,8 +29,8 @@ returns-in_err-question g c =
     let r = err_from_is_err_and c.from_residual.result c.from_residual.ensures.1 in
     not_read g.K.Keeper.exact k m e c.args.position c.args.limit o t it c.from_residual.result r.0 r.1
 
-pub returns-in-Refused : goal.returns-in-Refused
-returns-in-Refused g c =
+pub returns-in-Refused-clause-attends : goal.returns-in-Refused-clause-attends
+returns-in-Refused-clause-attends g c =
     let e = c.args.self.now in
     let k = g.K.Keeper.contents in
     let m = g.K.Keeper.memories in
@@ -75,10 +76,10 @@ told-requires g c =
     let s = sparing_for x k m e i c.args.limit o t it c.in_ok-question.ensures.sparing q c.in-Question.is in
     let d = c.turns_up_to.new.demand in
     let p = c.turns_up_to.new.question in
-    record { sound = sound_more x k m e i c.args.limit o t it c.requires.ready.typed q b s d p c.turns_up_to.result c.turns_up_to.ensures }
+    record { sound = sound_more x k m e i c.args.limit o t it c.requires.ready.typed q b s d p c.turns_up_to.result c.turns_up_to.ensures.turned }
 
-pub returns-in_err-turns : goal.returns-in_err-turns
-returns-in_err-turns g c =
+pub returns-in_err-turns-clause-attends : goal.returns-in_err-turns-clause-attends
+returns-in_err-turns-clause-attends g c =
     let e = c.args.self.now in
     let k = g.K.Keeper.contents in
     let m = g.K.Keeper.memories in
@@ -93,10 +94,10 @@ returns-in_err-turns g c =
     let d = c.turns_up_to.new.demand in
     let p = c.turns_up_to.new.question in
     let r = err_from_is_err_and c.from_residual-in_err-turns.result c.from_residual-in_err-turns.ensures.1 in
-    broke_off x k m e i c.args.limit o t it c.requires.ready.typed q b s d p _ c.in_err-turns.ensures c.from_residual-in_err-turns.result r.0 _ r.1 refl
+    broke_off x k m e i c.args.limit o t it c.requires.ready.typed q b s d p _ c.in_err-turns.ensures.turned c.from_residual-in_err-turns.result r.0 _ r.1 refl
 
-pub returns-in_err-told-in-Some : goal.returns-in_err-told-in-Some
-returns-in_err-told-in-Some g c =
+pub returns-in_err-told-in-Some-clause-attends : goal.returns-in_err-told-in-Some-clause-attends
+returns-in_err-told-in-Some-clause-attends g c =
     let e = c.args.self.now in
     let k = g.K.Keeper.contents in
     let m = g.K.Keeper.memories in
@@ -113,11 +114,11 @@ returns-in_err-told-in-Some g c =
     let r = err_from_is_err_and c.from_residual-in_err-told-in-Some.result c.from_residual-in_err-told-in-Some.ensures.1 in
     let h = subst (λ (a : Option AnswerCode). HasTurnedUpTo {E = AllocError} x (rules_of e) e.store c.args.limit
     (k e.demand.keeper) (k d.keeper)
-    (m e.demand.keeper) (m d.keeper) q p (Ok (c.in_ok-turns.turns, a))) c.in-Some.is c.in_ok-turns.ensures in
+    (m e.demand.keeper) (m d.keeper) q p (Ok (c.in_ok-turns.turns, a))) c.in-Some.is c.in_ok-turns.ensures.turned in
     untold x k m e i c.args.limit o t it c.requires.ready.typed q b s d p c.in_ok-turns.turns c.in-Some.answer h c.from_residual-in_err-told-in-Some.result r.0 r.1
 
-pub returns-in_ok-told-in-Some : goal.returns-in_ok-told-in-Some
-returns-in_ok-told-in-Some g c =
+pub returns-in_ok-told-in-Some-clause-attends : goal.returns-in_ok-told-in-Some-clause-attends
+returns-in_ok-told-in-Some-clause-attends g c =
     let e = c.args.self.now in
     let k = g.K.Keeper.contents in
     let m = g.K.Keeper.memories in
@@ -133,12 +134,12 @@ returns-in_ok-told-in-Some g c =
     let p = c.turns_up_to.new.question in
     let h = subst (λ (a : Option AnswerCode). HasTurnedUpTo {E = AllocError} x (rules_of e) e.store c.args.limit
     (k e.demand.keeper) (k d.keeper)
-    (m e.demand.keeper) (m d.keeper) q p (Ok (c.in_ok-turns.turns, a))) c.in-Some.is c.in_ok-turns.ensures in
+    (m e.demand.keeper) (m d.keeper) q p (Ok (c.in_ok-turns.turns, a))) c.in-Some.is c.in_ok-turns.ensures.turned in
     told x k m e i c.args.limit o t it c.requires.ready.typed q b s d p c.in_ok-turns.turns c.in-Some.answer h c.in_ok-told-in-Some.field-0
     (λ a like. c.in_ok-told-in-Some.ensures a like)
 
-pub returns-in-None : goal.returns-in-None
-returns-in-None g c =
+pub returns-in-None-clause-attends : goal.returns-in-None-clause-attends
+returns-in-None-clause-attends g c =
     let e = c.args.self.now in
     let k = g.K.Keeper.contents in
     let m = g.K.Keeper.memories in
@@ -154,6 +155,24 @@ returns-in-None g c =
     let p = c.turns_up_to.new.question in
     let h = subst (λ (a : Option AnswerCode). HasTurnedUpTo {E = AllocError} x (rules_of e) e.store c.args.limit
     (k e.demand.keeper) (k d.keeper)
-    (m e.demand.keeper) (m d.keeper) q p (Ok (c.in_ok-turns.turns, a))) c.in-None.is c.in_ok-turns.ensures in
+    (m e.demand.keeper) (m d.keeper) q p (Ok (c.in_ok-turns.turns, a))) c.in-None.is c.in_ok-turns.ensures.turned in
     not_yet x k m e i c.args.limit o t it c.requires.ready.typed q b s d p c.in_ok-turns.turns h
     c.keep.new.self c.keep.ensures.there
+
+pub returns-in_err-question-clause-went : goal.returns-in_err-question-clause-went
+returns-in_err-question-clause-went g c = λ exact. begun
+
+pub returns-in-Refused-clause-went : goal.returns-in-Refused-clause-went
+returns-in-Refused-clause-went g c = λ exact. begun
+
+pub returns-in_err-turns-clause-went : goal.returns-in_err-turns-clause-went
+returns-in_err-turns-clause-went g c = c.turns_up_to.ensures.went
+
+pub returns-in_err-told-in-Some-clause-went : goal.returns-in_err-told-in-Some-clause-went
+returns-in_err-told-in-Some-clause-went g c = c.turns_up_to.ensures.went
+
+pub returns-in_ok-told-in-Some-clause-went : goal.returns-in_ok-told-in-Some-clause-went
+returns-in_ok-told-in-Some-clause-went g c = c.turns_up_to.ensures.went
+
+pub returns-in-None-clause-went : goal.returns-in-None-clause-went
+returns-in-None-clause-went g c = c.turns_up_to.ensures.went

@@ -1,4 +1,4 @@
-use Rattle.std.proofs.Common.{◌∙◌, Result, Ok, refl, sym, subst}
+use Rattle.std.proofs.Common.{◌∙◌, Result, Ok, ap, refl, sym, subst}
 use Rattle.std.specs.declared.alloc.AllocError.{AllocError}
 use Rattle.std.proofs.lemmas.Option.{slice_get_within}
 use Rattle.std.proofs.lemmas.Result.{IfOk-weaker}
@@ -6,10 +6,12 @@ use Rattle.at_model.specs.Machine.{obeyed, verdict}
 use Rattle.at_protocol.specs.LineView.{command_view, line_with}
 use Rattle.at_protocol.specs.declared.reply.Form.{Form}
 use Rattle.at_protocol.specs.declared.reply.Form.TheVariants as form
-use Rattle.at_engine.specs.Engines.{rules_of, state_of}
+use Rattle.at_demand.specs.Went.{begun}
+use Rattle.at_engine.specs.Engines.{rules_of, state_of, Knows}
 use Rattle.at_engine.specs.Keeping.{SparesVerdict}
 use Rattle.at_engine.specs.Following.{IsAtOnce}
 use Rattle.at_engine.specs.Hearing.{by_turns}
+use Rattle.at_engine.specs.declared.engine.Engine.{Engine}
 use Rattle.at_engine.proofs.Attempting.{heard_at_once}
 use Rattle.at_engine.proofs.FollowingLemmas.{as_verdict, told_at_once}
 use Rattle.at_engine.proofs.of_keeping.KeepingLemmas.{at_once_spares, refused_spares, turned_spares, waited_spares}
@@ -47,14 +49,14 @@ returns-in-Some-awaited-clause-hears g c =
     let q = c.in-Some-awaited.ensures.question in
     by_turns c.in-Some-awaited.position q c.in-Some-awaited.ensures.there ((c.in_default.ensures (line_with c.args.session c.args.expected (command_view c.args.command.now)) refl
     (sym c.has_used-is_marked.ensures)) ∙ c.in-Some-awaited.ensures.waits)
-    (c.wait.ensures.done q c.in-Some-awaited.ensures.there)
+    (c.wait.ensures.attends.done q c.in-Some-awaited.ensures.there)
 
 pub returns-in-Some-awaited-clause-spares : goal.returns-in-Some-awaited-clause-spares
 returns-in-Some-awaited-clause-spares g c exact spare =
     let e = c.args.self.now in
     let v = verdict (rules_of e) (state_of e) (line_with c.args.session c.args.expected (command_view c.args.command.now)) in
     waited_spares g.K.Keeper.contents e c.wait.new.self v c.wait.result.form c.in-Some-awaited.ensures.question.number ((c.in_default.ensures (line_with c.args.session c.args.expected (command_view c.args.command.now)) refl (sym c.has_used-is_marked.ensures)) ∙ c.in-Some-awaited.ensures.waits)
-    (λ whole. c.wait.ensures.spare whole exact spare)
+    (λ whole. c.wait.ensures.attends.spare whole exact spare)
 
 pub returns-in-None-clause-hears : goal.returns-in-None-clause-hears
 returns-in-None-clause-hears g c =
@@ -75,3 +77,22 @@ returns-in-None-clause-spares g c exact spare =
     let v = verdict (rules_of e) (state_of e) l in
     let all = at_once_spares k e c.command.new.self v c.command.result (turned_spares k e c.command.new.self v (obeyed (rules_of e) (state_of e) l.session l.command) c.command.result (c.in_default.ensures (line_with c.args.session c.args.expected (command_view c.args.command.now)) refl (sym c.has_used-is_marked.ensures)) (c.command.ensures.spares exact spare)) in
     subst (λ (x : Result Form AllocError). SparesVerdict k v x e c.command.new.self) (sym c.at_once-in-None.ensures.form) all
+
+pub returns-in-Some-clause-went : goal.returns-in-Some-clause-went
+returns-in-Some-clause-went g c = λ exact. begun
+
+pub returns-in-Some-awaited-clause-went : goal.returns-in-Some-awaited-clause-went
+returns-in-Some-awaited-clause-went g c = c.wait.ensures.went
+
+pub returns-in-None-clause-went : goal.returns-in-None-clause-went
+returns-in-None-clause-went g c = c.command.ensures.went
+
+pub returns-in-Some-awaited-clause-stays : goal.returns-in-Some-awaited-clause-stays
+returns-in-Some-awaited-clause-stays g c =
+    let rest = c.wait.ensures.attends.rest in
+    record {
+      rules = ap (λ (x : Engine g.row.K.Denot). x.rules) rest;
+      slice = ap (λ (x : Engine g.row.K.Denot). x.slice) rest;
+      sound = c.wait.ensures.attends.sound;
+      known = λ k. subst (Knows {K = g.row.K.Denot}) (sym rest) k;
+    }

@@ -16,6 +16,7 @@ use Rattle.at_protocol.specs.declared.reply.Form.{Form}
 use Rattle.at_protocol.specs.declared.reply.Form.TheVariants as form
 use Rattle.at_protocol.specs.declared.reply.Refusal.TheVariants as refusal
 use Rattle.at_engine.specs.Commanding.{Fulfils}
+use Rattle.at_demand.specs.Went.{begun}
 use Rattle.at_engine.specs.Engines.{rules_of, state_of}
 use Rattle.at_engine.specs.Following.{IsAtOnce}
 use Rattle.at_engine.specs.Hearing.{IsStep}
@@ -159,3 +160,21 @@ pub returns-in-Err-Memory-clause-spares : goal.returns-in-Err-Memory-clause-spar
 returns-in-Err-Memory-clause-spares g c exact spare =
     let e = c.args.self.now in
     form_spares g.K.Keeper.contents e e c.args.line.now (Err alloc_error) c.at_once-in-Err-Memory.result.form c.at_once-in-Err-Memory.ensures.form (unknown_spares g.K.Keeper.contents e c.args.line.now spare)
+
+pub returns-in-Some-clause-went : goal.returns-in-Some-clause-went
+returns-in-Some-clause-went g c =
+    let (steps, spelled, number) = c.in-Some.ensures c.requires.sound.known in
+    let done = c.ask_of-form.ensures (From_root steps) number in
+    done.went
+
+pub returns-in-Ok-Command-clause-went : goal.returns-in-Ok-Command-clause-went
+returns-in-Ok-Command-clause-went g c = c.obey.ensures.went
+
+pub returns-in-Ok-Ask-clause-went : goal.returns-in-Ok-Ask-clause-went
+returns-in-Ok-Ask-clause-went g c = c.question.ensures.went
+
+pub returns-in-Err-Syntax-clause-went : goal.returns-in-Err-Syntax-clause-went
+returns-in-Err-Syntax-clause-went g c = λ exact. begun
+
+pub returns-in-Err-Memory-clause-went : goal.returns-in-Err-Memory-clause-went
+returns-in-Err-Memory-clause-went g c = λ exact. begun

@@ -41,4 +41,5 @@ returns g c =
       rules = stays.rules;
       slice = stays.slice;
       sound = record { held = stays.sound; typed = typed_served (rules_of e) (rules_of new) (wants, a.0) (state_of e) (state_of new) line c.requires.sound.typed stays.rules a.1.serves; known = stays.known c.requires.sound.known };
+      went = c.outcome-told.ensures.went;
     }

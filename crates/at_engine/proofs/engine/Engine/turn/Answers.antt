@@ -14,4 +14,5 @@ returns g c =
       rules = call.rules;
       slice = call.slice;
       sound = call.sound;
+      went = call.went;
     }

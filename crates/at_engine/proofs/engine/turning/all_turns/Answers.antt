@@ -3,6 +3,8 @@ use Rattle.std.proofs.lemmas.Result.{err_from_is_err_and}
 use Rattle.std.specs.declared.alloc.AllocError.{AllocError}
 use Rattle.at_demand.specs.declared.answer.Answer.{Answer as AnswerCode}
 use Rattle.at_store.specs.Shown.{contents}
+use Rattle.at_demand.specs.Went.{begun}
+use Rattle.at_demand.proofs.of_traces.TurnsPut.{went_then}
 use Rattle.at_demand.proofs.of_traces.Justified.{stay_justified}
 use Rattle.at_engine.specs.Turning.{HasTurnedUpTo}
 use Rattle.at_engine.proofs.of_turns.Settling.{as_one_record}
@@ -13,6 +15,7 @@ pub loop-turns-init : goal.loop-turns-init
 loop-turns-init g c = record {
   so = so_none AllocError g.K.Keeper.exact c.args.rules.now c.args.store.now c.requires.can.turns.answerable.basis
       (g.K.Keeper.contents c.args.demand.now.keeper) (g.K.Keeper.memories c.args.demand.now.keeper) c.args.question.now c.requires.can;
+  went = λ exact. begun;
 }
 
 pub loop-turns-preserved : goal.loop-turns-preserved
@@ -36,6 +39,8 @@ loop-turns-preserved g c =
       so = so_more AllocError g.K.Keeper.exact rules s c.requires.can.turns.answerable.basis (k c.args.demand.now.keeper)
           (m c.args.demand.now.keeper) c.args.question.now (k old.keeper) (m old.keeper) q so 18446744073709551615 (k new.keeper)
           (m new.keeper) p n none;
+      went = λ exact. went_then (m c.args.demand.now.keeper) (m old.keeper) (m new.keeper) c.args.demand.now.made old.made new.made
+          (c.loop-turns.invariant.went exact) (c.turns.ensures.went exact);
     }
 
 pub loop-turns-smaller : goal.loop-turns-smaller
@@ -59,8 +64,8 @@ loop-turns-smaller g c =
     (m c.args.demand.now.keeper) c.args.question.now (k old.keeper) (m old.keeper) q so 18446744073709551615 (k new.keeper)
     (m new.keeper) p n (omega arith) c.requires.can.named none
 
-pub returns-in_err-turns : goal.returns-in_err-turns
-returns-in_err-turns g c =
+pub returns-in_err-turns-clause-turned : goal.returns-in_err-turns-clause-turned
+returns-in_err-turns-clause-turned g c =
     let is = (err_from_is_err_and c.from_residual.result c.from_residual.ensures.1).1 in
     let rules = c.args.rules.now in
     let s = c.args.store.now in
@@ -76,8 +81,8 @@ returns-in_err-turns g c =
     (m c.args.demand.now.keeper) c.args.question.now (k old.keeper) (m old.keeper) c.loop-turns.question so 18446744073709551615
     (k new.keeper) (m new.keeper) c.turns.new.question _ _ refl h)
 
-pub returns-in-Some : goal.returns-in-Some
-returns-in-Some g c =
+pub returns-in-Some-clause-turned : goal.returns-in-Some-clause-turned
+returns-in-Some-clause-turned g c =
     let rules = c.args.rules.now in
     let s = c.args.store.now in
     let k = g.K.Keeper.contents in
@@ -109,3 +114,13 @@ turns-requires-clause-can g c =
 pub turns-requires-clause-justified : goal.turns-requires-clause-justified
 turns-requires-clause-justified g c = stay_justified c.args.rules.now (contents c.args.store.now) (g.K.Keeper.memories c.args.demand.now.keeper)
     (g.K.Keeper.memories c.loop-turns.demand.keeper) c.loop-turns.invariant.so.traces c.requires.justified
+
+pub returns-in_err-turns-clause-went : goal.returns-in_err-turns-clause-went
+returns-in_err-turns-clause-went g c = λ exact. went_then (g.K.Keeper.memories c.args.demand.now.keeper) (g.K.Keeper.memories c.loop-turns.demand.keeper)
+    (g.K.Keeper.memories c.turns.new.self.keeper) c.args.demand.now.made c.loop-turns.demand.made c.turns.new.self.made
+    (c.loop-turns.invariant.went exact) (c.turns.ensures.went exact)
+
+pub returns-in-Some-clause-went : goal.returns-in-Some-clause-went
+returns-in-Some-clause-went g c = λ exact. went_then (g.K.Keeper.memories c.args.demand.now.keeper) (g.K.Keeper.memories c.loop-turns.demand.keeper)
+    (g.K.Keeper.memories c.turns.new.self.keeper) c.args.demand.now.made c.loop-turns.demand.made c.turns.new.self.made
+    (c.loop-turns.invariant.went exact) (c.turns.ensures.went exact)

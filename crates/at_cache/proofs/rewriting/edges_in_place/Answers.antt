@@ -1,0 +1,6 @@
+use Rattle.std.proofs.Common.{IfSome, sym}
+use Rattle.at_cache.specs.Edges.{edges_in}
+use Rattle.at_cache.proofs.rewriting.edges_in_place.Goals as goal
+
+pub returns-in-Some : goal.returns-in-Some
+returns-in-Some c = rw c.in-Some.ensures c.edges_for.ensures

@@ -1,0 +1,107 @@
+-- What turns put, one behind the other.
+use Rattle.std.proofs.Common.{◌≡◌, ◌≤◌, ◌+◌, ◌-◌, ◌^◌, ◌⊎◌, min, inl, inr, ℕ, Bool, true, false, List, length, Option, Some, refl, arith, subst, sym, ◌∙◌, ap, true≢false}
+use Rattle.std.specs.Prelude.{nat_lt, IsTrue}
+use Rattle.std.proofs.lemmas.Bool.{ltb-false, ltb-true}
+use Rattle.at_model.specs.Edits.{Edit}
+use Rattle.at_model.specs.Run.{Instance, Location, Value}
+use Rattle.at_store.specs.Shown.{Shown}
+use Rattle.at_body.specs.Same.{same_instance}
+use Rattle.at_cache.specs.Kept.{Entries}
+use Rattle.at_cache.specs.Traced.{AreAlike, Memories, PutsTrace, SparesAtEdit, SparesOthers, StayTraced, Trace}
+use Rattle.at_cache.specs.declared.keeper.Order.TheVariants as order
+use Rattle.at_demand.specs.InTurns.{CountsKept, PutsInTurns, WasPut, another, earlier, itself, nothing, one_more}
+use Rattle.at_demand.specs.Made.{Makes}
+use Rattle.at_demand.specs.Sparing.{Counts}
+use Rattle.at_demand.specs.Touched.{Touches}
+use Rattle.at_demand.specs.Went.{Went, asked, begun, edited, turned}
+use Rattle.at_demand.proofs.Sameness.{same_refl, same_true}
+use Rattle.at_demand.proofs.of_traces.Justified.{stay_in_turns, stay_same, stay_then}
+use Rattle.at_demand.proofs.of_traces.Making.{makes_alike}
+
+pub puts_same : (m : Memories) → PutsInTurns m m
+puts_same m = nothing
+
+pub puts_then : (first next last : Memories) → PutsInTurns first next → PutsInTurns next last → PutsInTurns first last
+puts_then first next _ p nothing = p
+puts_then first next _ p (one_more mid last i after q spares stay) = one_more mid last i after (puts_then first next mid p q) spares stay
+
+-- one was put
+pub puts_one : (i : Instance ℕ) (v : Option (Value ℕ)) (reads : List (Location ℕ)) (uses : List (Instance ℕ)) (after : Entries)
+    (old new : Memories) → PutsTrace i v reads uses order.InTurns old new → SparesOthers i after old new → PutsInTurns old new
+puts_one i v reads uses after old new puts spares = one_more old new i after nothing spares (stay_in_turns i v reads uses old new puts)
+
+-- nothing is traced by that
+pub puts_stay : (old new : Memories) → PutsInTurns old new → StayTraced old new
+puts_stay old _ nothing = stay_same old
+puts_stay old _ (one_more mid last i after q spares stay) = stay_then old mid last (puts_stay old mid q) stay
+
+-- what could be kept again still can, or one of them was put for which it can't
+pub spared_in_turns : (i : Instance ℕ) (t : Trace) (old new : Memories) (p : PutsInTurns old new) → old.traced i ≡ Some t
+    → (new.traced i ≡ Some t) ⊎ WasPut i t old new p
+spared_in_turns i t old _ nothing there = inl there
+spared_in_turns i t old _ (one_more mid new j after p spares stay) there = by (spared_in_turns i t old mid p there)
+  where
+    step : (b : Bool) → same_instance j i ≡ b → mid.traced i ≡ Some t
+        → (new.traced i ≡ Some t) ⊎ WasPut i t old new (one_more mid new j after p spares stay)
+    step true is still = inr (subst (λ x. WasPut x t old new (one_more mid new j after p spares stay)) (same_true j i is)
+        (itself mid new after p spares stay))
+    step false off still = elim (spares.spares i t (λ same. true≢false (sym (same_refl j) ∙ ap (same_instance j) same ∙ off)) still) [
+      | inl left ↦ inl left
+      | inr other ↦ inr (another mid new j after p spares stay other)
+    ]
+
+    by : (mid.traced i ≡ Some t) ⊎ WasPut i t old mid p → (new.traced i ≡ Some t) ⊎ WasPut i t old new (one_more mid new j after p spares stay)
+    by (inl still) = step (same_instance j i) refl still
+    by (inr was) = inr (earlier mid new j after p spares stay was)
+
+-- how the number of those that were made grows with the work
+pub counted_kept : (e f : Entries) (w x k l : ℕ) → Counts e f w x
+    → ((n : ℕ) → x ≡ min (w + n) (2 ^ 64 - 1) → (l ≡ k + n) ⊎ (2 ^ 64 - 1 ≤ l)) → CountsKept e f k l
+counted_kept e f w x k l counts grows = record { made = counts.0; gained = counts.1; count = grows (length counts.0) counts.2 }
+
+summed : (k n s l most : ℕ) → s ≡ k + n → l ≡ min s most → (b : Bool) → nat_lt s most ≡ b → (l ≡ k + n) ⊎ (most ≤ l)
+summed k n s l most sum is true h = let less = ltb-true s most h in inl (omega (arith, sum, less, is))
+summed k n s l most sum is false h = let no = ltb-false s most h in inr (omega (arith, sum, no, is))
+
+grown : (w n x most : ℕ) → x ≡ min (w + n) most → (x ≡ most → ⊥) → (b : Bool) → nat_lt (w + n) most ≡ b → x ≡ w + n
+grown w n x most is other true h = let less = ltb-true (w + n) most h in omega (arith, less, is)
+grown w n x most is other false h = let no = ltb-false (w + n) most h in absurd (other (omega (arith, no, is)))
+
+-- by the difference, where the work isn't at the greatest number
+pub since_then : (k w x l most : ℕ) → (x ≡ most → ⊥) → (d : ℕ) → d ≡ x - w → l ≡ min (k + d) most
+    → (n : ℕ) → x ≡ min (w + n) most → (l ≡ k + n) ⊎ (most ≤ l)
+since_then k w x l most other d less is n more =
+    let all = grown w n x most more other (nat_lt (w + n) most) refl in
+    summed k n (k + d) l most (omega (arith, all, less)) is (nat_lt (k + d) most) refl
+
+-- steps behind steps
+steps_then : (old : Memories) (j : ℕ) (mid : Memories) (k : ℕ) → Went old j mid k → (new : Memories) (l : ℕ) → Went mid k new l → Went old j new l
+steps_then old j mid k w _ _ begun = w
+steps_then old j mid k w _ _ (asked n o e f x y v h) = asked n o e f x y (steps_then old j mid k w n x v) h
+steps_then old j mid k w _ _ (turned n o e f x y v p c) = turned n o e f x y (steps_then old j mid k w n x v) p c
+steps_then old j mid k w _ _ (edited n o s x y v h) = edited n o s x y (steps_then old j mid k w n y v) h
+
+pub went_then : (old mid new : Memories) (j k l : ℕ) → Went old j mid k → Went mid k new l → Went old j new l
+went_then old mid new j k l w v = steps_then old j mid k w new l v
+
+pub went_made : (e f : Entries) (m n : Memories) (k l : ℕ) → Makes e f m n k l → Went m k n l
+went_made e f m n k l h = asked m n e f k l begun h
+
+-- what was kept again makes nothing
+pub went_again : (e : Entries) (m n : Memories) (k l : ℕ) → l ≡ k → AreAlike m n → Went m k n l
+went_again e m n k l same alike = subst (λ x. Went m k n x) (sym same) (went_made e e m n k k (makes_alike e e m n k alike))
+
+-- an edit makes nothing
+pub went_edited : (m n : Memories) (s : Shown) (x : Edit) (k l : ℕ) → l ≡ k → SparesAtEdit (Touches s x) m n → Went m k n l
+went_edited m n s x k l same spares = subst (λ j. Went m k n j) (sym same) (edited m n s x k begun spares)
+
+-- a turn behind steps
+pub went_turned : (exact : Bool) (e f : Entries) (first m n o : Memories) (j k x l : ℕ) → Went first j m k → Went m k n x → PutsInTurns n o
+    → (IsTrue exact → CountsKept e f x l) → IsTrue exact → Went first j o l
+went_turned exact e f first m n o j k x l w v p counts is = turned n o e f x l (went_then first m n j k x w v) p (counts is)
+
+-- what was kept again, and then a turn
+pub went_on : (exact : Bool) (e f : Entries) (first m n o : Memories) (j k x l : ℕ) → Went first j m k → x ≡ k → AreAlike m n → PutsInTurns n o
+    → (IsTrue exact → CountsKept e f x l) → IsTrue exact → Went first j o l
+went_on exact e f first m n o j k x l w same alike p counts is =
+    went_turned exact e f first m n o j k x l w (went_again e m n k x same alike) p counts is
