@@ -23,3 +23,5 @@ pub mod ChainCircle
 pub mod PlainLevel
 pub mod EndedLast
 pub mod FromTry
+pub mod Stuck
+pub mod MetKept

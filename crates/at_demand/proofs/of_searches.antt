@@ -6,6 +6,7 @@ pub mod OnceTold
 pub mod Returning
 pub mod Moving
 pub mod Stepping
+pub mod LookedAlong
 pub mod Overgoing
 pub mod NextTried
 pub mod Costing

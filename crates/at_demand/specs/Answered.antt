@@ -5,6 +5,7 @@ use Rattle.at_model.specs.Run.{Contents, Instance, Location}
 use Rattle.at_model.specs.Rules.{Rules}
 use Rattle.at_model.specs.Meaning.{Answer, Circle, Outcomes}
 use Rattle.at_model.specs.of_fixpoints.Circles.{Answers}
+use Rattle.at_model.specs.of_fixpoints.Met.{IsMet}
 use Rattle.at_model.specs.of_fixpoints.Searching.{Search}
 use Rattle.at_rules.specs.Circular.{HasNoneCircular}
 use Rattle.at_demand.specs.Meant.{AreRightValues}
@@ -17,9 +18,9 @@ use Rattle.at_demand.specs.declared.trials.Trials.{Trials}
 use Rattle.at_demand.specs.Again.{KeepsAgain}
 use Rattle.at_demand.specs.Made.{Makes}
 use Rattle.at_demand.specs.Went.{Went}
-use Rattle.at_demand.specs.Known.{equations, meaning, kept_values, ArePlain, answer_view}
+use Rattle.at_demand.specs.Known.{equations, meaning, kept_values, ArePlain, IsKept, answer_view}
 use Rattle.at_demand.specs.Right.{AreRight, IsThere}
-use Rattle.at_demand.specs.Sparing.{AddsWorthy, AreSpare, Counts, HasWorthy, IsWork}
+use Rattle.at_demand.specs.Sparing.{AddsWorthy, AreSpare, Counts, HasWorthy, IsWork, IsWorthKeeping}
 use Rattle.at_demand.specs.KeptTrials.{FitAfter}
 use Rattle.at_demand.specs.Traces.{StayJustified}
 use Rattle.at_demand.specs.Groups.{KeepsGroups}
@@ -39,10 +40,15 @@ use Rattle.at_demand.specs.Turns.{
   under_way,
 }
 
--- All that is worth keeping is kept for the answer. Where that is a circle, it is so where no attribute is circular.
+-- all that is worth keeping of what the search for the question has met is kept
+abbrev pub HasWorthyMet : Rules → Contents ℕ → Instance ℕ → Entries → Type 0
+HasWorthyMet rules look q entries = (i : Instance ℕ) → IsWorthKeeping rules look q i → IsMet look (meaning rules) q i → IsKept entries i
+
+-- All that is worth keeping is kept for the answer. Where that is a circle, it is so of what its search has met before; and of all, where no
+-- attribute is circular.
 abbrev pub HasWorthyFor : Rules → Contents ℕ → Instance ℕ → Answer ℕ → Entries → Type 0
 HasWorthyFor rules look q (Outcomes o) entries = HasWorthy rules look q entries
-HasWorthyFor rules look q (Circle j) entries = HasNoneCircular rules → HasWorthy rules look q entries
+HasWorthyFor rules look q (Circle j) entries = (HasNoneCircular rules → HasWorthy rules look q entries) × HasWorthyMet rules look q entries
 
 -- it is no circle, or no attribute is circular
 abbrev pub EndsByOutcome : Rules → Answer ℕ → Type 0

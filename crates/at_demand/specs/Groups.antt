@@ -21,7 +21,7 @@ use Rattle.at_cache.specs.Kept.{Entries}
 use Rattle.at_cache.specs.Traced.{Memories}
 use Rattle.at_search.specs.LedTo.{AreClosedIn}
 use Rattle.at_search.specs.Recorded.{IsRecordedForm, Recorded}
-use Rattle.at_search.specs.Solved.{IsSpoilt}
+use Rattle.at_search.specs.Solved.{IsSpoilt, IsStopped}
 use Rattle.at_search.specs.declared.ended.Ended.{Ended}
 use Rattle.at_search.specs.declared.ended.Formed.{Formed}
 use Rattle.at_search.specs.declared.solving.Solved.{Solved}
@@ -106,11 +106,17 @@ pub record CanSolve (rules : Rules) (s : Shown) (entries : Entries) (q : Questio
 abbrev pub IsKnownOrSpoilt : (before after : Entries) → (old new : Question) → Instance ℕ → Type 0
 IsKnownOrSpoilt before after old new i = IsSome (known_to after new i) ⊎ IsSpoilt (known_to before old) old.ended.entries i
 
+-- each of these is known now, or formulas led from it to one that was stopped
+abbrev pub AreKnownOrStopped : (before after : Entries) → (old new : Question) → List (Instance ℕ) → Type 0
+AreKnownOrStopped before after old new insts = (i : Instance ℕ) → Among i insts
+    → IsSome (known_to after new i) ⊎ IsStopped (known_to before old) old.ended.entries insts i
+
 -- Each of these is told its value from which formulas lead to formulas alone, as far as they are recorded: in all else nothing changes.
 pub record HasSolved {E : Type 0} (rules : Rules) (s : Shown) (exact : Bool) (before after : Entries) (former latter : Memories) (earlier later : ℕ)
     (old new : Question) (insts : List (Instance ℕ)) (r : Result Unit E) : Type 0 where
   pub tells : Tells rules s exact before after former latter earlier later old new insts (KeepsGroups rules r)
   pub same : new.ended.entries ≡ old.ended.entries
+  pub each : OnOk r (AreKnownOrStopped before after old new insts)
   pub rest : AreClosedIn (known_to before old) old.ended.entries insts
       → OnOk r ((i : Instance ℕ) → Among i insts → IsKnownOrSpoilt before after old new i)
 
@@ -120,6 +126,7 @@ pub record HasMarkedSolved {E : Type 0} (rules : Rules) (s : Shown) (exact : Boo
   pub tells : Tells rules s exact before after former latter earlier later old new insts (KeepsGroups rules r)
   pub rest : AreClosedIn (known_to before old) old.ended.entries insts
       → OnOk r ((i : Instance ℕ) → Among i insts → IsKnownOrSpoilt before after old new i)
+  pub each : OnOk r (AreKnownOrStopped before after old new insts)
   pub marked : OnOk r ((mid : Question) × (mid.ended.entries ≡ old.ended.entries) × HasMarkedAll insts mid new)
 
 -- A group can be kept: each member has a place, isn't known, and has its value; formulas lead from each to each, and what the formula of one asks for is

@@ -8,8 +8,8 @@ use Rattle.at_model.specs.Rules.{Rules, start_of}
 use Rattle.at_model.specs.Run.{Value, Instance, Location, Contents, FaultKind, Known}
 use Rattle.at_model.specs.Support.{Sees}
 use Rattle.at_model.specs.TypedRuns.{IsWellTyped}
-use Rattle.at_model.specs.of_fixpoints.Fixpoints.{End, EndsSo, HasValue, LeadsOver, Spoilt}
-use Rattle.at_model.specs.of_fixpoints.Formulas.{Formula, Forms}
+use Rattle.at_model.specs.of_fixpoints.Fixpoints.{End, EndsSo, HasValue, LeadsOver, Made, Spoilt}
+use Rattle.at_model.specs.of_fixpoints.Formulas.{Formula, Forms, atoms}
 use Rattle.at_model.specs.of_fixpoints.Resting.{Leads}
 use Rattle.at_model.specs.of_fixpoints.Searched.{IsClosedIn, IsFresh, IsInOrder, IsMade, IsOn, tried_at}
 use Rattle.at_model.specs.of_fixpoints.Searching.{Level, Search, most_turns, under}
@@ -143,6 +143,11 @@ LeadsToFault ended i = (j at : Instance ℕ) × (k : FaultKind) × LeadsOver (Re
 abbrev pub HasAllEnded : Contents ℕ → Forms ℕ → Instance ℕ → Type 0
 HasAllEnded look forms i = IsClosedIn (EndsSo look forms) (λ e. Unit {0}) i
 
+-- what the formula of a marked one asks for is known, or its equation has ended, too
+abbrev pub HaveAsked : Known ℕ → List (Instance ℕ × Ended) → Type 0
+HaveAsked known ended = (i j : Instance ℕ) (f : Formula ℕ) → IsMarked ended i → Recorded ended i (Made f) → Among j (atoms f)
+    → IsSome (known j) ⊎ Among j (keys_of ended)
+
 -- Each equation that has ended is that of an instance that is known, or marked whole, or seen at a level under way. The equations of all to
 -- which formulas lead from one that is marked end, and where that isn't known they lead to a fault.
 pub record AreWholeOrSeen (rules : Rules) (look : Contents ℕ) (entries : Entries) (q : Question) : Type 0 where
@@ -150,6 +155,7 @@ pub record AreWholeOrSeen (rules : Rules) (look : Contents ℕ) (entries : Entri
       → IsSome (known_to entries q i) ⊎ (IsMarked q.ended.entries i ⊎ Among i (under (all_levels q)))
   pub marked : (i : Instance ℕ) → IsMarked q.ended.entries i → HasAllEnded look (meaning rules) i
   pub spoilt : (i : Instance ℕ) → IsMarked q.ended.entries i → known_to entries q i ≡ None → LeadsToFault q.ended.entries i
+  pub asked : HaveAsked (known_to entries q) q.ended.entries
 
 -- all that it tries, has seen, or is to look at
 abbrev pub IsAbout : Question → Instance ℕ → Type 0

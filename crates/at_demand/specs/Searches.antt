@@ -5,15 +5,15 @@ use Rattle.std.specs.Option.{option_map}
 use Rattle.at_model.specs.Instances.{AnyText}
 use Rattle.at_model.specs.Meaning.{Among, Answer as ModelAnswer, Circle, Faults, Finds, Outcome, Outcomes}
 use Rattle.at_model.specs.Rules.{Rules, is_lazy, start_of}
-use Rattle.at_model.specs.Run.{Instance, Contents, Value}
+use Rattle.at_model.specs.Run.{Instance, Contents, Known, Value}
 use Rattle.at_model.specs.TypedRuns.{IsWellTyped}
-use Rattle.at_model.specs.of_fixpoints.Circles.{IsOpen}
+use Rattle.at_model.specs.of_fixpoints.Circles.{HasNone, IsOpen}
 use Rattle.at_model.specs.of_fixpoints.Fixpoints.{EndsSo, HasValue, Holds, Meets, Spoilt}
 use Rattle.at_model.specs.of_fixpoints.Formulas.{Forms}
 use Rattle.at_model.specs.of_fixpoints.Resting.{Comes, Leads}
 use Rattle.at_model.specs.of_fixpoints.Searched.{AreStacked, HasCome, IsFresh, tried_at}
 use Rattle.at_model.specs.Turning.{Turned as ChainTurned}
-use Rattle.at_model.specs.of_fixpoints.Searching.{Follows, Looked, Search, Turned, under}
+use Rattle.at_model.specs.of_fixpoints.Searching.{Follows, IsStuck, Looked, Search, Turned, under}
 use Rattle.at_rules.specs.Circular.{HasNoneCircular}
 use Rattle.at_store.specs.Shown.{Shown, contents}
 use Rattle.at_body.specs.Same.{same_instance}
@@ -53,7 +53,7 @@ use Rattle.at_demand.specs.Meant.{AreRightValues}
 use Rattle.at_demand.specs.Only.{AreLean}
 use Rattle.at_demand.specs.Right.{AreRight, IsThere}
 use Rattle.at_demand.specs.Sparing.{AddsWorthy, AreSettled, AreSpare, Counts}
-use Rattle.at_demand.specs.Turns.{HaveMet, IsFollowed, IsMet, IsSparingTurns, under_way}
+use Rattle.at_demand.specs.Turns.{HasComeAbout, HaveMet, IsFollowed, IsMet, IsSparingTurns, under_way}
 
 -- what was said of finds stands
 pub record AreSoundFinds (rules : Rules) (s : Shown) (entries : Entries) (q : Question) : Type 0 where
@@ -202,7 +202,24 @@ pub record IsSolvable (rules : Rules) (ended : List (Instance ℕ × Ended)) (l 
   pub alike : (i j : Instance ℕ) → Among i (seen_in l) → Among j (seen_in l) → start_of rules i.attribute ≡ start_of rules j.attribute
   pub recorded : (i : Instance ℕ) → Among i (seen_in l) → Among i (keys_of ended)
 
--- The question can be answered by a circle: what its levels have seen can be solved, and what was asked leads to that, and to what was found.
+-- The search of a level stands before that one, which wants what has no outcome; so its root has none.
+pub record IsStuckAt (look : Contents ℕ) (forms : Forms ℕ) (known : Known ℕ) (ended : List (Instance ℕ × Ended)) (root : Instance ℕ)
+    (l : LevelCode) (n : Instance ℕ) : Type 0 where
+  pub stuck : IsStuck look forms n
+  pub none : HasNone look forms root
+  pub covered : IsCovered known ended root (seen_in l) (n ∷ todo_in l) (fault_in l)
+
+-- each of these that has a value is known
+abbrev pub KnowsValued : Rules → Contents ℕ → Entries → Question → (Instance ℕ → Type 0) → Type 0
+KnowsValued rules look entries q These = (i : Instance ℕ) (v : Value ℕ) → These i → HasValue look (meaning rules) i v
+    → IsSome (known_to entries q i)
+
+-- a level under way has seen it
+abbrev pub IsSeenBy : Question → Instance ℕ → Type 0
+IsSeenBy q i = (j : Instance ℕ) × (l : LevelCode) × Among (j, l) ((q.inst, q.level) ∷ q.waiting.entries) × Among i (seen_in l)
+
+-- The question can be answered by a circle: what its levels have seen can be solved, and what was asked leads to that, and to what was found. Each
+-- level stands before one that wants what has no outcome.
 pub record CanClose (rules : Rules) (s : Shown) (entries : Entries) (q : Question) : Type 0 where
   pub answerable : IsAnswerable rules s entries
   pub facts : AreFactsOf rules (contents s) entries q
@@ -210,6 +227,10 @@ pub record CanClose (rules : Rules) (s : Shown) (entries : Entries) (q : Questio
   pub levels : (i : Instance ℕ) (l : LevelCode) → Among (i, l) ((q.inst, q.level) ∷ q.waiting.entries) → IsSolvable rules q.ended.entries l
   pub led : (i : Instance ℕ) → Among i (under (all_levels q)) → Leads (contents s) (meaning rules) (asked_by q) i
   pub held : (i : Instance ℕ) → IsSome (known_to entries q i) → IsKept entries i ⊎ Leads (contents s) (meaning rules) (asked_by q) i
+  pub last : (n : Instance ℕ)
+      × IsStuckAt (contents s) (meaning rules) (known_to entries q) q.ended.entries (root_in q.level q.inst) q.level n
+  pub below : (i : Instance ℕ) (l : LevelCode) → Among (i, l) q.waiting.entries
+      → IsStuckAt (contents s) (meaning rules) (known_to entries q) q.ended.entries (root_in l i) l i
 
 -- Where the search has come to: an equation to be tried; one that is under way at a lower level, and has no outcome; or its end, where all is
 -- passed. For the model this is how far `Follows` comes within the level.
@@ -291,10 +312,11 @@ pub record StaysOn (old new : Question) : Type 0 where
 abbrev pub FollowsOn : Rules → Shown → (before after : Entries) → (old new : Question) → Type 0
 FollowsOn rules s before after old new = IsFollowed rules (contents s) before old → IsFollowed rules (contents s) after new
 
--- so it is but where the search has come back
+-- so it is but where the search has come back: that is the last one at which it looks
 abbrev pub FollowsIn : Rules → Shown → (before after : Entries) → (old new : Question) → Searched → Type 0
 FollowsIn rules s before after old new searched.Next = FollowsOn rules s before after old new
-FollowsIn rules s before after old new (searched.Back i) = Unit {0}
+FollowsIn rules s before after old new (searched.Back i) = IsFollowed rules (contents s) before old
+    → HasComeAbout rules (contents s) after new
 FollowsIn rules s before after old new searched.Over = FollowsOn rules s before after old new
 
 pub record HasSearched {E : Type 0} (rules : Rules) (s : Shown) (exact : Bool) (before after : Entries) (former latter : Memories) (earlier later : ℕ)
@@ -356,7 +378,7 @@ pub record IsLevelOver (rules : Rules) (look : Contents ℕ) (entries : Entries)
   pub whole : AreWholeOrSeen rules look entries q
 
 -- The last level has seen nothing any more: what it had seen is marked whole, and known where it has a value. Where its search was over that is
--- as it has to be.
+-- as it has to be; and where it stood before one that wants what has no outcome, each that has a value is known.
 pub record HasSolvedLevel {E : Type 0} (rules : Rules) (s : Shown) (exact : Bool) (before after : Entries) (former latter : Memories)
     (earlier later : ℕ) (old new : Question) (r : Result Unit E) : Type 0 where
   pub mid : Question
@@ -364,6 +386,9 @@ pub record HasSolvedLevel {E : Type 0} (rules : Rules) (s : Shown) (exact : Bool
   pub tells : Tells rules s exact before after former latter earlier later mid new (seen_in old.level) (KeepsGroups rules r)
   pub marked : OnOk r ((i : Instance ℕ) → Among i (seen_in old.level) → IsMarked new.ended.entries i)
   pub can : OnOk r (IsLevelOver rules (contents s) before old → CanResolve rules s after new)
+  pub told : OnOk r ((n : Instance ℕ)
+      → IsStuckAt (contents s) (meaning rules) (known_to before old) old.ended.entries (root_in old.level old.inst) old.level n
+      → KnowsValued rules (contents s) after new (λ i. Among i (seen_in old.level)))
 
 -- the last level is off, and its root is known: the one that waited for it is told that; or that is the answer
 pub record HasRisenTo {E : Type 0} (before after : Entries) (former latter : Memories) (earlier later : ℕ) (old new : Question) (t u : Trials)
@@ -383,6 +408,7 @@ pub record HasClosed {E : Type 0} (rules : Rules) (s : Shown) (exact : Bool) (be
   pub gains : GainsBetween rules s exact before after former latter earlier later old new (KeepsGroups rules r)
   pub stays : OnOk r (StaysOn old new)
   pub is : IfOk r (λ o. o ≡ Some (answer.Circular at))
+  pub told : OnOk r (KnowsValued rules (contents s) after new (λ i. IsSeenBy old i))
   pub plainly : old.ended.entries ≡ [] → (new ≡ old) × (after ≡ before)
 
 -- the search of the last level is over

@@ -5,13 +5,15 @@ use Rattle.std.specs.Map.{keys_of}
 use Rattle.at_model.specs.Run.{Value, Instance, Location, Contents, Known, Run, Demands}
 use Rattle.at_model.specs.Follow.{Past}
 use Rattle.at_model.specs.Rules.{Rules, is_lazy}
-use Rattle.at_model.specs.Meaning.{Answer, Equations, Among, Outcome}
-use Rattle.at_model.specs.of_fixpoints.Fixpoints.{HasValue}
+use Rattle.at_model.specs.Meaning.{Answer, Equations, Among, Outcome, Reaches}
+use Rattle.at_model.specs.of_fixpoints.Circles.{HasNone}
+use Rattle.at_model.specs.of_fixpoints.Fixpoints.{EndsSo, HasValue, LeadsOver}
 use Rattle.at_model.specs.Turning.{UnderWay, asked, keys, turns_of}
 use Rattle.at_model.specs.Turning.{IsOn as ChainIsOn, Silent as ChainSilent, Turned as ChainTurned}
 use Rattle.at_model.specs.of_fixpoints.Formulas.{Formula, Forms}
+use Rattle.at_model.specs.of_fixpoints.Met.{HaveLookedAt, IsLookedAt}
 use Rattle.at_model.specs.of_fixpoints.Resting.{Comes}
-use Rattle.at_model.specs.of_fixpoints.Searching.{Search, Silent, Turned, under}
+use Rattle.at_model.specs.of_fixpoints.Searching.{IsStuck, Search, Silent, Turned, under}
 use Rattle.at_store.specs.Shown.{Shown, contents}
 use Rattle.at_body.specs.Values.{value_view}
 use Rattle.at_body.specs.declared.value.Value.{Value as ValueCode}
@@ -23,7 +25,7 @@ use Rattle.at_demand.specs.declared.question.Question.{Question}
 use Rattle.at_rules.specs.Circular.{HasNoneCircular}
 use Rattle.at_demand.specs.declared.answer.Answer.{Answer as AnswerCode}
 use Rattle.at_demand.specs.Known.{answer_view, equations, meaning, kept_values, FoundKept, IsFound, IsKept}
-use Rattle.at_demand.specs.Levels.{IsAbout, LevelCode, StandsByLevels, StandsFor, root_in}
+use Rattle.at_demand.specs.Levels.{AreWholeOrSeen, LevelCode, StandsByLevels, StandsFor, all_levels, asked_by, known_to, root_in, seen_in}
 use Rattle.at_demand.specs.Covering.{AreWhole}
 use Rattle.at_demand.specs.Only.{AreLean}
 use Rattle.at_demand.specs.Sound.{AreSound}
@@ -82,10 +84,39 @@ HaveMet rules look entries found (e ∷ es) n = HasMet rules look entries found 
 abbrev pub HasMetAll : Rules → Contents ℕ → Entries → List (Instance ℕ × Find) → Instance ℕ → Type 0
 HasMetAll rules look entries found i = (j : Instance ℕ) → Comes look (meaning rules) i j → IsMet entries found j
 
--- each one to which an equation has come that has ended is met, or its own has ended, or the question is about it
-abbrev pub IsFollowed : Rules → Contents ℕ → Entries → Question → Type 0
-IsFollowed rules look entries q = (i j : Instance ℕ) → Among i (keys_of q.ended.entries) → Comes look (meaning rules) i j
-    → IsMet entries q.found.entries j ⊎ (Among j (keys_of q.ended.entries) ⊎ IsAbout q j)
+-- it is met, or its equation has ended
+abbrev pub IsSettledBy : Entries → Question → Instance ℕ → Type 0
+IsSettledBy entries q j = IsMet entries q.found.entries j ⊎ Among j (keys_of q.ended.entries)
+
+-- so is each one that an equation demands that has ended
+abbrev pub HaveDemanded : Rules → Contents ℕ → Entries → Question → Type 0
+HaveDemanded rules look entries q = (i j : Instance ℕ) → Among i (keys_of q.ended.entries)
+    → Reaches look (HasValue look (meaning rules)) ((meaning rules).formula i) j → IsSettledBy entries q j
+
+-- formulas lead to it from one that is known
+abbrev pub IsBehind : Contents ℕ → Forms ℕ → Known ℕ → Instance ℕ → Type 0
+IsBehind look forms known k = (c : Instance ℕ) × IsSome (known c) × LeadsOver (EndsSo look forms) c k
+
+-- What equations demand that have ended is met, or has ended. And the searches of the levels, which pass what is known, have looked at what they
+-- look at where they pass nothing, so far as they have come, but for what is behind known ones.
+pub record IsFollowed (rules : Rules) (look : Contents ℕ) (entries : Entries) (q : Question) : Type 0 where
+  pub demanded : HaveDemanded rules look entries q
+  pub looked : HaveLookedAt look (meaning rules) (IsBehind look (meaning rules) (known_to entries q)) (all_levels q)
+
+-- The last one was seen at its level, or is known; or its equation, which is tried, has come to the demand of one that has no outcome.
+abbrev pub IsLastDone : Rules → Contents ℕ → Entries → Question → Type 0
+IsLastDone rules look entries q = (Among q.inst (seen_in q.level) ⊎ IsSome (known_to entries q q.inst))
+    ⊎ ((n : Instance ℕ) × HasMet rules look entries q.found.entries q.inst n × HasNone look (meaning rules) n
+    × IsStuck look (meaning rules) q.inst)
+
+-- So it is where the question is answered by a circle: all at which the search for what was asked looks is behind a known one, or the levels have
+-- come to it.
+pub record HasComeAbout (rules : Rules) (look : Contents ℕ) (entries : Entries) (q : Question) : Type 0 where
+  pub whole : AreWholeOrSeen rules look entries q
+  pub last : IsLastDone rules look entries q
+  pub demanded : HaveDemanded rules look entries q
+  pub looked : (x : Instance ℕ) → IsLookedAt look (meaning rules) (asked_by q) x
+      → IsBehind look (meaning rules) (known_to entries q) x ⊎ Among x (under (all_levels q))
 
 -- nothing else stands with what was found than what its instances rest on and lead to, what was found of lazy attributes is
 -- kept, those that wait have met nothing else, and all to which equations have come that have ended is followed

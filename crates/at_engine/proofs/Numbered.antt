@@ -44,6 +44,6 @@ pub worthy_outcome : {R : ℕ → Node → Type 0} (rules : Rules) (t : Tree) (q
     (a : Answer ℕ) (b : Answer Node) → AnswerLike R a b → AnswersIn rules t q b → HasWorthyFor rules look i a entries
     → HasNoneCircular rules ⊎ ((o : Outcome Node) × AnswersIn rules t q (Outcomes o)) → HasWorthy rules look i entries
 worthy_outcome rules t q look i entries _ _ (outcome l) answers h has = h
-worthy_outcome rules t q look i entries _ _ (circle {j = k} l) answers h (inl none) = h none
+worthy_outcome rules t q look i entries _ _ (circle {j = k} l) answers h (inl none) = h.0 none
 worthy_outcome rules t q look i entries _ _ (circle {j = k} l) answers h (inr (o, holds)) =
     absurd (not_both (content t) (forms rules) q k o holds answers)

@@ -119,6 +119,10 @@ module _ (rules : Rules) (s : Shown) (exact : Bool) (before after : Entries) (fo
           | inl some ↦ inl (subst (λ fs. IsSome (known_in after fs i)) (sym m.found) some)
           | inr spoilt ↦ inr spoilt
         ];
+        each = λ i a. elim (x.each i a) [
+          | inl some ↦ inl (subst (λ fs. IsSome (known_in after fs i)) (sym m.found) some)
+          | inr stopped ↦ inr stopped
+        ];
         marked = (mid, x.same, m);
       }
 
@@ -135,5 +139,6 @@ module _ (rules : Rules) (s : Shown) (exact : Bool) (before after : Entries) (fo
         (KeepsGroups rules r) h.tells (KeepsGroups rules q)
         (λ whole. h.tells.spare (fails_too rules r e q Q broke failed whole));
     rest = λ closed. err_ok _ q Q failed;
+    each = err_ok _ q Q failed;
     marked = err_ok _ q Q failed;
   }

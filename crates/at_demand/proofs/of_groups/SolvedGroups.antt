@@ -14,7 +14,7 @@ use Rattle.at_cache.specs.Kept.{Entries}
 use Rattle.at_cache.specs.Traced.{Memories}
 use Rattle.at_search.specs.LedTo.{AreClosedIn}
 use Rattle.at_search.specs.Recorded.{IsRecordedForm, Recorded, end_of}
-use Rattle.at_search.specs.Solved.{AreGroups, AreInOrder, AreRight, AreTold, AreToldOrSpoilt, IsSolvedIn}
+use Rattle.at_search.specs.Solved.{AreGroups, AreInOrder, AreRight, AreTold, AreToldOrSpoilt, AreToldOrStopped, IsSolvedIn, IsToldSome}
 use Rattle.at_search.specs.declared.ended.Ended.{Ended}
 use Rattle.at_search.specs.declared.ended.Formed.{Formed}
 use Rattle.at_search.specs.declared.solving.Solved.{Solved}
@@ -54,6 +54,7 @@ pub record ArePromised (rules : Rules) (s : Shown) (known : Known ℕ) (ended : 
   pub told : AreTold (contents s) (meaning rules) insts groups
   pub order : AreInOrder known ended insts groups
   pub rest : AreClosedIn known ended insts → AreToldOrSpoilt known ended insts groups
+  pub each : AreToldOrStopped known ended insts groups
 
 pub promised : (rules : Rules) (s : Shown) (before : Entries) (old : Question) (insts : List (Instance ℕ)) →
     CanSolve rules s before old insts → (start : Bool) →
@@ -63,9 +64,9 @@ pub promised : (rules : Rules) (s : Shown) (before : Entries) (old : Question) (
     ((look : Contents ℕ) (forms : Forms ℕ) → AreRight look forms start known old.ended.entries insts →
     AreTold look forms insts groups) →
     AreInOrder known old.ended.entries insts groups → (AreClosedIn known old.ended.entries insts →
-    AreToldOrSpoilt known old.ended.entries insts groups) →
+    AreToldOrSpoilt known old.ended.entries insts groups) → AreToldOrStopped known old.ended.entries insts groups →
     ArePromised rules s (known_to before old) old.ended.entries insts groups
-promised rules s before old insts can start starts known same groups are told order rest =
+promised rules s before old insts can start starts known same groups are told order rest each =
     let right : AreRight (contents s) (meaning rules) start (known_to before old) old.ended.entries insts = record {
       facts = can.facts.ends;
       values = can.facts.values;
@@ -81,6 +82,7 @@ promised rules s before old insts can start starts known same groups are told or
       order = subst (λ (k : Known ℕ). AreInOrder k old.ended.entries insts groups) same order;
       rest = subst (λ (k : Known ℕ). AreClosedIn k old.ended.entries insts →
           AreToldOrSpoilt k old.ended.entries insts groups) same rest;
+      each = subst (λ (k : Known ℕ). AreToldOrStopped k old.ended.entries insts groups) same each;
     }
 
 -- a group that was kept, by another name of it
@@ -128,6 +130,7 @@ module _ (rules : Rules) (s : Shown) (exact : Bool) (before : Entries) (former :
     tells = tells_none rules s exact before former earlier old insts (KeepsGroups rules q) few can.facts.values can.took
         can.answerable.plain;
     same = refl;
+    each = err_ok _ q Q failed;
     rest = λ closed. err_ok _ q Q failed;
   }
 
@@ -256,6 +259,7 @@ module _ (rules : Rules) (s : Shown) (exact : Bool) (before : Entries) (former :
               (KeepsGroups rules r) tells_on (KeepsGroups rules q)
               (λ whole. tells_on.spare (fails_too rules r e q Q broke failed whole));
           same = h.same ∙ x.same;
+          each = err_ok _ q Q failed;
           rest = λ closed. err_ok _ q Q failed;
         }
 
@@ -267,9 +271,17 @@ module _ (rules : Rules) (s : Shown) (exact : Bool) (before : Entries) (former :
       tells = tells_so rules s exact before now former among' earlier meanwhile old mid insts insts (λ i a. a)
           (Unit {0}) x.tells (KeepsGroups {E = E} rules (Ok u)) x.tells.spare;
       same = x.same;
+      each = λ i a. elim (p.each i a) [
+        | inl t ↦ inl (known_by i t)
+        | inr u ↦ elim u [ inl known ↦ inl (still i known) | inr stopped ↦ inr stopped ]
+      ];
       rest = λ closed i a. elim (p.rest closed i a) [
-        | inl (b, (k, (g, m, at, c, placed, e))) ↦ inl (x.told k i b (omega (arith, within_list groups k g at, past))
-            (g, m, at, c, placed, e))
+        | inl t ↦ inl (known_by i t)
         | inr u ↦ elim u [ inl known ↦ inl (still i known) | inr spoilt ↦ inr spoilt ]
       ];
     }
+      where
+        -- what is told is known
+        known_by : (i : Instance ℕ) → IsToldSome insts groups i → IsSome (known_to now mid i)
+        known_by i (b, (k, (g, m, at, c, placed, e))) = x.told k i b (omega (arith, within_list groups k g at, past))
+            (g, m, at, c, placed, e)

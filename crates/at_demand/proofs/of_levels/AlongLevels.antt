@@ -1,13 +1,13 @@
 -- The search goes along, level by level, behind a try.
 use Rattle.std.proofs.Common.{◌≡◌, ◌⊎◌, ℕ, ◌<◌, ◌^◌, Bool, length, Option, Some, None, inl, inr, refl, sym, ◌∙◌, subst}
-use Rattle.std.specs.Prelude.{IfNone, IfOk, IfSome, IsTrue, OnOk, Result, Ok, Err}
+use Rattle.std.specs.Prelude.{IfNone, IfOk, IfSome, IsTrue, OnOk, Result, Ok, Err, IsSome}
 use Rattle.std.specs.declared.alloc.AllocError.{AllocError}
 use Rattle.std.specs.Map.{keys_of}
 use Rattle.std.specs.Option.{option_map}
 use Rattle.at_model.specs.Meaning.{Among, Answer as ModelAnswer, Circle}
 use Rattle.at_model.specs.Rules.{Rules}
-use Rattle.at_model.specs.Run.{Instance}
-use Rattle.at_model.specs.of_fixpoints.Fixpoints.{End}
+use Rattle.at_model.specs.Run.{Instance, Value}
+use Rattle.at_model.specs.of_fixpoints.Fixpoints.{End, HasValue}
 use Rattle.at_model.specs.of_fixpoints.Formulas.{Formula}
 use Rattle.at_model.specs.of_fixpoints.Searched.{IsMade}
 use Rattle.at_model.specs.of_fixpoints.Searching.{Looked, under}
@@ -18,6 +18,9 @@ use Rattle.at_body.specs.Typed.{class_shown}
 use Rattle.at_cache.specs.Kept.{Entries}
 use Rattle.at_cache.specs.Traced.{Memories}
 use Rattle.at_search.specs.Recorded.{Recorded}
+use Rattle.at_demand.proofs.of_levels.MetKept.{met_kept}
+use Rattle.at_demand.proofs.of_steps.Met.{have_more, met_more}
+use Rattle.at_demand.specs.Sparing.{AreSpare}
 use Rattle.at_demand.specs.declared.answer.Answer.{Answer}
 use Rattle.at_demand.specs.declared.answer.Answer.TheVariants as answer
 use Rattle.at_demand.specs.declared.demand.searching.Left.{Left}
@@ -26,15 +29,14 @@ use Rattle.at_demand.specs.declared.demand.searching.Searched.{Searched}
 use Rattle.at_demand.specs.declared.demand.searching.Searched.TheVariants as searched
 use Rattle.at_demand.specs.declared.question.Question.{Question}
 use Rattle.at_demand.specs.declared.trials.Trials.{Trials}
-use Rattle.at_demand.specs.Answered.{HasWorthyFor}
+use Rattle.at_demand.specs.Answered.{HasWorthyFor, HasWorthyMet}
 use Rattle.at_demand.specs.ChainSteps.{KeepsChain}
-use Rattle.at_demand.specs.Known.{KeepsEntries, answer_view}
+use Rattle.at_demand.specs.Known.{KeepsEntries, answer_view, meaning}
 use Rattle.at_demand.specs.KeptTrials.{AreTrials, Fit, FitAfter, FitAt}
-use Rattle.at_demand.specs.Levels.{IsDoneIn, all_levels, asked_by, fault_in, levels_of, root_in, seen_in}
-use Rattle.at_demand.specs.Searches.{AreSoundFinds, CanClose, CanGoAlong, FollowsTo, FromFirst, GainsBetween, GoesDown, GoesOnSo}
+use Rattle.at_demand.specs.Levels.{IsDoneIn, all_levels, asked_by, fault_in, known_to, levels_of, root_in, seen_in}
+use Rattle.at_demand.specs.Searches.{AreSoundFinds, CanClose, CanGoAlong, FollowsTo, FromFirst, GainsBetween, GoesDown, GoesOnSo, IsSeenBy}
 use Rattle.at_demand.specs.Searches.{HasClosed, HasGoneAlong, HasLeft, HasLeftSo, HasSearched, HasSearchedTo, LeavesAll, StandsBetween, StaysOn, WasSeenBy}
-use Rattle.at_demand.specs.Sparing.{HasWorthy}
-use Rattle.at_demand.specs.Turns.{IsFollowed, IsSparingTurns}
+use Rattle.at_demand.specs.Turns.{HaveMet, IsFollowed, IsSparingTurns}
 use Rattle.at_demand.proofs.Entered.{entered_on}
 use Rattle.at_demand.proofs.of_levels.GainedBetween.{gains_nothing, gains_then, gains_where}
 use Rattle.at_demand.proofs.of_levels.LeavingSo.{HasAll, IsFollowedSo, leaves_with, spares_on}
@@ -278,6 +280,21 @@ module _ (rules : Rules) (s : Shown) (exact : Bool) (before mid after : Entries)
           (subst (λ ws. Among j (under (levels_of ws))) chain_back.waiting b)))
     ]
 
+    -- what the levels had seen, and has a value, is known
+    abbrev ToldSeen : Entries → Question → Type 0
+    ToldSeen last end = (j : Instance ℕ) (v : Value ℕ) → IsSeenBy new j → HasValue (contents s) (meaning rules) j v →
+        IsSome (known_to last end j)
+
+    -- what those that wait have met
+    met_back : IsSparingTurns rules (contents s) before old → HaveMet rules
+        (contents s) after new.found.entries new.waiting.entries (root_in new.level new.inst)
+    met_back x = let gains : GainsBetween rules s exact before after f n w y old new (Unit {0}) = gained new h.gains in
+        let stays = stays_then old q new c.stays h.stays in
+        have_more rules (contents s) before after old.found.entries new.found.entries
+        (met_more before after gains.stays old.found.entries new.found.entries gains.finds) new.waiting.entries
+        (root_in new.level new.inst)
+        (stays.met rules (contents s) before old.found.entries x.met)
+
     pub along_back : (last : Entries) (o : Memories) (z : ℕ) (end : Question) (r : Result (Option Answer) AllocError) →
         HasClosed {E = AllocError} rules s exact after last n o y z new end i r → HasGoneAlong {E = AllocError} rules s exact before last f o w z old end u r
     along_back last o z end r d = record {
@@ -287,9 +304,21 @@ module _ (rules : Rules) (s : Shown) (exact : Bool) (before mid after : Entries)
       fit = fit_so r d.is;
       leaves = leaves_with rules s exact before last f o w z old end r (gains_then rules s exact before after last f n o w y z old new end (gained new h.gains)
           d.gains (asked_same q new chain_back.waiting h.root ∙ c.asked) levels_back ended_back) c.off (stays_so r d.stays) (followed_so r d.is) c.sound
-          (all_circle r d.is);
+          (all_circle r d.is d.told);
     }
       where
+        worthy_met : IsTrue exact → AreSpare rules (contents s) before → IsSparingTurns rules (contents s) before old →
+            ToldSeen last end →
+            HasWorthyMet rules (contents s) (asked_by old) last
+        worthy_met k spare x told =
+            let gains : GainsBetween rules s exact before after f n w y old new (Unit {0}) = gained new h.gains in
+            let closing = d.gains in
+            let settled = gains.settled k x.settled in
+            subst (λ j. HasWorthyMet rules (contents s) j last) (asked_same q new chain_back.waiting h.root ∙ c.asked)
+            (met_kept rules s after last new end close_back (h.followed (spared k x)) (met_back x) settled
+            (gains.spare tt k spare x.lean x.settled)
+            closing.stays told (closing.settled k settled))
+
         stays_so : (r : Result (Option Answer) AllocError) → OnOk r (StaysOn new end) → OnOk r (StaysOn old end)
         stays_so (Err e) on = tt
         stays_so (Ok a) on = stays_then old new end (stays_then old q new c.stays h.stays) on
@@ -300,13 +329,13 @@ module _ (rules : Rules) (s : Shown) (exact : Bool) (before mid after : Entries)
         followed_so (Ok a) is = subst (λ o. IfNone o (IsTrue exact → IsSparingTurns rules (contents s) before old → IsFollowed rules (contents s) last end))
             (sym is) tt
 
-        all_circle : (r : Result (Option Answer) AllocError) → IfOk r (λ a. a ≡ Some (answer.Circular i)) → HasAll rules s exact before last old r
-        all_circle (Err e) is k spare x = tt
-        all_circle (Ok a) is k spare x =
-            subst (λ o. IfSome o (λ b. HasWorthyFor rules (contents s) (asked_by old) (answer_view b) last)) (sym is) absurd_none
-          where
-            absurd_none : HasNoneCircular rules → HasWorthy rules (contents s) (asked_by old) last
-            absurd_none none = absurd (c.off none)
+        all_circle : (r : Result (Option Answer) AllocError) → IfOk r (λ a. a ≡ Some (answer.Circular i)) → OnOk r
+            (ToldSeen last end) →
+            HasAll rules s exact before last old r
+        all_circle (Err e) is told k spare x = tt
+        all_circle (Ok a) is told k spare x =
+            subst (λ o. IfSome o (λ b. HasWorthyFor rules (contents s) (asked_by old) (answer_view b) last)) (sym is)
+            ((λ none. absurd (c.off none)), worthy_met k spare x told)
 
         follows_so : (r : Result (Option Answer) AllocError) → IfOk r (λ a. a ≡ Some (answer.Circular i)) →
             FromFirst rules s before old (λ first l. IfOk r (λ a. FollowsTo rules s first last l end (option_map answer_view a)))

@@ -27,12 +27,14 @@ use Rattle.at_search.specs.declared.ended.Ending.{Ending}
 use Rattle.at_search.specs.declared.ended.Ending.TheVariants as ending
 use Rattle.at_search.specs.declared.ended.Formed.{Formed}
 use Rattle.at_search.proofs.Meeting.{sees}
+use Rattle.at_demand.proofs.Entered.{is_there, not_none}
+use Rattle.at_demand.proofs.of_searches.Circling.{one_recorded}
 use Rattle.at_demand.specs.declared.question.Question.{Question}
 use Rattle.at_demand.specs.Answerable.{IsAnswerable}
 use Rattle.at_demand.specs.ChainSteps.{HasEnded, ended_by}
 use Rattle.at_demand.specs.Covering.{AreWhole as AreWholeFinds}
 use Rattle.at_demand.specs.Known.{FoundKept, known_in, meaning}
-use Rattle.at_demand.specs.Levels.{AreFactsOf, AreWholeOrSeen, HasAllEnded, IsAbout, IsFormOf, IsLevel, LeadsToFault, LevelCode, StandsFor}
+use Rattle.at_demand.specs.Levels.{AreFactsOf, AreWholeOrSeen, HasAllEnded, HaveAsked, IsAbout, IsFormOf, IsLevel, LeadsToFault, LevelCode, StandsFor}
 use Rattle.at_demand.specs.Levels.{all_levels, asked_by, fault_in, known_to, level_of, levels_of, root_in, seen_in, todo_in}
 use Rattle.at_demand.specs.Searches.{AreSoundFinds, IsLooked, StandsBetween}
 use Rattle.at_demand.proofs.Keys.{absent, goes_last, keys_push, lookup_push}
@@ -198,7 +200,7 @@ module _ (rules : Rules) (s : Shown) (entries : Entries) (q : Question) (below :
       by (ending.Spoilt d) on = (fault_view d.kind, d.at, refl)
 
   whole_now : AreWholeOrSeen rules (contents s) entries new
-  whole_now = record { placed = placed; marked = marked; spoilt = spoilt }
+  whole_now = record { placed = placed; marked = marked; spoilt = spoilt; asked = asked }
     where
       was : AreWholeOrSeen rules (contents s) entries q
       was = st.whole
@@ -240,6 +242,29 @@ module _ (rules : Rules) (s : Shown) (entries : Entries) (q : Question) (below :
         | inr (p, k, at, is) ↦ subst (λ z. LeadsToFault new.ended.entries z) (sym p)
             (q.inst, at, k, stays q.inst, subst (λ z. Recorded new.ended.entries q.inst z) is recorded_now)
       ]
+
+      asked : HaveAsked (known_to entries new) new.ended.entries
+      asked i j f m r a = elim (marked_spoilt i m) [
+        | inl b ↦ elim (was.asked i j f b (recorded_was r b) a) [
+          | inl k ↦ inl (known_new j k)
+          | inr key ↦ inr (subst (λ ks. Among j ks) (sym keys_new) (front_among j (keys_of q.ended.entries)
+              (q.inst ∷ []) key))
+        ]
+        | inr (p, k, at, is) ↦
+            let same : Made f ≡ Spoilt k at = one_recorded new.ended.entries i (Made f) (Spoilt k at) r
+            (subst (λ z. Recorded new.ended.entries z (Spoilt k at)) (sym p) (subst
+            (λ z. Recorded new.ended.entries q.inst z) is recorded_now)) in absurd cc
+      ]
+        where
+          -- it was recorded so
+          recorded_was : Recorded new.ended.entries i (Made f) → IsMarked q.ended.entries i →
+              Recorded q.ended.entries i (Made f)
+          recorded_was (x, at, is) (y, before, w) = elim (looked_up i x at) [
+            | inl here ↦ (x, here, is)
+            | inr d ↦ absurd (not_none (lookup (same_instance i) q.ended.entries) (is_there (lookup
+                (same_instance i) q.ended.entries) y before)
+                (ap (λ z. lookup (same_instance z) q.ended.entries) d.0 ∙ none))
+          ]
 
   level_now : (i : Instance ℕ) (d : LevelCode) → IsLevel rules (contents s) (known_to entries q) q.ended.entries i d →
       IsLevel rules (contents s) (known_to entries new) new.ended.entries i d

@@ -6,14 +6,16 @@ use Rattle.std.specs.Map.{keys_of}
 use Rattle.std.proofs.lemmas.List.{length-append}
 use Rattle.at_model.specs.Meaning.{Among}
 use Rattle.at_model.specs.Rules.{Rules}
-use Rattle.at_model.specs.Run.{Instance}
+use Rattle.at_model.specs.Run.{Instance, Value}
+use Rattle.at_model.specs.of_fixpoints.Fixpoints.{HasValue}
 use Rattle.at_model.specs.of_fixpoints.Resting.{Leads}
 use Rattle.at_model.specs.of_fixpoints.Searching.{under}
-use Rattle.at_model.proofs.Reached.{back_among, front_among}
+use Rattle.at_model.proofs.Reached.{back_among, either_among, front_among}
 use Rattle.at_store.specs.Shown.{Shown, contents}
 use Rattle.at_cache.specs.Kept.{Entries}
 use Rattle.at_cache.specs.Traced.{Memories}
 use Rattle.at_search.proofs.Asking.{reverse_push}
+use Rattle.at_demand.proofs.of_searches.OnceTold.{covered_on}
 use Rattle.at_demand.specs.declared.answer.Answer.{Answer}
 use Rattle.at_demand.specs.declared.answer.Answer.TheVariants as answer
 use Rattle.at_demand.specs.declared.question.Question.{Question}
@@ -21,14 +23,14 @@ use Rattle.at_demand.specs.ChainSteps.{HasLostSeen, HasRisen, IsRisen, IsUnchang
 use Rattle.at_demand.specs.Covering.{AreWhole as AreWholeFinds}
 use Rattle.at_demand.specs.Groups.{KeepsGroups, Tells}
 use Rattle.at_demand.specs.Known.{FoundKept, IsKept, known_in, meaning}
-use Rattle.at_demand.specs.Levels.{AreFactsOf, LevelCode, all_levels, asked_by, known_to, level_of, levels_of, root_in, seen_in}
-use Rattle.at_demand.specs.Searches.{CanClose, CanSolveLevel, GainsBetween, HasClosed, HasSolvedLevel, IsLastUnseen, IsSolvable, StaysOn}
+use Rattle.at_demand.specs.Levels.{AreFactsOf, IsCovered, LevelCode, all_levels, asked_by, fault_in, known_to, level_of, levels_of, root_in, seen_in, todo_in}
+use Rattle.at_demand.specs.Searches.{CanClose, CanSolveLevel, GainsBetween, HasClosed, HasSolvedLevel, IsLastUnseen, IsSeenBy, IsSolvable, IsStuckAt, StaysOn}
 use Rattle.at_demand.proofs.Entered.{kept_on}
 use Rattle.at_demand.proofs.Recalling.{known_kept}
 use Rattle.at_demand.proofs.of_levels.GainedBetween.{gains_nothing, gains_then, gains_told, gains_where}
 use Rattle.at_demand.proofs.of_searches.Moving.{asked_same}
 use Rattle.at_demand.proofs.of_searches.Reaching.{asked_at, level_at}
-use Rattle.at_demand.proofs.of_levels.Resolving.{facts_same, keeps_groups}
+use Rattle.at_demand.proofs.of_levels.Resolving.{facts_same, keeps_groups, still_known}
 use Rattle.at_demand.proofs.of_searches.Returning.{with_level}
 use Rattle.at_demand.proofs.of_levels.StayingOn.{stays_lost, stays_risen, stays_same, stays_then, stays_told, stays_unchanged}
 use Rattle.at_demand.proofs.of_searches.Stepping.{tells_pending}
@@ -142,7 +144,30 @@ module _ {Whole : Type 0} (rules : Rules) (s : Shown) (exact : Bool) (before aft
       levels = λ j d h. solvable_off j d (subst (λ ws. Among (with_level d j) ws) told_before.chain.waiting (waits_risen new r i risen j d h));
       led = λ j h. subst (λ q. Leads (contents s) (meaning rules) q j) (sym asked_off) (can.led j (under_off j h));
       held = held_off;
+      last = (r.inst, stuck_off r.inst r.level (waits_off r.inst r.level (inl refl)));
+      below = λ j d a. stuck_off j d (waits_off j d (inr a));
     }
+      where
+        waits_off : (j : Instance ℕ) (d : LevelCode) → Among (with_level d j) ((r.inst, r.level) ∷ r.waiting.entries) →
+            Among (with_level d j) old.waiting.entries
+        waits_off j d a = subst (λ ws. Among (with_level d j) ws) told_before.chain.waiting
+            (waits_risen new r i risen j d a)
+
+        known_on : (j : Instance ℕ) → IsSome (known_to before old j) → IsSome (known_to after r j)
+        known_on j k = subst (λ fs. IsSome (known_in after fs j)) (sym risen.finds.found)
+            (let (more, e) = told_before.finds in still_known before after old new t.stays more e j k)
+
+        stuck_off : (j : Instance ℕ) (d : LevelCode) → Among (with_level d j) old.waiting.entries →
+            IsStuckAt (contents s) (meaning rules) (known_to after r) r.ended.entries (root_in d j) d j
+        stuck_off j d a = let x = can.below j d a in record {
+          stuck = x.stuck;
+          none = x.none;
+          covered = subst (λ es. IsCovered (known_to after r) es (root_in d j) (seen_in d) (j ∷ todo_in d)
+              (fault_in d)) (sym risen.finds.ended)
+              (covered_on (known_to before old) (known_to after r) old.ended.entries new.ended.entries
+              told_before.endings known_on (root_in d j) (seen_in d)
+              (j ∷ todo_in d) (fault_in d) x.covered);
+        }
 
 -- A question is closed so far: what came to be kept meanwhile, and that the levels that are left are those that it had.
 pub record IsClosing (rules : Rules) (s : Shown) (exact : Bool) (before after : Entries) (former latter : Memories) (earlier later : ℕ)
@@ -153,6 +178,8 @@ pub record IsClosing (rules : Rules) (s : Shown) (exact : Bool) (before after : 
   pub asked : asked_by new ≡ asked_by old
   pub levels : (i : Instance ℕ) → Among i (under (all_levels new)) → Among i (under (all_levels old))
   pub ended : keys_of new.ended.entries ≡ keys_of old.ended.entries
+  pub told : (i : Instance ℕ) (v : Value ℕ) → IsSeenBy old i → HasValue (contents s) (meaning rules) i v
+      → IsSome (known_to after new i) ⊎ IsSeenBy new i
 
 pub begins_closing : (rules : Rules) (s : Shown) (exact : Bool) (entries : Entries) (m : Memories) (w : ℕ) (q : Question) → CanClose rules s entries q →
     w < 2 ^ 64 → IsClosing rules s exact entries entries m m w w q q
@@ -163,16 +190,20 @@ begins_closing rules s exact entries m w q can small = record {
   asked = refl;
   levels = λ i h. h;
   ended = refl;
+  told = λ i v seen has. inr seen;
 }
 
 -- no search was under way
 pub closed_plainly : (rules : Rules) (s : Shown) (exact : Bool) (entries : Entries) (m : Memories) (w : ℕ) (q : Question) (at : Instance ℕ) →
-    CanClose rules s entries q → w < 2 ^ 64 → HasClosed {E = AllocError} rules s exact entries entries m m w w q q at (Ok (Some (answer.Circular at)))
-closed_plainly rules s exact entries m w q at can small = record {
+    CanClose rules s entries q → w < 2 ^ 64 → q.ended.entries ≡ [] →
+    HasClosed {E = AllocError} rules s exact entries entries m m w w q q at (Ok (Some (answer.Circular at)))
+closed_plainly rules s exact entries m w q at can small none = record {
   gains = gains_nothing rules s exact entries m w q q can.answerable small refl;
   stays = stays_same q;
   is = refl;
-  plainly = λ none. (refl, refl);
+  told = λ i v (j, l, a, b) has. absurd (let x = can.levels j l a in subst (λ es. Among i (keys_of es)) none
+      (x.recorded i b));
+  plainly = λ empty. (refl, refl);
 }
 
 module _ (rules : Rules) (s : Shown) (exact : Bool) (before mid after : Entries) (f m n : Memories) (w x y : ℕ) (old q new : Question)
@@ -183,21 +214,68 @@ module _ (rules : Rules) (s : Shown) (exact : Bool) (before mid after : Entries)
       (gains_solved rules s exact mid after m n x y q new c.can h.mid h.lost h.tells any same) c.asked
       (λ i a. inl (c.levels i a)) (λ i a. inr (subst (λ ks. Among i ks) c.ended a))
 
+  waits_solved : new.waiting.entries ≡ q.waiting.entries
+  waits_solved = let t = h.tells in let lost = h.lost in t.chain.waiting ∙ lost.chain.waiting
+
   stays_solved : StaysOn old new
   stays_solved = let t = h.tells in stays_then old q new c.stays (stays_then q h.mid new (stays_lost q h.mid h.lost)
       (stays_told h.mid new t.chain t.level t.turns t.passed))
 
+  -- each that the last level had seen, and that has a value, is known
+  abbrev pub ToldLast : Type 0
+  ToldLast = (k : Instance ℕ) → IsStuckAt (contents s) (meaning rules) (known_to mid q) q.ended.entries
+      (root_in q.level q.inst) q.level k →
+      (i : Instance ℕ) (v : Value ℕ) → Among i (seen_in q.level) → HasValue (contents s) (meaning rules) i v → IsSome
+      (known_to after new i)
+
+  known_new : (i : Instance ℕ) → IsSome (known_to mid q i) → IsSome (known_to after new i)
+  known_new i k =
+      let t = h.tells in
+      let lost = h.lost in
+      let (more, e) = t.finds in
+      still_known mid after q new t.stays more (e ∙ ap (λ fs. fs ++ more) lost.finds.found) i k
+
+  -- what was seen is known, or was seen at a level that waits
+  told_new : ToldLast → (i : Instance ℕ) (v : Value ℕ) → IsSeenBy old i → HasValue (contents s) (meaning rules) i v →
+      IsSome (known_to after new i) ⊎ ((j : Instance ℕ) × (l : LevelCode) × Among
+      (with_level l j) q.waiting.entries × Among i (seen_in l))
+  told_new told i v seen has = elim (c.told i v seen has) [
+    | inl k ↦ inl (known_new i k)
+    | inr (j, l, a, b) ↦ elim a [
+      | inl e ↦ inl (let last = c.can.last in told last.0 last.1 i v (subst (λ (z : Instance ℕ × LevelCode). Among i
+          (seen_in z.1)) (same j l e) b) has)
+      | inr d ↦ inr (j, l, d, b)
+    ]
+  ]
+    where
+      same : (j : Instance ℕ) (l : LevelCode) → with_level l j ≡ with_level q.level q.inst →
+          with_level l j ≡ with_level q.level q.inst
+      same j l e = e
+
   -- its last level is off
-  pub closes_on : (Unit {0} → KeepsGroups rules r) → (t : Question) (i : Instance ℕ) → IsRisen new t i → IsClosing rules s exact before after f n w y old t
-  closes_on on t i risen = record {
+  pub closes_on : ToldLast → (Unit {0} → KeepsGroups rules r) → (t : Question) (i : Instance ℕ) → IsRisen new t i →
+      IsClosing rules s exact before after f n w y old t
+  closes_on told on t i risen = record {
     can = can_close_on rules s exact mid after m n x y q new c.can h.mid h.lost h.tells t i risen;
     gains = gains_where rules s exact before after f n w y old t on (gained_so t risen.finds.found);
     stays = stays_then old new t stays_solved (stays_risen new t i risen);
     asked = asked_off rules s exact mid after m n x y q new c.can h.mid h.lost h.tells t i risen ∙ c.asked;
     levels = λ j a. c.levels j (under_off rules s exact mid after m n x y q new c.can h.mid h.lost h.tells t i risen j a);
     ended = ap (λ es. keys_of es) risen.finds.ended ∙ tells_ended ∙ c.ended;
+    told = λ j v seen has. elim (told_new told j v seen has) [
+      | inl k ↦ inl (subst (λ fs. IsSome (known_in after fs j)) (sym risen.finds.found) k)
+      | inr (m, l, a, b) ↦ inr (m, l, waits_on m l a, b)
+    ];
   }
     where
+      waits_on : (m : Instance ℕ) (l : LevelCode) → Among (with_level l m) q.waiting.entries → Among (with_level l m)
+          ((t.inst, t.level) ∷ t.waiting.entries)
+      waits_on m l a = elim (either_among (with_level l m) t.waiting.entries (with_level t.level t.inst ∷ [])
+          (subst (λ ws. Among (with_level l m) ws) (sym waits_solved ∙ risen.waits) a)) [
+            | inl b ↦ inr b
+            | inr b ↦ elim b [ inl e ↦ inl e | inr u ↦ absurd u ]
+          ]
+
       tells_ended : keys_of new.ended.entries ≡ keys_of q.ended.entries
       tells_ended = let t = h.tells in let lost = h.lost in t.ended ∙ ap (λ es. keys_of es) lost.finds.ended
 
@@ -205,19 +283,22 @@ module _ (rules : Rules) (s : Shown) (exact : Bool) (before mid after : Entries)
   pub closes_less : (t : Question) (i : Instance ℕ) → IsRisen new t i → length t.waiting.entries < length q.waiting.entries
   closes_less t i risen =
       let less = fewer_wait new t i risen in
-      let same : length new.waiting.entries ≡ length q.waiting.entries = ap length waits in
+      let same : length new.waiting.entries ≡ length q.waiting.entries = ap length waits_solved in
       omega (arith, less, same)
-    where
-      waits : new.waiting.entries ≡ q.waiting.entries
-      waits = let t = h.tells in let lost = h.lost in t.chain.waiting ∙ lost.chain.waiting
 
   -- none waits for it: that was the answer
-  pub closed_so : (Unit {0} → KeepsGroups rules r) → (t : Question) → IsUnchanged new t → (at : Instance ℕ) → (old.ended.entries ≡ [] → ⊥) →
-      HasClosed {E = AllocError} rules s exact before after f n w y old t at (Ok (Some (answer.Circular at)))
-  closed_so on t same at some = record {
+  pub closed_so : ToldLast → (Unit {0} → KeepsGroups rules r) → new.waiting.entries ≡ [] → (t : Question) →
+      IsUnchanged new t → (at : Instance ℕ) →
+      (old.ended.entries ≡ [] → ⊥) → HasClosed {E = AllocError} rules s exact before after f n w y old t at (Ok (Some
+      (answer.Circular at)))
+  closed_so told on alone t same at some = record {
     gains = gains_where rules s exact before after f n w y old t on (gained_so t same.finds.found);
     stays = stays_then old new t stays_solved (stays_unchanged new t same);
     is = refl;
+    told = λ i v seen has. elim (told_new told i v seen has) [
+      | inl k ↦ subst (λ fs. IsSome (known_in after fs i)) (sym same.finds.found) k
+      | inr (j, l, a, b) ↦ absurd (subst (λ ws. Among (with_level l j) ws) (sym waits_solved ∙ alone) a)
+    ];
     plainly = λ none. absurd (some none);
   }
 
@@ -228,6 +309,7 @@ module _ (rules : Rules) (s : Shown) (exact : Bool) (before mid after : Entries)
     gains = gains_where rules s exact before after f n w y old new (keeps_groups rules r) (gained_so new refl);
     stays = tt;
     is = tt;
+    told = tt;
     plainly = λ none. absurd (some none);
   })
 
@@ -239,6 +321,11 @@ risen_some old new (Some i) b h is off = (i, h)
 pub risen_none : (old new : Question) (o : Option (Instance ℕ)) (b : Bool) → HasRisen old new o → is_some o ≡ not b → b ≡ true → IsUnchanged old new
 risen_none old new None b h is on = let (none, same) = h in same
 risen_none old new (Some i) b h is on = absurd (true≢false (is ∙ ap not on))
+
+pub risen_alone : (old new : Question) (o : Option (Instance ℕ)) (b : Bool) → HasRisen old new o → is_some o ≡ not b →
+    b ≡ true → old.waiting.entries ≡ []
+risen_alone old new None b h is on = let (none, same) = h in none
+risen_alone old new (Some i) b h is on = absurd (true≢false (is ∙ ap not on))
 
 -- the one that waited wasn't seen at its level
 pub risen_unseen : (old new : Question) (o : Option (Instance ℕ)) (b : Bool) → IsLastUnseen old.waiting.entries → HasRisen old new o → is_some o ≡ not b →

@@ -1,15 +1,15 @@
 -- The equation of the last one has ended, in whatever way: the search goes along behind it.
-use Rattle.std.proofs.Common.{◌≡◌, ◌⊎◌, ℕ, ◌<◌, ◌^◌, Bool, Option, Some, None, Result, Ok, Err, inl, inr, refl, sym, ◌∙◌, subst}
+use Rattle.std.proofs.Common.{◌≡◌, ◌⊎◌, ℕ, ◌<◌, ◌^◌, Bool, Option, Some, None, Result, Ok, Err, inl, inr, sym, ◌∙◌, subst}
 use Rattle.std.specs.Prelude.{IfOk, IfSome, OnOk}
 use Rattle.std.specs.declared.alloc.AllocError.{AllocError}
 use Rattle.std.specs.Map.{keys_of}
 use Rattle.std.specs.Option.{option_map}
-use Rattle.at_model.specs.Meaning.{Among}
+use Rattle.at_model.specs.Meaning.{Among, Reaches}
 use Rattle.at_model.specs.Rules.{Rules}
 use Rattle.at_model.specs.Run.{Instance}
-use Rattle.at_model.specs.of_fixpoints.Fixpoints.{EndsSo}
-use Rattle.at_model.specs.of_fixpoints.Resting.{Comes}
-use Rattle.at_model.specs.of_fixpoints.Searching.{Level, Search, Turned, asked_in, behind, under}
+use Rattle.at_model.specs.of_fixpoints.Fixpoints.{EndsSo, HasValue}
+use Rattle.at_model.specs.of_fixpoints.Searched.{IsAt}
+use Rattle.at_model.specs.of_fixpoints.Searching.{Level, Search, Turned, behind, under}
 use Rattle.at_model.specs.of_fixpoints.Searching as follows
 use Rattle.at_model.proofs.Reached.{back_among, either_among, front_among}
 use Rattle.at_rules.specs.Circular.{HasNoneCircular}
@@ -21,6 +21,7 @@ use Rattle.at_search.specs.Recorded.{end_of}
 use Rattle.at_search.specs.declared.ended.Ending.{Ending}
 use Rattle.at_search.specs.declared.ended.Ending.TheVariants as ending
 use Rattle.at_search.specs.declared.ended.Formed.{Formed}
+use Rattle.at_demand.proofs.of_levels.Followed.{followed_ended}
 use Rattle.at_demand.specs.declared.answer.Answer.{Answer}
 use Rattle.at_demand.specs.declared.question.Question.{Question}
 use Rattle.at_demand.specs.declared.trials.Trials.{Trials}
@@ -30,43 +31,22 @@ use Rattle.at_demand.specs.ChainSteps.{HasEnded}
 use Rattle.at_demand.specs.Groups.{KeepsGroups}
 use Rattle.at_demand.specs.Known.{IsFound, answer_view, kept_values, known_in, meaning}
 use Rattle.at_demand.specs.KeptTrials.{AreTrials, FitAt}
-use Rattle.at_demand.specs.Levels.{IsAbout, LevelCode, StandsFor, all_levels, levels_of, root_in, seen_in, todo_in}
+use Rattle.at_demand.specs.Levels.{StandsFor, all_levels, level_of, levels_of, root_in, seen_in}
 use Rattle.at_demand.specs.Only.{AreLean}
 use Rattle.at_demand.specs.Searches.{AreSoundFinds, CanGoAlong, FollowsTo, GainsBetween, HasGoneAlong, LeavesSo, StandsBetween, StaysSo, TurnsBy, WasSeenBy}
 use Rattle.at_demand.specs.Sparing.{AreSettled}
-use Rattle.at_demand.specs.Turns.{HaveMet, IsFollowed, IsMet, IsSparingTurns, IsStanding}
+use Rattle.at_demand.specs.Turns.{HaveMet, IsFollowed, IsSettledBy, IsSparingTurns, IsStanding}
 use Rattle.at_demand.proofs.of_levels.Behind.{IsFormHere, key_ended, stands_ended}
-use Rattle.at_demand.proofs.of_levels.Followed.{key_stays}
 use Rattle.at_demand.proofs.of_levels.GainedBetween.{gains_nothing, gains_then}
 use Rattle.at_demand.proofs.of_searches.Moving.{asked_same}
-use Rattle.at_demand.proofs.of_searches.Returning.{with_level}
-
-abbrev AboutLevel : Instance ℕ → Instance ℕ × LevelCode → Type 0
-AboutLevel j z = Among j (todo_in z.1) ⊎ (j ≡ root_in z.1 z.0)
-
--- what a question was about it is about still
-pub about_behind : (q r : Question) (e : Ending) → HasEnded q e r → (j : Instance ℕ) → IsAbout q j → IsAbout r j
-about_behind q r e h j (inl (inl a)) = inl (inl (a ∙ sym h.chain.inst))
-about_behind q r e h j (inl (inr a)) = inl (inr (elim (either_among j (seen_in q.level) (under (levels_of q.waiting.entries)) a) [
-  | inl b ↦ front_among j (seen_in r.level) (under (levels_of r.waiting.entries)) (let sees = h.sees in subst (λ is. Among j is) (sym sees.seen) (inr b))
-  | inr b ↦ back_among j (seen_in r.level) (under (levels_of r.waiting.entries)) (subst (λ ws. Among j (under (levels_of ws))) (sym h.chain.waiting) b)
-]))
-about_behind q r e h j (inr (k, d, inl a, b)) = inr (r.inst, r.level, inl refl, here (subst (λ z. AboutLevel j z) same b))
-  where
-    same : with_level d k ≡ with_level q.level q.inst
-    same = a
-
-    here : AboutLevel j (with_level q.level q.inst) → AboutLevel j (with_level r.level r.inst)
-    here (inl x) = inl (let sees = h.sees in subst (λ ts. Among j ts) (sym sees.todo) (back_among j (asked_in (end_of e)) (todo_in q.level) x))
-    here (inr x) = inr (x ∙ sym h.root)
-about_behind q r e h j (inr (k, d, inr a, b)) = inr (k, d, inr (subst (λ ws. Among (with_level d k) ws) (sym h.chain.waiting) a), b)
 
 module _ (rules : Rules) (s : Shown) (exact : Bool) (entries : Entries) (m : Memories) (w : ℕ) (q : Question) (t : Trials)
     (turns : CanTurnWith rules s entries q t) (none : t.awaited ≡ None) (small : w < 2 ^ 64) (off : HasNoneCircular rules → ⊥)
     (mid : Question) (e : Ending) (h : HasEnded q e mid) (ends : EndsSo (contents s) (meaning rules) q.inst (end_of e))
     (form : (g : Formed) → e ≡ ending.Formed g → IsFormHere rules (contents s) entries q g)
-    (comes : (j : Instance ℕ) → Comes (contents s) (meaning rules) q.inst j →
-    IsMet entries q.found.entries j ⊎ (Among j (keys_of q.ended.entries) ⊎ IsAbout mid j)) where
+    (demands : (j : Instance ℕ) → Reaches (contents s) (HasValue (contents s) (meaning rules))
+    ((meaning rules).formula q.inst) j →
+    IsSettledBy entries q j) where
   standing_is : IsStanding rules s entries q
   standing_is = let turn = turns.turns in turn.standing
 
@@ -111,31 +91,21 @@ module _ (rules : Rules) (s : Shown) (exact : Bool) (entries : Entries) (m : Mem
   key_back : (i : Instance ℕ) → Among i (keys_of mid.ended.entries) → Among i (keys_of q.ended.entries) ⊎ (i ≡ q.inst)
   key_back i k = let (u, st) = levels_are in key_ended rules s entries q u st e mid h i k
 
-  key_on : (j : Instance ℕ) → Among j (keys_of q.ended.entries) → Among j (keys_of mid.ended.entries)
-  key_on j k = subst (λ es. Among j (keys_of es)) (sym h.ended) (key_stays q.ended.entries q.inst _ j k)
-
   was_mid : (i : Instance ℕ) → WasSeenBy mid i → WasSeenBy q i
   was_mid i (inl a) = inl (under_mid i a)
   was_mid i (inr k) = elim (key_back i k) [ inl a ↦ inr a | inr d ↦ inl (inl d) ]
 
   followed_mid : IsFollowed rules (contents s) entries q → IsFollowed rules (contents s) entries mid
-  followed_mid followed i j k c = elim (by i k c) [
-    | inl x ↦ inl (subst (λ fs. IsMet entries fs j) (sym h.found) x)
-    | inr d ↦ inr d
-  ]
+  followed_mid f =
+      let (u, st) = levels_are in
+      let between = stands_mid u st in
+      let (come, fresh, shut) = at_last u st in
+      followed_ended q mid e h rules (contents s) entries key_back demands between.can.facts.wholes ends fresh shut f
     where
-      by : (i : Instance ℕ) → Among i (keys_of mid.ended.entries) → Comes (contents s) (meaning rules) i j →
-          IsMet entries q.found.entries j ⊎ (Among j (keys_of mid.ended.entries) ⊎ IsAbout mid j)
-      by i k c = elim (key_back i k) [
-        | inl a ↦ elim (followed i j a c) [
-          | inl x ↦ inl x
-          | inr d ↦ inr (elim d [ inl key ↦ inl (key_on j key) | inr b ↦ inr (about_behind q mid e h j b) ])
-        ]
-        | inr a ↦ elim (comes j (subst (λ z. Comes (contents s) (meaning rules) z j) a c)) [
-          | inl x ↦ inl x
-          | inr d ↦ inr (elim d [ inl key ↦ inl (key_on j key) | inr b ↦ inr b ])
-        ]
-      ]
+      at_last : (u : Search ℕ) → StandsFor rules s entries q u →
+          IsAt (contents s) (meaning rules) (under (levels_of q.waiting.entries)) (level_of q.inst q.level)
+      at_last u st = subst (λ ls. IsAt (contents s) (meaning rules) (under ls) (level_of q.inst q.level)) st.is.below
+          (subst (λ l. IsAt (contents s) (meaning rules) (under u.below) l) st.is.last st.on.last)
 
   spares_mid : IsSparingTurns rules (contents s) entries q → IsSparingTurns rules (contents s) entries mid
   spares_mid x = record {

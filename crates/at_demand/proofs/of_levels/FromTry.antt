@@ -2,6 +2,7 @@
 use Rattle.std.proofs.Common.{◌≡◌, ◌⊎◌, ℕ, ◌+◌, ◌*◌, ◌≤◌, arith, suc, length, List, [], ◌∷◌, ◌++◌, reverse, Option, Some, None, inl, inr, refl, sym, ap, ◌∙◌, subst}
 use Rattle.std.specs.Prelude.{IsSome}
 use Rattle.std.specs.Map.{keys_of, lookup}
+use Rattle.at_model.proofs.of_searching.Strictly.{stuck_none}
 use Rattle.at_model.specs.Instances.{AnyText}
 use Rattle.at_model.specs.Meaning.{Among, Finds, Reaches}
 use Rattle.at_model.specs.Rules.{Rules, start_of}
@@ -14,7 +15,7 @@ use Rattle.at_model.specs.of_fixpoints.Resting.{Leads}
 use Rattle.at_model.specs.of_fixpoints.Resting as led
 use Rattle.at_model.specs.of_fixpoints.Searched.{IsFresh, IsMade, LeadsToNext, here, tried_at}
 use Rattle.at_model.specs.of_fixpoints.Searched as next
-use Rattle.at_model.specs.of_fixpoints.Searching.{Level, Search, begun, root_of, under}
+use Rattle.at_model.specs.of_fixpoints.Searching.{IsStuck, Level, Search, begun, root_of, under}
 use Rattle.at_model.proofs.Reached.{back_among, either_among, front_among}
 use Rattle.at_model.proofs.of_searching.Closing.{none_below, none_here}
 use Rattle.at_model.proofs.of_searching.FewTurns.{tried_fresh}
@@ -27,6 +28,7 @@ use Rattle.at_body.specs.Typed.{class_shown}
 use Rattle.at_cache.specs.Kept.{Entries}
 use Rattle.at_search.specs.Recorded.{IsMarked, Recorded}
 use Rattle.at_search.specs.declared.ended.Fault.{Fault}
+use Rattle.at_demand.proofs.of_levels.Stuck.{stuck_levels}
 use Rattle.at_demand.specs.declared.question.Question.{Question}
 use Rattle.at_demand.specs.Answerable.{IsAnswerable}
 use Rattle.at_demand.specs.ChainSteps.{IsDeeper}
@@ -43,8 +45,8 @@ use Rattle.at_demand.proofs.of_searches.Circling.{IsOrdered, one_recorded, tried
 use Rattle.at_demand.proofs.of_levels.ClosedLevels.{risen_asked, risen_levels}
 use Rattle.at_demand.proofs.of_searches.NextTried.{key_waits, under_waits}
 use Rattle.at_demand.proofs.of_searches.Reaching.{asked_at, leads_met, leads_under, level_at}
-use Rattle.at_demand.proofs.of_levels.Resolving.{facts_same, recorded_key}
-use Rattle.at_demand.proofs.of_searches.Returning.{tried_under, waits_tried, with_level}
+use Rattle.at_demand.proofs.of_levels.Resolving.{asked_moved, facts_same, recorded_key}
+use Rattle.at_demand.proofs.of_searches.Returning.{level_among, tried_under, waits_tried, with_level}
 
 module _ (rules : Rules) (s : Shown) (entries : Entries) (q : Question) (u : Search ℕ) (st : StandsFor rules s entries q u) where
   -- the levels of the question are those of the search
@@ -87,16 +89,45 @@ module _ (rules : Rules) (s : Shown) (entries : Entries) (q : Question) (u : Sea
   }
 
   -- it can be closed
-  pub close_standing : IsAnswerable rules s entries → AreSoundFinds rules s entries q → CanClose rules s entries q
-  close_standing answerable finds = record {
+  pub close_standing : IsAnswerable rules s entries → AreSoundFinds rules s entries q → IsStuck (contents s)
+      (meaning rules) q.inst →
+      CanClose rules s entries q
+  close_standing answerable finds stuck = record {
     answerable = answerable;
     facts = st.facts;
     finds = finds;
     levels = λ i d h. level i d h;
     led = λ i h. led_levels i (subst (λ ls. Among i (under ls)) (sym levels_are) h);
     held = λ i some. by i (there (known_to entries q i) some);
+    last = (
+      q.inst,
+      record {
+        stuck = stuck;
+        none = subst (λ (l : Level ℕ). HasNone (contents s) (meaning rules) l.root) st.is.last root_none;
+        covered = let levels = st.levels in let x = levels.last in x.covered;
+      },
+    );
+    below = λ i d a. record {
+      stuck = (stuck_at i d a).0;
+      none = (stuck_at i d a).1;
+      covered = let levels = st.levels in let x = levels.below i d a in x.covered;
+    };
   }
     where
+      root_none : HasNone (contents s) (meaning rules) u.last.root
+      root_none =
+          let on = st.on in
+          let (come, fresh, shut) = on.last in
+          stuck_none (contents s) (meaning rules) u.last.root u.last.next
+          (come.led u.last.next (back_among u.last.next u.last.seen (u.last.next ∷ u.last.todo) (inl refl)))
+          (subst (λ (l : Level ℕ). IsStuck (contents s) (meaning rules) l.next) (sym st.is.last) stuck)
+
+      stuck_at : (i : Instance ℕ) (d : LevelCode) → Among (i, d) q.waiting.entries →
+          IsStuck (contents s) (meaning rules) i × HasNone (contents s) (meaning rules) (root_in d i)
+      stuck_at i d a = let on = st.on in stuck_levels (contents s)
+          (meaning rules) u.last.root u.below on.stacked root_none (level_of i d)
+          (subst (λ ls. Among (level_of i d) ls) (sym st.is.below) (level_among q.waiting.entries i d a))
+
       level : (i : Instance ℕ) (d : LevelCode) → Among (with_level d i) ((q.inst, q.level) ∷ q.waiting.entries) → IsSolvable rules q.ended.entries d
       level i d (inl e) = let levels = st.levels in
           subst (λ (z : Instance ℕ × LevelCode). IsSolvable rules q.ended.entries z.1) (sym at) (solvable_level q.inst q.level levels.last)
@@ -272,6 +303,7 @@ module _ (rules : Rules) (s : Shown) (entries : Entries) (q : Question) (u : Sea
         marked = λ i m. whole.marked i (subst (λ es. IsMarked es i) h.finds.ended m);
         spoilt = λ i m e. subst (λ es. LeadsToFault es i) (sym h.finds.ended)
             (whole.spoilt i (subst (λ es. IsMarked es i) h.finds.ended m) (subst (λ fs. known_in entries fs i ≡ None) h.finds.found e));
+        asked = asked_moved entries q new h.finds.ended h.finds.found whole.asked;
       }
 
       no_seen : (i : Instance ℕ) → Among i (seen_in new.level) → ⊥

@@ -3,14 +3,15 @@ use Rattle.std.proofs.Common.{◌≡◌, ◌⊎◌, ℕ, ◌<◌, arith, Bool, l
 use Rattle.std.specs.Prelude.{IsSome, IsTrue, IfOk, Result, Ok, Err}
 use Rattle.std.specs.declared.alloc.AllocError.{AllocError}
 use Rattle.std.specs.Map.{keys_of}
-use Rattle.at_model.specs.Meaning.{Among, Answer as ModelAnswer, Faults, Finds, Outcome, Outcomes}
+use Rattle.at_model.proofs.of_searching.PassedCircles.{ends_one}
+use Rattle.at_model.specs.Meaning.{Among, Answer as ModelAnswer, Faults, Finds, Outcome, Outcomes, Reaches}
 use Rattle.at_model.specs.Rules.{Rules, start_of}
 use Rattle.at_model.specs.Run.{Value, Instance, Contents}
-use Rattle.at_model.specs.of_fixpoints.Fixpoints.{End, Spoilt, EndsSo, HasValue, Holds}
+use Rattle.at_model.specs.of_fixpoints.Fixpoints.{End, EndsSo, HasValue, Holds, Made, Spoilt}
 use Rattle.at_model.specs.of_fixpoints.Formulas.{Formula, Forms}
 use Rattle.at_model.specs.of_fixpoints.Resting.{Comes, Leads}
-use Rattle.at_model.specs.of_fixpoints.Searched.{IsMade}
-use Rattle.at_model.specs.of_fixpoints.Searching.{Adds, IsPassed, Looked, Search, gone_to, under}
+use Rattle.at_model.specs.of_fixpoints.Searched.{AreStacked, IsAt, IsMade}
+use Rattle.at_model.specs.of_fixpoints.Searching.{Adds, IsPassed, Level, Looked, Search, gone_to, under}
 use Rattle.at_model.specs.of_fixpoints.Searching as follows
 use Rattle.at_model.proofs.Reached.{back_among, either_among, front_among}
 use Rattle.at_store.specs.Shown.{Shown, contents}
@@ -18,10 +19,11 @@ use Rattle.at_body.specs.Typed.{class_shown}
 use Rattle.at_body.specs.Values.{fault_view}
 use Rattle.at_cache.specs.Kept.{Entries}
 use Rattle.at_cache.specs.Traced.{Memories}
-use Rattle.at_search.specs.Recorded.{IsMarked, Recorded}
+use Rattle.at_search.specs.Recorded.{AreWhole, IsMarked, Recorded, end_of}
 use Rattle.at_search.specs.declared.ended.Ending.TheVariants as ending
 use Rattle.at_search.specs.declared.ended.Fault.{Fault}
 use Rattle.at_search.specs.declared.ended.Formed.{Formed}
+use Rattle.at_demand.proofs.of_levels.Stuck.{no_value}
 use Rattle.at_demand.specs.declared.answer.Answer.{Answer}
 use Rattle.at_demand.specs.declared.demand.searching.Left.{Left}
 use Rattle.at_demand.specs.declared.demand.searching.Left.TheVariants as left
@@ -37,21 +39,21 @@ use Rattle.at_demand.specs.Levels.{all_levels, asked_by, fault_in, known_to, lev
 use Rattle.at_demand.specs.Searches.{AreKeptOrTold, AreSoundFinds, CanGoAlong, CanLeave, CanResolve, CanSearch, CanSolveLevel, FollowsSo, FollowsTo, GainsBetween, GoesDown, GoesOnSo}
 use Rattle.at_demand.specs.Answered.{HasWorthyFor}
 use Rattle.at_demand.specs.Sparing.{AreSpare, HasWorthy}
-use Rattle.at_demand.specs.Turns.{HaveMet, IsFollowed, IsMet, IsSparingTurns}
+use Rattle.at_demand.specs.Turns.{HaveMet, IsFollowed, IsMet, IsSettledBy, IsSparingTurns}
 use Rattle.at_demand.proofs.of_steps.Met.{met_last, met_more}
 use Rattle.at_demand.specs.Searches.{HasFallen, LeavesAll, HasLeft, HasLeftSo, HasRisenTo, HasSolvedLevel, IsLastUnseen, IsLevelOver, StandsBetween, StaysOn}
 use Rattle.at_demand.proofs.Entered.{not_none, there}
 use Rattle.at_demand.proofs.of_levels.Behind.{IsFormHere, behind_it, key_back, stands_behind}
-use Rattle.at_demand.proofs.of_levels.ClosedLevels.{asked_risen, fewer_wait, under_risen}
+use Rattle.at_demand.proofs.of_levels.ClosedLevels.{asked_risen, fewer_wait, risen_levels, under_risen}
 use Rattle.at_demand.proofs.of_levels.GainedBetween.{gains_told, gains_where, held_told}
 use Rattle.at_demand.proofs.of_levels.LevelOver.{below_is, fallen, is_ready, last_unseen, next_fails, root_fails, root_known, stands_fallen}
-use Rattle.at_demand.proofs.of_levels.Followed.{IsBelow, IsSettledBy, about_parts, comes_waiting, followed_ended, followed_off, root_key, settled_on}
-use Rattle.at_demand.proofs.of_levels.LeftWorthy.{all_worthy, no_value}
+use Rattle.at_demand.proofs.of_levels.Followed.{comes_waiting, followed_ended, followed_off, met_known, root_key, settled_more}
+use Rattle.at_demand.proofs.of_levels.LeftWorthy.{all_worthy}
 use Rattle.at_demand.proofs.of_searches.Moving.{asked_same, can_moved}
 use Rattle.at_demand.proofs.of_searches.NextTried.{start_ends}
 use Rattle.at_demand.proofs.of_searches.OnceTold.{adds_told, found_as, kept_or_told, stands_told, told_in, told_of}
 use Rattle.at_demand.proofs.of_searches.Reaching.{asked_at, led_met, led_under}
-use Rattle.at_demand.proofs.of_levels.Resolving.{keeps_groups, recorded_key, still_known}
+use Rattle.at_demand.proofs.of_levels.Resolving.{keeps_groups, key_entry, recorded_key, still_known}
 use Rattle.at_demand.proofs.of_searches.Returning.{with_level}
 use Rattle.at_demand.proofs.of_levels.StayingOn.{stays_ended, stays_lost, stays_risen, stays_taken, stays_then, stays_told, stays_unchanged}
 use Rattle.at_demand.proofs.of_searches.Stepping.{tells_pending}
@@ -327,52 +329,55 @@ module _ (rules : Rules) (s : Shown) (exact : Bool) (before after : Entries) (fo
 
   -- where none waits, all that is worth keeping is kept
   module _ (alone : old.waiting.entries ≡ []) (k : IsTrue exact) (spare : AreSpare rules (contents s) before) (x : IsSparingTurns rules (contents s) before old) where
-    followed_top : (i j : Instance ℕ) → Among i (keys_of new.ended.entries) → Comes (contents s) (meaning rules) i j →
-        IsMet after new.found.entries j ⊎ Among j (keys_of new.ended.entries)
-    followed_top i j key c = elim (x.followed i j (key_was i key) c) [
-      | inl m ↦ inl (met_more before after t.stays old.found.entries new.found.entries found_with j m)
-      | inr d ↦ elim d [
-        | inl a ↦ inr (key_with j a)
-        | inr b ↦ elim (about_parts rules s before old can.looked can.stands j b) [
-          | inl y ↦ elim y [
-            | inl m ↦ inl (met_more before after t.stays old.found.entries new.found.entries found_with j m)
-            | inr a ↦ inr (key_with j a)
-          ]
-          | inr y ↦ absurd (nothing y)
-        ]
-      ]
+    -- what isn't known is marked
+    marked_top : (i : Instance ℕ) → Among i (keys_of new.ended.entries) → known_to after new i ≡ None →
+        IsMarked new.ended.entries i
+    marked_top i key unknown = let whole = resolve.whole in elim (whole.placed i key) [
+      | inl a ↦ absurd (not_none (known_to after new i) a unknown)
+      | inr d ↦ elim d [ inl m ↦ m | inr u ↦ under_marked u ]
     ]
       where
-        nothing : Among j (todo_in old.level) ⊎ IsBelow old j → ⊥
-        nothing (inl a) = subst (λ ts. Among j ts) done a
-        nothing (inr (inl h)) = subst (λ ws. Among j (under (levels_of ws))) alone h
-        nothing (inr (inr (n, d, a, b))) = subst (λ ws. Among (with_level d n) ws) alone a
+        last_marked : i ≡ old.inst → IsMarked new.ended.entries i
+        last_marked e = let st = can.stands in elim st.tried [
+          | inl a ↦ subst (λ z. IsMarked new.ended.entries z) (sym e) (marked old.inst (subst
+              (λ is. Among old.inst is) st.is.seen a))
+          | inr b ↦ absurd (not_none (known_to after new i)
+              (subst (λ z. IsSome (known_to after new z)) (sym e) (let
+              (more, g) = told_with.finds in still_known before after old new t.stays more g old.inst b)) unknown)
+        ]
+
+        under_marked : Among i (under (all_levels new)) → IsMarked new.ended.entries i
+        under_marked (inl e) = last_marked (e ∙ told_with.chain.inst)
+        under_marked (inr h) = elim (either_among i (seen_in new.level) (under (levels_of new.waiting.entries)) h) [
+          | inl a ↦ absurd (none_seen i a)
+          | inr b ↦ absurd (subst (λ ws. Among i (under (levels_of ws))) (told_with.chain.waiting ∙ alone) b)
+        ]
+
+    followed_top : (i j : Instance ℕ) → Among i (keys_of new.ended.entries) → known_to after new i ≡ None → Comes
+        (contents s) (meaning rules) i j →
+        IsSettledBy after new j
+    followed_top i j key unknown (inl r) =
+        settled_more before after old new t.stays found_with key_with j (let f = x.followed in f.demanded i j
+        (key_was i key) r)
+    followed_top i j key unknown (inr (f, form, a)) =
+        let whole = resolve.whole in
+        let facts = resolve.facts in
+        let (y, at) = key_entry new.ended.entries i key in
+        let same : end_of y.ending ≡ Made f = ends_one (contents s) (meaning rules) i (end_of y.ending) (Made f)
+        (facts.ends i (end_of y.ending) (y, at, refl)) form in
+        elim (whole.asked i j f (marked_top i key unknown) (y, at, same) a) [
+          | inl k ↦ inl
+              (met_known after new.found.entries j k)
+          | inr b ↦ inr b
+        ]
 
     valueless_top : (i : Instance ℕ) (v : Value ℕ) → Among i (keys_of new.ended.entries) → known_to after new i ≡ None →
         HasValue (contents s) (meaning rules) i v → ⊥
-    valueless_top i v key unknown has = let whole = resolve.whole in elim (whole.placed i key) [
-      | inl a ↦ not_none (known_to after new i) a unknown
-      | inr d ↦ elim d [ inl m ↦ by_mark m | inr u ↦ under_none u ]
-    ]
-      where
-        by_mark : IsMarked new.ended.entries i → ⊥
-        by_mark m = let whole = resolve.whole in let facts = resolve.facts in
-            let (j, at, k, l, r) = whole.spoilt i m unknown in
-            no_value (contents s) (meaning rules) (Recorded new.ended.entries) facts.ends i j v k at has l r
-
-        last_none : i ≡ old.inst → ⊥
-        last_none e = let st = can.stands in elim st.tried [
-          | inl a ↦ by_mark (subst (λ z. IsMarked new.ended.entries z) (sym e) (marked old.inst (subst (λ is. Among old.inst is) st.is.seen a)))
-          | inr b ↦ not_none (known_to after new i)
-              (subst (λ z. IsSome (known_to after new z)) (sym e) (let (more, g) = told_with.finds in still_known before after old new t.stays more g old.inst b)) unknown
-        ]
-
-        under_none : Among i (under (all_levels new)) → ⊥
-        under_none (inl e) = last_none (e ∙ told_with.chain.inst)
-        under_none (inr h) = elim (either_among i (seen_in new.level) (under (levels_of new.waiting.entries)) h) [
-          | inl a ↦ none_seen i a
-          | inr b ↦ subst (λ ws. Among i (under (levels_of ws))) (told_with.chain.waiting ∙ alone) b
-        ]
+    valueless_top i v key unknown has =
+        let whole = resolve.whole in
+        let facts = resolve.facts in
+        let (j, at, k, l, r) = whole.spoilt i (marked_top i key unknown) unknown in
+        no_value (contents s) (meaning rules) (Recorded new.ended.entries) facts.ends i j v k at has l r
 
     worthy_top : HasWorthy rules (contents s) (asked_by old) after
     worthy_top = subst (λ i. HasWorthy rules (contents s) i after) (sym asked_top)
@@ -411,11 +416,15 @@ module _ (rules : Rules) (s : Shown) (exact : Bool) (before after : Entries) (fo
         turns = risen.finds.turns ∙ taken.finds.turns;
       }
 
+      levels_risen : levels_of old.waiting.entries ≡ all_levels q3
+      levels_risen = ap (λ ws. levels_of ws) (sym told_with.chain.waiting ∙ waits_risen_so) ∙ sym
+          (risen_levels q3.waiting.entries q3.inst q3.level)
+
       followed_risen : IsSparingTurns rules (contents s) before old → IsFollowed rules (contents s) after q3
-      followed_risen x = followed_off rules s before old can.looked can.stands after q3 t.stays
+      followed_risen x = followed_off rules (contents s) before after old q3 t.stays
           (let (more, e) = told_with.finds in (more, finds_risen.found ∙ e))
-          (λ j k. subst (λ es. Among j (keys_of es)) (sym finds_risen.ended) (key_with j k)) done
-          (λ j k. key_was j (subst (λ es. Among j (keys_of es)) finds_risen.ended k)) (sym told_with.chain.waiting ∙ waits_risen_so) x.followed
+          (λ j k. subst (λ es. Among j (keys_of es)) (sym finds_risen.ended) (key_with j k))
+          (λ j k. key_was j (subst (λ es. Among j (keys_of es)) finds_risen.ended k)) levels_risen x.followed
 
       trials_risen : (trials : Trials) → Fit rules s before old trials → trials.awaited ≡ None →
           AreTrials rules (class_shown s) (contents s) after q3.found.entries (q3.waiting.entries ++ (q3.inst, q3.level) ∷ []) (root_in q2.level q2.inst)
@@ -567,16 +576,37 @@ module _ (rules : Rules) (s : Shown) (exact : Bool) (before after : Entries) (fo
         so = fallen_so x h;
       }
         where
+          ends_at : (q3 : Question) (i : Instance ℕ) → IsRisen q2 q3 i → HasEnded q3 (ending.Spoilt f) q4 →
+              EndsSo (contents s) (meaning rules) q3.inst (Spoilt (fault_view f.kind) f.at)
+          ends_at q3 i risen ended =
+              ends_below before can.looked stay_first can.stands held_first f some q3 (waits_risen_so q3 i risen)
+              (finds_risen q3 i risen) q4 ended
+
+          -- the one that waits isn't seen, and isn't under way further below
+          at_below : (q3 : Question) (i : Instance ℕ) → IsRisen q2 q3 i →
+              IsAt (contents s) (meaning rules) (under (levels_of q3.waiting.entries)) (level_of q3.inst q3.level)
+          at_below q3 i risen = let st = can.stands in first_at can.looked.root (levels_of q3.waiting.entries)
+              (level_of q3.inst q3.level)
+              (subst (λ ls. AreStacked (contents s) (meaning rules) can.looked.root ls)
+              (st.is.below ∙ levels_risen q3 i risen) st.stacked)
+            where
+              first_at : (root : Instance ℕ) (ls : List (Level ℕ)) (l : Level ℕ) → AreStacked (contents s)
+                  (meaning rules) root (l ∷ ls) →
+                  IsAt (contents s) (meaning rules) (under ls) l
+              first_at root ls l (demands, off, at, rest) = at
+
           ends_last : (q3 : Question) (i : Instance ℕ) (risen : IsRisen q2 q3 i) → HasEnded q3 (ending.Spoilt f) q4 →
-              IsSparingTurns rules (contents s) before old → (j : Instance ℕ) → Comes (contents s) (meaning rules) q3.inst j → IsSettledBy after q3 j
+              IsSparingTurns rules (contents s) before old → (j : Instance ℕ) →
+              Reaches (contents s) (HasValue (contents s) (meaning rules)) ((meaning rules).formula q3.inst) j →
+              IsSettledBy after q3 j
           ends_last q3 i risen ended y j c = settle (comes_waiting rules (contents s) before old.found.entries q3.inst (root_in old.level old.inst)
               (fault_view f.kind) f.at
-              (ends_below before can.looked stay_first can.stands held_first f some q3 (waits_risen_so q3 i risen) (finds_risen q3 i risen) q4 ended)
+              (ends_at q3 i risen ended)
               (let st = can.stands in subst (λ z. Holds (contents s) (meaning rules) z (Faults (fault_view f.kind) f.at)) st.is.root
               (fails_now before can.looked stay_first can.stands held_first f some))
               (met_last rules (contents s) before old.found.entries q3.waiting.entries (with_level q3.level q3.inst) (root_in old.level old.inst)
               (subst (λ ws. HaveMet rules (contents s) before old.found.entries ws (root_in old.level old.inst))
-              (sym told_with.chain.waiting ∙ waits_risen_so q3 i risen) y.met)) j c)
+              (sym told_with.chain.waiting ∙ waits_risen_so q3 i risen) y.met)) j (inl c))
             where
               finds_so : KeepsFinds with_it q3
               finds_so = finds_risen q3 i risen
@@ -591,9 +621,18 @@ module _ (rules : Rules) (s : Shown) (exact : Bool) (before after : Entries) (fo
           all_fallen (left.Told None) h = absurd h
           all_fallen (left.Told (Some a)) (alone, unchanged, is) = λ k spare y.
               subst (λ z. HasWorthyFor rules (contents s) (asked_by old) z after) (sym is) (worthy_top (sym waits_taken ∙ alone) k spare y)
-          all_fallen left.Fallen (q3, i, risen, ended, dropped) = λ y. followed_ended q3 q4 f ended rules (contents s) after
+          all_fallen left.Fallen (q3, i, risen, ended, dropped) = λ y.
+              let (come, fresh, shut) = at_below q3 i risen in
+              followed_ended q3 q4 (ending.Spoilt f) ended rules (contents s) after
               (key_below before can.looked stay_first can.stands held_first f some q3 (waits_risen_so q3 i risen) (finds_risen q3 i risen) q4 ended)
-              (ends_last q3 i risen ended y) (followed_risen q3 i risen y)
+              (ends_last q3 i risen ended y) (wholes_below q3 i risen ended) (ends_at q3 i risen ended) fresh shut
+              (followed_risen q3 i risen y)
+            where
+              wholes_below : (q3 : Question) (i : Instance ℕ) → IsRisen q2 q3 i → HasEnded q3 (ending.Spoilt f) q4 →
+                  AreWhole (contents s) (meaning rules) (known_to after q4)
+              wholes_below q3 i risen ended = let facts = resolve.facts in
+                  subst (λ fs. AreWhole (contents s) (meaning rules) (known_in after fs))
+                  (sym (ended.found ∙ let finds = finds_risen q3 i risen in finds.found)) facts.wholes
 
           falls : (x : Left) → HasFallen q2 q4 trials u f x → StaysOn q2 q4
           falls (left.Told None) h = absurd h

@@ -41,7 +41,7 @@ use Rattle.at_demand.proofs.There.{found_once}
 use Rattle.at_demand.proofs.of_searches.Circling.{one_recorded}
 use Rattle.at_demand.proofs.of_levels.ClosedLevels.{risen_asked, risen_levels}
 use Rattle.at_demand.proofs.of_searches.Reaching.{asked_at, starts_at}
-use Rattle.at_demand.proofs.of_levels.Resolving.{facts_same, key_entry}
+use Rattle.at_demand.proofs.of_levels.Resolving.{asked_moved, facts_same, key_entry}
 use Rattle.at_demand.proofs.of_searches.Returning.{with_level}
 
 -- what was found, or is kept, is known
@@ -226,6 +226,7 @@ module _ (rules : Rules) (s : Shown) (entries : Entries) (p : Question) (m : Loo
         marked = λ i k. let whole = st.can.whole in whole.marked i (subst (λ es. IsMarked es i) finds.ended k);
         spoilt = λ i k e. subst (λ es. LeadsToFault es i) (sym finds.ended)
             (let whole = st.can.whole in whole.spoilt i (subst (λ es. IsMarked es i) finds.ended k) (subst (λ fs. known_in entries fs i ≡ None) finds.found e));
+        asked = asked_moved entries p q finds.ended finds.found (let whole = st.can.whole in whole.asked);
       }
 
       typed_q : (i : Instance ℕ) → IsAbout q i → IsWellTyped rules (class_shown s) AnyText i

@@ -9,7 +9,7 @@ use Rattle.std.proofs.lemmas.Result.{IfOk-weaker}
 use Rattle.at_model.specs.Meaning.{Among, Faults, Finds}
 use Rattle.at_model.specs.Rules.{Rules, start_of}
 use Rattle.at_model.specs.Run.{Value, Instance, Contents, Known}
-use Rattle.at_model.specs.of_fixpoints.Fixpoints.{End, Made, Spoilt, EndsSo, LeadsOver, stays, goes, Meets, Holds}
+use Rattle.at_model.specs.of_fixpoints.Fixpoints.{End, EndsSo, HasValue, Holds, LeadsOver, Made, Meets, Spoilt, goes, stays}
 use Rattle.at_model.specs.of_fixpoints.Formulas.{Formula, Forms, atoms}
 use Rattle.at_model.specs.of_fixpoints.Searched.{EndsWell, IsClosedIn}
 use Rattle.at_model.specs.of_fixpoints.Searching.{asked_in, under}
@@ -26,10 +26,12 @@ use Rattle.at_cache.specs.Kept.{Entries}
 use Rattle.at_cache.specs.Traced.{Memories}
 use Rattle.at_search.specs.LedTo.{AreClosedIn, IsClosure}
 use Rattle.at_search.specs.Recorded.{AreFacts, AreWhole, IsMarked, IsRecordedForm, IsSettled, Recorded, end_of}
-use Rattle.at_search.specs.Solved.{IsSpoilt}
+use Rattle.at_search.specs.Solved.{IsSpoilt, IsStopped}
 use Rattle.at_search.specs.declared.ended.Ended.{Ended}
 use Rattle.at_search.specs.declared.ended.Fault.{Fault}
 use Rattle.at_search.proofs.Seeing.{among_reverse, reverse_among}
+use Rattle.at_demand.proofs.of_levels.Stuck.{not_stopped}
+use Rattle.at_demand.proofs.of_searches.Circling.{one_recorded}
 use Rattle.at_demand.specs.declared.demand.searching.Look.{Look}
 use Rattle.at_demand.specs.declared.demand.searching.Resolved.{Resolved}
 use Rattle.at_demand.specs.declared.demand.searching.Resolved.TheVariants as resolved
@@ -38,11 +40,11 @@ use Rattle.at_demand.specs.declared.question.Question.{Question}
 use Rattle.at_demand.specs.Answerable.{IsAnswerable}
 use Rattle.at_demand.specs.ChainSteps.{HasLostSeen, HasMarkedAll, HasRisen, IsUnchanged}
 use Rattle.at_demand.specs.Covering.{AreWhole as AreWholeFinds}
-use Rattle.at_demand.specs.Groups.{CanBeSolved, HasMarkedSolved, IsKnownOrSpoilt, KeepsGroups, Tells, start_in}
+use Rattle.at_demand.specs.Groups.{AreKnownOrStopped, CanBeSolved, HasMarkedSolved, IsKnownOrSpoilt, KeepsGroups, Tells, start_in}
 use Rattle.at_demand.specs.Known.{FoundKept, KeepsEntries, found_values, kept_values, known_in, meaning}
-use Rattle.at_demand.specs.Levels.{AreFactsOf, AreWholeOrSeen, HasAllEnded, IsFormOf, LeadsToFault, all_levels, known_to, level_of, levels_of, root_in, seen_in}
+use Rattle.at_demand.specs.Levels.{AreFactsOf, AreWholeOrSeen, HasAllEnded, HaveAsked, IsFormOf, LeadsToFault, all_levels, known_to, level_of, levels_of, root_in, seen_in}
 use Rattle.at_demand.specs.Meant.{AreRightValues}
-use Rattle.at_demand.specs.Searches.{AreSoundFinds, CanResolve, CanSolveLevel, HasLookedAt, HasResolved, HasSolvedLevel, IsLevelOver, IsLookedAt, IsMetFault, IsResolved, TellsOfEnded, look_of}
+use Rattle.at_demand.specs.Searches.{AreSoundFinds, CanResolve, CanSolveLevel, HasLookedAt, HasResolved, HasSolvedLevel, IsLevelOver, IsLookedAt, IsMetFault, IsResolved, IsStuckAt, TellsOfEnded, look_of}
 use Rattle.at_demand.proofs.Counting.{counts_none}
 use Rattle.at_demand.proofs.Entered.{is_there, kept_on, not_none}
 use Rattle.at_demand.proofs.Keys.{is_key, no_key}
@@ -105,6 +107,9 @@ module _ (set : List (Instance ℕ)) (old new : List (Instance ℕ × Ended)) (m
 -- a key has an entry, and what has an entry is a key
 pub recorded_key : (ended : List (Instance ℕ × Ended)) (i : Instance ℕ) (e : End ℕ (Formula ℕ)) → Recorded ended i e → Among i (keys_of ended)
 recorded_key ended i e (x, at, is) = is_key true ended i (sym (is_there (lookup (same_instance i) ended) x at))
+
+pub marked_key : (ended : List (Instance ℕ × Ended)) (i : Instance ℕ) → IsMarked ended i → Among i (keys_of ended)
+marked_key ended i (x, at, w) = is_key true ended i (sym (is_there (lookup (same_instance i) ended) x at))
 
 pub key_entry : (ended : List (Instance ℕ × Ended)) (i : Instance ℕ) → Among i (keys_of ended) → (x : Ended) × (lookup (same_instance i) ended ≡ Some x)
 key_entry ended i k = by (lookup (same_instance i) ended) (λ none. no_key ended i none k)
@@ -182,6 +187,12 @@ facts_same rules look entries old new e f facts = record {
   wholes = subst (λ fs. AreWhole look (meaning rules) (known_in entries fs)) (sym f) facts.wholes;
 }
 
+pub asked_moved : (entries : Entries) (old new : Question) → new.ended.entries ≡ old.ended.entries →
+    new.found.entries ≡ old.found.entries →
+    HaveAsked (known_to entries old) old.ended.entries → HaveAsked (known_to entries new) new.ended.entries
+asked_moved entries old new e f h = subst (λ es. HaveAsked (known_to entries new) es) (sym e)
+    (subst (λ fs. HaveAsked (known_in entries fs) old.ended.entries) (sym f) h)
+
 -- all that formulas lead to starts as they do
 pub start_led : (rules : Rules) (look : Contents ℕ) (ended : List (Instance ℕ × Ended)) → AreFacts look (meaning rules) ended → (i j : Instance ℕ) →
     LeadsOver (Recorded ended) i j → start_of rules j.attribute ≡ start_of rules i.attribute
@@ -202,7 +213,7 @@ module _ (rules : Rules) (look : Contents ℕ) (before after : Entries) (old new
       ((i : Instance ℕ) → Among i (under (all_levels old)) → Among i (under (all_levels new)) ⊎ Among i set) →
       ((i : Instance ℕ) → Among i set → IsKnownOrSpoilt before after old new i) →
       AreWholeOrSeen rules look before old → AreWholeOrSeen rules look after new
-  placed_on keys closed seen rest w = record { placed = placed; marked = marked; spoilt = spoilt }
+  placed_on keys closed seen rest w = record { placed = placed; marked = marked; spoilt = spoilt; asked = asked }
     where
       on : EndingsStay old.ended.entries new.ended.entries
       on = endings_stay set old.ended.entries new.ended.entries marks
@@ -243,6 +254,32 @@ module _ (rules : Rules) (look : Contents ℕ) (before after : Entries) (old new
 
       spoilt : (i : Instance ℕ) → IsMarked new.ended.entries i → known_to after new i ≡ None → LeadsToFault new.ended.entries i
       spoilt i m e = fault_recorded old.ended.entries new.ended.entries on i (to_fault i m e)
+
+      key_on : (j : Instance ℕ) → Among j (keys_of old.ended.entries) → Among j (keys_of new.ended.entries)
+      key_on j k = subst (λ ks. Among j ks) (sym keys) k
+
+      -- as it was recorded
+      was_made : (i : Instance ℕ) (e : End ℕ (Formula ℕ)) (f : Formula ℕ) → Recorded old.ended.entries i e →
+          Recorded new.ended.entries i (Made f) →
+          e ≡ Made f
+      was_made i e f x r = one_recorded new.ended.entries i e (Made f)
+          (recorded_on old.ended.entries new.ended.entries on i e x) r
+
+      asked : HaveAsked (known_to after new) new.ended.entries
+      asked i j f m r a = elim (marked_back set old.ended.entries new.ended.entries marks i m) [
+        | inl b ↦ (let (y, at, is) = b in
+            elim (w.asked i j f b (subst (λ z. Recorded old.ended.entries i z) (was_made i (end_of y.ending) f
+            (y, at, refl) r) (y, at, refl)) a) [
+              | inl k ↦ inl (known j k)
+              | inr key ↦ inr (key_on j key)
+            ])
+        | inr b ↦ (let x = closed i b in
+            elim (x.next j (subst (λ (z : End ℕ (Formula ℕ)). Among j (asked_in z)) (sym
+            (was_made i x.end f x.ends r)) a)) [
+              | inl d ↦ (let y = closed j d in inr (key_on j (recorded_key old.ended.entries j y.end y.ends)))
+              | inr d ↦ elim d [ inl k ↦ inl (known j k) | inr k ↦ inr (key_on j (marked_key old.ended.entries j k)) ]
+            ])
+      ]
 
 pub all_marked : (set : List (Instance ℕ)) (old new : Question) → HasMarkedAll set old new → AllMarked set old.ended.entries new.ended.entries
 all_marked set old new m = (m.marked, m.others)
@@ -366,7 +403,8 @@ module _ (rules : Rules) (s : Shown) (exact : Bool) (before after : Entries) (fo
     whole = w;
   }
 
-same_levels : (old new : Question) → new.waiting.entries ≡ old.waiting.entries → new.inst ≡ old.inst → new.level ≡ old.level → all_levels new ≡ all_levels old
+pub same_levels : (old new : Question) → new.waiting.entries ≡ old.waiting.entries → new.inst ≡ old.inst →
+    new.level ≡ old.level → all_levels new ≡ all_levels old
 same_levels old new w i l =
     ap (λ ws. level_of new.inst new.level ∷ levels_of ws) w ∙ ap (λ d. level_of new.inst d ∷ levels_of old.waiting.entries) l
     ∙ ap (λ j. level_of j old.level ∷ levels_of old.waiting.entries) i
@@ -379,9 +417,6 @@ spoilt_resolved rules look before after old new i ended key (resolved.Spoilt f) 
     (whole_faults look (meaning rules) (λ e. Unit {0}) i (fault_view f.kind) f.at ended m, key)
 spoilt_resolved rules look before after old new i ended key resolved.Back m = absurd m
 spoilt_resolved rules look before after old new i ended key resolved.Open m = absurd m
-
-pub marked_key : (ended : List (Instance ℕ × Ended)) (i : Instance ℕ) → IsMarked ended i → Among i (keys_of ended)
-marked_key ended i (x, at, w) = is_key true ended i (sym (is_there (lookup (same_instance i) ended) x at))
 
 -- one that is marked is known to be
 pub is_marked : (o : Option Ended) (b : Bool) → Some b ≡ option_map (λ (x : Ended). x.is_whole) o → b ≡ true → (x : Ended) × (o ≡ Some x) × (x.is_whole ≡ true)
@@ -679,8 +714,25 @@ module _ (rules : Rules) (s : Shown) (before : Entries) (old mid : Question) (se
       tells = tells_more rules s exact before after former latter earlier later mid new set (seen_in old.level) of_set h.tells;
       marked = marked r (solved_marked rules s exact before after former latter earlier later old mid new set lost.finds.ended lost.finds.found can.facts r h);
       can = by r h;
+      told = told r h.each;
     }
       where
+        told : (r : Result Unit AllocError) → OnOk r (AreKnownOrStopped before after mid new set) → OnOk r
+            ((n : Instance ℕ) →
+            IsStuckAt (contents s) (meaning rules) (known_to before old) old.ended.entries
+            (root_in old.level old.inst) old.level n →
+            (i : Instance ℕ) (v : Value ℕ) → Among i (seen_in old.level) → HasValue (contents s) (meaning rules) i v →
+            IsSome (known_to after new i))
+        told (Err e) each = tt
+        told (Ok u) each = λ n at i v a has. elim (each i (to_set i a)) [
+          | inl k ↦ k
+          | inr x ↦ absurd (not_stopped (contents s) (meaning rules)
+              (known_to before old) old.ended.entries can.facts.ends
+              (root_in old.level old.inst) old.level n at set of_set to_set i v has
+              (subst (λ fs. IsStopped (known_in before fs) old.ended.entries set i) lost.finds.found
+              (subst (λ es. IsStopped (known_to before mid) es set i) lost.finds.ended x)))
+        ]
+
         marked : (r : Result Unit AllocError) → OnOk r ((i : Instance ℕ) → Among i set → Among i (keys_of old.ended.entries) → IsMarked new.ended.entries i) →
             OnOk r ((i : Instance ℕ) → Among i (seen_in old.level) → IsMarked new.ended.entries i)
         marked (Ok u) all = λ i a. all i (to_set i a) (can.last.recorded i a)

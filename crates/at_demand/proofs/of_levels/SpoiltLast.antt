@@ -1,16 +1,15 @@
 -- The equation of the last one has a fault: where no search is under way that is the answer, else the search goes along behind it.
-use Rattle.std.proofs.Common.{◌≡◌, ◌⊎◌, ℕ, ◌<◌, ◌^◌, nat_eq, Bool, List, [], ◌∷◌, reverse, Option, Some, None, inl, inr, refl, sym, ap, ◌∙◌, subst}
+use Rattle.std.proofs.Common.{◌≡◌, ℕ, ◌<◌, ◌^◌, nat_eq, Bool, List, [], ◌∷◌, reverse, Option, Some, None, inl, inr, refl, sym, ap, ◌∙◌, subst}
 use Rattle.std.specs.Prelude.{Result, Ok, Err}
 use Rattle.std.specs.declared.alloc.AllocError.{AllocError}
 use Rattle.std.specs.Map.{keys_of}
-use Rattle.at_model.specs.Meaning.{Among, Faults, Outcome, Outcomes}
+use Rattle.at_model.specs.Meaning.{Among, Faults, Outcome, Outcomes, Reaches}
 use Rattle.at_model.specs.Meaning as plain
 use Rattle.at_model.specs.Turning as turning
 use Rattle.at_model.specs.Rules.{Rules}
 use Rattle.at_model.specs.Run.{Instance, Contents, FaultKind, Known}
-use Rattle.at_model.specs.of_fixpoints.Fixpoints.{End, Spoilt, EndsSo, Holds}
+use Rattle.at_model.specs.of_fixpoints.Fixpoints.{End, EndsSo, HasValue, Holds, Spoilt}
 use Rattle.at_model.specs.of_fixpoints.Formulas.{Formula, Forms}
-use Rattle.at_model.specs.of_fixpoints.Resting.{Comes}
 use Rattle.at_model.specs.of_fixpoints.Searched.{AreStacked, IsMade}
 use Rattle.at_model.specs.of_fixpoints.Searching.{Follows, Level, Looked, Search, Turned, behind, fallen_to, gone_to, under}
 use Rattle.at_model.specs.of_fixpoints.Searching as follows
@@ -33,11 +32,11 @@ use Rattle.at_demand.specs.declared.trials.Trials.{Trials}
 use Rattle.at_demand.specs.Answered.{HasWorthyFor}
 use Rattle.at_demand.specs.ChainSteps.{HasEnded}
 use Rattle.at_demand.specs.Known.{answer_view, equations, kept_values, meaning}
-use Rattle.at_demand.specs.Levels.{IsAbout, IsLevel, LevelCode, StandsFor, asked_by, fault_in, known_to, level_of, levels_of, root_in, seen_in}
+use Rattle.at_demand.specs.Levels.{IsLevel, LevelCode, StandsFor, asked_by, fault_in, known_to, level_of, levels_of, root_in, seen_in}
 use Rattle.at_demand.specs.Searches.{CanGoAlong, CanSpoil, HasGoneAlong, HasSpoilt}
 use Rattle.at_demand.specs.Sound.{AreSound}
 use Rattle.at_demand.specs.Sparing.{AreSpare, HasWorthy}
-use Rattle.at_demand.specs.Turns.{IsMet, IsSparingTurns, IsStanding, under_way}
+use Rattle.at_demand.specs.Turns.{IsSettledBy, IsSparingTurns, IsStanding, under_way}
 use Rattle.at_demand.proofs.Coming.{fault_by_end}
 use Rattle.at_demand.proofs.Extending.{map_among}
 use Rattle.at_demand.proofs.of_levels.Behind.{IsFormHere}
@@ -198,19 +197,24 @@ module _ (rules : Rules) (s : Shown) (exact : Bool) (entries : Entries) (m : Mem
       off : HasNoneCircular rules → ⊥
       off none = some (let plainly = standing_is.plainly none in plainly.ended)
 
-      come : (j : Instance ℕ) → Comes (contents s) (meaning rules) q.inst j →
-          IsMet entries q.found.entries j ⊎ (Among j (keys_of q.ended.entries) ⊎ IsAbout mid j)
-      come j c = elim (can.followed j c) [ inl y ↦ inl y | inr key ↦ inr (inl key) ]
+      demands : (j : Instance ℕ) → Reaches (contents s) (HasValue (contents s) (meaning rules))
+          ((meaning rules).formula q.inst) j →
+          IsSettledBy entries q j
+      demands j reaches = can.followed j (inl reaches)
 
       pub can_along : CanGoAlong rules s entries mid t
-      can_along = can_along_behind rules s exact entries m w q t can.turns can.none small off mid (ending.Spoilt f) h can.ends no_form come
+      can_along = can_along_behind rules s exact entries m w q t can.turns can.none small off mid
+          (ending.Spoilt f) h can.ends no_form demands
 
       pub spoilt_along : (after : Entries) (n : Memories) (x : ℕ) (new : Question) (u : Trials) (r : Result (Option Answer) AllocError) →
           HasGoneAlong {E = AllocError} rules s exact entries after m n w x mid new u r → HasSpoilt {E = AllocError} rules s exact entries after m n w x q new u f r
       spoilt_along after n x new u r g = record {
-        gains = gains_behind rules s exact entries m w q t can.turns can.none small off mid (ending.Spoilt f) h can.ends no_form come after n x new u r g;
-        turned = turns_behind rules s exact entries m w q t can.turns can.none small off mid (ending.Spoilt f) h can.ends no_form come after n x new u r g;
+        gains = gains_behind rules s exact entries m w q t can.turns can.none small off mid
+            (ending.Spoilt f) h can.ends no_form demands after n x new u r g;
+        turned = turns_behind rules s exact entries m w q t can.turns can.none small off mid
+            (ending.Spoilt f) h can.ends no_form demands after n x new u r g;
         fit = g.fit;
-        leaves = leaves_behind rules s exact entries m w q t can.turns can.none small off mid (ending.Spoilt f) h can.ends no_form come after n x new u r g;
+        leaves = leaves_behind rules s exact entries m w q t can.turns can.none small off mid
+            (ending.Spoilt f) h can.ends no_form demands after n x new u r g;
         plainly = λ none. absurd (some none);
       }

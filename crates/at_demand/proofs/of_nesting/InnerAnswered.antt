@@ -26,7 +26,7 @@ use Rattle.at_demand.proofs.of_nesting.InnerGains.{gains_none, known_none, worth
 worthy_ended : (rules : Rules) (s : Shown) (i : Instance ℕ) (a : AnswerView ℕ) (entries : Entries) →
     HasWorthyFor rules (contents s) i a entries → EndsByOutcome rules a → HasWorthy rules (contents s) i entries
 worthy_ended rules s i (Outcomes o) entries h ends = h
-worthy_ended rules s i (Circle j) entries h ends = h ends
+worthy_ended rules s i (Circle j) entries h ends = h.0 ends
 
 module _ {E : Type 0} (rules : Rules) (s : Shown) (exact : Bool) (i : Instance ℕ) (r : Result Answer E) where
   -- by what came, where it is right and all that is worth keeping is kept

@@ -22,7 +22,7 @@ use Rattle.at_demand.specs.Known.{FoundKept, known_in, meaning}
 use Rattle.at_demand.specs.Levels.{AreWholeOrSeen, IsAbout, IsCovered, IsLevel, IsRooted, LeadsToFault, LevelCode, all_levels, asked_by, fault_in, known_to, levels_of, root_in, seen_in, todo_in}
 use Rattle.at_demand.specs.Searches.{CanResolve, IsLooked, StandsBetween}
 use Rattle.at_demand.proofs.of_searches.Reaching.{asked_at}
-use Rattle.at_demand.proofs.of_levels.Resolving.{facts_same}
+use Rattle.at_demand.proofs.of_levels.Resolving.{asked_moved, facts_same}
 use Rattle.at_demand.proofs.of_searches.Returning.{with_level}
 
 -- where the root was seen, or is tried
@@ -91,6 +91,7 @@ module _ (rules : Rules) (s : Shown) (entries : Entries) (p q : Question) (chain
       marked = λ i m. w.marked i (marked_p i m);
       spoilt = λ i m e. subst (λ es. LeadsToFault es i) (sym finds.ended)
           (w.spoilt i (marked_p i m) (subst (λ fs. known_in entries fs i ≡ None) finds.found e));
+      asked = asked_moved entries p q finds.ended finds.found w.asked;
     }
 
     -- what can be told can be told still

@@ -35,7 +35,7 @@ use Rattle.at_demand.proofs.Entered.{not_none}
 use Rattle.at_demand.proofs.Keys.{no_key}
 use Rattle.at_demand.proofs.of_searches.Moving.{asked_same, level_same, rooted_at}
 use Rattle.at_demand.proofs.of_searches.Reaching.{led_met, level_at, starts_asked}
-use Rattle.at_demand.proofs.of_levels.Resolving.{facts_same, key_entry}
+use Rattle.at_demand.proofs.of_levels.Resolving.{asked_moved, facts_same, key_entry}
 use Rattle.at_demand.proofs.of_searches.Returning.{tried_under, with_level}
 use Rattle.at_demand.proofs.of_searches.Stepping.{come_next, covered_next, met_next, todo_is, typed_next}
 
@@ -204,6 +204,7 @@ module _ (rules : Rules) (s : Shown) (entries : Entries) (p q : Question) (c : I
     marked = λ i k. st.can.whole.marked i (subst (λ es. IsMarked es i) n.finds.ended k);
     spoilt = λ i k e. subst (λ es. LeadsToFault es i) (sym n.finds.ended)
         (st.can.whole.spoilt i (subst (λ es. IsMarked es i) n.finds.ended k) (subst (λ fs. known_in entries fs i ≡ None) n.finds.found e));
+    asked = asked_moved entries p q n.finds.ended n.finds.found st.can.whole.asked;
   }
 
   typed_at : (i : Instance ℕ) → IsAbout question_at i → IsWellTyped rules (class_shown s) AnyText i

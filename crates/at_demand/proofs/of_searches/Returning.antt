@@ -2,6 +2,7 @@
 use Rattle.std.proofs.Common.{◌≡◌, ◌⊎◌, ℕ, List, [], ◌∷◌, ◌++◌, map, reverse, Option, Some, None, inl, inr, refl, sym, ap, ◌∙◌, subst}
 use Rattle.std.specs.Prelude.{IsSome}
 use Rattle.std.specs.Map.{keys_of, lookup}
+use Rattle.at_model.proofs.of_searching.Strictly.{stuck_none}
 use Rattle.at_model.specs.Meaning.{Among, Circle, Finds}
 use Rattle.at_model.specs.Rules.{Rules}
 use Rattle.at_model.specs.Run.{Value, Instance}
@@ -52,6 +53,10 @@ tried_under (d ∷ ds) i (inr h) = inr (back_among i d.seen (under ds) (tried_un
 
 abbrev level_at : Instance ℕ × LevelCode → Level ℕ
 level_at e = level_of e.0 e.1
+
+pub level_among : (ws : List (Instance ℕ × LevelCode)) (i : Instance ℕ) (d : LevelCode) → Among (i, d) ws → Among
+    (level_of i d) (levels_of ws)
+level_among ws i d a = map_in level_at (reverse ws) (i, d) (among_reverse ws (i, d) a)
 
 pub waits_tried : (ws : List (Instance ℕ × LevelCode)) (i : Instance ℕ) → Among i (keys_of ws) → Among i (tried_at (levels_of ws))
 waits_tried ws i h =
@@ -127,6 +132,17 @@ module _ (rules : Rules) (s : Shown) (entries : Entries) (q : Question) (m : Loo
   is_open h =
       let (a, n) = of_either h in
       (a, (comes_back (contents s) (meaning rules) m.root m.below c st.stacked led n).1)
+    where
+      led : LeadsOver (EndsSo (contents s) (meaning rules)) m.root c
+      led = st.come.led c (back_among c m.seen m.todo (subst (λ ts. Among c ts) (sym todo) (inl refl)))
+
+  -- it wants what has none, so the root of the level has none
+  pub is_stuck : IsTried q c ⊎ IsUnderWay entries q c → IsStuck (contents s) (meaning rules) c × HasNone (contents s)
+      (meaning rules) m.root
+  is_stuck h =
+      let (a, n) = of_either h in
+      let stuck = (comes_back (contents s) (meaning rules) m.root m.below c st.stacked led n).0 in
+      (stuck, stuck_none (contents s) (meaning rules) m.root c led stuck)
     where
       led : LeadsOver (EndsSo (contents s) (meaning rules)) m.root c
       led = st.come.led c (back_among c m.seen m.todo (subst (λ ts. Among c ts) (sym todo) (inl refl)))

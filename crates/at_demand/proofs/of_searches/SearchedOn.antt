@@ -3,15 +3,17 @@ use Rattle.std.proofs.Common.{◌≡◌, ◌⊎◌, ℕ, ◌<◌, ◌^◌, arith
 use Rattle.std.specs.Prelude.{IsSome, Result, Ok, Err}
 use Rattle.std.specs.declared.alloc.AllocError.{AllocError}
 use Rattle.std.specs.Map.{keys_of, lookup}
+use Rattle.at_model.proofs.of_searching.LookedSteps.{looked_on}
 use Rattle.at_model.specs.Meaning.{Among, Answer, Faults}
 use Rattle.at_model.specs.Rules.{Rules, start_of}
 use Rattle.at_model.specs.Run.{Value, Instance}
-use Rattle.at_model.specs.of_fixpoints.Circles.{IsOpen}
+use Rattle.at_model.specs.of_fixpoints.Circles.{HasNone, IsOpen}
 use Rattle.at_model.specs.of_fixpoints.Fixpoints.{End, Holds}
 use Rattle.at_model.specs.of_fixpoints.Formulas.{Formula}
+use Rattle.at_model.specs.of_fixpoints.Met.{HasLookedAt as LooksSoFar}
 use Rattle.at_model.specs.of_fixpoints.Resting.{Leads}
 use Rattle.at_model.specs.of_fixpoints.Searched.{IsMade}
-use Rattle.at_model.specs.of_fixpoints.Searching.{IsPassed, Looked, Search, asked_in, gone_to, under}
+use Rattle.at_model.specs.of_fixpoints.Searching.{IsPassed, IsStuck, Looked, Search, asked_in, gone_to, under}
 use Rattle.at_model.specs.of_fixpoints.Searching as follows
 use Rattle.at_model.proofs.Reached.{back_among, either_among, front_among}
 use Rattle.at_rules.specs.Circular.{HasNoneCircular}
@@ -21,9 +23,13 @@ use Rattle.at_body.specs.Values.{fault_view}
 use Rattle.at_cache.specs.Kept.{Entries}
 use Rattle.at_cache.specs.Traced.{Memories}
 use Rattle.at_search.specs.LedTo.{LeadsOut}
-use Rattle.at_search.specs.Recorded.{IsMarked, IsSettled, MetFrom, Recorded, end_of}
+use Rattle.at_search.specs.Recorded.{AreWhole, IsMarked, IsSettled, MetFrom, Recorded, end_of}
 use Rattle.at_search.specs.declared.ended.Ended.{Ended}
 use Rattle.at_search.specs.declared.ended.Fault.{Fault}
+use Rattle.at_demand.proofs.Marking.{told_among}
+use Rattle.at_demand.proofs.of_levels.Stuck.{stuck_levels}
+use Rattle.at_demand.proofs.of_searches.LookedAlong.{looked_off}
+use Rattle.at_demand.specs.Covering.{Extends}
 use Rattle.at_demand.specs.declared.demand.searching.Look.{Look}
 use Rattle.at_demand.specs.declared.demand.searching.Look.TheVariants as look_is
 use Rattle.at_demand.specs.declared.demand.searching.Searched.{Searched}
@@ -32,15 +38,15 @@ use Rattle.at_demand.specs.declared.question.Question.{Question}
 use Rattle.at_demand.specs.ChainSteps.{HasGoneOver, HasNext, HasSeen, IsAlike, KeepsRest}
 use Rattle.at_demand.specs.Groups.{Tells}
 use Rattle.at_demand.specs.Known.{KeepsEntries, kept_values, known_in, meaning}
-use Rattle.at_demand.specs.Levels.{IsAbout, IsCovered, IsDoneIn, LevelCode, all_levels, asked_by, fault_in, known_to, levels_of, root_in, seen_in, todo_in}
-use Rattle.at_demand.specs.Turns.{IsMet}
+use Rattle.at_demand.specs.Levels.{IsCovered, IsDoneIn, LevelCode, all_levels, asked_by, fault_in, known_to, level_of, levels_of, root_in, seen_in, todo_in}
+use Rattle.at_demand.specs.Turns.{IsBehind, IsFollowed}
 use Rattle.at_demand.specs.Searches.{AreKeptOrTold, CanClose, CanResolve, CanSearch, FollowsSo, GainsBetween, GoesOnSo, GoesSo}
 use Rattle.at_demand.specs.Searches.{HasLookedAt, HasSearchedOn, IsLookedAt, IsSolvable, IsTried, IsUnderWay, FollowsOn, StandsBetween, StaysOn, left_to_do}
 use Rattle.at_demand.proofs.Entered.{entered_on, is_there, not_none, there, value_on}
 use Rattle.at_demand.proofs.Keys.{absent, no_key}
 use Rattle.at_demand.proofs.Recalling.{known_kept}
 use Rattle.at_demand.proofs.of_searches.Costing.{less_past, less_seen}
-use Rattle.at_demand.proofs.of_levels.Followed.{followed_step, met_known}
+use Rattle.at_demand.proofs.of_levels.Followed.{come_about, followed_at, followed_step, looked_between, shut_seen}
 use Rattle.at_demand.proofs.of_searches.Following.{follows_less}
 use Rattle.at_demand.proofs.of_levels.GainedBetween.{gains_nothing, gains_told, gains_where, held_told}
 use Rattle.at_demand.proofs.of_searches.Moving.{asked_same, stands_moved, typed_all}
@@ -50,8 +56,8 @@ use Rattle.at_demand.proofs.of_searches.Overgoing.{follows_over, over_next, sees
 use Rattle.at_demand.proofs.of_searches.Reaching.{led_below, led_met, led_under}
 use Rattle.at_demand.proofs.of_levels.Resolving.{keeps_groups, recorded_key, still_known}
 use Rattle.at_demand.proofs.of_levels.StayingOn.{stays_at, stays_then}
-use Rattle.at_demand.proofs.of_searches.Returning.{goes_back, is_open, with_level}
-use Rattle.at_demand.proofs.of_searches.Stepping.{can_before, follows_past, gone_past, next_pending, seen_before, stands_past, tells_pending, todo_is}
+use Rattle.at_demand.proofs.of_searches.Returning.{goes_back, is_open, is_stuck, level_among, with_level}
+use Rattle.at_demand.proofs.of_searches.Stepping.{can_before, covered_next, follows_past, gone_past, next_pending, seen_before, stands_past, tells_pending, todo_is}
 
 -- nothing is passed that wasn't seen, and isn't known
 not_passed : (rules : Rules) (s : Shown) (first entries : Entries) (q : Question) (m : Looked ℕ) → KeepsEntries first entries →
@@ -93,13 +99,22 @@ module _ (rules : Rules) (s : Shown) (entries : Entries) (old new : Question) (a
     root = a.root;
     stays = stays_at old new a.finds.turns a.finds.passed a.chain.waiting a.root;
     followed = λ x. followed_step rules s entries old can.looked can.stands entries new (λ i some. refl)
-        ([], a.finds.found ∙ sym (append-nil old.found.entries)) (λ j k. subst (λ es. Among j (keys_of es)) (sym a.finds.ended) k)
-        (λ j k. subst (λ es. Among j (keys_of es)) a.finds.ended k) a.chain.waiting (λ j t. absurd (subst (λ ts. Among j ts) done t)) x;
+        ([], a.finds.found ∙ sym (append-nil old.found.entries)) (ap
+        (λ es. keys_of es) a.finds.ended) a.chain.waiting a.root wholes_new
+        (seen_in old.level) (todo_in old.level) a.seen a.todo a.chain.inst (λ i h. h)
+        (looked_between rules s entries old can.looked can.stands entries new (λ i some. refl)
+        ([], a.finds.found ∙ sym (append-nil old.found.entries))
+        (ap (λ es. keys_of es) a.finds.ended) a.chain.waiting a.root wholes_new x) x;
     on = (
       (a.todo ∙ done, record { looked = can.looked; stands = stands_alike can.looked can.stands }, a.chain, ap (λ es. keys_of es) a.finds.ended),
       λ first l stay st k. (l, stands_alike l st, (λ i v e. k i v (subst (λ fs. known_in entries fs i ≡ Some v) a.finds.found e)), λ u o y. y),
     );
   }
+    where
+      wholes_new : AreWhole (contents s) (meaning rules) (known_to entries new)
+      wholes_new = let st = can.stands in
+          subst (λ fs. AreWhole (contents s) (meaning rules) (known_in entries fs))
+          (sym a.finds.found) st.can.facts.wholes
 
 -- The next one is taken off and looked at: more may be known since.
 module _ {Whole : Type 0} (rules : Rules) (s : Shown) (exact : Bool) (before after : Entries) (former latter : Memories) (earlier later : ℕ) (old mid new : Question)
@@ -132,17 +147,61 @@ module _ {Whole : Type 0} (rules : Rules) (s : Shown) (exact : Bool) (before aft
   stays_now : StaysOn old new
   stays_now = stays_at old new told_with.turns told_with.passed waiting_now root_now
 
-  -- what equations came to is followed by another one that has the same to do, but for the one that is taken off
-  followed_on : (r : Question) → r.found.entries ≡ new.found.entries → keys_of r.ended.entries ≡ keys_of new.ended.entries →
-      r.waiting.entries ≡ new.waiting.entries → ((j : Instance ℕ) → Among j (todo_in new.level) → Among j (todo_in r.level)) →
-      IsMet after r.found.entries c ⊎ (Among c (keys_of r.ended.entries) ⊎ IsAbout r c) → FollowsOn rules s before after old r
-  followed_on r found ended waiting rest one x = followed_step rules s before old can.looked can.stands after r told_with.stays
-      (let (more, e) = told_with.finds in (more, found ∙ e)) (λ j k. subst (λ ks. Among j ks) (sym (ended ∙ told_with.ended)) k)
-      (λ j k. subst (λ ks. Among j ks) (ended ∙ told_with.ended) k) (waiting ∙ waiting_now) (λ j a. todo j (subst (λ ts. Among j ts) n.todo a)) x
-    where
-      todo : (j : Instance ℕ) → Among j (c ∷ todo_in mid.level) → IsMet after r.found.entries j ⊎ (Among j (keys_of r.ended.entries) ⊎ IsAbout r j)
-      todo j (inl e) = subst (λ z. IsMet after r.found.entries z ⊎ (Among z (keys_of r.ended.entries) ⊎ IsAbout r z)) (sym e) one
-      todo j (inr a) = inr (inr (inr (r.inst, r.level, inl refl, inl (rest j (subst (λ (d : LevelCode). Among j (todo_in d)) (sym t.level) a)))))
+  -- What equations demanded is followed by another one that knows the same.
+  module _ (resolve : CanResolve rules s after new) (r : Question) (found : r.found.entries ≡ new.found.entries)
+      (ended : keys_of r.ended.entries ≡ keys_of new.ended.entries) (waiting : r.waiting.entries ≡ new.waiting.entries)
+      (root : root_in r.level r.inst ≡ root_in new.level new.inst) where
+    finds_r : Extends old.found.entries r.found.entries
+    finds_r = let (more, e) = told_with.finds in (more, found ∙ e)
+
+    wholes_r : AreWhole (contents s) (meaning rules) (known_to after r)
+    wholes_r = subst (λ fs. AreWhole (contents s) (meaning rules) (known_in after fs)) (sym found) resolve.facts.wholes
+
+    -- the search has looked so far
+    abbrev LooksHere : (seen todo : List (Instance ℕ)) → Type 0
+    LooksHere = LooksSoFar (contents s) (meaning rules) (IsBehind (contents s) (meaning rules) (known_to after r))
+        (under (levels_of old.waiting.entries))
+        (root_in old.level old.inst)
+
+    looks_here : IsFollowed rules (contents s) before old → LooksHere (seen_in old.level) (c ∷ todo_in new.level)
+    looks_here x = subst (λ ts. LooksHere (seen_in old.level) ts) next_with.todo
+        (looked_between rules s before old can.looked can.stands after r told_with.stays finds_r
+        (ended ∙ told_with.ended) (waiting ∙ waiting_now)
+        (root ∙ root_now) wholes_r x)
+
+    -- it goes on
+    goes_followed : (seen todo : List (Instance ℕ)) → seen_in r.level ≡ seen → todo_in r.level ≡ todo →
+        r.inst ≡ new.inst →
+        ((i : Instance ℕ) → Among i (seen_in old.level) → Among i seen) →
+        (LooksHere (seen_in old.level) (c ∷ todo_in new.level) → LooksHere seen todo) →
+        FollowsOn rules s before after old r
+    goes_followed seen todo seen_is todo_is inst wider on x = followed_step rules s before old can.looked can.stands
+        after r told_with.stays finds_r
+        (ended ∙ told_with.ended) (waiting ∙ waiting_now) (root ∙ root_now) wholes_r seen todo seen_is todo_is
+        (inst ∙ told_with.chain.inst) wider
+        (on (looks_here x)) x
+
+    -- it comes to a try
+    comes_followed : seen_in r.level ≡ seen_in new.level → r.inst ∷ todo_in r.level ≡ c ∷ todo_in new.level →
+        FollowsOn rules s before after old r
+    comes_followed seen_is todo_is x = followed_at rules s before old can.looked can.stands after r told_with.stays
+        finds_r
+        (ended ∙ told_with.ended) (waiting ∙ waiting_now) (root ∙ root_now) wholes_r (seen_in old.level)
+        (c ∷ todo_in new.level)
+        (seen_is ∙ next_with.seen) todo_is (looks_here x) x
+
+    -- one that was seen, or is known, is passed
+    passes_followed : seen_in r.level ≡ seen_in new.level → todo_in r.level ≡ todo_in new.level → r.inst ≡ new.inst →
+        Among c (seen_in old.level) ⊎ IsSome (known_to after r c) → FollowsOn rules s before after old r
+    passes_followed seen_is todo_is inst p = goes_followed (seen_in old.level) (todo_in new.level)
+        (seen_is ∙ next_with.seen) todo_is inst (λ i a. a)
+        (looked_off rules (contents s) (known_to after r) wholes_r (under (levels_of old.waiting.entries))
+        (root_in old.level old.inst) (seen_in old.level)
+        c (todo_in new.level) (elim p [
+          | inl a ↦ inl (a, shut_seen rules s before old can.looked can.stands c a)
+          | inr k
+              ↦ inr k
+        ]))
 
   unknown_old : known_to after new c ≡ None → known_to before old c ≡ None
   unknown_old none = by (known_to before old c) refl
@@ -289,11 +348,8 @@ module _ {Whole : Type 0} (rules : Rules) (s : Shown) (exact : Bool) (before aft
     waiting = waiting_now;
     root = root_now;
     stays = stays_now;
-    followed = followed_on new refl refl refl (λ j a. a) (elim p [
-      | inl a ↦ inr (inr (inl (inr (front_among c (seen_in new.level) (under (levels_of new.waiting.entries))
-          (subst (λ (d : LevelCode). Among c (seen_in d)) (sym t.level) a)))))
-      | inr k ↦ inl (met_known after new.found.entries c k)
-    ]);
+    followed = passes_followed resolve new refl refl refl refl refl refl refl
+        (elim p [ inl a ↦ inl (subst (λ is. Among c is) n.seen a) | inr k ↦ inr k ]);
     on = (
       record {
         chain = record { waiting = told_with.chain.waiting; inst = told_with.chain.inst };
@@ -320,8 +376,18 @@ module _ {Whole : Type 0} (rules : Rules) (s : Shown) (exact : Bool) (before aft
         waiting = h.chain.waiting ∙ waiting_now;
         root = h.root ∙ root_now;
         stays = stays_then old new r stays_now (stays_at new r h.finds.turns h.finds.passed h.chain.waiting h.root);
-        followed = followed_on r h.finds.found (ap (λ es. keys_of es) h.finds.ended) h.chain.waiting todo_over
-            (inr (inl (subst (λ es. Among c (keys_of es)) (sym h.finds.ended) key)));
+        followed = let sees = sees_next new.level r.level c x.ending next_with.is h.sees in
+            goes_followed resolve r h.finds.found (ap (λ es. keys_of es) h.finds.ended) h.chain.waiting h.root
+            (c ∷ seen_in old.level)
+            (asked_in (end_of x.ending) ++ todo_in new.level) (sees.seen ∙ ap
+            (λ is. c ∷ is) next_with.seen) sees.todo h.chain.inst (λ i a. inr a)
+            (λ l. looked_on (contents s) (meaning rules) told_among (IsBehind (contents s) (meaning rules)
+            (known_to after r))
+            (under (levels_of old.waiting.entries)) (root_in old.level old.inst) (seen_in old.level) c
+            (todo_in new.level) l (end_of x.ending)
+            (resolve.facts.ends c (end_of x.ending) (x, at, refl)) (λ a. unseen (subst (λ is. Among c is)
+            (sym n.seen) a))
+            (λ o. let (f, holds) = fault in o.1 (Faults (fault_view f.kind) f.at) holds));
         on = (
           record {
             chain = record { waiting = h.chain.waiting ∙ told_with.chain.waiting; inst = h.chain.inst ∙ told_with.chain.inst };
@@ -336,10 +402,6 @@ module _ {Whole : Type 0} (rules : Rules) (s : Shown) (exact : Bool) (before aft
         );
       }
         where
-          todo_over : (j : Instance ℕ) → Among j (todo_in new.level) → Among j (todo_in r.level)
-          todo_over j a = let sees = sees_next new.level r.level c x.ending next_with.is h.sees in
-              subst (λ ts. Among j ts) (sym sees.todo) (back_among j (asked_in (end_of x.ending)) (todo_in new.level) a)
-
           less_both : left_to_do r < left_to_do new → left_to_do new < left_to_do old → left_to_do r < left_to_do old
           less_both a b = omega (arith, a, b)
 
@@ -352,7 +414,8 @@ module _ {Whole : Type 0} (rules : Rules) (s : Shown) (exact : Bool) (before aft
     root = root_stays new.level c new.inst next_with.is ∙ root_now;
     stays = stays_at old (record new { inst = c }) told_with.turns told_with.passed waiting_now
         (root_stays new.level c new.inst next_with.is ∙ root_now);
-    followed = followed_on (record new { inst = c }) refl refl refl (λ j a. a) (inr (inr (inl (inl refl))));
+    followed = comes_followed resolve (record new { inst = c }) refl refl refl
+        (root_stays new.level c new.inst next_with.is) refl refl;
     on = (
       let (u, stands, more) = goes_at resolve before can.looked same_entries can.stands from_now unseen untried none unknown in (u, stands),
       λ first l stay st k. goes_at resolve first l stay st k unseen untried none unknown,
@@ -370,8 +433,9 @@ module _ {Whole : Type 0} (rules : Rules) (s : Shown) (exact : Bool) (before aft
         (subst (λ es. LeadsOut (IsSettled (known_to before mid) es) es c) n.finds.ended out),
   )
 
-  can_close : CanResolve rules s after new → CanClose rules s after new
-  can_close resolve = record {
+  can_close : CanResolve rules s after new → IsStuck (contents s) (meaning rules) c → HasNone (contents s)
+      (meaning rules) can.looked.root → CanClose rules s after new
+  can_close resolve stuck none = record {
     answerable = resolve.answerable;
     facts = resolve.facts;
     finds = resolve.finds;
@@ -382,6 +446,19 @@ module _ {Whole : Type 0} (rules : Rules) (s : Shown) (exact : Bool) (before aft
       | inl k ↦ inl k
       | inr l ↦ inr (subst (λ q. Leads (contents s) (meaning rules) q i) asked_new l)
     ];
+    last = (
+      c,
+      record {
+        stuck = stuck;
+        none = subst (λ r. HasNone (contents s) (meaning rules) r) (held.is.root ∙ sym next_with.root) none;
+        covered = covered_last;
+      },
+    );
+    below = λ i d a. record {
+      stuck = (stuck_below i d a).0;
+      none = (stuck_below i d a).1;
+      covered = let x = held.below i d a in x.covered;
+    };
   }
     where
       held : StandsBetween rules s after with_it (now resolve before can.looked same_entries can.stands from_now)
@@ -400,6 +477,25 @@ module _ {Whole : Type 0} (rules : Rules) (s : Shown) (exact : Bool) (before aft
       starts : (i : Instance ℕ) → Among i (seen_in new.level) → start_of rules i.attribute ≡ start_of rules can.looked.root.attribute
       starts i a = let come = held.come in start_ends rules (contents s) can.looked.root i
           (come.led i (front_among i can.looked.seen can.looked.todo (subst (λ is. Among i is) (sym seen_is) a)))
+
+      covered_last : IsCovered (known_to after new) new.ended.entries (root_in new.level new.inst) (seen_in new.level)
+          (c ∷ todo_in new.level) (fault_in new.level)
+      covered_last = subst (λ f. IsCovered (known_to after new) new.ended.entries (root_in new.level new.inst)
+          (seen_in new.level) (c ∷ todo_in new.level) f)
+          (sym next_with.fault)
+          (subst (λ is. IsCovered (known_to after new) new.ended.entries (root_in new.level new.inst) is
+          (c ∷ todo_in new.level) (fault_in old.level)) seen_is
+          (subst (λ r. IsCovered (known_to after new) new.ended.entries r can.looked.seen (c ∷ todo_in new.level)
+          (fault_in old.level))
+          (held.is.root ∙ sym next_with.root)
+          (covered_next rules s after with_it new c next_with
+          (now resolve before can.looked same_entries can.stands from_now) held)))
+
+      stuck_below : (i : Instance ℕ) (d : LevelCode) → Among (i, d) new.waiting.entries →
+          IsStuck (contents s) (meaning rules) i × HasNone (contents s) (meaning rules) (root_in d i)
+      stuck_below i d a = stuck_levels (contents s) (meaning rules) can.looked.root can.looked.below held.stacked none
+          (level_of i d)
+          (subst (λ ls. Among (level_of i d) ls) (sym held.is.below) (level_among new.waiting.entries i d a))
 
       last : IsSolvable rules new.ended.entries new.level
       last = record {
@@ -424,11 +520,15 @@ module _ {Whole : Type 0} (rules : Rules) (s : Shown) (exact : Bool) (before aft
     waiting = waiting_now;
     root = root_now;
     stays = stays_now;
-    followed = tt;
+    followed = λ x. come_about rules s before old can.looked can.stands after new told_with.stays told_with.finds
+        told_with.ended waiting_now root_now
+        resolve.facts.wholes c (todo_in new.level) next_with.todo next_with.seen told_with.chain.inst
+        (opened can.looked can.stands)
+        (lost can.looked can.stands) resolve.whole x;
     on = (
       (
         opened can.looked can.stands,
-        can_close resolve,
+        (let (stuck, none) = stuck_at can.looked can.stands in can_close resolve stuck none),
         record { waiting = told_with.chain.waiting; inst = told_with.chain.inst },
         told_with.ended,
       ),
@@ -442,6 +542,16 @@ module _ {Whole : Type 0} (rules : Rules) (s : Shown) (exact : Bool) (before aft
       opened : (l : Looked ℕ) → StandsBetween rules s before old l → IsOpen (contents s) (meaning rules) (under (levels_of old.waiting.entries)) c
       opened l st = subst (λ ls. IsOpen (contents s) (meaning rules) (under ls) c) st.is.below
           (is_open rules s before old l st c (todo_in mid.level) (todo_is rules s before old mid c n l st) (unseen_at l st) (unknown_old unknown) (tried_old way))
+
+      stuck_at : (l : Looked ℕ) → StandsBetween rules s before old l → IsStuck (contents s)
+          (meaning rules) c × HasNone (contents s) (meaning rules) l.root
+      stuck_at l st =
+          is_stuck rules s before old l st c (todo_in mid.level) (todo_is rules s before old mid c n l st)
+          (unseen_at l st) (unknown_old unknown) (tried_old way)
+
+      lost : (l : Looked ℕ) → StandsBetween rules s before old l → HasNone (contents s) (meaning rules)
+          (root_in old.level old.inst)
+      lost l st = subst (λ r. HasNone (contents s) (meaning rules) r) st.is.root (stuck_at l st).1
 
       back : (first : Entries) (l : Looked ℕ) → KeepsEntries first before → StandsBetween rules s before old l → AreKeptOrTold first before old l →
           GoesSo rules s first after l new (searched.Back c)

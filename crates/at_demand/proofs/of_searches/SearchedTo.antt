@@ -143,7 +143,7 @@ module _ (rules : Rules) (s : Shown) (exact : Bool) (before mid after : Entries)
 
   followed_to : (e : Searched) → FollowsIn rules s mid after q new e → FollowsIn rules s before after old new e
   followed_to searched.Next h = λ x. h (c.followed x)
-  followed_to (searched.Back i) h = tt
+  followed_to (searched.Back i) h = λ x. h (c.followed x)
   followed_to searched.Over h = λ x. h (c.followed x)
 
   -- to its end

@@ -25,7 +25,7 @@ use Rattle.at_search.specs.Recorded.{IsMarked}
 use Rattle.at_search.specs.declared.ended.Ended.{Ended}
 use Rattle.at_demand.specs.declared.question.Question.{Question}
 use Rattle.at_demand.specs.Known.{IsKept, kept_values, meaning}
-use Rattle.at_demand.specs.Levels.{AreFactsOf, IsAbout, IsLevel, LeadsToFault, LevelCode, StandsFor, all_levels, asked_by, fault_in, known_to, level_of, levels_of, root_in, seen_in, todo_in}
+use Rattle.at_demand.specs.Levels.{AreFactsOf, HaveAsked, IsAbout, IsLevel, LeadsToFault, LevelCode, StandsFor, all_levels, asked_by, fault_in, known_to, level_of, levels_of, root_in, seen_in, todo_in}
 use Rattle.at_demand.proofs.Entered.{is_there, not_none, there}
 use Rattle.at_demand.proofs.of_searches.OnceTold.{covered_on}
 use Rattle.at_demand.proofs.of_searches.Reaching.{asked_at, level_at}
@@ -198,6 +198,8 @@ module _ (rules : Rules) (s : Shown) (before after : Entries) (old new : Questio
           marked = λ i m. st.whole.marked i (subst (λ es. IsMarked es i) ended m);
           spoilt = λ i m none. subst (λ es. LeadsToFault es i) (sym ended)
               (st.whole.spoilt i (subst (λ es. IsMarked es i) ended m) (unknown i none (known_to before old i) refl));
+          asked = subst (λ es. HaveAsked (known_to after new) es) (sym ended)
+              (λ i j f m r a. elim (st.whole.asked i j f m r a) [ inl k ↦ inl (known_on j k) | inr key ↦ inr key ]);
         };
         typed = λ i a. st.typed i (about_old i a);
         reached = λ i o h. subst (λ q. Leads (contents s) (meaning rules) q i) (sym asked_risen) (elim h [

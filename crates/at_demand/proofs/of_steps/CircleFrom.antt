@@ -1,15 +1,15 @@
 -- The last one waits for one that is tried, or under way, and isn't known: a circle answers the question.
 use Rattle.std.proofs.Common.{◌≡◌, ◌⊎◌, ℕ, Bool, List, [], ◌∷◌, ◌++◌, Option, Some, None, Result, Ok, Err, inl, inr, refl, sym, ap, ◌∙◌, subst}
-use Rattle.std.specs.Prelude.{IfOk, IfSome, IsTrue, OnOk}
+use Rattle.std.specs.Prelude.{IfOk, IfSome, IsTrue, OnOk, IsSome}
 use Rattle.std.specs.Map.{keys_of}
 use Rattle.std.specs.declared.alloc.AllocError.{AllocError}
 use Rattle.at_model.specs.Meaning.{Among, Circle, Reaches}
 use Rattle.at_model.specs.Rules.{Rules}
-use Rattle.at_model.specs.Run.{Instance}
+use Rattle.at_model.specs.Run.{Instance, Value}
 use Rattle.at_model.specs.Turning as chain
 use Rattle.at_model.specs.Turning.{Turned as ChainTurned}
 use Rattle.at_model.specs.of_fixpoints.Circles.{IsOpen}
-use Rattle.at_model.specs.of_fixpoints.Fixpoints.{HasValue}
+use Rattle.at_model.specs.of_fixpoints.Fixpoints.{HasValue, stays}
 use Rattle.at_model.specs.of_fixpoints.Searching.{Level, Search, Turned, under}
 use Rattle.at_model.specs.of_fixpoints.Searching as search
 use Rattle.at_rules.specs.Circular.{HasNoneCircular}
@@ -17,6 +17,8 @@ use Rattle.at_store.specs.Shown.{Shown, contents}
 use Rattle.at_body.specs.Typed.{class_shown}
 use Rattle.at_cache.specs.Kept.{Entries}
 use Rattle.at_cache.specs.Traced.{Memories}
+use Rattle.at_demand.proofs.of_levels.Followed.{come_waiting}
+use Rattle.at_demand.proofs.of_levels.MetKept.{met_kept}
 use Rattle.at_demand.specs.declared.answer.Answer.{Answer as AnswerCode}
 use Rattle.at_demand.specs.declared.answer.Answer.TheVariants as answer
 use Rattle.at_demand.specs.declared.demand.searching.Resolved.TheVariants as resolved
@@ -25,13 +27,13 @@ use Rattle.at_demand.specs.declared.trials.Trials.{Trials}
 use Rattle.at_demand.specs.declared.trying.Going.{Going}
 use Rattle.at_demand.specs.declared.trying.Trying.{Trying}
 use Rattle.at_demand.specs.Answerable.{CanTurn}
-use Rattle.at_demand.specs.Answered.{HasTurnedOn, HasWorthyFor, IsOfUse}
+use Rattle.at_demand.specs.Answered.{HasTurnedOn, HasWorthyFor, HasWorthyMet, IsOfUse}
 use Rattle.at_demand.specs.Attempts.{IsGoing}
 use Rattle.at_demand.specs.Forming.{waits_for}
 use Rattle.at_demand.specs.KeptTrials.{FitAfter}
 use Rattle.at_demand.specs.Known.{answer_view, equations, kept_values, meaning}
 use Rattle.at_demand.specs.Levels.{LevelCode, StandsFor, all_levels, asked_by, known_to, level_of, levels_of, root_in}
-use Rattle.at_demand.specs.Searches.{CanClose, HasClosed, HasResolved, IsResolved, IsTried, IsUnderWay, LeavesSo, StaysOn, StaysSo, TurnsBy}
+use Rattle.at_demand.specs.Searches.{CanClose, HasClosed, HasResolved, IsResolved, IsSeenBy, IsTried, IsUnderWay, LeavesSo, StaysOn, StaysSo, TurnsBy}
 use Rattle.at_demand.specs.Sparing.{AreSpare, HasWorthy}
 use Rattle.at_demand.specs.Turns.{HaveMet, IsSparingTurns, IsStanding, IsStandingPlainly, under_way}
 use Rattle.at_demand.proofs.of_levels.CameBetween.{others_before}
@@ -71,9 +73,6 @@ module _ (rules : Rules) (s : Shown) (exact : Bool) (before mid : Entries) (f m 
   back : IsTried q i ⊎ IsUnderWay mid q i
   back = let r : IsResolved rules (contents s) mid last q new i resolved.Back = h.is in r.0
 
-  pub can_close : CanClose rules s last new
-  can_close = let (u, z) = search_at rules s last new turn_new in close_standing rules s last new u z turn_new.answerable (finds_at rules s last new turn_new)
-
   demands_new : Reaches (contents s) (HasValue (contents s) (meaning rules)) ((meaning rules).formula new.inst) i
   demands_new = let tells = h.tells in
       subst (λ j. Reaches (contents s) (HasValue (contents s) (meaning rules)) ((meaning rules).formula j) i) (sym tells.chain.inst) demands
@@ -89,6 +88,11 @@ module _ (rules : Rules) (s : Shown) (exact : Bool) (before mid : Entries) (f m 
       subst (λ ls. IsOpen (contents s) (meaning rules) (under ls) i)
       (ap (λ (l : Level ℕ). l ∷ u.below) z.is.last ∙ ap (λ ls. level_of q.inst q.level ∷ ls) z.is.below ∙ levels_same)
       (opens_back rules s mid q u z i unknown demands back)
+
+  pub can_close : CanClose rules s last new
+  can_close = let (u, z) = search_at rules s last new turn_new in close_standing rules s last new u z
+      turn_new.answerable (finds_at rules s last new turn_new)
+      (i, record { by = new.inst; led = stays new.inst; demands = demands_new }, opens.1)
 
   -- where no attribute is circular it is one of the chain
   tried_plainly : HasNoneCircular rules → IsTried new i
@@ -138,12 +142,27 @@ module _ (rules : Rules) (s : Shown) (exact : Bool) (before mid : Entries) (f m 
         (subst (λ b. IsGoing rules (class_shown s) (contents s) last new.found.entries new.inst b) is (let l = later in l.going)))
         (tried_plainly none) (asked_by new) (asked_among new.waiting.entries new.level new.inst p.level p.levels))
 
+    -- all that is worth keeping of what the search has met is kept
+    worthy_met : IsTrue exact → AreSpare rules (contents s) last → IsSparingTurns rules (contents s) last new →
+        ((j : Instance ℕ) (v : Value ℕ) → IsSeenBy new j → HasValue (contents s) (meaning rules) j v → IsSome
+        (known_to end last_one j)) →
+        HasWorthyMet rules (contents s) (asked_by new) end
+    worthy_met k spare had told =
+        let (u, z) = search_at rules s last new turn_new in
+        let gains = d.gains in
+        met_kept rules s last end new last_one can_close
+        (come_waiting rules s last new u z i demands_new opens
+        (waits_met rules (class_shown s) (contents s) last new.found.entries new.inst waits i
+        (subst (λ b. IsGoing rules (class_shown s) (contents s) last new.found.entries new.inst b) is
+        (let l = later in l.going))) had.followed)
+        had.met had.settled spare gains.stays told (gains.settled k had.settled)
+
     leaves : LeavesSo {E = AllocError} rules s exact last end new last_one r
     leaves = record {
       stays = stays_so r d.stays;
       last = let gains = d.gains in gains.last;
       others = others_before rules s exact last end n o y z new last_one d.gains;
-      all = λ k spare had. all_so r d.is k spare had;
+      all = λ k spare had. all_so r d.is d.told k spare had;
       sparing = λ k spare had. spares_so r d.is had;
     }
       where
@@ -151,10 +170,15 @@ module _ (rules : Rules) (s : Shown) (exact : Bool) (before mid : Entries) (f m 
         stays_so (Err e) on = tt
         stays_so (Ok a) on = record { turns = on.turns; passed = on.passed; finds = let gains = d.gains in gains.sound (finds_at rules s last new turn_new) }
 
-        all_so : (p : Result (Option AnswerCode) AllocError) → IfOk p (λ a. a ≡ Some (answer.Circular i)) → IsTrue exact → AreSpare rules (contents s) last →
+        all_so : (p : Result (Option AnswerCode) AllocError) → IfOk p (λ a. a ≡ Some (answer.Circular i)) → OnOk p
+            ((j : Instance ℕ) (v : Value ℕ) →
+            IsSeenBy new j → HasValue (contents s) (meaning rules) j v → IsSome (known_to end last_one j)) →
+            IsTrue exact → AreSpare rules (contents s) last →
             IsSparingTurns rules (contents s) last new → IfOk p (λ a. IfSome a (λ b. HasWorthyFor rules (contents s) (asked_by new) (answer_view b) end))
-        all_so (Err e) same k spare had = tt
-        all_so (Ok a) same k spare had = subst (λ b. IfSome b (λ v. HasWorthyFor rules (contents s) (asked_by new) (answer_view v) end)) (sym same) (worthy k spare had)
+        all_so (Err e) same told k spare had = tt
+        all_so (Ok a) same told k spare had = subst (λ b. IfSome b (λ v. HasWorthyFor rules (contents s)
+            (asked_by new) (answer_view v) end)) (sym same)
+            (worthy k spare had, worthy_met k spare had told)
 
         spares_so : (p : Result (Option AnswerCode) AllocError) → IfOk p (λ a. a ≡ Some (answer.Circular i)) → IsSparingTurns rules (contents s) last new →
             IfOk p (λ a. IsOfUse rules a (IsSparingTurns rules (contents s) end last_one))

@@ -59,7 +59,12 @@ recount rules s entries q u n st few = record {
   fresh = st.fresh;
   facts = record { ends = st.facts.ends; forms = st.facts.forms; circular = st.facts.circular; values = st.facts.values; wholes = st.facts.wholes };
   levels = record { last = st.levels.last; below = st.levels.below };
-  whole = record { placed = st.whole.placed; marked = st.whole.marked; spoilt = st.whole.spoilt };
+  whole = record {
+    placed = st.whole.placed;
+    marked = st.whole.marked;
+    spoilt = st.whole.spoilt;
+    asked = st.whole.asked;
+  };
   typed = st.typed;
   reached = st.reached;
   few = few;
@@ -132,7 +137,14 @@ module _ (rules : Rules) (s : Shown) (exact : Bool) (basis : IsBasis rules s) (b
       };
       fit = record { chain = fit_recount rules s after new n t.frames.items t.awaited fit.chain; noted = fit.noted };
       all = λ k spare had. tt;
-      sparing = λ k spare had. let y = sparing k spare had in record { lean = y.lean; settled = y.settled; met = y.met; followed = y.followed };
+      sparing = λ k spare had. let y = sparing k spare had in
+          let f = y.followed in
+          record {
+            lean = y.lean;
+            settled = y.settled;
+            met = y.met;
+            followed = record { demanded = f.demanded; looked = f.looked };
+          };
       gains = gains;
     }
 

@@ -1,5 +1,5 @@
 -- The last one waits for another one, of which nothing is known: that is tried at a level of its own.
-use Rattle.std.proofs.Common.{◌≡◌, ℕ, Bool, List, [], ◌∷◌, ◌++◌, Option, Some, None, Result, Ok, Err, inl, inr, refl, sym, ap, ◌∙◌, subst}
+use Rattle.std.proofs.Common.{◌≡◌, ℕ, Bool, List, [], ◌∷◌, ◌++◌, Option, Some, None, Result, Ok, Err, inl, inr, refl, sym, ap, ◌∙◌, subst, append-nil}
 use Rattle.std.specs.Prelude.{IfOk}
 use Rattle.std.specs.Map.{keys_of, lookup}
 use Rattle.std.specs.declared.alloc.AllocError.{AllocError}
@@ -12,9 +12,9 @@ use Rattle.at_model.specs.Turning as chain
 use Rattle.at_model.specs.Turning.{IsKnown, IsOn as ChainIsOn, Turned as ChainTurned, UnderWay, asked}
 use Rattle.at_model.specs.TypedRuns.{IsWellTyped}
 use Rattle.at_model.specs.of_fixpoints.Fixpoints.{HasValue}
-use Rattle.at_model.specs.of_fixpoints.Searching.{IsValued, Level, Search, Turned, begun, under}
+use Rattle.at_model.specs.of_fixpoints.Searching.{IsValued, Level, Search, Turned, begun}
 use Rattle.at_model.specs.of_fixpoints.Searching as search
-use Rattle.at_model.proofs.Reached.{back_among, either_among, front_among}
+use Rattle.at_model.proofs.Reached.{either_among}
 use Rattle.at_model.proofs.of_machines.Bounded.{stays_on as chain_stays}
 use Rattle.at_rules.specs.Circular.{HasNoneCircular}
 use Rattle.at_store.specs.Shown.{Shown, contents}
@@ -22,6 +22,7 @@ use Rattle.at_body.specs.Same.{same_instance}
 use Rattle.at_body.specs.Typed.{class_shown}
 use Rattle.at_cache.specs.Kept.{Entries}
 use Rattle.at_cache.specs.Traced.{Memories}
+use Rattle.at_demand.proofs.of_levels.Followed.{followed_deeper}
 use Rattle.at_demand.specs.declared.answer.Answer.{Answer as AnswerCode}
 use Rattle.at_demand.specs.declared.question.Question.{Question}
 use Rattle.at_demand.specs.declared.trials.Trials.{Trials}
@@ -36,11 +37,11 @@ use Rattle.at_demand.specs.Forming.{waits_for}
 use Rattle.at_demand.specs.Known.{FoundKept, KeepsEntries, equations, kept_values, meaning}
 use Rattle.at_demand.specs.KeptTrials.{AreTrials, Fit, FitAt}
 use Rattle.at_demand.specs.LastTried.{IsDeeperLast}
-use Rattle.at_demand.specs.Levels.{IsAbout, LevelCode, StandsFor, known_to, levels_of, root_in, seen_in}
+use Rattle.at_demand.specs.Levels.{LevelCode, StandsFor, known_to, level_of, levels_of, root_in}
 use Rattle.at_demand.specs.Only.{AreLean}
 use Rattle.at_demand.specs.Searches.{IsTried, TurnsBy}
 use Rattle.at_demand.specs.Sparing.{AreSettled}
-use Rattle.at_demand.specs.Turns.{HaveMet, IsMet, IsSparingTurns, IsStanding, found_of, passed_of, under_way}
+use Rattle.at_demand.specs.Turns.{HaveMet, IsSparingTurns, IsStanding, found_of, passed_of, under_way}
 use Rattle.at_demand.proofs.Entered.{is_there, not_none, value_on}
 use Rattle.at_demand.proofs.Fitting.{noted_same, push_trial}
 use Rattle.at_demand.proofs.Keys.{keys_push, no_key}
@@ -157,16 +158,6 @@ module _ (rules : Rules) (s : Shown) (exact : Bool) (before last : Entries) (f n
           ]
         ]
 
-    -- what the question was about it is about still
-    about_on : (i : Instance ℕ) → IsAbout q i → IsAbout new i
-    about_on i (inl a) = inl (inr (back_among i (seen_in new.level) (under (levels_of new.waiting.entries))
-        (subst (λ ls. Among i (under ls)) (risen_levels q.waiting.entries q.inst q.level ∙ sym (ap (λ ws. levels_of ws) waits_now)) a)))
-    about_on i (inr (k, d, a, b)) = inr (k, d, inr (subst (λ ws. Among (with_level d k) ws) (sym waits_now) (by a)), b)
-      where
-        by : Among (with_level d k) (with_level q.level q.inst ∷ q.waiting.entries) → Among (with_level d k) (q.waiting.entries ++ with_level q.level q.inst ∷ [])
-        by (inl e) = back_among (with_level d k) q.waiting.entries (with_level q.level q.inst ∷ []) (inl e)
-        by (inr e) = front_among (with_level d k) q.waiting.entries (with_level q.level q.inst ∷ []) e
-
     root_new : root_in new.level new.inst ≡ j
     root_new = ap (λ d. root_in d new.inst) h.level ∙ h.inst
 
@@ -179,10 +170,15 @@ module _ (rules : Rules) (s : Shown) (exact : Bool) (before last : Entries) (f n
           (subst (λ ws. HaveMet rules (contents s) last q.found.entries ws j) (sym waits_now)
           (met_push rules (contents s) last q.found.entries q.waiting.entries (with_level q.level q.inst) j z.met
           (waits_met rules (class_shown s) (contents s) last q.found.entries q.inst waits j going))));
-      followed = λ i k a b. elim (z.followed i k (subst (λ es. Among i (keys_of es)) h.finds.ended a) b) [
-        | inl m ↦ inl (subst (λ fs. IsMet last fs k) (sym h.finds.found) m)
-        | inr e ↦ inr (elim e [ inl key ↦ inl (subst (λ es. Among k (keys_of es)) (sym h.finds.ended) key) | inr d ↦ inr (about_on k d) ])
-      ];
+      followed = followed_deeper rules (contents s) last last q new (λ m some. refl) (
+        [],
+        h.finds.found ∙ sym
+            (append-nil q.found.entries),
+      )
+          (λ i k. subst (λ es. Among i (keys_of es)) (sym h.finds.ended) k) (λ i k. subst (λ es. Among i
+          (keys_of es)) h.finds.ended k) j
+          (ap (λ d. level_of new.inst d) h.level ∙ ap (λ i. level_of i None) h.inst)
+          (ap (λ ws. levels_of ws) waits_now ∙ sym (risen_levels q.waiting.entries q.inst q.level)) z.followed;
     }
 
     chain_on : (u : Trials) → u.frames.items ≡ t.frames.items ++ waits ∷ [] → u.awaited ≡ t.awaited → FitAt rules s

@@ -1,17 +1,11 @@
 -- The equation of the last one has given its formula: the search goes along behind it.
-use Rattle.std.proofs.Common.{◌≡◌, ◌⊎◌, ◌<◌, ◌^◌, ℕ, Bool, None, Result, Err, inl, inr, refl, sym, subst}
-use Rattle.std.specs.Map.{keys_of}
+use Rattle.std.proofs.Common.{◌≡◌, ◌<◌, ◌^◌, ℕ, Bool, None, Result, Err, inl, inr, refl, sym, subst}
 use Rattle.std.specs.declared.alloc.AllocError.{AllocError}
 use Rattle.std.specs.Prelude.{Option}
-use Rattle.at_model.specs.Meaning.{Among}
+use Rattle.at_model.specs.Meaning.{Among, Reaches}
 use Rattle.at_model.specs.Rules.{Rules, start_of}
 use Rattle.at_model.specs.Run.{Instance}
-use Rattle.at_model.specs.of_fixpoints.Fixpoints.{End, Made}
-use Rattle.at_model.specs.of_fixpoints.Formulas.{Formula, atoms}
-use Rattle.at_model.specs.of_fixpoints.Resting.{Comes}
-use Rattle.at_model.specs.of_fixpoints.Searching.{asked_in}
-use Rattle.at_model.proofs.Reached.{front_among}
-use Rattle.at_model.proofs.of_searching.PassedCircles.{ends_one}
+use Rattle.at_model.specs.of_fixpoints.Fixpoints.{HasValue}
 use Rattle.at_rules.specs.Circular.{HasNoneCircular}
 use Rattle.at_store.specs.Shown.{Shown, contents}
 use Rattle.at_cache.specs.Kept.{Entries}
@@ -24,9 +18,9 @@ use Rattle.at_demand.specs.declared.trials.Trials.{Trials}
 use Rattle.at_demand.specs.ChainSteps.{HasEnded}
 use Rattle.at_demand.specs.Known.{meaning}
 use Rattle.at_demand.specs.LastTried.{CanForm, HasFormed}
-use Rattle.at_demand.specs.Levels.{IsAbout, IsFormOf, IsUsed, seen_in, todo_in}
+use Rattle.at_demand.specs.Levels.{IsFormOf, IsUsed, seen_in}
 use Rattle.at_demand.specs.Searches.{CanGoAlong, HasGoneAlong}
-use Rattle.at_demand.specs.Turns.{IsMet}
+use Rattle.at_demand.specs.Turns.{IsMet, IsSettledBy}
 use Rattle.at_demand.proofs.Entered.{entered, not_none}
 use Rattle.at_demand.proofs.of_levels.Behind.{IsFormHere}
 use Rattle.at_demand.proofs.of_levels.EndedLast.{can_along_behind, gains_behind, leaves_behind, turns_behind}
@@ -67,28 +61,22 @@ module _ (rules : Rules) (s : Shown) (exact : Bool) (entries : Entries) (m : Mem
     used_met j (inl a) = let is = can.is in let (k, l) = is.kept j a in inl (entered entries j k)
     used_met j (inr (p, d, a, at)) = inr (p, d, at)
 
-    comes : (j : Instance ℕ) → Comes (contents s) (meaning rules) q.inst j →
-        IsMet entries q.found.entries j ⊎ (Among j (keys_of q.ended.entries) ⊎ IsAbout mid j)
-    comes j (inl reaches) = let is = can.is in inl (used_met j (is.demands j reaches))
-    comes j (inr (d, has, a)) =
-        let same : Made d ≡ Made f.formula = ends_one (contents s) (meaning rules) q.inst (Made d) (Made f.formula) has can.ends in
-        let sees = h.sees in
-        inr (inr (inr (
-          mid.inst,
-          mid.level,
-          inl refl,
-          inl (subst (λ ts. Among j ts) (sym sees.todo)
-              (front_among j (atoms f.formula) (todo_in q.level) (subst (λ (z : End ℕ (Formula ℕ)). Among j (asked_in z)) same a))),
-        )))
+    demands : (j : Instance ℕ) → Reaches (contents s) (HasValue (contents s) (meaning rules))
+        ((meaning rules).formula q.inst) j → IsSettledBy entries q j
+    demands j reaches = let is = can.is in inl (used_met j (is.demands j reaches))
 
     pub form_along : CanGoAlong rules s entries mid t
-    form_along = can_along_behind rules s exact entries m w q t can.turns none small off mid (ending.Formed f) h can.ends form comes
+    form_along = can_along_behind rules s exact entries m w q t can.turns none small off mid
+        (ending.Formed f) h can.ends form demands
 
     pub has_formed : (after : Entries) (n : Memories) (x : ℕ) (new : Question) (u : Trials) (r : Result (Option Answer) AllocError) →
         HasGoneAlong {E = AllocError} rules s exact entries after m n w x mid new u r → HasFormed {E = AllocError} rules s exact entries after m n w x q new u r
     has_formed after n x new u r g = record {
-      gains = gains_behind rules s exact entries m w q t can.turns none small off mid (ending.Formed f) h can.ends form comes after n x new u r g;
-      turned = turns_behind rules s exact entries m w q t can.turns none small off mid (ending.Formed f) h can.ends form comes after n x new u r g;
+      gains = gains_behind rules s exact entries m w q t can.turns none small off mid
+          (ending.Formed f) h can.ends form demands after n x new u r g;
+      turned = turns_behind rules s exact entries m w q t can.turns none small off mid
+          (ending.Formed f) h can.ends form demands after n x new u r g;
       fit = g.fit;
-      leaves = leaves_behind rules s exact entries m w q t can.turns none small off mid (ending.Formed f) h can.ends form comes after n x new u r g;
+      leaves = leaves_behind rules s exact entries m w q t can.turns none small off mid
+          (ending.Formed f) h can.ends form demands after n x new u r g;
     }

@@ -12,6 +12,7 @@ use Rattle.at_model.proofs.of_formulas.UniqueOutcomes.{once}
 use Rattle.at_store.specs.Shown.{Shown, contents}
 use Rattle.at_body.specs.Same.{same_instance}
 use Rattle.at_cache.specs.Kept.{Entries}
+use Rattle.at_demand.proofs.of_levels.Followed.{followed_same}
 use Rattle.at_demand.specs.declared.evaluation.Find.{Find}
 use Rattle.at_demand.specs.declared.question.Question.{Question}
 use Rattle.at_demand.specs.Known.{IsKept, KeepsEntries, found_values, kept_values, known_in, meaning}
@@ -20,7 +21,7 @@ use Rattle.at_demand.specs.Only.{AreLean}
 use Rattle.at_demand.specs.Meant.{AreRightValues}
 use Rattle.at_demand.specs.Sound.{AreSound}
 use Rattle.at_demand.specs.Sparing.{AreSettled}
-use Rattle.at_demand.specs.Turns.{IsMet, IsSparingTurns, IsStanding}
+use Rattle.at_demand.specs.Turns.{IsSparingTurns, IsStanding}
 use Rattle.at_demand.proofs.Entered.{entered_on, is_there, kept_on, not_none, there, value_on, valued_on}
 use Rattle.at_demand.proofs.of_searches.OnceTold.{covered_on}
 use Rattle.at_demand.proofs.of_levels.Resolving.{still_known}
@@ -115,6 +116,7 @@ module _ (rules : Rules) (s : Shown) (entries more : Entries) (grown : KeepsEntr
           placed = λ i h. elim (st.whole.placed i h) [ inl k ↦ inl (known_on i k) | inr d ↦ inr d ];
           marked = st.whole.marked;
           spoilt = λ i m none. st.whole.spoilt i m (unknown i none (known_to entries q i) refl);
+          asked = λ i j f m r a. elim (st.whole.asked i j f m r a) [ inl k ↦ inl (known_on j k) | inr key ↦ inr key ];
         };
         typed = st.typed;
         reached = st.reached;
@@ -155,8 +157,6 @@ module _ (rules : Rules) (s : Shown) (entries more : Entries) (grown : KeepsEntr
       met = have_more rules (contents s) entries more q.found.entries q.found.entries
           (met_more entries more grown q.found.entries q.found.entries ([], sym (append-nil q.found.entries))) q.waiting.entries
           (root_in q.level q.inst) sparing.met;
-      followed = λ i j k c. elim (sparing.followed i j k c) [
-        | inl m ↦ inl (met_more entries more grown q.found.entries q.found.entries ([], sym (append-nil q.found.entries)) j m)
-        | inr d ↦ inr d
-      ];
+      followed = followed_same rules (contents s) entries more q q grown ([], sym (append-nil q.found.entries))
+          (λ j k. k) (λ j k. k) refl sparing.followed;
     }

@@ -1,5 +1,5 @@
 -- A turn whose last instance came to be kept, at a level that is no search.
-use Rattle.std.proofs.Common.{◌≡◌, ◌⊎◌, ◌<◌, ◌^◌, ℕ, Bool, true, false, List, [], ◌∷◌, ◌++◌, Option, Some, None, Result, Ok, Err, inl, inr, refl, sym, ap, ◌∙◌, subst, true≢false}
+use Rattle.std.proofs.Common.{◌≡◌, ◌⊎◌, ◌<◌, ◌^◌, ℕ, Bool, true, false, List, [], ◌∷◌, ◌++◌, Option, Some, None, Result, Ok, Err, inl, inr, refl, sym, ap, ◌∙◌, subst, true≢false, append-nil}
 use Rattle.std.specs.Prelude.{IfOk, IsSome, IsTrue, is_some, not}
 use Rattle.std.specs.Map.{keys_of}
 use Rattle.std.specs.declared.alloc.AllocError.{AllocError}
@@ -20,6 +20,7 @@ use Rattle.at_body.specs.Typed.{class_shown}
 use Rattle.at_body.specs.Values.{value_view}
 use Rattle.at_body.specs.declared.value.Value.{Value as ValueCode}
 use Rattle.at_cache.specs.Kept.{Entries}
+use Rattle.at_demand.proofs.of_levels.Followed.{followed_off}
 use Rattle.at_demand.specs.declared.answer.Answer.{Answer as AnswerCode}
 use Rattle.at_demand.specs.declared.answer.Answer.TheVariants as answer
 use Rattle.at_demand.specs.declared.question.Question.{Question}
@@ -36,14 +37,13 @@ use Rattle.at_demand.specs.Levels.{LevelCode, StandsFor, asked_by, known_to, lev
 use Rattle.at_demand.specs.Only.{AreLean}
 use Rattle.at_demand.specs.Sound.{AreSound}
 use Rattle.at_demand.specs.Sparing.{AreSettled, AreSpare}
-use Rattle.at_demand.specs.Turns.{HasTurnedBy, HaveMet, IsMet, IsSparingTurns, IsStanding, found_of, passed_of, under_way}
-use Rattle.at_demand.proofs.Entered.{entered, is_there}
+use Rattle.at_demand.specs.Turns.{HasTurnedBy, HaveMet, IsSparingTurns, IsStanding, found_of, passed_of, under_way}
+use Rattle.at_demand.proofs.Entered.{is_there}
 use Rattle.at_demand.proofs.Fitting.{ended_fit, noted_same}
 use Rattle.at_demand.proofs.Gaining.{asked_kept}
 use Rattle.at_demand.proofs.Recalling.{known_kept}
 use Rattle.at_demand.proofs.Standing.{asked_typed, plain_holds}
 use Rattle.at_demand.proofs.Turned.{last_two, one_passed, passed_one, with_view}
-use Rattle.at_demand.proofs.of_levels.Followed.{about_plain}
 use Rattle.at_demand.proofs.of_searches.Reaching.{asked_at}
 use Rattle.at_demand.proofs.of_levels.Resolving.{facts_same}
 use Rattle.at_demand.proofs.of_searches.Returning.{with_level}
@@ -143,16 +143,14 @@ module _ (rules : Rules) (s : Shown) (exact : Bool) (basis : IsBasis rules s) (e
       met = subst (λ fs. HaveMet rules (contents s) entries fs new.waiting.entries (root_in new.level new.inst)) (sym r.found)
           (met_pop rules (contents s) entries old.found.entries new.waiting.entries (with_level new.level new.inst) (root_in old.level old.inst)
           (subst (λ ws. HaveMet rules (contents s) entries old.found.entries ws (root_in old.level old.inst)) waits x.met));
-      followed = λ i j k c. elim (x.followed i j (subst (λ es. Among i (keys_of es)) r.ended k) c) [
-        | inl m ↦ inl (subst (λ fs. IsMet entries fs j) (sym r.found) m)
-        | inr d ↦ elim d [
-          | inl key ↦ inr (inl (subst (λ es. Among j (keys_of es)) (sym r.ended) key))
-          | inr a ↦ elim (about_plain old new level waits j a) [
-            | inl e ↦ inl (inl (subst (λ z. IsSome (entries z)) (sym e) (entered entries old.inst (is_there (kept_values entries old.inst) (value_view v) kept))))
-            | inr b ↦ inr (inr b)
-          ]
-        ]
-      ];
+      followed = followed_off rules (contents s) entries entries old new (λ m some. refl) (
+        [],
+        r.found ∙ sym
+            (append-nil old.found.entries),
+      )
+          (λ j k. subst (λ es. Among j (keys_of es)) (sym r.ended) k) (λ j k. subst (λ es. Among j
+          (keys_of es)) r.ended k)
+          (below_pop rules s entries entries old new level waits r.ended) x.followed;
     }
 
     -- the trials are those of the ones that wait, and the one that is the last now

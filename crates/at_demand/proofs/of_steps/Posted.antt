@@ -3,6 +3,7 @@ use Rattle.std.proofs.Common.{◌≡◌, ◌⊎◌, ◌+◌, ◌*◌, ◌≤◌,
 use Rattle.std.specs.Prelude.{IsSome}
 use Rattle.std.specs.Map.{keys_of, lookup}
 use Rattle.std.specs.Option.{option_map}
+use Rattle.at_model.proofs.of_searching.LookedSteps.{looked_begun}
 use Rattle.at_model.specs.Instances.{AnyText}
 use Rattle.at_model.specs.Meaning.{Among}
 use Rattle.at_model.specs.Rules.{Rules, start_of}
@@ -11,9 +12,10 @@ use Rattle.at_model.specs.Turning.{UnderWay, asked, turns_of}
 use Rattle.at_model.specs.Turning.{posted as chain_posted, IsOn as ChainIsOn}
 use Rattle.at_model.specs.TypedRuns.{IsWellTyped}
 use Rattle.at_model.specs.of_fixpoints.Formulas.{Forms}
+use Rattle.at_model.specs.of_fixpoints.Met.{HaveLookedAt}
 use Rattle.at_model.specs.of_fixpoints.Resting.{Leads, stays}
 use Rattle.at_model.specs.of_fixpoints.Searched.{IsFresh, IsOn, tried_at}
-use Rattle.at_model.specs.of_fixpoints.Searching.{Search, begun, posted, under}
+use Rattle.at_model.specs.of_fixpoints.Searching.{Level, Search, begun, posted, under}
 use Rattle.at_model.proofs.of_machines.Bounded.{begun as chain_begun}
 use Rattle.at_model.proofs.of_searching.Turned.{begun_on}
 use Rattle.at_store.specs.Shown.{Shown, contents}
@@ -26,7 +28,7 @@ use Rattle.at_demand.specs.declared.question.Question.{Question}
 use Rattle.at_demand.specs.Known.{equations, found_values, kept_values, known_in, meaning}
 use Rattle.at_demand.specs.Levels.{IsAbout, IsLevel, IsSearch, LevelCode, StandsFor, asked_by, known_to, level_of, levels_of, root_in, todo_in}
 use Rattle.at_demand.specs.Sound.{AreSound}
-use Rattle.at_demand.specs.Turns.{IsSparingTurns, IsStanding, IsStandingPlainly, HaveMet, found_of, passed_of, under_way}
+use Rattle.at_demand.specs.Turns.{HaveMet, IsBehind, IsSparingTurns, IsStanding, IsStandingPlainly, found_of, passed_of, under_way}
 use Rattle.at_demand.specs.Covering.{AreWhole}
 use Rattle.at_demand.specs.Known.{FoundKept}
 use Rattle.at_demand.specs.Only.{AreLean}
@@ -151,6 +153,7 @@ module _ (q : Question) (i : Instance ℕ) (waiting : q.waiting.entries ≡ []) 
         placed = λ j h. absurd (none_ended j h);
         marked = λ j (x, at, is). absurd (none_recorded j x at);
         spoilt = λ j (x, at, is) e. absurd (none_recorded j x at);
+        asked = λ j k f (x, at, is) r a. absurd (none_recorded j x at);
       };
       typed = λ k a. subst (λ j. IsWellTyped rules (class_shown s) AnyText j) (sym (about_is k a)) typed;
       reached = λ j o h. absurd h;
@@ -176,10 +179,22 @@ module _ (q : Question) (i : Instance ℕ) (waiting : q.waiting.entries ≡ []) 
       whole = subst (λ fs. AreWhole rules (contents s) fs) (sym found) (λ p j f e. absurd (none_there (with_find f j) e));
     }
 
+  abbrev AreLooked : Rules → Contents ℕ → Entries → List (Level ℕ) → Type 0
+  AreLooked rules look entries ls = HaveLookedAt look (meaning rules) (IsBehind look (meaning rules)
+      (known_to entries q)) ls
+
   pub posted_sparing : (rules : Rules) (look : Contents ℕ) (entries : Entries) → IsSparingTurns rules look entries q
   posted_sparing rules look entries = record {
     lean = subst (λ fs. AreLean rules look fs) (sym found) (λ p j f e. absurd (none_there (with_find f j) e));
     settled = subst (λ fs. AreSettled rules entries fs) (sym found) (λ p j f e. absurd (none_there (with_find f j) e));
     met = subst (λ ws. HaveMet rules look entries q.found.entries ws (root_in q.level q.inst)) (sym waiting) tt;
-    followed = λ j k a c. absurd (subst (λ es. Among j (keys_of es)) ended a);
+    followed = record {
+      demanded = λ j k a c. absurd (subst (λ es. Among j (keys_of es)) ended a);
+      looked = subst (λ ws. AreLooked rules look entries (level_of q.inst q.level ∷ levels_of ws)) (sym waiting)
+          (subst (λ d. AreLooked rules look entries (level_of q.inst d ∷ [])) (sym level) (
+            looked_begun look (meaning rules) told_among (IsBehind look (meaning rules)
+                (known_to entries q)) [] q.inst,
+            tt,
+          ));
+    };
   }

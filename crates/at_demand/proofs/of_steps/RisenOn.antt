@@ -21,6 +21,7 @@ use Rattle.at_store.specs.Shown.{Shown, contents}
 use Rattle.at_cache.specs.Kept.{Entries}
 use Rattle.at_search.specs.Recorded.{AreFacts, IsRecordedForm}
 use Rattle.at_search.specs.declared.ended.Formed.{Formed}
+use Rattle.at_demand.proofs.of_levels.Followed.{followed_off}
 use Rattle.at_demand.specs.declared.answer.Answer.{Answer as AnswerCode}
 use Rattle.at_demand.specs.declared.evaluation.Find.{Find}
 use Rattle.at_demand.specs.declared.question.Question.{Question}
@@ -36,13 +37,12 @@ use Rattle.at_demand.specs.Only.{AreLean}
 use Rattle.at_demand.specs.Searches.{TurnsBy}
 use Rattle.at_demand.specs.Sound.{AreSound}
 use Rattle.at_demand.specs.Sparing.{AreSettled}
-use Rattle.at_demand.specs.Turns.{HaveMet, IsMet, IsSparingTurns, IsStanding, found_of, passed_of, under_way}
+use Rattle.at_demand.specs.Turns.{HaveMet, IsSparingTurns, IsStanding, found_of, passed_of, under_way}
 use Rattle.at_body.specs.Typed.{class_shown}
 use Rattle.at_demand.proofs.Entered.{is_there, kept_on, there, value_on}
 use Rattle.at_demand.proofs.Extending.{get_more}
 use Rattle.at_demand.proofs.Standing.{asked_typed, last_led, plain_holds}
 use Rattle.at_demand.proofs.Turned.{last_two, with_view}
-use Rattle.at_demand.proofs.of_levels.Followed.{about_plain}
 use Rattle.at_demand.proofs.of_levels.LevelOver.{known_as_found}
 use Rattle.at_demand.proofs.of_levels.PlainLevel.{plain_level}
 use Rattle.at_demand.proofs.of_searches.Reaching.{asked_at}
@@ -50,7 +50,7 @@ use Rattle.at_demand.proofs.of_levels.Resolving.{still_known}
 use Rattle.at_demand.proofs.of_searches.Returning.{with_level}
 use Rattle.at_demand.proofs.Fitting.{more_trials}
 use Rattle.at_demand.proofs.of_levels.Wholes.{fresh_on, stays_on, whole_led}
-use Rattle.at_demand.proofs.of_steps.Ascending.{ends_found, found_so, risen, rises_found, search_is, stands_risen, start_is, waited}
+use Rattle.at_demand.proofs.of_steps.Ascending.{below_pop, ends_found, found_so, risen, rises_found, search_is, stands_risen, start_is, waited}
 use Rattle.at_demand.proofs.of_steps.Counted.{StandsSo}
 use Rattle.at_demand.proofs.of_steps.Met.{have_more, met_more, met_pop}
 use Rattle.at_demand.proofs.of_steps.PlainComes.{comes_on, ends_value}
@@ -287,25 +287,19 @@ module _ (rules : Rules) (s : Shown) (before after : Entries) (old new : Questio
     }
 
     -- with an exact keeper it spares still
-    pub spares_risen : IsMet after new.found.entries old.inst → AreLean rules (contents s) new.found.entries → AreSettled rules after new.found.entries →
+    pub spares_risen : AreLean rules (contents s) new.found.entries → AreSettled rules after new.found.entries →
         IsSparingTurns rules (contents s) before old → IsSparingTurns rules (contents s) after new
-    spares_risen met lean settled z = record {
+    spares_risen lean settled z = record {
       lean = lean;
       settled = settled;
       met = have_more rules (contents s) before after old.found.entries new.found.entries (met_more before after keeps old.found.entries new.found.entries finds)
           new.waiting.entries (root_in new.level new.inst)
           (met_pop rules (contents s) before old.found.entries new.waiting.entries (with_level new.level new.inst) (root_in old.level old.inst)
           (subst (λ ws. HaveMet rules (contents s) before old.found.entries ws (root_in old.level old.inst)) waits z.met));
-      followed = λ i j k c. elim (z.followed i j (subst (λ es. Among i (keys_of es)) ended k) c) [
-        | inl m ↦ inl (met_more before after keeps old.found.entries new.found.entries finds j m)
-        | inr d ↦ elim d [
-          | inl key ↦ inr (inl (subst (λ es. Among j (keys_of es)) (sym ended) key))
-          | inr a ↦ elim (about_plain old new level waits j a) [
-            | inl e ↦ inl (subst (λ i. IsMet after new.found.entries i) (sym e) met)
-            | inr y ↦ inr (inr y)
-          ]
-        ]
-      ];
+      followed = followed_off rules (contents s) before after old new keeps finds (λ j k. subst (λ es. Among j
+          (keys_of es)) (sym ended) k)
+          (λ j k. subst (λ es. Among j (keys_of es)) ended k)
+          (below_pop rules s before after old new level waits ended) z.followed;
     }
 
     -- the trials are those of the ones that wait, and the one that is the last now

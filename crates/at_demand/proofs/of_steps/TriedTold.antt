@@ -14,6 +14,7 @@ use Rattle.at_model.proofs.of_formulas.UniqueOutcomes.{once}
 use Rattle.at_store.specs.Shown.{Shown, contents}
 use Rattle.at_cache.specs.Kept.{Entries}
 use Rattle.at_cache.specs.Traced.{Memories}
+use Rattle.at_demand.proofs.of_levels.Followed.{followed_same}
 use Rattle.at_demand.specs.declared.question.Question.{Question}
 use Rattle.at_demand.specs.Groups.{Tells}
 use Rattle.at_demand.specs.Known.{kept_values, meaning}
@@ -25,9 +26,8 @@ use Rattle.at_demand.proofs.Recalling.{known_kept}
 use Rattle.at_demand.proofs.of_levels.FromTry.{led_levels}
 use Rattle.at_demand.proofs.of_searches.OnceTold.{IsToldOf, adds_told, covered_on, found_as, told_in, told_is, told_of}
 use Rattle.at_demand.proofs.of_searches.Reaching.{asked_at}
-use Rattle.at_demand.proofs.of_levels.Resolving.{still_known}
+use Rattle.at_demand.proofs.of_levels.Resolving.{same_levels, still_known}
 use Rattle.at_demand.proofs.of_searches.Returning.{with_level}
-use Rattle.at_demand.proofs.of_steps.Met.{met_more}
 use Rattle.at_demand.proofs.of_steps.TryUnderWay.{with_told}
 
 same_value : (v w : Value ℕ) → Finds v ≡ Finds w → v ≡ w
@@ -42,20 +42,15 @@ module _ {Whole : Type 0} (rules : Rules) (s : Shown) (exact : Bool) (before aft
   still : (i : Instance ℕ) → IsSome (known_to before old i) → IsSome (known_to after new i)
   still = let (more, grown) = t.finds in still_known before after old new t.stays more grown
 
-  about_on : (k : Instance ℕ) → IsAbout old k → IsAbout new k
-  about_on k a = subst (λ i. AboutAt new.waiting.entries new.level i k) (sym t.chain.inst)
-      (subst (λ d. AboutAt new.waiting.entries d old.inst k) (sym t.level) (subst (λ ws. AboutAt ws old.level old.inst k) (sym t.chain.waiting) a))
-
   about_back : (k : Instance ℕ) → IsAbout new k → IsAbout old k
   about_back k a = subst (λ i. AboutAt old.waiting.entries old.level i k) t.chain.inst
       (subst (λ d. AboutAt old.waiting.entries d new.inst k) t.level (subst (λ ws. AboutAt ws new.level new.inst k) t.chain.waiting a))
 
   -- all is followed still
   pub followed_told : IsFollowed rules (contents s) before old → IsFollowed rules (contents s) after new
-  followed_told followed i j k c = elim (followed i j (subst (λ ks. Among i ks) t.ended k) c) [
-    | inl m ↦ inl (met_more before after t.stays old.found.entries new.found.entries t.finds j m)
-    | inr d ↦ inr (elim d [ inl key ↦ inl (subst (λ ks. Among j ks) (sym t.ended) key) | inr a ↦ inr (about_on j a) ])
-  ]
+  followed_told = followed_same rules (contents s) before after old new t.stays t.finds (λ j k. subst
+      (λ ks. Among j ks) (sym t.ended) k)
+      (λ j k. subst (λ ks. Among j ks) t.ended k) (same_levels old new t.chain.waiting t.chain.inst t.level)
 
   pub asked_told : asked_by new ≡ asked_by old
   asked_told = ap (λ ws. asked_at ws new.level new.inst) t.chain.waiting ∙ ap (λ d. asked_at old.waiting.entries d new.inst) t.level

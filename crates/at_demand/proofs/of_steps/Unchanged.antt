@@ -1,5 +1,5 @@
 -- A question of which nothing has changed stands as it stood.
-use Rattle.std.proofs.Common.{◌≡◌, ◌⊎◌, ◌≤◌, ℕ, List, [], ◌∷◌, ◌++◌, Option, Some, None, inl, inr, refl, sym, ap, ◌∙◌, subst}
+use Rattle.std.proofs.Common.{◌≡◌, ◌⊎◌, ◌≤◌, ℕ, List, [], ◌∷◌, ◌++◌, Option, Some, None, inl, inr, refl, sym, ap, ◌∙◌, subst, append-nil}
 use Rattle.std.specs.Prelude.{IsSome}
 use Rattle.std.specs.Map.{keys_of, lookup}
 use Rattle.at_model.specs.Meaning.{Among}
@@ -13,6 +13,7 @@ use Rattle.at_rules.specs.Circular.{HasNoneCircular}
 use Rattle.at_store.specs.Shown.{Shown, contents}
 use Rattle.at_cache.specs.Kept.{Entries}
 use Rattle.at_search.specs.Recorded.{IsMarked}
+use Rattle.at_demand.proofs.of_levels.Followed.{followed_same}
 use Rattle.at_demand.specs.declared.evaluation.Find.{Find}
 use Rattle.at_demand.specs.declared.question.Question.{Question}
 use Rattle.at_demand.specs.ChainSteps.{IsUnchanged}
@@ -21,9 +22,9 @@ use Rattle.at_demand.specs.Known.{FoundKept, equations, kept_values, known_in, m
 use Rattle.at_demand.specs.Levels.{IsAbout, IsLevel, LeadsToFault, LevelCode, StandsFor, all_levels, asked_by, known_to, level_of, levels_of, root_in, seen_in, todo_in}
 use Rattle.at_demand.specs.Only.{AreLean}
 use Rattle.at_demand.specs.Sparing.{AreSettled}
-use Rattle.at_demand.specs.Turns.{HaveMet, IsMet, IsSparingTurns, IsStanding, IsStandingPlainly, found_of, passed_of, under_way}
+use Rattle.at_demand.specs.Turns.{HaveMet, IsSparingTurns, IsStanding, IsStandingPlainly, found_of, passed_of, under_way}
 use Rattle.at_demand.proofs.of_searches.Moving.{asked_same}
-use Rattle.at_demand.proofs.of_levels.Resolving.{facts_same}
+use Rattle.at_demand.proofs.of_levels.Resolving.{asked_moved, facts_same, same_levels}
 use Rattle.at_demand.proofs.of_searches.Returning.{with_level}
 
 -- what a question is about, by those that wait and the last level
@@ -57,11 +58,6 @@ module _ (rules : Rules) (s : Shown) (entries : Entries) (old new : Question) (s
   about_back : (k : Instance ℕ) → IsAbout new k → IsAbout old k
   about_back k a = subst (λ i. AboutAt old.waiting.entries old.level i k) same.chain.inst
       (subst (λ d. AboutAt old.waiting.entries d new.inst k) same.level (subst (λ ws. AboutAt ws new.level new.inst k) same.chain.waiting a))
-
-  about_on : (k : Instance ℕ) → IsAbout old k → IsAbout new k
-  about_on k a = subst (λ i. AboutAt new.waiting.entries new.level i k) (sym same.chain.inst)
-      (subst (λ d. AboutAt new.waiting.entries d old.inst k) (sym same.level)
-      (subst (λ ws. AboutAt ws old.level old.inst k) (sym same.chain.waiting) a))
 
   under_on : (k : Instance ℕ) → Among k (under (all_levels old)) → Among k (under (all_levels new))
   under_on k a = subst (λ ws. Among k (under (level_of new.inst new.level ∷ levels_of ws))) (sym same.chain.waiting)
@@ -107,6 +103,7 @@ module _ (rules : Rules) (s : Shown) (entries : Entries) (old new : Question) (s
       marked = λ i m. st.whole.marked i (subst (λ es. IsMarked es i) same.finds.ended m);
       spoilt = λ i m none. subst (λ es. LeadsToFault es i) (sym same.finds.ended)
           (st.whole.spoilt i (subst (λ es. IsMarked es i) same.finds.ended m) (sym (known_same i) ∙ none));
+      asked = asked_moved entries old new same.finds.ended same.finds.found st.whole.asked;
     };
     typed = λ i a. st.typed i (about_back i a);
     reached = λ i o h. subst (λ q. Leads (contents s) (meaning rules) q i) (sym asked_stays) (st.reached i o h);
@@ -138,11 +135,9 @@ module _ (rules : Rules) (s : Shown) (entries : Entries) (old new : Question) (s
     met = subst (λ fs. HaveMet rules (contents s) entries fs new.waiting.entries (root_in new.level new.inst)) (sym same.finds.found)
         (subst (λ ws. HaveMet rules (contents s) entries old.found.entries ws (root_in new.level new.inst)) (sym same.chain.waiting)
         (subst (λ n. HaveMet rules (contents s) entries old.found.entries old.waiting.entries n) (sym root) x.met));
-    followed = λ i j k c. elim (x.followed i j (subst (λ es. Among i (keys_of es)) same.finds.ended k) c) [
-      | inl m ↦ inl (subst (λ fs. IsMet entries fs j) (sym same.finds.found) m)
-      | inr d ↦ inr (elim d [
-        | inl key ↦ inl (subst (λ es. Among j (keys_of es)) (sym same.finds.ended) key)
-        | inr a ↦ inr (about_on j a)
-      ])
-    ];
+    followed = followed_same rules (contents s) entries entries old new (λ m some. refl)
+        ([], same.finds.found ∙ sym (append-nil old.found.entries)) (λ j k. subst (λ es. Among j (keys_of es))
+        (sym same.finds.ended) k)
+        (λ j k. subst (λ es. Among j (keys_of es)) same.finds.ended k)
+        (same_levels old new same.chain.waiting same.chain.inst same.level) x.followed;
   }

@@ -299,7 +299,6 @@ module _ (rules : Rules) (s : Shown) (exact : Bool) (before mid last : Entries) 
           }))
           (λ k spare z. spares_risen rules s mid last q new (value_view d.value) valued_kept keeps_kept r.waits r.ended r.turns h.right
           (gained rules s exact before mid last f m l w x y old q t g c turn traced (tried.Kept v) h d has none) finds_kept known_kept_so only_kept more_kept
-          (inl (entered last q.inst (is_there (kept_values last q.inst) (value_view v) kept)))
           (subst (λ fs. AreLean rules (contents s) fs) (sym r.found) (let y = c.sparing k z in y.lean))
           (subst (λ fs. AreSettled rules last fs) (sym r.found) (settled_kept k spare z)) (c.sparing k z))
         where
@@ -409,7 +408,6 @@ module _ (rules : Rules) (s : Shown) (exact : Bool) (before mid last : Entries) 
           }))
           (λ k spare z. spares_risen rules s mid last q new (value_view d.value) valued_found keeps_found r.waits r.ended r.turns h.right
           (gained rules s exact before mid last f m l w x y old q t g c turn traced (tried.Found d) h d has none) finds_more known_now only_found more_found
-          (inr (subst (λ fs. IsFound fs q.inst) (sym found_is) found_at))
           (subst (λ fs. AreLean rules (contents s) fs) (sym found_is)
           (lean_push rules (contents s) q.found.entries q.inst d (let y = c.sparing k z in y.lean) has.lean))
           (subst (λ fs. AreSettled rules last fs) (sym found_is) (settled_found k spare z)) (c.sparing k z))

@@ -1,10 +1,11 @@
 -- What a question adds to what is kept where it isn't answered, by the paths of nodes.
 use Rattle.std.proofs.Common.{◌≡◌, ◌⊎◌, ℕ, ◌+◌, ◌-◌, ◌^◌, min, Option, Some, None, inl, inr, refl, sym, ap, ◌∙◌, subst, true≢false}
 use Rattle.std.specs.Prelude.{IsSome}
+use Rattle.at_model.specs.Machine.{Asks, State}
 use Rattle.at_model.specs.Paths.{Node}
 use Rattle.at_model.specs.Run.{Value, Instance, Location}
 use Rattle.at_model.specs.Rules.{Rules}
-use Rattle.at_model.specs.Meaning.{Among, content}
+use Rattle.at_model.specs.Meaning.{Among, Answer, Circle, Outcomes, content}
 use Rattle.at_model.specs.Alike.{InstanceLike, Names, IsInjective, AlikeAt}
 use Rattle.at_model.specs.Sparing.{IsWorthKeeping}
 use Rattle.at_store.specs.Shown.{Shown, IsIdle, contents, numbers, path, tree}
@@ -13,13 +14,17 @@ use Rattle.at_store.specs.View.{memory_of}
 use Rattle.at_store.proofs.Found.{path_injective}
 use Rattle.at_store.proofs.Relabelled.{contents_alike}
 use Rattle.at_cache.specs.Kept.{Entries}
+use Rattle.at_demand.proofs.of_keeping.CalledMet.{called_met}
+use Rattle.at_demand.specs.Answered.{HasWorthyFor, HasWorthyMet}
 use Rattle.at_demand.specs.Known.{kept_values, IsKept}
 use Rattle.at_demand.specs.Sparing.{AddsWorthy, Counts}
 use Rattle.at_demand.specs.Called.{KeptBy}
 use Rattle.at_demand.proofs.of_keeping.CalledAsked.{one_number, one_path, worth_on}
+use Rattle.at_engine.specs.Keeping.{KeepsMet}
 use Rattle.at_engine.specs.KeptOver.{Grows}
 use Rattle.at_demand.proofs.Entered.{kept_on}
 use Rattle.at_demand.proofs.Naming.{name_all}
+use Rattle.at_model.specs.Trees.{Tree}
 
 -- kept or not
 kept_or_not : (o : Option (Value ℕ)) → IsSome o ⊎ (o ≡ None)
@@ -60,3 +65,22 @@ module _ (rules : Rules) (s : Shown) (idle : IsIdle s) (q : Instance ℕ) (p : I
         worth = λ j h. (let (i, a, u) = c.of_one j h in let (k, v, worth) = worthy i a in subst (IsWorthKeeping rules (tree s) p) (path_is i k j v u) worth);
         grows = λ small. counts.2 ∙ ap (λ n. min (w + n) (2 ^ 64 - 1)) (sym c.size);
       }
+
+worthy_met : (rules : Rules) (s : Shown) (q : Instance ℕ) (a : Answer ℕ) (entries : Entries) → HasWorthyFor rules (contents s) q a entries →
+    HasWorthyMet rules (contents s) q entries
+worthy_met rules s q (Outcomes o) entries h = λ i w m. h i w
+worthy_met rules s q (Circle j) entries h = h.1
+
+-- all that is worth keeping, and that the search has met, is kept by paths
+pub met_asked : (rules : Rules) (s : Shown) → IsIdle s → (q : Instance ℕ) (p : Instance Node) → InstanceLike (Names (path s)) q p →
+    (entries : Entries) (a : Answer ℕ) → HasWorthyFor rules (contents s) q a entries → (state : State) → state.tree ≡ tree s →
+    KeepsMet rules state p (KeptBy s entries)
+met_asked rules s idle q p asked entries a h state same =
+    let P : Tree → Type 0 = λ t. KeepsMet rules (record state { tree = t }) p (KeptBy s entries) in
+    subst P (sym same) (called_met rules (contents s) (tree s) (path s) (path_injective (numbers s))
+    (contents_alike (class_in (memory_of s.slab)) (numbers s) idle.keeps.apart) entries q p asked (worthy_met rules s q a entries h))
+
+-- so it is for the question that the verdict is
+pub asked_met : (rules : Rules) (state : State) (q p : Instance Node) → Asks q ≡ Asks p → (Kept : Instance Node → Type 0) →
+    KeepsMet rules state q Kept → KeepsMet rules state p Kept
+asked_met rules state q p is Kept h = let same : q ≡ p = cc in subst (λ z. KeepsMet rules state z Kept) same h

@@ -34,7 +34,7 @@ use Rattle.at_demand.specs.declared.demand.Demand.{Demand}
 use Rattle.at_engine.specs.Engines.{rules_of, state_of}
 use Rattle.at_engine.specs.Following.{Follows, IsAtOnce}
 use Rattle.at_engine.specs.KeptOver.{AreWaiting, Grows, HasOutcome, HasVerdict, obeys, refuses, IsWorthFor, IsWorthIn}
-use Rattle.at_engine.specs.Keeping.{AreAtOnce, IsSpare, IsSpareWith, GrowsLine, GrowsOver, KeepsLine, KeepsOver, KeepsServed, KeepsWhole, Spares, SparesLine, SparesVerdict, kept_of, work_of}
+use Rattle.at_engine.specs.Keeping.{AreAtOnce, GrowsLine, GrowsOver, IsSpare, IsSpareWith, KeepsLine, KeepsMet, KeepsOver, KeepsServed, KeepsWhole, Spares, SparesLine, SparesVerdict, kept_of, work_of}
 use Rattle.at_engine.specs.Hearing.{Hears, at_once, by_turns}
 use Rattle.at_engine.specs.Telling.{IsToldFor, IsToldOf, Meets}
 use Rattle.at_engine.specs.declared.engine.Engine.{Engine}
@@ -272,12 +272,13 @@ grows_so entries old new v off k = by v off k.0 k.1
     by : (v : Verdict) → ((e : EditOf) (t : Tree) → v ≡ Edits e t → ⊥)
         → (HasOutcome (rules_of old) (state_of old) v
         → Keeps (rules_of old) (state_of old) v (kept_of entries old) (kept_of entries new) (work_of old) (work_of new))
-        → ((q : Instance Node) → v ≡ Asks q → GrowsOver entries v old new) → GrowsOver entries v old new
+        → ((q : Instance Node) → v ≡ Asks q
+        → GrowsOver entries v old new × KeepsMet (rules_of old) (state_of old) q (kept_of entries new)) → GrowsOver entries v old new
     by (Refuses refusal) off keeps grows = kept (Refuses refusal) off (keeps tt)
     by (Tells shown) off keeps grows = kept (Tells shown) off (keeps tt)
     by (Leaves marks) off keeps grows = kept (Leaves marks) off (keeps tt)
     by (Edits e t) off keeps grows = absurd (off e t refl)
-    by (Asks q) off keeps grows = grows q refl
+    by (Asks q) off keeps grows = (grows q refl).0
     by (Posts q) off keeps grows = kept (Posts q) off (keeps tt)
     by (Waits number) off keeps grows = kept (Waits number) off (keeps tt)
 

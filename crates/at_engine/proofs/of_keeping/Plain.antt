@@ -17,7 +17,7 @@ use Rattle.at_engine.specs.KeptOver.{HasOutcome, HaveOutcomes}
 pub worthy_plainly : (rules : Rules) → HasNoneCircular rules → (look : Contents ℕ) (i : Instance ℕ) (a : Answer ℕ) (entries : Entries)
     → HasWorthyFor rules look i a entries → HasWorthy rules look i entries
 worthy_plainly rules none look i (Outcomes o) entries h = h
-worthy_plainly rules none look i (Circle j) entries h = h none
+worthy_plainly rules none look i (Circle j) entries h = h.0 none
 
 pub outcome_plainly : (rules : Rules) → HasNoneCircular rules → (s : State) (v : Verdict) → HasOutcome rules s v
 outcome_plainly rules none s (Refuses refusal) = tt

@@ -1,13 +1,13 @@
 use Rattle.std.proofs.Common.{Ok}
 use Rattle.std.proofs.lemmas.Result.{err_from_is_err_and}
-use Rattle.at_demand.proofs.of_levels.ClosedLevels.{begins_closing, close_solvable, closed_plainly, closed_so, closes_less, closes_on, closing_failed, is_not_plain, risen_none, risen_some}
+use Rattle.at_demand.proofs.of_levels.ClosedLevels.{begins_closing, close_solvable, closed_plainly, closed_so, closes_less, closes_on, closing_failed, is_not_plain, is_plain_so, risen_alone, risen_none, risen_some}
 use Rattle.at_demand.proofs.demand.Demand.close.Goals as goal
 
 pub returns-then-is_plain : goal.returns-then-is_plain
 returns-then-is_plain g c =
     let m = c.args.self.now in
     closed_plainly c.args.rules.now c.args.store.now g.K.Keeper.exact (g.K.Keeper.contents m.keeper) (g.K.Keeper.memories m.keeper) m.work c.args.question.now
-    c.args.at c.requires m.few
+    c.args.at c.requires m.few (is_plain_so c.args.question.now c.is_plain.result c.is_plain.ensures c.if-is_plain.true)
 
 pub loop-at-init : goal.loop-at-init
 loop-at-init g c =
@@ -28,7 +28,8 @@ loop-at-preserved g c =
     closes_on c.args.rules.now c.args.store.now g.K.Keeper.exact (g.K.Keeper.contents c.args.self.now.keeper) (g.K.Keeper.contents l.self.keeper)
     (g.K.Keeper.contents c.solve_level.new.self.keeper) (g.K.Keeper.memories c.args.self.now.keeper) (g.K.Keeper.memories l.self.keeper)
     (g.K.Keeper.memories c.solve_level.new.self.keeper) c.args.self.now.work l.self.work c.solve_level.new.self.work c.args.question.now l.question
-    c.solve_level.new.question l.invariant (Ok c.in_ok-solve_level.field-0) c.in_ok-solve_level.ensures (λ u. u) c.rise.new.self i risen
+    c.solve_level.new.question l.invariant (Ok c.in_ok-solve_level.field-0) c.in_ok-solve_level.ensures
+    c.in_ok-solve_level.ensures.told (λ u. u) c.rise.new.self i risen
 
 pub loop-at-smaller : goal.loop-at-smaller
 loop-at-smaller g c =
@@ -45,7 +46,10 @@ returns-then-is_none g c =
     closed_so c.args.rules.now c.args.store.now g.K.Keeper.exact (g.K.Keeper.contents c.args.self.now.keeper) (g.K.Keeper.contents l.self.keeper)
     (g.K.Keeper.contents c.solve_level.new.self.keeper) (g.K.Keeper.memories c.args.self.now.keeper) (g.K.Keeper.memories l.self.keeper)
     (g.K.Keeper.memories c.solve_level.new.self.keeper) c.args.self.now.work l.self.work c.solve_level.new.self.work c.args.question.now l.question
-    c.solve_level.new.question l.invariant (Ok c.in_ok-solve_level.field-0) c.in_ok-solve_level.ensures (λ u. u) c.rise.new.self
+    c.solve_level.new.question l.invariant (Ok c.in_ok-solve_level.field-0) c.in_ok-solve_level.ensures
+    c.in_ok-solve_level.ensures.told (λ u. u)
+    (risen_alone c.solve_level.new.question c.rise.new.self c.rise.result c.is_none.result c.rise.ensures
+    c.is_none.ensures c.if-is_none.true) c.rise.new.self
     (risen_none c.solve_level.new.question c.rise.new.self c.rise.result c.is_none.result c.rise.ensures c.is_none.ensures c.if-is_none.true) c.args.at
     (is_not_plain c.args.question.now c.is_plain.result c.is_plain.ensures c.if-is_plain.false)
 

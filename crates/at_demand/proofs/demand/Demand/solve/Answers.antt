@@ -8,7 +8,7 @@ use Rattle.at_demand.specs.Known.{known_in}
 use Rattle.at_demand.specs.Levels.{known_to}
 use Rattle.at_demand.proofs.Grouped.{get_at}
 use Rattle.at_demand.proofs.of_groups.SolvedGroups.{ArePromised, all_solved, can_keep, kept_of, none_failed, none_solved, promised, solved_next, solving_failed}
-use Rattle.at_demand.proofs.of_levels.Starting.{all_spoilt, with_start}
+use Rattle.at_demand.proofs.of_levels.Starting.{all_spoilt, all_stopped, with_start}
 use Rattle.at_demand.proofs.of_groups.Telling.{tells_none}
 use Rattle.at_demand.proofs.demand.Demand.solve.Goals as goal
 
@@ -21,6 +21,9 @@ returns-in_default g c =
           tells_none c.args.rules.now c.args.store.now g.K.Keeper.exact entries (g.K.Keeper.memories c.args.self.now.keeper) c.args.self.now.work q
           (keys_of c.args.seen.now.entries) _ c.args.self.now.few c.requires.facts.values c.requires.took c.requires.answerable.plain;
       same = refl;
+      each = all_stopped c.args.rules.now c.args.store.now entries q (keys_of c.args.seen.now.entries) c.requires
+          (sym (c.in_default.ensures ∙ ap (start_in c.args.rules.now)
+          (c.as_slice-insts.ensures ∙ c.keys.ensures.rest)));
       rest = λ closed i a. all_spoilt c.args.rules.now c.args.store.now entries q (keys_of c.args.seen.now.entries) c.requires
           (sym (c.in_default.ensures ∙ ap (start_in c.args.rules.now) (c.as_slice-insts.ensures ∙ c.keys.ensures.rest))) i a;
     }
@@ -53,7 +56,7 @@ keep_group-requires g c =
     rw (c.knowing.ensures.keeper, c.knowing.ensures.found) refl in
     let p = promised rules s before q insts (with_start c.args.rules.now c.args.store.now (g.K.Keeper.contents c.args.self.now.keeper) c.args.question.now (keys_of c.args.seen.now.entries) c.requires c.in-Some.start
     (sym (c.in-Some.ensures ∙ ap (start_in c.args.rules.now) (c.as_slice-insts.ensures ∙ c.keys.ensures.rest)))) c.in-Some.start (sym (c.in-Some.ensures ∙ ap (start_in rules) listed)) _ known c.in_ok-groups.groups.items e.groups
-    e.told e.order e.rest in
+    e.told e.order e.rest e.each in
     subst (λ (is : List (Instance ℕ)). CanKeepGroup rules s (g.K.Keeper.contents now.keeper) c.loop-group.question is c.as_slice.result.now) (sym listed)
     (subst (λ (ms : List Solved). CanKeepGroup rules s (g.K.Keeper.contents now.keeper) c.loop-group.question insts ms) (sym c.as_slice.ensures.value)
     (can_keep rules s g.K.Keeper.exact before (g.K.Keeper.memories c.args.self.now.keeper) c.args.self.now.work q insts lists (with_start c.args.rules.now c.args.store.now (g.K.Keeper.contents c.args.self.now.keeper) c.args.question.now (keys_of c.args.seen.now.entries) c.requires c.in-Some.start
@@ -117,7 +120,7 @@ returns g c =
     rw (c.knowing.ensures.keeper, c.knowing.ensures.found) refl in
     let p = promised rules s before q insts (with_start c.args.rules.now c.args.store.now (g.K.Keeper.contents c.args.self.now.keeper) c.args.question.now (keys_of c.args.seen.now.entries) c.requires c.in-Some.start
     (sym (c.in-Some.ensures ∙ ap (start_in c.args.rules.now) (c.as_slice-insts.ensures ∙ c.keys.ensures.rest)))) c.in-Some.start (sym (c.in-Some.ensures ∙ ap (start_in rules) listed)) _ known c.in_ok-groups.groups.items e.groups
-    e.told e.order e.rest in
+    e.told e.order e.rest e.each in
     all_solved rules s g.K.Keeper.exact before (g.K.Keeper.memories c.args.self.now.keeper) c.args.self.now.work q insts lists (with_start c.args.rules.now c.args.store.now (g.K.Keeper.contents c.args.self.now.keeper) c.args.question.now (keys_of c.args.seen.now.entries) c.requires c.in-Some.start
     (sym (c.in-Some.ensures ∙ ap (start_in c.args.rules.now) (c.as_slice-insts.ensures ∙ c.keys.ensures.rest)))) c.loop-group.group-index
     (g.K.Keeper.contents now.keeper) (g.K.Keeper.memories now.keeper) now.work c.loop-group.question c.loop-group.invariant tt c.loop-group-test.false

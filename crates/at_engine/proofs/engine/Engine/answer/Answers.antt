@@ -6,7 +6,7 @@ use Rattle.at_demand.specs.Known.{answer_view}
 use Rattle.at_demand.proofs.of_keeping.CalledLemmas.{keeps_asked}
 use Rattle.at_demand.proofs.of_levels.Resolving.{keeps_groups}
 use Rattle.at_engine.specs.Engines.{marks_of, rules_of, state_of}
-use Rattle.at_engine.proofs.of_keeping.Gained.{grows_asked}
+use Rattle.at_engine.proofs.of_keeping.Gained.{asked_met, grows_asked, met_asked}
 use Rattle.at_engine.proofs.of_keeping.KeepingLemmas.{either_spares, err_spares}
 use Rattle.at_engine.proofs.of_keeping.KeptTyped.{basis_held, sound_typed, typed_more}
 use Rattle.at_engine.proofs.FollowingLemmas.{asks}
@@ -40,7 +40,11 @@ returns g c q like =
                 (worthy_outcome (rules_of e) (state_of e).tree q (contents e.store) c.args.inst.now after view b alike answers
                 (told.all exact spare.kept) has)
                 (told.counts exact) (state_of e) refl,
-            λ p is. grows,
+            λ p is. (
+              grows,
+              asked_met (rules_of e) (state_of e) q p is _
+                  (met_asked (rules_of e) e.store held.idle c.args.inst.now q like after view (told.all exact spare.kept) (state_of e) refl),
+            ),
           ) grows;
       stays = record {
         rules = refl;
