@@ -219,7 +219,7 @@ pub none_fit : (rules : Rules) (s : Shown) (entries : Entries) (q : Question) (t
 none_fit rules s entries q t none gone noted = record {
   chain = subst (λ o. FitAt rules s entries q t.frames.items o) (sym gone)
       (no_trials rules (class_shown s) (contents s) entries q.found.entries q.waiting.entries (root_in q.level q.inst)
-          t.frames.items none);
+      t.frames.items none);
   noted = noted;
 }
 
@@ -230,9 +230,11 @@ module _ (rules : Rules) (s : Shown) (entries : Entries) (q : Question) (old new
   taken_fit t j taken =
       let there : FitAt rules s entries q (new.frames.items ++ t ∷ []) (Some j) =
       subst (λ fs. FitAt rules s entries q fs (Some j)) taken.frames (subst (λ o. FitAt rules s entries q
-          old.frames.items o) taken.awaited fit.chain) in
-      let parts = pop_trial rules (class_shown s) (contents s) entries q.found.entries q.waiting.entries (q.inst,
-          q.level) j new.frames.items t there in (
+      old.frames.items o) taken.awaited fit.chain) in
+      let parts = pop_trial rules (class_shown s) (contents s) entries q.found.entries q.waiting.entries (
+        q.inst,
+        q.level,
+      ) j new.frames.items t there in (
         parts.1,
         record {
           chain = subst (λ o. FitAt rules s entries q new.frames.items o) (sym taken.none) parts.0;

@@ -111,8 +111,11 @@ module _ (rules : Rules) (s : Shown) (exact : Bool) (before mid after : Entries)
   along_next h = record {
     gains = gained new h.gains;
     follows = λ first l stay st k. told_then None (λ d a keep there kept. h.follows d a keep there kept) first l stay st k;
-    fit = record { chain = subst (λ a. FitAt rules s after new u.frames.items a) (sym none) trials; noted = (let can =
-        c.can in let fit = can.fit in fit.noted) };
+    fit = record {
+      chain = subst (λ a. FitAt rules s after new u.frames.items a) (sym none) trials;
+      noted = (let can =
+          c.can in let fit = can.fit in fit.noted);
+    };
     leaves = leaves_with rules s exact before after f n w y old new (Ok None) (gained new h.gains) c.off (stays_then old q new c.stays h.stays)
         (λ k x. h.followed (spared k x)) c.sound (λ k spare x. tt);
   }
@@ -128,7 +131,7 @@ module _ (rules : Rules) (s : Shown) (exact : Bool) (before mid after : Entries)
           (subst (λ r. AreTrials rules (class_shown s) (contents s) after new.found.entries q.waiting.entries r u.frames.items) (sym h.root)
           (more_trials rules (class_shown s) (contents s) mid after gains.stays q.found.entries new.found.entries gains.finds q.waiting.entries
           (root_in q.level q.inst) u.frames.items (subst (λ a. FitAt rules s mid q u.frames.items a) none (let fit =
-              can.fit in fit.chain))))
+          can.fit in fit.chain))))
 
   -- to its end
   pub along_over : HasSearched {E = AllocError} rules s exact mid after m n x y q new (Ok searched.Over) →
@@ -161,12 +164,12 @@ module _ (rules : Rules) (s : Shown) (exact : Bool) (before mid after : Entries)
               record {
                 chain = subst (λ a. FitAt rules s after new u.frames.items a) (sym was.none)
                     (subst (λ ws. AreTrials rules (class_shown s) (contents s) after new.found.entries ws (root_in
-                        new.level new.inst) u.frames.items)
+                    new.level new.inst) u.frames.items)
                     (sym h.waiting)
                     (subst (λ r. AreTrials rules (class_shown s) (contents s) after new.found.entries
-                        q.waiting.entries r u.frames.items) (sym h.root)
+                    q.waiting.entries r u.frames.items) (sym h.root)
                     (more_trials rules (class_shown s) (contents s) mid after gains.stays q.found.entries
-                        new.found.entries gains.finds
+                    new.found.entries gains.finds
                     q.waiting.entries (root_in q.level q.inst) u.frames.items
                     (subst (λ a. FitAt rules s mid q u.frames.items a) was.none fitted.chain))));
                 noted = fitted.noted;

@@ -190,7 +190,7 @@ module _ (rules : Rules) (s : Shown) (exact : Bool) (before last : Entries) (f n
         (subst (λ ws. AreTrials rules (class_shown s) (contents s) last q.found.entries ws j (t.frames.items ++ waits ∷ [])) (sym waits_now)
         (push_trial rules (class_shown s) (contents s) last q.found.entries q.waiting.entries (with_level q.level q.inst) j t.frames.items waits
         (let turns = c.turns in let fit = turns.fit in subst (λ o. FitAt rules s last q t.frames.items o) c.none
-            fit.chain) going)))))
+        fit.chain) going)))))
 
     fit_on : (u : Trials) → u.frames.items ≡ t.frames.items ++ waits ∷ [] → u.awaited ≡ t.awaited → u.noted.entries ≡
         t.noted.entries → Fit rules s last new u

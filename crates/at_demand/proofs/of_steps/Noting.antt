@@ -54,7 +54,7 @@ inserted (p ∷ ps) k i v f e = by (same_instance k p.0) refl e (inserted ps k i
     further : (b : Bool) → (if b then Some p.1 else lookup (same_instance i) (insert_entry same_instance ps k v)) ≡
         Some f →
         (lookup (same_instance i) (insert_entry same_instance ps k v) ≡ Some f → (lookup (same_instance i) ps ≡ Some
-            f) ⊎ ((i ≡ k) × (v ≡ f))) →
+        f) ⊎ ((i ≡ k) × (v ≡ f))) →
         ((if b then Some p.1 else lookup (same_instance i) ps) ≡ Some f) ⊎ ((i ≡ k) × (v ≡ f))
     further true e more = inl e
     further false e more = more e
@@ -62,10 +62,12 @@ inserted (p ∷ ps) k i v f e = by (same_instance k p.0) refl e (inserted ps k i
     by : (b : Bool) → same_instance k p.0 ≡ b →
         lookup (same_instance i) (if b then (p.0, v) ∷ ps else p ∷ insert_entry same_instance ps k v) ≡ Some f →
         (lookup (same_instance i) (insert_entry same_instance ps k v) ≡ Some f → (lookup (same_instance i) ps ≡ Some
-            f) ⊎ ((i ≡ k) × (v ≡ f))) →
+        f) ⊎ ((i ≡ k) × (v ≡ f))) →
         (lookup (same_instance i) (p ∷ ps) ≡ Some f) ⊎ ((i ≡ k) × (v ≡ f))
-    by true s e more = elim (first_case p ps i v f e) [ inl (same, is) ↦ inr (same ∙ sym (same_true k p.0 s), is) |
-        inr was ↦ inl was ]
+    by true s e more = elim (first_case p ps i v f e) [
+      | inl (same, is) ↦ inr (same ∙ sym (same_true k p.0 s), is)
+      | inr was ↦ inl was
+    ]
     by false s e more = further (same_instance i p.0) e more
 
 module _ (rules : Rules) (look : Contents ℕ) where
@@ -97,9 +99,9 @@ told_ended q i key e = subst (λ es. Among i (keys_of es)) e key
 pub noted_after : (rules : Rules) (s : Shown) (exact : Bool) (before after : Entries) (former latter : Memories)
     (earlier later : ℕ) (old new : Question)
     (i : Instance ℕ) (r : Result Resolved AllocError) → HasResolved {E = AllocError} rules s exact before after former
-        latter earlier later old new i r →
+    latter earlier later old new i r →
     (t u : Trials) → IsNotedRight rules (contents s) t.noted.entries → NotesTold r i t u → IsNotedRight rules
-        (contents s) u.noted.entries
+    (contents s) u.noted.entries
 noted_after rules s exact before after former latter earlier later old new i r h t u right n = elim n.noted [
   | inl same ↦ subst (λ ps. IsNotedRight rules (contents s) ps) (sym same) right
   | inr (f, is, noted) ↦ noted_more rules (contents s) t.noted.entries u.noted.entries i f right (by f is) noted
@@ -110,7 +112,7 @@ noted_after rules s exact before after former latter earlier later old new i r h
     by f is =
         let told : IsResolved rules (contents s) before after old new i (resolved.Spoilt f) =
         subst (λ (z : Result Resolved AllocError). IfOk z (IsResolved rules (contents s) before after old new i)) is
-            h.is in told.0
+        h.is in told.0
 
 -- what is noted is that fault
 pub noted_one : (noted : Noted) (i : Instance ℕ) (g : Fault) → Some g ≡ lookup (same_instance i) noted → (r : Result

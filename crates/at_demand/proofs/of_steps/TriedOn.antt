@@ -233,11 +233,11 @@ module _ (rules : Rules) (s : Shown) (exact : Bool) (before mid : Entries) (f m 
     fit_now = let turns = c.turns in let fit = turns.fit in record {
       chain = subst (λ o. FitAt rules s last new t.frames.items o) (sym c.none)
           (subst (λ ws. AreTrials rules (class_shown s) (contents s) last new.found.entries ws (root_in new.level
-              new.inst) t.frames.items) (sym tells.chain.waiting)
+          new.inst) t.frames.items) (sym tells.chain.waiting)
           (subst (λ r. AreTrials rules (class_shown s) (contents s) last new.found.entries q.waiting.entries r
-              t.frames.items) (sym root)
+          t.frames.items) (sym root)
           (more_trials rules (class_shown s) (contents s) mid last tells.stays q.found.entries new.found.entries
-              tells.finds q.waiting.entries
+          tells.finds q.waiting.entries
           (root_in q.level q.inst) t.frames.items
           (subst (λ o. FitAt rules s mid q t.frames.items o) c.none fit.chain))));
       noted = fit.noted;

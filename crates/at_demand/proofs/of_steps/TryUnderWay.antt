@@ -53,7 +53,7 @@ pub record IsTrying (rules : Rules) (s : Shown) (exact : Bool) (before after : E
 pub trying_with : (rules : Rules) (s : Shown) (exact : Bool) (before after : Entries) (former latter : Memories)
     (earlier later : ℕ)
     (old new : Question) (t u : Trials) (g : Going) → IsTrying rules s exact before after former latter earlier later
-        old new t g →
+    old new t g →
     u.frames.items ≡ t.frames.items → u.awaited ≡ t.awaited → IsNotedRight rules (contents s) u.noted.entries →
     IsTrying rules s exact before after former latter earlier later old new u g
 trying_with rules s exact before after former latter earlier later old new t u g c frames awaited noted =

@@ -291,9 +291,9 @@ module _ (rules : Rules) (s : Shown) (exact : Bool) (before mid last : Entries) 
             chain = fit_risen rules s mid last q new (value_view d.value) valued_kept keeps_kept r.waits r.ended
                 r.turns h.right
                 (gained rules s exact before mid last f m l w x y old q t g c turn traced (tried.Kept v) h d has none)
-                    finds_kept known_kept_so only_kept
+                finds_kept known_kept_so only_kept
                 more_kept t.frames.items (fit_at rules s exact before mid last f m l w x y old q t g c turn traced
-                    (tried.Kept v) h d has none);
+                (tried.Kept v) h d has none);
             noted = noted_at rules s exact before mid last f m l w x y old q t g c turn traced (tried.Kept v) h d has
                 none;
           }))
@@ -400,9 +400,9 @@ module _ (rules : Rules) (s : Shown) (exact : Bool) (before mid last : Entries) 
             chain = fit_risen rules s mid last q new (value_view d.value) valued_found keeps_found r.waits r.ended
                 r.turns h.right
                 (gained rules s exact before mid last f m l w x y old q t g c turn traced (tried.Found d) h d has
-                    none) finds_more known_now only_found
+                none) finds_more known_now only_found
                 more_found t.frames.items (fit_at rules s exact before mid last f m l w x y old q t g c turn traced
-                    (tried.Found d) h d has none);
+                (tried.Found d) h d has none);
             noted = noted_at rules s exact before mid last f m l w x y old q t g c turn traced (tried.Found d) h d has
                 none;
           }))

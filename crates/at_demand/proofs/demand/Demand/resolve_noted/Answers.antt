@@ -14,7 +14,7 @@ returns-in_err-before-clause-resolved g c =
     let m = c.args.self.now in
     let is = (err_from_is_err_and c.from_residual.result c.from_residual.ensures.1).1 in
     nothing_resolved c.args.rules.now c.args.store.now g.K.Keeper.exact (g.K.Keeper.contents m.keeper)
-        (g.K.Keeper.memories m.keeper) m.work
+    (g.K.Keeper.memories m.keeper) m.work
     c.args.question.now c.requires.can m.few c.args.inst.now _ (rw is tt) (rw is tt)
 
 pub returns-in-Some-clause-resolved : goal.returns-in-Some-clause-resolved
@@ -22,20 +22,22 @@ returns-in-Some-clause-resolved g c =
     let m = c.args.self.now in
     let told : WasTold c.args.question.now c.args.trials.now c.args.inst.now c.in-Some.fault =
     subst (λ (o : Option Fault). IfSome o (WasTold c.args.question.now c.args.trials.now c.args.inst.now))
-        c.in-Some.is c.in_ok-before.ensures in
+    c.in-Some.is c.in_ok-before.ensures in
     nothing_resolved c.args.rules.now c.args.store.now g.K.Keeper.exact (g.K.Keeper.contents m.keeper)
-        (g.K.Keeper.memories m.keeper) m.work
-    c.args.question.now c.requires.can m.few c.args.inst.now (Ok (resolved.Spoilt c.in-Some.fault))
-    (noted_holds c.args.rules.now (contents c.args.store.now) c.args.trials.now.noted.entries c.args.inst.now
-        c.in-Some.fault c.requires.noted told.0, told.1)
+    (g.K.Keeper.memories m.keeper) m.work
+    c.args.question.now c.requires.can m.few c.args.inst.now (Ok (resolved.Spoilt c.in-Some.fault)) (
+      noted_holds c.args.rules.now (contents c.args.store.now) c.args.trials.now.noted.entries c.args.inst.now
+          c.in-Some.fault c.requires.noted told.0,
+      told.1,
+    )
     (told_ended c.args.question.now c.args.inst.now told.1)
 
 pub returns-clause-noted : goal.returns-clause-noted
 returns-clause-noted g c =
     noted_after c.args.rules.now c.args.store.now g.K.Keeper.exact _ _ _ _ _ _ c.args.question.now
-        c.resolve-told.new.question c.args.inst.now
+    c.resolve-told.new.question c.args.inst.now
     c.resolve-told.result c.resolve-told.ensures c.args.trials.now c.note_told.new.trials c.requires.noted
-        c.note_told.ensures
+    c.note_told.ensures
 
 pub returns-clause-resolved : goal.returns-clause-resolved
 returns-clause-resolved g c = c.resolve-told.ensures

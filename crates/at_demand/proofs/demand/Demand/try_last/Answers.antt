@@ -25,7 +25,7 @@ carry_on-requires g c =
     let l = c.loop-value in
     can_carry c.args.rules.now c.args.store.now g.K.Keeper.exact (g.K.Keeper.contents c.args.self.now.keeper) (g.K.Keeper.contents l.self.keeper)
     (g.K.Keeper.memories c.args.self.now.keeper) (g.K.Keeper.memories l.self.keeper) c.args.self.now.work l.self.work
-        c.args.question.now l.question
+    c.args.question.now l.question
     l.trials l.going l.invariant
 
 pub returns-in_err-value : goal.returns-in_err-value
@@ -72,7 +72,7 @@ form-requires-clause-can g c =
     let l = c.loop-value in
     can_form_last c.args.rules.now c.args.store.now g.K.Keeper.exact (g.K.Keeper.contents c.args.self.now.keeper) (g.K.Keeper.contents l.self.keeper)
     (g.K.Keeper.memories c.args.self.now.keeper) (g.K.Keeper.memories l.self.keeper) c.args.self.now.work l.self.work
-        c.args.question.now l.question
+    c.args.question.now l.question
     l.trials l.going l.invariant (g.K.Keeper.contents c.carry_on.new.self.keeper) (g.K.Keeper.memories c.carry_on.new.self.keeper) c.carry_on.new.self.work
     c.carry_on.ensures.traces c.requires.turns.turns c.in-Forms.formed
     (subst (λ (z : Tried). HasCarriedOn {E = AllocError} c.args.rules.now c.args.store.now g.K.Keeper.exact (g.K.Keeper.contents l.self.keeper)
@@ -112,7 +112,7 @@ spoil-requires g c =
     let l = c.loop-value in
     can_fail_last c.args.rules.now c.args.store.now g.K.Keeper.exact (g.K.Keeper.contents c.args.self.now.keeper) (g.K.Keeper.contents l.self.keeper)
     (g.K.Keeper.memories c.args.self.now.keeper) (g.K.Keeper.memories l.self.keeper) c.args.self.now.work l.self.work
-        c.args.question.now l.question
+    c.args.question.now l.question
     l.trials l.going l.invariant (g.K.Keeper.contents c.carry_on.new.self.keeper) (g.K.Keeper.memories c.carry_on.new.self.keeper) c.carry_on.new.self.work
     c.carry_on.ensures.traces c.requires.turns.turns c.in-Fails.kind
     (subst (λ (z : Tried). HasCarriedOn {E = AllocError} c.args.rules.now c.args.store.now g.K.Keeper.exact (g.K.Keeper.contents l.self.keeper)
@@ -139,7 +139,7 @@ resolve_noted-requires-clause-can g c =
     let l = c.loop-value in
     can_resolve c.args.rules.now c.args.store.now g.K.Keeper.exact (g.K.Keeper.contents c.args.self.now.keeper) (g.K.Keeper.contents l.self.keeper)
     (g.K.Keeper.memories c.args.self.now.keeper) (g.K.Keeper.memories l.self.keeper) c.args.self.now.work l.self.work
-        c.args.question.now l.question
+    c.args.question.now l.question
     l.trials l.going l.invariant (g.K.Keeper.contents c.carry_on.new.self.keeper) (g.K.Keeper.memories c.carry_on.new.self.keeper) c.carry_on.new.self.work
     c.carry_on.ensures.traces c.requires.turns.turns c.in-Waits.trying c.in-Waits.needed
     (subst (λ (z : Tried). HasCarriedOn {E = AllocError} c.args.rules.now c.args.store.now g.K.Keeper.exact (g.K.Keeper.contents l.self.keeper)
@@ -153,7 +153,7 @@ pub returns-in_err-resolve_noted-in-Waits : goal.returns-in_err-resolve_noted-in
 returns-in_err-resolve_noted-in-Waits g c =
     let l = c.loop-value in
     let is = (err_from_is_err_and c.from_residual-in_err-resolve_noted-in-Waits.result
-        c.from_residual-in_err-resolve_noted-in-Waits.ensures.1).1 in
+    c.from_residual-in_err-resolve_noted-in-Waits.ensures.1).1 in
     record {
       turned = resolve_fails c.args.rules.now c.args.store.now g.K.Keeper.exact (g.K.Keeper.contents c.args.self.now.keeper) (g.K.Keeper.contents l.self.keeper)
           (g.K.Keeper.memories c.args.self.now.keeper) (g.K.Keeper.memories l.self.keeper) c.args.self.now.work l.self.work c.args.question.now l.question
@@ -163,8 +163,8 @@ returns-in_err-resolve_noted-in-Waits g c =
           (g.K.Keeper.contents c.carry_on.new.self.keeper) l.self.work c.carry_on.new.self.work l.question.found.entries l.question.inst (Ok z)) c.in-Waits.is
           c.in_ok-value.ensures.tried)
           (g.K.Keeper.contents c.resolve_noted.new.self.keeper) (g.K.Keeper.memories c.resolve_noted.new.self.keeper)
-              c.resolve_noted.new.self.work c.resolve_noted.new.question c.resolve_noted.result
-              c.resolve_noted.ensures.resolved c.resolve_noted.new.trials _ _ is;
+          c.resolve_noted.new.self.work c.resolve_noted.new.question c.resolve_noted.result
+          c.resolve_noted.ensures.resolved c.resolve_noted.new.trials _ _ is;
       traces = (puts_then (g.K.Keeper.memories c.args.self.now.keeper) (g.K.Keeper.memories
           c.carry_on.new.self.keeper) (g.K.Keeper.memories c.resolve_noted.new.self.keeper) (puts_then
           (g.K.Keeper.memories c.args.self.now.keeper) (g.K.Keeper.memories l.self.keeper) (g.K.Keeper.memories
@@ -176,117 +176,117 @@ pub loop-value-preserved : goal.loop-value-preserved
 loop-value-preserved g c =
     let l = c.loop-value in
     let w = trying_with c.args.rules.now c.args.store.now g.K.Keeper.exact (g.K.Keeper.contents
-        c.args.self.now.keeper) (g.K.Keeper.contents l.self.keeper)
+    c.args.self.now.keeper) (g.K.Keeper.contents l.self.keeper)
     (g.K.Keeper.memories c.args.self.now.keeper) (g.K.Keeper.memories l.self.keeper) c.args.self.now.work l.self.work
-        c.args.question.now l.question
+    c.args.question.now l.question
     l.trials c.resolve_noted.new.trials l.going l.invariant c.resolve_noted.ensures.frames
-        c.resolve_noted.ensures.awaited
+    c.resolve_noted.ensures.awaited
     c.resolve_noted.ensures.noted in
     subst (λ (z : Going). IsTrying c.args.rules.now c.args.store.now g.K.Keeper.exact (g.K.Keeper.contents c.args.self.now.keeper)
     (g.K.Keeper.contents c.resolve_noted.new.self.keeper) (g.K.Keeper.memories c.args.self.now.keeper)
-        (g.K.Keeper.memories c.resolve_noted.new.self.keeper)
+    (g.K.Keeper.memories c.resolve_noted.new.self.keeper)
     c.args.self.now.work c.resolve_noted.new.self.work c.args.question.now c.resolve_noted.new.question
-        c.resolve_noted.new.trials z) (sym c.going-going.ensures)
+    c.resolve_noted.new.trials z) (sym c.going-going.ensures)
     (known_goes c.args.rules.now c.args.store.now g.K.Keeper.exact (g.K.Keeper.contents c.args.self.now.keeper) (g.K.Keeper.contents l.self.keeper)
     (g.K.Keeper.memories c.args.self.now.keeper) (g.K.Keeper.memories l.self.keeper) c.args.self.now.work l.self.work
-        c.args.question.now l.question
+    c.args.question.now l.question
     c.resolve_noted.new.trials l.going w (g.K.Keeper.contents c.carry_on.new.self.keeper) (g.K.Keeper.memories
-        c.carry_on.new.self.keeper) c.carry_on.new.self.work
+    c.carry_on.new.self.keeper) c.carry_on.new.self.work
     c.carry_on.ensures.traces c.requires.turns.turns c.in-Waits.trying c.in-Waits.needed
     (subst (λ (z : Tried). HasCarriedOn {E = AllocError} c.args.rules.now c.args.store.now g.K.Keeper.exact (g.K.Keeper.contents l.self.keeper)
     (g.K.Keeper.contents c.carry_on.new.self.keeper) l.self.work c.carry_on.new.self.work l.question.found.entries l.question.inst (Ok z)) c.in-Waits.is
     c.in_ok-value.ensures.tried)
     (g.K.Keeper.contents c.resolve_noted.new.self.keeper) (g.K.Keeper.memories c.resolve_noted.new.self.keeper)
-        c.resolve_noted.new.self.work c.resolve_noted.new.question (subst (λ (z : Resolved). HasResolved {E =
-        AllocError} c.args.rules.now c.args.store.now g.K.Keeper.exact
+    c.resolve_noted.new.self.work c.resolve_noted.new.question (subst (λ (z : Resolved). HasResolved {E =
+    AllocError} c.args.rules.now c.args.store.now g.K.Keeper.exact
     (g.K.Keeper.contents c.carry_on.new.self.keeper) (g.K.Keeper.contents c.resolve_noted.new.self.keeper)
-        (g.K.Keeper.memories c.carry_on.new.self.keeper)
+    (g.K.Keeper.memories c.carry_on.new.self.keeper)
     (g.K.Keeper.memories c.resolve_noted.new.self.keeper) c.carry_on.new.self.work c.resolve_noted.new.self.work
-        l.question c.resolve_noted.new.question c.in-Waits.needed (Ok z))
+    l.question c.resolve_noted.new.question c.in-Waits.needed (Ok z))
     c.in-Known.is c.in_ok-resolve_noted-in-Waits.ensures.resolved))
 
 pub loop-value-smaller : goal.loop-value-smaller
 loop-value-smaller g c =
     let l = c.loop-value in
     let w = trying_with c.args.rules.now c.args.store.now g.K.Keeper.exact (g.K.Keeper.contents
-        c.args.self.now.keeper) (g.K.Keeper.contents l.self.keeper)
+    c.args.self.now.keeper) (g.K.Keeper.contents l.self.keeper)
     (g.K.Keeper.memories c.args.self.now.keeper) (g.K.Keeper.memories l.self.keeper) c.args.self.now.work l.self.work
-        c.args.question.now l.question
+    c.args.question.now l.question
     l.trials c.resolve_noted.new.trials l.going l.invariant c.resolve_noted.ensures.frames
-        c.resolve_noted.ensures.awaited
+    c.resolve_noted.ensures.awaited
     c.resolve_noted.ensures.noted in
     known_fewer c.args.rules.now c.args.store.now g.K.Keeper.exact (g.K.Keeper.contents c.args.self.now.keeper) (g.K.Keeper.contents l.self.keeper)
     (g.K.Keeper.memories c.args.self.now.keeper) (g.K.Keeper.memories l.self.keeper) c.args.self.now.work l.self.work
-        c.args.question.now l.question
+    c.args.question.now l.question
     c.resolve_noted.new.trials l.going w (g.K.Keeper.contents c.carry_on.new.self.keeper) (g.K.Keeper.memories
-        c.carry_on.new.self.keeper) c.carry_on.new.self.work
+    c.carry_on.new.self.keeper) c.carry_on.new.self.work
     c.carry_on.ensures.traces c.requires.turns.turns c.in-Waits.trying c.in-Waits.needed
     (subst (λ (z : Tried). HasCarriedOn {E = AllocError} c.args.rules.now c.args.store.now g.K.Keeper.exact (g.K.Keeper.contents l.self.keeper)
     (g.K.Keeper.contents c.carry_on.new.self.keeper) l.self.work c.carry_on.new.self.work l.question.found.entries l.question.inst (Ok z)) c.in-Waits.is
     c.in_ok-value.ensures.tried)
     (g.K.Keeper.contents c.resolve_noted.new.self.keeper) (g.K.Keeper.memories c.resolve_noted.new.self.keeper)
-        c.resolve_noted.new.self.work c.resolve_noted.new.question (subst (λ (z : Resolved). HasResolved {E =
-        AllocError} c.args.rules.now c.args.store.now g.K.Keeper.exact
+    c.resolve_noted.new.self.work c.resolve_noted.new.question (subst (λ (z : Resolved). HasResolved {E =
+    AllocError} c.args.rules.now c.args.store.now g.K.Keeper.exact
     (g.K.Keeper.contents c.carry_on.new.self.keeper) (g.K.Keeper.contents c.resolve_noted.new.self.keeper)
-        (g.K.Keeper.memories c.carry_on.new.self.keeper)
+    (g.K.Keeper.memories c.carry_on.new.self.keeper)
     (g.K.Keeper.memories c.resolve_noted.new.self.keeper) c.carry_on.new.self.work c.resolve_noted.new.self.work
-        l.question c.resolve_noted.new.question c.in-Waits.needed (Ok z))
+    l.question c.resolve_noted.new.question c.in-Waits.needed (Ok z))
     c.in-Known.is c.in_ok-resolve_noted-in-Waits.ensures.resolved)
 
 pub spoil-requires-in-Spoilt : goal.spoil-requires-in-Spoilt
 spoil-requires-in-Spoilt g c =
     let l = c.loop-value in
     let w = trying_with c.args.rules.now c.args.store.now g.K.Keeper.exact (g.K.Keeper.contents
-        c.args.self.now.keeper) (g.K.Keeper.contents l.self.keeper)
+    c.args.self.now.keeper) (g.K.Keeper.contents l.self.keeper)
     (g.K.Keeper.memories c.args.self.now.keeper) (g.K.Keeper.memories l.self.keeper) c.args.self.now.work l.self.work
-        c.args.question.now l.question
+    c.args.question.now l.question
     l.trials c.resolve_noted.new.trials l.going l.invariant c.resolve_noted.ensures.frames
-        c.resolve_noted.ensures.awaited
+    c.resolve_noted.ensures.awaited
     c.resolve_noted.ensures.noted in
     can_spoil_last c.args.rules.now c.args.store.now g.K.Keeper.exact (g.K.Keeper.contents c.args.self.now.keeper) (g.K.Keeper.contents l.self.keeper)
     (g.K.Keeper.memories c.args.self.now.keeper) (g.K.Keeper.memories l.self.keeper) c.args.self.now.work l.self.work
-        c.args.question.now l.question
+    c.args.question.now l.question
     c.resolve_noted.new.trials l.going w (g.K.Keeper.contents c.carry_on.new.self.keeper) (g.K.Keeper.memories
-        c.carry_on.new.self.keeper) c.carry_on.new.self.work
+    c.carry_on.new.self.keeper) c.carry_on.new.self.work
     c.carry_on.ensures.traces c.requires.turns.turns c.in-Waits.trying c.in-Waits.needed
     (subst (λ (z : Tried). HasCarriedOn {E = AllocError} c.args.rules.now c.args.store.now g.K.Keeper.exact (g.K.Keeper.contents l.self.keeper)
     (g.K.Keeper.contents c.carry_on.new.self.keeper) l.self.work c.carry_on.new.self.work l.question.found.entries l.question.inst (Ok z)) c.in-Waits.is
     c.in_ok-value.ensures.tried)
     (g.K.Keeper.contents c.resolve_noted.new.self.keeper) (g.K.Keeper.memories c.resolve_noted.new.self.keeper)
-        c.resolve_noted.new.self.work c.resolve_noted.new.question c.in-Spoilt.fault (subst (λ (z : Resolved).
-        HasResolved {E = AllocError} c.args.rules.now c.args.store.now g.K.Keeper.exact
+    c.resolve_noted.new.self.work c.resolve_noted.new.question c.in-Spoilt.fault (subst (λ (z : Resolved).
+    HasResolved {E = AllocError} c.args.rules.now c.args.store.now g.K.Keeper.exact
     (g.K.Keeper.contents c.carry_on.new.self.keeper) (g.K.Keeper.contents c.resolve_noted.new.self.keeper)
-        (g.K.Keeper.memories c.carry_on.new.self.keeper)
+    (g.K.Keeper.memories c.carry_on.new.self.keeper)
     (g.K.Keeper.memories c.resolve_noted.new.self.keeper) c.carry_on.new.self.work c.resolve_noted.new.self.work
-        l.question c.resolve_noted.new.question c.in-Waits.needed (Ok z))
+    l.question c.resolve_noted.new.question c.in-Waits.needed (Ok z))
     c.in-Spoilt.is c.in_ok-resolve_noted-in-Waits.ensures.resolved)
 
 pub returns-in-Spoilt : goal.returns-in-Spoilt
 returns-in-Spoilt g c =
     let l = c.loop-value in
     let w = trying_with c.args.rules.now c.args.store.now g.K.Keeper.exact (g.K.Keeper.contents
-        c.args.self.now.keeper) (g.K.Keeper.contents l.self.keeper)
+    c.args.self.now.keeper) (g.K.Keeper.contents l.self.keeper)
     (g.K.Keeper.memories c.args.self.now.keeper) (g.K.Keeper.memories l.self.keeper) c.args.self.now.work l.self.work
-        c.args.question.now l.question
+    c.args.question.now l.question
     l.trials c.resolve_noted.new.trials l.going l.invariant c.resolve_noted.ensures.frames
-        c.resolve_noted.ensures.awaited
+    c.resolve_noted.ensures.awaited
     c.resolve_noted.ensures.noted in
     record {
       turned = spoilt_last c.args.rules.now c.args.store.now g.K.Keeper.exact (g.K.Keeper.contents c.args.self.now.keeper) (g.K.Keeper.contents l.self.keeper)
           (g.K.Keeper.memories c.args.self.now.keeper) (g.K.Keeper.memories l.self.keeper) c.args.self.now.work l.self.work c.args.question.now l.question
           c.resolve_noted.new.trials l.going w (g.K.Keeper.contents c.carry_on.new.self.keeper) (g.K.Keeper.memories
-              c.carry_on.new.self.keeper) c.carry_on.new.self.work
+          c.carry_on.new.self.keeper) c.carry_on.new.self.work
           c.carry_on.ensures.traces c.requires.turns.turns c.in-Waits.trying c.in-Waits.needed
           (subst (λ (z : Tried). HasCarriedOn {E = AllocError} c.args.rules.now c.args.store.now g.K.Keeper.exact (g.K.Keeper.contents l.self.keeper)
           (g.K.Keeper.contents c.carry_on.new.self.keeper) l.self.work c.carry_on.new.self.work l.question.found.entries l.question.inst (Ok z)) c.in-Waits.is
           c.in_ok-value.ensures.tried)
           (g.K.Keeper.contents c.resolve_noted.new.self.keeper) (g.K.Keeper.memories c.resolve_noted.new.self.keeper)
-              c.resolve_noted.new.self.work c.resolve_noted.new.question c.in-Spoilt.fault (subst (λ (z : Resolved).
-              HasResolved {E = AllocError} c.args.rules.now c.args.store.now g.K.Keeper.exact
+          c.resolve_noted.new.self.work c.resolve_noted.new.question c.in-Spoilt.fault (subst (λ (z : Resolved).
+          HasResolved {E = AllocError} c.args.rules.now c.args.store.now g.K.Keeper.exact
           (g.K.Keeper.contents c.carry_on.new.self.keeper) (g.K.Keeper.contents c.resolve_noted.new.self.keeper)
-              (g.K.Keeper.memories c.carry_on.new.self.keeper)
+          (g.K.Keeper.memories c.carry_on.new.self.keeper)
           (g.K.Keeper.memories c.resolve_noted.new.self.keeper) c.carry_on.new.self.work c.resolve_noted.new.self.work
-              l.question c.resolve_noted.new.question c.in-Waits.needed (Ok z))
+          l.question c.resolve_noted.new.question c.in-Waits.needed (Ok z))
           c.in-Spoilt.is c.in_ok-resolve_noted-in-Waits.ensures.resolved)
           (g.K.Keeper.contents c.spoil-in-Spoilt.new.self.keeper) (g.K.Keeper.memories c.spoil-in-Spoilt.new.self.keeper) c.spoil-in-Spoilt.new.self.work c.spoil-in-Spoilt.new.question c.spoil-in-Spoilt.new.trials c.spoil-in-Spoilt.result c.spoil-in-Spoilt.ensures;
       traces = puts_then (g.K.Keeper.memories c.args.self.now.keeper) (g.K.Keeper.memories
@@ -302,59 +302,59 @@ pub close-requires : goal.close-requires
 close-requires g c =
     let l = c.loop-value in
     let w = trying_with c.args.rules.now c.args.store.now g.K.Keeper.exact (g.K.Keeper.contents
-        c.args.self.now.keeper) (g.K.Keeper.contents l.self.keeper)
+    c.args.self.now.keeper) (g.K.Keeper.contents l.self.keeper)
     (g.K.Keeper.memories c.args.self.now.keeper) (g.K.Keeper.memories l.self.keeper) c.args.self.now.work l.self.work
-        c.args.question.now l.question
+    c.args.question.now l.question
     l.trials c.resolve_noted.new.trials l.going l.invariant c.resolve_noted.ensures.frames
-        c.resolve_noted.ensures.awaited
+    c.resolve_noted.ensures.awaited
     c.resolve_noted.ensures.noted in
     can_close_last c.args.rules.now c.args.store.now g.K.Keeper.exact (g.K.Keeper.contents c.args.self.now.keeper) (g.K.Keeper.contents l.self.keeper)
     (g.K.Keeper.memories c.args.self.now.keeper) (g.K.Keeper.memories l.self.keeper) c.args.self.now.work l.self.work
-        c.args.question.now l.question
+    c.args.question.now l.question
     c.resolve_noted.new.trials l.going w (g.K.Keeper.contents c.carry_on.new.self.keeper) (g.K.Keeper.memories
-        c.carry_on.new.self.keeper) c.carry_on.new.self.work
+    c.carry_on.new.self.keeper) c.carry_on.new.self.work
     c.carry_on.ensures.traces c.requires.turns.turns c.in-Waits.trying c.in-Waits.needed
     (subst (λ (z : Tried). HasCarriedOn {E = AllocError} c.args.rules.now c.args.store.now g.K.Keeper.exact (g.K.Keeper.contents l.self.keeper)
     (g.K.Keeper.contents c.carry_on.new.self.keeper) l.self.work c.carry_on.new.self.work l.question.found.entries l.question.inst (Ok z)) c.in-Waits.is
     c.in_ok-value.ensures.tried)
     (g.K.Keeper.contents c.resolve_noted.new.self.keeper) (g.K.Keeper.memories c.resolve_noted.new.self.keeper)
-        c.resolve_noted.new.self.work c.resolve_noted.new.question (subst (λ (z : Resolved). HasResolved {E =
-        AllocError} c.args.rules.now c.args.store.now g.K.Keeper.exact
+    c.resolve_noted.new.self.work c.resolve_noted.new.question (subst (λ (z : Resolved). HasResolved {E =
+    AllocError} c.args.rules.now c.args.store.now g.K.Keeper.exact
     (g.K.Keeper.contents c.carry_on.new.self.keeper) (g.K.Keeper.contents c.resolve_noted.new.self.keeper)
-        (g.K.Keeper.memories c.carry_on.new.self.keeper)
+    (g.K.Keeper.memories c.carry_on.new.self.keeper)
     (g.K.Keeper.memories c.resolve_noted.new.self.keeper) c.carry_on.new.self.work c.resolve_noted.new.self.work
-        l.question c.resolve_noted.new.question c.in-Waits.needed (Ok z))
+    l.question c.resolve_noted.new.question c.in-Waits.needed (Ok z))
     c.in-Back.is c.in_ok-resolve_noted-in-Waits.ensures.resolved)
 
 pub returns-in-Back : goal.returns-in-Back
 returns-in-Back g c =
     let l = c.loop-value in
     let w = trying_with c.args.rules.now c.args.store.now g.K.Keeper.exact (g.K.Keeper.contents
-        c.args.self.now.keeper) (g.K.Keeper.contents l.self.keeper)
+    c.args.self.now.keeper) (g.K.Keeper.contents l.self.keeper)
     (g.K.Keeper.memories c.args.self.now.keeper) (g.K.Keeper.memories l.self.keeper) c.args.self.now.work l.self.work
-        c.args.question.now l.question
+    c.args.question.now l.question
     l.trials c.resolve_noted.new.trials l.going l.invariant c.resolve_noted.ensures.frames
-        c.resolve_noted.ensures.awaited
+    c.resolve_noted.ensures.awaited
     c.resolve_noted.ensures.noted in
     record {
       turned = closed_last c.args.rules.now c.args.store.now g.K.Keeper.exact (g.K.Keeper.contents c.args.self.now.keeper) (g.K.Keeper.contents l.self.keeper)
           (g.K.Keeper.memories c.args.self.now.keeper) (g.K.Keeper.memories l.self.keeper) c.args.self.now.work l.self.work c.args.question.now l.question
           c.resolve_noted.new.trials l.going w (g.K.Keeper.contents c.carry_on.new.self.keeper) (g.K.Keeper.memories
-              c.carry_on.new.self.keeper) c.carry_on.new.self.work
+          c.carry_on.new.self.keeper) c.carry_on.new.self.work
           c.carry_on.ensures.traces c.requires.turns.turns c.in-Waits.trying c.in-Waits.needed
           (subst (λ (z : Tried). HasCarriedOn {E = AllocError} c.args.rules.now c.args.store.now g.K.Keeper.exact (g.K.Keeper.contents l.self.keeper)
           (g.K.Keeper.contents c.carry_on.new.self.keeper) l.self.work c.carry_on.new.self.work l.question.found.entries l.question.inst (Ok z)) c.in-Waits.is
           c.in_ok-value.ensures.tried)
           (g.K.Keeper.contents c.resolve_noted.new.self.keeper) (g.K.Keeper.memories c.resolve_noted.new.self.keeper)
-              c.resolve_noted.new.self.work c.resolve_noted.new.question (subst (λ (z : Resolved). HasResolved {E =
-              AllocError} c.args.rules.now c.args.store.now g.K.Keeper.exact
+          c.resolve_noted.new.self.work c.resolve_noted.new.question (subst (λ (z : Resolved). HasResolved {E =
+          AllocError} c.args.rules.now c.args.store.now g.K.Keeper.exact
           (g.K.Keeper.contents c.carry_on.new.self.keeper) (g.K.Keeper.contents c.resolve_noted.new.self.keeper)
-              (g.K.Keeper.memories c.carry_on.new.self.keeper)
+          (g.K.Keeper.memories c.carry_on.new.self.keeper)
           (g.K.Keeper.memories c.resolve_noted.new.self.keeper) c.carry_on.new.self.work c.resolve_noted.new.self.work
-              l.question c.resolve_noted.new.question c.in-Waits.needed (Ok z))
+          l.question c.resolve_noted.new.question c.in-Waits.needed (Ok z))
           c.in-Back.is c.in_ok-resolve_noted-in-Waits.ensures.resolved)
           (g.K.Keeper.contents c.close.new.self.keeper) (g.K.Keeper.memories c.close.new.self.keeper)
-              c.close.new.self.work c.close.new.question c.resolve_noted.new.trials c.close.result c.close.ensures;
+          c.close.new.self.work c.close.new.question c.resolve_noted.new.trials c.close.result c.close.ensures;
       traces = puts_then (g.K.Keeper.memories c.args.self.now.keeper) (g.K.Keeper.memories
           c.resolve_noted.new.self.keeper) (g.K.Keeper.memories c.close.new.self.keeper) (puts_then
           (g.K.Keeper.memories c.args.self.now.keeper) (g.K.Keeper.memories c.carry_on.new.self.keeper)
@@ -368,28 +368,28 @@ pub returns-in-Open : goal.returns-in-Open
 returns-in-Open g c =
     let l = c.loop-value in
     let w = trying_with c.args.rules.now c.args.store.now g.K.Keeper.exact (g.K.Keeper.contents
-        c.args.self.now.keeper) (g.K.Keeper.contents l.self.keeper)
+    c.args.self.now.keeper) (g.K.Keeper.contents l.self.keeper)
     (g.K.Keeper.memories c.args.self.now.keeper) (g.K.Keeper.memories l.self.keeper) c.args.self.now.work l.self.work
-        c.args.question.now l.question
+    c.args.question.now l.question
     l.trials c.resolve_noted.new.trials l.going l.invariant c.resolve_noted.ensures.frames
-        c.resolve_noted.ensures.awaited
+    c.resolve_noted.ensures.awaited
     c.resolve_noted.ensures.noted in
     record {
       turned = deeper_from c.args.rules.now c.args.store.now g.K.Keeper.exact (g.K.Keeper.contents c.args.self.now.keeper) (g.K.Keeper.contents l.self.keeper)
           (g.K.Keeper.memories c.args.self.now.keeper) (g.K.Keeper.memories l.self.keeper) c.args.self.now.work l.self.work c.args.question.now l.question
           c.resolve_noted.new.trials l.going w (g.K.Keeper.contents c.carry_on.new.self.keeper) (g.K.Keeper.memories
-              c.carry_on.new.self.keeper) c.carry_on.new.self.work
+          c.carry_on.new.self.keeper) c.carry_on.new.self.work
           c.carry_on.ensures.traces c.requires.turns.turns c.in-Waits.trying c.in-Waits.needed
           (subst (λ (z : Tried). HasCarriedOn {E = AllocError} c.args.rules.now c.args.store.now g.K.Keeper.exact (g.K.Keeper.contents l.self.keeper)
           (g.K.Keeper.contents c.carry_on.new.self.keeper) l.self.work c.carry_on.new.self.work l.question.found.entries l.question.inst (Ok z)) c.in-Waits.is
           c.in_ok-value.ensures.tried)
           (g.K.Keeper.contents c.resolve_noted.new.self.keeper) (g.K.Keeper.memories c.resolve_noted.new.self.keeper)
-              c.resolve_noted.new.self.work c.resolve_noted.new.question (subst (λ (z : Resolved). HasResolved {E =
-              AllocError} c.args.rules.now c.args.store.now g.K.Keeper.exact
+          c.resolve_noted.new.self.work c.resolve_noted.new.question (subst (λ (z : Resolved). HasResolved {E =
+          AllocError} c.args.rules.now c.args.store.now g.K.Keeper.exact
           (g.K.Keeper.contents c.carry_on.new.self.keeper) (g.K.Keeper.contents c.resolve_noted.new.self.keeper)
-              (g.K.Keeper.memories c.carry_on.new.self.keeper)
+          (g.K.Keeper.memories c.carry_on.new.self.keeper)
           (g.K.Keeper.memories c.resolve_noted.new.self.keeper) c.carry_on.new.self.work c.resolve_noted.new.self.work
-              l.question c.resolve_noted.new.question c.in-Waits.needed (Ok z))
+          l.question c.resolve_noted.new.question c.in-Waits.needed (Ok z))
           c.in-Open.is c.in_ok-resolve_noted-in-Waits.ensures.resolved)
           c.deepen_last.new.question c.deepen_last.new.trials c.deepen_last.result c.deepen_last.ensures.none c.deepen_last.ensures.deeper;
       traces = (puts_then (g.K.Keeper.memories c.args.self.now.keeper) (g.K.Keeper.memories

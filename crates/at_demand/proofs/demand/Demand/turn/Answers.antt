@@ -17,7 +17,7 @@ turn_with-requires g c =
       fit = none_fit c.args.rules.now c.args.store.now mid c.args.question.now c.new-trials.result
           c.new-trials.ensures.frames c.new-trials.ensures.awaited
           (none_noted c.args.rules.now (contents c.args.store.now) c.new-trials.result.noted.entries
-              c.new-trials.ensures.noted);
+          c.new-trials.ensures.noted);
     }
 
 pub returns : goal.returns

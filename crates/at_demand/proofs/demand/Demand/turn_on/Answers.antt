@@ -32,7 +32,7 @@ go_along-requires g c =
     (not_none_level c.args.question.now.level c.is_none.result c.is_none.ensures c.if-is_none.false) u x
     c.forget.new.self c.forget.ensures.frames c.forget.ensures.awaited
     (noted_same c.args.rules.now (contents c.args.store.now) c.args.trials.now.noted.entries
-        c.forget.new.self.noted.entries c.forget.ensures.noted
+    c.forget.new.self.noted.entries c.forget.ensures.noted
     c.requires.turns.fit.noted)
 
 pub returns-then-is_none : goal.returns-then-is_none

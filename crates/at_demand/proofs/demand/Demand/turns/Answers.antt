@@ -21,7 +21,7 @@ loop-given-init g c = record {
   fit = none_fit c.args.rules.now c.args.store.now (g.K.Keeper.contents c.args.self.now.keeper) c.args.question.now c.new-trials.result
       c.new-trials.ensures.frames c.new-trials.ensures.awaited
       (none_noted c.args.rules.now (contents c.args.store.now) c.new-trials.result.noted.entries
-          c.new-trials.ensures.noted);
+      c.new-trials.ensures.noted);
   within = omega arith;
   traces = stay_same (g.K.Keeper.memories c.args.self.now.keeper);
   went = λ exact. begun;
@@ -146,7 +146,7 @@ turn_with-requires g c =
       fit = record {
         chain = fit_grown c.args.rules.now c.args.store.now old mid
             (again_stays l old mid (settled_again g.K.Keeper.exact l q.inst c.keep_again.ensures.kept.count old mid
-                c.keep_again.ensures.kept.settled))
+            c.keep_again.ensures.kept.settled))
             q c.loop-given.trials.frames.items c.loop-given.trials.awaited c.loop-given.invariant.fit.chain;
         noted = c.loop-given.invariant.fit.noted;
       };

@@ -30,5 +30,5 @@ told q t i key (Err e) h = tt
 pub returns : goal.returns
 returns c = told c.args.question.now c.args.trials.now c.args.inst.now
     (key_of c.is_whole.result c.args.question.now.ended.entries c.args.inst.now c.is_whole.ensures (c.is_none.ensures
-        ∙ ap not c.if-is_none.false))
+    ∙ ap not c.if-is_none.false))
     c.noted_of.result c.noted_of.ensures
