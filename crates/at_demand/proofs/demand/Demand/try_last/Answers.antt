@@ -1,4 +1,4 @@
-use Rattle.std.proofs.Common.{Ok, refl, rules, sym, subst}
+use Rattle.std.proofs.Common.{Ok, refl, sym, subst}
 use Rattle.std.proofs.lemmas.Result.{err_from_is_err_and}
 use Rattle.std.specs.declared.alloc.AllocError.{AllocError}
 use Rattle.at_demand.specs.declared.demand.searching.Resolved.{Resolved}
@@ -10,6 +10,8 @@ use Rattle.at_demand.proofs.of_steps.TriedOn.{begins_trying}
 use Rattle.at_demand.proofs.of_steps.TryingOn.{can_carry, can_close_last, can_fail_last, can_form_last, can_resolve, can_spoil_last}
 use Rattle.at_demand.proofs.of_steps.TryingOn.{carry_fails, closed_last, deeper_from, fails_last, forms_last, known_fewer, known_goes, resolve_fails, spoilt_last}
 use Rattle.at_demand.proofs.of_steps.TryUnderWay.{IsTrying, trying_with}
+use Rattle.at_demand.proofs.of_steps.Counted.{broken_on}
+use Rattle.at_demand.proofs.of_steps.Turning.{gains_none}
 use Rattle.at_demand.proofs.of_steps.ValueTried.{found_last, kept_last}
 use Rattle.at_demand.proofs.of_traces.TurnsPut.{puts_same, puts_then}
 use Rattle.at_demand.proofs.demand.Demand.try_last.Goals as goal
@@ -400,7 +402,14 @@ returns-in-Open g c =
     }
 
 pub returns-in_err-going : goal.returns-in_err-going
-returns-in_err-going g c = record {
-  turned = search rules;
-  traces = puts_same (g.K.Keeper.memories c.args.self.now.keeper);
-}
+returns-in_err-going g c =
+    let entries = g.K.Keeper.contents c.args.self.now.keeper in
+    let turn = c.requires.turns.turns in
+    let is = (err_from_is_err_and c.from_residual.result c.from_residual.ensures.1).1 in
+    record {
+      turned = broken_on c.args.rules.now c.args.store.now g.K.Keeper.exact turn.answerable.basis entries entries c.args.self.now.work
+          c.args.self.now.work c.args.question.now c.args.question.now c.trial_of.new.trials _ _ is (λ none. none)
+          (gains_none c.args.rules.now c.args.store.now g.K.Keeper.exact entries c.args.self.now.work c.args.self.now.few c.args.question.now
+          turn.answerable.right turn.answerable.plain);
+      traces = puts_same (g.K.Keeper.memories c.args.self.now.keeper);
+    }
