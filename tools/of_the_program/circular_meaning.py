@@ -304,10 +304,10 @@ class Meaning:
     @staticmethod
     def shrink(members: Set[Instance], goes: Callable[[Instance], bool]) -> None:
         """Takes members out until none goes any more."""
-        gone = True
+        gone = {it for it in members if goes(it)}
         while gone:
-            gone = {it for it in members if goes(it)}
             members -= gone
+            gone = {it for it in members if goes(it)}
 
     def first_fault(self, of: Instance) -> Fault:
         """The fault that a search over atoms meets first."""

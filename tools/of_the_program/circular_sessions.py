@@ -7,8 +7,9 @@ from dataclasses import dataclass, replace
 from typing import Callable, List, Optional, Tuple, Type
 
 from tools.of_the_program.circular_aspects import NAMES, Aspects, Attribute
-from tools.of_the_program.circular_meaning import Argument, Instance, Meaning
+from tools.of_the_program.circular_meaning import Meaning
 from tools.of_the_program.circular_trees import Editing, Node, edited, node_of, root
+from tools.of_the_program.circular_ways import Argument, Instance
 
 # Of how many of the last questions one is asked again.
 RECENT = 8

@@ -129,7 +129,7 @@ class Term:
     """Reads a term."""
 
     def __init__(self, text: str) -> None:
-        self.tokens = TOKENS.findall(text)
+        self.tokens: List[str] = TOKENS.findall(text)
 
     def take(self) -> str:
         return self.tokens.pop(0)

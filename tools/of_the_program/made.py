@@ -3,7 +3,7 @@ One that was evaluated can be, as long as no edit touches what it looked at itse
 was in a turn of a question that was posted."""
 from __future__ import annotations
 
-from typing import Dict, List, Optional, Set, Tuple, Union
+from typing import List, Optional, Set, Tuple, Union
 
 from tools.of_the_program.circular_sessions import Case
 from tools.of_the_program.circular_trees import Node

@@ -41,7 +41,7 @@ class CircularMemory(ProgramTest):
 
     def run_of(self, options: List[str], nth: int) -> Run:
         """A run with the nth request refused."""
-        words = [self.program, "--forms", "circular", *options, *self.files]
+        words = [str(self.program), "--forms", "circular", *options, *self.files]
         run = subprocess.run(words, cwd=self.folder, env={**self.refusing, "REFUSE": str(nth)}, encoding="utf-8", timeout=SECONDS,
                              input="".join(f"{it}\n" for it in self.case.lines), capture_output=True)
         if run.returncode == 4:

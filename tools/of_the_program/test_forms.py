@@ -147,7 +147,8 @@ class Forms(ProgramTest):
     def test_nothing_changes_for_other_aspects(self) -> None:
         lines = b"0 ask / total()\n0 token /Right Value 5\n0 ask /Left twice()\n0 ask / total()\n"
         told = []
-        for words in [], ["--forms", "circular"]:
+        without: List[str] = []
+        for words in without, ["--forms", "circular"]:
             run = self.begin(["--work", *words, *THREE, "lazy.jrag"])
             told.append((run.communicate(lines, timeout=60), run.returncode))
         self.assertEqual(told, [((b"0 = 11\n0 ok 1\n0 = 6\n0 = 13\n", b"work 1\n"), 0)] * 2)

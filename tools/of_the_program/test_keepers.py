@@ -59,7 +59,7 @@ class Chosen(NamedTuple):
     sample: Sample
     words: Words
     seed: int
-    count: int
+    length: int
     edits: int
 
 
@@ -90,5 +90,5 @@ class Keepers(KeepingTest):
         for name, chosen in CHOSEN.items():
             with self.subTest(name):
                 chance = Chance(chosen.seed, chosen.words)
-                lines = "".join(f"{chance.line()}\n" for _ in range(chosen.count))
+                lines = "".join(f"{chance.line()}\n" for _ in range(chosen.length))
                 self.assert_alike(self.write(chosen.sample), lines + "0 version\n", chosen.edits)
