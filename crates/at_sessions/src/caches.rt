@@ -353,17 +353,6 @@ const SCRIPTS: &[Script] = &[
                 See(&[Kept(5), Kept(6), Nothing, Nothing, Nothing]),
                 Blocked(4, Some(2)),
             ],
-            // What can be kept again isn't put behind an evaluation.
-            &[
-                Touch(0, Token(0)),
-                Refuse(1, Some(9), &[]),
-                Put(0, Some(5), &[]),
-                Refuse(1, Some(9), &[0]),
-                Settle(1),
-                Worked(1),
-                See(&[Kept(5), Kept(6)]),
-                Blocked(1, None),
-            ],
             // One that isn't kept again stands in the way two levels above it.
             &[
                 Put(2, Some(7), &[1]),
