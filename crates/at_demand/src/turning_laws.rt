@@ -1,22 +1,31 @@
 //! Laws of questions that are given turns: each is the contract of a function that does nothing.
 
-ghost use Rattle.std.specs.Prelude.{◌≡◌, ◌≤◌, ◌+◌, ◌*◌, IsSome, length, ℕ};
+ghost use Rattle.std.specs.Prelude.{◌≡◌, ◌⊎◌, ◌≤◌, ◌+◌, ◌*◌, IsSome, None, Some, length, ℕ};
 ghost use Rattle.at_model.specs.Alike.{InstanceLike, Names};
 ghost use Rattle.at_model.specs.Asking.{IsWellFormed};
 ghost use Rattle.at_model.specs.Instances.{instances};
 ghost use Rattle.at_model.specs.Paths.{Node};
 ghost use Rattle.at_model.specs.Rules.{Rules};
-ghost use Rattle.at_model.specs.Run.{Instance};
+ghost use Rattle.at_model.specs.Meaning.{Outcome, Reaches};
+ghost use Rattle.at_model.specs.Run.{Contents, Instance, Known, Value};
 ghost use Rattle.at_model.specs.WellFormed.{AreWellFormed, IsTreeSound};
 ghost use Rattle.at_model.specs.Turning.{IsOn, Silent, UnderWay, posted};
-ghost use Rattle.at_model.specs.of_fixpoints.Searching.{Search, Silent as SilentSearch, posted as search_posted};
+ghost use Rattle.at_model.specs.of_fixpoints.Circles.{Circular, HasNone};
+ghost use Rattle.at_model.specs.of_fixpoints.Fixpoints.{HasValue, Holds};
+ghost use Rattle.at_model.specs.of_fixpoints.Formulas.{Forms};
+ghost use Rattle.at_model.specs.of_fixpoints.Met.{IsLookedAt};
+ghost use Rattle.at_model.specs.of_fixpoints.Searched.{IsOn as SearchIsOn};
+ghost use Rattle.at_model.specs.of_fixpoints.Searching.{Search, Silent as SilentSearch, Turned, posted as search_posted};
 ghost use Rattle.at_store.specs.Shown.{IsIdle, Shown, contents, path, tree};
 ghost use Rattle.at_cache.specs.Kept.{Entries};
 ghost use Rattle.at_cache.specs.Traced.{Memories, TracesNothing};
 ghost use Rattle.at_demand.specs.Again.{KeepsAgain};
+ghost use Rattle.at_demand.specs.Answerable.{CanBegin};
 ghost use Rattle.at_demand.specs.declared.question.Question.{Question};
 ghost use Rattle.at_demand.specs.Known.{equations, meaning};
-ghost use Rattle.at_demand.specs.Turns.{IsSparingTurns, IsStanding};
+ghost use Rattle.at_demand.specs.Meant.{AreRightValues};
+ghost use Rattle.at_demand.specs.Reasons.{DemandsOn, HasReason, HasReasons};
+ghost use Rattle.at_demand.specs.Turns.{IsSparingTurns, IsStanding, MayComeIn};
 
 /// Twice the number of all instances is two more than the turns that a question is given without an answer, whatever is kept
 /// at each of them; and all that is under way and was found are that many instances at most.
@@ -47,4 +56,34 @@ pub fn a_question_stands_while_more_is_kept()
 /// Where nothing is traced nothing is kept again before a turn.
 pub fn without_traces_nothing_is_kept_again()
     ensures { (m : Memories) (old new : Entries) → TracesNothing m → KeepsAgain m old new → (i : Instance ℕ) → new i ≡ old i }
+{}
+
+/// Where a circle answers a question, each demand of an equation at which its search looks is decided: it has an outcome, or it has none, and
+/// the search looks at it, too.
+pub fn what_is_looked_at_is_decided()
+    ensures { (look : Contents ℕ) (forms : Forms ℕ) (q c i j : Instance ℕ) → Circular look forms q c → IsLookedAt look forms q i
+        → Reaches look (HasValue look forms) (forms.formula i) j
+        → ((o : Outcome ℕ) × Holds look forms j o) ⊎ (HasNone look forms j × IsLookedAt look forms q j) }
+{}
+
+/// Turns leave a search with reason, where a circle answers the question, from when it is posted on, where all that is kept has one.
+pub fn a_search_goes_on_with_reason()
+    ensures posted { (look : Contents ℕ) (forms : Forms ℕ) (first : Known ℕ) (q : Instance ℕ) → HasReasons look forms first q (search_posted q) }
+    ensures turned { (rules : Rules) (s : Shown) (first kept : Known ℕ) (q c : Instance ℕ) → CanBegin rules s q
+        → Circular (contents s) (meaning rules) q c
+        → AreRightValues (contents s) (meaning rules) kept
+        → ((i : Instance ℕ) (v : Value ℕ) → kept i ≡ Some v → HasReason (contents s) (meaning rules) first q i)
+        → (u v : Search ℕ) → SearchIsOn (contents s) (meaning rules) q u → HasReasons (contents s) (meaning rules) first q u
+        → Turned (contents s) (meaning rules) kept u v None → HasReasons (contents s) (meaning rules) first q v }
+{}
+
+/// So what a turn lets come to be known has a reason: what was known at first leads to it, or the question has met it. And so has what comes
+/// while the last instance is evaluated in one go, along demands.
+pub fn what_comes_has_a_reason()
+    ensures turned { (look : Contents ℕ) (forms : Forms ℕ) (first : Known ℕ) (q c : Instance ℕ) → Circular look forms q c → (u : Search ℕ)
+        → SearchIsOn look forms q u → HasReasons look forms first q u → (j : Instance ℕ) (v : Value ℕ) → MayComeIn u j → HasValue look forms j v
+        → HasReason look forms first q j }
+    ensures ahead { (look : Contents ℕ) (forms : Forms ℕ) (first : Known ℕ) (q c : Instance ℕ) → Circular look forms q c → (u : Search ℕ)
+        → SearchIsOn look forms q u → HasReasons look forms first q u → (j : Instance ℕ) (v : Value ℕ) → DemandsOn look forms u.last.next j
+        → HasValue look forms j v → HasReason look forms first q j }
 {}
