@@ -1,6 +1,6 @@
 //! Laws of questions that are given turns: each is the contract of a function that does nothing.
 
-ghost use Rattle.std.specs.Prelude.{◌≡◌, ◌⊎◌, ◌≤◌, ◌+◌, ◌*◌, IsSome, None, Some, length, ℕ};
+ghost use Rattle.std.specs.Prelude.{Bool, [], ◌≡◌, ◌⊎◌, ◌≤◌, ◌+◌, ◌*◌, IsSome, None, Some, length, ℕ};
 ghost use Rattle.at_model.specs.Alike.{InstanceLike, Names};
 ghost use Rattle.at_model.specs.Asking.{IsWellFormed};
 ghost use Rattle.at_model.specs.Instances.{instances};
@@ -18,13 +18,15 @@ ghost use Rattle.at_model.specs.of_fixpoints.Searched.{IsOn as SearchIsOn};
 ghost use Rattle.at_model.specs.of_fixpoints.Searching.{Search, Silent as SilentSearch, Turned, posted as search_posted};
 ghost use Rattle.at_store.specs.Shown.{IsIdle, Shown, contents, path, tree};
 ghost use Rattle.at_cache.specs.Kept.{Entries};
-ghost use Rattle.at_cache.specs.Traced.{Memories, TracesNothing};
+ghost use Rattle.at_cache.specs.Traced.{Memories, Settled, TracesNothing};
 ghost use Rattle.at_demand.specs.Again.{KeepsAgain};
 ghost use Rattle.at_demand.specs.Answerable.{CanBegin};
 ghost use Rattle.at_demand.specs.declared.question.Question.{Question};
-ghost use Rattle.at_demand.specs.Known.{equations, meaning};
+ghost use Rattle.at_demand.specs.Inner.{AreKnown};
+ghost use Rattle.at_demand.specs.Known.{equations, kept_values, meaning};
 ghost use Rattle.at_demand.specs.Meant.{AreRightValues};
-ghost use Rattle.at_demand.specs.Reasons.{DemandsOn, HasReason, HasReasons};
+ghost use Rattle.at_demand.specs.Reasons.{AddsDemanded, DemandsOn, HasReason, HasReasons};
+ghost use Rattle.at_demand.specs.Traces.{AreJustified};
 ghost use Rattle.at_demand.specs.Turns.{IsSparingTurns, IsStanding, MayComeIn};
 
 /// Twice the number of all instances is two more than the turns that a question is given without an answer, whatever is kept
@@ -66,9 +68,12 @@ pub fn what_is_looked_at_is_decided()
         → ((o : Outcome ℕ) × Holds look forms j o) ⊎ (HasNone look forms j × IsLookedAt look forms q j) }
 {}
 
-/// Turns leave a search with reason, where a circle answers the question, from when it is posted on, where all that is kept has one.
+/// Turns leave a search with reason, where a circle answers the question, from when it is posted on, where all that is kept has one; and so does
+/// more that was known at first, such as what other questions have kept in between.
 pub fn a_search_goes_on_with_reason()
     ensures posted { (look : Contents ℕ) (forms : Forms ℕ) (first : Known ℕ) (q : Instance ℕ) → HasReasons look forms first q (search_posted q) }
+    ensures more { (look : Contents ℕ) (forms : Forms ℕ) (first more : Known ℕ) → ((i : Instance ℕ) (v : Value ℕ) → first i ≡ Some v → more i ≡ Some v)
+        → (q : Instance ℕ) (u : Search ℕ) → HasReasons look forms first q u → HasReasons look forms more q u }
     ensures turned { (rules : Rules) (s : Shown) (first kept : Known ℕ) (q c : Instance ℕ) → CanBegin rules s q
         → Circular (contents s) (meaning rules) q c
         → AreRightValues (contents s) (meaning rules) kept
@@ -86,4 +91,12 @@ pub fn what_comes_has_a_reason()
     ensures ahead { (look : Contents ℕ) (forms : Forms ℕ) (first : Known ℕ) (q c : Instance ℕ) → Circular look forms q c → (u : Search ℕ)
         → SearchIsOn look forms q u → HasReasons look forms first q u → (j : Instance ℕ) (v : Value ℕ) → DemandsOn look forms u.last.next j
         → HasValue look forms j v → HasReason look forms first q j }
+{}
+
+/// Demands lead from an instance to all that is kept again for it.
+pub fn what_is_kept_again_is_demanded()
+    ensures { (rules : Rules) (s : Shown) → IsIdle s → (exact : Bool) (m : Memories) (q : Instance ℕ) (n : ℕ) (old new : Entries)
+        → AreJustified rules (contents s) m → AreKnown rules (contents s) old []
+        → ((i : Instance ℕ) (v : Value ℕ) → kept_values old i ≡ Some v → m.last i ≡ Some v) → Settled exact m q n old new
+        → AddsDemanded (contents s) (meaning rules) q (kept_values old) (kept_values new) }
 {}
