@@ -1,12 +1,12 @@
 //! Laws of questions that are given turns: each is the contract of a function that does nothing.
 
-ghost use Rattle.std.specs.Prelude.{Bool, [], ◌≡◌, ◌⊎◌, ◌≤◌, ◌+◌, ◌*◌, IsSome, None, Some, length, ℕ};
+ghost use Rattle.std.specs.Prelude.{Bool, Option, [], ◌≡◌, ◌⊎◌, ◌≤◌, ◌+◌, ◌*◌, IsSome, None, Some, length, ℕ};
 ghost use Rattle.at_model.specs.Alike.{InstanceLike, Names};
 ghost use Rattle.at_model.specs.Asking.{IsWellFormed};
 ghost use Rattle.at_model.specs.Instances.{instances};
 ghost use Rattle.at_model.specs.Paths.{Node};
 ghost use Rattle.at_model.specs.Rules.{Rules};
-ghost use Rattle.at_model.specs.Meaning.{Outcome, Reaches};
+ghost use Rattle.at_model.specs.Meaning.{Answer, Outcome, Reaches};
 ghost use Rattle.at_model.specs.Run.{Contents, Instance, Known, Value};
 ghost use Rattle.at_model.specs.WellFormed.{AreWellFormed, IsTreeSound};
 ghost use Rattle.at_model.specs.Turning.{IsOn, Silent, UnderWay, posted};
@@ -27,7 +27,7 @@ ghost use Rattle.at_demand.specs.Known.{equations, kept_values, meaning};
 ghost use Rattle.at_demand.specs.Meant.{AreRightValues};
 ghost use Rattle.at_demand.specs.Reasons.{AddsDemanded, DemandsOn, HasReason, HasReasons};
 ghost use Rattle.at_demand.specs.Traces.{AreJustified};
-ghost use Rattle.at_demand.specs.Turns.{IsSparingTurns, IsStanding, MayComeIn};
+ghost use Rattle.at_demand.specs.Turns.{AreTurns, IsSparingTurns, IsStanding, MayComeIn};
 
 /// Twice the number of all instances is two more than the turns that a question is given without an answer, whatever is kept
 /// at each of them; and all that is under way and was found are that many instances at most.
@@ -99,4 +99,14 @@ pub fn what_is_kept_again_is_demanded()
         → AreJustified rules (contents s) m → AreKnown rules (contents s) old []
         → ((i : Instance ℕ) (v : Value ℕ) → kept_values old i ≡ Some v → m.last i ≡ Some v) → Settled exact m q n old new
         → AddsDemanded (contents s) (meaning rules) q (kept_values old) (kept_values new) }
+{}
+
+/// Where a circle answers a question, all that its turns let come to be kept has a reason, however many they are, and also where the last one answers:
+/// what was kept when it was posted leads to it, or the question has met it.
+pub fn what_turns_let_come_was_met()
+    ensures { (rules : Rules) (s : Shown) (m : Memories) (q c : Instance ℕ) → CanBegin rules s q → Circular (contents s) (meaning rules) q c
+        → (before after : Entries) → AreRightValues (contents s) (meaning rules) (kept_values before)
+        → (n : ℕ) (u : Search ℕ) (o : Option (Answer ℕ)) → AreTurns rules s m n before (search_posted q) after u o
+        → (i : Instance ℕ) (v : Value ℕ) → kept_values after i ≡ Some v
+        → HasReason (contents s) (meaning rules) (kept_values before) q i }
 {}

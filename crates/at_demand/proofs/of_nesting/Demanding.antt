@@ -51,7 +51,7 @@ module _ (look : Contents ℕ) (forms : Forms ℕ) where
   pub demanded_put : (exact : Bool) (old new : Entries) (i : Instance ℕ) (o : Option (Value ℕ)) (ls : List (Location ℕ))
       (us : List (Instance ℕ)) (p : Put) → HasPut exact old i o ls us new p →
       AddsDemanded look forms i (kept_values old) (kept_values new)
-  demanded_put exact old new i o ls us put.Left h = demanded_same i old new h.1
+  demanded_put exact old new i o ls us put.Left h j absent some = demanded_same i old new h.1 j absent some
   demanded_put exact old new i o ls us put.Kept h j absent some = by (same_instance i j) refl
     where
       by : (b : Bool) → same_instance i j ≡ b → DemandsOn look forms i j

@@ -103,7 +103,7 @@ module _ (rules : Rules) (s : Shown) (exact : Bool) (m : Memories) (basis : IsBa
           let (v, silent, each, stands) = inv.searched u st in
           let next_is : v.last.next ≡ q.inst = ap (λ (l : Level ℕ). l.next) stands.is.last in
           let led = subst (λ (i : Instance ℕ). AreLed rules s i mid new) (sym next_is) on in
-          (v, silent, turns.again given first mid new u v each again led, stands_more rules s mid new gains.worthy.stays q sound_again v stands);
+          (v, silent, turns.again given first mid new u v each again led gains.known.right, stands_more rules s mid new gains.worthy.stays q sound_again v stands);
       worthy = worthy_both rules (contents s) (asked_by old) first mid new inv.worthy
           (subst (λ (i : Instance ℕ). AddsWorthy rules (contents s) i mid new) inv.same up.worthy);
       stays = λ there right. up.stays (subst (λ (i : Instance ℕ). IsThere s i) (sym inv.same) there) (inv.stays there right);
@@ -161,7 +161,7 @@ module _ (rules : Rules) (s : Shown) (exact : Bool) (m : Memories) (basis : IsBa
           let (z, turned, after) = e.turned.searched v stands in (
             z,
             one_up (λ n. Silent (contents s) (meaning rules) n u z) given (search_more (kept_values mid) inv.sound.right silent turned),
-            turns.more given first mid new u v z None each turned (e.gains.last.searched v stands),
+            turns.more given first mid new u v z None each turned (e.gains.last.searched v stands) e.gains.right,
             after refl,
           );
       worthy = worthy_now (Unit {0}) e.gains;
@@ -189,7 +189,7 @@ module _ (rules : Rules) (s : Shown) (exact : Bool) (m : Memories) (basis : IsBa
           let (z, turned, after) = e.turned.searched v stands in (
             z,
             (given, v, kept_values mid, refl, omega (arith, less), silent, turned),
-            turns.more given first mid new u v z (Some (answer_view a)) each turned (e.gains.last.searched v stands),
+            turns.more given first mid new u v z (Some (answer_view a)) each turned (e.gains.last.searched v stands) e.gains.right,
             λ none. absurd (no_answer none),
           );
       broke = λ u st. tt;
