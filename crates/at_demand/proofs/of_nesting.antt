@@ -5,3 +5,4 @@ pub mod InnerGains
 pub mod InnerAnswered
 pub mod Asked
 pub mod Grown
+pub mod Demanding

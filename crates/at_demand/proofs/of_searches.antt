@@ -12,3 +12,6 @@ pub mod NextTried
 pub mod Costing
 pub mod SearchedOn
 pub mod SearchedTo
+pub mod Deciding
+pub mod Reasoning
+pub mod ReasonedTurns

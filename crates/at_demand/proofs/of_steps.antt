@@ -28,3 +28,4 @@ pub mod FormedLast
 pub mod DeeperFrom
 pub mod CircleFrom
 pub mod TryingOn
+pub mod Reasoned

@@ -25,6 +25,7 @@ use Rattle.at_demand.specs.Known.{equations, meaning, kept_values, IsKept, Keeps
 use Rattle.at_demand.specs.Inner.{AreKnown, Gains, HasRecalled, HasTold, IsEvaluated, StayRemembered, is_inner, known_by}
 use Rattle.at_demand.specs.Made.{Makes}
 use Rattle.at_demand.specs.Right.{AreRight, IsThere}
+use Rattle.at_demand.specs.Reasons.{AreLed, DemandsOn}
 use Rattle.at_demand.specs.Sparing.{AreSpare, Counts, IsWorthKeeping}
 use Rattle.at_demand.specs.Traces.{AreJustified, AreOfTree, StayJustified}
 
@@ -115,13 +116,19 @@ abbrev pub MayHavePassedBy : Rules → Contents ℕ → Place → Fold → Body 
 MayHavePassedBy rules look p f b old new nodes rest =
     ((rest ≡ nodes) × (new ≡ old)) ⊎ ((attribute : ℕ) × HasPassedBy rules look p f b attribute old new nodes rest)
 
--- What was held stays; what came to be kept is worth keeping for an instance that the evaluation demands, and the work counts it; all is
--- right still and, by an exact keeper, spare.
+-- this is held, and all is right with it, where nothing is remembered
+abbrev pub AreHeld : Rules → Shown → Entries → Memories → (work made : ℕ) → Type 0
+AreHeld rules s entries m work made = IsHeld rules (contents s) (held entries m [] work made)
+
+-- What was held stays; what came to be kept is worth keeping for an instance that the evaluation demands, and from which demands lead to it,
+-- and the work counts it; all is right still and, by an exact keeper, spare.
 pub record HasGained {A : Type 0} (rules : Rules) (s : Shown) (exact : Bool) (r : Run ℕ A) (old new : Held) : Type 0 where
   pub keeps : KeepsEntries old.entries new.entries
   pub still : StayRemembered old.found new.found
   pub worthy : (j : Instance ℕ) → kept_values old.entries j ≡ None → IsKept new.entries j
       → (m : Instance ℕ) × Demanded rules (contents s) r m × IsWorthKeeping rules (contents s) m j
+  pub demanded : (j : Instance ℕ) → kept_values old.entries j ≡ None → IsKept new.entries j
+      → (m : Instance ℕ) × Demanded rules (contents s) r m × DemandsOn (contents s) (meaning rules) m j
   pub right : IsHeld rules (contents s) new
   pub stays : AreDemandedThere rules s r → AreRight rules s old.entries → AreRight rules s new.entries
   pub there : AreDemandedThere rules s r → AreOfTree s old.memories → AreOfTree s new.memories
@@ -129,10 +136,11 @@ pub record HasGained {A : Type 0} (rules : Rules) (s : Shown) (exact : Bool) (r 
   pub counts : IsTrue exact → Counts old.entries new.entries old.work new.work
   pub makes : Makes old.entries new.entries old.memories new.memories old.made new.made
 
--- What was held was `old` and is `new` now, for the instance that is asked for: what came to be kept is worth keeping for it, what was
--- remembered is so still, and all is right, what can be kept again, too.
+-- What was held was `old` and is `new` now, for the instance that is asked for: what came to be kept is worth keeping for it, and demands
+-- lead from it to that; what was remembered is so still, and all is right, what can be kept again, too.
 pub record HasGrown (rules : Rules) (s : Shown) (exact : Bool) (i : Instance ℕ) (old new : Held) : Type 0 where
   pub gains : Gains rules s exact i old.entries new.entries old.found new.found old.work new.work
+  pub demanded : AreLed rules s i old.entries new.entries
   pub traces : StayJustified rules s i old.memories new.memories
   pub makes : Makes old.entries new.entries old.memories new.memories old.made new.made
 

@@ -17,6 +17,7 @@ pub mod Tries
 pub mod Groups
 pub mod Searches
 pub mod Turns
+pub mod Reasons
 pub mod ChainSteps
 pub mod Attempts
 pub mod KeptTrials

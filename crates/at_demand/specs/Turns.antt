@@ -27,7 +27,9 @@ use Rattle.at_demand.specs.declared.answer.Answer.{Answer as AnswerCode}
 use Rattle.at_demand.specs.Known.{answer_view, equations, meaning, kept_values, FoundKept, IsFound, IsKept}
 use Rattle.at_demand.specs.Levels.{AreWholeOrSeen, LevelCode, StandsByLevels, StandsFor, all_levels, asked_by, known_to, root_in, seen_in}
 use Rattle.at_demand.specs.Covering.{AreWhole}
+use Rattle.at_demand.specs.Meant.{AreRightValues}
 use Rattle.at_demand.specs.Only.{AreLean}
+use Rattle.at_demand.specs.Reasons.{AreLed}
 use Rattle.at_demand.specs.Sound.{AreSound}
 use Rattle.at_demand.specs.Sparing.{AreSettled, MayAddLazy}
 
@@ -165,13 +167,15 @@ pub record GainsInChain (rules : Rules) (old new : Entries) (u : UnderWay ℕ) :
 
 -- So many single turns were given, one behind the other: each tried the one equation to which the question had come, and lets no more
 -- come to what is kept than a turn may. None but the last one answers it. Before each what could be kept again at the beginning may come to
--- be kept, with no evaluation.
+-- be kept, with no evaluation, where demands lead to it from the one that is tried. What is kept is right behind each.
 pub data AreTurns (rules : Rules) (s : Shown) (m : Memories) : (given : ℕ) → (before : Entries) → Search ℕ → (after : Entries) → Search ℕ
     → Option (Answer ℕ) → Type 0 where
   none : (e : Entries) (u : Search ℕ) → AreTurns rules s m 0 e u e u None
-  again : (n : ℕ) (d e f : Entries) (u v : Search ℕ) → AreTurns rules s m n d u e v None → KeepsAgain m e f → AreTurns rules s m n d u f v None
+  again : (n : ℕ) (d e f : Entries) (u v : Search ℕ) → AreTurns rules s m n d u e v None → KeepsAgain m e f → AreLed rules s v.last.next e f
+      → AreRightValues (contents s) (meaning rules) (kept_values f) → AreTurns rules s m n d u f v None
   more : (n : ℕ) (d e f : Entries) (u v w : Search ℕ) (o : Option (Answer ℕ)) → AreTurns rules s m n d u e v None
-      → Turned (contents s) (meaning rules) (kept_values e) v w o → GainsInTurn rules e f v → AreTurns rules s m (n + 1) d u f w o
+      → Turned (contents s) (meaning rules) (kept_values e) v w o → GainsInTurn rules e f v
+      → AreRightValues (contents s) (meaning rules) (kept_values f) → AreTurns rules s m (n + 1) d u f w o
 
 -- the same of a chain
 pub data AreTurnsOfChain (rules : Rules) (s : Shown) (m : Memories) : (given : ℕ) → (before : Entries) → UnderWay ℕ → (after : Entries) → UnderWay ℕ

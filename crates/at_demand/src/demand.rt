@@ -1,6 +1,6 @@
 //! Questions for the values of instances.
 
-ghost use Rattle.std.specs.Prelude.{◌≡◌, ◌<◌, ◌^◌, [], is_some, map, IfOk, IfSome, IsTrue, None, true};
+ghost use Rattle.std.specs.Prelude.{◌≡◌, ◌<◌, ◌^◌, [], is_some, map, IfOk, IfSome, OnSome, IsTrue, None, true};
 ghost use Rattle.at_model.specs.of_fixpoints.Fixpoints.{HasValue};
 ghost use Rattle.at_store.specs.Located.{loc_view};
 ghost use Rattle.at_store.specs.Shown.{IsIdle, contents};
@@ -12,9 +12,10 @@ ghost use Rattle.at_demand.specs.Made.{Makes};
 ghost use Rattle.at_demand.specs.Went.{Went};
 ghost use Rattle.at_demand.specs.Keeping.{IsKeptWhereLazy, IsPlaced, IsPut};
 ghost use Rattle.at_demand.specs.Answered.{Forgets, IsAnswered};
+ghost use Rattle.at_demand.specs.Reasons.{AreLed};
 ghost use Rattle.at_demand.specs.Sparing.{AreSpare, HasWorthy};
 ghost use Rattle.at_demand.specs.Inner.{Gains};
-ghost use Rattle.at_demand.specs.InParts.{IsHeld, held};
+ghost use Rattle.at_demand.specs.InParts.{AreHeld};
 ghost use Rattle.at_demand.specs.Traces.{StayJustified};
 
 mod recalling;
@@ -140,11 +141,12 @@ impl<K: Keeper> Demand<K> {
         deepest: usize,
     ) -> Result<Option<Value>, AllocError>
         requires idle { IsIdle store.now }
-        requires held { IsHeld rules.now (contents store.now) (held (K.contents self.old.keeper) (K.memories self.old.keeper) [] self.old.work self.old.made) }
+        requires held { AreHeld rules.now store.now (K.contents self.old.keeper) (K.memories self.old.keeper) self.old.work self.old.made }
         ensures value { IfOk result (λ o. IfSome o (λ v. HasValue (contents store.now) (meaning rules.now) inst.now (value_view v))) }
         ensures all { IsTrue K.exact → AreSpare rules.now (contents store.now) (K.contents self.old.keeper)
-            → IfOk result (λ o. IfSome o (λ v. HasWorthy rules.now (contents store.now) inst.now (K.contents self.new.keeper))) }
+            → IfOk result (λ o. OnSome o (HasWorthy rules.now (contents store.now) inst.now (K.contents self.new.keeper))) }
         ensures gains { Gains rules.now store.now K.exact inst.now (K.contents self.old.keeper) (K.contents self.new.keeper) [] [] self.old.work self.new.work }
+        ensures led { AreLed rules.now store.now inst.now (K.contents self.old.keeper) (K.contents self.new.keeper) }
         ensures traces { StayJustified rules.now store.now inst.now (K.memories self.old.keeper) (K.memories self.new.keeper) }
         ensures makes { Makes (K.contents self.old.keeper) (K.contents self.new.keeper) (K.memories self.old.keeper) (K.memories self.new.keeper)
             self.old.made self.new.made }
@@ -203,9 +205,10 @@ impl<K: Keeper> Demand<K> {
         due: usize,
     ) -> Result<usize, AllocError>
         requires idle { IsIdle store.now }
-        requires held { IsHeld rules.now (contents store.now) (held (K.contents self.old.keeper) (K.memories self.old.keeper) [] self.old.work self.old.made) }
+        requires held { AreHeld rules.now store.now (K.contents self.old.keeper) (K.memories self.old.keeper) self.old.work self.old.made }
         ensures gains { Gains rules.now store.now K.exact question.now.inst (K.contents self.old.keeper) (K.contents self.new.keeper) [] []
             self.old.work self.new.work }
+        ensures led { AreLed rules.now store.now question.now.inst (K.contents self.old.keeper) (K.contents self.new.keeper) }
         ensures traces { StayJustified rules.now store.now question.now.inst (K.memories self.old.keeper) (K.memories self.new.keeper) }
         ensures went { Went (K.memories self.old.keeper) self.old.made (K.memories self.new.keeper) self.new.made }
     {

@@ -49,6 +49,8 @@ pub use laws::{
 };
 pub use question::Question;
 pub use turning_laws::{
-    a_question_has_few_turns, a_question_stands_while_more_is_kept, a_search_has_few_turns,
+    a_question_has_few_turns, a_question_stands_while_more_is_kept, a_search_goes_on_with_reason,
+    a_search_has_few_turns, what_comes_has_a_reason, what_is_kept_again_is_demanded,
+    what_is_looked_at_is_decided, what_turns_let_come_was_met,
     without_traces_nothing_is_kept_again,
 };

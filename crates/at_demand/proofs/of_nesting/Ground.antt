@@ -34,9 +34,15 @@ ground_of rules look known circular right = record {
   right = right;
 }
 
--- an instance that isn't circular comes to what its equation demands
+-- the formula of an instance that isn't circular demands what its equation does
+pub demands_own : (rules : Rules) (look : Contents ℕ) (i j : Instance ℕ) → start_of rules i.attribute ≡ None →
+    Reaches look (HasValue look (meaning rules)) (equations rules i) j →
+    Reaches look (HasValue look (meaning rules)) ((meaning rules).formula i) j
+demands_own rules look i j own h = subst (λ (r : Run ℕ (Formula ℕ)). Reaches look (HasValue look (meaning rules)) r j)
+    (sym (by_plain_equation rules nat_eq i own))
+    (reaches_on look (HasValue look (meaning rules)) (HasValue look (meaning rules)) (λ k w x. x) (equations rules i) j h)
+
+-- so it comes to that
 pub comes_own : (rules : Rules) (look : Contents ℕ) (i j : Instance ℕ) → start_of rules i.attribute ≡ None →
     Reaches look (HasValue look (meaning rules)) (equations rules i) j → Comes look (meaning rules) i j
-comes_own rules look i j own h = inl (subst (λ (r : Run ℕ (Formula ℕ)). Reaches look (HasValue look (meaning rules)) r j)
-    (sym (by_plain_equation rules nat_eq i own))
-    (reaches_on look (HasValue look (meaning rules)) (HasValue look (meaning rules)) (λ k w x. x) (equations rules i) j h))
+comes_own rules look i j own h = inl (demands_own rules look i j own h)

@@ -24,19 +24,23 @@ use Rattle.at_demand.specs.Inner.{AreLazy, Gains, IsEvaluated, is_inner, known_b
 use Rattle.at_demand.specs.InParts.{HasGained, HasGrown, Held, IsEvaluatedFor, IsHeld, IsUnkept, held, values_in}
 use Rattle.at_demand.specs.Made.{Makes}
 use Rattle.at_demand.specs.Sparing.{Counts}
+use Rattle.at_demand.specs.Reasons.{DemandsOn, goes as goes_on}
 use Rattle.at_demand.proofs.Entered.{is_there}
+use Rattle.at_demand.proofs.of_nesting.Demanding.{demanded_none, demanded_put, demanded_same, demanded_then, demanded_up, demands_lead}
+use Rattle.at_demand.proofs.of_nesting.Ground.{demands_own}
 use Rattle.at_demand.proofs.of_nesting.Asked.{gains_evaluated, traced_evaluated}
 use Rattle.at_demand.proofs.of_nesting.InnerGains.{Found, counts_shared_so, gains_as, gains_more, gains_none, gains_put_so, gains_same, gains_then, gains_up, more_known, valued}
 use Rattle.at_demand.proofs.of_nesting.Remembered.{ground_by, known_on}
 use Rattle.at_demand.proofs.of_traces.Making.{makes_alike, makes_as, makes_from, makes_none, makes_then}
 use Rattle.at_demand.proofs.of_traces.Putting.{put_traced, stays_put, traced_on, traced_same, traced_then, traced_up}
-use Rattle.at_demand.proofs.of_traces.Settled.{LastKept, settled_gains}
+use Rattle.at_demand.proofs.of_traces.Settled.{LastKept, settled_demanded, settled_gains}
 
 -- nothing comes
 pub grown_none : (rules : Rules) (s : Shown) (exact : Bool) (i : Instance ℕ) (h : Held) → h.work < 2 ^ 64 →
     IsHeld rules (contents s) h → HasGrown rules s exact i h h
 grown_none rules s exact i h few is = record {
   gains = gains_none rules s exact i h.entries h.found h.work few is.known;
+  demanded = demanded_none (contents s) (meaning rules) i (kept_values h.entries);
   traces = traced_same rules s i h.memories is.justified;
   makes = makes_none h.entries h.memories h.made;
 }
@@ -47,19 +51,24 @@ pub grown_then : {rules : Rules} {s : Shown} {exact : Bool} {i : Instance ℕ} {
 grown_then {rules} {s} {exact} {i} {old} {mid} {new} a b = record {
   gains = gains_then rules s exact i old.entries mid.entries new.entries old.found mid.found new.found old.work mid.work
       new.work a.gains b.gains;
+  demanded = demanded_then (contents s) (meaning rules) i (kept_values old.entries) (kept_values mid.entries)
+      (kept_values new.entries) a.demanded b.demanded;
   traces = traced_then rules s i old.memories mid.memories new.memories a.traces b.traces;
   makes = makes_then old.entries mid.entries new.entries old.memories mid.memories new.memories old.made mid.made new.made
       a.gains.worthy.stays b.gains.worthy.stays a.makes b.makes;
 }
 
--- what comes for an instance comes for one that leads to it
+-- what comes for an instance comes for one from which demands lead to it
 pub grown_up : {rules : Rules} {s : Shown} {exact : Bool} {i j : Instance ℕ} {old new : Held} → IsIdle s →
-    Leads (contents s) (meaning rules) i j → HasGrown rules s exact j old new → HasGrown rules s exact i old new
-grown_up {rules} {s} {exact} {i} {j} {old} {new} idle led a = record {
-  gains = gains_up rules s exact idle i j old.entries new.entries old.found new.found old.work new.work led a.gains;
-  traces = traced_up rules s idle i j old.memories new.memories led a.traces;
-  makes = a.makes;
-}
+    DemandsOn (contents s) (meaning rules) i j → HasGrown rules s exact j old new → HasGrown rules s exact i old new
+grown_up {rules} {s} {exact} {i} {j} {old} {new} idle on a =
+    let led : Leads (contents s) (meaning rules) i j = demands_lead (contents s) (meaning rules) i j on in record {
+      gains = gains_up rules s exact idle i j old.entries new.entries old.found new.found old.work new.work led a.gains;
+      demanded = demanded_up (contents s) (meaning rules) i j (kept_values old.entries) (kept_values new.entries) on
+          a.demanded;
+      traces = traced_up rules s idle i j old.memories new.memories led a.traces;
+      makes = a.makes;
+    }
 
 -- from what was remembered and counted so before
 pub grown_from : {rules : Rules} {s : Shown} {exact : Bool} {i : Instance ℕ} {entries : Entries} {m : Memories} {f g : Found}
@@ -68,6 +77,7 @@ pub grown_from : {rules : Rules} {s : Shown} {exact : Bool} {i : Instance ℕ} {
 grown_from {rules} {s} {exact} {i} {entries} {m} {f} {g} {w} {x} {k} {l} {new} e d c a = record {
   gains = subst (λ (z : Found). Gains rules s exact i entries new.entries z new.found w new.work) e
       (subst (λ (z : ℕ). Gains rules s exact i entries new.entries g new.found z new.work) d a.gains);
+  demanded = a.demanded;
   traces = a.traces;
   makes = makes_from c a.makes;
 }
@@ -75,12 +85,12 @@ grown_from {rules} {s} {exact} {i} {entries} {m} {f} {g} {w} {x} {k} {l} {new} e
 -- behind what came for an instance, what came for one that it leads to, in a level that was given
 pub grown_aside : {rules : Rules} {s : Shown} {exact : Bool} {i j : Instance ℕ} {old new : Held} {entries : Entries}
     {m : Memories} {f g : Found} {w x k l : ℕ} {o : Option (Instance ℕ)} → IsIdle s → o ≡ Some j →
-    IfSome o (Leads (contents s) (meaning rules) i) → HasGrown rules s exact i old (held entries m f w k) →
+    IfSome o (DemandsOn (contents s) (meaning rules) i) → HasGrown rules s exact i old (held entries m f w k) →
     g ≡ f → x ≡ w → l ≡ k → HasGrown rules s exact j (held entries m g x l) new → HasGrown rules s exact i old new
 grown_aside {rules} {s} {exact} {i} {j} {old} {new} {entries} {m} {f} {g} {w} {x} {k} {l} {o} idle is led a e d c b =
-    let leads : Leads (contents s) (meaning rules) i j =
-    subst (λ (p : Option (Instance ℕ)). IfSome p (Leads (contents s) (meaning rules) i)) is led in
-    grown_then a (grown_up idle leads (grown_from e d c b))
+    let on : DemandsOn (contents s) (meaning rules) i j =
+    subst (λ (p : Option (Instance ℕ)). IfSome p (DemandsOn (contents s) (meaning rules) i)) is led in
+    grown_then a (grown_up idle on (grown_from e d c b))
 
 -- an instance that isn't circular, and has a value, isn't led to by another one to which it leads
 apart_from : (rules : Rules) (look : Contents ℕ) (known : Known ℕ) →
@@ -96,7 +106,7 @@ apart_from rules look known ground _ j v own has apart (goes i m _ c l) back =
 -- no value came of the instance itself, where that is another one
 pub unkept_aside : {rules : Rules} {s : Shown} {exact : Bool} (i : Instance ℕ) {j : Instance ℕ} {old new : Held}
     {o : Option (Instance ℕ)} → start_of rules i.attribute ≡ None → o ≡ Some j →
-    IfSome o (Leads (contents s) (meaning rules) i) → IfSome o (λ m. m ≢ i) → HasGrown rules s exact j old new →
+    IfSome o (DemandsOn (contents s) (meaning rules) i) → IfSome o (λ m. m ≢ i) → HasGrown rules s exact j old new →
     IsUnkept old i → IsUnkept new i
 unkept_aside {rules} {s} {exact} i {j} {old} {new} {o} own is led other a none = by (kept_values new.entries i) refl
   where
@@ -104,7 +114,8 @@ unkept_aside {rules} {s} {exact} i {j} {old} {new} {o} own is led other a none =
     apart = subst (λ (p : Option (Instance ℕ)). IfSome p (λ m. m ≢ i)) is other
 
     leads : Leads (contents s) (meaning rules) i j
-    leads = subst (λ (p : Option (Instance ℕ)). IfSome p (Leads (contents s) (meaning rules) i)) is led
+    leads = demands_lead (contents s) (meaning rules) i j
+        (subst (λ (p : Option (Instance ℕ)). IfSome p (DemandsOn (contents s) (meaning rules) i)) is led)
 
     by : (v : Option (Value ℕ)) → kept_values new.entries i ≡ v → kept_values new.entries i ≡ None
     by None same = same
@@ -122,6 +133,8 @@ pub grown_settled : (rules : Rules) (s : Shown) → IsIdle s → (exact : Bool) 
 grown_settled rules s idle exact i old entries m n w is few last steps counted stay alike = record {
   gains = settled_gains rules s idle exact old.memories is.justified i n old.entries entries old.found old.work w
       steps few counted is.known last;
+  demanded = settled_demanded rules s idle exact old.memories is.justified i n old.entries entries old.found steps
+      is.known last;
   traces = traced_on rules s i old.memories m stay is.justified;
   makes = makes_alike old.entries entries old.memories m old.made alike;
 }
@@ -136,6 +149,8 @@ pub grown_evaluated : (rules : Rules) (s : Shown) (exact : Bool) → IsIdle s �
     start_of rules i.attribute ≡ None → HasGained rules s exact (equations rules i) old new → HasGrown rules s exact i old new
 grown_evaluated rules s exact idle i old new own h = record {
   gains = gains_evaluated rules s exact idle i old new own h;
+  demanded = λ j none some. let (m, d, on) = h.demanded j none some in
+      goes_on i m j (demands_own rules (contents s) i m own d) on;
   traces = traced_evaluated rules s exact idle i old new own h;
   makes = h.makes;
 }
@@ -154,6 +169,8 @@ module _ {rules : Rules} {s : Shown} {exact : Bool} {i : Instance ℕ} {old new 
     gains = subst (λ (f : Found). Gains rules s exact i old.entries new.entries old.found f old.work new.work) (sym found)
         (gains_put_so rules s exact i old.entries new.entries old.found v below.reads below.uses.items is.held.known
         is.own is.come (Some v) (inl (refl, is.lazy)) absent old.work new.work counts p put);
+    demanded = demanded_put (contents s) (meaning rules) exact old.entries new.entries i (Some v) below.reads
+        below.uses.items p put;
     traces = put_traced rules s idle i old.entries new.entries old.found v below.reads below.uses.items o old.memories
         new.memories is.held.known is.own is.come is.lazy
         (λ e. subst (λ (xs : List (Instance ℕ)). AreLazy rules xs) same (ordered e))
@@ -167,6 +184,7 @@ module _ {rules : Rules} {s : Shown} {exact : Bool} {i : Instance ℕ} {old new 
   grown_unkept all = record {
     gains = subst (λ (f : Found). Gains rules s exact i old.entries new.entries old.found f old.work new.work) (sym found)
         (gains_same rules s exact i old.entries new.entries old.found old.work new.work all is.held.known counts);
+    demanded = demanded_same (contents s) (meaning rules) i old.entries new.entries all;
     traces = put_traced rules s idle i old.entries new.entries old.found v below.reads below.uses.items o old.memories
         new.memories is.held.known is.own is.come is.lazy
         (λ e. subst (λ (xs : List (Instance ℕ)). AreLazy rules xs) same (ordered e)) (λ j some. all j) last puts
@@ -184,6 +202,7 @@ grown_entered rules s {exact} {i} {v} {below} {before} {after} {m} {n} {f} {w} {
   gains = gains_put_so rules s exact i before after f v below.reads below.uses.items is.held.known is.own is.come None
       (inr (refl, is.lazy)) absent w w
       (λ k. counts_shared_so rules s exact before after i below.reads below.uses.items w few absent p put) p put;
+  demanded = demanded_put (contents s) (meaning rules) exact before after i None below.reads below.uses.items p put;
   traces = traced_on rules s i m n stay is.held.justified;
   makes = makes;
 }
@@ -194,6 +213,7 @@ pub grown_as : {rules : Rules} {s : Shown} {exact : Bool} {i : Instance ℕ} {ol
     HasGrown rules s exact i old (held entries m f w k) → HasGrown rules s exact i old (held entries m g x l)
 grown_as {rules} {s} {exact} {i} {old} {entries} {m} {f} {g} {w} {x} {k} {l} e d c a = record {
   gains = gains_as rules s exact i old.entries entries old.found f g old.work w x e d a.gains;
+  demanded = a.demanded;
   traces = a.traces;
   makes = makes_as c a.makes;
 }
@@ -223,6 +243,7 @@ module _ {rules : Rules} {s : Shown} {exact : Bool} {i : Instance ℕ} {old : He
   pub grown_more : HasGrown rules s exact i old (held entries m g w k)
   grown_more = record {
     gains = gains_more rules s exact i old.entries entries old.found f g old.work w c a.gains put has some lazy;
+    demanded = a.demanded;
     traces = a.traces;
     makes = a.makes;
   }

@@ -22,6 +22,8 @@ use Rattle.at_demand.specs.Inner.{Gains, HasTold}
 use Rattle.at_demand.specs.InParts.{EndsTold, EvaluatesTo, HasCome, HasGained, Held, demand, values_in}
 use Rattle.at_demand.specs.Made.{Makes}
 use Rattle.at_demand.specs.Traces.{StayJustified}
+use Rattle.at_demand.specs.Reasons.{AddsDemanded}
+use Rattle.at_demand.specs.Known.{kept_values, meaning}
 use Rattle.at_demand.proofs.of_parts.Directly.{come_begun, come_end, come_then, gains_begun, gains_demand, gains_then, gains_within, grows, grows_then, told_come}
 
 -- an expression where it stands
@@ -163,13 +165,14 @@ module _ (rules : Rules) (s : Shown) (exact : Bool) (p : Place) where
     module _ (n : ℕ) (vs : List ValueCode) (last : Held) (later : Level) (e : value_view v ≡ Ref (Some n))
         (t : HasCome rules (contents s) next between later (all_at rules p bs) (map value_view vs))
         (d : Gains rules s exact (asked n k vs) next.entries last.entries next.found last.found next.work last.work)
+        (w : AddsDemanded (contents s) (meaning rules) (asked n k vs) (kept_values next.entries) (kept_values last.entries))
         (j : StayJustified rules s (asked n k vs) next.memories last.memories)
         (m : Makes next.entries last.entries next.memories last.memories next.made last.made) where
       demands : demand_of k (value_view v) (map value_view vs) ≡ demand (asked n k vs)
       demands = ap (λ z. demand_of k z (map value_view vs)) e
 
       asks : HasGained rules s exact (demand (asked n k vs)) next last
-      asks = gains_demand rules s exact (asked n k vs) next last d j m
+      asks = gains_demand rules s exact (asked n k vs) next last d w j m
 
       pub call_gains : HasGained rules s exact (call_of rules.classes p a k bs) first last
       call_gains = gains_then rules s exact (run_at rules p a) (behind_receiver rules p k bs) (value_view v)
@@ -202,8 +205,8 @@ module _ (rules : Rules) (s : Shown) (exact : Bool) (p : Place) where
         rules s exact j next last later new res) is ends in
         let grown = told.grown in
         record {
-          come = call_come n vs last later e t grown.gains grown.traces grown.makes res new told.told;
-          gains = call_gains n vs last later e t grown.gains grown.traces grown.makes;
+          come = call_come n vs last later e t grown.gains grown.demanded grown.traces grown.makes res new told.told;
+          gains = call_gains n vs last later e t grown.gains grown.demanded grown.traces grown.makes;
         }
 
   pub fold_gains_first : (f : Fold) (a : Body) (part : ℕ) (b : Body) (old new : Held) →

@@ -17,6 +17,7 @@ use Rattle.at_demand.specs.InParts.{Demanded, EvaluatesTo, HasCome, HasGained, H
 use Rattle.at_demand.specs.Made.{Makes}
 use Rattle.at_demand.specs.Sparing.{IsWorthKeeping}
 use Rattle.at_demand.specs.Traces.{StayJustified}
+use Rattle.at_demand.specs.Reasons.{AddsDemanded, DemandsOn}
 use Rattle.at_demand.proofs.Counting.{counts_more, counts_none}
 use Rattle.at_demand.proofs.Entered.{entered_on, is_there, not_none}
 use Rattle.at_demand.proofs.of_nesting.Remembered.{ground_by, known_on}
@@ -143,6 +144,7 @@ module _ (rules : Rules) (s : Shown) (exact : Bool) where
     keeps = λ j some. refl;
     still = λ j v e. e;
     worthy = λ j none some. absurd (not_none (kept_values h.entries j) some none);
+    demanded = λ j none some. absurd (not_none (kept_values h.entries j) some none);
     right = is;
     stays = λ all a. a;
     there = λ all a. a;
@@ -159,6 +161,7 @@ module _ (rules : Rules) (s : Shown) (exact : Bool) where
     keeps = g.keeps;
     still = g.still;
     worthy = λ j none some. let (m, d, is) = g.worthy j none some in (m, wider m d, is);
+    demanded = λ j none some. let (m, d, on) = g.demanded j none some in (m, wider m d, on);
     right = g.right;
     stays = λ all. g.stays (λ m d. all m (wider m d));
     there = λ all. g.there (λ m d. all m (wider m d));
@@ -188,6 +191,7 @@ module _ (rules : Rules) (s : Shown) (exact : Bool) where
     keeps = λ j some. h.keeps j (entered_on first.entries mid.entries g.keeps j some) ∙ g.keeps j some;
     still = λ j v e. h.still j v (g.still j v e);
     worthy = λ j none some. by j none some (kept_values mid.entries j) refl;
+    demanded = λ j none some. demanded_by j none some (kept_values mid.entries j) refl;
     right = h.right;
     stays = λ all a. h.stays (λ m d. all m (behind m d)) (g.stays (λ m d. all m (within m d)) a);
     there = λ all a. h.there (λ m d. all m (behind m d)) (g.there (λ m d. all m (within m d)) a);
@@ -213,15 +217,24 @@ module _ (rules : Rules) (s : Shown) (exact : Bool) where
       by j none some (Some v) e =
           let (m, d, worth) = g.worthy j none (is_there (kept_values mid.entries j) v e) in (m, within m d, worth)
 
+      demanded_by : (j : Instance ℕ) → kept_values first.entries j ≡ None → IsKept last.entries j →
+          (o : Option (Value ℕ)) → kept_values mid.entries j ≡ o →
+          (m : Instance ℕ) × Demanded rules (contents s) (r >>= k) m × DemandsOn (contents s) (meaning rules) m j
+      demanded_by j none some None e = let (m, d, on) = h.demanded j e some in (m, behind m d, on)
+      demanded_by j none some (Some v) e =
+          let (m, d, on) = g.demanded j none (is_there (kept_values mid.entries j) v e) in (m, within m d, on)
+
   -- what came for an instance came for its demand
   pub gains_demand : (i : Instance ℕ) (old new : Held) →
       Gains rules s exact i old.entries new.entries old.found new.found old.work new.work →
+      AddsDemanded (contents s) (meaning rules) i (kept_values old.entries) (kept_values new.entries) →
       StayJustified rules s i old.memories new.memories →
       Makes old.entries new.entries old.memories new.memories old.made new.made → HasGained rules s exact (demand i) old new
-  gains_demand i old new g t m = record {
+  gains_demand i old new g a t m = record {
     keeps = g.worthy.stays;
     still = g.still;
     worthy = λ j none some. (i, inl refl, g.worthy.worthy j none some);
+    demanded = λ j none some. (i, inl refl, a j none some);
     right = record { known = g.known; justified = t.justified };
     stays = λ all. g.stays (all i (inl refl));
     there = λ all. t.there (all i (inl refl));

@@ -1,5 +1,5 @@
 -- What turns that follow each other come to, none of which answers the question.
-use Rattle.std.proofs.Common.{◌≡◌, ◌+◌, ◌<◌, ◌≤◌, ◌^◌, ℕ, suc, Bool, [], Option, Some, None, Result, Ok, Err, refl, sym, ◌∙◌, subst, arith}
+use Rattle.std.proofs.Common.{◌≡◌, ◌+◌, ◌<◌, ◌≤◌, ◌^◌, ℕ, suc, Bool, [], Option, Some, None, Result, Ok, Err, refl, sym, ap, ◌∙◌, subst, arith}
 use Rattle.std.specs.Prelude.{IsTrue}
 use Rattle.std.specs.declared.alloc.AllocError.{AllocError}
 use Rattle.at_model.specs.Rules.{Rules}
@@ -7,7 +7,7 @@ use Rattle.at_model.specs.Run.{Instance}
 use Rattle.at_model.specs.Turning.{UnderWay}
 use Rattle.at_model.specs.Turning.{Silent as ChainSilent, none as chain_none, one_more as chain_more}
 use Rattle.at_model.specs.of_fixpoints.Circles.{Answers}
-use Rattle.at_model.specs.of_fixpoints.Searching.{Search, Silent, none as search_none, one_more as search_more}
+use Rattle.at_model.specs.of_fixpoints.Searching.{Level, Search, Silent, none as search_none, one_more as search_more}
 use Rattle.at_rules.specs.Circular.{HasNoneCircular}
 use Rattle.at_store.specs.Shown.{Shown, contents}
 use Rattle.at_cache.specs.Kept.{Entries}
@@ -25,6 +25,7 @@ use Rattle.at_demand.specs.Right.{AreRight, IsThere}
 use Rattle.at_demand.specs.Sound.{AreSound}
 use Rattle.at_demand.specs.Sparing.{AddsWorthy, AreSpare, Counts}
 use Rattle.at_demand.specs.Traces.{AreJustified}
+use Rattle.at_demand.specs.Reasons.{AreLed}
 use Rattle.at_demand.specs.Turns.{AreTurns, AreTurnsOfChain, IsSparingTurns, IsStanding, under_way}
 use Rattle.at_demand.specs.Turns as turns
 use Rattle.at_demand.proofs.Counting.{counts_more, counts_none}
@@ -34,7 +35,7 @@ use Rattle.at_demand.proofs.of_nesting.InnerGains.{gains_up, known_none}
 use Rattle.at_demand.proofs.of_steps.Grown.{spares_grown, stands_grown, stands_more}
 use Rattle.at_demand.proofs.of_steps.KeptAgain.{again_before, gains_again, settled_again}
 use Rattle.at_demand.proofs.of_traces.Justified.{stay_justified}
-use Rattle.at_demand.proofs.of_traces.Settled.{LastKept}
+use Rattle.at_demand.proofs.of_traces.Settled.{LastKept, settled_demanded}
 
 -- So many turns were given, and the question stands.
 pub record HasGivenSo (rules : Rules) (s : Shown) (exact : Bool) (m : Memories) (first now : Entries) (w x given : ℕ) (old new : Question) : Type 0 where
@@ -89,8 +90,8 @@ module _ (rules : Rules) (s : Shown) (exact : Bool) (m : Memories) (basis : IsBa
     sound_again : AreSound rules s new
     sound_again = sound_after rules s basis mid q inv.sound inv.standing new gains.known.right up.worthy
 
-    pub given_again : KeepsAgain m mid new → So new y given q
-    given_again again = record {
+    pub given_again : KeepsAgain m mid new → AreLed rules s q.inst mid new → So new y given q
+    given_again again on = record {
       sound = sound_again;
       plain = gains.known.plain;
       standing = stands_grown rules s mid new gains.worthy.stays q inv.standing;
@@ -100,7 +101,9 @@ module _ (rules : Rules) (s : Shown) (exact : Bool) (m : Memories) (basis : IsBa
           let (each, silent) = inv.plainly none in (turns.again given first mid new (under_way old) (under_way q) each again, silent);
       searched = λ u st.
           let (v, silent, each, stands) = inv.searched u st in
-          (v, silent, turns.again given first mid new u v each again, stands_more rules s mid new gains.worthy.stays q sound_again v stands);
+          let next_is : v.last.next ≡ q.inst = ap (λ (l : Level ℕ). l.next) stands.is.last in
+          let led = subst (λ (i : Instance ℕ). AreLed rules s i mid new) (sym next_is) on in
+          (v, silent, turns.again given first mid new u v each again led gains.known.right, stands_more rules s mid new gains.worthy.stays q sound_again v stands);
       worthy = worthy_both rules (contents s) (asked_by old) first mid new inv.worthy
           (subst (λ (i : Instance ℕ). AddsWorthy rules (contents s) i mid new) inv.same up.worthy);
       stays = λ there right. up.stays (subst (λ (i : Instance ℕ). IsThere s i) (sym inv.same) there) (inv.stays there right);
@@ -117,6 +120,8 @@ module _ (rules : Rules) (s : Shown) (exact : Bool) (m : Memories) (basis : IsBa
       (known_none rules (contents s) mid basis.circular inv.sound.right inv.plain)
       (stay_justified rules (contents s) m l stay justified) last kept)
       (again_before m l mid new stay (settled_again exact l q.inst kept.count mid new kept.settled))
+      (settled_demanded rules s basis.idle exact l (stay_justified rules (contents s) m l stay justified) q.inst kept.count mid new []
+      kept.settled (known_none rules (contents s) mid basis.circular inv.sound.right inv.plain) last)
 
   module _ (mid : Entries) (x given : ℕ) (q : Question) (inv : So mid x given q) (new : Entries) (y : ℕ) (p : Question) (t : Trials) where
     module _ (Whole : Type 0) (g : GainsAtMost rules s exact mid new x y q Whole) where
@@ -156,7 +161,7 @@ module _ (rules : Rules) (s : Shown) (exact : Bool) (m : Memories) (basis : IsBa
           let (z, turned, after) = e.turned.searched v stands in (
             z,
             one_up (λ n. Silent (contents s) (meaning rules) n u z) given (search_more (kept_values mid) inv.sound.right silent turned),
-            turns.more given first mid new u v z None each turned (e.gains.last.searched v stands),
+            turns.more given first mid new u v z None each turned (e.gains.last.searched v stands) e.gains.right,
             after refl,
           );
       worthy = worthy_now (Unit {0}) e.gains;
@@ -184,7 +189,7 @@ module _ (rules : Rules) (s : Shown) (exact : Bool) (m : Memories) (basis : IsBa
           let (z, turned, after) = e.turned.searched v stands in (
             z,
             (given, v, kept_values mid, refl, omega (arith, less), silent, turned),
-            turns.more given first mid new u v z (Some (answer_view a)) each turned (e.gains.last.searched v stands),
+            turns.more given first mid new u v z (Some (answer_view a)) each turned (e.gains.last.searched v stands) e.gains.right,
             λ none. absurd (no_answer none),
           );
       broke = λ u st. tt;

@@ -6,10 +6,10 @@ use Rattle.at_model.specs.Run.{Value, Location, Run, Instance, Contents, Known}
 use Rattle.at_model.specs.Meaning.{Equations, Reaches, Among}
 use Rattle.at_model.specs.of_fixpoints.Fixpoints.{HasValue}
 use Rattle.at_model.specs.of_fixpoints.Formulas.{Forms}
-use Rattle.at_model.specs.of_fixpoints.Resting.{Leads, stays, goes}
 use Rattle.at_model.specs.Nested.{Passes, gives, looks, told, Tells, Evaluates, IsGround}
 use Rattle.at_model.proofs.Reached.{front_among, back_among}
-use Rattle.at_model.proofs.of_nesting.Nesting.{comes_own, tells_hold}
+use Rattle.at_model.proofs.of_nesting.Nesting.{reaches_own, tells_hold}
+use Rattle.at_demand.specs.Reasons.{DemandsOn, stays, goes}
 
 -- the same stands at each of the locations
 abbrev pub AreSame : {N : Type 0} → (look later : Contents N) → List (Location N) → Type 0
@@ -99,10 +99,11 @@ module _ {N : Type 0} (look : Contents N) (equation : Equations N) (forms : Form
     (inner : Instance N → Bool) (ground : IsGround look equation forms knows inner) where
   -- it comes to the instance, or to one that leads to it
   abbrev IsReached : {A : Type 0} → Run N A → Instance N → Type 0
-  IsReached r u = (j : Instance N) × Reaches look (HasValue look forms) r j × Leads look forms j u
+  IsReached r u = (j : Instance N) × Reaches look (HasValue look forms) r j × DemandsOn look forms j u
 
-  reached_led : (i u : Instance N) → forms.starts i.attribute ≡ None → IsReached (equation i) u → Leads look forms i u
-  reached_led i u own (j, c, d) = goes i j u (comes_own look equation forms knows inner ground i j own c) d
+  reached_led : (i u : Instance N) → forms.starts i.attribute ≡ None → IsReached (equation i) u →
+      DemandsOn look forms i u
+  reached_led i u own (j, c, d) = goes i j u (reaches_own look equation forms knows inner ground i j own c) d
 
   front_alike : (us f front : List (Instance N)) → front ≡ us ++ f → AreAlike known knows front →
       AreAlike known knows us
@@ -118,12 +119,12 @@ module _ {N : Type 0} (look : Contents N) (equation : Equations N) (forms : Form
   told_holds n j v ls us t alike = tells_hold look equation forms knows inner ground n j v ls us
       (tells_same look look known knows equation inner n j v ls us t (λ l h. refl) alike)
 
-  abbrev LeadsNext : ℕ → Type 0
-  LeadsNext n = (j : Instance N) (v : Value N) (ls : List (Location N)) (us front : List (Instance N)) (u : Instance N)
+  abbrev DemandsNext : ℕ → Type 0
+  DemandsNext n = (j : Instance N) (v : Value N) (ls : List (Location N)) (us front : List (Instance N)) (u : Instance N)
       (back : List (Instance N)) → Tells look equation known inner n j v ls us → us ≡ front ++ u ∷ back →
-      AreAlike known knows front → Leads look forms j u
+      AreAlike known knows front → DemandsOn look forms j u
 
-  reached_next : {A : Type 0} (n : ℕ) → LeadsNext n → (r : Run N A) (a : A) (ls : List (Location N))
+  reached_next : {A : Type 0} (n : ℕ) → DemandsNext n → (r : Run N A) (a : A) (ls : List (Location N))
       (us front : List (Instance N)) (u : Instance N) (back : List (Instance N)) →
       Evaluates look equation known inner n r a ls us → us ≡ front ++ u ∷ back → AreAlike known knows front →
       IsReached r u
@@ -139,16 +140,17 @@ module _ {N : Type 0} (look : Contents N) (equation : Equations N) (forms : Form
             (z.0, inr (v, has, z.1), z.2)
       ]
 
-  leads_next : (n : ℕ) → LeadsNext n
-  leads_next zero j v ls us front u back (e, none, is) s alike =
-      subst (λ z. Leads look forms j z) (alone_there j front u back (sym is ∙ s)) (stays j)
-  leads_next (suc n) j v ls us front u back (inl t) s alike = leads_next n j v ls us front u back t s alike
-  leads_next (suc n) j v ls us front u back (inr (is, p)) s alike =
-      reached_led j u (ground.own j is) (reached_next n (leads_next n) (equation j) v ls us front u back p s alike)
+  demands_next : (n : ℕ) → DemandsNext n
+  demands_next zero j v ls us front u back (e, none, is) s alike =
+      subst (λ z. DemandsOn look forms j z) (alone_there j front u back (sym is ∙ s)) (stays j)
+  demands_next (suc n) j v ls us front u back (inl t) s alike = demands_next n j v ls us front u back t s alike
+  demands_next (suc n) j v ls us front u back (inr (is, p)) s alike =
+      reached_led j u (ground.own j is) (reached_next n (demands_next n) (equation j) v ls us front u back p s alike)
 
-  -- the instance leads to what its evaluation took next
+  -- demands lead from the instance to what its evaluation took next
   pub takes_next : (n : ℕ) (i : Instance N) (v : Value N) (ls : List (Location N)) (us front : List (Instance N))
       (u : Instance N) (back : List (Instance N)) → forms.starts i.attribute ≡ None →
-      Evaluates look equation known inner n (equation i) v ls us → us ≡ front ++ u ∷ back → AreAlike known knows front → Leads look forms i u
+      Evaluates look equation known inner n (equation i) v ls us → us ≡ front ++ u ∷ back → AreAlike known knows front →
+      DemandsOn look forms i u
   takes_next n i v ls us front u back own p e alike =
-      reached_led i u own (reached_next n (leads_next n) (equation i) v ls us front u back p e alike)
+      reached_led i u own (reached_next n (demands_next n) (equation i) v ls us front u back p e alike)

@@ -1,10 +1,10 @@
 -- What is settled for an instance is worth keeping for it, and stays right, spare and counted.
-use Rattle.std.proofs.Common.{◌≡◌, ℕ, suc, ◌+◌, ◌-◌, ◌^◌, ◌<◌, min, Bool, true, false, List, Some, None, inl, refl, sym, ap, ◌∙◌, subst, arith, if◌then◌else◌, true≢false}
+use Rattle.std.proofs.Common.{◌≡◌, ℕ, suc, ◌+◌, ◌-◌, ◌^◌, ◌<◌, min, Bool, true, false, List, [], Some, None, inl, refl, sym, ap, ◌∙◌, subst, arith, if◌then◌else◌, true≢false}
 use Rattle.std.specs.List.{list_any}
 use Rattle.at_model.specs.Run.{Value, Instance, Location}
 use Rattle.at_model.specs.Rules.{Rules}
 use Rattle.at_model.specs.Meaning.{Among}
-use Rattle.at_model.specs.of_fixpoints.Resting.{Leads, stays}
+use Rattle.at_model.specs.of_fixpoints.Resting.{Leads}
 use Rattle.at_store.specs.Shown.{Shown, IsIdle, contents}
 use Rattle.at_body.specs.Same.{same_instance}
 use Rattle.at_cache.specs.Kept.{Entries, Puts, PutsBy, same_location, value_at}
@@ -14,11 +14,12 @@ use Rattle.at_cache.proofs.Locations.{same_location-is, same_location-itself}
 use Rattle.at_demand.specs.Known.{equations, meaning, kept_values}
 use Rattle.at_demand.specs.Meant.{AreCircularWell, AreRightValues}
 use Rattle.at_demand.specs.Inner.{AreKnown, Gains, IsEvaluated, is_inner, known_by}
+use Rattle.at_demand.specs.Reasons.{AddsDemanded, DemandsOn, stays}
 use Rattle.at_demand.specs.Traces.{AreJustified}
 use Rattle.at_demand.proofs.Counting.{counts_put}
-use Rattle.at_demand.proofs.Entered.{there as is_some}
+use Rattle.at_demand.proofs.of_nesting.Demanding.{demanded_none, demanded_then, demands_lead, demands_then}
+use Rattle.at_demand.proofs.Entered.{not_none, there as is_some}
 use Rattle.at_demand.proofs.Gathered.{any_among}
-use Rattle.at_demand.proofs.Leading.{leads_on}
 use Rattle.at_demand.proofs.OnlyLemmas.{any_one}
 use Rattle.at_demand.proofs.Sameness.{same_true}
 use Rattle.at_demand.proofs.of_nesting.Ground.{ground_of}
@@ -85,16 +86,24 @@ module _ (m : Memories) where
 
 module _ (rules : Rules) (s : Shown) (idle : IsIdle s) (exact : Bool) (m : Memories)
     (r : AreJustified rules (contents s) m) where
-  -- the instance leads to all that comes next
-  pub next_led : (entries : Entries) → LastKept m entries → AreCircularWell rules →
-      AreRightValues (contents s) (meaning rules) (kept_values entries) → (q i : Instance ℕ) → IsNext m entries q i → Leads (contents s) (meaning rules) q i
-  next_led entries last circular right q i itself = stays q
-  next_led entries last circular right q i (below j _ t front back n is e all) =
+  -- demands lead from the instance to all that comes next
+  pub next_demanded : (entries : Entries) → LastKept m entries → AreCircularWell rules →
+      AreRightValues (contents s) (meaning rules) (kept_values entries) → (q i : Instance ℕ) → IsNext m entries q i →
+      DemandsOn (contents s) (meaning rules) q i
+  next_demanded entries last circular right q i itself = stays q
+  next_demanded entries last circular right q i (below j _ t front back n is e all) =
       let way = r.justified j t is in
-      leads_on (contents s) (meaning rules) q j i (next_led entries last circular right q j n)
+      demands_then (contents s) (meaning rules) q j i (next_demanded entries last circular right q j n)
       (takes_next (contents s) (equations rules) (meaning rules) m.last (kept_values entries) (is_inner rules)
       (ground_of rules (contents s) (kept_values entries) circular right) way.depth j t.value
       way.looks t.uses front i back (r.own j t is) way.evaluates e (alike_kept m entries front last all))
+
+  -- so it leads to that
+  pub next_led : (entries : Entries) → LastKept m entries → AreCircularWell rules →
+      AreRightValues (contents s) (meaning rules) (kept_values entries) → (q i : Instance ℕ) → IsNext m entries q i →
+      Leads (contents s) (meaning rules) q i
+  next_led entries last circular right q i n =
+      demands_lead (contents s) (meaning rules) q i (next_demanded entries last circular right q i n)
 
   -- a trace whose uses are kept is an evaluation over what is known
   comes : (entries : Entries) (f : Found) (i : Instance ℕ) (t : Trace) → LastKept m entries →
@@ -125,10 +134,23 @@ module _ (rules : Rules) (s : Shown) (idle : IsIdle s) (exact : Bool) (m : Memor
       (inl (refl, r.lazily i t is)) absent w x
       (λ k. counts_put old new exact i t.value way.looks t.uses w x k absent put.Kept puts counted) put.Kept puts
 
+  -- what comes so is demanded
+  demanded_one : (exact : Bool) (old new : Entries) (i : Instance ℕ) (t : Trace) (q : Instance ℕ) →
+      PutsBy exact old i (Some t.value) t.reads t.uses new → DemandsOn (contents s) (meaning rules) q i →
+      AddsDemanded (contents s) (meaning rules) q (kept_values old) (kept_values new)
+  demanded_one exact old new i t q puts d j absent some = by (same_instance i j) refl
+    where
+      by : (b : Bool) → same_instance i j ≡ b → DemandsOn (contents s) (meaning rules) q j
+      by true at = subst (λ (x : Instance ℕ). DemandsOn (contents s) (meaning rules) q x) (same_true i j at) d
+      by false at =
+          let there = puts.adds j ∙ ap (λ (b : Bool). if b then Some puts.entry else old j) at in
+          absurd (not_none (kept_values new j) some (ap value_at there ∙ absent))
+
   -- and one behind the other
   pub record HasSettled (q : Instance ℕ) (old new : Entries) (f : Found) (w x : ℕ) : Type 0 where
     pub gains : Gains rules s exact q old new f f w x
     pub last : LastKept m new
+    pub demanded : AddsDemanded (contents s) (meaning rules) q (kept_values old) (kept_values new)
 
   settled : (q : Instance ℕ) (n : ℕ) (old new : Entries) (f : Found) (w : ℕ) → Settled exact m q n old new → w < 2 ^ 64
       →
@@ -139,6 +161,7 @@ module _ (rules : Rules) (s : Shown) (idle : IsIdle s) (exact : Bool) (m : Memor
         gains = subst (λ (z : ℕ). Gains rules s exact q old old f f w z) is (gains_none rules s exact q old f w few
             known);
         last = last;
+        demanded = demanded_none (contents s) (meaning rules) q (kept_values old);
       }
   settled q _ old new f w (one_more n _ mid _ i t before next is absent all p) few known last =
       let h = settled q n old mid f w before few known last in
@@ -152,7 +175,17 @@ module _ (rules : Rules) (s : Shown) (idle : IsIdle s) (exact : Bool) (m : Memor
       record {
         gains = subst (λ (z : ℕ). Gains rules s exact q old new f f w z) sum both;
         last = last_more m exact mid new i t.value t.reads t.uses h.last (r.value i t is) p;
+        demanded = demanded_then (contents s) (meaning rules) q (kept_values old) (kept_values mid) (kept_values new)
+            h.demanded (demanded_one exact mid new i t q p
+            (next_demanded mid h.last h.gains.known.circular h.gains.known.right q i next));
       }
+
+  -- all that is settled is demanded
+  pub settled_demanded : (q : Instance ℕ) (n : ℕ) (old new : Entries) (f : Found) → Settled exact m q n old new →
+      AreKnown rules (contents s) old f → LastKept m old →
+      AddsDemanded (contents s) (meaning rules) q (kept_values old) (kept_values new)
+  settled_demanded q n old new f steps known last =
+      let few : 0 < 2 ^ 64 = omega arith in let h = settled q n old new f 0 steps few known last in h.demanded
 
   pub settled_gains : (q : Instance ℕ) (n : ℕ) (old new : Entries) (f : Found) (w x : ℕ) → Settled exact m q n old new →
       w < 2 ^ 64 → x ≡ min (w + n) (2 ^ 64 - 1) → AreKnown rules (contents s) old f → LastKept m old →

@@ -2,7 +2,6 @@
 
 ghost use Rattle.std.specs.Prelude.{◌≡◌, ◌≢◌, IfNone, IfOk, IfSome, OnErr, OnOk, IsTrue, None, Some, false, true};
 ghost use Rattle.std.specs.Option.{option_map};
-ghost use Rattle.at_model.specs.of_fixpoints.Resting.{Leads};
 ghost use Rattle.at_model.specs.Rules.{is_lazy, start_of};
 ghost use Rattle.at_store.specs.Shown.{contents};
 ghost use Rattle.at_body.specs.Values.{value_view};
@@ -16,6 +15,7 @@ ghost use Rattle.at_demand.specs.Inner.{AreKnown, AreLazy, HasRecalled, IsOneOf,
 ghost use Rattle.at_demand.specs.InParts.{EndsRecalled, EndsTaken, HasEntered, IsEvaluatedAfresh, IsEvaluatedFor, IsHeld, IsHeldAfresh, LeavesFinds, held_by};
 ghost use Rattle.at_demand.specs.Made.{CountsPut, Makes};
 ghost use Rattle.at_demand.specs.Meant.{AreCircularWell};
+ghost use Rattle.at_demand.specs.Reasons.{DemandsOn};
 ghost use Rattle.at_demand.specs.Sparing.{Counts};
 
 use super::{Direct, Level};
@@ -36,7 +36,7 @@ const FEW: usize = 16;
 const FEW_TRACED: usize = 64;
 
 impl Direct {
-    // What stands in the way of keeping the instance again: another one, to which that leads, and of which no value is kept.
+    // What stands in the way of keeping the instance again: another one, to which demands lead from it, and of which no value is kept.
     pub(super) fn in_the_way<K: Keeper>(
         &self,
         keeper: &K,
@@ -48,7 +48,7 @@ impl Direct {
         ensures own { IfOk result (λ o. IfSome o (λ i. start_of basis.now.rules.now i.attribute ≡ None)) }
         ensures unkept { IfOk result (λ o. IfSome o (λ i. kept_values (K.contents keeper.now) i ≡ None)) }
         ensures other { IfOk result (λ o. IfSome o (λ i. i ≢ needed.now)) }
-        ensures led { IfOk result (λ o. IfSome o (Leads (contents basis.now.store.now) (meaning basis.now.rules.now) needed.now)) }
+        ensures led { IfOk result (λ o. IfSome o (DemandsOn (contents basis.now.store.now) (meaning basis.now.rules.now) needed.now)) }
     {
         let Some(other) = keeper.blocker(needed) else {
             return Ok(None);

@@ -67,12 +67,12 @@ module _ (rules : Rules) (s : Shown) (memories : Memories) where
       → AreTurnsOfSearch rules s memories (m + n) d u f w o
   search_both m _ d e _ u v _ _ h (turns.none _ _) = let same : m ≡ m + 0 = omega arith in subst
       (λ k. AreTurnsOfSearch rules s memories k d u e v None) same h
-  search_both m _ d e _ u v _ _ h (turns.again n _ x f _ w front kept) =
-      turns.again (m + n) d x f u w (search_both m n d e x u v w None h front) kept
-  search_both m _ d e _ u v _ _ h (turns.more n _ x f _ y w o front turned last) =
+  search_both m _ d e _ u v _ _ h (turns.again n _ x f _ w front kept led right) =
+      turns.again (m + n) d x f u w (search_both m n d e x u v w None h front) kept led right
+  search_both m _ d e _ u v _ _ h (turns.more n _ x f _ y w o front turned last right) =
       let same : m + n + 1 ≡ m + (n + 1) = omega arith in
       subst (λ k. AreTurnsOfSearch rules s memories k d u f w o) same (turns.more (m + n) d x f u y w o
-      (search_both m n d e x u v y None h front) turned last)
+      (search_both m n d e x u v y None h front) turned last right)
 
   chain_both : (m n : ℕ) (d e f : Entries) (u v w : UnderWay ℕ) (o : Option (Answer ℕ))
       → AreTurnsOfChain rules s memories m d u e v None → AreTurnsOfChain rules s memories n e v f w o
@@ -89,7 +89,7 @@ module _ (rules : Rules) (s : Shown) (memories : Memories) where
   -- with the last one for itself
   search_last : (n : ℕ) (d f : Entries) (u w : Search ℕ) (a : Answer ℕ) → AreTurnsOfSearch rules s memories n d u f w (Some a)
       → BreaksOffSearch rules s memories n d u f × (0 < n)
-  search_last _ d f u w a (turns.more n _ x _ _ y _ _ front turned last) =
+  search_last _ d f u w a (turns.more n _ x _ _ y _ _ front turned last right) =
       (record { given = n; fewer = omega arith; mid = x; way = y; turns = front; last = last }, omega arith)
 
   chain_last : (n : ℕ) (d f : Entries) (u w : UnderWay ℕ) (a : Answer ℕ) → AreTurnsOfChain rules s memories n d u f w (Some a)
@@ -207,10 +207,10 @@ module _ (rules : Rules) (s : Shown) (former latter : Memories) (stay : StayTrac
   search_before : (n : ℕ) (d e : Entries) (u v : Search ℕ) (o : Option (Answer ℕ)) → AreTurnsOfSearch rules s latter n d u e v o
       → AreTurnsOfSearch rules s former n d u e v o
   search_before _ d _ u _ _ (turns.none _ _) = turns.none d u
-  search_before n d e u v _ (turns.again _ _ x _ _ _ front kept) =
-      turns.again n d x e u v (search_before n d x u v None front) (again_before former latter x e stay kept)
-  search_before _ d e u v o (turns.more n _ x _ _ w _ _ front turned last) =
-      turns.more n d x e u w v o (search_before n d x u w None front) turned last
+  search_before n d e u v _ (turns.again _ _ x _ _ _ front kept led right) =
+      turns.again n d x e u v (search_before n d x u v None front) (again_before former latter x e stay kept) led right
+  search_before _ d e u v o (turns.more n _ x _ _ w _ _ front turned last right) =
+      turns.more n d x e u w v o (search_before n d x u w None front) turned last right
 
   chain_before : (n : ℕ) (d e : Entries) (u v : UnderWay ℕ) (o : Option (Answer ℕ)) → AreTurnsOfChain rules s latter n d u e v o
       → AreTurnsOfChain rules s former n d u e v o

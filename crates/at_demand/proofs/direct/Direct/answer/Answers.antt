@@ -5,11 +5,13 @@ use Rattle.at_model.specs.Run.{Instance}
 use Rattle.at_store.specs.Shown.{contents}
 use Rattle.at_body.specs.Values.{value_view}
 use Rattle.at_demand.specs.Inner.{AreKnown}
-use Rattle.at_demand.specs.Known.{meaning}
+use Rattle.at_demand.specs.Known.{kept_values, meaning}
+use Rattle.at_demand.specs.Reasons.{AreLed}
 use Rattle.at_demand.specs.Sparing.{HasWorthy}
 use Rattle.at_demand.specs.Traces.{StayJustified}
 use Rattle.at_demand.proofs.of_traces.Making.{makes_as, makes_from, makes_none}
 use Rattle.at_demand.proofs.of_traces.Putting.{traced_same}
+use Rattle.at_demand.proofs.of_nesting.Demanding.{demanded_none}
 use Rattle.at_demand.proofs.of_nesting.InnerGains.{Found, gains_as, gains_from, gains_none, told_holds, told_whole}
 use Rattle.at_demand.proofs.direct.Direct.answer.Goals as goal
 
@@ -52,6 +54,9 @@ returns-clause-grown g c = record {
       gains_from c.args.basis.now.rules.now c.args.basis.now.store.now g.K.Keeper.exact c.args.inst.now c.in_ok-needed.needed old new
       self.found.entries asks.found.entries later.found.entries self.work asks.work later.work
       c.in_ok-needed.ensures c.level-asks.ensures.found c.level-asks.ensures.work c.told.ensures.grown.gains;
+  demanded = subst (λ (i : Instance ℕ). AreLed c.args.basis.now.rules.now c.args.basis.now.store.now i
+      (g.K.Keeper.contents c.args.keeper.now) (g.K.Keeper.contents c.told.new.keeper)) c.in_ok-needed.ensures
+      c.told.ensures.grown.demanded;
   traces = subst (λ (i : Instance ℕ). StayJustified c.args.basis.now.rules.now c.args.basis.now.store.now i (g.K.Keeper.memories
       c.args.keeper.now) (g.K.Keeper.memories c.told.new.keeper)) c.in_ok-needed.ensures c.told.ensures.grown.traces;
   makes = makes_from c.level-asks.ensures.made c.told.ensures.grown.makes;
@@ -68,6 +73,8 @@ returns-in_err-needed-clause-grown g c = record {
       c.level-asks.ensures.work
       (gains_none c.args.basis.now.rules.now c.args.basis.now.store.now g.K.Keeper.exact c.args.inst.now entries self.found.entries
       self.work self.few c.requires.known);
+  demanded = demanded_none (contents c.args.basis.now.store.now) (meaning c.args.basis.now.rules.now) c.args.inst.now
+      (kept_values (g.K.Keeper.contents c.args.keeper.now));
   traces = traced_same c.args.basis.now.rules.now c.args.basis.now.store.now c.args.inst.now (g.K.Keeper.memories c.args.keeper.now)
       c.requires.justified;
   makes = makes_as c.level-asks.ensures.made (makes_none (g.K.Keeper.contents c.args.keeper.now)

@@ -1,11 +1,14 @@
 use Rattle.std.proofs.Common.{ℕ, List, None, refl, subst, rules}
 use Rattle.std.specs.Prelude.{Contains}
 use Rattle.at_model.specs.Run.{Instance}
+use Rattle.at_store.specs.Shown.{contents}
 use Rattle.at_body.specs.Values.{value_view}
 use Rattle.at_cache.specs.Kept.{HasPut}
 use Rattle.at_cache.specs.declared.keeper.Put.{Put}
+use Rattle.at_demand.specs.Known.{meaning}
 use Rattle.at_demand.proofs.Counting.{counts_same}
 use Rattle.at_demand.proofs.Entered.{none_entered}
+use Rattle.at_demand.proofs.of_nesting.Demanding.{demanded_same}
 use Rattle.at_demand.proofs.of_nesting.Grown.{grown_entered, grown_none, put_alike}
 use Rattle.at_demand.proofs.of_nesting.InnerGains.{gains_same, put_there, taken}
 use Rattle.at_demand.proofs.of_traces.Justified.{stay_any, untraced_inner}
@@ -50,6 +53,8 @@ returns-in_err-put g c = record {
         c.args.self.now.found.entries c.args.self.now.work c.args.self.now.work c.in_err-put.ensures.err
         c.requires.held.known
         (λ k. counts_same old new c.args.self.now.work c.args.self.now.few c.in_err-put.ensures.err);
+    demanded = demanded_same (contents c.args.basis.now.store.now) (meaning c.args.basis.now.rules.now) c.args.needed.now
+        (g.K.Keeper.contents c.args.keeper.now) (g.K.Keeper.contents c.put.new.self) c.in_err-put.ensures.err;
     traces =
         let old = g.K.Keeper.memories c.args.keeper.now in
         let new = g.K.Keeper.memories c.put.new.self in
