@@ -103,6 +103,14 @@ impl Inst {
     }
 }
 
+// Whether arguments are the same. Apart, so that what has none is compared with no frame.
+#[inline(never)]
+fn are_each_same(passed: &[Value], others: &[Value]) -> bool
+    ensures { result ≡ pointwise (λ v w. same_value (value_view v) (value_view w)) passed.now others.now }
+{
+    passed == others
+}
+
 // Whether the arguments are the same. Of most attributes nothing more is to be compared.
 #[inline(always)]
 fn are_same(passed: &[Value], others: &[Value]) -> bool
@@ -111,7 +119,7 @@ fn are_same(passed: &[Value], others: &[Value]) -> bool
     if passed.is_empty() {
         return others.is_empty();
     }
-    passed == others
+    are_each_same(passed, others)
 }
 
 // Feeds arguments, of which most attributes have none.
@@ -131,6 +139,8 @@ impl PartialEq for Inst {
 
     ghost laws = { partial_equiv_from_equiv instances_equiv };
 
+    // Apart: inlined, it would part look-ups from those who call them.
+    #[inline(never)]
     fn eq(&self, other: &Inst) -> bool {
         if self.node != other.node || self.attribute != other.attribute {
             return false;
