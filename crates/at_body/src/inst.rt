@@ -1,6 +1,6 @@
 //! Instances: attributes of nodes, with arguments.
 
-ghost use Rattle.std.specs.Prelude.{◌≡◌, IfOk, map};
+ghost use Rattle.std.specs.Prelude.{◌≡◌, [], IfOk, IsTrue, map};
 ghost use Rattle.std.specs.Cmp.Lexicographic.{pointwise};
 ghost use Rattle.std.specs.Hash as fed;
 ghost use Rattle.std.specs.List.{fold};
@@ -103,23 +103,42 @@ impl Inst {
     }
 }
 
-// Whether arguments are the same. Apart, so that what has none is compared with no frame.
-#[inline(never)]
+// Whether both have none, as is seen at once.
+#[inline(always)]
+fn are_none(passed: &Arguments, others: &Arguments) -> bool
+    ensures passed { IsTrue result → passed.now ≡ [] }
+    ensures others { IsTrue result → others.now ≡ [] }
+{
+    if !passed.is_none() {
+        return false;
+    }
+    others.is_none()
+}
+
+// Whether arguments are the same.
 fn are_each_same(passed: &[Value], others: &[Value]) -> bool
     ensures { result ≡ pointwise (λ v w. same_value (value_view v) (value_view w)) passed.now others.now }
 {
     passed == others
 }
 
-// Whether the arguments are the same. Of most attributes nothing more is to be compared.
-#[inline(always)]
-fn are_same(passed: &[Value], others: &[Value]) -> bool
+// The same of arguments that there are. Apart, so that what has none is compared with no frame.
+#[inline(never)]
+fn are_all_same(passed: &Arguments, others: &Arguments) -> bool
     ensures { result ≡ pointwise (λ v w. same_value (value_view v) (value_view w)) passed.now others.now }
 {
-    if passed.is_empty() {
-        return others.is_empty();
+    are_each_same(passed.as_slice(), others.as_slice())
+}
+
+// Whether the arguments are the same. Of most attributes nothing more is to be compared.
+#[inline(always)]
+fn are_same(passed: &Arguments, others: &Arguments) -> bool
+    ensures { result ≡ pointwise (λ v w. same_value (value_view v) (value_view w)) passed.now others.now }
+{
+    if are_none(passed, others) {
+        return true;
     }
-    are_each_same(passed, others)
+    are_all_same(passed, others)
 }
 
 // Feeds arguments, of which most attributes have none.
@@ -145,7 +164,7 @@ impl PartialEq for Inst {
         if self.node != other.node || self.attribute != other.attribute {
             return false;
         }
-        are_same(self.arguments.as_slice(), other.arguments.as_slice())
+        are_same(&self.arguments, &other.arguments)
     }
 }
 
