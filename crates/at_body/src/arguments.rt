@@ -1,6 +1,6 @@
 //! What is passed to an attribute.
 
-ghost use Rattle.std.specs.Prelude.{◌≡◌, [], IfOk};
+ghost use Rattle.std.specs.Prelude.{◌≡◌, [], IfOk, IsTrue};
 
 use super::value::Value;
 use std::alloc::AllocError;
@@ -49,6 +49,16 @@ impl Arguments {
         Ok(Arguments {
             shared: Some(RcSlice::from_vec(values)?),
         })
+    }
+
+    /// Whether there are none, as is seen at once.
+    pub fn is_none(&self) -> bool
+        ensures { IsTrue result → self.now ≡ [] }
+    {
+        match &self.shared {
+            Some(_) => false,
+            None => true,
+        }
     }
 
     /// All of them.

@@ -1,6 +1,6 @@
 //! Instances: attributes of nodes, with arguments.
 
-ghost use Rattle.std.specs.Prelude.{◌≡◌, IfOk, map};
+ghost use Rattle.std.specs.Prelude.{◌≡◌, [], IfOk, IsTrue, map};
 ghost use Rattle.std.specs.Cmp.Lexicographic.{pointwise};
 ghost use Rattle.std.specs.Hash as fed;
 ghost use Rattle.std.specs.List.{fold};
@@ -103,15 +103,42 @@ impl Inst {
     }
 }
 
-// Whether the arguments are the same. Of most attributes nothing more is to be compared.
+// Whether both have none, as is seen at once.
 #[inline(always)]
-fn are_same(passed: &[Value], others: &[Value]) -> bool
+fn are_none(passed: &Arguments, others: &Arguments) -> bool
+    ensures passed { IsTrue result → passed.now ≡ [] }
+    ensures others { IsTrue result → others.now ≡ [] }
+{
+    if !passed.is_none() {
+        return false;
+    }
+    others.is_none()
+}
+
+// Whether arguments are the same.
+fn are_each_same(passed: &[Value], others: &[Value]) -> bool
     ensures { result ≡ pointwise (λ v w. same_value (value_view v) (value_view w)) passed.now others.now }
 {
-    if passed.is_empty() {
-        return others.is_empty();
-    }
     passed == others
+}
+
+// The same of arguments that there are. Apart, so that what has none is compared with no frame.
+#[inline(never)]
+fn are_all_same(passed: &Arguments, others: &Arguments) -> bool
+    ensures { result ≡ pointwise (λ v w. same_value (value_view v) (value_view w)) passed.now others.now }
+{
+    are_each_same(passed.as_slice(), others.as_slice())
+}
+
+// Whether the arguments are the same. Of most attributes nothing more is to be compared.
+#[inline(always)]
+fn are_same(passed: &Arguments, others: &Arguments) -> bool
+    ensures { result ≡ pointwise (λ v w. same_value (value_view v) (value_view w)) passed.now others.now }
+{
+    if are_none(passed, others) {
+        return true;
+    }
+    are_all_same(passed, others)
 }
 
 // Feeds arguments, of which most attributes have none.
@@ -131,11 +158,13 @@ impl PartialEq for Inst {
 
     ghost laws = { partial_equiv_from_equiv instances_equiv };
 
+    // Apart: inlined, it would part look-ups from those who call them.
+    #[inline(never)]
     fn eq(&self, other: &Inst) -> bool {
         if self.node != other.node || self.attribute != other.attribute {
             return false;
         }
-        are_same(self.arguments.as_slice(), other.arguments.as_slice())
+        are_same(&self.arguments, &other.arguments)
     }
 }
 

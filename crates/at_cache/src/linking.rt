@@ -179,8 +179,35 @@ fn in_place(row: Row, edge: Edge) -> Option<Edges>
     Edges::of_row(row.extended(edge)?)
 }
 
+// Whether the row is the one edge that an entry had before it is put anew, which tells of no entry.
+fn is_outdated(entries: &Table, row: Row, edge: Edge) -> bool
+    ensures { IsTrue result → Keeps (memory_of entries.now) (edges_of row) [] }
+{
+    let Some(only) = row.only() else {
+        return false;
+    };
+    if only.slot != edge.slot {
+        return false;
+    }
+    if entries.is_current(&only) {
+        return false;
+    }
+    true
+}
+
+// The same of edges.
+fn are_outdated(entries: &Table, edges: &Edges, edge: Edge) -> bool
+    ensures { IsTrue result → Keeps (memory_of entries.now) (edges_in edges.now) [] }
+{
+    match edges.row() {
+        Some(row) => is_outdated(entries, row, edge),
+        None => false,
+    }
+}
+
 // One more edge of a list that is a row. That stays where the edge is its last one, and loses those at its front that tell of no entry,
 // where it would take a block else.
+#[inline(never)]
 fn add_to_few(
     alloc: Global,
     entries: &Table,
@@ -202,6 +229,25 @@ fn add_to_few(
     Ok(())
 }
 
+// The same, where the row may be the edge that the entry had before.
+fn add_to_row(
+    alloc: Global,
+    entries: &Table,
+    edges: &mut Edges,
+    row: Row,
+    edge: Edge,
+) -> Result<(), AllocError>
+    requires row { edges_in edges.old ≡ edges_of row }
+    ensures lists { Lists (memory_of entries.now) edge (edges_in edges.old) (edges_in edges.new) }
+    ensures has { OnOk result (Contains (edges_in edges.new) edge) }
+{
+    if is_outdated(entries, row, edge) {
+        *edges = Edges::of(edge);
+        return Ok(());
+    }
+    add_to_few(alloc, entries, edges, row, edge)
+}
+
 /// One more edge of a list.
 pub fn add_edge(
     alloc: Global,
@@ -219,7 +265,7 @@ pub fn add_edge(
         }
         Edges::Few(count, step, slot, stamp) => {
             let row = Row::few(*count, *step, *slot, *stamp);
-            add_to_few(alloc, entries, edges, row, edge)
+            add_to_row(alloc, entries, edges, row, edge)
         }
         Edges::More(rows) => add_to_many(entries, rows, edge),
     }
@@ -326,6 +372,9 @@ fn add_user(alloc: Global, entries: &mut Table, slot: Slot, edge: Edge) -> Resul
 {
     let mut users = entries.exchange_users(slot, Edges::of(edge));
     if users.is_empty() {
+        return Ok(());
+    }
+    if are_outdated(entries, &users, edge) {
         return Ok(());
     }
     let result = add_edge(alloc, entries, &mut users, edge);

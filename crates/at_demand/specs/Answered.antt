@@ -4,7 +4,7 @@ use Rattle.std.specs.Option.{option_map}
 use Rattle.at_model.specs.Run.{Contents, Instance, Location}
 use Rattle.at_model.specs.Rules.{Rules}
 use Rattle.at_model.specs.Meaning.{Answer, Circle, Outcomes}
-use Rattle.at_model.specs.of_fixpoints.Circles.{Answers}
+use Rattle.at_model.specs.of_fixpoints.Circles.{Answers, Circular}
 use Rattle.at_model.specs.of_fixpoints.Met.{IsMet}
 use Rattle.at_model.specs.of_fixpoints.Searching.{Search}
 use Rattle.at_rules.specs.Circular.{HasNoneCircular}
@@ -72,12 +72,18 @@ pub record HasGivenPlainly {E : Type 0} (rules : Rules) (s : Shown) (m : Memorie
   pub each : IfOk r (λ g. AreTurnsOfChain rules s m g.0 before (under_way old) after (under_way new) (option_map answer_view g.1))
   pub broke : OnErr r (BreaksOffChain rules s m limit before (under_way old) after)
 
+-- of what came to be kept all was met by the search for the question, where a circle answers that
+abbrev pub AddsMet : Rules → Contents ℕ → Instance ℕ → (before after : Entries) → Type 0
+AddsMet rules look q before after = (c i : Instance ℕ) → Circular look (meaning rules) q c → kept_values before i ≡ None → IsKept after i
+    → IsMet look (meaning rules) q i
+
 -- The instance has its answer. What is kept stays right; with an exact keeper it stays spare, where groups are kept whole, has all that is worth
--- keeping, and the work counts that.
+-- keeping, and no more than was met, and the work counts that.
 pub record HasAnswered {E : Type 0} (rules : Rules) (s : Shown) (exact : Bool) (before after : Entries) (earlier later : ℕ) (i : Instance ℕ)
     (r : Result AnswerCode E) : Type 0 where
   pub answers : IfOk r (λ a. Answers (contents s) (meaning rules) i (answer_view a))
   pub worthy : AddsWorthy rules (contents s) i before after
+  pub met : IsTrue exact → AreSpare rules (contents s) before → AddsMet rules (contents s) i before after
   pub spare : KeepsGroups rules r → IsTrue exact → AreSpare rules (contents s) before → AreSpare rules (contents s) after
   pub all : IsTrue exact → AreSpare rules (contents s) before → IfOk r (λ a. HasWorthyFor rules (contents s) i (answer_view a) after)
   pub counts : IsTrue exact → Counts before after earlier later

@@ -7,6 +7,7 @@ use Rattle.at_model.specs.Run.{Contents, Instance}
 use Rattle.at_model.specs.Machine.{State, Verdict, Asks, after}
 use Rattle.at_model.specs.Meaning.{content}
 use Rattle.at_model.specs.Sparing.{IsWorthKeeping}
+use Rattle.at_model.specs.of_fixpoints.Circles.{Circular}
 use Rattle.at_model.specs.of_fixpoints.Evaluations.{forms}
 use Rattle.at_model.specs.of_fixpoints.Met.{IsMet}
 use Rattle.at_rules.specs.Circular.{HasNoneCircular}
@@ -53,16 +54,18 @@ KeepsWhole rules true = HasNoneCircular rules
 abbrev pub GrowsOver : {K : Type 0} → (entries : K → Entries) → Verdict → (old new : Engine K) → Type 0
 GrowsOver entries v old new = Grows (IsWorthFor (rules_of old) (state_of old) v) (kept_of entries old) (kept_of entries new) (work_of old) (work_of new)
 
--- all that is worth keeping for the question, and that its search has met, is kept
-abbrev pub KeepsMet : Rules → State → Instance Node → (Instance Node → Type 0) → Type 0
-KeepsMet rules s q Kept = (j : Instance Node) → IsWorthKeeping rules s.tree q j → IsMet (content s.tree) (forms rules) q j → Kept j
+-- All that is worth keeping for the question, and that its search has met, is kept; and where a circle answers it, all that came was met.
+pub record KeepsMet (rules : Rules) (s : State) (q : Instance Node) (Was Kept : Instance Node → Type 0) : Type 0 where
+  pub all : (j : Instance Node) → IsWorthKeeping rules s.tree q j → IsMet (content s.tree) (forms rules) q j → Kept j
+  pub only : (c j : Instance Node) → Circular (content s.tree) (forms rules) q c → (¬ (Was j)) → Kept j → IsMet (content s.tree) (forms rules) q j
 
 -- Just what the verdict leaves and adds is kept, and the work grows by its work. Of a question that a circle of circular attributes answers
--- it is said that nothing goes, only what is worth keeping comes, and all of that comes that its search has met before.
+-- it is said that nothing goes, and of what is worth keeping just that comes which its search has met before.
 abbrev pub KeepsOver : {K : Type 0} → (entries : K → Entries) → Verdict → (old new : Engine K) → Type 0
 KeepsOver entries v old new = (HasOutcome (rules_of old) (state_of old) v
     → Keeps (rules_of old) (state_of old) v (kept_of entries old) (kept_of entries new) (work_of old) (work_of new))
-    × ((q : Instance Node) → v ≡ Asks q → GrowsOver entries v old new × KeepsMet (rules_of old) (state_of old) q (kept_of entries new))
+    × ((q : Instance Node) → v ≡ Asks q → GrowsOver entries v old new
+    × KeepsMet (rules_of old) (state_of old) q (kept_of entries old) (kept_of entries new))
 
 -- What is kept is spare, and it is what the verdict leaves and adds. Where memory ran out it is some of that, and spare where no attribute
 -- is circular.

@@ -1,12 +1,12 @@
--- What the search for a question has met is met by paths, too; so what is kept of it is kept there.
-use Rattle.std.proofs.Common.{◌≡◌, ◌⊎◌, ℕ, nat_eq, List, [], ◌∷◌, ◌++◌, Option, inl, inr, refl, sym, ap, subst}
+-- What the search for a question has met is met by paths, too, and no more; so what is kept of it is kept there, and what came was met there.
+use Rattle.std.proofs.Common.{◌≡◌, ◌⊎◌, ℕ, nat_eq, List, [], ◌∷◌, ◌++◌, Option, None, Some, inl, inr, refl, sym, ap, subst}
 use Rattle.at_model.specs.Trees.{Tree}
 use Rattle.at_model.specs.Paths.{Node, node_eq}
 use Rattle.at_model.specs.Run.{Value, Instance, Location, Contents, FaultKind}
 use Rattle.at_model.specs.Rules.{Rules}
-use Rattle.at_model.specs.Meaning.{Finds, Outcome, Reaches, content}
+use Rattle.at_model.specs.Meaning.{Answer, Circle, Finds, Outcome, Outcomes, Reaches, content}
 use Rattle.at_model.specs.Alike.{AlikeAt, InstanceLike, IsInjective, ListLike, Names, OutcomeLike, ValueLike, end, more}
-use Rattle.at_model.specs.of_fixpoints.Circles.{HasNone, IsOpen, WantsNone}
+use Rattle.at_model.specs.of_fixpoints.Circles.{Answers, Circular, HasNone, IsOpen, WantsNone}
 use Rattle.at_model.specs.of_fixpoints.Evaluations.{forms}
 use Rattle.at_model.specs.of_fixpoints.Fixpoints.{End, EndsAt, EndsSo, HasForm, HasValue, Holds, Made, Spoilt}
 use Rattle.at_model.specs.of_fixpoints.Formulas.{Formula, Forms, atoms}
@@ -15,15 +15,17 @@ use Rattle.at_model.specs.of_fixpoints.Met.{IsMet, LooksAt, again, deeper, forme
 use Rattle.at_model.specs.of_fixpoints.Resting.{Leads, stays}
 use Rattle.at_model.specs.Sparing.{IsWorthKeeping}
 use Rattle.at_model.proofs.Nodes.{nat_eq-is, node_eq-is, same_like}
-use Rattle.at_model.proofs.of_formulas.CarriedByFormulas.{IsCarried, all_matched, carried_next, leads_back, outcome_back, outcome_there}
+use Rattle.at_model.proofs.of_formulas.CarriedByFormulas.{IsCarried, all_matched, carried_next, ends_so_there, form_there, leads_back, leads_there, outcome_back, outcome_there, reaches_there}
+use Rattle.at_model.proofs.of_formulas.ClosedOnce.{not_both}
 use Rattle.at_model.proofs.of_formulas.EndsAlike.{found_back, reached_back}
 use Rattle.at_model.proofs.of_formulas.FormulasAlike.{evaluation-like}
-use Rattle.at_model.proofs.of_formulas.Matching.{EndMatches, atoms_match, joined_lists, makes, spoils}
+use Rattle.at_model.proofs.of_formulas.Matching.{EndMatches, atoms_match, joined_lists, makes, spoils, spoilt_on}
 use Rattle.at_model.proofs.of_likeness.CarryingCircles.{Agrees, among-back, among-like, instance-agrees, names_agree}
 use Rattle.at_cache.specs.Kept.{Entries}
-use Rattle.at_demand.specs.Answered.{HasWorthyMet}
-use Rattle.at_demand.specs.Known.{IsKept, meaning}
-use Rattle.at_demand.proofs.of_keeping.CalledAsked.{Called, one_number, worth_back}
+use Rattle.at_demand.specs.Answered.{AddsMet, HasWorthyMet}
+use Rattle.at_demand.specs.Known.{IsKept, kept_values, meaning}
+use Rattle.at_demand.proofs.Entered.{is_there}
+use Rattle.at_demand.proofs.of_keeping.CalledAsked.{Called, one_number, one_path, worth_back}
 
 module _ {N M : Type 0} {S T : Instance N → Instance M → Type 0} {V : Value N → Value M → Type 0} where
   made_from : {d : End N (Formula N)} {e : End M (Formula M)} → EndMatches S T V d e → (g : Formula M) → e ≡ Made g →
@@ -135,6 +137,69 @@ module _ {N M : Type 0} {R : N → M → Type 0} (agree : Agrees R) (look : Cont
             record { by = by; looked = looked; settled = j; is = is; outcome = o; holds = holds; led = led },
           )
 
+  open_back : (under : List (Instance N)) (below : List (Instance M)) → ListLike (InstanceLike R) under below →
+      (j : Instance N) (k : Instance M) → Pair j k → IsOpen also other below k → IsOpen look forms under j
+  open_back under below u j k s (h, none) = (among-back (instance-agrees agree) u j k s.0 h, lost_back j k s none)
+
+  -- and it looks at no more
+  looks_there : (under seen todo : List (Instance N)) (below met ahead : List (Instance M)) (x : Instance N) →
+      ListLike (InstanceLike R) under below → ListLike (InstanceLike R) seen met → ListLike Pair todo ahead →
+      LooksAt look forms under seen todo x → (y : Instance M) × Pair x y × LooksAt also other below met ahead y
+  looks_there under seen _ below met _ x u s end l = absurd (elim l [ ])
+  looks_there under seen _ below met _ _ u s (more {a = i} {b = k} t ts) (here _) = (k, t, here k)
+  looks_there under seen _ below met _ x u s (more {a = i} {b = k} {as' = todo} {bs = ahead} t ts) (again _ o a l) =
+      let (y, p, z) = looks_there under seen todo below met ahead x u s ts l in
+      (y, p, again k (λ w. o (open_back under below u i k t w)) (among-like (instance-agrees agree) s i k t.0 a) z)
+  looks_there under seen _ below met _ x u s (more {a = i} {b = k} {as' = todo} {bs = ahead} t ts) (formed _ f o n e l) =
+      let (g, d, m) = form_there agree look also forms other like i k f t e in
+      let (y, p, z) = looks_there under (i ∷ seen) (atoms f ++ todo) below (k ∷ met) (atoms g ++ ahead) x u (more t.0 s)
+      (joined_lists (atoms_match m) ts) l in (
+        y,
+        p,
+        formed k g (λ w. o (open_back under below u i k t w)) (λ w. n (among-back (instance-agrees agree) s i k t.0 w)) d z,
+      )
+  looks_there under seen _ below met _ x u s (more {a = i} {b = k} {as' = todo} {bs = ahead} t ts) (spoilt _ at c o n e l) =
+      let (d, q, m) = ends_so_there agree look also forms other like i k (Spoilt c at) t e in
+      let (to, is, v) = spoilt_on c at m refl in
+      let (y, p, z) = looks_there under (i ∷ seen) todo below (k ∷ met) ahead x u (more t.0 s) ts l in (
+        y,
+        p,
+        spoilt k to c (λ w. o (open_back under below u i k t w))
+            (λ w. n (among-back (instance-agrees agree) s i k t.0 w)) (subst (λ w. EndsSo also other k w) is q) z,
+      )
+  looks_there under seen _ below met _ x u s (more {a = i} {b = k} t ts) (deeper _ j o n (reach, none) m l) =
+      let (h, p, v) = reaches_there agree look also forms other like i j k t reach in
+      let line = more t.0 (joined_lists s u) in
+      let (y, q, z) = looks_there (i ∷ (seen ++ under)) [] (j ∷ []) (k ∷ (met ++ below)) [] (h ∷ []) x line end (more p end) l in (
+        y,
+        q,
+        deeper k h (λ w. o (open_back under below u i k t w)) (λ w. n (among-back (instance-agrees agree) s i k t.0 w))
+            (v, lost_there j h p none) (λ w. m (among-back (instance-agrees agree) line j h p.0 w)) z,
+      )
+
+  pub met_there : (q x : Instance N) (k : Instance M) → Pair q k → IsMet look forms q x →
+      (y : Instance M) × Pair x y × IsMet also other k y
+  met_there q x k t m =
+      let (by, p, looked) = looks_there [] [] (q ∷ []) [] [] (k ∷ []) m.by end end (more t end) m.looked in
+      of_settled by looked (settled by p)
+    where
+      settled : (by : Instance M) → Pair m.by by → (h : Instance M) × Pair m.settled h
+          × ((by ≡ h) ⊎ Reaches also (HasValue also other) (other.formula by) h)
+      settled by p = elim m.is [
+        | inl e ↦ (by, subst (λ z. Pair z by) e p, inl refl)
+        | inr reach ↦ (let (h, u, v) = reaches_there agree look also forms other like m.by m.settled by p reach in (h, u, inr v))
+      ]
+
+      of_settled : (by : Instance M) → LooksAt also other [] [] (k ∷ []) by → ((h : Instance M) × Pair m.settled h
+          × ((by ≡ h) ⊎ Reaches also (HasValue also other) (other.formula by) h)) → (y : Instance M) × Pair x y × IsMet also other k y
+      of_settled by looked (h, r, is) =
+          let (o, holds, same) = outcome_there agree look also forms other like m.settled h m.outcome r m.holds in
+          let (y, u, led) = leads_there agree look also forms other like m.settled x h r m.led in (
+            y,
+            u,
+            record { by = by; looked = looked; settled = h; is = is; outcome = o; holds = holds; led = led },
+          )
+
 module _ (rules : Rules) (look : Contents ℕ) (t : Tree) (path : ℕ → Option Node) (named_once : IsInjective path)
     (alike : (l : Location ℕ) → AlikeAt (Names path) look (content t) l) (entries : Entries) where
   -- where all that is worth keeping of what a question has met is kept, it is so by paths
@@ -147,3 +212,28 @@ module _ (rules : Rules) (look : Contents ℕ) (t : Tree) (path : ℕ → Option
       (asked, λ l h. alike l) m in
       let one = one_number rules look t path named_once alike y i j u s in
       (i, all i worth (subst (λ z. IsMet look (meaning rules) q z) one met), s)
+
+module _ (rules : Rules) (look : Contents ℕ) (t : Tree) (path : ℕ → Option Node) (named_once : IsInjective path)
+    (alike : (l : Location ℕ) → AlikeAt (Names path) look (content t) l) (q : Instance ℕ) (p : Instance Node)
+    (asked : InstanceLike (Names path) q p) (old new : Entries) (adds : AddsMet rules look q old new) where
+  agree : Agrees (Names path)
+  agree = names_agree path named_once
+
+  same : FormsLike (Names path) (meaning rules) (forms rules)
+  same = evaluation-like rules nat_eq node_eq (same_like nat_eq node_eq nat_eq-is node_eq-is path named_once)
+
+  -- where a circle answers the question, what came by paths was met
+  pub called_only : (a : Answer ℕ) → Answers look (meaning rules) q a → (c j : Instance Node) →
+      Circular (content t) (forms rules) p c → (¬ (Called path (IsKept old) j)) → Called path (IsKept new) j →
+      IsMet (content t) (forms rules) p j
+  called_only (Outcomes o) holds c j circle none kept =
+      let (e, h, s) = outcome_there agree look (content t) (meaning rules) (forms rules) same q p o (asked, λ l h. alike l) holds in
+      absurd (not_both (content t) (forms rules) p c e h circle)
+  called_only (Circle d) found c j circle none (i, kept, s) = by (kept_values old i) refl
+    where
+      by : (o : Option (Value ℕ)) → kept_values old i ≡ o → IsMet (content t) (forms rules) p j
+      by (Some v) is = absurd (none (i, is_there (kept_values old i) v is, s))
+      by None is =
+          let (y, (u, below), met) = met_there agree look (content t) (meaning rules) (forms rules) same q i p
+          (asked, λ l h. alike l) (adds d i found is kept) in
+          subst (λ z. IsMet (content t) (forms rules) p z) (one_path rules look t path named_once alike i y j u s) met

@@ -1,11 +1,12 @@
 -- What a question is answered where an evaluation in one go came to its value, and where it gave up.
-use Rattle.std.proofs.Common.{◌≡◌, ℕ, ◌<◌, ◌^◌, Bool, [], Some, Ok}
+use Rattle.std.proofs.Common.{◌≡◌, ℕ, ◌<◌, ◌^◌, Bool, [], Option, None, Some, Ok, refl}
 use Rattle.std.specs.Prelude.{IfOk, IsTrue, Result}
 use Rattle.std.proofs.lemmas.Result.{IfOk-weaker}
-use Rattle.at_model.specs.Run.{Instance}
+use Rattle.at_model.specs.Run.{Contents, Instance, Value}
 use Rattle.at_model.specs.Rules.{Rules}
 use Rattle.at_model.specs.Meaning.{Answer as AnswerView, Circle, Outcomes}
 use Rattle.at_model.specs.of_fixpoints.Circles.{Answers}
+use Rattle.at_model.specs.of_fixpoints.Met.{IsMet}
 use Rattle.at_demand.specs.Meant.{AreCircularWell, AreRightValues}
 use Rattle.at_store.specs.Shown.{Shown, contents}
 use Rattle.at_cache.specs.Kept.{Entries}
@@ -15,10 +16,10 @@ use Rattle.at_body.specs.declared.value.Value.{Value as ValueCode}
 use Rattle.at_demand.specs.declared.answer.Answer.TheVariants as answer
 use Rattle.at_demand.specs.Known.{meaning, kept_values, answer_view, ArePlain}
 use Rattle.at_demand.specs.Sparing.{AddsWorthy, AreSpare, HasWorthy}
-use Rattle.at_demand.specs.Answered.{EndsByOutcome, HasAnswered, HasWorthyFor}
+use Rattle.at_demand.specs.Answered.{AddsMet, EndsByOutcome, HasAnswered, HasWorthyFor}
 use Rattle.at_demand.specs.Inner.{Gains}
 use Rattle.at_demand.proofs.Counting.{counts_more, work_is}
-use Rattle.at_demand.proofs.Entered.{is_there}
+use Rattle.at_demand.proofs.Entered.{is_there, not_none}
 use Rattle.at_demand.proofs.Gaining.{asked_kept}
 use Rattle.at_demand.proofs.of_nesting.InnerGains.{gains_none, known_none, worthy_then}
 
@@ -28,15 +29,30 @@ worthy_ended : (rules : Rules) (s : Shown) (i : Instance ℕ) (a : AnswerView �
 worthy_ended rules s i (Outcomes o) entries h ends = h
 worthy_ended rules s i (Circle j) entries h ends = h.0 ends
 
+-- nothing came
+pub met_none : (rules : Rules) (look : Contents ℕ) (i : Instance ℕ) (entries : Entries) → AddsMet rules look i entries entries
+met_none rules look i entries c j circle none kept = absurd (not_none (kept_values entries j) kept none)
+
+-- what came was met, and so was what came then
+pub met_then : (rules : Rules) (look : Contents ℕ) (i : Instance ℕ) (first next last : Entries) → AddsMet rules look i first next →
+    AddsMet rules look i next last → AddsMet rules look i first last
+met_then rules look i first next last a b c j circle none kept = by (kept_values next j) refl
+  where
+    by : (o : Option (Value ℕ)) → kept_values next j ≡ o → IsMet look (meaning rules) i j
+    by None is = b c j circle is kept
+    by (Some v) is = a c j circle none (is_there (kept_values next j) v is)
+
 module _ {E : Type 0} (rules : Rules) (s : Shown) (exact : Bool) (i : Instance ℕ) (r : Result Answer E) where
   -- by what came, where it is right and all that is worth keeping is kept
   pub answered_by : (old new : Entries) (w x : ℕ) → Gains rules s exact i old new [] [] w x →
       IfOk r (λ a. Answers (contents s) (meaning rules) i (answer_view a)) →
       (IsTrue exact → AreSpare rules (contents s) old → IfOk r (λ a. HasWorthyFor rules (contents s) i (answer_view a) new)) →
+      (IsTrue exact → AreSpare rules (contents s) old → AddsMet rules (contents s) i old new) →
       HasAnswered rules s exact old new w x i r
-  answered_by old new w x g answers all = record {
+  answered_by old new w x g answers all met = record {
     answers = answers;
     worthy = g.worthy;
+    met = met;
     spare = λ whole. g.spare;
     all = all;
     counts = g.counts;
@@ -48,14 +64,16 @@ module _ {E : Type 0} (rules : Rules) (s : Shown) (exact : Bool) (i : Instance �
 
   -- behind what came while an evaluation in one go gave up
   pub answered_after : (old mid new : Entries) (w x y : ℕ) → Gains rules s exact i old mid [] [] w x →
+      (AreSpare rules (contents s) old → AddsMet rules (contents s) i old mid) →
       HasAnswered rules s exact mid new x y i r → HasAnswered rules s exact old new w y i r
-  answered_after old mid new w x y g h =
+  answered_after old mid new w x y g met h =
       let worthy : AddsWorthy rules (contents s) i old new = worthy_then rules (contents s) i old mid new g.worthy
       h.worthy in
       let counts = λ (k : IsTrue exact). counts_more old mid new w x y (g.counts k) (h.counts k) in
       record {
         answers = h.answers;
         worthy = worthy;
+        met = λ k spare. met_then rules (contents s) i old mid new (met spare) (h.met k (g.spare k spare));
         spare = λ whole k spare. h.spare whole k (g.spare k spare);
         all = λ k spare. h.all k (g.spare k spare);
         counts = counts;
@@ -76,3 +94,4 @@ answered_kept {E} rules s exact i entries w v few circular right plain is =
     answered_by rules s exact i (Ok (answer.Value v)) entries entries w w (gains_none rules s exact i entries [] w few
     (known_none rules (contents s) entries circular right plain)) (right i (value_view v) is)
     (λ k spare. asked_kept rules (contents s) i entries (is_there (kept_values entries i) (value_view v) is) spare.deep)
+    (λ k spare. met_none rules (contents s) i entries)

@@ -15,7 +15,7 @@ use Rattle.at_cache.specs.Traced.{Memories, StayTraced}
 use Rattle.at_demand.specs.declared.answer.Answer.{Answer as AnswerCode}
 use Rattle.at_demand.specs.declared.question.Question.{Question}
 use Rattle.at_demand.specs.Answerable.{IsBasis}
-use Rattle.at_demand.specs.Answered.{GainsAtMost, HasAnswered}
+use Rattle.at_demand.specs.Answered.{AddsMet, GainsAtMost, HasAnswered}
 use Rattle.at_demand.specs.Inner.{Gains}
 use Rattle.at_demand.specs.Known.{meaning}
 use Rattle.at_demand.specs.Levels.{IsSearch, LevelCode, asked_by}
@@ -63,14 +63,18 @@ module _ (rules : Rules) (s : Shown) (exact : Bool) (i : Instance ℕ) (q : Ques
   pub sound_turned : {Whole : Type 0} → (new : Entries) (z : ℕ) → GainsAtMost rules s exact mid new y z q Whole → AreSound rules s new
   sound_turned new z turned = sound_after rules s basis mid q sound_ahead stands_ahead new turned.right turned.worthy
 
+  pub worthy_turned : {Whole : Type 0} → (new : Entries) (z : ℕ) → GainsAtMost rules s exact mid new y z q Whole →
+      AddsWorthy rules (contents s) i first new
+  worthy_turned new z turned = worthy_both rules (contents s) i first mid new gains_ahead.worthy
+      (subst (λ j. AddsWorthy rules (contents s) j mid new) same turned.worthy)
+
   module _ (sparing : IsTrue exact → AreSpare rules (contents s) first → IsSparingTurns rules (contents s) old q) where
     pub spares_ahead : IsTrue exact → AreSpare rules (contents s) first → IsSparingTurns rules (contents s) mid q
     spares_ahead k spare = spares_grown rules s old mid ahead.worthy.stays q (sparing k spare)
 
     pub gains_turned : (new : Entries) (z : ℕ) → GainsAtMost rules s exact mid new y z q (Unit {0}) → Gains rules s exact i first new [] [] w z
     gains_turned new z turned = record {
-      worthy = worthy_both rules (contents s) i first mid new gains_ahead.worthy
-          (subst (λ j. AddsWorthy rules (contents s) j mid new) same turned.worthy);
+      worthy = worthy_turned new z turned;
       known = known_none rules (contents s) new basis.circular turned.right turned.plain;
       still = λ j v is. is;
       stays = λ there right. turned.stays (subst (IsThere s) (sym same) there) (gains_ahead.stays there right);
@@ -81,11 +85,12 @@ module _ (rules : Rules) (s : Shown) (exact : Bool) (i : Instance ℕ) (q : Ques
     -- or memory was wanting in that
     pub broken_turned : (new : Entries) (z : ℕ) (r : Result AnswerCode AllocError) (e : AllocError) → r ≡ Err e → {Whole : Type 0} →
         (HasNoneCircular rules → Whole) → GainsAtMost rules s exact mid new y z q Whole →
+        (IsTrue exact → AreSpare rules (contents s) first → AddsMet rules (contents s) i first new) →
         HasAnswered {E = AllocError} rules s exact first new w z i r
-    broken_turned new z r e is keeps turned = subst (λ a. HasAnswered {E = AllocError} rules s exact first new w z i a) (sym is) (record {
+    broken_turned new z r e is keeps turned met = subst (λ a. HasAnswered {E = AllocError} rules s exact first new w z i a) (sym is) (record {
       answers = tt;
-      worthy = worthy_both rules (contents s) i first mid new gains_ahead.worthy
-          (subst (λ j. AddsWorthy rules (contents s) j mid new) same turned.worthy);
+      worthy = worthy_turned new z turned;
+      met = met;
       spare = λ none k spare. turned.spare (keeps none) k (gains_ahead.spare k spare) (spares_ahead k spare);
       all = λ k spare. tt;
       counts = λ k. counts_more first mid new w y z (gains_ahead.counts k) (turned.counts k);

@@ -7,6 +7,7 @@ use Rattle.at_model.specs.Run.{Value, Instance, Location}
 use Rattle.at_model.specs.Rules.{Rules}
 use Rattle.at_model.specs.Meaning.{Among, Answer, Circle, Outcomes, content}
 use Rattle.at_model.specs.Alike.{InstanceLike, Names, IsInjective, AlikeAt}
+use Rattle.at_model.specs.of_fixpoints.Circles.{Answers}
 use Rattle.at_model.specs.Sparing.{IsWorthKeeping}
 use Rattle.at_store.specs.Shown.{Shown, IsIdle, contents, numbers, path, tree}
 use Rattle.at_store.specs.Memory.{class_in}
@@ -14,9 +15,9 @@ use Rattle.at_store.specs.View.{memory_of}
 use Rattle.at_store.proofs.Found.{path_injective}
 use Rattle.at_store.proofs.Relabelled.{contents_alike}
 use Rattle.at_cache.specs.Kept.{Entries}
-use Rattle.at_demand.proofs.of_keeping.CalledMet.{called_met}
-use Rattle.at_demand.specs.Answered.{HasWorthyFor, HasWorthyMet}
-use Rattle.at_demand.specs.Known.{kept_values, IsKept}
+use Rattle.at_demand.proofs.of_keeping.CalledMet.{called_met, called_only}
+use Rattle.at_demand.specs.Answered.{AddsMet, HasWorthyFor, HasWorthyMet}
+use Rattle.at_demand.specs.Known.{kept_values, meaning, IsKept}
 use Rattle.at_demand.specs.Sparing.{AddsWorthy, Counts}
 use Rattle.at_demand.specs.Called.{KeptBy}
 use Rattle.at_demand.proofs.of_keeping.CalledAsked.{one_number, one_path, worth_on}
@@ -71,16 +72,22 @@ worthy_met : (rules : Rules) (s : Shown) (q : Instance ℕ) (a : Answer ℕ) (en
 worthy_met rules s q (Outcomes o) entries h = λ i w m. h i w
 worthy_met rules s q (Circle j) entries h = h.1
 
--- all that is worth keeping, and that the search has met, is kept by paths
+-- all that is worth keeping, and that the search has met, is kept by paths, and what came was met
 pub met_asked : (rules : Rules) (s : Shown) → IsIdle s → (q : Instance ℕ) (p : Instance Node) → InstanceLike (Names (path s)) q p →
-    (entries : Entries) (a : Answer ℕ) → HasWorthyFor rules (contents s) q a entries → (state : State) → state.tree ≡ tree s →
-    KeepsMet rules state p (KeptBy s entries)
-met_asked rules s idle q p asked entries a h state same =
-    let P : Tree → Type 0 = λ t. KeepsMet rules (record state { tree = t }) p (KeptBy s entries) in
-    subst P (sym same) (called_met rules (contents s) (tree s) (path s) (path_injective (numbers s))
-    (contents_alike (class_in (memory_of s.slab)) (numbers s) idle.keeps.apart) entries q p asked (worthy_met rules s q a entries h))
+    (before after : Entries) (a : Answer ℕ) → Answers (contents s) (meaning rules) q a → HasWorthyFor rules (contents s) q a after →
+    AddsMet rules (contents s) q before after → (state : State) → state.tree ≡ tree s →
+    KeepsMet rules state p (KeptBy s before) (KeptBy s after)
+met_asked rules s idle q p asked before after a answers h adds state same =
+    let P : Tree → Type 0 = λ t. KeepsMet rules (record state { tree = t }) p (KeptBy s before) (KeptBy s after) in
+    let once : IsInjective (path s) = path_injective (numbers s) in
+    let alike : (l : Location ℕ) → AlikeAt (Names (path s)) (contents s) (content (tree s)) l =
+    contents_alike (class_in (memory_of s.slab)) (numbers s) idle.keeps.apart in
+    subst P (sym same) (record {
+      all = called_met rules (contents s) (tree s) (path s) once alike after q p asked (worthy_met rules s q a after h);
+      only = called_only rules (contents s) (tree s) (path s) once alike q p asked before after adds a answers;
+    })
 
 -- so it is for the question that the verdict is
-pub asked_met : (rules : Rules) (state : State) (q p : Instance Node) → Asks q ≡ Asks p → (Kept : Instance Node → Type 0) →
-    KeepsMet rules state q Kept → KeepsMet rules state p Kept
-asked_met rules state q p is Kept h = let same : q ≡ p = cc in subst (λ z. KeepsMet rules state z Kept) same h
+pub asked_met : (rules : Rules) (state : State) (q p : Instance Node) → Asks q ≡ Asks p → (Was Kept : Instance Node → Type 0) →
+    KeepsMet rules state q Was Kept → KeepsMet rules state p Was Kept
+asked_met rules state q p is Was Kept h = let same : q ≡ p = cc in subst (λ z. KeepsMet rules state z Was Kept) same h

@@ -273,7 +273,8 @@ grows_so entries old new v off k = by v off k.0 k.1
         → (HasOutcome (rules_of old) (state_of old) v
         → Keeps (rules_of old) (state_of old) v (kept_of entries old) (kept_of entries new) (work_of old) (work_of new))
         → ((q : Instance Node) → v ≡ Asks q
-        → GrowsOver entries v old new × KeepsMet (rules_of old) (state_of old) q (kept_of entries new)) → GrowsOver entries v old new
+        → GrowsOver entries v old new × KeepsMet (rules_of old) (state_of old) q (kept_of entries old) (kept_of entries new)) →
+        GrowsOver entries v old new
     by (Refuses refusal) off keeps grows = kept (Refuses refusal) off (keeps tt)
     by (Tells shown) off keeps grows = kept (Tells shown) off (keeps tt)
     by (Leaves marks) off keeps grows = kept (Leaves marks) off (keeps tt)

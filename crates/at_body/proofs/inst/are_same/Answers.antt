@@ -1,6 +1,6 @@
-use Rattle.std.proofs.Common.{sym, ◌∙◌}
-use Rattle.at_body.proofs.SamenessLemmas.{none_same}
+use Rattle.std.proofs.Common.{refl}
 use Rattle.at_body.proofs.inst.are_same.Goals as goal
 
-pub returns-then-is_empty : goal.returns-then-is_empty
-returns-then-is_empty c = none_same c.args.passed.now c.args.others.now c.is_empty-then-is_empty.result (sym c.is_empty.ensures ∙ c.if-is_empty.true) c.is_empty-then-is_empty.ensures
+pub returns-then-are_none : goal.returns-then-are_none
+returns-then-are_none c =
+    rw (c.are_none.ensures.passed c.if-are_none.true, c.are_none.ensures.others c.if-are_none.true) refl

@@ -1,6 +1,6 @@
 use Rattle.std.proofs.Common.{◌∙◌, sym}
 use Rattle.at_cache.specs.Edges.{edges_in}
-use Rattle.at_cache.proofs.Listing.{lists_reused, reused_twice, still_there}
+use Rattle.at_cache.proofs.Listing.{listed_one, lists_reused, reused_twice, still_there}
 use Rattle.at_cache.proofs.OneEdge.{alone_has, lists_alone}
 use Rattle.at_cache.proofs.linking.add_user.Goals as goal
 
@@ -10,6 +10,15 @@ returns-then-is_empty-clause-lists c =
       edges_in c.of.result,
       x.written,
       lists_alone _ _ _ _ _ (sym c.is_empty.ensures ∙ c.if-is_empty.true) x.was c.of.ensures,
+      alone_has _ _ c.of.ensures,
+    )
+
+pub returns-then-are_outdated-clause-lists : goal.returns-then-are_outdated-clause-lists
+returns-then-are_outdated-clause-lists c =
+    let x = c.exchange_users-users.ensures in (
+      edges_in c.of.result,
+      x.written,
+      lists_reused _ _ _ _ x.written x.was (listed_one (c.are_outdated.ensures c.if-are_outdated.true) c.of.ensures),
       alone_has _ _ c.of.ensures,
     )
 

@@ -5,5 +5,5 @@ use Rattle.at_demand.proofs.turning_laws.what_turns_let_come_was_met.Goals as go
 
 pub returns : goal.returns
 returns c = λ rules s m q k can circle before after right n u o turns.
-    kept_reasoned rules s m (kept_values before) q k can circle n before after (posted q) u o turns
-    (posted_reasoned rules s m q k can circle before right)
+    kept_reasoned rules s (kept_values before) q k can circle m n before after (posted q) u o turns
+    (posted_reasoned rules s q before right)

@@ -1,4 +1,5 @@
-use Rattle.std.proofs.Common.{Option, subst, true≢false, rules}
+use Rattle.std.proofs.Common.{Option, subst, true≢false}
+use Rattle.std.proofs.lemmas.Result.{err_from_is_err_and}
 use Rattle.std.specs.Prelude.{IfSome}
 use Rattle.at_model.specs.of_fixpoints.Fixpoints.{HasValue}
 use Rattle.at_store.specs.Shown.{contents}
@@ -9,6 +10,7 @@ use Rattle.at_demand.specs.Sparing.{HasWorthy}
 use Rattle.at_demand.proofs.Standing.{sound_more}
 use Rattle.at_demand.proofs.of_nesting.InnerAnswered.{answered_after, answered_by}
 use Rattle.at_demand.proofs.of_nesting.InnerGains.{known_none}
+use Rattle.at_demand.proofs.of_steps.Reasoned.{led_met}
 use Rattle.at_demand.proofs.of_traces.TurnsPut.{went_made, went_then}
 use Rattle.at_demand.proofs.of_traces.Putting.{traced_then}
 use Rattle.at_demand.proofs.demand.Demand.answer_anew.Goals as goal
@@ -24,7 +26,10 @@ returns-in-Some g c = record {
       (subst (λ (o : Option ValueCode). IfSome o (λ v. HasValue (contents s) (meaning rules) c.args.inst.now (value_view
       v))) c.in-Some.is c.in_ok-at_once.ensures.value)
       (λ k spare. subst (λ (o : Option ValueCode). IfSome o (λ v. HasWorthy rules (contents s) c.args.inst.now new))
-      c.in-Some.is (c.in_ok-at_once.ensures.all k spare));
+      c.in-Some.is (c.in_ok-at_once.ensures.all k spare))
+      (λ k spare. led_met rules s c.args.inst.now (record { basis = c.requires.answerable.basis; typed = c.requires.typed })
+      (g.K.Keeper.contents c.args.self.now.keeper) new spare c.requires.answerable.right
+      c.answer_at_once.ensures.gains.known.right c.answer_at_once.ensures.gains.worthy c.answer_at_once.ensures.led);
   traces = c.answer_at_once.ensures.traces;
   makes = λ plain. c.answer_at_once.ensures.makes;
   went = λ exact. went_made (g.K.Keeper.contents c.args.self.now.keeper) (g.K.Keeper.contents c.answer_at_once.new.self.keeper)
@@ -35,10 +40,16 @@ returns-in-Some g c = record {
 pub returns-in-None : goal.returns-in-None
 returns-in-None g c = record {
   answered =
+      let rules = c.args.rules.now in
+      let s = c.args.store.now in
+      let new = g.K.Keeper.contents c.answer_at_once.new.self.keeper in
       answered_after c.args.rules.now c.args.store.now g.K.Keeper.exact c.args.inst.now c.answer_looking_ahead-told.result
       (g.K.Keeper.contents c.args.self.now.keeper) (g.K.Keeper.contents c.answer_at_once.new.self.keeper)
       (g.K.Keeper.contents c.answer_looking_ahead-told.new.self.keeper)
       c.args.self.now.work c.answer_at_once.new.self.work c.answer_looking_ahead-told.new.self.work c.answer_at_once.ensures.gains
+      (λ spare. led_met rules s c.args.inst.now (record { basis = c.requires.answerable.basis; typed = c.requires.typed })
+      (g.K.Keeper.contents c.args.self.now.keeper) new spare c.requires.answerable.right
+      c.answer_at_once.ensures.gains.known.right c.answer_at_once.ensures.gains.worthy c.answer_at_once.ensures.led)
       c.answer_looking_ahead-told.ensures.answered;
   traces = traced_then c.args.rules.now c.args.store.now c.args.inst.now (g.K.Keeper.memories c.args.self.now.keeper) (g.K.Keeper.memories c.answer_at_once.new.self.keeper)
       (g.K.Keeper.memories c.answer_looking_ahead-told.new.self.keeper) c.answer_at_once.ensures.traces c.answer_looking_ahead-told.ensures.traces;
@@ -78,7 +89,16 @@ answer_looking_ahead-told-requires g c = record {
 
 pub returns-in_err-at_once : goal.returns-in_err-at_once
 returns-in_err-at_once g c = record {
-  answered = search rules;
+  answered =
+      let rules = c.args.rules.now in
+      let s = c.args.store.now in
+      let new = g.K.Keeper.contents c.answer_at_once.new.self.keeper in
+      let is = (err_from_is_err_and c.from_residual.result c.from_residual.ensures.1).1 in
+      answered_by rules s g.K.Keeper.exact c.args.inst.now _ (g.K.Keeper.contents c.args.self.now.keeper) new
+      c.args.self.now.work c.answer_at_once.new.self.work c.answer_at_once.ensures.gains (rw is tt) (λ k spare. rw is tt)
+      (λ k spare. led_met rules s c.args.inst.now (record { basis = c.requires.answerable.basis; typed = c.requires.typed })
+      (g.K.Keeper.contents c.args.self.now.keeper) new spare c.requires.answerable.right
+      c.answer_at_once.ensures.gains.known.right c.answer_at_once.ensures.gains.worthy c.answer_at_once.ensures.led);
   traces = c.answer_at_once.ensures.traces;
   makes = λ plain. c.answer_at_once.ensures.makes;
   went = λ exact. went_made (g.K.Keeper.contents c.args.self.now.keeper) (g.K.Keeper.contents c.answer_at_once.new.self.keeper)

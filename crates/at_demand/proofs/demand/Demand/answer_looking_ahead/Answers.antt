@@ -12,13 +12,14 @@ use Rattle.at_body.specs.Typed.{class_shown}
 use Rattle.at_demand.specs.declared.answer.Answer.{Answer as AnswerCode}
 use Rattle.at_demand.specs.Answered.{HasTurnedWith, HasWorthyFor}
 use Rattle.at_demand.specs.Known.{answer_view, meaning}
-use Rattle.at_demand.specs.Levels.{IsSearch}
+use Rattle.at_demand.specs.Levels.{IsSearch, StandsFor}
 use Rattle.at_demand.specs.Went.{begun}
 use Rattle.at_demand.proofs.Fitting.{fit_grown, none_fit, none_noted}
 use Rattle.at_demand.proofs.Standing.{answers_right, asked_same}
-use Rattle.at_demand.proofs.of_nesting.InnerAnswered.{answered_by}
+use Rattle.at_demand.proofs.of_nesting.InnerAnswered.{answered_by, met_none}
 use Rattle.at_demand.proofs.of_nesting.InnerGains.{gains_none, known_none}
-use Rattle.at_demand.proofs.of_steps.Ahead.{broken_turned, gains_ahead, gains_turned, posted_asked, sound_ahead, sound_turned, spares_ahead, stands_ahead, traced_ahead, traced_turned}
+use Rattle.at_demand.proofs.of_steps.Ahead.{broken_turned, gains_ahead, gains_turned, posted_asked, sound_ahead, sound_turned, spares_ahead, stands_ahead, traced_ahead, traced_turned, worthy_turned}
+use Rattle.at_demand.proofs.of_steps.Reasoned.{ahead_all, begun_reasoned, reasoned_met, turned_all, turned_on}
 use Rattle.at_demand.proofs.of_levels.Resolving.{keeps_groups}
 use Rattle.at_demand.proofs.of_traces.TurnsPut.{puts_stay, went_then, went_turned}
 use Rattle.at_demand.proofs.of_traces.Putting.{traced_same}
@@ -43,6 +44,11 @@ loop-given-init g c =
       gains = gains_none rules s g.K.Keeper.exact c.args.inst.now entries [] c.args.self.now.work c.args.self.now.few
           (known_none rules (contents s) entries c.requires.answerable.basis.circular c.requires.answerable.right c.requires.answerable.plain);
       sparing = λ exact spare. c.in_ok-question.ensures.sparing entries rules (contents s);
+      reasoned = begun_reasoned rules s c.args.inst.now entries q c.requires.answerable.right
+          (subst (λ (i : Instance ℕ). StandsFor rules s entries q (search_posted i)) copied
+          (c.in_ok-question.ensures.stands entries rules s
+          (subst (λ (i : Instance ℕ). IsWellTyped rules (class_shown s) AnyText i) (sym copied) c.requires.typed)
+          (record { right = c.requires.answerable.right; whole = c.requires.wholes })));
       traces = traced_same rules s c.args.inst.now (g.K.Keeper.memories c.args.self.now.keeper) c.requires.justified;
       went = λ k. begun;
     }
@@ -123,6 +129,9 @@ loop-given-preserved g c =
       gains = gains_turned rules s exact i q inv.same basis first old mid w x y inv.gains inv.sound inv.standing ahead inv.sparing
           new z e.gains;
       sparing = λ k spare. e.sparing k (gains.spare k spare) (sparing k spare);
+      reasoned = turned_on rules s i (record { basis = basis; typed = c.requires.typed })
+          first old mid q inv.reasoned ahead.worthy.stays c.look_ahead.ensures.led
+          sound new e.gains.right e.gains.last p e.turned;
       traces = traced_turned rules s exact i q inv.same basis first old mid w x y inv.gains inv.sound inv.standing ahead
           (g.K.Keeper.memories c.args.self.now.keeper) (g.K.Keeper.memories c.loop-given.self.keeper)
           (g.K.Keeper.memories c.look_ahead.new.self.keeper)
@@ -159,14 +168,17 @@ returns-in-Some g c =
     let sparing = spares_ahead rules s exact i q inv.same basis first old mid w x y inv.gains inv.sound inv.standing ahead inv.sparing in
     let e = subst (λ (o : Option AnswerCode). HasTurnedWith {E = AllocError} rules s exact mid new y z q p c.turn_with.new.trials (Ok o)) c.in-Some.is
     c.in_ok-told.ensures.turned in
+    let come = gains_turned rules s exact i q inv.same basis first old mid w x y inv.gains inv.sound inv.standing ahead inv.sparing
+    new z e.gains in
     record {
-      answered = answered_by rules s exact i _ first new w z
-          (gains_turned rules s exact i q inv.same basis first old mid w x y inv.gains inv.sound inv.standing ahead inv.sparing
-          new z e.gains)
+      answered = answered_by rules s exact i _ first new w z come
           (subst (λ j. Answers (contents s) (meaning rules) j (answer_view c.in-Some.answer)) inv.same
           (answers_right rules s basis mid q sound stands new p c.in-Some.answer e.turned))
           (λ k spare. subst (λ j. HasWorthyFor rules (contents s) j (answer_view c.in-Some.answer) new) inv.same
-          (e.all k (gains.spare k spare) (sparing k spare)));
+          (e.all k (gains.spare k spare) (sparing k spare)))
+          (λ k spare. reasoned_met rules s i first new spare come.worthy (turned_all rules s i (record { basis = basis; typed = c.requires.typed })
+          first old mid q inv.reasoned ahead.worthy.stays c.look_ahead.ensures.led
+          sound new e.gains.right e.gains.last));
       traces = traced_turned rules s exact i q inv.same basis first old mid w x y inv.gains inv.sound inv.standing ahead
           (g.K.Keeper.memories c.args.self.now.keeper) (g.K.Keeper.memories c.loop-given.self.keeper)
           (g.K.Keeper.memories c.look_ahead.new.self.keeper)
@@ -200,7 +212,12 @@ returns-in_err-told g c =
     let is = (err_from_is_err_and c.from_residual-in_err-told.result c.from_residual-in_err-told.ensures.1).1 in
     record {
       answered = broken_turned rules s exact i q inv.same basis first old mid w x y inv.gains inv.sound inv.standing ahead inv.sparing
-          new z _ _ is (keeps_groups rules c.turn_with.result) c.turn_with.ensures.turned.gains;
+          new z _ _ is (keeps_groups rules c.turn_with.result) c.turn_with.ensures.turned.gains
+          (λ k spare. reasoned_met rules s i first new spare (worthy_turned rules s exact i q inv.same basis first old mid w x y
+          inv.gains inv.sound inv.standing ahead new z c.turn_with.ensures.turned.gains) (turned_all rules s i (record { basis = basis; typed = c.requires.typed })
+          first old mid q inv.reasoned ahead.worthy.stays c.look_ahead.ensures.led
+          (sound_ahead rules s exact i q inv.same basis first old mid w x y inv.gains inv.sound inv.standing ahead)
+          new c.turn_with.ensures.turned.gains.right c.turn_with.ensures.turned.gains.last));
       traces = traced_turned rules s exact i q inv.same basis first old mid w x y inv.gains inv.sound inv.standing ahead
           (g.K.Keeper.memories c.args.self.now.keeper) (g.K.Keeper.memories c.loop-given.self.keeper)
           (g.K.Keeper.memories c.look_ahead.new.self.keeper)
@@ -230,9 +247,12 @@ returns-in_err-next g c =
     let y = c.look_ahead.new.self.work in
     let ahead = c.look_ahead.ensures.gains in
     let is = (err_from_is_err_and c.from_residual-in_err-next.result c.from_residual-in_err-next.ensures.1).1 in
+    let come = gains_ahead rules s exact i q inv.same basis first old mid w x y inv.gains inv.sound inv.standing ahead in
     record {
-      answered = answered_by rules s exact i _ first mid w y (gains_ahead rules s exact i q inv.same basis first old mid w x y inv.gains inv.sound inv.standing ahead)
-          (rw is tt) (λ k spare. rw is tt);
+      answered = answered_by rules s exact i _ first mid w y come (rw is tt) (λ k spare. rw is tt)
+          (λ k spare. reasoned_met rules s i first mid spare come.worthy (ahead_all rules s i (record { basis = basis; typed = c.requires.typed })
+          first old mid q inv.reasoned ahead.worthy.stays c.look_ahead.ensures.led
+          (sound_ahead rules s exact i q inv.same basis first old mid w x y inv.gains inv.sound inv.standing ahead)));
       traces = traced_ahead rules s exact i q inv.same basis first old mid w x y inv.gains inv.sound inv.standing ahead
           (g.K.Keeper.memories c.args.self.now.keeper) (g.K.Keeper.memories c.loop-given.self.keeper)
           (g.K.Keeper.memories c.look_ahead.new.self.keeper)
@@ -247,7 +267,10 @@ pub returns : goal.returns
 returns g c = record {
   answered = answered_by c.args.rules.now c.args.store.now g.K.Keeper.exact c.args.inst.now _ (g.K.Keeper.contents c.args.self.now.keeper)
       (g.K.Keeper.contents c.loop-given.self.keeper) c.args.self.now.work c.loop-given.self.work c.loop-given.invariant.gains tt
-      (λ k spare. tt);
+      (λ k spare. tt)
+      (λ k spare. reasoned_met c.args.rules.now c.args.store.now c.args.inst.now (g.K.Keeper.contents c.args.self.now.keeper)
+      (g.K.Keeper.contents c.loop-given.self.keeper) spare c.loop-given.invariant.gains.worthy
+      (λ d circle. (c.loop-given.invariant.reasoned.reasoned d circle).kept));
   traces = c.loop-given.invariant.traces;
   went = c.loop-given.invariant.went;
   makes = λ plain. absurd (true≢false plain);
@@ -262,7 +285,8 @@ returns-in_err-copy g c = record {
       let is = (err_from_is_err_and c.from_residual.result c.from_residual.ensures.1).1 in
       answered_by rules s g.K.Keeper.exact c.args.inst.now _ entries entries c.args.self.now.work c.args.self.now.work
       (gains_none rules s g.K.Keeper.exact c.args.inst.now entries [] c.args.self.now.work c.args.self.now.few
-      (known_none rules (contents s) entries c.requires.answerable.basis.circular c.requires.answerable.right c.requires.answerable.plain)) (rw is tt) (λ k spare. rw is tt);
+      (known_none rules (contents s) entries c.requires.answerable.basis.circular c.requires.answerable.right c.requires.answerable.plain)) (rw is tt) (λ k spare. rw is tt)
+      (λ k spare. met_none rules (contents s) c.args.inst.now entries);
   traces = traced_same c.args.rules.now c.args.store.now c.args.inst.now (g.K.Keeper.memories c.args.self.now.keeper) c.requires.justified;
   went = λ k. begun;
   makes = λ plain. absurd (true≢false plain);
@@ -277,7 +301,8 @@ returns-in_err-question g c = record {
       let is = (err_from_is_err_and c.from_residual-in_err-question.result c.from_residual-in_err-question.ensures.1).1 in
       answered_by rules s g.K.Keeper.exact c.args.inst.now _ entries entries c.args.self.now.work c.args.self.now.work
       (gains_none rules s g.K.Keeper.exact c.args.inst.now entries [] c.args.self.now.work c.args.self.now.few
-      (known_none rules (contents s) entries c.requires.answerable.basis.circular c.requires.answerable.right c.requires.answerable.plain)) (rw is tt) (λ k spare. rw is tt);
+      (known_none rules (contents s) entries c.requires.answerable.basis.circular c.requires.answerable.right c.requires.answerable.plain)) (rw is tt) (λ k spare. rw is tt)
+      (λ k spare. met_none rules (contents s) c.args.inst.now entries);
   traces = traced_same c.args.rules.now c.args.store.now c.args.inst.now (g.K.Keeper.memories c.args.self.now.keeper) c.requires.justified;
   went = λ k. begun;
   makes = λ plain. absurd (true≢false plain);

@@ -9,6 +9,7 @@ use Rattle.at_demand.specs.Sparing.{AreSpare}
 use Rattle.at_demand.specs.Traces.{StayJustified}
 use Rattle.at_demand.specs.Turns.{IsSparingTurns, IsStanding}
 use Rattle.at_demand.specs.Went.{Went}
+use Rattle.at_demand.proofs.of_steps.Reasoned.{StandsReasoned}
 use Rattle.at_demand.proofs.demand.Demand.answer_looking_ahead.Given as goal
 
 abbrev pub invariant-loop-given : goal.invariant-loop-given
@@ -21,6 +22,7 @@ invariant-loop-given g l = record {
       [] [] l.initial.self.work l.self.work;
   sparing : IsTrue g.K.Keeper.exact → AreSpare l.rules (contents l.store) (g.K.Keeper.contents l.initial.self.keeper) →
       IsSparingTurns l.rules (contents l.store) (g.K.Keeper.contents l.self.keeper) l.question;
+  reasoned : StandsReasoned l.rules l.store l.inst (g.K.Keeper.contents l.initial.self.keeper) (g.K.Keeper.contents l.self.keeper) l.question;
   traces : StayJustified l.rules l.store l.inst (g.K.Keeper.memories l.initial.self.keeper) (g.K.Keeper.memories l.self.keeper);
   went : IsTrue g.K.Keeper.exact → Went (g.K.Keeper.memories l.initial.self.keeper) l.initial.self.made (g.K.Keeper.memories l.self.keeper) l.self.made;
 }

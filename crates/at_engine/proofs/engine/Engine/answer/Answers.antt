@@ -42,8 +42,9 @@ returns g c q like =
                 (told.counts exact) (state_of e) refl,
             λ p is. (
               grows,
-              asked_met (rules_of e) (state_of e) q p is _
-                  (met_asked (rules_of e) e.store held.idle c.args.inst.now q like after view (told.all exact spare.kept) (state_of e) refl),
+              asked_met (rules_of e) (state_of e) q p is _ _
+                  (met_asked (rules_of e) e.store held.idle c.args.inst.now q like before after view told.answers
+                  (told.all exact spare.kept) (told.met exact spare.kept) (state_of e) refl),
             ),
           ) grows;
       stays = record {
