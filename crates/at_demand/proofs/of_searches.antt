@@ -12,6 +12,5 @@ pub mod NextTried
 pub mod Costing
 pub mod SearchedOn
 pub mod SearchedTo
-pub mod Deciding
 pub mod Reasoning
 pub mod ReasonedTurns

@@ -23,7 +23,6 @@ use Rattle.at_model.specs.Sparing.{IsWorthKeeping, KeptAfter, AreAdded, IsWork}
 use Rattle.at_model.specs.of_fixpoints.Evaluations.{forms}
 use Rattle.at_model.specs.of_fixpoints.Formulas.{Forms}
 use Rattle.at_model.specs.of_fixpoints.Resting.{IsUntouched, Supports}
-use Rattle.at_model.specs.of_fixpoints.Sets.{plain_forms}
 use Rattle.at_model.specs.Support as support
 use Rattle.at_model.specs.Keeping.{heard, AreWorks, NothingKept}
 use Rattle.at_model.specs.Working.{Effort, AreHeard, Works}

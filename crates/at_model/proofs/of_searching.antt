@@ -13,3 +13,4 @@ pub mod LookedAt
 pub mod PassedLooks
 pub mod LookedSteps
 pub mod LookedLevels
+pub mod Deciding

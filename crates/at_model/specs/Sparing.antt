@@ -6,20 +6,24 @@ use Rattle.at_model.specs.Run.{Value, Instance}
 use Rattle.at_model.specs.Rules.{Rules, is_lazy, start_of}
 use Rattle.at_model.specs.Meaning.{Among, Distinct, content}
 use Rattle.at_model.specs.Alike.{InstanceLike, Names}
-use Rattle.at_model.specs.Edits.{Edit, carried}
+use Rattle.at_model.specs.Edits.{carried}
 use Rattle.at_model.specs.Machine.{State, Verdict, Refuses, Tells, Leaves, Edits, Asks, Posts, Waits}
 use Rattle.at_model.specs.Enduring.{AreTokens}
 use Rattle.at_model.specs.WellFormed.{AreWellFormed}
+use Rattle.at_model.specs.of_fixpoints.Circles.{Circular}
 use Rattle.at_model.specs.of_fixpoints.Evaluations.{forms}
 use Rattle.at_model.specs.of_fixpoints.Fixpoints.{HasValue}
+use Rattle.at_model.specs.of_fixpoints.Met.{IsMet}
 use Rattle.at_model.specs.of_fixpoints.Resting.{IsUntouched, Leads}
 
--- the question leads to the instance, which is lazy and has a value
+-- The question leads to the instance, which is lazy and has a value; and where a circle answers the question, its search has met the
+-- instance before that.
 pub record IsWorthKeeping (rules : Rules) (t : Tree) (q i : Instance Node) : Type 0 where
   pub reached : Leads (content t) (forms rules) q i
   pub lazy : is_lazy rules i.attribute ≡ true
   pub value : Value Node
   pub has : HasValue (content t) (forms rules) i value
+  pub before : (c : Instance Node) → Circular (content t) (forms rules) q c → IsMet (content t) (forms rules) q i
 
 -- What has a value leads to what has values: no attribute is circular, or the rules are well formed and tokens can be written.
 abbrev pub SpreadsValues : Rules → Tree → Type 0

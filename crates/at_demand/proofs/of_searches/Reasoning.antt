@@ -12,9 +12,9 @@ use Rattle.at_model.specs.of_fixpoints.Resting as led
 use Rattle.at_model.specs.of_fixpoints.Searched.{AreStacked, IsAt}
 use Rattle.at_model.specs.of_fixpoints.Searching.{Level, root_of, under}
 use Rattle.at_model.proofs.of_formulas.ClosedOnce.{not_both}
+use Rattle.at_model.proofs.of_searching.Deciding.{demand_decided}
 use Rattle.at_model.proofs.of_searching.Turned.{leads_by, leads_over}
 use Rattle.at_demand.specs.Reasons.{DemandsOn, HasReason, IsBelowFirst, IsReached, stays, goes}
-use Rattle.at_demand.proofs.of_searches.Deciding.{demand_decided}
 
 module _ (look : Contents ℕ) (forms : Forms ℕ) (first : Known ℕ) (q c : Instance ℕ) (circle : Circular look forms q c)
   where

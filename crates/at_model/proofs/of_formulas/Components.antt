@@ -6,7 +6,7 @@ use Rattle.at_model.specs.Meaning.{Outcome, Finds, Faults, Among}
 use Rattle.at_model.proofs.Options.{both, either_true}
 use Rattle.at_model.proofs.Reached.{front_among, back_among}
 use Rattle.at_model.specs.of_fixpoints.Formulas.{Formula, Known, Asks, Both, Either, atoms, Forms}
-use Rattle.at_model.specs.of_fixpoints.Fixpoints.{End, Made, Spoilt, Ends, LeadsOver, stays, goes, AreFormed, AreEnded, Leaves, known, asks, true_both, true_left, true_right, false_left, false_right, false_both, HoldsAt, EndsAt}
+use Rattle.at_model.specs.of_fixpoints.Fixpoints.{End, Made, Ends, LeadsOver, stays, goes, AreFormed, AreEnded, Leaves, known, asks, true_both, true_left, true_right, false_left, false_right, false_both, HoldsAt, EndsAt}
 use Rattle.at_model.specs.of_fixpoints.Circles.{HasNone}
 use Rattle.at_model.specs.of_fixpoints.Searching.{asked_in}
 use Rattle.at_model.proofs.of_formulas.UniqueOutcomes.{Ending, OneEnd}

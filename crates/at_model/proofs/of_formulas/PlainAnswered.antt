@@ -1,5 +1,5 @@
 -- Rules without circular attributes, as a test; and their answers, which are those of their equations.
-use Rattle.std.proofs.Common.{◌≡◌, ℕ, zero, suc, Bool, true, false, List, [], ◌∷◌, map, Option, Some, None, refl, sym, ◌∙◌, subst}
+use Rattle.std.proofs.Common.{◌≡◌, ℕ, zero, suc, Bool, true, false, List, [], ◌∷◌, map, Option, Some, None, refl, sym, subst}
 use Rattle.std.specs.List.{slice_get}
 use Rattle.std.specs.Prelude.{◌&&◌}
 use Rattle.at_model.specs.Paths.{Node, node_eq}

@@ -9,8 +9,8 @@ use Rattle.at_model.specs.Support as support
 use Rattle.at_model.proofs.Outcomes.{Settles, none_before, circle_has_none}
 use Rattle.at_model.proofs.Reached.{front_among, back_among, either_among}
 use Rattle.at_model.proofs.of_likeness.Carrying.{first_led}
-use Rattle.at_model.specs.of_fixpoints.Formulas.{Known, atoms}
-use Rattle.at_model.specs.of_fixpoints.Fixpoints.{HoldsAt, HasValue}
+use Rattle.at_model.specs.of_fixpoints.Formulas.{Formula, Known, atoms}
+use Rattle.at_model.specs.of_fixpoints.Fixpoints.{HoldsAt, HasForm, HasValue}
 use Rattle.at_model.specs.of_fixpoints.Resting.{Comes, Leads, stays, goes, Supports}
 use Rattle.at_model.specs.of_fixpoints.Circles.{HasNone, WantsNone, Closes, back, again, formed, spoilt, comes_back, deeper, Circular, Answers}
 use Rattle.at_model.specs.of_fixpoints.Sets.{plain_forms}
@@ -66,13 +66,22 @@ module _ {N : Type 0} (look : Contents N) (equation : Equations N) where
   comes_on i j c = inl (reaches_on look (meaning.HasValue look equation) (HasValue look (plain_forms equation))
       value_on (equation i) j c)
 
+  no_atom : (i j : Instance N) (f : Formula N) → HasForm look (plain_forms equation) i f → Among j (atoms f) → ⊥
+  no_atom i j f (n, x) m =
+      let (v, q) = plain_value look (HoldsAt look (plain_forms equation) n) i (equation i) f x in
+      subst (λ z. Among j (atoms z)) q m
+
+  -- it comes to what its equation demands, and to no more
+  pub comes_plain : (i j : Instance N) → Comes look (plain_forms equation) i j →
+      Reaches look (HasValue look (plain_forms equation)) ((plain_forms equation).formula i) j
+  comes_plain i j (inl c) = c
+  comes_plain i j (inr (f, has, m)) = absurd (no_atom i j f has m)
+
   comes_off : (i j : Instance N) → Comes look (plain_forms equation) i j → meaning.Comes look equation i j
   comes_off i j (inl c) =
       reaches_off look (meaning.HasValue look equation) (HasValue look (plain_forms equation)) value_off
       (equation i) j c
-  comes_off i j (inr (f, (n, x), m)) =
-      let (v, q) = plain_value look (HoldsAt look (plain_forms equation) n) i (equation i) f x in
-      absurd (subst (λ z. Among j (atoms z)) q m)
+  comes_off i j (inr (f, has, m)) = absurd (no_atom i j f has m)
 
   walks_on : (i : Instance N) (is : List (Instance N)) (j : Instance N) → Walks look equation i is j →
       Leads look (plain_forms equation) i j

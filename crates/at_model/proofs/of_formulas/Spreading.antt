@@ -1,8 +1,8 @@
 -- What has a value leads to what has values: where no attribute is circular, and with well-formed rules.
-use Rattle.std.proofs.Common.{◌≡◌, ℕ, None, inl, inr, sym, subst}
+use Rattle.std.proofs.Common.{inl, inr, sym, subst}
 use Rattle.at_model.specs.Paths.{Node, node_eq}
 use Rattle.at_model.specs.Run.{Value, Instance, Contents}
-use Rattle.at_model.specs.Rules.{Rules, start_of}
+use Rattle.at_model.specs.Rules.{Rules}
 use Rattle.at_model.specs.Meaning.{Equations, Finds, content, equations}
 use Rattle.at_model.specs.Asking.{IsWellFormed}
 use Rattle.at_model.specs.Machine.{State, IsSound}

@@ -1,10 +1,10 @@
 -- How many nodes the tree may have stays over lines and turns, and it never has more.
-use Rattle.std.proofs.Common.{◌≡◌, ℕ, Bool, true, List, Option, Some, None, refl, sym, ap, ◌∙◌, subst}
+use Rattle.std.proofs.Common.{◌≡◌, ℕ, Bool, true, List, Option, Some, None, refl, ap, ◌∙◌, subst}
 use Rattle.std.specs.Prelude.{nat_le}
 use Rattle.at_model.specs.Trees.{nodes}
 use Rattle.at_model.specs.Replies.{Reply}
 use Rattle.at_model.specs.Rules.{Rules}
-use Rattle.at_model.specs.Machine.{State, Verdict, Refuses, Tells, Leaves, Edits, Asks, Posts, Waits, after, verdict, Turns, stays, answers, runs_out, Given, spent, none_open, silent, telling, Handles, obeys, waits, refuses, Serves, handles, Runs, end, next, without, IsSound}
+use Rattle.at_model.specs.Machine.{State, Verdict, Refuses, Tells, Leaves, Edits, Asks, Posts, Waits, after, verdict, Turns, stays, answers, runs_out, Given, spent, none_open, silent, telling, Handles, obeys, waits, refuses, Serves, handles, Runs, end, next, IsSound}
 use Rattle.at_model.proofs.of_machines.Sound.{sound_given, sound_served}
 use Rattle.at_model.proofs.of_machines.Machines.{waited as when_waited}
 

@@ -4,7 +4,7 @@ use Rattle.at_model.specs.Trees.{Tree}
 use Rattle.at_model.specs.Paths.{Node}
 use Rattle.at_model.specs.Run.{Instance}
 use Rattle.at_model.specs.Rules.{Rules}
-use Rattle.at_model.specs.Meaning.{Answer, Outcomes, Circle, content, equations}
+use Rattle.at_model.specs.Meaning.{Answer, Outcomes, Circle, content}
 use Rattle.at_model.specs.Lines.{Line}
 use Rattle.at_model.specs.Replies.{Reply, Form, Refused, Code}
 use Rattle.at_model.specs.Machine.{State, Verdict, Refuses, Tells, Leaves, Edits, Asks, Posts, Waits, AnswersIn, Says, after, Step, answer_form, verdict}

@@ -1,5 +1,5 @@
 -- What is kept stays well kept over every line.
-use Rattle.std.proofs.Common.{◌≡◌, true, List, [], ◌∷◌, ◌++◌, Ok, ◌⊎◌, inl, inr, refl, sym, ap, ◌∙◌, subst}
+use Rattle.std.proofs.Common.{◌≡◌, true, Ok, ◌⊎◌, inl, inr, refl, sym, ap, ◌∙◌}
 use Rattle.at_model.specs.Trees.{Tree, conforms}
 use Rattle.at_model.specs.Paths.{Node}
 use Rattle.at_model.specs.Run.{Value, Instance, Location, Contents}
@@ -10,11 +10,12 @@ use Rattle.at_model.specs.Alike.{InstanceLike, Names, OutcomeLike}
 use Rattle.at_model.specs.Alike as alike
 use Rattle.at_model.specs.Edits.{Edit, carried, edited}
 use Rattle.at_model.specs.Lines.{Line}
-use Rattle.at_model.specs.Machine.{State, Verdict, Asks, after, verdict, IsSound}
+use Rattle.at_model.specs.Machine.{State, Verdict, after, verdict, IsSound}
 use Rattle.at_model.specs.Sparing.{IsWorthKeeping, KeptAfter, AreWellKept, SpreadsValues}
 use Rattle.at_model.specs.of_fixpoints.Evaluations.{forms}
 use Rattle.at_model.specs.of_fixpoints.Fixpoints.{Holds, HasValue}
 use Rattle.at_model.specs.of_fixpoints.Formulas.{Forms}
+use Rattle.at_model.specs.of_fixpoints.Met.{IsMet}
 use Rattle.at_model.specs.of_fixpoints.Resting.{IsUntouched, Leads, Supports}
 use Rattle.at_model.proofs.of_formulas.CarriedByFormulas.{outcome_there, leads_back}
 use Rattle.at_model.proofs.of_formulas.Spreading.{leads_further, values_spread}
@@ -30,6 +31,19 @@ as_value : {N M : Type 0} {R : N → M → Type 0} (look : Contents M) (forms : 
     → (w : Value M) × HasValue look forms j w
 as_value look forms j v o p e h (alike.find {w = w} s) = (w, h)
 as_value look forms j v o p e h (alike.fault f s) = absurd cc
+
+-- what was met leads to what was met
+met_on : {N : Type 0} (look : Contents N) (forms : Forms N) (q i j : Instance N) →
+    Leads look forms i j → IsMet look forms q i → IsMet look forms q j
+met_on look forms q i j leads met = record {
+  by = met.by;
+  looked = met.looked;
+  settled = met.settled;
+  is = met.is;
+  outcome = met.outcome;
+  holds = met.holds;
+  led = leads_further look forms met.settled i j met.led leads;
+}
 
 supports_on : {N : Type 0} (look : Contents N) (forms : Forms N) (i j : Instance N) (l : Location N) →
     Leads look forms i j → Supports look forms l j → Supports look forms l i
@@ -48,6 +62,7 @@ module _ (rules : Rules) (s : State) (Kept : Instance Node → Type 0) (well : A
           lazy = is;
           value = v;
           has = has;
+          before = λ c circle. met_on (content s.tree) (forms rules) q i j leads (worth.before c circle);
         }
 
     well_asked : AreWellKept rules s.tree (λ j. Kept j ⊎ IsWorthKeeping rules s.tree q j)

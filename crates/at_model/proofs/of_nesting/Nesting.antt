@@ -1,7 +1,7 @@
 -- An evaluation with inner ones comes to the value of its instance; all that supports it was looked at, or supports
 -- what it took; and it looked at nothing else. None of them is circular.
-use Rattle.std.proofs.Common.{◌≡◌, ℕ, zero, suc, Bool, true, ◌+◌, List, [], ◌∷◌, ◌++◌, Option, Some, None, ◌⊎◌, inl, inr, refl, sym, ◌∙◌, subst, append_assoc, append-nil, arith}
-use Rattle.at_model.specs.Run.{Value, Location, Content, Run, Gives, Fails, Looks, Demands, Instance, Contents, Known, ◌>>=◌}
+use Rattle.std.proofs.Common.{◌≡◌, ℕ, zero, suc, Bool, true, ◌+◌, List, ◌++◌, Some, None, ◌⊎◌, inl, inr, refl, sym, subst, append_assoc, arith}
+use Rattle.at_model.specs.Run.{Value, Location, Run, Gives, Fails, Looks, Demands, Instance, Contents, Known, ◌>>=◌}
 use Rattle.at_model.specs.Meaning.{Outcome, Finds, Equations, Reaches, Among}
 use Rattle.at_model.specs.Support.{Sees}
 use Rattle.at_model.specs.Nested.{Passes, gives, looks, told, Tells, Evaluates, IsGround}

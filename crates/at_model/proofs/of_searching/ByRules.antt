@@ -1,6 +1,6 @@
 -- Searches by rules, over a tree.
-use Rattle.std.proofs.Common.{◌≡◌, ◌⊎◌, ℕ, zero, suc, ◌+◌, ◌*◌, ◌≤◌, length, Bool, true, false, List, [], ◌∷◌, Option, Some, None, inl, inr, refl, sym, subst, ◌∙◌}
-use Rattle.at_model.specs.Run.{Value, Instance, Contents, Known}
+use Rattle.std.proofs.Common.{◌≡◌, ◌⊎◌, ℕ, zero, suc, ◌+◌, ◌*◌, ◌≤◌, length, Bool, true, false, List, Option, Some, None, inl, inr, refl, sym, subst, ◌∙◌}
+use Rattle.at_model.specs.Run.{Value, Instance, Known}
 use Rattle.at_model.specs.Rules.{Rules, start_of}
 use Rattle.at_model.specs.Trees.{Tree}
 use Rattle.at_model.specs.Paths.{Node, node_eq}
@@ -10,15 +10,14 @@ use Rattle.at_model.specs.Instances.{instances}
 use Rattle.at_model.specs.WellFormed.{AreWellFormed, IsTreeSound}
 use Rattle.at_model.specs.of_fixpoints.Evaluations.{forms}
 use Rattle.at_model.specs.of_fixpoints.Formulas.{Formula, atoms}
-use Rattle.at_model.specs.of_fixpoints.Formulas as formula
-use Rattle.at_model.specs.of_fixpoints.Fixpoints.{End, Made, Spoilt, LeadsOver, stays, goes, Valued, EndsAt, EndsSo, HasForm, HasValue, AreFormed}
+use Rattle.at_model.specs.of_fixpoints.Fixpoints.{End, Made, Spoilt, Valued, EndsAt, EndsSo, HasForm, HasValue}
 use Rattle.at_model.specs.of_fixpoints.Circles.{HasNone, Answers}
 use Rattle.at_model.specs.of_fixpoints.Resting.{Leads}
 use Rattle.at_model.specs.of_fixpoints.Searching.{Search, Silent, Turned, asked_in, posted}
-use Rattle.at_model.specs.of_fixpoints.Searched.{IsMade, EndsWell, AreClosed, IsWhole, IsOn}
+use Rattle.at_model.specs.of_fixpoints.Searched.{IsMade, EndsWell, IsWhole, IsOn}
 use Rattle.at_model.proofs.Computed.{is_among, among_sound, among_is}
 use Rattle.at_model.proofs.of_formulas.UniqueOutcomes.{ends_at}
-use Rattle.at_model.proofs.of_formulas.Components.{AllAmong, pick, FormedIn, form_of, are_formed}
+use Rattle.at_model.proofs.of_formulas.Components.{pick, FormedIn, form_of, are_formed}
 use Rattle.at_model.proofs.of_formulas.Closure.{closure, leads_by}
 use Rattle.at_model.proofs.of_formulas.FormulasTogether.{listed}
 use Rattle.at_model.proofs.of_formulas.Solved.{component_valued, one_depth}

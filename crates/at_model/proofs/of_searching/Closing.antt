@@ -1,10 +1,10 @@
 -- What leads to the next one of a level that waits, and is wanted above it, has no outcome: there a search comes back.
-use Rattle.std.proofs.Common.{◌≡◌, ◌⊎◌, List, [], ◌∷◌, inl, inr, refl, sym, subst}
+use Rattle.std.proofs.Common.{List, [], ◌∷◌, inl, refl}
 use Rattle.at_model.specs.Run.{Instance, Contents}
-use Rattle.at_model.specs.Meaning.{Among, Reaches}
+use Rattle.at_model.specs.Meaning.{Reaches}
 use Rattle.at_model.proofs.Reached.{back_among}
-use Rattle.at_model.specs.of_fixpoints.Formulas.{Formula, Forms}
-use Rattle.at_model.specs.of_fixpoints.Fixpoints.{End, LeadsOver, stays, goes, EndsSo, HasValue}
+use Rattle.at_model.specs.of_fixpoints.Formulas.{Forms}
+use Rattle.at_model.specs.of_fixpoints.Fixpoints.{LeadsOver, stays, goes, EndsSo, HasValue}
 use Rattle.at_model.specs.of_fixpoints.Circles.{HasNone}
 use Rattle.at_model.specs.of_fixpoints.Searching.{Level, Wants, IsStuck}
 use Rattle.at_model.specs.of_fixpoints.Searched.{Within, AreStacked, LeadsToNext, here, below}

@@ -1,7 +1,7 @@
 -- A question of circular attributes has few turns: each tries an equation that wasn't tried, or comes to a demand of another one.
-use Rattle.std.proofs.Common.{◌≡◌, ◌⊎◌, ℕ, suc, ◌+◌, ◌*◌, ◌≤◌, List, [], ◌∷◌, ◌++◌, length, Option, Some, None, inl, inr, refl, sym, subst, ap, arith}
+use Rattle.std.proofs.Common.{◌≡◌, ℕ, suc, ◌+◌, ◌*◌, ◌≤◌, List, [], ◌∷◌, ◌++◌, length, Option, Some, None, inl, inr, refl, sym, subst, ap, arith}
 use Rattle.at_model.specs.Run.{Value, Instance, Contents, Known}
-use Rattle.at_model.specs.Meaning.{Among, Distinct, Answer, Faults}
+use Rattle.at_model.specs.Meaning.{Among, Answer, Faults}
 use Rattle.at_model.proofs.Reached.{front_among, back_among, either_among}
 use Rattle.at_model.proofs.Members.{distinct_between, length_both, no_more}
 use Rattle.at_model.specs.of_fixpoints.Formulas.{Forms}

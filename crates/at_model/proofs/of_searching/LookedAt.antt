@@ -2,10 +2,10 @@
 use Rattle.std.proofs.Common.{◌≡◌, ◌⊎◌, List, [], ◌∷◌, ◌++◌, inl, inr, refl, sym, subst}
 use Rattle.at_model.specs.Run.{Instance, Contents}
 use Rattle.at_model.specs.Meaning.{Among, Reaches}
-use Rattle.at_model.proofs.Reached.{front_among, back_among, either_among}
+use Rattle.at_model.proofs.Reached.{either_among}
 use Rattle.at_model.specs.of_fixpoints.Formulas.{Formula, atoms, Forms}
-use Rattle.at_model.specs.of_fixpoints.Fixpoints.{End, Made, Spoilt, EndsSo, HasForm, HasValue}
-use Rattle.at_model.specs.of_fixpoints.Circles.{HasNone, IsOpen, WantsNone}
+use Rattle.at_model.specs.of_fixpoints.Fixpoints.{End, Made, Spoilt, EndsSo, HasValue}
+use Rattle.at_model.specs.of_fixpoints.Circles.{IsOpen, WantsNone}
 use Rattle.at_model.specs.of_fixpoints.Resting.{Leads}
 use Rattle.at_model.specs.of_fixpoints.Resting as led
 use Rattle.at_model.specs.of_fixpoints.Searching.{asked_in}

@@ -1,5 +1,5 @@
 -- What the search for a question looks at, where levels stand one over the other.
-use Rattle.std.proofs.Common.{◌≡◌, ◌⊎◌, List, [], ◌∷◌, ◌++◌, inl, inr, refl, sym, subst}
+use Rattle.std.proofs.Common.{◌⊎◌, List, [], ◌∷◌, inl, inr, refl, sym, subst}
 use Rattle.at_model.specs.Run.{Instance, Contents}
 use Rattle.at_model.specs.Meaning.{Among}
 use Rattle.at_model.proofs.Reached.{front_among, back_among, either_among}

@@ -1,8 +1,8 @@
 -- The steps of a search that passes what was told, beside one that passes nothing.
-use Rattle.std.proofs.Common.{◌≡◌, ◌⊎◌, List, [], ◌∷◌, ◌++◌, inl, inr, refl, sym, subst}
-use Rattle.at_model.specs.Run.{Instance, Contents, FaultKind}
+use Rattle.std.proofs.Common.{◌⊎◌, List, [], ◌∷◌, ◌++◌, inl, inr, sym, subst}
+use Rattle.at_model.specs.Run.{Instance, Contents}
 use Rattle.at_model.specs.Meaning.{Among}
-use Rattle.at_model.specs.of_fixpoints.Formulas.{Formula, atoms, Forms}
+use Rattle.at_model.specs.of_fixpoints.Formulas.{Formula, Forms}
 use Rattle.at_model.specs.of_fixpoints.Fixpoints.{End, Made, Spoilt, EndsSo}
 use Rattle.at_model.specs.of_fixpoints.Circles.{HasNone, IsOpen}
 use Rattle.at_model.specs.of_fixpoints.Searching.{asked_in}

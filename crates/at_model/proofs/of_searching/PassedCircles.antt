@@ -1,10 +1,10 @@
 -- A search for a circle passes what has a value: none closes there.
-use Rattle.std.proofs.Common.{◌≡◌, ◌⊎◌, ℕ, zero, suc, ◌≤◌, List, [], ◌∷◌, ◌++◌, inl, inr, refl, sym, subst, append_assoc, arith}
+use Rattle.std.proofs.Common.{◌≡◌, ℕ, zero, suc, ◌≤◌, List, [], ◌∷◌, ◌++◌, inl, inr, refl, sym, subst, append_assoc, arith}
 use Rattle.at_model.specs.Run.{Instance, Contents}
-use Rattle.at_model.specs.Meaning.{Among, Reaches}
+use Rattle.at_model.specs.Meaning.{Among}
 use Rattle.at_model.proofs.Reached.{front_among, back_among, either_among}
 use Rattle.at_model.specs.of_fixpoints.Formulas.{Formula, atoms, Forms}
-use Rattle.at_model.specs.of_fixpoints.Fixpoints.{End, Made, Spoilt, EndsSo, HasForm, HasValue}
+use Rattle.at_model.specs.of_fixpoints.Fixpoints.{End, Made, Spoilt, EndsSo, HasForm}
 use Rattle.at_model.specs.of_fixpoints.Circles.{HasNone, IsOpen, WantsNone, Closes, back, again, formed, spoilt, comes_back, deeper}
 use Rattle.at_model.proofs.of_formulas.UniqueOutcomes.{ends_at}
 use Rattle.at_model.proofs.of_formulas.ClosedOnce.{not_ended, no_settling}

@@ -1,9 +1,9 @@
 -- A search for a fault passes what has a value: nothing is met there.
-use Rattle.std.proofs.Common.{◌≡◌, ◌⊎◌, ℕ, zero, suc, ◌≤◌, List, [], ◌∷◌, ◌++◌, inl, inr, refl, sym, subst, append_assoc, arith}
+use Rattle.std.proofs.Common.{◌≡◌, ℕ, zero, suc, ◌≤◌, List, [], ◌∷◌, ◌++◌, inl, inr, refl, sym, subst, append_assoc, arith}
 use Rattle.at_model.specs.Run.{Instance, FaultKind}
 use Rattle.at_model.specs.Meaning.{Among}
 use Rattle.at_model.specs.of_fixpoints.Formulas.{Formula, atoms}
-use Rattle.at_model.specs.of_fixpoints.Fixpoints.{End, Made, Spoilt, Meets, again, formed, spoilt}
+use Rattle.at_model.specs.of_fixpoints.Fixpoints.{Made, Spoilt, Meets, again, formed, spoilt}
 use Rattle.at_model.proofs.Reached.{front_among, back_among, either_among}
 use Rattle.at_model.proofs.of_formulas.UniqueOutcomes.{Ending, OneEnd}
 use Rattle.at_model.proofs.of_searching.Thinning.{IsTold, Thinned, nothing, keeps, drops, whole, front_dropped, front_kept, IsPart, IsPartWith, part_with_one, both_with_one, with_more, with_both, unseen, one_fewer, less_one, of_these, either_part}

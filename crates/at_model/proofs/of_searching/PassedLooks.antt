@@ -1,9 +1,9 @@
 -- A search passes what is whole: beside that it looks at the same, whether it is passed or gone through.
-use Rattle.std.proofs.Common.{◌≡◌, ◌⊎◌, ℕ, zero, suc, ◌≤◌, List, [], ◌∷◌, ◌++◌, inl, inr, refl, sym, subst, append_assoc, arith}
+use Rattle.std.proofs.Common.{◌⊎◌, ℕ, zero, suc, ◌≤◌, List, [], ◌∷◌, ◌++◌, inl, inr, refl, sym, subst, append_assoc, arith}
 use Rattle.at_model.specs.Run.{Instance, Contents}
 use Rattle.at_model.specs.Meaning.{Among}
 use Rattle.at_model.proofs.Reached.{front_among, back_among, either_among}
-use Rattle.at_model.specs.of_fixpoints.Formulas.{Formula, atoms, Forms}
+use Rattle.at_model.specs.of_fixpoints.Formulas.{atoms, Forms}
 use Rattle.at_model.specs.of_fixpoints.Fixpoints.{EndsSo}
 use Rattle.at_model.specs.of_fixpoints.Circles.{HasNone, IsOpen}
 use Rattle.at_model.specs.of_fixpoints.Met.{LooksAt, here, again, formed, spoilt, deeper}

@@ -1,15 +1,15 @@
 -- The steps of a search on its tree.
-use Rattle.std.proofs.Common.{◌≡◌, ◌⊎◌, List, [], ◌∷◌, ◌++◌, inl, inr, refl, sym, subst}
+use Rattle.std.proofs.Common.{◌⊎◌, List, [], ◌∷◌, ◌++◌, inl, inr, refl, sym, subst}
 use Rattle.at_model.specs.Run.{Instance, Contents, FaultKind}
-use Rattle.at_model.specs.Meaning.{Outcome, Finds, Among, Reaches}
+use Rattle.at_model.specs.Meaning.{Among}
 use Rattle.at_model.proofs.Reached.{front_among, back_among, either_among}
 use Rattle.at_model.specs.of_fixpoints.Formulas.{Formula, atoms, Forms}
 use Rattle.at_model.specs.of_fixpoints.Fixpoints.{End, Made, Spoilt, LeadsOver, stays, goes, Meets, EndsSo, HasValue}
 use Rattle.at_model.specs.of_fixpoints.Fixpoints as meets
 use Rattle.at_model.specs.of_fixpoints.Circles.{HasNone, IsOpen, Closes, comes_back, deeper, WantsNone}
 use Rattle.at_model.specs.of_fixpoints.Circles as closes
-use Rattle.at_model.specs.of_fixpoints.Searching.{Level, Search, Looked, asked_in, under, First, this, passes}
-use Rattle.at_model.specs.of_fixpoints.Searched.{IsMade, EndsWell, AreClosed, IsClosedIn, IsWhole, HasMet, HasCome, IsAt, AreStacked, IsOn}
+use Rattle.at_model.specs.of_fixpoints.Searching.{asked_in}
+use Rattle.at_model.specs.of_fixpoints.Searched.{IsMade, AreClosed, IsWhole, HasMet, HasCome}
 use Rattle.at_model.proofs.of_formulas.UniqueOutcomes.{one_further}
 use Rattle.at_model.proofs.of_searching.Thinning.{IsTold}
 use Rattle.at_model.proofs.of_searching.PassedFaults.{IsFormed, meets_past}

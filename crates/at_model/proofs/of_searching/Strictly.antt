@@ -1,9 +1,8 @@
 -- What demands a value of what has no outcome has none; so none has one that demands its own, over however many others.
-use Rattle.std.proofs.Common.{◌≡◌, ◌⊎◌, ℕ, zero, suc, ◌≤◌, ◌<◌, List, [], ◌∷◌, ◌++◌, inl, inr, refl, sym, subst, arith}
+use Rattle.std.proofs.Common.{◌≡◌, ℕ, zero, suc, ◌≤◌, refl, sym, subst, arith}
 use Rattle.at_model.specs.Run.{Instance, Contents}
-use Rattle.at_model.specs.Meaning.{Outcome, Among, Reaches}
-use Rattle.at_model.specs.of_fixpoints.Formulas.{Formula, atoms, Forms}
-use Rattle.at_model.specs.of_fixpoints.Fixpoints.{End, Made, Spoilt, LeadsOver, stays, goes, EndsAt, EndsSo, HasValue, Holds, HoldsAt, AreEnded}
+use Rattle.at_model.specs.of_fixpoints.Formulas.{Forms}
+use Rattle.at_model.specs.of_fixpoints.Fixpoints.{Made, LeadsOver, stays, goes, EndsAt, EndsSo, AreEnded}
 use Rattle.at_model.specs.of_fixpoints.Circles.{HasNone}
 use Rattle.at_model.specs.of_fixpoints.Searching.{Wants, IsStuck}
 use Rattle.at_model.proofs.of_formulas.UniqueOutcomes.{ends_at, one_further}

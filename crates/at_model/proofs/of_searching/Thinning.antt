@@ -1,5 +1,5 @@
 -- Searches that pass what has a value: lists of those to do, and how many of a list weren't seen yet.
-use Rattle.std.proofs.Common.{◌≡◌, ◌⊎◌, ℕ, zero, suc, ◌≤◌, List, [], ◌∷◌, ◌++◌, inl, inr, refl, sym, subst, arith}
+use Rattle.std.proofs.Common.{◌⊎◌, ℕ, zero, suc, ◌≤◌, List, [], ◌∷◌, ◌++◌, inl, inr, refl, sym, subst, arith}
 use Rattle.at_model.specs.Meaning.{Among}
 use Rattle.at_model.proofs.Reached.{either_among}
 

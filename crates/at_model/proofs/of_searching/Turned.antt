@@ -1,17 +1,17 @@
 -- What turns leave of a search, and what they answer.
-use Rattle.std.proofs.Common.{◌≡◌, ◌⊎◌, ℕ, suc, ◌+◌, arith, List, [], ◌∷◌, ◌++◌, Option, Some, None, inl, inr, refl, sym, subst, ap}
+use Rattle.std.proofs.Common.{◌≡◌, ◌⊎◌, ℕ, ◌+◌, arith, List, [], ◌∷◌, ◌++◌, Option, Some, None, inl, inr, refl, sym, subst, ap}
 use Rattle.at_model.specs.Run.{Value, Instance, Contents, FaultKind, Known, Run, Gives, Fails, Looks, Demands}
 use Rattle.at_model.specs.Meaning.{Outcome, Finds, Faults, Among, Reaches, Answer, Outcomes, Circle}
-use Rattle.at_model.proofs.Reached.{front_among, back_among, either_among}
-use Rattle.at_model.specs.of_fixpoints.Formulas.{Formula, atoms, Forms}
-use Rattle.at_model.specs.of_fixpoints.Fixpoints.{End, Made, Spoilt, LeadsOver, stays, goes, Ends, HoldsAt, Holds, HasValue, EndsSo}
+use Rattle.at_model.proofs.Reached.{back_among}
+use Rattle.at_model.specs.of_fixpoints.Formulas.{Formula, Forms}
+use Rattle.at_model.specs.of_fixpoints.Fixpoints.{End, Spoilt, LeadsOver, stays, goes, Ends, HoldsAt, Holds, HasValue, EndsSo}
 use Rattle.at_model.specs.of_fixpoints.Circles.{HasNone, IsOpen, Closes, Circular, Answers}
 use Rattle.at_model.specs.of_fixpoints.Circles as closes
 use Rattle.at_model.specs.of_fixpoints.Resting.{Comes, Leads}
 use Rattle.at_model.specs.of_fixpoints.Resting as led
 use Rattle.at_model.specs.of_fixpoints.Searching.{Level, Search, Looked, begun, posted, root_of, asked, asked_in, under, behind, past, gone_to, gone_over, fallen_to, First, this, passes, IsPassed, IsValued, Adds, IsStuck, Wants, Follows, Turned}
 use Rattle.at_model.specs.of_fixpoints.Searching as turn
-use Rattle.at_model.specs.of_fixpoints.Searched.{IsWhole, HasCome, IsAt, AreStacked, IsOn}
+use Rattle.at_model.specs.of_fixpoints.Searched.{IsWhole, HasCome, AreStacked, IsOn}
 use Rattle.at_model.proofs.of_formulas.Heights.{higher, ends_more}
 use Rattle.at_model.proofs.of_searching.Thinning.{IsTold}
 use Rattle.at_model.proofs.of_searching.Strictly.{wants_none, stuck_none}

@@ -1,10 +1,10 @@
 -- A search that has come to its end: all that it looked at ends, and so what it began from has an outcome.
 use Rattle.std.proofs.Common.{◌≡◌, ◌⊎◌, ℕ, suc, ◌+◌, List, [], ◌∷◌, ◌++◌, inl, inr, refl, sym, subst, arith}
 use Rattle.at_model.specs.Run.{Instance, Contents, FaultKind}
-use Rattle.at_model.specs.Meaning.{Among, Outcome, Faults}
+use Rattle.at_model.specs.Meaning.{Among, Faults}
 use Rattle.at_model.proofs.Reached.{front_among, back_among, either_among}
 use Rattle.at_model.specs.of_fixpoints.Formulas.{Formula, atoms, Forms}
-use Rattle.at_model.specs.of_fixpoints.Fixpoints.{End, Made, Spoilt, Meets, again, formed, spoilt, stays, EndsAt, EndsSo, HoldsAt, Holds}
+use Rattle.at_model.specs.of_fixpoints.Fixpoints.{End, Made, Spoilt, Meets, again, formed, spoilt, stays, EndsAt, EndsSo, Holds}
 use Rattle.at_model.proofs.of_formulas.UniqueOutcomes.{Ending, ends_at}
 use Rattle.at_model.proofs.of_formulas.Heights.{ends_higher}
 use Rattle.at_model.specs.of_fixpoints.Searching.{asked_in}

@@ -13,7 +13,7 @@ use Rattle.at_model.specs.Run.{Value, Instance, Contents, Location}
 use Rattle.at_model.specs.Run as run
 use Rattle.at_model.specs.Bodies.{Expr, Scope, eval, value_of}
 use Rattle.at_model.specs.Rules.{Rules, Kind, Attribute, evaluation, own_equation, Source, source_of, is_inherited, attribute_name}
-use Rattle.at_model.specs.Meaning.{content, equations, Leads, HasValue, Among, Finds, Outcomes}
+use Rattle.at_model.specs.Meaning.{content, equations, Leads, HasValue, Among}
 use Rattle.at_model.specs.Alike.{AlikeAt, Names, IsInjective, InstanceLike, ValueLike}
 use Rattle.at_model.specs.Edits.{is_within_limits, tokens_short, max_nodes}
 use Rattle.at_model.specs.Asking.{IsWellFormed}
@@ -23,13 +23,11 @@ use Rattle.at_model.specs.Instances.{literals, tokens, instances, IsGiven, AnyTe
 use Rattle.at_model.specs.WellFormed.{IsHierarchy, AreWellFormed, IsTreeSound}
 use Rattle.at_model.specs.Declarations.{above}
 use Rattle.at_model.specs.Enduring.{AreTokens}
-use Rattle.at_model.specs.Lines.{Line}
 use Rattle.at_model.specs.Machine.{State, IsSound}
 use Rattle.at_model.proofs.of_likeness.EquationsAlike.{evaluation-like}
 use Rattle.at_model.proofs.Nodes.{same_like, nat_eq-is, node_eq-is}
 use Rattle.at_model.proofs.Options.{both}
 use Rattle.at_model.proofs.Everywhere.{all_any, found}
-use Rattle.at_model.proofs.of_machines.WellAsked.{well_asked}
 use Rattle.at_model.proofs.Depths.{within_depth}
 use Rattle.at_model.proofs.Complete.{has_own, has_source}
 use Rattle.at_model.proofs.Chained.{chained}

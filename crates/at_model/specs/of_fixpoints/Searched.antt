@@ -1,5 +1,5 @@
 -- What is true of a question's search on its tree.
-use Rattle.std.specs.Prelude.{◌≡◌, ◌⊎◌, ℕ, List, [], ◌∷◌, ◌++◌}
+use Rattle.std.specs.Prelude.{◌≡◌, ◌⊎◌, List, [], ◌∷◌, ◌++◌}
 use Rattle.at_model.specs.Run.{Instance, Contents, FaultKind}
 use Rattle.at_model.specs.Meaning.{Outcome, Among, Distinct, Reaches}
 use Rattle.at_model.specs.of_fixpoints.Formulas.{Formula, atoms, Forms}

@@ -1,6 +1,6 @@
 use Rattle.std.proofs.Common.{◌≡◌, Bool, true, false, ◌&&◌, nat_le, refl}
-use Rattle.at_model.specs.Trees.{Tree, depth, nodes}
-use Rattle.at_model.specs.Edits.{is_within_limits, tokens_short}
+use Rattle.at_model.specs.Trees.{nodes}
+use Rattle.at_model.specs.Edits.{tokens_short}
 use Rattle.at_model.proofs.limit_cases.tree_sizes.Goals as goal
 
 neither : (a b : Bool) → (a && false && b) ≡ false

@@ -1,6 +1,6 @@
 -- Where a circle answers a question, each demand of what its search looks at is decided: it has an outcome, or is looked at.
 use Rattle.std.proofs.Common.{◌≡◌, ◌⊎◌, List, [], ◌∷◌, ◌++◌, inl, inr, sym, subst}
-use Rattle.at_model.specs.Run.{Instance, Contents, Value, Run, Gives, Fails, Looks, Demands}
+use Rattle.at_model.specs.Run.{Instance, Contents, Run, Gives, Fails, Looks, Demands}
 use Rattle.at_model.specs.Meaning.{Outcome, Finds, Among, Reaches}
 use Rattle.at_model.proofs.Reached.{either_among}
 use Rattle.at_model.specs.of_fixpoints.Formulas.{Formula, atoms, Forms}
