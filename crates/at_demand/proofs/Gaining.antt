@@ -17,7 +17,7 @@ use Rattle.at_demand.specs.declared.evaluation.Find.{Find}
 use Rattle.at_demand.specs.declared.evaluation.Frame.{Frame}
 use Rattle.at_demand.specs.Known.{meaning, kept_values, AreValued, IsFound, IsKept}
 use Rattle.at_demand.specs.Covering.{AreWhole, AreWholeIn, HasPassedTo, IsDemanded, IsTold, IsWhole, alone, by_first, in_group}
-use Rattle.at_demand.specs.Sparing.{IsDeep, IsWorthKeeping, AddsWorthy, HasWorthy, MayGain, IsSettled, AreSettled}
+use Rattle.at_demand.specs.Sparing.{IsDeep, IsWorthy, AddsWorthy, HasWorthy, MayGain, IsSettled, AreSettled}
 use Rattle.at_demand.proofs.Entered.{entered, entered_on, kept_on, not_none}
 use Rattle.at_demand.proofs.Extending.{among_at}
 use Rattle.at_demand.proofs.of_levels.Plain.{comes_by_demand, past_formula}
@@ -76,12 +76,12 @@ module _ (rules : Rules) (look : Contents ℕ) where
     pub lazy_more : ((j : Instance ℕ) → IsKept old j → IsLazy j) → (j : Instance ℕ) → IsKept new j → IsLazy j
     lazy_more all j some = elim (grows.lazy j) [ inl e ↦ all j (subst IsSome e some) | inr p ↦ (let (same, kept, lazy) = p in subst IsLazy same lazy) ]
 
-    pub worthy_more : (asked : Instance ℕ) (first : Entries) → (IsLazy i → IsWorthKeeping rules look asked i) → AddsWorthy rules look asked first old → AddsWorthy rules look asked first new
+    pub worthy_more : (asked : Instance ℕ) (first : Entries) → (IsLazy i → IsWorthy rules look asked i) → AddsWorthy rules look asked first old → AddsWorthy rules look asked first new
     worthy_more asked first worth adds = record {
       stays = λ j some. grows.stays j (entered_on first old adds.stays j some) ∙ adds.stays j some;
       worthy = λ j none some. elim (grows.lazy j) [
         | inl e ↦ adds.worthy j none (subst IsSome e some)
-        | inr p ↦ (let (same, kept, lazy) = p in subst (IsWorthKeeping rules look asked) same (worth lazy))
+        | inr p ↦ (let (same, kept, lazy) = p in subst (IsWorthy rules look asked) same (worth lazy))
       ];
     }
 

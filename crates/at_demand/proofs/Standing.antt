@@ -30,7 +30,7 @@ use Rattle.at_demand.specs.Known.{KeepsEntries, IsKept, answer_view, equations, 
 use Rattle.at_demand.specs.Levels.{IsAbout, LevelCode, StandsFor, asked_by, root_in}
 use Rattle.at_demand.specs.Meant.{AreRightValues}
 use Rattle.at_demand.specs.Sound.{AreKeptWhole, AreSound}
-use Rattle.at_demand.specs.Sparing.{AddsWorthy, IsWorthKeeping}
+use Rattle.at_demand.specs.Sparing.{AddsWorthy, IsWorthy}
 use Rattle.at_demand.specs.Turns.{HasTurnedBy, IsStanding, IsStandingPlainly, under_way}
 use Rattle.at_demand.proofs.Entered.{entered_on, is_there, there}
 use Rattle.at_demand.proofs.of_searches.Reaching.{asked_at}
@@ -70,7 +70,7 @@ worthy_both rules look q first next last a b = record {
   worthy = λ i none some. by i none some (kept_values next i) refl;
 }
   where
-    by : (i : Instance ℕ) → kept_values first i ≡ None → IsKept last i → (o : Option (Value ℕ)) → kept_values next i ≡ o → IsWorthKeeping rules look q i
+    by : (i : Instance ℕ) → kept_values first i ≡ None → IsKept last i → (o : Option (Value ℕ)) → kept_values next i ≡ o → IsWorthy rules look q i
     by i none some None is = b.worthy i is some
     by i none some (Some v) is = a.worthy i none (is_there (kept_values next i) v is)
 

@@ -20,7 +20,7 @@ use Rattle.at_demand.specs.Made.{Makes}
 use Rattle.at_demand.specs.Went.{Went}
 use Rattle.at_demand.specs.Known.{equations, meaning, kept_values, ArePlain, IsKept, answer_view}
 use Rattle.at_demand.specs.Right.{AreRight, IsThere}
-use Rattle.at_demand.specs.Sparing.{AddsWorthy, AreSpare, Counts, HasWorthy, IsWork, IsWorthKeeping}
+use Rattle.at_demand.specs.Sparing.{AddsWorthy, AreSpare, Counts, HasWorthy, IsWork, IsWorthy}
 use Rattle.at_demand.specs.KeptTrials.{FitAfter}
 use Rattle.at_demand.specs.Traces.{StayJustified}
 use Rattle.at_demand.specs.Groups.{KeepsGroups}
@@ -42,18 +42,13 @@ use Rattle.at_demand.specs.Turns.{
 
 -- all that is worth keeping of what the search for the question has met is kept
 abbrev pub HasWorthyMet : Rules → Contents ℕ → Instance ℕ → Entries → Type 0
-HasWorthyMet rules look q entries = (i : Instance ℕ) → IsWorthKeeping rules look q i → IsMet look (meaning rules) q i → IsKept entries i
+HasWorthyMet rules look q entries = (i : Instance ℕ) → IsWorthy rules look q i → IsMet look (meaning rules) q i → IsKept entries i
 
 -- All that is worth keeping is kept for the answer. Where that is a circle, it is so of what its search has met before; and of all, where no
 -- attribute is circular.
 abbrev pub HasWorthyFor : Rules → Contents ℕ → Instance ℕ → Answer ℕ → Entries → Type 0
 HasWorthyFor rules look q (Outcomes o) entries = HasWorthy rules look q entries
 HasWorthyFor rules look q (Circle j) entries = (HasNoneCircular rules → HasWorthy rules look q entries) × HasWorthyMet rules look q entries
-
--- it is no circle, or no attribute is circular
-abbrev pub EndsByOutcome : Rules → Answer ℕ → Type 0
-EndsByOutcome rules (Outcomes o) = Unit {0}
-EndsByOutcome rules (Circle j) = HasNoneCircular rules
 
 -- so it is where the question isn't answered; where no attribute is circular, it is so then, too
 abbrev pub IsOfUse : Rules → Option AnswerCode → Type 0 → Type 0
@@ -87,8 +82,7 @@ pub record HasAnswered {E : Type 0} (rules : Rules) (s : Shown) (exact : Bool) (
   pub spare : KeepsGroups rules r → IsTrue exact → AreSpare rules (contents s) before → AreSpare rules (contents s) after
   pub all : IsTrue exact → AreSpare rules (contents s) before → IfOk r (λ a. HasWorthyFor rules (contents s) i (answer_view a) after)
   pub counts : IsTrue exact → Counts before after earlier later
-  pub work : IsTrue exact → AreSpare rules (contents s) before
-      → IfOk r (λ a. EndsByOutcome rules (answer_view a) → IsWork rules (contents s) i before earlier later)
+  pub work : IsTrue exact → AreSpare rules (contents s) before → IfOk r (λ a. IsWork rules (contents s) i before earlier later)
   pub right : IsThere s i → AreRight rules s before → AreRight rules s after
   pub plain : ArePlain rules after
 

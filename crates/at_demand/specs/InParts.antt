@@ -26,7 +26,7 @@ use Rattle.at_demand.specs.Inner.{AreKnown, Gains, HasRecalled, HasTold, IsEvalu
 use Rattle.at_demand.specs.Made.{Makes}
 use Rattle.at_demand.specs.Right.{AreRight, IsThere}
 use Rattle.at_demand.specs.Reasons.{AreLed, DemandsOn}
-use Rattle.at_demand.specs.Sparing.{AreSpare, Counts, IsWorthKeeping}
+use Rattle.at_demand.specs.Sparing.{AreSpare, Counts, IsWorthy}
 use Rattle.at_demand.specs.Traces.{AreJustified, AreOfTree, StayJustified}
 
 -- What an evaluation in one go goes by: what is kept, what can be kept again, what is remembered for the question, and the work up to now, with
@@ -126,7 +126,7 @@ pub record HasGained {A : Type 0} (rules : Rules) (s : Shown) (exact : Bool) (r 
   pub keeps : KeepsEntries old.entries new.entries
   pub still : StayRemembered old.found new.found
   pub worthy : (j : Instance ℕ) → kept_values old.entries j ≡ None → IsKept new.entries j
-      → (m : Instance ℕ) × Demanded rules (contents s) r m × IsWorthKeeping rules (contents s) m j
+      → (m : Instance ℕ) × Demanded rules (contents s) r m × IsWorthy rules (contents s) m j
   pub demanded : (j : Instance ℕ) → kept_values old.entries j ≡ None → IsKept new.entries j
       → (m : Instance ℕ) × Demanded rules (contents s) r m × DemandsOn (contents s) (meaning rules) m j
   pub right : IsHeld rules (contents s) new

@@ -4,7 +4,9 @@ use Rattle.std.specs.Prelude.{◌≡◌, ◌⊎◌, ◌↔◌, ℕ, ◌+◌, ◌
 use Rattle.at_model.specs.Run.{Value, Instance, Location, Contents}
 use Rattle.at_model.specs.Rules.{Rules, is_lazy}
 use Rattle.at_model.specs.Meaning.{Among, Distinct}
+use Rattle.at_model.specs.of_fixpoints.Circles.{Circular}
 use Rattle.at_model.specs.of_fixpoints.Fixpoints.{HasValue}
+use Rattle.at_model.specs.of_fixpoints.Met.{IsMet}
 use Rattle.at_model.specs.of_fixpoints.Resting.{Leads}
 use Rattle.at_model.specs.of_fixpoints.Resting.{Supports}
 use Rattle.at_cache.specs.Kept.{Kept, Entries}
@@ -27,20 +29,25 @@ pub record AreSpare (rules : Rules) (look : Contents ℕ) (entries : Entries) : 
   pub deep : IsDeep rules look entries entries
 
 -- the question leads to the instance, which is lazy and has a value
-pub record IsWorthKeeping (rules : Rules) (look : Contents ℕ) (q i : Instance ℕ) : Type 0 where
+pub record IsWorthy (rules : Rules) (look : Contents ℕ) (q i : Instance ℕ) : Type 0 where
   pub reached : Leads look (meaning rules) q i
   pub lazy : is_lazy rules i.attribute ≡ true
   pub value : Value ℕ
   pub has : HasValue look (meaning rules) i value
 
+-- it does, and where a circle answers the question, its search has met the instance before that
+pub record IsWorthKeeping (rules : Rules) (look : Contents ℕ) (q i : Instance ℕ) : Type 0 where
+  pub worthy : IsWorthy rules look q i
+  pub before : (c : Instance ℕ) → Circular look (meaning rules) q c → IsMet look (meaning rules) q i
+
 -- `new` has what `old` has, and what is kept beside that is worth keeping
 pub record AddsWorthy (rules : Rules) (look : Contents ℕ) (q : Instance ℕ) (old new : Entries) : Type 0 where
   pub stays : KeepsEntries old new
-  pub worthy : (i : Instance ℕ) → kept_values old i ≡ None → IsKept new i → IsWorthKeeping rules look q i
+  pub worthy : (i : Instance ℕ) → kept_values old i ≡ None → IsKept new i → IsWorthy rules look q i
 
 -- all that is worth keeping is kept
 abbrev pub HasWorthy : Rules → Contents ℕ → Instance ℕ → Entries → Type 0
-HasWorthy rules look q entries = (i : Instance ℕ) → IsWorthKeeping rules look q i → IsKept entries i
+HasWorthy rules look q entries = (i : Instance ℕ) → IsWorthy rules look q i → IsKept entries i
 
 -- `new` keeps what `old` keeps, and may keep i beside it, where it is lazy
 abbrev pub MayAddLazy : Rules → (old new : Entries) → Instance ℕ → Type 0

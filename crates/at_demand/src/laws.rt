@@ -22,7 +22,8 @@ ghost use Rattle.at_store.specs.Shown.{IsIdle, Shown, contents, path, tree};
 ghost use Rattle.at_cache.specs.Kept.{Entries, LeavesUntouched, LosesTouched};
 ghost use Rattle.at_demand.specs.Right.{AreRight};
 ghost use Rattle.at_demand.specs.Spared.{LeavesJust};
-ghost use Rattle.at_demand.specs.Sparing.{AddsWorthy, AreSpare, Counts, HasWorthy};
+ghost use Rattle.at_demand.specs.Answered.{AddsMet, HasWorthyFor};
+ghost use Rattle.at_demand.specs.Sparing.{AddsWorthy, AreSpare, Counts};
 ghost use Rattle.at_demand.specs.Called.{KeptBy, Keeps};
 ghost use Rattle.at_demand.specs.Touched.{Touches};
 ghost use Rattle.at_demand.specs.Traces.{AreJustified, AreOfTree, IsRemembered};
@@ -53,12 +54,12 @@ pub fn what_is_kept_spare_is_well_kept()
         → AreWellKept rules (tree s) (KeptBy s entries) }
 {}
 
-/// A question that adds just what is worth keeping, and counts it, adds by the paths of nodes what the model says, and has that
-/// much work.
+/// A question that adds just what is worth keeping for its answer, where that is a circle of what its search has met before, and counts it, adds
+/// by the paths of nodes what the model says, and has that much work.
 pub fn a_question_adds_what_is_worth_keeping()
     ensures { (rules : Rules) (s : Shown) → IsIdle s → (q : Instance ℕ) (p : Instance Node) → InstanceLike (Names (path s)) q p
-        → (old new : Entries) (work later : ℕ) → AddsWorthy rules (contents s) q old new → HasWorthy rules (contents s) q new
-        → Counts old new work later
+        → (old new : Entries) (work later : ℕ) → AddsWorthy rules (contents s) q old new → AddsMet rules (contents s) q old new
+        → (a : Answer ℕ) → Answers (contents s) (meaning rules) q a → HasWorthyFor rules (contents s) q a new → Counts old new work later
         → (state : State) → state.tree ≡ tree s → Keeps rules state (Asks p) (KeptBy s old) (KeptBy s new) work later }
 {}
 

@@ -4,12 +4,7 @@ use Rattle.std.specs.List.{AllByRecursion}
 use Rattle.at_model.specs.Paths.{Node}
 use Rattle.at_model.specs.Rules.{Rules}
 use Rattle.at_model.specs.Run.{Contents, Instance}
-use Rattle.at_model.specs.Machine.{State, Verdict, Asks, after}
-use Rattle.at_model.specs.Meaning.{content}
-use Rattle.at_model.specs.Sparing.{IsWorthKeeping}
-use Rattle.at_model.specs.of_fixpoints.Circles.{Circular}
-use Rattle.at_model.specs.of_fixpoints.Evaluations.{forms}
-use Rattle.at_model.specs.of_fixpoints.Met.{IsMet}
+use Rattle.at_model.specs.Machine.{Verdict, after}
 use Rattle.at_rules.specs.Circular.{HasNoneCircular}
 use Rattle.at_store.specs.Shown.{contents}
 use Rattle.at_cache.specs.Kept.{Entries}
@@ -20,7 +15,7 @@ use Rattle.at_demand.specs.Turns.{IsSparingTurns}
 use Rattle.at_demand.specs.declared.question.Question.{Question}
 use Rattle.at_engine.specs.Engines.{rules_of, state_of}
 use Rattle.at_engine.specs.Following.{IsAtOnce}
-use Rattle.at_engine.specs.KeptOver.{AreWaiting, Grows, HasOutcome, HasVerdict, IsWorthFor, IsWorthIn}
+use Rattle.at_engine.specs.KeptOver.{AreWaiting, Grows, HasVerdict, IsWorthFor, IsWorthIn}
 use Rattle.at_engine.specs.declared.engine.Engine.{Engine}
 use Rattle.at_engine.specs.declared.posts.Posted.{Posted}
 
@@ -54,18 +49,9 @@ KeepsWhole rules true = HasNoneCircular rules
 abbrev pub GrowsOver : {K : Type 0} → (entries : K → Entries) → Verdict → (old new : Engine K) → Type 0
 GrowsOver entries v old new = Grows (IsWorthFor (rules_of old) (state_of old) v) (kept_of entries old) (kept_of entries new) (work_of old) (work_of new)
 
--- All that is worth keeping for the question, and that its search has met, is kept; and where a circle answers it, all that came was met.
-pub record KeepsMet (rules : Rules) (s : State) (q : Instance Node) (Was Kept : Instance Node → Type 0) : Type 0 where
-  pub all : (j : Instance Node) → IsWorthKeeping rules s.tree q j → IsMet (content s.tree) (forms rules) q j → Kept j
-  pub only : (c j : Instance Node) → Circular (content s.tree) (forms rules) q c → (¬ (Was j)) → Kept j → IsMet (content s.tree) (forms rules) q j
-
--- Just what the verdict leaves and adds is kept, and the work grows by its work. Of a question that a circle of circular attributes answers
--- it is said that nothing goes, and of what is worth keeping just that comes which its search has met before.
+-- just what the verdict leaves and adds is kept, and the work grows by its work
 abbrev pub KeepsOver : {K : Type 0} → (entries : K → Entries) → Verdict → (old new : Engine K) → Type 0
-KeepsOver entries v old new = (HasOutcome (rules_of old) (state_of old) v
-    → Keeps (rules_of old) (state_of old) v (kept_of entries old) (kept_of entries new) (work_of old) (work_of new))
-    × ((q : Instance Node) → v ≡ Asks q → GrowsOver entries v old new
-    × KeepsMet (rules_of old) (state_of old) q (kept_of entries old) (kept_of entries new))
+KeepsOver entries v old new = Keeps (rules_of old) (state_of old) v (kept_of entries old) (kept_of entries new) (work_of old) (work_of new)
 
 -- What is kept is spare, and it is what the verdict leaves and adds. Where memory ran out it is some of that, and spare where no attribute
 -- is circular.

@@ -5,14 +5,13 @@ use Rattle.at_model.specs.Effects.{is_post}
 use Rattle.at_model.specs.Paths.{Node}
 use Rattle.at_model.specs.Run.{Instance}
 use Rattle.at_model.specs.Rules.{Rules}
-use Rattle.at_model.specs.Meaning.{Among, Distinct, Outcome, Outcomes}
+use Rattle.at_model.specs.Meaning.{Among, Distinct}
 use Rattle.at_model.specs.Lines.{Line, Spells}
-use Rattle.at_model.specs.Machine.{State, Verdict, Refuses, Tells, Leaves, Edits, Asks, Posts, Waits, AnswersIn, after, verdict}
+use Rattle.at_model.specs.Machine.{State, Verdict, Refuses, Tells, Leaves, Edits, Asks, Posts, Waits, verdict}
 use Rattle.at_model.specs.Replies as code
 use Rattle.at_model.specs.Sparing.{IsWorthKeeping}
 use Rattle.at_model.specs.Keeping.{heard, state_after, KeptOver, IsTotalWork, max_work}
 use Rattle.at_model.specs.Working.{AreHeard}
-use Rattle.at_rules.specs.Circular.{HasNoneCircular}
 
 -- What was kept stays, what comes beside it is worth it, and the work grows by the number of what comes, up to the greatest
 -- number.
@@ -51,21 +50,6 @@ AreWaiting rules s bytes = (number : ℕ) × HasVerdict rules s bytes (Waits num
 abbrev pub NonePosts : List (List ℕ) → Type 0
 NonePosts served = AllByRecursion (λ line. (l : Line) → Spells line l → is_post l.command ≡ false) served
 
--- the verdict is no question that a circle answers, or no attribute is circular
-abbrev pub HasOutcome : Rules → State → Verdict → Type 0
-HasOutcome rules s (Refuses refusal) = Unit {0}
-HasOutcome rules s (Tells shown) = Unit {0}
-HasOutcome rules s (Leaves marks) = Unit {0}
-HasOutcome rules s (Edits e t) = Unit {0}
-HasOutcome rules s (Asks q) = HasNoneCircular rules ⊎ ((o : Outcome Node) × AnswersIn rules s.tree q (Outcomes o))
-HasOutcome rules s (Posts q) = Unit {0}
-HasOutcome rules s (Waits number) = Unit {0}
-
--- so it is of each of the lines, one after the other
-abbrev pub HaveOutcomes : Rules → State → List (Option Line) → Type 0
-HaveOutcomes rules s [] = Unit {0}
-HaveOutcomes rules s (l ∷ ls) = HasOutcome rules s (heard rules s l) × HaveOutcomes rules (after s (heard rules s l)) ls
-
 -- just what the lines leave and add is kept, and the work grows by theirs, up to the greatest number
 pub record KeepsHeard (rules : Rules) (s : State) (lines : List (Option Line)) (before later : Instance Node → Type 0) (work more : ℕ)
     : Type 0 where
@@ -74,11 +58,10 @@ pub record KeepsHeard (rules : Rules) (s : State) (lines : List (Option Line)) (
   pub is_work : IsTotalWork rules s lines before added
   pub grows : work < 2 ^ 64 → more ≡ min (work + added) max_work
 
--- The bytes spell these lines, or none. Where none of them is a question that a circle answers, or no attribute is circular, just what
--- they leave and add is kept, and the work grows by theirs.
+-- the bytes spell these lines, or none; just what they leave and add is kept, and the work grows by theirs
 pub record KeepsLines (rules : Rules) (old : State) (served : List (List ℕ)) (new : State) (before later : Instance Node
     → Type 0) (work more : ℕ) : Type 0 where
   pub spelled : List (Option Line)
   pub are_heard : AreHeard served spelled
   pub state : new ≡ state_after rules old spelled
-  pub keeps : HaveOutcomes rules old spelled → KeepsHeard rules old spelled before later work more
+  pub keeps : KeepsHeard rules old spelled before later work more

@@ -1,8 +1,6 @@
 //! Laws over the definitions: each is the contract of a function that does nothing.
 
-ghost use Rattle.std.specs.Prelude.{ℕ, Bool, List, Option};
-ghost use Rattle.at_model.specs.Lines.{Line};
-ghost use Rattle.at_model.specs.Machine.{State, Verdict};
+ghost use Rattle.std.specs.Prelude.{ℕ, Bool, Option};
 ghost use Rattle.at_model.specs.Meaning.{Answer};
 ghost use Rattle.at_model.specs.Rules.{Rules};
 ghost use Rattle.at_model.specs.Run.{Contents, Instance};
@@ -15,7 +13,6 @@ ghost use Rattle.at_demand.specs.Sparing.{HasWorthy};
 ghost use Rattle.at_demand.specs.Turns.{AreTurnsOfChain, BreaksOffChain, under_way};
 ghost use Rattle.at_demand.specs.declared.question.Question.{Question};
 ghost use Rattle.at_engine.specs.Keeping.{KeepsWhole};
-ghost use Rattle.at_engine.specs.KeptOver.{HasOutcome, HaveOutcomes};
 ghost use Rattle.at_engine.specs.Posted.{came_to};
 ghost use Rattle.at_engine.specs.Turning.{AreTurns, BreaksOff};
 
@@ -29,12 +26,10 @@ pub fn turns_where_none_is_circular()
         → BreaksOff rules s m limit before o i after → BreaksOffChain rules s m limit before (came_to o i) after }
 {}
 
-/// Where no attribute is circular, each verdict is one of which all is said that is kept, and what belongs together is kept together, whether
-/// memory ran out or not.
+/// Where no attribute is circular, all that is worth keeping is kept for each answer, and what belongs together is kept together, whether memory
+/// ran out or not.
 pub fn where_none_is_circular()
     ensures worthy { (rules : Rules) → HasNoneCircular rules → (look : Contents ℕ) (i : Instance ℕ) (a : Answer ℕ) (entries : Entries)
         → HasWorthyFor rules look i a entries → HasWorthy rules look i entries }
-    ensures outcome { (rules : Rules) → HasNoneCircular rules → (s : State) (v : Verdict) → HasOutcome rules s v }
-    ensures outcomes { (rules : Rules) → HasNoneCircular rules → (s : State) (lines : List (Option Line)) → HaveOutcomes rules s lines }
     ensures whole { (rules : Rules) → HasNoneCircular rules → (wants : Bool) → KeepsWhole rules wants }
 {}

@@ -19,9 +19,9 @@
 //! circular attributes are lazy and boolean, tokens can be written, and the place of the last question, where it is
 //! remembered, is there. `new` gives it over a keeper that keeps nothing yet (`KeepsNothing`), and each line and turn keeps it.
 //!
-//! **Where attributes are circular** turns are those of a search (`AreTurns` in `Turning`), of what is kept behind a circle it is
-//! said that it is worth keeping, and that it is all that the search has met (`HasOutcome`, `KeepsMet`), and what is kept is
-//! spare as long as nothing was answered `memory` (`KeepsWhole`); `laws.rt` has what that is where none is circular.
+//! **Where attributes are circular** turns are those of a search (`AreTurns` in `Turning`), what is worth keeping for a question that a
+//! circle answers is what its search has met before (`IsWorthKeeping` of `at_model`), and what is kept is spare as long as nothing was
+//! answered `memory` (`KeepsWhole`); `laws.rt` has what that is where none is circular.
 #![tactic(auto)]
 
 mod engine;

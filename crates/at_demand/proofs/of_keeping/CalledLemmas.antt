@@ -28,7 +28,7 @@ use Rattle.at_store.proofs.Relabelled.{contents_alike}
 use Rattle.at_cache.specs.Kept.{Kept, Entries, value_at}
 use Rattle.at_demand.specs.Known.{meaning, kept_values, IsKept}
 use Rattle.at_demand.specs.Right.{AreRight}
-use Rattle.at_demand.specs.Sparing.{AreSpare, IsWorthKeeping, AddsWorthy, HasWorthy, Counts}
+use Rattle.at_demand.specs.Sparing.{AreSpare, IsWorthy, AddsWorthy, HasWorthy, Counts}
 use Rattle.at_demand.specs.Spared.{IsUntouched, LeavesJust}
 use Rattle.at_demand.specs.Called.{KeptBy, Keeps}
 use Rattle.at_demand.proofs.Entered.{entered, kept_on, not_none, there as value_kept}
@@ -85,13 +85,13 @@ module _ (rules : Rules) (s : Shown) (idle : IsIdle s) where
 
   -- a question adds what is worth keeping, and its work is the number of these
   module _ (q : Instance ℕ) (p : Instance Node) (asked : InstanceLike (Names (path s)) q p) (old new : Entries) (w x : ℕ) (adds : AddsWorthy rules (contents s) q old new) (all : HasWorthy rules (contents s) q new) (counts : Counts old new w x) where
-    just : (i : Instance ℕ) → IsKept new i ↔ (IsKept old i ⊎ IsWorthKeeping rules (contents s) q i)
+    just : (i : Instance ℕ) → IsKept new i ↔ (IsKept old i ⊎ IsWorthy rules (contents s) q i)
     just i = (
       λ now. elim (decided (kept_values old i)) [ inl was ↦ inl was | inr none ↦ inr (adds.worthy i none now) ],
       λ h. elim h [ inl was ↦ kept_on old new adds.stays i was | inr worth ↦ all i worth ],
     )
 
-    exactly : (i : Instance ℕ) → Among i counts.0 ↔ (IsWorthKeeping rules (contents s) q i × (¬ (IsKept old i)))
+    exactly : (i : Instance ℕ) → Among i counts.0 ↔ (IsWorthy rules (contents s) q i × (¬ (IsKept old i)))
     exactly i =
         let (gained, g, e) = counts in (
           λ a. (let y = (g.exactly i).0 a in (adds.worthy i y.1 y.0, none_kept (kept_values old i) y.1)),

@@ -23,7 +23,7 @@ use Rattle.at_demand.specs.Meant.{AreRightValues}
 use Rattle.at_demand.specs.Only.{AreLean}
 use Rattle.at_demand.specs.Right.{AreRight, AreThere, IsThere}
 use Rattle.at_demand.specs.Searches.{AreSoundFinds, GainsBetween, StandsBetween, WasSeenBy}
-use Rattle.at_demand.specs.Sparing.{AreSettled, IsWorthKeeping}
+use Rattle.at_demand.specs.Sparing.{AreSettled, IsWorthy}
 use Rattle.at_demand.proofs.Counting.{counts_more, counts_none}
 use Rattle.at_demand.proofs.Entered.{entered, entered_on, is_there, kept_on, not_none, there, value_on}
 use Rattle.at_demand.proofs.Extending.{extends_on, get_more}
@@ -71,7 +71,7 @@ module _ {Whole : Type 0} (rules : Rules) (s : Shown) (exact : Bool) (before aft
         | inr d ↦ inr (inl (inside i d.0), k, d.1)
       ]
 
-  worth : (i : Instance ℕ) → kept_values before i ≡ None → IsKept after i → IsWorthKeeping rules (contents s) (asked_by old) i
+  worth : (i : Instance ℕ) → kept_values before i ≡ None → IsKept after i → IsWorthy rules (contents s) (asked_by old) i
   worth i none some = elim (t.kept i some) [
     | inl b ↦ absurd (not_none (kept_values before i) b none)
     | inr d ↦
@@ -151,11 +151,11 @@ module _ {Whole : Type 0} (rules : Rules) (s : Shown) (exact : Bool) (first mid 
   found_on : (i : Instance ℕ) → IsFound q.found.entries i → IsFound r.found.entries i
   found_on i (p', k, at) = (p', k, get_more q.found.entries r.found.entries p' (i, k) h.finds at)
 
-  worthy_then : (i : Instance ℕ) → kept_values first i ≡ None → IsKept last i → IsWorthKeeping rules (contents s) (asked_by p) i
+  worthy_then : (i : Instance ℕ) → kept_values first i ≡ None → IsKept last i → IsWorthy rules (contents s) (asked_by p) i
   worthy_then i none some = by (kept_values mid i) refl
     where
-      by : (o : Option (Value ℕ)) → kept_values mid i ≡ o → IsWorthKeeping rules (contents s) (asked_by p) i
-      by None e = subst (λ z. IsWorthKeeping rules (contents s) z i) same (h.worthy.worthy i e some)
+      by : (o : Option (Value ℕ)) → kept_values mid i ≡ o → IsWorthy rules (contents s) (asked_by p) i
+      by None e = subst (λ z. IsWorthy rules (contents s) z i) same (h.worthy.worthy i e some)
       by (Some v) e = g.worthy.worthy i none (is_there (kept_values mid i) v e)
 
   pub gains_then : GainsBetween rules s exact first last f n w y p r Whole

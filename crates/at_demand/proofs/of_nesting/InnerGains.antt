@@ -23,7 +23,7 @@ use Rattle.at_cache.specs.declared.keeper.Put.TheVariants as put
 use Rattle.at_demand.specs.Known.{equations, meaning, kept_values, ArePlain, IsKept}
 use Rattle.at_demand.specs.Meant.{AreCircularWell, AreRightValues}
 use Rattle.at_demand.specs.Right.{AreRight, IsThere, IsValued}
-use Rattle.at_demand.specs.Sparing.{AddsWorthy, AreSpare, Counts, HasWorthy, IsWorthKeeping}
+use Rattle.at_demand.specs.Sparing.{AddsWorthy, AreSpare, Counts, HasWorthy, IsWorthy}
 use Rattle.at_demand.specs.Inner.{AreKnown, Gains, HasTold, IsEvaluated, IsGiven, is_inner, known_by, remembered}
 use Rattle.at_demand.proofs.Counting.{counts_more, counts_none, counts_same, counts_shared}
 use Rattle.at_demand.proofs.Entered.{entered_on, is_there, not_none, put_stays}
@@ -80,7 +80,7 @@ worthy_then rules look i old mid new g h = record {
 }
   where
     by : (j : Instance ℕ) → kept_values old j ≡ None → IsKept new j → (o : Option (Value ℕ)) → kept_values mid j ≡ o →
-        IsWorthKeeping rules look i j
+        IsWorthy rules look i j
     by j none some None is = h.worthy j is some
     by j none some (Some v) is = g.worthy j none (is_there (kept_values mid j) v is)
 

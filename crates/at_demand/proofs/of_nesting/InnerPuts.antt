@@ -16,7 +16,7 @@ use Rattle.at_cache.specs.Kept.{Kept, Entries, Puts, covered, covers_at, same_lo
 use Rattle.at_cache.proofs.Locations.{same_location-is, same_location-itself}
 use Rattle.at_demand.specs.Known.{equations, meaning, kept_values, ArePlain, IsKept, KeepsEntries}
 use Rattle.at_demand.specs.Covering.{AreCovered}
-use Rattle.at_demand.specs.Sparing.{AddsWorthy, AreOnly, AreSpare, IsDeep, IsWorthKeeping}
+use Rattle.at_demand.specs.Sparing.{AddsWorthy, AreOnly, AreSpare, IsDeep, IsWorthy}
 use Rattle.at_demand.specs.Inner.{is_inner}
 use Rattle.at_demand.specs.Meant.{AreRightValues}
 use Rattle.at_demand.proofs.Entered.{is_there, kept_on, not_none, there as is_some}
@@ -184,7 +184,7 @@ module _ (rules : Rules) (look : Contents ℕ) (exact : Bool) (old new : Entries
   pub worthy_now : AddsWorthy rules look i old new
   worthy_now = record { stays = stays_now; worthy = came }
     where
-      came : (j : Instance ℕ) → kept_values old j ≡ None → IsKept new j → IsWorthKeeping rules look i j
+      came : (j : Instance ℕ) → kept_values old j ≡ None → IsKept new j → IsWorthy rules look i j
       came j none kept = elim (cases j) [
         | inl same ↦ absurd (not_none (kept_values new j) kept (ap value_at same ∙ none))
         | inr p ↦ (let (w, e) = is_some (kept_values new j) kept in

@@ -15,7 +15,7 @@ use Rattle.at_demand.specs.Known.{equations, meaning, kept_values, IsKept, Keeps
 use Rattle.at_demand.specs.Inner.{Gains, HasTold, StayRemembered, is_inner}
 use Rattle.at_demand.specs.InParts.{Demanded, EvaluatesTo, HasCome, HasGained, Held, IsHeld, demand, values_in}
 use Rattle.at_demand.specs.Made.{Makes}
-use Rattle.at_demand.specs.Sparing.{IsWorthKeeping}
+use Rattle.at_demand.specs.Sparing.{IsWorthy}
 use Rattle.at_demand.specs.Traces.{StayJustified}
 use Rattle.at_demand.specs.Reasons.{AddsDemanded, DemandsOn}
 use Rattle.at_demand.proofs.Counting.{counts_more, counts_none}
@@ -212,7 +212,7 @@ module _ (rules : Rules) (s : Shown) (exact : Bool) where
 
       by : (j : Instance ℕ) → kept_values first.entries j ≡ None → IsKept last.entries j → (o : Option (Value ℕ)) →
           kept_values mid.entries j ≡ o →
-          (m : Instance ℕ) × Demanded rules (contents s) (r >>= k) m × IsWorthKeeping rules (contents s) m j
+          (m : Instance ℕ) × Demanded rules (contents s) (r >>= k) m × IsWorthy rules (contents s) m j
       by j none some None e = let (m, d, worth) = h.worthy j e some in (m, behind m d, worth)
       by j none some (Some v) e =
           let (m, d, worth) = g.worthy j none (is_there (kept_values mid.entries j) v e) in (m, within m d, worth)

@@ -29,7 +29,7 @@ use Rattle.at_demand.specs.Known.{IsFound, IsKept, found_values, kept_values, me
 use Rattle.at_demand.specs.Levels.{StandsFor, asked_by, known_to, level_of}
 use Rattle.at_demand.specs.Right.{AreRight, AreThere, IsThere}
 use Rattle.at_demand.specs.Searches.{GainsBetween, WasSeenBy}
-use Rattle.at_demand.specs.Sparing.{IsWorthKeeping, MayGain}
+use Rattle.at_demand.specs.Sparing.{IsWorthy, MayGain}
 use Rattle.at_demand.specs.Tries.{HasCarriedOn}
 use Rattle.at_demand.specs.Turns.{GainsInChain, IsStanding, MayComeIn, found_of, passed_of, under_way}
 use Rattle.at_demand.proofs.Entered.{entered, entered_on, is_there, kept_on, there, valued_on}
@@ -165,7 +165,7 @@ module _ (rules : Rules) (s : Shown) (exact : Bool) (before mid last : Entries) 
     | inr a ↦ inl (known_as_found mid q.found.entries i (value_found q.found.entries i a))
   ]
 
-  worth : (i : Instance ℕ) → kept_values mid i ≡ None → IsKept last i → IsWorthKeeping rules (contents s) (asked_by q) i
+  worth : (i : Instance ℕ) → kept_values mid i ≡ None → IsKept last i → IsWorthy rules (contents s) (asked_by q) i
   worth i none some =
       let worthy = h.worthy in
       let z = worthy.worthy i none some in

@@ -39,7 +39,7 @@ use Rattle.at_demand.specs.LastTried.{AwaitsLast, IsPassedLast, IsSettledLast}
 use Rattle.at_demand.specs.Levels.{asked_by, known_to, root_in}
 use Rattle.at_demand.specs.Meant.{AreRightValues}
 use Rattle.at_demand.specs.Only.{AreLean}
-use Rattle.at_demand.specs.Sparing.{AreSettled, AreSpare, IsWorthKeeping}
+use Rattle.at_demand.specs.Sparing.{AreSettled, AreSpare, IsWorthy}
 use Rattle.at_demand.specs.Tries.{HasCarriedOn}
 use Rattle.at_demand.specs.Turns.{IsSparingTurns, IsStanding, found_of, passed_of, under_way}
 use Rattle.at_demand.proofs.Attempted.{whole_alone}
@@ -219,7 +219,7 @@ module _ (rules : Rules) (s : Shown) (exact : Bool) (before mid last : Entries) 
         well = let circular = basis.circular in circular.lazy
 
         worthy : IsTrue exact → AreSpare rules (contents s) before → IsSparingTurns rules (contents s) before old → (i : Instance ℕ) →
-            IsWorthKeeping rules (contents s) (asked_by old) i → IsKept last i
+            IsWorthy rules (contents s) (asked_by old) i → IsKept last i
         worthy k spare z i b =
             let after = h.spare k (spare_mid k spare z) (let y = c.sparing k z in y.lean) (let y = c.sparing k z in y.settled) in
             known_below rules (contents s) last found well whole (settled k spare z) after.deep q.inst i met
