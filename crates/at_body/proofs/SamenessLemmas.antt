@@ -22,11 +22,11 @@ pub same_rest : (i j : Instance ℕ) (xs ys : List ValueCode) (r : Bool) → fal
 same_rest i j xs ys r e f g h is = rw (not_off _ e, not_off _ f, g, h) (is ∙ sym (pointwise-map value_view same_value xs ys))
 
 -- the same, with the arguments told by their comparison
-pub same_behind : (i j : Instance ℕ) {xs ys : List ValueCode} {r : Bool}
+pub same_behind : (i j : Instance ℕ) (xs ys : List ValueCode) {r : Bool}
     → r ≡ pointwise (λ v w. same_value (value_view v) (value_view w)) xs ys
     → false ≡ not (nat_eq i.node j.node) → false ≡ not (nat_eq i.attribute j.attribute)
     → i.arguments ≡ map value_view xs → j.arguments ≡ map value_view ys → r ≡ same_instance i j
-same_behind i j {xs} {ys} {r} is e f g h = same_rest i j xs ys r e f g h is
+same_behind i j xs ys {r} is e f g h = same_rest i j xs ys r e f g h is
 
 not_none : (n : ℕ) → suc n ≡ 0 → ⊥
 not_none n h = omega arith
