@@ -2,15 +2,17 @@
 use Rattle.std.proofs.Common.{◌≡◌, ◌⊎◌, ℕ, ◌+◌, ◌-◌, ◌^◌, ◌<◌, min, Bool, true, false, List, [], ◌∷◌, ◌++◌, length, length-append, Option, Some, None, inl, inr, refl, sym, ap, ◌∙◌, subst, arith, if◌then◌else◌, true≢false}
 use Rattle.std.specs.Prelude.{IsSome, IsTrue}
 use Rattle.at_model.specs.Run.{Value, Instance, Location}
-use Rattle.at_model.specs.Meaning.{Among, Distinct}
+use Rattle.at_model.specs.Meaning.{Among, Answer, Circle, Distinct, Outcomes}
+use Rattle.at_model.specs.of_fixpoints.Circles.{Answers}
 use Rattle.at_body.specs.Same.{same_instance}
 use Rattle.at_cache.specs.Kept.{Kept, Entries, KeepsAll, HasPut, value_at}
 use Rattle.at_cache.specs.declared.keeper.Put.{Put}
 use Rattle.at_cache.specs.declared.keeper.Put.TheVariants as put
 use Rattle.at_model.specs.Rules.{Rules}
 use Rattle.at_model.specs.Run.{Contents}
-use Rattle.at_demand.specs.Known.{kept_values, IsKept, KeepsEntries}
-use Rattle.at_demand.specs.Sparing.{AddsWorthy, HasWorthy, AreGained, Counts, IsWork}
+use Rattle.at_demand.specs.Answered.{AddsMet, HasWorthyFor}
+use Rattle.at_demand.specs.Known.{kept_values, meaning, IsKept, KeepsEntries}
+use Rattle.at_demand.specs.Sparing.{AddsWorthy, AreGained, Counts, IsWork, IsWorthKeeping}
 use Rattle.at_demand.proofs.Entered.{entered_on, is_there, kept_on, not_none, value_on}
 use Rattle.at_demand.proofs.Sameness.{same_true, same_refl}
 
@@ -118,15 +120,29 @@ saturated w x y m n k sum e f = omega (arith, sum, e, f)
 pub counts_more : (first next last : Entries) (w x y : ℕ) → Counts first next w x → Counts next last x y → Counts first last w y
 counts_more first next last w x y (xs, g, e) (ys, h, f) = (xs ++ ys, gains_more first next last xs ys g h, saturated w x y (length xs) (length ys) (length (xs ++ ys)) (length-append xs ys) e f)
 
+-- what came is worth keeping
+pub came_worth : (rules : Rules) (look : Contents ℕ) (q : Instance ℕ) (old new : Entries) → AddsWorthy rules look q old new → AddsMet rules look q old new →
+    (i : Instance ℕ) → kept_values old i ≡ None → IsKept new i → IsWorthKeeping rules look q i
+came_worth rules look q old new adds met i none kept =
+    record { worthy = adds.worthy i none kept; before = λ c circle. met c i circle none kept }
+
+-- and what is worth keeping is kept, for each answer
+pub worth_kept : (rules : Rules) (look : Contents ℕ) (q : Instance ℕ) (a : Answer ℕ) (entries : Entries) → Answers look (meaning rules) q a →
+    HasWorthyFor rules look q a entries → (i : Instance ℕ) → IsWorthKeeping rules look q i → IsKept entries i
+worth_kept rules look q (Outcomes o) entries holds all i w = all i w.worthy
+worth_kept rules look q (Circle c) entries circle all i w = all.1 i w.worthy (w.before c circle)
+
 -- what comes is just what is worth keeping and wasn't kept
-pub work_is : (rules : Rules) (look : Contents ℕ) (q : Instance ℕ) (old new : Entries) (w x : ℕ) → Counts old new w x → AddsWorthy rules look q old new → HasWorthy rules look q new → IsWork rules look q old w x
-work_is rules look q old new w x (gained, g, e) adds has = (
+pub work_is : (rules : Rules) (look : Contents ℕ) (q : Instance ℕ) (a : Answer ℕ) (old new : Entries) (w x : ℕ) → Counts old new w x →
+    AddsWorthy rules look q old new → AddsMet rules look q old new → Answers look (meaning rules) q a → HasWorthyFor rules look q a new →
+    IsWork rules look q old w x
+work_is rules look q a old new w x (gained, g, e) adds met answers has = (
   gained,
   record {
     distinct = g.distinct;
     exactly = λ i. (
-      λ a. (let p = g.exactly i in let y = p.0 a in (adds.worthy i y.1 y.0, y.1)),
-      λ h. (let p = g.exactly i in p.1 (has i h.0, h.1)),
+      λ m. (let p = g.exactly i in let y = p.0 m in (came_worth rules look q old new adds met i y.1 y.0, y.1)),
+      λ h. (let p = g.exactly i in p.1 (worth_kept rules look q a new answers has i h.0, h.1)),
     );
   },
   e,

@@ -10,11 +10,15 @@ use Rattle.at_model.specs.of_fixpoints.Evaluations.{forms}
 use Rattle.at_model.specs.of_fixpoints.Fixpoints.{Holds}
 use Rattle.at_model.specs.of_fixpoints.Formulas.{Forms}
 use Rattle.at_model.specs.of_fixpoints.Likeness.{FormsLike}
+use Rattle.at_model.specs.of_fixpoints.Circles.{Circular}
+use Rattle.at_model.specs.of_fixpoints.Met.{IsMet}
 use Rattle.at_model.specs.Sparing.{IsWorthKeeping, AreAdded}
 use Rattle.at_demand.specs.Known.{meaning}
 use Rattle.at_demand.specs.Sparing.{IsWorthKeeping as IsWorth}
+use Rattle.at_demand.proofs.of_keeping.CalledMet.{circle_back, met_back, met_there}
 use Rattle.at_model.proofs.of_likeness.CarryingCircles.{instance-agrees, names_agree}
 use Rattle.at_model.proofs.of_formulas.CarriedByFormulas.{outcome_back, outcome_there, leads_back, leads_there}
+use Rattle.at_model.proofs.of_formulas.CarriedSearches.{circle_there}
 use Rattle.at_model.proofs.of_formulas.EndsAlike.{found_back, found_like}
 use Rattle.at_model.proofs.of_formulas.FormulasAlike.{evaluation-like}
 use Rattle.at_model.proofs.Nodes.{same_like, nat_eq-is, node_eq-is}
@@ -42,20 +46,41 @@ module _ (rules : Rules) (look : Contents ℕ) (t : Tree) (path : ℕ → Option
 
   -- one question, by number and by path
   module _ (q : Instance ℕ) (p : Instance Node) (asked : Like q p) where
+    -- what was met by a question that a circle answers was met by paths
+    before_on : (i : Instance ℕ) (j : Instance Node) → Like i j → ((c : Instance ℕ) → Circular look means q c → IsMet look means q i) →
+        (c : Instance Node) → Circular (content t) (forms rules) p c → IsMet (content t) (forms rules) p j
+    before_on i j s before c circle =
+        let (d, r, by_number) = circle_back (names_agree path named_once) look (content t) means (forms rules) like q p c
+        (asked, λ l h. alike l) circle in
+        let (k, (u, below), met) = met_there (names_agree path named_once) look (content t) means (forms rules) like q i p
+        (asked, λ l h. alike l) (before d by_number) in
+        subst (λ z. IsMet (content t) (forms rules) p z) (one_path i k j u s) met
+
+    before_back : (i : Instance ℕ) (j : Instance Node) → Like i j →
+        ((c : Instance Node) → Circular (content t) (forms rules) p c → IsMet (content t) (forms rules) p j) →
+        (c : Instance ℕ) → Circular look means q c → IsMet look means q i
+    before_back i j s before c circle =
+        let (d, r, by_path) = circle_there (names_agree path named_once) look (content t) means (forms rules) like q c p
+        asked (λ l h. alike l) circle in
+        let (k, (u, below), met) = met_back (names_agree path named_once) look (content t) means (forms rules) like q p j
+        (asked, λ l h. alike l) (before d by_path) in
+        subst (λ z. IsMet look means q z) (one_number k i j u s) met
+
     pub worth_on : (i : Instance ℕ) → IsWorth rules look q i → (j : Instance Node) × Like i j × IsWorthKeeping rules t p j
     worth_on i w =
         let (j, (s, more), leads) = leads_there (names_agree path named_once) look (content t) means (forms rules) like q i p
-        (asked, λ l h. alike l) w.reached in
+        (asked, λ l h. alike l) w.worthy.reached in
         let (o, g, same) = outcome_there (names_agree path named_once) look (content t) means (forms rules) like i j
-        (Finds w.value) (s, λ l h. alike l) w.has in
-        let (v, is, u) = found_like w.value same refl in (
+        (Finds w.worthy.value) (s, λ l h. alike l) w.worthy.has in
+        let (v, is, u) = found_like w.worthy.value same refl in (
           j,
           s,
           record {
             reached = leads;
-            lazy = ap (is_lazy rules) (sym s.attribute) ∙ w.lazy;
+            lazy = ap (is_lazy rules) (sym s.attribute) ∙ w.worthy.lazy;
             value = v;
             has = subst (Holds (content t) (forms rules) j) is g;
+            before = before_on i j s w.before;
           },
         )
 
@@ -69,10 +94,13 @@ module _ (rules : Rules) (look : Contents ℕ) (t : Tree) (path : ℕ → Option
           i,
           s,
           record {
-            reached = leads;
-            lazy = ap (is_lazy rules) s.attribute ∙ w.lazy;
-            value = v;
-            has = subst (Holds look means i) is g;
+            worthy = record {
+              reached = leads;
+              lazy = ap (is_lazy rules) s.attribute ∙ w.lazy;
+              value = v;
+              has = subst (Holds look means i) is g;
+            };
+            before = before_back i j s w.before;
           },
         )
 

@@ -5,7 +5,8 @@ use Rattle.at_model.specs.Trees.{Tree, conforms}
 use Rattle.at_model.specs.Paths.{Node, node_eq}
 use Rattle.at_model.specs.Run.{Value, Instance, Location}
 use Rattle.at_model.specs.Rules.{Rules, is_lazy}
-use Rattle.at_model.specs.Meaning.{Among, Finds, content}
+use Rattle.at_model.specs.Meaning.{Among, Answer, Finds, content}
+use Rattle.at_model.specs.of_fixpoints.Circles.{Answers}
 use Rattle.at_model.specs.of_fixpoints.Evaluations.{forms}
 use Rattle.at_model.specs.of_fixpoints.Fixpoints.{HasValue, Holds}
 use Rattle.at_model.specs.of_fixpoints.Likeness.{FormsLike}
@@ -28,9 +29,11 @@ use Rattle.at_store.proofs.Relabelled.{contents_alike}
 use Rattle.at_cache.specs.Kept.{Kept, Entries, value_at}
 use Rattle.at_demand.specs.Known.{meaning, kept_values, IsKept}
 use Rattle.at_demand.specs.Right.{AreRight}
-use Rattle.at_demand.specs.Sparing.{AreSpare, IsWorthy, AddsWorthy, HasWorthy, Counts}
+use Rattle.at_demand.specs.Answered.{AddsMet, HasWorthyFor}
+use Rattle.at_demand.specs.Sparing.{AreSpare, IsWorthKeeping, AddsWorthy, Counts}
 use Rattle.at_demand.specs.Spared.{IsUntouched, LeavesJust}
 use Rattle.at_demand.specs.Called.{KeptBy, Keeps}
+use Rattle.at_demand.proofs.Counting.{came_worth, worth_kept}
 use Rattle.at_demand.proofs.Entered.{entered, kept_on, not_none, there as value_kept}
 use Rattle.at_demand.proofs.of_keeping.CalledAsked.{called_after, called_added}
 use Rattle.at_demand.proofs.of_keeping.CalledEdited.{called_edited}
@@ -84,18 +87,24 @@ module _ (rules : Rules) (s : Shown) (idle : IsIdle s) where
           (k, spare.deep i k (entered entries i some) led (ap (is_lazy rules) v.attribute ∙ is), v)
 
   -- a question adds what is worth keeping, and its work is the number of these
-  module _ (q : Instance ℕ) (p : Instance Node) (asked : InstanceLike (Names (path s)) q p) (old new : Entries) (w x : ℕ) (adds : AddsWorthy rules (contents s) q old new) (all : HasWorthy rules (contents s) q new) (counts : Counts old new w x) where
-    just : (i : Instance ℕ) → IsKept new i ↔ (IsKept old i ⊎ IsWorthy rules (contents s) q i)
+  module _ (q : Instance ℕ) (p : Instance Node) (asked : InstanceLike (Names (path s)) q p) (old new : Entries) (w x : ℕ) (adds : AddsWorthy rules (contents s) q old new) (met : AddsMet rules (contents s) q old new) (a : Answer ℕ) (answers : Answers (contents s) (meaning rules) q a) (all : HasWorthyFor rules (contents s) q a new) (counts : Counts old new w x) where
+    came : (i : Instance ℕ) → kept_values old i ≡ None → IsKept new i → IsWorthKeeping rules (contents s) q i
+    came = came_worth rules (contents s) q old new adds met
+
+    stays : (i : Instance ℕ) → IsWorthKeeping rules (contents s) q i → IsKept new i
+    stays = worth_kept rules (contents s) q a new answers all
+
+    just : (i : Instance ℕ) → IsKept new i ↔ (IsKept old i ⊎ IsWorthKeeping rules (contents s) q i)
     just i = (
-      λ now. elim (decided (kept_values old i)) [ inl was ↦ inl was | inr none ↦ inr (adds.worthy i none now) ],
-      λ h. elim h [ inl was ↦ kept_on old new adds.stays i was | inr worth ↦ all i worth ],
+      λ now. elim (decided (kept_values old i)) [ inl was ↦ inl was | inr none ↦ inr (came i none now) ],
+      λ h. elim h [ inl was ↦ kept_on old new adds.stays i was | inr worth ↦ stays i worth ],
     )
 
-    exactly : (i : Instance ℕ) → Among i counts.0 ↔ (IsWorthy rules (contents s) q i × (¬ (IsKept old i)))
+    exactly : (i : Instance ℕ) → Among i counts.0 ↔ (IsWorthKeeping rules (contents s) q i × (¬ (IsKept old i)))
     exactly i =
         let (gained, g, e) = counts in (
-          λ a. (let y = (g.exactly i).0 a in (adds.worthy i y.1 y.0, none_kept (kept_values old i) y.1)),
-          λ h. (g.exactly i).1 (all i h.0, no_kept (kept_values old i) h.1),
+          λ a. (let y = (g.exactly i).0 a in (came i y.1 y.0, none_kept (kept_values old i) y.1)),
+          λ h. (g.exactly i).1 (stays i h.0, no_kept (kept_values old i) h.1),
         )
 
     pub keeps_asked : (state : State) → state.tree ≡ tree s → Keeps rules state (Asks p) (KeptBy s old) (KeptBy s new) w x

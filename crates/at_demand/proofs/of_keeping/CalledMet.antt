@@ -1,31 +1,19 @@
--- What the search for a question has met is met by paths, too, and no more; so what is kept of it is kept there, and what came was met there.
-use Rattle.std.proofs.Common.{◌≡◌, ◌⊎◌, ℕ, nat_eq, List, [], ◌∷◌, ◌++◌, Option, None, Some, inl, inr, refl, sym, ap, subst}
-use Rattle.at_model.specs.Trees.{Tree}
-use Rattle.at_model.specs.Paths.{Node, node_eq}
-use Rattle.at_model.specs.Run.{Value, Instance, Location, Contents, FaultKind}
-use Rattle.at_model.specs.Rules.{Rules}
-use Rattle.at_model.specs.Meaning.{Answer, Circle, Finds, Outcome, Outcomes, Reaches, content}
-use Rattle.at_model.specs.Alike.{AlikeAt, InstanceLike, IsInjective, ListLike, Names, OutcomeLike, ValueLike, end, more}
-use Rattle.at_model.specs.of_fixpoints.Circles.{Answers, Circular, HasNone, IsOpen, WantsNone}
-use Rattle.at_model.specs.of_fixpoints.Evaluations.{forms}
+-- What the search for a question has met is met by paths, too, and no more; and so is a circle.
+use Rattle.std.proofs.Common.{◌≡◌, ◌⊎◌, List, [], ◌∷◌, ◌++◌, inl, inr, refl, ap, subst}
+use Rattle.at_model.specs.Run.{Value, Instance, Contents, FaultKind}
+use Rattle.at_model.specs.Meaning.{Finds, Reaches}
+use Rattle.at_model.specs.Alike.{InstanceLike, ListLike, ValueLike, end, more}
+use Rattle.at_model.specs.of_fixpoints.Circles.{Circular, Closes, HasNone, IsOpen}
+use Rattle.at_model.specs.of_fixpoints.Circles as closes
 use Rattle.at_model.specs.of_fixpoints.Fixpoints.{End, EndsAt, EndsSo, HasForm, HasValue, Holds, Made, Spoilt}
 use Rattle.at_model.specs.of_fixpoints.Formulas.{Formula, Forms, atoms}
-use Rattle.at_model.specs.of_fixpoints.Likeness.{AlikeBelow, FormsLike, FormulaLike}
+use Rattle.at_model.specs.of_fixpoints.Likeness.{FormsLike, FormulaLike}
 use Rattle.at_model.specs.of_fixpoints.Met.{IsMet, LooksAt, again, deeper, formed, here, spoilt}
 use Rattle.at_model.specs.of_fixpoints.Resting.{Leads, stays}
-use Rattle.at_model.specs.Sparing.{IsWorthKeeping}
-use Rattle.at_model.proofs.Nodes.{nat_eq-is, node_eq-is, same_like}
 use Rattle.at_model.proofs.of_formulas.CarriedByFormulas.{IsCarried, all_matched, carried_next, ends_so_there, form_there, leads_back, leads_there, outcome_back, outcome_there, reaches_there}
-use Rattle.at_model.proofs.of_formulas.ClosedOnce.{not_both}
 use Rattle.at_model.proofs.of_formulas.EndsAlike.{found_back, reached_back}
-use Rattle.at_model.proofs.of_formulas.FormulasAlike.{evaluation-like}
 use Rattle.at_model.proofs.of_formulas.Matching.{EndMatches, atoms_match, joined_lists, makes, spoils, spoilt_on}
-use Rattle.at_model.proofs.of_likeness.CarryingCircles.{Agrees, among-back, among-like, instance-agrees, names_agree}
-use Rattle.at_cache.specs.Kept.{Entries}
-use Rattle.at_demand.specs.Answered.{AddsMet, HasWorthyMet}
-use Rattle.at_demand.specs.Known.{IsKept, kept_values, meaning}
-use Rattle.at_demand.proofs.Entered.{is_there}
-use Rattle.at_demand.proofs.of_keeping.CalledAsked.{Called, one_number, one_path, worth_back}
+use Rattle.at_model.proofs.of_likeness.CarryingCircles.{Agrees, among-back, among-like, instance-agrees}
 
 module _ {N M : Type 0} {S T : Instance N → Instance M → Type 0} {V : Value N → Value M → Type 0} where
   made_from : {d : End N (Formula N)} {e : End M (Formula M)} → EndMatches S T V d e → (g : Formula M) → e ≡ Made g →
@@ -200,40 +188,53 @@ module _ {N M : Type 0} {R : N → M → Type 0} (agree : Agrees R) (look : Cont
             record { by = by; looked = looked; settled = h; is = is; outcome = o; holds = holds; led = led },
           )
 
-module _ (rules : Rules) (look : Contents ℕ) (t : Tree) (path : ℕ → Option Node) (named_once : IsInjective path)
-    (alike : (l : Location ℕ) → AlikeAt (Names path) look (content t) l) (entries : Entries) where
-  -- where all that is worth keeping of what a question has met is kept, it is so by paths
-  pub called_met : (q : Instance ℕ) (p : Instance Node) → InstanceLike (Names path) q p → HasWorthyMet rules look q entries →
-      (j : Instance Node) → IsWorthKeeping rules t p j → IsMet (content t) (forms rules) p j → Called path (IsKept entries) j
-  called_met q p asked all j w m =
-      let (i, s, worth) = worth_back rules look t path named_once alike q p asked j w in
-      let (y, (u, below), met) = met_back (names_agree path named_once) look (content t) (meaning rules) (forms rules)
-      (evaluation-like rules nat_eq node_eq (same_like nat_eq node_eq nat_eq-is node_eq-is path named_once)) q p j
-      (asked, λ l h. alike l) m in
-      let one = one_number rules look t path named_once alike y i j u s in
-      (i, all i worth (subst (λ z. IsMet look (meaning rules) q z) one met), s)
+  -- a search comes back where a like one does
+  closes_back : (under seen todo : List (Instance N)) (below met ahead : List (Instance M)) (x : Instance M) →
+      ListLike (InstanceLike R) under below → ListLike (InstanceLike R) seen met → ListLike Pair todo ahead →
+      Closes also other below met ahead x → (y : Instance N) × InstanceLike R y x × Closes look forms under seen todo y
+  closes_back under seen _ below met _ x u s end l = absurd (elim l [ ])
+  closes_back under seen _ below met _ _ u s (more {a = i} {b = k} t ts) (closes.back _ o) =
+      (i, t.0, closes.back i (open_back under below u i k t o))
+  closes_back under seen _ below met _ x u s (more {a = i} {b = k} {as' = todo} {bs = ahead} t ts) (closes.again _ o a l) =
+      let (y, p, z) = closes_back under seen todo below met ahead x u s ts l in
+      (y, p, closes.again i (λ w. o (open_there under below u i k t w)) (among-back (instance-agrees agree) s i k t.0 a) z)
+  closes_back under seen _ below met _ x u s (more {a = i} {b = k} {as' = todo} {bs = ahead} t ts) (closes.formed _ g o n e l) =
+      let (d, q, m) = ends_back i k (Made g) t e in
+      let (f, is, same) = made_from m g refl in
+      let (y, p, z) = closes_back under (i ∷ seen) (atoms f ++ todo) below (k ∷ met) (atoms g ++ ahead) x u (more t.0 s)
+      (joined_lists same ts) l in (
+        y,
+        p,
+        closes.formed i f (λ w. o (open_there under below u i k t w)) (λ w. n (among-like (instance-agrees agree) s i k t.0 w))
+            (subst (λ w. EndsSo look forms i w) is q) z,
+      )
+  closes_back under seen _ below met _ x u s (more {a = i} {b = k} {as' = todo} {bs = ahead} t ts) (closes.spoilt _ at c o n e l) =
+      let (d, q, m) = ends_back i k (Spoilt c at) t e in
+      let (to, is) = spoilt_from m c at refl in
+      let (y, p, z) = closes_back under (i ∷ seen) todo below (k ∷ met) ahead x u (more t.0 s) ts l in (
+        y,
+        p,
+        closes.spoilt i to c (λ w. o (open_there under below u i k t w))
+            (λ w. n (among-like (instance-agrees agree) s i k t.0 w)) (subst (λ w. EndsSo look forms i w) is q) z,
+      )
+  closes_back under seen _ below met _ _ u s (more {a = i} {b = k} t ts) (closes.comes_back _ h o n (reach, none) m) =
+      let (j, p, v) = reaches_back i k h t reach in (
+        j,
+        p.0,
+        closes.comes_back i j (λ w. o (open_there under below u i k t w)) (λ w. n (among-like (instance-agrees agree) s i k t.0 w))
+            (v, lost_back j h p none) (among-back (instance-agrees agree) (more t.0 (joined_lists s u)) j h p.0 m),
+      )
+  closes_back under seen _ below met _ x u s (more {a = i} {b = k} t ts) (closes.deeper _ h o n (reach, none) m l) =
+      let (j, p, v) = reaches_back i k h t reach in
+      let line = more t.0 (joined_lists s u) in
+      let (y, q, z) = closes_back (i ∷ (seen ++ under)) [] (j ∷ []) (k ∷ (met ++ below)) [] (h ∷ []) x line end (more p end) l in (
+        y,
+        q,
+        closes.deeper i j (λ w. o (open_there under below u i k t w)) (λ w. n (among-like (instance-agrees agree) s i k t.0 w))
+            (v, lost_back j h p none) (λ w. m (among-like (instance-agrees agree) line j h p.0 w)) z,
+      )
 
-module _ (rules : Rules) (look : Contents ℕ) (t : Tree) (path : ℕ → Option Node) (named_once : IsInjective path)
-    (alike : (l : Location ℕ) → AlikeAt (Names path) look (content t) l) (q : Instance ℕ) (p : Instance Node)
-    (asked : InstanceLike (Names path) q p) (old new : Entries) (adds : AddsMet rules look q old new) where
-  agree : Agrees (Names path)
-  agree = names_agree path named_once
-
-  same : FormsLike (Names path) (meaning rules) (forms rules)
-  same = evaluation-like rules nat_eq node_eq (same_like nat_eq node_eq nat_eq-is node_eq-is path named_once)
-
-  -- where a circle answers the question, what came by paths was met
-  pub called_only : (a : Answer ℕ) → Answers look (meaning rules) q a → (c j : Instance Node) →
-      Circular (content t) (forms rules) p c → (¬ (Called path (IsKept old) j)) → Called path (IsKept new) j →
-      IsMet (content t) (forms rules) p j
-  called_only (Outcomes o) holds c j circle none kept =
-      let (e, h, s) = outcome_there agree look (content t) (meaning rules) (forms rules) same q p o (asked, λ l h. alike l) holds in
-      absurd (not_both (content t) (forms rules) p c e h circle)
-  called_only (Circle d) found c j circle none (i, kept, s) = by (kept_values old i) refl
-    where
-      by : (o : Option (Value ℕ)) → kept_values old i ≡ o → IsMet (content t) (forms rules) p j
-      by (Some v) is = absurd (none (i, is_there (kept_values old i) v is, s))
-      by None is =
-          let (y, (u, below), met) = met_there agree look (content t) (meaning rules) (forms rules) same q i p
-          (asked, λ l h. alike l) (adds d i found is kept) in
-          subst (λ z. IsMet (content t) (forms rules) p z) (one_path rules look t path named_once alike i y j u s) met
+  -- so a circle answers the one question where it answers the other one
+  pub circle_back : (q : Instance N) (k x : Instance M) → Pair q k → Circular also other k x →
+      (y : Instance N) × InstanceLike R y x × Circular look forms q y
+  circle_back q k x t l = closes_back [] [] (q ∷ []) [] [] (k ∷ []) x end end (more t end) l

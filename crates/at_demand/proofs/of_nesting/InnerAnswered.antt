@@ -1,10 +1,9 @@
 -- What a question is answered where an evaluation in one go came to its value, and where it gave up.
-use Rattle.std.proofs.Common.{◌≡◌, ℕ, ◌<◌, ◌^◌, Bool, [], Option, None, Some, Ok, refl}
+use Rattle.std.proofs.Common.{◌≡◌, ℕ, ◌<◌, ◌^◌, Bool, [], Option, None, Some, Ok, Err, refl}
 use Rattle.std.specs.Prelude.{IfOk, IsTrue, Result}
 use Rattle.std.proofs.lemmas.Result.{IfOk-weaker}
 use Rattle.at_model.specs.Run.{Contents, Instance, Value}
 use Rattle.at_model.specs.Rules.{Rules}
-use Rattle.at_model.specs.Meaning.{Answer as AnswerView, Circle, Outcomes}
 use Rattle.at_model.specs.of_fixpoints.Circles.{Answers}
 use Rattle.at_model.specs.of_fixpoints.Met.{IsMet}
 use Rattle.at_demand.specs.Meant.{AreCircularWell, AreRightValues}
@@ -15,19 +14,18 @@ use Rattle.at_body.specs.Values.{value_view}
 use Rattle.at_body.specs.declared.value.Value.{Value as ValueCode}
 use Rattle.at_demand.specs.declared.answer.Answer.TheVariants as answer
 use Rattle.at_demand.specs.Known.{meaning, kept_values, answer_view, ArePlain}
-use Rattle.at_demand.specs.Sparing.{AddsWorthy, AreSpare, HasWorthy}
-use Rattle.at_demand.specs.Answered.{AddsMet, EndsByOutcome, HasAnswered, HasWorthyFor}
+use Rattle.at_demand.specs.Sparing.{AddsWorthy, AreSpare}
+use Rattle.at_demand.specs.Answered.{AddsMet, HasAnswered, HasWorthyFor}
 use Rattle.at_demand.specs.Inner.{Gains}
 use Rattle.at_demand.proofs.Counting.{counts_more, work_is}
 use Rattle.at_demand.proofs.Entered.{is_there, not_none}
 use Rattle.at_demand.proofs.Gaining.{asked_kept}
 use Rattle.at_demand.proofs.of_nesting.InnerGains.{gains_none, known_none, worthy_then}
 
--- where the answer is no circle of circular attributes, all that is worth keeping for it is worth keeping for the question
-worthy_ended : (rules : Rules) (s : Shown) (i : Instance ℕ) (a : AnswerView ℕ) (entries : Entries) →
-    HasWorthyFor rules (contents s) i a entries → EndsByOutcome rules a → HasWorthy rules (contents s) i entries
-worthy_ended rules s i (Outcomes o) entries h ends = h
-worthy_ended rules s i (Circle j) entries h ends = h.0 ends
+-- an answer that is right, for which all that is worth keeping is kept
+abbrev IsKeptFor : Rules → Shown → Instance ℕ → Entries → Answer → Type 0
+IsKeptFor rules s i entries a =
+    Answers (contents s) (meaning rules) i (answer_view a) × HasWorthyFor rules (contents s) i (answer_view a) entries
 
 -- nothing came
 pub met_none : (rules : Rules) (look : Contents ℕ) (i : Instance ℕ) (entries : Entries) → AddsMet rules look i entries entries
@@ -43,6 +41,11 @@ met_then rules look i first next last a b c j circle none kept = by (kept_values
     by (Some v) is = a c j circle none (is_there (kept_values next j) v is)
 
 module _ {E : Type 0} (rules : Rules) (s : Shown) (exact : Bool) (i : Instance ℕ) (r : Result Answer E) where
+  kept_for : (x : Result Answer E) (entries : Entries) → IfOk x (λ a. Answers (contents s) (meaning rules) i (answer_view a)) →
+      IfOk x (λ a. HasWorthyFor rules (contents s) i (answer_view a) entries) → IfOk x (IsKeptFor rules s i entries)
+  kept_for (Ok a) entries answers all = (answers, all)
+  kept_for (Err e) entries answers all = tt
+
   -- by what came, where it is right and all that is worth keeping is kept
   pub answered_by : (old new : Entries) (w x : ℕ) → Gains rules s exact i old new [] [] w x →
       IfOk r (λ a. Answers (contents s) (meaning rules) i (answer_view a)) →
@@ -56,8 +59,8 @@ module _ {E : Type 0} (rules : Rules) (s : Shown) (exact : Bool) (i : Instance �
     spare = λ whole. g.spare;
     all = all;
     counts = g.counts;
-    work = λ k spare. IfOk-weaker r _ _ (λ a h ends. work_is rules (contents s) i old new w x (g.counts k) g.worthy
-        (worthy_ended rules s i (answer_view a) new h ends)) (all k spare);
+    work = λ k spare. IfOk-weaker r _ _ (λ a h. work_is rules (contents s) i (answer_view a) old new w x (g.counts k) g.worthy (met k spare) h.0 h.1)
+        (kept_for r new answers (all k spare));
     right = g.stays;
     plain = g.known.plain;
   }
@@ -70,15 +73,17 @@ module _ {E : Type 0} (rules : Rules) (s : Shown) (exact : Bool) (i : Instance �
       let worthy : AddsWorthy rules (contents s) i old new = worthy_then rules (contents s) i old mid new g.worthy
       h.worthy in
       let counts = λ (k : IsTrue exact). counts_more old mid new w x y (g.counts k) (h.counts k) in
+      let all_met : IsTrue exact → AreSpare rules (contents s) old → AddsMet rules (contents s) i old new =
+      λ k spare. met_then rules (contents s) i old mid new (met spare) (h.met k (g.spare k spare)) in
       record {
         answers = h.answers;
         worthy = worthy;
-        met = λ k spare. met_then rules (contents s) i old mid new (met spare) (h.met k (g.spare k spare));
+        met = all_met;
         spare = λ whole k spare. h.spare whole k (g.spare k spare);
         all = λ k spare. h.all k (g.spare k spare);
         counts = counts;
-        work = λ k spare. IfOk-weaker r _ _ (λ a all ends. work_is rules (contents s) i old new w y (counts k) worthy
-            (worthy_ended rules s i (answer_view a) new all ends)) (h.all k (g.spare k spare));
+        work = λ k spare. IfOk-weaker r _ _ (λ a h. work_is rules (contents s) i (answer_view a) old new w y (counts k) worthy (all_met k spare) h.0 h.1)
+            (kept_for r new h.answers (h.all k (g.spare k spare)));
         right = λ there right. h.right there (g.stays there right);
         plain = h.plain;
       }
