@@ -35,7 +35,7 @@ use Rattle.at_demand.specs.declared.question.Question.{Question}
 use Rattle.at_engine.specs.Engines.{rules_of, state_of, IsHeld, IsSound, IsTyped}
 use Rattle.at_engine.specs.Holding.{IsBegunFor, words_verdict}
 use Rattle.at_engine.specs.Keeping.{IsSpare}
-use Rattle.at_engine.specs.Posted.{came_to, posted_view, turns_given}
+use Rattle.at_engine.specs.Posted.{came_to, posted_view, turns_given, IsRenewed}
 use Rattle.at_engine.specs.Telling.{IsAnswerTo}
 use Rattle.at_engine.specs.declared.engine.Engine.{Engine}
 use Rattle.at_engine.specs.declared.engine.saying.Told.{Told}
@@ -64,6 +64,12 @@ pub record TakesOut (position : ℕ) (old new : Posts) (taken : Option Question)
 pub record PutsBack (position : ℕ) (old new : Posts) (q : Question) : Type 0 where
   pub count : new.count ≡ old.count
   pub there : (p : Posted) → StandsAt old.items.items position p → Reopens position old new p (Some q)
+  pub none : slice_get old.items.items position ≡ None → new.items.items ≡ old.items.items
+
+-- The question at the position has begun anew; where none stands there, all is as it was.
+pub record Renews (look : ℕ → Option Node) (position : ℕ) (old new : Posts) : Type 0 where
+  pub count : new.count ≡ old.count
+  pub renewed : (p : Posted) → slice_get old.items.items position ≡ Some p → IsRenewed look position p old.items.items new.items.items
   pub none : slice_get old.items.items position ≡ None → new.items.items ≡ old.items.items
 
 -- the question for the instance stands for that search, which is posted where nothing was done for it

@@ -5,7 +5,7 @@ ghost use Rattle.std.specs.Option.{option_map};
 ghost use Rattle.at_model.specs.Alike.{ListLike};
 ghost use Rattle.at_model.specs.Lines.{last_post};
 ghost use Rattle.at_store.specs.Shown.{path};
-ghost use Rattle.at_engine.specs.Posted.{is_numbered, turns_given, IsBegunAnew, IsRenewed};
+ghost use Rattle.at_engine.specs.Posted.{is_numbered, turns_given, IsBegunAnew};
 
 use crate::marks::Noted;
 use crate::nodes::Nodes;
@@ -78,7 +78,7 @@ pub struct Posts {
 }
 
 impl Posts {
-    ghost use Rattle.at_engine.specs.Turning.{PutsBack, TakesOut};
+    ghost use Rattle.at_engine.specs.Turning.{PutsBack, Renews, TakesOut};
 
     /// None, and none was posted.
     pub fn new(alloc: Global) -> Posts
@@ -198,10 +198,7 @@ impl Posts {
 
     /// Drops what was done for the question at the position, and forgets its marks of nodes that are gone.
     fn renew(&mut self, position: usize, there: &Nodes<'_>)
-        ensures count { self.new.count ≡ self.old.count }
-        ensures renewed { (p : Posted) → slice_get self.old.items.items position ≡ Some p
-            → IsRenewed (path there.now.store.now) position p self.old.items.items self.new.items.items }
-        ensures none { slice_get self.old.items.items position ≡ None → self.new.items.items ≡ self.old.items.items }
+        ensures { Renews (path there.now.store.now) position self.old self.new }
     {
         if let Some(posted) = self.items.get_mut(position) {
             posted.begin_anew(there);
