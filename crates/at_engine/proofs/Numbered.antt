@@ -1,29 +1,23 @@
 -- What the numbers of a store stand for, in questions.
-use Rattle.std.proofs.Common.{◌⊎◌, ℕ, nat_eq, inl, inr}
+use Rattle.std.proofs.Common.{ℕ, nat_eq}
 use Rattle.at_model.specs.Paths.{Node, node_eq}
-use Rattle.at_model.specs.Run.{Instance, Location, Contents}
+use Rattle.at_model.specs.Run.{Instance, Location}
 use Rattle.at_model.specs.Rules.{Rules}
-use Rattle.at_model.specs.Trees.{Tree}
-use Rattle.at_model.specs.Meaning.{Answer, Outcome, Outcomes, Circle, content}
+use Rattle.at_model.specs.Meaning.{Answer, content}
 use Rattle.at_model.specs.Machine.{AnswersIn}
-use Rattle.at_model.specs.Alike.{AlikeAt, AnswerLike, InstanceLike, Names, circle, outcome}
+use Rattle.at_model.specs.Alike.{AlikeAt, AnswerLike, InstanceLike, Names}
 use Rattle.at_model.specs.of_fixpoints.Circles.{Answers}
 use Rattle.at_model.specs.of_fixpoints.Evaluations.{forms}
 use Rattle.at_model.proofs.Nodes.{same_like, nat_eq-is, node_eq-is}
 use Rattle.at_model.proofs.of_formulas.CarriedSearches.{answer_there}
-use Rattle.at_model.proofs.of_formulas.ClosedOnce.{not_both}
 use Rattle.at_model.proofs.of_formulas.FormulasAlike.{evaluation-like}
 use Rattle.at_model.proofs.of_likeness.CarryingCircles.{names_agree}
-use Rattle.at_rules.specs.Circular.{HasNoneCircular}
 use Rattle.at_store.specs.Memory.{class_in}
 use Rattle.at_store.specs.Shown.{IsIdle, Shown, contents, numbers, path, tree}
 use Rattle.at_store.specs.View.{memory_of}
 use Rattle.at_store.proofs.Found.{path_injective}
 use Rattle.at_store.proofs.Relabelled.{contents_alike}
-use Rattle.at_cache.specs.Kept.{Entries}
-use Rattle.at_demand.specs.Answered.{HasWorthyFor}
 use Rattle.at_demand.specs.Known.{meaning}
-use Rattle.at_demand.specs.Sparing.{HasWorthy}
 
 -- what is shown at a number is what the tree shows at its node
 pub shown_alike : (s : Shown) → IsIdle s → (l : Location ℕ) → AlikeAt (Names (path s)) (contents s) (content (tree s)) l
@@ -38,12 +32,3 @@ answer_named rules s idle i q a like h =
     answer_there (names_agree (path s) one) (contents s) (content (tree s)) (meaning rules) (forms rules)
     (evaluation-like rules nat_eq node_eq (same_like nat_eq node_eq nat_eq-is node_eq-is (path s) one)) i q a like
     (λ l u. shown_alike s idle l) h
-
--- where the question has an outcome, or no attribute is circular, all that is worth keeping is kept
-pub worthy_outcome : {R : ℕ → Node → Type 0} (rules : Rules) (t : Tree) (q : Instance Node) (look : Contents ℕ) (i : Instance ℕ) (entries : Entries)
-    (a : Answer ℕ) (b : Answer Node) → AnswerLike R a b → AnswersIn rules t q b → HasWorthyFor rules look i a entries
-    → HasNoneCircular rules ⊎ ((o : Outcome Node) × AnswersIn rules t q (Outcomes o)) → HasWorthy rules look i entries
-worthy_outcome rules t q look i entries _ _ (outcome l) answers h has = h
-worthy_outcome rules t q look i entries _ _ (circle {j = k} l) answers h (inl none) = h.0 none
-worthy_outcome rules t q look i entries _ _ (circle {j = k} l) answers h (inr (o, holds)) =
-    absurd (not_both (content t) (forms rules) q k o holds answers)

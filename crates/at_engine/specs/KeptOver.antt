@@ -1,5 +1,5 @@
 -- What lines do to what is kept, and to the work: one line with its verdict, and lines one after the other in the words of `at_model`.
-use Rattle.std.specs.Prelude.{◌≡◌, ◌⊎◌, ◌↔◌, ℕ, ◌+◌, ◌-◌, ◌^◌, ◌<◌, min, false, List, [], ◌∷◌, length, Option}
+use Rattle.std.specs.Prelude.{◌≡◌, ◌↔◌, ℕ, ◌+◌, ◌-◌, ◌^◌, ◌<◌, min, false, List, length, Option}
 use Rattle.std.specs.List.{AllByRecursion}
 use Rattle.at_model.specs.Effects.{is_post}
 use Rattle.at_model.specs.Paths.{Node}
@@ -10,7 +10,7 @@ use Rattle.at_model.specs.Lines.{Line, Spells}
 use Rattle.at_model.specs.Machine.{State, Verdict, Refuses, Tells, Leaves, Edits, Asks, Posts, Waits, verdict}
 use Rattle.at_model.specs.Replies as code
 use Rattle.at_model.specs.Sparing.{IsWorthKeeping}
-use Rattle.at_model.specs.Keeping.{heard, state_after, KeptOver, IsTotalWork, max_work}
+use Rattle.at_model.specs.Keeping.{state_after, KeptOver, IsTotalWork, max_work}
 use Rattle.at_model.specs.Working.{AreHeard}
 
 -- What was kept stays, what comes beside it is worth it, and the work grows by the number of what comes, up to the greatest

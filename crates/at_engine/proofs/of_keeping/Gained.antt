@@ -1,13 +1,11 @@
 -- What a question adds to what is kept where it isn't answered, by the paths of nodes.
-use Rattle.std.proofs.Common.{◌≡◌, ◌⊎◌, ℕ, ◌+◌, ◌-◌, ◌^◌, min, Option, Some, None, inl, inr, refl, sym, ap, ◌∙◌, subst, true≢false}
+use Rattle.std.proofs.Common.{◌≡◌, ◌⊎◌, ℕ, ◌+◌, ◌-◌, ◌^◌, min, Option, Some, None, inl, inr, refl, sym, ap, ◌∙◌, subst}
 use Rattle.std.specs.Prelude.{IsSome}
-use Rattle.at_model.specs.Machine.{Asks, State}
 use Rattle.at_model.specs.Paths.{Node}
 use Rattle.at_model.specs.Run.{Value, Instance, Location}
 use Rattle.at_model.specs.Rules.{Rules}
-use Rattle.at_model.specs.Meaning.{Among, Answer, Circle, Outcomes, content}
+use Rattle.at_model.specs.Meaning.{Among, content}
 use Rattle.at_model.specs.Alike.{InstanceLike, Names, IsInjective, AlikeAt}
-use Rattle.at_model.specs.of_fixpoints.Circles.{Answers}
 use Rattle.at_model.specs.Sparing.{IsWorthKeeping}
 use Rattle.at_store.specs.Shown.{Shown, IsIdle, contents, numbers, path, tree}
 use Rattle.at_store.specs.Memory.{class_in}
@@ -15,28 +13,22 @@ use Rattle.at_store.specs.View.{memory_of}
 use Rattle.at_store.proofs.Found.{path_injective}
 use Rattle.at_store.proofs.Relabelled.{contents_alike}
 use Rattle.at_cache.specs.Kept.{Entries}
-use Rattle.at_demand.proofs.of_keeping.CalledMet.{called_met, called_only}
-use Rattle.at_demand.specs.Answered.{AddsMet, HasWorthyFor, HasWorthyMet}
-use Rattle.at_demand.specs.Known.{kept_values, meaning, IsKept}
+use Rattle.at_demand.specs.Answered.{AddsMet}
+use Rattle.at_demand.specs.Known.{kept_values, IsKept}
 use Rattle.at_demand.specs.Sparing.{AddsWorthy, Counts}
 use Rattle.at_demand.specs.Called.{KeptBy}
 use Rattle.at_demand.proofs.of_keeping.CalledAsked.{one_number, one_path, worth_on}
-use Rattle.at_engine.specs.Keeping.{KeepsMet}
 use Rattle.at_engine.specs.KeptOver.{Grows}
-use Rattle.at_demand.proofs.Entered.{kept_on}
+use Rattle.at_demand.proofs.Counting.{came_worth}
+use Rattle.at_demand.proofs.Entered.{kept_on, not_none}
 use Rattle.at_demand.proofs.Naming.{name_all}
-use Rattle.at_model.specs.Trees.{Tree}
 
 -- kept or not
 kept_or_not : (o : Option (Value ℕ)) → IsSome o ⊎ (o ≡ None)
 kept_or_not None = inr refl
 kept_or_not (Some v) = inl refl
 
-not_both_kept : (o : Option (Value ℕ)) → o ≡ None → IsSome o → ⊥
-not_both_kept None e some = absurd (true≢false (sym some))
-not_both_kept (Some v) e some = absurd cc
-
-module _ (rules : Rules) (s : Shown) (idle : IsIdle s) (q : Instance ℕ) (p : Instance Node) (asked : InstanceLike (Names (path s)) q p) (old new : Entries) (w x : ℕ) (adds : AddsWorthy rules (contents s) q old new) (counts : Counts old new w x) where
+module _ (rules : Rules) (s : Shown) (idle : IsIdle s) (q : Instance ℕ) (p : Instance Node) (asked : InstanceLike (Names (path s)) q p) (old new : Entries) (w x : ℕ) (adds : AddsWorthy rules (contents s) q old new) (met : AddsMet rules (contents s) q old new) (counts : Counts old new w x) where
   once : IsInjective (path s)
   once = path_injective (numbers s)
 
@@ -44,7 +36,10 @@ module _ (rules : Rules) (s : Shown) (idle : IsIdle s) (q : Instance ℕ) (p : I
   alike = contents_alike (class_in (memory_of s.slab)) (numbers s) idle.keeps.apart
 
   worthy : (i : Instance ℕ) → Among i counts.0 → (j : Instance Node) × InstanceLike (Names (path s)) i j × IsWorthKeeping rules (tree s) p j
-  worthy i h = let y = (counts.1.exactly i).0 h in worth_on rules (contents s) (tree s) (path s) once alike q p asked i (adds.worthy i y.1 y.0)
+  worthy i h =
+      let y = (counts.1.exactly i).0 h in
+      worth_on rules (contents s) (tree s) (path s) once alike q p asked i
+      (came_worth rules (contents s) q old new adds met i y.1 y.0)
 
   path_is : (i : Instance ℕ) (j k : Instance Node) → InstanceLike (Names (path s)) i j → InstanceLike (Names (path s)) i k → j ≡ k
   path_is = one_path rules (contents s) (tree s) (path s) once alike
@@ -60,34 +55,9 @@ module _ (rules : Rules) (s : Shown) (idle : IsIdle s) (q : Instance ℕ) (p : I
         gained = js;
         distinct = c.distinct counts.1.distinct;
         exactly = λ j. (
-          λ h. (let (i, a, u) = c.of_one j h in let y = (counts.1.exactly i).0 a in ((i, y.0, u), λ (m, some, v). not_both_kept (kept_values old i) y.1 (subst (IsKept old) (number_is m i j v u) some))),
+          λ h. (let (i, a, u) = c.of_one j h in let y = (counts.1.exactly i).0 a in ((i, y.0, u), λ (m, some, v). not_none (kept_values old i) (subst (IsKept old) (number_is m i j v u) some) y.1)),
           λ ((i, some, u), none). elim (kept_or_not (kept_values old i)) [ inl was ↦ absurd (none (i, was, u)) | inr new ↦ c.each i j ((counts.1.exactly i).1 (some, new)) u ],
         );
         worth = λ j h. (let (i, a, u) = c.of_one j h in let (k, v, worth) = worthy i a in subst (IsWorthKeeping rules (tree s) p) (path_is i k j v u) worth);
         grows = λ small. counts.2 ∙ ap (λ n. min (w + n) (2 ^ 64 - 1)) (sym c.size);
       }
-
-worthy_met : (rules : Rules) (s : Shown) (q : Instance ℕ) (a : Answer ℕ) (entries : Entries) → HasWorthyFor rules (contents s) q a entries →
-    HasWorthyMet rules (contents s) q entries
-worthy_met rules s q (Outcomes o) entries h = λ i w m. h i w
-worthy_met rules s q (Circle j) entries h = h.1
-
--- all that is worth keeping, and that the search has met, is kept by paths, and what came was met
-pub met_asked : (rules : Rules) (s : Shown) → IsIdle s → (q : Instance ℕ) (p : Instance Node) → InstanceLike (Names (path s)) q p →
-    (before after : Entries) (a : Answer ℕ) → Answers (contents s) (meaning rules) q a → HasWorthyFor rules (contents s) q a after →
-    AddsMet rules (contents s) q before after → (state : State) → state.tree ≡ tree s →
-    KeepsMet rules state p (KeptBy s before) (KeptBy s after)
-met_asked rules s idle q p asked before after a answers h adds state same =
-    let P : Tree → Type 0 = λ t. KeepsMet rules (record state { tree = t }) p (KeptBy s before) (KeptBy s after) in
-    let once : IsInjective (path s) = path_injective (numbers s) in
-    let alike : (l : Location ℕ) → AlikeAt (Names (path s)) (contents s) (content (tree s)) l =
-    contents_alike (class_in (memory_of s.slab)) (numbers s) idle.keeps.apart in
-    subst P (sym same) (record {
-      all = called_met rules (contents s) (tree s) (path s) once alike after q p asked (worthy_met rules s q a after h);
-      only = called_only rules (contents s) (tree s) (path s) once alike q p asked before after adds a answers;
-    })
-
--- so it is for the question that the verdict is
-pub asked_met : (rules : Rules) (state : State) (q p : Instance Node) → Asks q ≡ Asks p → (Was Kept : Instance Node → Type 0) →
-    KeepsMet rules state q Was Kept → KeepsMet rules state p Was Kept
-asked_met rules state q p is Was Kept h = let same : q ≡ p = cc in subst (λ z. KeepsMet rules state z Was Kept) same h

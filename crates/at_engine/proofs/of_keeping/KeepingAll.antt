@@ -11,7 +11,7 @@ use Rattle.at_model.specs.Sparing.{KeptAfter, IsWork}
 use Rattle.at_model.specs.Keeping.{heard, state_after, IsHeard, KeptOver, AreWorks, IsTotalWork, max_work}
 use Rattle.at_model.specs.Working.{AreHeard}
 use Rattle.at_demand.specs.Called.{Keeps}
-use Rattle.at_engine.specs.KeptOver.{HasOutcome, HasVerdict, HaveOutcomes, obeys, refuses, KeepsHeard, KeepsLines}
+use Rattle.at_engine.specs.KeptOver.{HasVerdict, obeys, refuses, KeepsHeard, KeepsLines}
 
 through : {A B C : Type 0} → A ↔ B → B ↔ C → A ↔ C
 through f g = (λ a. g.0 (f.0 a), λ c. f.1 (g.1 c))
@@ -103,12 +103,6 @@ sums w x y a b small e f = let below : x < 2 ^ 64 = omega (arith, e) in omega (a
 turned : {A B : Type 0} → A ↔ B → B ↔ A
 turned f = (f.1, f.0)
 
--- the first lines have outcomes, and the others behind them
-outcomes_append : (rules : Rules) (ls ms : List (Option Line)) (s : State) → HaveOutcomes rules s (ls ++ ms)
-    → HaveOutcomes rules s ls × HaveOutcomes rules (state_after rules s ls) ms
-outcomes_append rules [] ms s h = (tt, h)
-outcomes_append rules (l ∷ ls) ms s h = let (first, rest) = outcomes_append rules ls ms (after s (heard rules s l)) h.1 in ((h.0, first), rest)
-
 module _ (rules : Rules) (old : State) (ls ms : List (Option Line)) (First Then Last : Instance Node → Type 0) (w x y : ℕ) where
   heard_on : KeepsHeard rules old ls First Then w x → KeepsHeard rules (state_after rules old ls) ms Then Last x y
       → KeepsHeard rules old (ls ++ ms) First Last w y
@@ -128,9 +122,7 @@ keeps_on rules old mid new ls ms First Then Last w x y p q = record {
   spelled = p.spelled ++ q.spelled;
   are_heard = heard_append ls ms p.spelled q.spelled p.are_heard q.are_heard;
   state = q.state ∙ sym (state_after-append rules p.spelled q.spelled old);
-  keeps = λ have.
-      let (first, rest) = outcomes_append rules p.spelled q.spelled old have in
-      heard_on rules old p.spelled q.spelled First Then Last w x y (p.keeps first) (q.keeps rest);
+  keeps = heard_on rules old p.spelled q.spelled First Then Last w x y p.keeps q.keeps;
 }
 
 pub keeps_append : (rules : Rules) (old mid new : State) (ls ms : List (List ℕ)) (First Then Last : Instance Node → Type 0) (w x y : ℕ) → KeepsLines rules old ls mid First Then w x → KeepsLines rules mid ms new Then Last x y → KeepsLines rules old (ls ++ ms) new First Last w y
@@ -142,41 +134,37 @@ keeps_nothing rules s Kept w = record {
   spelled = [];
   are_heard = tt;
   state = refl;
-  keeps = λ have. record { kept = λ j. (λ h. h, λ h. h); added = 0; is_work = ([], tt, refl); grows = λ small. omega (arith, small) };
+  keeps = record { kept = λ j. (λ h. h, λ h. h); added = 0; is_work = ([], tt, refl); grows = λ small. omega (arith, small) };
 }
 
 -- one line
 one_heard : (rules : Rules) (old new : State) (line : List ℕ) (l : Option Line) (before later : Instance Node → Type 0) (w x : ℕ)
-    → IsHeard line l → new ≡ after old (heard rules old l)
-    → (HasOutcome rules old (heard rules old l) → Keeps rules old (heard rules old l) before later w x)
+    → IsHeard line l → new ≡ after old (heard rules old l) → Keeps rules old (heard rules old l) before later w x
     → KeepsLines rules old (line ∷ []) new before later w x
-one_heard rules old new line l before later w x is state keeps = record {
+one_heard rules old new line l before later w x is state k = record {
   spelled = l ∷ [];
   are_heard = (is, tt);
   state = state;
-  keeps = λ have. as_heard (keeps have.0);
+  keeps = record {
+    kept = k.kept;
+    added = min k.more max_work;
+    is_work = (k.more ∷ [], (k.is_work, tt), ap (λ n. min n max_work) (alone k.more));
+    grows = λ small. omega (arith, k.grows small);
+  };
 }
   where
     alone : (n : ℕ) → n ≡ 0 + n
     alone n = omega arith
 
-    as_heard : Keeps rules old (heard rules old l) before later w x → KeepsHeard rules old (l ∷ []) before later w x
-    as_heard k = record {
-      kept = k.kept;
-      added = min k.more max_work;
-      is_work = (k.more ∷ [], (k.is_work, tt), ap (λ n. min n max_work) (alone k.more));
-      grows = λ small. omega (arith, k.grows small);
-    }
-
 pub keeps_one : (rules : Rules) (old new : State) (line : List ℕ) (v : Verdict) (before later : Instance Node → Type 0) (w x : ℕ)
-    → HasVerdict rules old line v → new ≡ after old v → (HasOutcome rules old v → Keeps rules old v before later w x)
+    → HasVerdict rules old line v → new ≡ after old v → Keeps rules old v before later w x
     → KeepsLines rules old (line ∷ []) new before later w x
 keeps_one rules old new line v before later w x has state keeps = by has
   where
     heard_so : (l : Option Line) → IsHeard line l → v ≡ heard rules old l → KeepsLines rules old (line ∷ []) new before later w x
     heard_so l is e =
         one_heard rules old new line l before later w x is (state ∙ ap (after old) e)
-        (subst (λ (u : Verdict). HasOutcome rules old u → Keeps rules old u before later w x) e keeps)
+        (subst (λ (u : Verdict). Keeps rules old u before later w x) e keeps)
 
     by : HasVerdict rules old line v → KeepsLines rules old (line ∷ []) new before later w x
     by (obeys l spells e) = heard_so (Some l) spells e

@@ -89,7 +89,7 @@ module _ {K : Type 0} (entries : K → Entries) where
   pub all_one : (old new : Engine K) (front line : List ℕ) → line ≡ kept front → KeepsLine entries line old new → KeepsAll entries (front ∷ []) old new
   all_one old new front line is k =
       let has = verdict_kept (rules_of old) (state_of old) front k.becomes (subst (λ (l : List ℕ). HasVerdict (rules_of old) (state_of old) l k.becomes) is k.is_verdict) in
-      keeps_one (rules_of old) (state_of old) (state_of new) front k.becomes (kept_of entries old) (kept_of entries new) (work_of old) (work_of new) has k.state k.keeps.0
+      keeps_one (rules_of old) (state_of old) (state_of new) front k.becomes (kept_of entries old) (kept_of entries new) (work_of old) (work_of new) has k.state k.keeps
 
   pub filled_one : (old new : Engine K) (front line : List ℕ) → is_filled front ≡ true → line ≡ kept front → KeepsLine entries line old new → KeepsAll entries (filter is_filled (front ∷ [])) old new
   filled_one old new front line filled is k = subst (λ (ls : List (List ℕ)). KeepsAll entries ls old new) (sym (one_line front filled)) (all_one old new front line is k)

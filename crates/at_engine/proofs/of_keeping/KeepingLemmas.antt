@@ -33,8 +33,8 @@ use Rattle.at_demand.specs.Groups.{KeepsGroups}
 use Rattle.at_demand.specs.declared.demand.Demand.{Demand}
 use Rattle.at_engine.specs.Engines.{rules_of, state_of}
 use Rattle.at_engine.specs.Following.{Follows, IsAtOnce}
-use Rattle.at_engine.specs.KeptOver.{AreWaiting, Grows, HasOutcome, HasVerdict, obeys, refuses, IsWorthFor, IsWorthIn}
-use Rattle.at_engine.specs.Keeping.{AreAtOnce, GrowsLine, GrowsOver, IsSpare, IsSpareWith, KeepsLine, KeepsMet, KeepsOver, KeepsServed, KeepsWhole, Spares, SparesLine, SparesVerdict, kept_of, work_of}
+use Rattle.at_engine.specs.KeptOver.{AreWaiting, Grows, HasVerdict, obeys, refuses, IsWorthFor, IsWorthIn}
+use Rattle.at_engine.specs.Keeping.{AreAtOnce, GrowsLine, GrowsOver, IsSpare, IsSpareWith, KeepsLine, KeepsOver, KeepsServed, KeepsWhole, Spares, SparesLine, SparesVerdict, kept_of, work_of}
 use Rattle.at_engine.specs.Hearing.{Hears, at_once, by_turns}
 use Rattle.at_engine.specs.Telling.{IsToldFor, IsToldOf, Meets}
 use Rattle.at_engine.specs.declared.engine.Engine.{Engine}
@@ -83,12 +83,10 @@ module _ {K : Type 0} (entries : K → Entries) (old new : Engine K) (same_numbe
       (subst (IsSpareWith old.rules (contents old.store) (entries old.demand.keeper)) (sym same_posts) h)))
 
   keeps_over : (v : Verdict) → IsQuiet v → KeepsOver entries v old new
-  keeps_over v quiet = (
-    λ has. subst (λ w. Keeps (rules_of old) (state_of old) v (kept_of entries old) (kept_of entries new) (work_of old) w)
-        (sym (ap (λ (d : Demand K). d.work) same_demand))
-        (quiet_keeps (rules_of old) (state_of old) v (kept_of entries old) (kept_of entries new) (work_of old) quiet kept_stays),
-    λ q is. absurd (subst IsQuiet is quiet),
-  )
+  keeps_over v quiet =
+      subst (λ w. Keeps (rules_of old) (state_of old) v (kept_of entries old) (kept_of entries new) (work_of old) w)
+      (sym (ap (λ (d : Demand K). d.work) same_demand))
+      (quiet_keeps (rules_of old) (state_of old) v (kept_of entries old) (kept_of entries new) (work_of old) quiet kept_stays)
 
   grows_over : (IsWorth : Instance Node → Type 0) → Grows IsWorth (kept_of entries old) (kept_of entries new) (work_of old) (work_of new)
   grows_over IsWorth =
@@ -173,11 +171,20 @@ module _ {K : Type 0} (entries : K → Entries) (e : Engine K) (v : Verdict) (sp
   pub failed_spares : (HasNoneCircular (rules_of e) → IsSpare entries e) × GrowsOver entries v e e
   failed_spares = (λ none. spare, grows_over entries e e refl refl refl refl (IsWorthFor (rules_of e) (state_of e) v))
 
--- what is done for a verdict, told or not
-pub either_spares : {K T E : Type 0} (entries : K → Entries) (old new : Engine K) (v : Verdict) (r : Result T E) → (KeepsGroups (rules_of old) r → IsSpare entries new) → KeepsOver entries v old new
-    → GrowsOver entries v old new → Spares entries v r old new
-either_spares entries old new v (Ok x) spare keeps grows = (spare tt, keeps)
-either_spares entries old new v (Err e) spare keeps grows = (spare, grows)
+-- what a verdict leaves and adds, unless it is an edit
+grows_so : {K : Type 0} (entries : K → Entries) (old new : Engine K) (v : Verdict) → ((e : EditOf) (t : Tree) → v ≡ Edits e t → ⊥)
+    → KeepsOver entries v old new → GrowsOver entries v old new
+grows_so entries old new v off k =
+    kept_grows (rules_of old) (state_of old) v (kept_of entries old) (kept_of entries new) (work_of old) (work_of new) k.more off k.kept k.is_work k.grows
+
+no_edit : (q : Instance Node) (e : EditOf) (t : Tree) → Asks q ≡ Edits e t → ⊥
+no_edit q e t is = absurd cc
+
+-- what is done for a question, told or not
+pub asked_spares : {K T E : Type 0} (entries : K → Entries) (old new : Engine K) (q : Instance Node) (r : Result T E)
+    → (KeepsGroups (rules_of old) r → IsSpare entries new) → KeepsOver entries (Asks q) old new → Spares entries (Asks q) r old new
+asked_spares entries old new q (Ok x) spare keeps = (spare tt, keeps)
+asked_spares entries old new q (Err e) spare keeps = (spare, grows_so entries old new (Asks q) (no_edit q) keeps)
 
 pub err_spares : {K T E : Type 0} (entries : K → Entries) (old new : Engine K) (v : Verdict) (r : Result T E) (e : E) → r ≡ Err e → (HasNoneCircular (rules_of old) → IsSpare entries new) × GrowsOver entries v old new → Spares entries v r old new
 err_spares {K} {T} {E} entries old new v r e is spares = subst (λ (x : Result T E). Spares entries v x old new) (sym is) spares
@@ -189,10 +196,6 @@ turned_spares entries old new v w r same spares = subst (λ (y : Verdict). Spare
 -- an edit that is done has no work
 pub edited_keeps : (rules : Rules) (s : State) (v : Verdict) (e : EditOf) (t : Tree) (before after : Instance Node → Type 0) (w x : ℕ) → v ≡ Edits e t → Keeps rules s (Edits e t) before after w w → x ≡ w → Keeps rules s v before after w x
 edited_keeps rules s v e t before after w x is keeps same = subst (λ n. Keeps rules s v before after w n) (sym same) (subst (λ (y : Verdict). Keeps rules s y before after w w) (sym is) keeps)
-
--- it is no question
-pub not_asked : (e : EditOf) (t : Tree) (q : Instance Node) → Edits e t ≡ Asks q → ⊥
-not_asked e t q is = absurd cc
 
 -- what is spare where the line waits
 pub waited_spares : {K T E : Type 0} (entries : K → Entries) (old new : Engine K) (v : Verdict) (r : Result T E) (number : ℕ) → v ≡ Waits number → (KeepsGroups (rules_of old) r → IsSpare entries new) → SparesVerdict entries v r old new
@@ -257,31 +260,6 @@ not_edited s v e t same is = let n : s.version ≡ s.version + 1 = ap (λ (x : S
 worth_in : (rules : Rules) (s : State) (bytes : List ℕ) (v : Verdict) → HasVerdict rules s bytes v → (j : Instance Node) → IsWorthFor rules s v j → IsWorthIn rules s bytes j
 worth_in rules s bytes v (obeys l spells is) j worth = (l, spells, subst (λ (y : Verdict). IsWorthFor rules s y j) is worth)
 worth_in rules s bytes v (refuses none is) j worth = absurd (subst (λ (y : Verdict). IsWorthFor rules s y j) is worth)
-
--- what a verdict leaves and adds, unless it is an edit
-grows_so : {K : Type 0} (entries : K → Entries) (old new : Engine K) (v : Verdict) → ((e : EditOf) (t : Tree) → v ≡ Edits e t → ⊥)
-    → KeepsOver entries v old new → GrowsOver entries v old new
-grows_so entries old new v off k = by v off k.0 k.1
-  where
-    kept : (v : Verdict) → ((e : EditOf) (t : Tree) → v ≡ Edits e t → ⊥)
-        → Keeps (rules_of old) (state_of old) v (kept_of entries old) (kept_of entries new) (work_of old) (work_of new)
-        → GrowsOver entries v old new
-    kept v off k = kept_grows (rules_of old) (state_of old) v (kept_of entries old) (kept_of entries new) (work_of old) (work_of new) k.more
-        off k.kept k.is_work k.grows
-
-    by : (v : Verdict) → ((e : EditOf) (t : Tree) → v ≡ Edits e t → ⊥)
-        → (HasOutcome (rules_of old) (state_of old) v
-        → Keeps (rules_of old) (state_of old) v (kept_of entries old) (kept_of entries new) (work_of old) (work_of new))
-        → ((q : Instance Node) → v ≡ Asks q
-        → GrowsOver entries v old new × KeepsMet (rules_of old) (state_of old) q (kept_of entries old) (kept_of entries new)) →
-        GrowsOver entries v old new
-    by (Refuses refusal) off keeps grows = kept (Refuses refusal) off (keeps tt)
-    by (Tells shown) off keeps grows = kept (Tells shown) off (keeps tt)
-    by (Leaves marks) off keeps grows = kept (Leaves marks) off (keeps tt)
-    by (Edits e t) off keeps grows = absurd (off e t refl)
-    by (Asks q) off keeps grows = (grows q refl).0
-    by (Posts q) off keeps grows = kept (Posts q) off (keeps tt)
-    by (Waits number) off keeps grows = kept (Waits number) off (keeps tt)
 
 unwritten : {K : Type 0} (entries : K → Entries) (old new : Engine K) (bytes : List ℕ) → KeepsLine entries bytes old new → state_of new ≡ state_of old → GrowsLine entries bytes old new
 unwritten entries old new bytes k same =

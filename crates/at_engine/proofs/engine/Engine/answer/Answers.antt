@@ -1,16 +1,15 @@
 use Rattle.std.proofs.Common.{refl}
 use Rattle.std.proofs.lemmas.Result.{IfOk-weaker, err_from_is_err_and}
 use Rattle.at_model.specs.Machine.{Asks}
-use Rattle.at_store.specs.Shown.{contents}
 use Rattle.at_demand.specs.Known.{answer_view}
 use Rattle.at_demand.proofs.of_keeping.CalledLemmas.{keeps_asked}
 use Rattle.at_demand.proofs.of_levels.Resolving.{keeps_groups}
 use Rattle.at_engine.specs.Engines.{marks_of, rules_of, state_of}
-use Rattle.at_engine.proofs.of_keeping.Gained.{asked_met, grows_asked, met_asked}
-use Rattle.at_engine.proofs.of_keeping.KeepingLemmas.{either_spares, err_spares}
+use Rattle.at_engine.proofs.of_keeping.Gained.{grows_asked}
+use Rattle.at_engine.proofs.of_keeping.KeepingLemmas.{asked_spares, err_spares}
 use Rattle.at_engine.proofs.of_keeping.KeptTyped.{basis_held, sound_typed, typed_more}
 use Rattle.at_engine.proofs.FollowingLemmas.{asks}
-use Rattle.at_engine.proofs.Numbered.{answer_named, worthy_outcome}
+use Rattle.at_engine.proofs.Numbered.{answer_named}
 use Rattle.at_engine.proofs.Storing.{on_err}
 use Rattle.at_engine.proofs.of_turns.Openings.{sound_grown, spare_grown}
 use Rattle.at_engine.proofs.engine.Engine.answer.Goals as goal
@@ -31,22 +30,11 @@ returns g c q like =
       obeys = IfOk-weaker c.told.result _ _ (λ f told. asks (rules_of e) (state_of e) (Asks q) q b f refl answers told) (c.told.ensures b alike);
       err = on_err c.told.result _ refl;
       spares = λ exact spare.
-          let grows = grows_asked (rules_of e) e.store held.idle c.args.inst.now q like before after e.demand.work new.demand.work
-          told.worthy (told.counts exact) in
-          either_spares k e new (Asks q) c.told.result
+          asked_spares k e new q c.told.result
           (λ whole. spare_grown (rules_of e) e.store before after told.worthy.stays (marks_of e) e.posts held
-          (told.spare tt exact spare.kept) spare) (
-            λ has. keeps_asked (rules_of e) e.store held.idle c.args.inst.now q like before after e.demand.work new.demand.work told.worthy
-                (worthy_outcome (rules_of e) (state_of e).tree q (contents e.store) c.args.inst.now after view b alike answers
-                (told.all exact spare.kept) has)
-                (told.counts exact) (state_of e) refl,
-            λ p is. (
-              grows,
-              asked_met (rules_of e) (state_of e) q p is _ _
-                  (met_asked (rules_of e) e.store held.idle c.args.inst.now q like before after view told.answers
-                  (told.all exact spare.kept) (told.met exact spare.kept) (state_of e) refl),
-            ),
-          ) grows;
+          (told.spare tt exact spare.kept) spare)
+          (keeps_asked (rules_of e) e.store held.idle c.args.inst.now q like before after e.demand.work new.demand.work told.worthy
+          (told.met exact spare.kept) view told.answers (told.all exact spare.kept) (told.counts exact) (state_of e) refl);
       stays = record {
         rules = refl;
         slice = refl;
@@ -75,7 +63,8 @@ returns-in_err-answer g c q like =
       spares = λ exact spare. err_spares k e new (Asks q) c.from_residual.result p.0 p.1 (
         λ none. spare_grown (rules_of e) e.store before after a.worthy.stays (marks_of e) e.posts held
             (a.spare (keeps_groups (rules_of e) c.answer.result none) exact spare.kept) spare,
-        grows_asked (rules_of e) e.store held.idle c.args.inst.now q like before after e.demand.work new.demand.work a.worthy (a.counts exact),
+        grows_asked (rules_of e) e.store held.idle c.args.inst.now q like before after e.demand.work new.demand.work a.worthy
+            (a.met exact spare.kept) (a.counts exact),
       );
       stays = record {
         rules = refl;
