@@ -65,6 +65,7 @@ mod seating;
 mod settling;
 mod shedding;
 mod slots;
+mod sorting;
 mod standing;
 mod stored;
 mod stretch;
