@@ -1,4 +1,4 @@
-use Rattle.at_demand.proofs.of_searches.Deciding.{demand_decided}
+use Rattle.at_model.proofs.of_searching.Deciding.{demand_decided}
 use Rattle.at_demand.proofs.turning_laws.what_is_looked_at_is_decided.Goals as goal
 
 pub returns : goal.returns
