@@ -19,6 +19,10 @@ slots_at lists s = elim (slice_get lists s) [ None ↦ [] | Some v ↦ v.items ]
 abbrev pub AreTaken : Memory → (slots : List ℕ) → Type 0
 AreTaken m slots = (s : ℕ) (e : Info) → m s ≡ Some e → Contains slots s
 
+-- each of these stands at one place
+abbrev pub AreOnce : List ℕ → Type 0
+AreOnce slots = (i j s : ℕ) → slice_get slots i ≡ Some s → slice_get slots j ≡ Some s → i ≡ j
+
 -- an entry that is folded into itself stays
 abbrev pub Stays : (into : ℕ → List ℕ) → ℕ → Type 0
 Stays into s = Contains (into s) s

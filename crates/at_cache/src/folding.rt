@@ -7,7 +7,7 @@ ghost use Rattle.std.specs.Prelude.{◌≡◌, ℕ, Contains, IfOk, IsTrue, List
 ghost use Rattle.std.specs.List.{list_any};
 ghost use Rattle.at_cache.specs.Asking.{AreNoted};
 ghost use Rattle.at_cache.specs.Finding.{edges_to};
-ghost use Rattle.at_cache.specs.Folding.{AreTaken, LeavesKept, slots_at};
+ghost use Rattle.at_cache.specs.Folding.{AreOnce, AreTaken, LeavesKept, slots_at};
 ghost use Rattle.at_cache.specs.Info.{memory_of};
 ghost use Rattle.at_cache.specs.Recorded.{IsIndexed, kept_in};
 ghost use Rattle.at_cache.specs.Shedding.{AreHeld, FoldsHeld};
@@ -68,7 +68,8 @@ pub fn does_stay(plan: &[Links], slot: Slot) -> bool
 
 /// The slots of all entries: of many slots most may be free.
 pub fn taken_of(alloc: Global, entries: &Table) -> Result<Vec<Slot>, AllocError>
-    ensures { IfOk result (λ slots. AreTaken (memory_of entries.now) slots.items) }
+    ensures once { IfOk result (λ slots. AreOnce slots.items) }
+    ensures taken { IfOk result (λ slots. AreTaken (memory_of entries.now) slots.items) }
 {
     let mut slots = Vec::with_capacity(alloc, entries.entries.len())?;
     for place in 0..entries.entries.len() {
@@ -103,10 +104,19 @@ pub fn fold(
         return Err(AllocError);
     }
     let links = links_of(alloc, entries, plan, slots)?;
-    let lone = lone_of(alloc, entries, plan)?;
+    let lone = lone_of(alloc, entries, plan, slots)?;
     let mut room = Room::new(alloc, plan.len())?;
     rewrite(alloc, entries, plan, &lone, &mut room, &mut readers.own)?;
     rerun(alloc, entries, plan, &mut readers.runs)?;
-    relink(alloc, entries, plan, links.as_slice(), &lone, &mut room)?;
-    remove_folded(alloc, entries, plan)
+    relink(
+        alloc,
+        entries,
+        plan,
+        slots,
+        links.as_slice(),
+        &lone,
+        &mut room,
+    )?;
+    remove_folded(entries, plan, slots);
+    Ok(())
 }

@@ -10,7 +10,6 @@ ghost use Rattle.at_cache.specs.Rows.{edges_along, edges_of};
 
 use crate::edge::{Edge, Edges, Slot};
 use crate::entry::Links;
-use crate::facet::small;
 use crate::folding::slots_at;
 use crate::row::Row;
 use crate::table::Table;
@@ -47,29 +46,53 @@ fn number_in(entries: &Table, plan: &[Links], slot: Slot, none: u64) -> u64
     }
 }
 
-// The numbers of all slots.
+// That number stands at the slot from now on.
+fn set_number(numbers: &mut Vec<u64>, slot: Slot, number: u64)
+    ensures { (there : Edge → Bool) (into : ℕ → List ℕ) (none : ℕ) → IsLone there into none slot number
+        → AreLone there into none numbers.old.items → AreLone there into none numbers.new.items }
+{
+    if let Some(at) = numbers.get_mut(slot as usize) {
+        *at = number;
+    }
+}
+
+// So often what stands for no entry.
+fn no_numbers(alloc: Global, count: usize, none: u64) -> Result<Vec<u64>, AllocError>
+    ensures { (there : Edge → Bool) (into : ℕ → List ℕ) → IfOk result (λ numbers. AreLone there into none numbers.items) }
+{
+    let mut numbers = Vec::new(alloc);
+    numbers.resize(count, none)?;
+    Ok(numbers)
+}
+
+// By slots, the numbers of those of these slots; of many slots most may be free.
 fn numbers_of(
     alloc: Global,
     entries: &Table,
     plan: &[Links],
+    taken: &[Slot],
     none: u64,
 ) -> Result<Vec<u64>, AllocError>
-    ensures { IfOk result (λ stamps. AreLone (is_current (memory_of entries.now)) (slots_at plan.now) none stamps.items) }
+    ensures { IfOk result (λ numbers. AreLone (is_current (memory_of entries.now)) (slots_at plan.now) none numbers.items) }
 {
-    let mut stamps = Vec::with_capacity(alloc, plan.len())?;
-    for number in 0..plan.len() {
-        let slot = small(number)?;
-        stamps.push(number_in(entries, plan, slot, none))?;
+    let mut numbers = no_numbers(alloc, plan.len(), none)?;
+    for slot in taken {
+        set_number(&mut numbers, *slot, number_in(entries, plan, *slot, none));
     }
-    Ok(stamps)
+    Ok(numbers)
 }
 
-/// Those of the plan.
-pub fn lone_of(alloc: Global, entries: &Table, plan: &[Links]) -> Result<Lone, AllocError>
+/// Those of the plan among these slots.
+pub fn lone_of(
+    alloc: Global,
+    entries: &Table,
+    plan: &[Links],
+    taken: &[Slot],
+) -> Result<Lone, AllocError>
     ensures { IfOk result (λ lone. AreLone (is_current (memory_of entries.now)) (slots_at plan.now) lone.none lone.stamps.items) }
 {
     let none = u64::MAX;
-    let stamps = numbers_of(alloc, entries, plan, none)?;
+    let stamps = numbers_of(alloc, entries, plan, taken, none)?;
     Ok(Lone { none, stamps })
 }
 

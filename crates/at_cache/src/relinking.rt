@@ -3,14 +3,13 @@
 ghost use Rattle.std.specs.Prelude.{◌≡◌, ◌<◌, ◌∷◌, [], ℕ, Bool, Contains, IfOk, IsTrue, List, OnOk, Some, length};
 ghost use Rattle.at_cache.specs.declared.edge.Edge.{Edge};
 ghost use Rattle.at_cache.specs.Edges.{edges_in};
-ghost use Rattle.at_cache.specs.Folding.{AreAlone, AreLinks, AreLone, AreTaken, HasLinked, HasSame, IsRelinked, Linked, LinkedTo, Relinks, RelinksAt, Remains, RemovesAt, Stays, slots_at};
+ghost use Rattle.at_cache.specs.Folding.{AreAlone, AreLinks, AreLone, AreOnce, AreTaken, HasLinked, HasSame, IsRelinked, Linked, LinkedTo, Relinks, RelinksAt, Remains, RemovesAt, Stays, slots_at};
 ghost use Rattle.at_cache.specs.Info.{Info, memory_of};
 ghost use Rattle.at_cache.specs.Putting.{is_current};
 
 use crate::edge::{Edges, Slot};
 use crate::entry::{Entry, Links};
-use crate::facet::small;
-use crate::folding::{does_stay, is_near, slots_at, taken_of};
+use crate::folding::{does_stay, is_near, slots_at};
 use crate::lone::{Lone, is_only};
 use crate::rewriting::rewrite_list;
 use crate::room::Room;
@@ -251,21 +250,24 @@ fn relink_at(
     relink_one(alloc, entries, plan, gained, lone, room, slot)
 }
 
-/// Each entry that stays has its links, and is used by those into which its users are folded.
+/// Each entry that stays has its links, and is used by those into which its users are folded. The entries are in these slots.
 pub fn relink(
     alloc: Global,
     entries: &mut Table,
     plan: &[Links],
+    taken: &[Slot],
     links: &[Links],
     lone: &Lone,
     room: &mut Room,
 ) -> Result<(), AllocError>
     requires lone { AreLone (is_current (memory_of entries.old)) (slots_at plan.now) lone.now.none lone.now.stamps.items }
-    ensures { OnOk result (Relinks (slots_at plan.now) (slots_at links.now) (memory_of entries.old) (memory_of entries.new)) }
+    requires taken { AreTaken (memory_of entries.old) taken.now }
+    requires once { AreOnce taken.now }
+    ensures relinked { OnOk result (Relinks (slots_at plan.now) (slots_at links.now) (memory_of entries.old) (memory_of entries.new)) }
+    ensures taken { OnOk result (AreTaken (memory_of entries.new) taken.now) }
 {
-    for number in 0..plan.len() {
-        let slot = small(number)?;
-        relink_at(alloc, entries, plan, links, lone, room, slot)?;
+    for slot in taken {
+        relink_at(alloc, entries, plan, links, lone, room, *slot)?;
     }
     Ok(())
 }
@@ -293,12 +295,11 @@ fn remove_each(entries: &mut Table, plan: &[Links], taken: &[Slot])
     }
 }
 
-/// What doesn't stay goes, with the memory that it took. An error where memory is wanting.
-pub fn remove_folded(alloc: Global, entries: &mut Table, plan: &[Links]) -> Result<(), AllocError>
-    ensures { OnOk result (Remains (slots_at plan.now) (memory_of entries.old) (memory_of entries.new)) }
+/// What doesn't stay goes, with the memory that it took. The entries are in these slots.
+pub fn remove_folded(entries: &mut Table, plan: &[Links], taken: &[Slot])
+    requires taken { AreTaken (memory_of entries.old) taken.now }
+    ensures { Remains (slots_at plan.now) (memory_of entries.old) (memory_of entries.new) }
 {
-    let taken = taken_of(alloc, entries)?;
-    remove_each(entries, plan, taken.as_slice());
+    remove_each(entries, plan, taken);
     entries.shrink();
-    Ok(())
 }

@@ -22,6 +22,18 @@ use crate::row::Row;
 use crate::table::Table;
 use std::alloc::{AllocError, Global};
 
+// These slots, too: mostly it is one.
+#[inline(always)]
+fn add_slots(slots: &mut Vec<Slot>, more: &[Slot]) -> Result<(), AllocError>
+    ensures { OnOk result (slots.new.items ≡ slots.old.items ++ more.now) }
+{
+    match more {
+        [only] => slots.push(*only)?,
+        _ => slots.extend_from_slice(more)?,
+    }
+    Ok(())
+}
+
 // Gathers the targets of the entry that the edge tells of.
 fn gather_edge(
     entries: &Table,
@@ -40,8 +52,7 @@ fn gather_edge(
     if !entries.is_current(&edge) {
         return Ok(());
     }
-    slots.extend_from_slice(slots_at(plan, edge.slot))?;
-    Ok(())
+    add_slots(slots, slots_at(plan, edge.slot))
 }
 
 // The same of all edges of the row.

@@ -1,5 +1,5 @@
 -- What is gathered for a list, and the list that is made of it.
-use Rattle.std.proofs.Common.{◌≡◌, ◌⊎◌, inl, inr, ℕ, List, [], ◌∷◌, ◌++◌, Bool, true, false, true≢false, nat_eq, Option, None, Some, Contains, length, slice_get, refl, sym, ap, ◌∙◌, subst, eqb-true}
+use Rattle.std.proofs.Common.{◌≡◌, ◌⊎◌, inl, inr, ℕ, zero, suc, List, [], ◌∷◌, ◌++◌, Bool, true, false, true≢false, nat_eq, Option, None, Some, Contains, replicate, slice_get, take, refl, sym, ap, ◌∙◌, subst, eqb-true}
 use Rattle.std.specs.List.{list_any}
 use Rattle.std.proofs.lemmas.Bool.{eq-eqb}
 use Rattle.std.proofs.lemmas.Option.{none-some, same_Some}
@@ -12,7 +12,6 @@ use Rattle.at_cache.specs.Putting.{is_current}
 use Rattle.at_cache.proofs.Dooming.{head_of}
 use Rattle.at_cache.proofs.Ending.{any_of, some_of}
 use Rattle.at_cache.proofs.Listing.{current}
-use Rattle.at_cache.proofs.Lists.{get_push}
 use Rattle.at_cache.proofs.Taking.{none_in}
 
 -- a number is one of these, by a test and back
@@ -111,16 +110,19 @@ module _ (there : Edge → Bool) (into : ℕ → List ℕ) where
     | inr (told, only) ↦ (subst (λ n. there (record { slot = x.slot; stamp = n }) ≡ true) (eqb-true number x.stamp same) told, only)
   ]
 
-  -- the numbers of no slots, and of one more
-  pub lone_none : (none : ℕ) (numbers : List ℕ) → numbers ≡ [] → AreLone there into none numbers
-  lone_none none numbers empty s x found = absurd (none-some x (ap (λ xs. slice_get xs s) (sym empty) ∙ found))
+  -- numbers that stand for no entries
+  pub lone_fill : (none count left : ℕ) (old new : List ℕ) → old ≡ [] → new ≡ take count old ++ replicate left none → AreLone there into none new
+  lone_fill none count left old new empty is s x found =
+      inl (filled left s (ap (λ xs. slice_get xs s) (sym (is ∙ ap (λ xs. take count xs ++ replicate left none) empty ∙ ap (λ xs. xs ++ replicate left none) (taken count))) ∙ found))
+    where
+      taken : (n : ℕ) → take n [] ≡ []
+      taken zero = refl
+      taken (suc n) = refl
 
-  pub lone_push : (none : ℕ) (numbers new : List ℕ) (slot number : ℕ) → slot ≡ length numbers → new ≡ numbers ++ number ∷ [] → IsLone there into none slot number
-      → AreLone there into none numbers → AreLone there into none new
-  lone_push none numbers new slot number next is one lone s x found = elim (get_push numbers number s x (ap (λ xs. slice_get xs s) (sym is) ∙ found)) [
-    | inl old ↦ lone s x old
-    | inr (last, same) ↦ subst (λ k. IsLone there into none k x) (next ∙ sym last) (subst (IsLone there into none slot) same one)
-  ]
+      filled : (n k : ℕ) → slice_get (replicate n none) k ≡ Some x → x ≡ none
+      filled zero k h = absurd (none-some x h)
+      filled (suc n) zero h = sym (same_Some none x h)
+      filled (suc n) (suc k) h = filled n k h
 
 -- a list whose edges all tell of such as stay is as it was
 pub refolded_alone : (m : Memory) (into : ℕ → List ℕ) (xs : List Edge) → AreAlone (is_current m) into xs → Refolded (is_current m) into xs xs
