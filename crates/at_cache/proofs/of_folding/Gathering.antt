@@ -1,5 +1,5 @@
 -- What is gathered for a list, and the list that is made of it.
-use Rattle.std.proofs.Common.{◌≡◌, ◌⊎◌, inl, inr, ℕ, zero, suc, List, [], ◌∷◌, ◌++◌, Bool, true, false, true≢false, nat_eq, Option, None, Some, Contains, replicate, slice_get, take, refl, sym, ap, ◌∙◌, subst, eqb-true}
+use Rattle.std.proofs.Common.{◌≡◌, ◌⊎◌, inl, inr, ℕ, zero, suc, List, [], ◌∷◌, ◌++◌, Bool, true, false, true≢false, nat_eq, Option, None, Some, Contains, length, replicate, slice_get, take, refl, sym, ap, ◌∙◌, subst, arith, eqb-true}
 use Rattle.std.specs.List.{list_any}
 use Rattle.std.proofs.lemmas.Bool.{eq-eqb}
 use Rattle.std.proofs.lemmas.Option.{none-some, same_Some}
@@ -110,14 +110,25 @@ module _ (there : Edge → Bool) (into : ℕ → List ℕ) where
     | inr (told, only) ↦ (subst (λ n. there (record { slot = x.slot; stamp = n }) ≡ true) (eqb-true number x.stamp same) told, only)
   ]
 
+  -- where another number stands than that for none, what is in the slot stays
+  pub lone_stays : (none : ℕ) (numbers : List ℕ) (slot number : ℕ) → AreLone there into none numbers → slice_get numbers slot ≡ Some number
+      → nat_eq number none ≡ false → Stays into slot
+  lone_stays none numbers slot number lone is differs = elim (lone slot number is) [
+    | inl nothing ↦ absurd (true≢false (sym (eq-eqb number none nothing) ∙ differs))
+    | inr (told, only) ↦ subst (λ xs. Contains xs slot) (sym only) (head_of slot [])
+  ]
+
   -- numbers that stand for no entries
   pub lone_fill : (none count left : ℕ) (old new : List ℕ) → old ≡ [] → new ≡ take count old ++ replicate left none → AreLone there into none new
-  lone_fill none count left old new empty is s x found =
-      inl (filled left s (ap (λ xs. slice_get xs s) (sym (is ∙ ap (λ xs. take count xs ++ replicate left none) empty ∙ ap (λ xs. xs ++ replicate left none) (taken count))) ∙ found))
+  lone_fill none count left old new empty is s x found = inl (filled left s (ap (λ (xs : List ℕ). slice_get xs s) (sym whole) ∙ found))
     where
-      taken : (n : ℕ) → take n [] ≡ []
-      taken zero = refl
-      taken (suc n) = refl
+      nothing : (n : ℕ) (xs : List ℕ) → xs ≡ [] → take n xs ≡ []
+      nothing zero xs h = refl
+      nothing (suc n) [] h = refl
+      nothing (suc n) (y ∷ ys) h = absurd (let long = ap length h in omega (arith, long))
+
+      whole : new ≡ replicate left none
+      whole = is ∙ ap (λ (xs : List ℕ). xs ++ replicate left none) (nothing count old empty)
 
       filled : (n k : ℕ) → slice_get (replicate n none) k ≡ Some x → x ≡ none
       filled zero k h = absurd (none-some x h)
