@@ -100,11 +100,11 @@ pub fn fold(
 {
     let taken = taken_of(alloc, entries)?;
     let slots = taken.as_slice();
-    if !is_sound(entries, plan, slots) {
+    let lone = lone_of(alloc, entries, plan, slots)?;
+    if !is_sound(entries, plan, &lone, slots) {
         return Err(AllocError);
     }
     let links = links_of(alloc, entries, plan, slots)?;
-    let lone = lone_of(alloc, entries, plan, slots)?;
     let mut room = Room::new(alloc, plan.len())?;
     rewrite(alloc, entries, plan, &lone, &mut room, &mut readers.own)?;
     rerun(alloc, entries, plan, &mut readers.runs)?;

@@ -1,9 +1,9 @@
 //! Entries that a plan leaves by themselves, and lists of edges to such alone, which it leaves as they are.
 
-ghost use Rattle.std.specs.Prelude.{◌≡◌, ◌∷◌, [], ℕ, Bool, IfOk, IsTrue, List, true};
+ghost use Rattle.std.specs.Prelude.{◌≡◌, ◌∷◌, [], ℕ, Bool, Contains, IfOk, IsTrue, List, true};
 ghost use Rattle.at_cache.specs.declared.edge.Edge.{Edge};
 ghost use Rattle.at_cache.specs.Edges.{edges_in};
-ghost use Rattle.at_cache.specs.Folding.{AreAlone, AreLone, IsLone, slots_at};
+ghost use Rattle.at_cache.specs.Folding.{AreAlone, AreLone, IsLone, Stays, slots_at};
 ghost use Rattle.at_cache.specs.Info.{memory_of};
 ghost use Rattle.at_cache.specs.Putting.{is_current};
 ghost use Rattle.at_cache.specs.Rows.{edges_along, edges_of};
@@ -109,6 +109,30 @@ impl Lone {
             Some(stamp) => *stamp == edge.stamp,
             None => false,
         }
+    }
+
+    /// Whether one is in the slot.
+    pub fn is_at(&self, slot: Slot) -> bool
+        ensures { (there : Edge → Bool) (into : ℕ → List ℕ) → AreLone there into self.now.none self.now.stamps.items
+            → IsTrue result → Stays into slot }
+    {
+        match self.stamps.get(slot as usize) {
+            Some(stamp) => *stamp != self.none,
+            None => false,
+        }
+    }
+
+    /// Whether one is in each of these slots.
+    pub fn are_at(&self, slots: &[Slot]) -> bool
+        ensures { (there : Edge → Bool) (into : ℕ → List ℕ) → AreLone there into self.now.none self.now.stamps.items
+            → IsTrue result → (p : ℕ) → Contains slots.now p → Stays into p }
+    {
+        for slot in slots {
+            if !self.is_at(*slot) {
+                return false;
+            }
+        }
+        true
     }
 
     // Whether each of the row does.

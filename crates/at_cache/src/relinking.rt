@@ -155,25 +155,14 @@ fn joined(
     Ok(list)
 }
 
-// Whether all of these stay.
-fn do_stay(plan: &[Links], slots: &[Slot]) -> bool
-    ensures { IsTrue result → (p : ℕ) → Contains slots.now p → Stays (slots_at plan.now) p }
-{
-    for slot in slots {
-        if !does_stay(plan, *slot) {
-            return false;
-        }
-    }
-    true
-}
-
-// Whether all that the entry used stays, and what used it stays by itself.
-fn is_left(plan: &[Links], lone: &Lone, entry: &Entry) -> bool
-    ensures stay { IsTrue result → (p : ℕ) → Contains entry.now.links.items p → Stays (slots_at plan.now) p }
+// Whether all that the entry used stays by itself, and what used it does.
+fn is_left(lone: &Lone, entry: &Entry) -> bool
+    ensures stay { (there : Edge → Bool) (into : ℕ → List ℕ) → AreLone there into lone.now.none lone.now.stamps.items
+        → IsTrue result → (p : ℕ) → Contains entry.now.links.items p → Stays into p }
     ensures alone { (there : Edge → Bool) (into : ℕ → List ℕ) → AreLone there into lone.now.none lone.now.stamps.items
         → IsTrue result → AreAlone there into (edges_in entry.now.users) }
 {
-    if !do_stay(plan, entry.links.as_slice()) {
+    if !lone.are_at(entry.links.as_slice()) {
         return false;
     }
     lone.has_all(&entry.users)
@@ -190,16 +179,15 @@ fn are_none(slots: &[Slot]) -> bool
 }
 
 // Whether the entry in the slot, if there is one, is as it is to be with these links.
-fn is_settled(entries: &Table, plan: &[Links], links: &[Slot], lone: &Lone, slot: Slot) -> bool
-    requires lone { AreLone (is_current (memory_of entries.now)) (slots_at plan.now) lone.now.none lone.now.stamps.items }
-    ensures { IsTrue result → IsRelinked (is_current (memory_of entries.now)) (slots_at plan.now) links.now
-        (memory_of entries.now slot) (memory_of entries.now slot) }
+fn is_settled(entries: &Table, links: &[Slot], lone: &Lone, slot: Slot) -> bool
+    ensures { (into : ℕ → List ℕ) → AreLone (is_current (memory_of entries.now)) into lone.now.none lone.now.stamps.items
+        → IsTrue result → IsRelinked (is_current (memory_of entries.now)) into links.now (memory_of entries.now slot) (memory_of entries.now slot) }
 {
     if !are_none(links) {
         return false;
     }
     match entries.pair(slot) {
-        Some((_, entry)) => is_left(plan, lone, entry),
+        Some((_, entry)) => is_left(lone, entry),
         None => false,
     }
 }
@@ -244,7 +232,7 @@ fn relink_at(
         return Ok(());
     }
     let gained = slots_at(links, slot);
-    if is_settled(entries, plan, gained, lone, slot) {
+    if is_settled(entries, gained, lone, slot) {
         return Ok(());
     }
     relink_one(alloc, entries, plan, gained, lone, room, slot)

@@ -11,7 +11,7 @@ returns-then-not-does_stay c = relinks_nothing _ c.args.slot _ (is_none _ c.args
 pub returns-then-is_settled : goal.returns-then-is_settled
 returns-then-is_settled c =
     subst (λ ls. RelinksAt (slots_at c.args.plan.now) ls c.args.slot (memory_of c.args.entries.now) (memory_of c.args.entries.now)) c.slots_at-gained.ensures
-    (relinks_same _ c.args.slot (memory_of c.args.entries.now) (c.is_settled.ensures c.if-is_settled.true))
+    (relinks_same _ c.args.slot (memory_of c.args.entries.now) (c.is_settled.ensures (slots_at c.args.plan.now) c.requires.lone c.if-is_settled.true))
 
 pub returns : goal.returns
 returns c =
