@@ -5,9 +5,10 @@
 
 ghost use Rattle.std.specs.Prelude.{◌≡◌, ℕ, Contains, IfOk, IsTrue, List, OnOk, nat_eq};
 ghost use Rattle.std.specs.List.{list_any};
+ghost use Rattle.slab.specs.Slab.{get};
 ghost use Rattle.at_cache.specs.Asking.{AreNoted};
 ghost use Rattle.at_cache.specs.Finding.{edges_to};
-ghost use Rattle.at_cache.specs.Folding.{AreOnce, AreTaken, LeavesKept, slots_at};
+ghost use Rattle.at_cache.specs.Folding.{AreOrdered, AreTaken, LeavesKept, slots_at};
 ghost use Rattle.at_cache.specs.Info.{memory_of};
 ghost use Rattle.at_cache.specs.Recorded.{IsIndexed, kept_in};
 ghost use Rattle.at_cache.specs.Shedding.{AreHeld, FoldsHeld};
@@ -30,14 +31,21 @@ use std::alloc::{AllocError, Global};
 // How many slots at the end of a list are looked at.
 const NEAR: usize = 8;
 
-/// The list of the slot; an empty one where it has none.
-pub fn slots_at(lists: &[Links], slot: Slot) -> &[Slot]
-    ensures { result.now ≡ slots_at lists.now slot }
+/// The list at the place; an empty one where there is none.
+pub fn list_at(lists: &[Links], place: usize) -> &[Slot]
+    ensures { result.now ≡ slots_at lists.now place }
 {
-    match lists.get(slot as usize) {
+    match lists.get(place) {
         Some(list) => list.as_slice(),
         None => &[],
     }
+}
+
+/// That of the slot.
+pub fn slots_at(lists: &[Links], slot: Slot) -> &[Slot]
+    ensures { result.now ≡ slots_at lists.now slot }
+{
+    list_at(lists, slot as usize)
 }
 
 /// Whether the slot is one of these.
@@ -66,9 +74,9 @@ pub fn does_stay(plan: &[Links], slot: Slot) -> bool
     has(slots_at(plan, slot), slot)
 }
 
-/// The slots of all entries: of many slots most may be free.
+/// The slots of all entries, in their order: of many slots most may be free.
 pub fn taken_of(alloc: Global, entries: &Table) -> Result<Vec<Slot>, AllocError>
-    ensures once { IfOk result (λ slots. AreOnce slots.items) }
+    ensures ordered { IfOk result (λ slots. AreOrdered (get entries.now.places) slots.items) }
     ensures taken { IfOk result (λ slots. AreTaken (memory_of entries.now) slots.items) }
 {
     let mut slots = Vec::with_capacity(alloc, entries.entries.len())?;

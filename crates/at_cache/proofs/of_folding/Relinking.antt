@@ -6,7 +6,7 @@ use Rattle.slab.specs.Slab.{Slab, get}
 use Rattle.smallvec.specs.SmallVec.{SmallVec}
 use Rattle.at_cache.specs.declared.edge.Edge.{Edge}
 use Rattle.at_cache.specs.declared.table.Table.{Table}
-use Rattle.at_cache.specs.Folding.{AreAlone, AreOnce, AreTaken, IsRelinked, Linked, Refolded, Relinks, RelinksAt, Remains, RemovesAt, Stays, relinked, slots_at}
+use Rattle.at_cache.specs.Folding.{AreAlone, AreOrdered, AreTaken, IsRelinked, Linked, Refolded, Relinks, RelinksAt, Remains, RemovesAt, Stays, relinked, slots_at}
 use Rattle.at_cache.specs.Info.{Info, Memory, info, memory_of}
 use Rattle.at_cache.specs.Placed.{at}
 use Rattle.at_cache.specs.Putting.{is_current, reused, users_at, with_users}
@@ -144,9 +144,9 @@ module _ {into links : ℕ → List ℕ} (slots : List ℕ) where
   pub relinks_start : (m : Memory) → RelinksBelow into links slots 0 m m
   relinks_start m = record { done = λ i k less. absurd (omega (arith, less)); todo = λ k none. refl; current = λ x. refl }
 
-  pub relinks_more : (n d : ℕ) (m mid new : Memory) → n < length slots → AreOnce slots → RelinksBelow into links slots n m mid
+  pub relinks_more : (places : ℕ → Option ℕ) (n d : ℕ) (m mid new : Memory) → n < length slots → AreOrdered places slots → RelinksBelow into links slots n m mid
       → RelinksAt into (links (get_or slots n d)) (get_or slots n d) mid new → RelinksBelow into links slots (n + 1) m new
-  relinks_more n d m mid new less once a b = record {
+  relinks_more places n d m mid new less ordered a b = record {
     done = λ i k under is stays. elim (cases_eq i n) [
       | inl same ↦
           let one : k ≡ slot = same_Some k slot (sym is ∙ ap (slice_get slots) same ∙ found) in
@@ -167,6 +167,9 @@ module _ {into links : ℕ → List ℕ} (slots : List ℕ) where
 
       currents : is_current mid ≡ is_current m
       currents = λ i x. a.current x i
+
+      once : (i j s : ℕ) → slice_get slots i ≡ Some s → slice_get slots j ≡ Some s → i ≡ j
+      once i j s x y = same_Some i j (sym (ordered i s x) ∙ ordered j s y)
 
       new_one : (i : ℕ) → i < n → slice_get slots i ≡ Some slot → ⊥
       new_one i under is = let same = once i n slot is found in absurd (omega (arith, under, same))

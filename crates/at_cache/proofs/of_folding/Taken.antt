@@ -8,7 +8,7 @@ use Rattle.slab.specs.Slab.{get}
 use Rattle.at_model.specs.Run.{Instance}
 use Rattle.at_cache.specs.declared.entry.Entry.{Entry}
 use Rattle.at_cache.specs.declared.table.Table.{Table}
-use Rattle.at_cache.specs.Folding.{AreLinks, AreOnce, AreTaken, HasLinked, HasUsed, Remains, RemovesAt, Stays}
+use Rattle.at_cache.specs.Folding.{AreLinks, AreTaken, HasLinked, HasUsed, Remains, RemovesAt, Stays}
 use Rattle.at_cache.specs.Info.{Info, Memory, info, memory_of}
 use Rattle.at_cache.proofs.Dooming.{head_of}
 use Rattle.at_cache.proofs.Lists.{get_push}
@@ -54,9 +54,6 @@ taken_more t n slots new slot before is so = record {
     last (Some e) found =
         let one : slot ≡ e.1.slot = same_Some slot e.1.slot (is ∙ ap (option_map (λ (x : Instance ℕ × Entry). x.1.slot)) found) in
         ap (get t.places) one ∙ (table_by t.placed).to n e found
-
-pub taken_once : (t : Table) (n : ℕ) (slots : List ℕ) → TakenBelow t n slots → AreOnce slots
-taken_once t n slots all i j s a b = same_Some i j (sym (all.at i s a) ∙ all.at j s b)
 
 pub taken_all : (t : Table) (n : ℕ) (slots : List ℕ) → length t.entries.entries ≤ n → TakenBelow t n slots → AreTaken (memory_of t) slots
 taken_all t n slots all below s e there = by (get t.places s) refl

@@ -1,6 +1,7 @@
 use Rattle.std.proofs.Common.{◌≤◌, ◌^◌, subst, sym}
+use Rattle.slab.specs.Slab.{get}
 use Rattle.at_cache.specs.Finding.{edges_to}
-use Rattle.at_cache.specs.Folding.{AreOnce, AreTaken, slots_at}
+use Rattle.at_cache.specs.Folding.{AreOrdered, AreTaken, Relinks, listed_at, slots_at}
 use Rattle.at_cache.specs.Info.{memory_of}
 use Rattle.at_cache.proofs.Testing.{indexed_by, tested}
 use Rattle.at_cache.proofs.of_folding.Made.{indexed_then, kept_then, leaves_folded}
@@ -20,7 +21,7 @@ pub relink-requires : goal.relink-requires
 relink-requires c = record {
   lone = c.in_ok-lone.ensures;
   taken = subst (AreTaken (memory_of c.args.entries.now)) (sym c.as_slice-slots.ensures.value) c.in_ok-taken.ensures.taken;
-  once = subst AreOnce (sym c.as_slice-slots.ensures.value) c.in_ok-taken.ensures.once;
+  ordered = subst (AreOrdered (get c.args.entries.now.places)) (sym c.as_slice-slots.ensures.value) c.in_ok-taken.ensures.ordered;
 }
 
 pub remove_folded-requires : goal.remove_folded-requires
@@ -37,7 +38,8 @@ pub returns-clause-indexed : goal.returns-clause-indexed
 returns-clause-indexed c puts t =
     let i = indexed_by t in
     let plan = folds_by i (c.is_sound.ensures c.if-not-is_sound.false) in
-    let relinked = rw c.as_slice.ensures.value at c.in_ok-relink.ensures.relinked in
+    let relinked = subst (λ ls. Relinks (slots_at c.args.plan.now) (listed_at (get c.args.entries.now.places) ls) (memory_of c.args.entries.now)
+        (memory_of c.relink.new.entries)) c.as_slice.ensures.value c.in_ok-relink.ensures.relinked in
     let lists = all_rerun (memory_of c.args.entries.now) (slots_at c.args.plan.now) _ _ c.args.readers.now.seats.items _ _ c.in_ok-rewrite.ensures.lists
     c.in_ok-rerun.ensures.edges in
     tested (indexed_then i plan lists c.in_ok-links.ensures relinked c.remove_folded.ensures)
@@ -46,7 +48,8 @@ pub returns-clause-kept : goal.returns-clause-kept
 returns-clause-kept c puts t =
     let i = indexed_by t in
     let plan = folds_by i (c.is_sound.ensures c.if-not-is_sound.false) in
-    let relinked = rw c.as_slice.ensures.value at c.in_ok-relink.ensures.relinked in
+    let relinked = subst (λ ls. Relinks (slots_at c.args.plan.now) (listed_at (get c.args.entries.now.places) ls) (memory_of c.args.entries.now)
+        (memory_of c.relink.new.entries)) c.as_slice.ensures.value c.in_ok-relink.ensures.relinked in
     let lists = all_rerun (memory_of c.args.entries.now) (slots_at c.args.plan.now) _ _ c.args.readers.now.seats.items _ _ c.in_ok-rewrite.ensures.lists
     c.in_ok-rerun.ensures.edges in
     leaves_folded (edges_to c.args.readers.now) _ c.args.entries.now c.remove_folded.new.entries puts
@@ -54,7 +57,8 @@ returns-clause-kept c puts t =
 
 pub returns-clause-held : goal.returns-clause-held
 returns-clause-held c standings puts on indexed =
-    let relinked = rw c.as_slice.ensures.value at c.in_ok-relink.ensures.relinked in
+    let relinked = subst (λ ls. Relinks (slots_at c.args.plan.now) (listed_at (get c.args.entries.now.places) ls) (memory_of c.args.entries.now)
+        (memory_of c.relink.new.entries)) c.as_slice.ensures.value c.in_ok-relink.ensures.relinked in
     let lists = all_rerun (memory_of c.args.entries.now) (slots_at c.args.plan.now) _ _ c.args.readers.now.seats.items _ _ c.in_ok-rewrite.ensures.lists
     c.in_ok-rerun.ensures.edges in
     folds_held standings (edges_to c.args.readers.now) _ puts c.args.entries.now c.remove_folded.new.entries _ (slots_at c.args.plan.now) _ on indexed
