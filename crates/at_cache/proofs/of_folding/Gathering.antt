@@ -6,7 +6,7 @@ use Rattle.std.proofs.lemmas.Option.{none-some, same_Some}
 use Rattle.std.proofs.lemmas.List.Elements.{Contains-append_cases, Contains-append_left, Contains-append_right}
 use Rattle.slab.proofs.SlabLemmas.{Contains-cons_cases}
 use Rattle.at_cache.specs.declared.edge.Edge.{Edge}
-use Rattle.at_cache.specs.Folding.{AreAlone, AreLone, Gathered, HasUser, IsLone, Refolded, Stays, Tells}
+use Rattle.at_cache.specs.Folding.{AreAlone, AreLone, Gathered, HasUser, Refolded, Stays, Tells}
 use Rattle.at_cache.specs.Info.{Info, Memory}
 use Rattle.at_cache.specs.Putting.{is_current}
 use Rattle.at_cache.proofs.Dooming.{head_of}

@@ -3,10 +3,9 @@ use Rattle.std.proofs.Common.{◌≡◌, ◌⊎◌, inl, inr, ℕ, zero, suc, �
 use Rattle.std.proofs.lemmas.Bool.{cases_eq, cases_lt, eq-eqb}
 use Rattle.std.proofs.lemmas.Option.{none-some, same_Some}
 use Rattle.slab.specs.Slab.{Slab, get}
-use Rattle.smallvec.specs.SmallVec.{SmallVec}
 use Rattle.at_cache.specs.declared.edge.Edge.{Edge}
 use Rattle.at_cache.specs.declared.table.Table.{Table}
-use Rattle.at_cache.specs.Folding.{AreAlone, AreOrdered, AreTaken, IsRelinked, Linked, Refolded, Relinks, RelinksAt, Remains, RemovesAt, Stays, relinked, slots_at}
+use Rattle.at_cache.specs.Folding.{AreAlone, AreOrdered, AreTaken, IsRelinked, Linked, Refolded, Relinks, RelinksAt, Remains, RemovesAt, Stays, relinked}
 use Rattle.at_cache.specs.Info.{Info, Memory, info, memory_of}
 use Rattle.at_cache.specs.Placed.{at}
 use Rattle.at_cache.specs.Putting.{is_current, reused, users_at, with_users}
@@ -135,9 +134,9 @@ no_more old new current k none = by (new k) refl
     by None is = is
     by (Some f) is =
         let told : is_current new (record { slot = k; stamp = f.stamp }) ≡ true =
-            ap (λ o. elim o as (λ _. Bool) [ None ↦ false | Some e ↦ nat_eq e.stamp f.stamp ]) is ∙ eq-eqb f.stamp f.stamp refl in
+        ap (λ o. elim o as (λ _. Bool) [ None ↦ false | Some e ↦ nat_eq e.stamp f.stamp ]) is ∙ eq-eqb f.stamp f.stamp refl in
         let gone : is_current old (record { slot = k; stamp = f.stamp }) ≡ false =
-            ap (λ o. elim o as (λ _. Bool) [ None ↦ false | Some e ↦ nat_eq e.stamp f.stamp ]) none in
+        ap (λ o. elim o as (λ _. Bool) [ None ↦ false | Some e ↦ nat_eq e.stamp f.stamp ]) none in
         absurd (true≢false (sym told ∙ current (record { slot = k; stamp = f.stamp }) ∙ gone))
 
 module _ {into links : ℕ → List ℕ} (slots : List ℕ) where

@@ -39,7 +39,7 @@ returns-clause-indexed c puts t =
     let i = indexed_by t in
     let plan = folds_by i (c.is_sound.ensures c.if-not-is_sound.false) in
     let relinked = subst (λ ls. Relinks (slots_at c.args.plan.now) (listed_at (get c.args.entries.now.places) ls) (memory_of c.args.entries.now)
-        (memory_of c.relink.new.entries)) c.as_slice.ensures.value c.in_ok-relink.ensures.relinked in
+    (memory_of c.relink.new.entries)) c.as_slice.ensures.value c.in_ok-relink.ensures.relinked in
     let lists = all_rerun (memory_of c.args.entries.now) (slots_at c.args.plan.now) _ _ c.args.readers.now.seats.items _ _ c.in_ok-rewrite.ensures.lists
     c.in_ok-rerun.ensures.edges in
     tested (indexed_then i plan lists c.in_ok-links.ensures relinked c.remove_folded.ensures)
@@ -49,7 +49,7 @@ returns-clause-kept c puts t =
     let i = indexed_by t in
     let plan = folds_by i (c.is_sound.ensures c.if-not-is_sound.false) in
     let relinked = subst (λ ls. Relinks (slots_at c.args.plan.now) (listed_at (get c.args.entries.now.places) ls) (memory_of c.args.entries.now)
-        (memory_of c.relink.new.entries)) c.as_slice.ensures.value c.in_ok-relink.ensures.relinked in
+    (memory_of c.relink.new.entries)) c.as_slice.ensures.value c.in_ok-relink.ensures.relinked in
     let lists = all_rerun (memory_of c.args.entries.now) (slots_at c.args.plan.now) _ _ c.args.readers.now.seats.items _ _ c.in_ok-rewrite.ensures.lists
     c.in_ok-rerun.ensures.edges in
     leaves_folded (edges_to c.args.readers.now) _ c.args.entries.now c.remove_folded.new.entries puts
@@ -58,7 +58,7 @@ returns-clause-kept c puts t =
 pub returns-clause-held : goal.returns-clause-held
 returns-clause-held c standings puts on indexed =
     let relinked = subst (λ ls. Relinks (slots_at c.args.plan.now) (listed_at (get c.args.entries.now.places) ls) (memory_of c.args.entries.now)
-        (memory_of c.relink.new.entries)) c.as_slice.ensures.value c.in_ok-relink.ensures.relinked in
+    (memory_of c.relink.new.entries)) c.as_slice.ensures.value c.in_ok-relink.ensures.relinked in
     let lists = all_rerun (memory_of c.args.entries.now) (slots_at c.args.plan.now) _ _ c.args.readers.now.seats.items _ _ c.in_ok-rewrite.ensures.lists
     c.in_ok-rerun.ensures.edges in
     folds_held standings (edges_to c.args.readers.now) _ puts c.args.entries.now c.remove_folded.new.entries _ (slots_at c.args.plan.now) _ on indexed

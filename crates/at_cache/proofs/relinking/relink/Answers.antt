@@ -1,4 +1,4 @@
-use Rattle.std.proofs.Common.{◌∙◌, ap, arith, get_or, subst, sym}
+use Rattle.std.proofs.Common.{◌∙◌, arith, get_or, subst, sym}
 use Rattle.slab.specs.Slab.{get}
 use Rattle.at_cache.specs.Folding.{AreLone, RelinksAt, slots_at}
 use Rattle.at_cache.specs.Info.{memory_of}

@@ -1,9 +1,8 @@
-use Rattle.std.proofs.Common.{◌<◌, ◌≡◌, [], arith, length}
+use Rattle.std.proofs.Common.{◌<◌, arith, length}
 use Rattle.at_cache.specs.Folding.{slots_at}
 use Rattle.at_cache.specs.Info.{memory_of}
 use Rattle.at_cache.specs.Putting.{is_current}
-use Rattle.at_cache.specs.Rows.{edges_along}
-use Rattle.at_cache.proofs.of_folding.Parting.{PartedTo, parted_end, parted_goes, parted_start, parted_stays}
+use Rattle.at_cache.proofs.of_folding.Parting.{parted_end, parted_goes, parted_start, parted_stays}
 use Rattle.at_cache.proofs.rewriting.part.Goals as goal
 
 pub loop-place-init : goal.loop-place-init
