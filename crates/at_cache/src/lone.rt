@@ -1,6 +1,6 @@
 //! Entries that a plan leaves by themselves, and lists of edges to such alone, which it leaves as they are.
 
-ghost use Rattle.std.specs.Prelude.{◌≡◌, ◌∷◌, [], ℕ, Bool, Contains, IfOk, IsTrue, List, true};
+ghost use Rattle.std.specs.Prelude.{◌≡◌, ◌∷◌, [], ℕ, Bool, Contains, IfOk, IfSome, IsTrue, List, true};
 ghost use Rattle.at_cache.specs.declared.edge.Edge.{Edge};
 ghost use Rattle.at_cache.specs.Edges.{edges_in};
 ghost use Rattle.at_cache.specs.Folding.{AreAlone, AreLone, IsLone, Stays, slots_at};
@@ -120,6 +120,21 @@ impl Lone {
             Some(stamp) => *stamp != self.none,
             None => false,
         }
+    }
+
+    /// The edge to the one in the slot, if one is there.
+    pub fn edge_to(&self, slot: Slot) -> Option<Edge>
+        ensures { (there : Edge → Bool) (into : ℕ → List ℕ) → AreLone there into self.now.none self.now.stamps.items
+            → IfSome result (λ edge. (edge.slot ≡ slot) × (there edge ≡ true)) }
+    {
+        let Some(stamp) = self.stamps.get(slot as usize) else {
+            return None;
+        };
+        let stamp = *stamp;
+        if stamp == self.none {
+            return None;
+        }
+        Some(Edge { slot, stamp })
     }
 
     /// Whether one is in each of these slots.

@@ -154,13 +154,39 @@ fn add_edge_to(
     }
 }
 
+// The same, with no look-up where what is in the slot stays by itself.
+fn add_edge_into(
+    entries: &Table,
+    lone: &Lone,
+    room: &mut Room,
+    rows: &mut Many,
+    slot: Slot,
+) -> Result<(), AllocError>
+    ensures added { (into : ℕ → List ℕ) (kept : List Edge) (slots : List ℕ)
+        → AreLone (is_current (memory_of entries.now)) into lone.now.none lone.now.stamps.items
+        → Added (memory_of entries.now) kept slots (edges_along rows.old.items)
+        → OnOk result (Added (memory_of entries.now) kept (slots ++ slot ∷ []) (edges_along rows.new.items)) }
+    ensures slots { room.new.slots ≡ room.old.slots }
+{
+    match lone.edge_to(slot) {
+        Some(edge) => add_edge(entries, room, rows, edge),
+        None => add_edge_to(entries, room, rows, slot),
+    }
+}
+
 // The same of all slots that are gathered.
-fn add_edges_to(entries: &Table, room: &mut Room, rows: &mut Many) -> Result<(), AllocError>
-    ensures { OnOk result (Added (memory_of entries.now) (edges_along rows.old.items) room.old.slots.items (edges_along rows.new.items)) }
+fn add_edges_to(
+    entries: &Table,
+    lone: &Lone,
+    room: &mut Room,
+    rows: &mut Many,
+) -> Result<(), AllocError>
+    ensures { (into : ℕ → List ℕ) → AreLone (is_current (memory_of entries.now)) into lone.now.none lone.now.stamps.items
+        → OnOk result (Added (memory_of entries.now) (edges_along rows.old.items) room.old.slots.items (edges_along rows.new.items)) }
 {
     for number in 0..room.slots.len() {
         let slot = room.slots[number];
-        add_edge_to(entries, room, rows, slot)?;
+        add_edge_into(entries, lone, room, rows, slot)?;
     }
     Ok(())
 }
@@ -179,7 +205,7 @@ fn change_rows(
     room.slots.clear();
     part(entries, plan, lone, room, rows)?;
     room.slots.sort_unstable();
-    add_edges_to(entries, room, rows)
+    add_edges_to(entries, lone, room, rows)
 }
 
 // The edges that come in the place of a row.

@@ -118,6 +118,14 @@ module _ (there : Edge → Bool) (into : ℕ → List ℕ) where
     | inr (told, only) ↦ subst (λ xs. Contains xs slot) (sym only) (head_of slot [])
   ]
 
+  -- it has an edge with that number
+  pub lone_edge : (none : ℕ) (numbers : List ℕ) (slot number : ℕ) → AreLone there into none numbers → slice_get numbers slot ≡ Some number
+      → (number ≡ none → ⊥) → there (record { slot = slot; stamp = number }) ≡ true
+  lone_edge none numbers slot number lone is differs = elim (lone slot number is) [
+    | inl nothing ↦ absurd (differs nothing)
+    | inr (told, only) ↦ told
+  ]
+
   -- numbers that stand for no entries
   pub lone_fill : (none count left : ℕ) (old new : List ℕ) → old ≡ [] → new ≡ take count old ++ replicate left none → AreLone there into none new
   lone_fill none count left old new empty is s x found = inl (filled left s (ap (λ (xs : List ℕ). slice_get xs s) (sym whole) ∙ found))
